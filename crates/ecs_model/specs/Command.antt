@@ -1,0 +1,142 @@
+-- One command of a world: its refusal, or the world that it leaves and what has changed.
+use Rattle.std.specs.Prelude.{◌≡◌, ℕ, zero, suc, ◌+◌, ◌-◌, ◌^◌, ◌==◌, Bool, true, false, not, ◌&&◌, ◌||◌, List, [], ◌∷◌, ◌++◌, map, length, ℤ, nat_lt, nat_le, Option, Some, None, is_some, is_none, option_map, Result, Ok, Err}
+use Rattle.std.specs.List.{list_any, list_all, find}
+use Rattle.std.specs.Option.{option_map_or}
+use Rattle.std.specs.Ordering.{nat_cmp}
+use Rattle.ecs_id.specs.declared.EntityId.{EntityId}
+use Rattle.ecs_id.specs.Id.{Id, plain, mentioned}
+use Rattle.ecs_model.specs.declared.faults.Refusal.{Refusal}
+use Rattle.ecs_model.specs.declared.faults.Refusal.TheVariants.{Dead, BadName, NameTaken, BuiltIn, NoData, Count, Range, TooManyIds, Full}
+use Rattle.ecs_model.specs.Map.{Map, keys, has_key, with_value, without, count_at}
+use Rattle.ecs_model.specs.Text.{is_name}
+use Rattle.ecs_model.specs.Schema.{Schema, all_fit, schema_fault}
+use Rattle.ecs_model.specs.World.{WorldState, Key, key_cmp, component, is_live, is_alive, entity_at, entities, ids_of, named, name_of, type_of_id, is_built_in, first_index, last_index}
+use Rattle.ecs_model.specs.Changes.{facts_after_add}
+use Rattle.ecs_model.specs.Provisional.{is_not_yet_added}
+use Rattle.ecs_model.specs.Refusal.{first_reason}
+
+-- the calls that change a world
+pub data Command : Type 0 where
+  Entity : List ℕ → Command
+  Component : List ℕ → Schema → Command
+  Add : EntityId → Id → Command
+  SetValue : EntityId → Id → List ℤ → Command
+
+-- a new component has fields that make a schema
+abbrev pub IsCommand : Command → Type 0
+IsCommand (Component n s) = schema_fault s ≡ None
+IsCommand _ = Unit {0}
+
+-- what a command has changed
+pub record Changed : Type 0 where
+  pub born : Option EntityId
+  -- each entity that died, with the name that it had
+  pub died : List (EntityId × Option (List ℕ))
+  pub came : List Key
+  pub went : List Key
+  pub written : Map Key (List ℤ)
+
+-- the first number of the n from i on that passes the test
+abbrev pub first_passing : (ℕ → Bool) → ℕ → ℕ → Option ℕ
+first_passing test zero i = None
+first_passing test (suc n) i = elim (test i) [ true ↦ Some i | false ↦ first_passing test n (i + 1) ]
+
+module _ (w : WorldState) where
+  -- whether an index can be given to a new entity: it is neither live nor deleted 65,536 times
+  abbrev pub is_free : ℕ → Bool
+  is_free i = not (is_live w i) && nat_lt (count_at w.deletions i) 65536
+
+  -- the entity that the next command to make one will make: the smallest free index, and how often it was deleted
+  unfoldable pub next_entity : Option EntityId
+  next_entity = option_map (λ i. record { index = i; generation = count_at w.deletions i }) (first_passing is_free (last_index - first_index + 1) first_index)
+
+  -- no further command is counted
+  abbrev pub is_spent : Bool
+  is_spent = nat_le (2 ^ 64 - 1) w.accepted
+
+  -- whether an entity handed in is dead, or the id mentions an index that is not live
+  abbrev pub is_dead : EntityId → Id → Bool
+  is_dead e i = not (is_alive w e) || not (list_all (is_live w) (mentioned i))
+
+  -- whether `add` would write to a built-in entity
+  abbrev pub adds_to_built_in : ℕ → Id → Bool
+  adds_to_built_in e i = is_built_in e || is_not_yet_added i
+
+  -- whether an entity has more than 64 ids
+  abbrev pub is_crowded : Bool
+  is_crowded = list_any (λ e. nat_lt 64 (length (ids_of w e))) (entities w)
+
+  -- the world with these facts
+  abbrev pub with_facts : Map Key (List ℤ) → WorldState
+  with_facts facts = record w { facts = facts }
+
+  -- with one accepted command more
+  abbrev pub counted : WorldState
+  counted = record w { accepted = w.accepted + 1 }
+
+  -- with a new entity of this name
+  unfoldable pub with_named : List ℕ → Option EntityId → WorldState
+  with_named n None = w
+  with_named n (Some e) = record w { live = with_value nat_cmp w.live e.index e.generation; names = with_value nat_cmp w.names e.index n }
+
+  -- with a new component
+  unfoldable pub with_component : List ℕ → Schema → Option EntityId → WorldState
+  with_component n s None = w
+  with_component n s (Some e) = record w {
+    live = with_value nat_cmp w.live e.index e.generation;
+    names = with_value nat_cmp w.names e.index n;
+    schemas = with_value nat_cmp w.schemas e.index s;
+    facts = with_value key_cmp w.facts (e.index, plain component) [];
+  }
+
+-- the reasons against a new name
+abbrev pub name_reasons : WorldState → List ℕ → List (Bool × Refusal)
+name_reasons w n = (not (is_name n), BadName) ∷ (is_some (named w n), NameTaken) ∷ []
+
+-- the reasons against one entity more
+abbrev pub birth_reasons : WorldState → List (Bool × Refusal)
+birth_reasons w = (is_none (next_entity w) || is_spent w, Full) ∷ []
+
+-- the reasons against what `add` would leave
+abbrev pub add_reasons : WorldState → ℕ → Id → List (Bool × Refusal)
+add_reasons w e i = (is_crowded (with_facts w (facts_after_add w e i)), TooManyIds) ∷ (is_spent w, Full) ∷ []
+
+-- the reasons against values of an id
+abbrev pub value_reasons : Option Schema → List ℤ → List (Bool × Refusal)
+value_reasons None vs = (true, NoData) ∷ []
+value_reasons (Some fs) vs = (not (length vs == length fs), Count) ∷ (not (all_fit fs vs), Range) ∷ []
+
+-- the reasons against a command, in the order in which they are judged
+unfoldable pub reasons : WorldState → Command → List (Bool × Refusal)
+reasons w (Entity n) = name_reasons w n ++ birth_reasons w
+reasons w (Component n s) = name_reasons w n ++ birth_reasons w
+reasons w (Add e i) = (is_dead w e i, Dead) ∷ (adds_to_built_in w e.index i, BuiltIn) ∷ add_reasons w e.index i
+reasons w (SetValue e i vs) = (is_dead w e i, Dead) ∷ (adds_to_built_in w e.index i, BuiltIn) ∷ (value_reasons (type_of_id w i) vs ++ add_reasons w e.index i)
+
+-- the world that an accepted command leaves, but for its count
+unfoldable pub effect : WorldState → Command → WorldState
+effect w (Entity n) = with_named w n (next_entity w)
+effect w (Component n s) = with_component w n s (next_entity w)
+effect w (Add e i) = with_facts w (facts_after_add w e.index i)
+effect w (SetValue e i vs) = with_facts w (with_value key_cmp (facts_after_add w e.index i) (e.index, i) vs)
+
+-- the value that a command writes
+abbrev pub written_by : Command → Map Key (List ℤ)
+written_by (SetValue e i vs) = ((e.index, i), vs) ∷ []
+written_by _ = []
+
+-- what differs between two worlds: the entities and the facts that stand in one alone
+unfoldable pub differences : WorldState → WorldState → Map Key (List ℤ) → Changed
+differences w v written = record {
+  born = option_map_or (entity_at v) (find (λ i. not (is_live w i)) (entities v)) None;
+  died = map (λ e. (record { index = e.0; generation = e.1 }, name_of w e.0)) (without nat_cmp w.live (is_live v));
+  came = keys (without key_cmp v.facts (has_key key_cmp w.facts));
+  went = keys (without key_cmp w.facts (has_key key_cmp v.facts));
+  written = written;
+}
+
+-- the answer to a command: the first reason against it, or the new world and what has changed
+unfoldable pub step : WorldState → Command → Result (WorldState × Changed) Refusal
+step w c =
+    let v = counted (effect w c) in
+    option_map_or Err (first_reason (reasons w c)) (Ok (v, differences w v (written_by c)))

@@ -1,0 +1,90 @@
+//! Why a list of fields is no schema, why values are none of a schema, why a command is refused, and where a query is faulty.
+
+use crate::Span;
+
+/// Why a list of fields is no schema. The first that applies is answered.
+#[derive(Clone, Copy, Debug, PartialEq, Eq)]
+pub enum SchemaFault {
+    /// More than eight fields.
+    TooManyFields,
+    /// No field at all.
+    NoFields,
+    /// A field's name is no name, or two fields have one name.
+    BadField,
+}
+
+/// Why a command of a world is refused. The first that applies is answered, and a refused command changes nothing.
+#[derive(Clone, Copy, Debug, PartialEq, Eq)]
+pub enum Refusal {
+    /// An entity handed in is not alive, or an id mentions an index that is not live.
+    Dead,
+    /// No entity has the name.
+    UnknownName,
+    /// The new name is no name.
+    BadName,
+    /// An entity has the new name already.
+    NameTaken,
+    /// A built-in entity would get or lose a fact.
+    BuiltIn,
+    /// Values for an id that has no fields.
+    NoData,
+    /// As many values as there are fields are needed.
+    Count,
+    /// A value is outside the range of its field.
+    Range,
+    /// A trait would come to an entity that is in use as component or relationship, or a trait would go.
+    TraitFixed,
+    /// A stored query mentions an entity that would be deleted.
+    InUse,
+    /// An acyclic relationship would get a cycle.
+    Cycle,
+    /// An entity would hold more than 64 ids.
+    TooManyIds,
+    /// A deletion that a cleanup rule forbids.
+    Panic,
+    /// No index is left for a new entity, or the count of commands is spent.
+    Full,
+}
+
+/// What can be wrong with the text of a query, in the order in which faults at one place are told.
+#[derive(Clone, Copy, Debug, PartialEq, Eq)]
+pub enum FaultKind {
+    /// No token begins here.
+    Lex,
+    /// No query goes on with this token.
+    Syntax,
+    /// No entity has this name.
+    UnknownName,
+    /// Traversal along a relationship that isn't traversable.
+    NotTraversable,
+    /// A variable that nothing binds.
+    UnboundVariable,
+    /// A wildcard as source.
+    WildcardSource,
+    /// A wildcard beside `==` or `!=`.
+    WildcardEquality,
+    /// More terms than a query may have.
+    TooManyTerms,
+    /// More variables than a query may have.
+    TooManyVariables,
+    /// Groups inside groups, too deep.
+    TooDeep,
+    /// An observer whose query has no `$this`.
+    NoThis,
+    /// An event observer whose query isn't one plain term.
+    NotOneTerm,
+}
+
+/// A fault of a query's text, and the part of the text that has it.
+#[derive(Clone, Copy, Debug, PartialEq, Eq)]
+pub struct Fault {
+    pub kind: FaultKind,
+    pub span: Span,
+}
+
+/// Why a query's text gives no query: a fault of the text, or memory that was refused.
+#[derive(Clone, Copy, Debug, PartialEq, Eq)]
+pub enum QueryFault {
+    Fault(Fault),
+    Memory,
+}

@@ -1,0 +1,35 @@
+//! The meaning of worlds, queries and scripts, as definitions in `specs/`, and the plain types that they share with the code.
+//!
+//! The definitions are what every contract of the engine cites. `laws` has what is proved of them alone.
+#![tactic(auto)]
+
+pub mod faults;
+pub mod laws;
+pub mod values;
+
+/// A part of a text, in bytes: from `start` up to and without `end`.
+#[derive(Clone, Copy, Debug, PartialEq, Eq)]
+pub struct Span {
+    pub start: usize,
+    pub end: usize,
+}
+
+/// The whole numbers that a field of a component can hold. In memory they take 1, 2, 4 or 8 bytes, little end first.
+#[derive(Clone, Copy, Debug, PartialEq, Eq)]
+pub enum Kind {
+    I8,
+    U8,
+    I16,
+    U16,
+    I32,
+    U32,
+    I64,
+    U64,
+}
+
+/// The tokens of query text that are always spelled alike.
+#[derive(Clone, Copy, Debug, PartialEq, Eq)]
+pub enum Mark {
+    /// `,`: both sides match.
+    Comma,
+}
