@@ -1,5 +1,5 @@
 -- One command of a world: its refusal, or the world that it leaves and what has changed.
-use Rattle.std.specs.Prelude.{◌≡◌, ℕ, zero, suc, ◌+◌, ◌-◌, ◌^◌, ◌==◌, Bool, true, false, not, ◌&&◌, ◌||◌, List, [], ◌∷◌, ◌++◌, map, length, ℤ, nat_lt, nat_le, Option, Some, None, is_some, is_none, option_map, Result, Ok, Err}
+use Rattle.std.specs.Prelude.{◌≡◌, ℕ, zero, suc, ◌+◌, ◌-◌, ◌^◌, ◌==◌, Bool, true, false, not, ◌&&◌, ◌||◌, List, [], ◌∷◌, ◌++◌, map, length, ℤ, nat_lt, nat_le, Option, Some, None, is_some, is_none, option_map, Result, Ok, Err, IsOkAnd}
 use Rattle.std.specs.List.{list_any, list_all, find}
 use Rattle.std.specs.Option.{option_map_or}
 use Rattle.std.specs.Ordering.{nat_cmp}
@@ -7,6 +7,8 @@ use Rattle.ecs_id.specs.declared.EntityId.{EntityId}
 use Rattle.ecs_id.specs.Id.{Id, plain, mentioned}
 use Rattle.ecs_model.specs.declared.faults.Refusal.{Refusal}
 use Rattle.ecs_model.specs.declared.faults.Refusal.TheVariants.{Dead, BadName, NameTaken, BuiltIn, NoData, Count, Range, TooManyIds, Full}
+use Rattle.ecs_model.specs.declared.faults.CommandError.{CommandError}
+use Rattle.ecs_model.specs.declared.faults.CommandError.TheVariants.{Refused, Memory}
 use Rattle.ecs_model.specs.Map.{Map, keys, has_key, with_value, without, count_at}
 use Rattle.ecs_model.specs.Text.{is_name}
 use Rattle.ecs_model.specs.Schema.{Schema, all_fit, schema_fault}
@@ -140,3 +142,9 @@ unfoldable pub step : WorldState → Command → Result (WorldState × Changed) 
 step w c =
     let v = counted (effect w c) in
     option_map_or Err (first_reason (reasons w c)) (Ok (v, differences w v (written_by c)))
+
+-- a call answers as the step does, and leaves what it says: a refusal leaves the world as it was, and so does refused memory, which may stand in place of any answer
+abbrev pub AnswersStep : {T : Type 0} → Result T CommandError → Result (WorldState × Changed) Refusal → WorldState → WorldState → Type 0
+AnswersStep (Ok done) stepped old new = IsOkAnd stepped (λ a. new ≡ a.0)
+AnswersStep (Err (Refused reason)) stepped old new = (stepped ≡ Err reason) × (new ≡ old)
+AnswersStep (Err Memory) stepped old new = new ≡ old

@@ -46,6 +46,13 @@ pub enum Refusal {
     Full,
 }
 
+/// Why a command was not carried out: a refusal by the rules, or memory that was refused.
+#[derive(Clone, Copy, Debug, PartialEq, Eq)]
+pub enum CommandError {
+    Refused(Refusal),
+    Memory,
+}
+
 /// What can be wrong with the text of a query, in the order in which faults at one place are told.
 #[derive(Clone, Copy, Debug, PartialEq, Eq)]
 pub enum FaultKind {

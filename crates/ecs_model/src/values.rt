@@ -1,2 +1,1 @@
 //! The values of facts.
-
