@@ -2,6 +2,7 @@ pub mod Map
 pub mod Text
 pub mod Schema
 pub mod World
+pub mod Values
 pub mod Refusal
 pub mod Provisional
 pub mod Changes

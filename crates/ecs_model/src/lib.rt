@@ -5,7 +5,11 @@
 
 pub mod faults;
 pub mod laws;
+pub mod names;
 pub mod values;
+
+pub use names::is_name;
+pub use values::{Fact, Value};
 
 /// A part of a text, in bytes: from `start` up to and without `end`.
 #[derive(Clone, Copy, Debug, PartialEq, Eq)]
