@@ -1,0 +1,9 @@
+pub mod Maps
+pub mod Typing
+pub mod Reasons
+pub mod Additions
+pub mod Births
+pub mod Steps
+pub mod FirstWorld
+pub mod DistinctRows
+mod Computed

@@ -23,11 +23,12 @@ pub record HasIndexes (w : WorldState) : Type 0 where
   pub given_out : (i : ℕ) → IsTrue (is_live w i) → IsTrue (is_built_in i) ⊎ ((first_index ≤ i) × (i ≤ last_index))
   pub generation : (i : ℕ) → IfSome (value_at nat_cmp w.live i) (λ g. (g ≡ count_at w.deletions i) × (g < 2 ^ 16))
 
--- the built-in entities are live and named, with exactly the facts of the first world
+-- the built-in entities are live and named, with exactly the facts of the first world, and no fields
 pub record KeepsBuiltIn (w : WorldState) : Type 0 where
   pub live : (i : ℕ) → IsTrue (is_built_in i) → value_at nat_cmp w.live i ≡ Some 0
   pub names : (i : ℕ) → IsTrue (is_built_in i) → name_of w i ≡ name_of first_world i
   pub facts : (e : ℕ) (i : Id) → IsTrue (is_built_in e) → value_of w e i ≡ value_of first_world e i
+  pub schemas : (i : ℕ) → IsTrue (is_built_in i) → value_at nat_cmp w.schemas i ≡ None
 
 -- names, schemas, pins and facts are of live entities, and no two entities have one name
 pub record MentionsLive (w : WorldState) : Type 0 where

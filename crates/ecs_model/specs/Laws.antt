@@ -1,5 +1,6 @@
 -- The laws of these definitions, as statements.
-use Rattle.std.specs.Prelude.{◌≡◌, ◌≢◌, ◌↔◌, ℕ, List, [], ◌∷◌, ◌++◌, All, AllPairs, Ok, Err}
+use Rattle.std.specs.Prelude.{◌≡◌, ◌≢◌, ◌↔◌, ℕ, List, [], ◌∷◌, ◌++◌, map, All, AllPairs, Contains, Ok, Err}
+use Rattle.ecs_id.specs.Id.{Id}
 use Rattle.ecs_model.specs.declared.Span.{Span}
 use Rattle.ecs_model.specs.World.{WorldState, first_world}
 use Rattle.ecs_model.specs.Command.{Command, Changed, IsCommand, step}
@@ -8,7 +9,7 @@ use Rattle.ecs_model.specs.Tokens.{Token, token, End, IsSpelledBy, IsLexFault, t
 use Rattle.ecs_model.specs.Grammar.{Part, IsQuery, IsSyntaxFault}
 use Rattle.ecs_model.specs.Parse.{parts_of}
 use Rattle.ecs_model.specs.Query.{Query}
-use Rattle.ecs_model.specs.Meaning.{rows}
+use Rattle.ecs_model.specs.Meaning.{Field, Shown, Row, rows}
 
 -- a text spells at most one list of tokens
 abbrev pub OneSpelling : Type 0
@@ -41,3 +42,13 @@ StepKeeps = (w v : WorldState) (c : Command) (changed : Changed) → IsWellForme
 -- no row is there twice
 abbrev pub RowsAreDistinct : Type 0
 RowsAreDistinct = (w : WorldState) (q : Query) → IsWellFormed w → AllPairs (λ a b. a ≢ b) (rows w q)
+
+-- the id of a field
+abbrev pub id_shown : Field → Id
+id_shown (Shown e i v) = i
+
+-- two rows with the same entities and the same ids are one row
+abbrev pub EqualRowsAreOne : Type 0
+EqualRowsAreOne =
+    (w : WorldState) (q : Query) (a b : Row) → IsWellFormed w → Contains (rows w q) a → Contains (rows w q) b
+    → a.bindings ≡ b.bindings → map id_shown a.fields ≡ map id_shown b.fields → a ≡ b

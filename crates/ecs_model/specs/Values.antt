@@ -1,8 +1,9 @@
 -- How a value lies in memory: eight numbers, of which the first are its own.
-use Rattle.std.specs.Prelude.{◌≡◌, ℕ, ◌-◌, ◌≤◌, List, ◌++◌, length, take, drop, replicate, ℤ, pos}
-use Rattle.std.proofs.Common.{arith, sym, ap, ◌∙◌, length-append, length-drop}
+use Rattle.std.specs.Prelude.{◌≡◌, ℕ, ◌-◌, ◌≤◌, List, [], ◌∷◌, ◌++◌, length, take, drop, replicate, ℤ, pos}
+use Rattle.std.proofs.Common.{refl, arith, sym, ap, ◌∙◌, length-append, length-drop}
 use Rattle.std.proofs.Math.Seq.{drop-append_seam}
 use Rattle.std.proofs.lemmas.List.{length-take-le, take-append-drop, drop-replicate}
+use Rattle.ecs_model.specs.Schema.{Schema, zeros}
 
 -- as many numbers as count, and zeros up to eight
 abbrev pub IsFilledUp : List ℤ → ℕ → Type 0
@@ -20,3 +21,8 @@ pub filled_up : (ns : List ℤ) → length ns ≤ 8 → IsFilledUp (ns ++ drop (
 filled_up ns h =
     let whole : length (ns ++ drop (length ns) (replicate 8 (pos 0))) ≡ 8 = rw (length-append, length-drop) (omega arith) in
     (h, whole, drop-append_seam ns (drop (length ns) (replicate 8 (pos 0))) ∙ drop-replicate (length ns) 8 (pos 0))
+
+-- a new value has a zero for each field
+pub zeros-replicate : (fs : Schema) → zeros fs ≡ replicate (length fs) (pos 0)
+zeros-replicate [] = refl
+zeros-replicate (f ∷ fs) = ap (λ vs. pos 0 ∷ vs) (zeros-replicate fs)

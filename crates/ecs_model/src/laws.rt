@@ -1,1 +1,24 @@
 //! What is proved of the definitions alone: each function's contract is a law, and its body does nothing.
+
+ghost use Rattle.ecs_model.specs.Laws.{EqualRowsAreOne, FirstWorldIsWellFormed, RowsAreDistinct, StepKeeps};
+
+/// Law: the world before any command is well formed.
+pub fn first_world_is_well_formed()
+    ensures { FirstWorldIsWellFormed }
+{}
+
+/// Law: each accepted command leaves a well-formed world.
+pub fn every_step_keeps_the_world_well_formed()
+    ensures { StepKeeps }
+{}
+
+/// Law: in a well-formed world no row of a query stands twice.
+pub fn no_row_stands_twice()
+    ensures { RowsAreDistinct }
+{}
+
+/// Law: in a well-formed world two rows of a query with the same entities and the same ids are one row.
+pub fn rows_with_equal_entities_and_ids_are_one()
+    ensures { EqualRowsAreOne }
+{
+}

@@ -1,0 +1,228 @@
+-- Checks of single definitions, which the prover computes.
+use Rattle.std.specs.Prelude.{◌≡◌, ℕ, ◌-◌, ◌^◌, true, false, List, [], ◌∷◌, ◌++◌, map, pos, negsuc, codes, Option, Some, None, Ok, Err, refl}
+use Rattle.std.specs.declared.cmp.Ordering.TheVariants.{Less}
+use Rattle.ecs_id.specs.declared.EntityId.{EntityId}
+use Rattle.ecs_id.specs.Id.{Id, plain, pair, id_cmp}
+use Rattle.ecs_model.specs.declared.Kind.TheVariants.{I8, I32, U64}
+use Rattle.ecs_model.specs.declared.faults.Fault.{Fault}
+use Rattle.ecs_model.specs.declared.faults.FaultKind.{FaultKind}
+use Rattle.ecs_model.specs.declared.faults.FaultKind.TheVariants.{Lex, Syntax, UnknownName, TooManyTerms}
+use Rattle.ecs_model.specs.declared.faults.Refusal.{Refusal}
+use Rattle.ecs_model.specs.declared.faults.Refusal.TheVariants.{Dead, BadName, NameTaken, NoData, Count, Range}
+use Rattle.ecs_model.specs.Map.{value_at}
+use Rattle.ecs_model.specs.Schema.{Schema, fits_kind}
+use Rattle.ecs_model.specs.Refusal.{first_reason}
+use Rattle.ecs_model.specs.World.{WorldState, key_cmp, first_world, type_of_id}
+use Rattle.ecs_model.specs.Changes.{added, facts_after_add}
+use Rattle.ecs_model.specs.Command.{Command, Changed, Entity, Component, Add, SetValue, next_entity, with_component, reasons, effect, differences, step}
+use Rattle.ecs_model.specs.Tokens.{tokens_from, tokens_of}
+use Rattle.ecs_model.specs.Query.{Query, least_fault, faults, query_of}
+use Rattle.ecs_model.specs.Meaning.{Shown, rows}
+
+-- A world of a component and a tag, Position and Planet at 64 and 65, and of Sun and Earth, both planets. Earth has a position.
+
+abbrev position : Id
+position = plain 64
+
+abbrev planet : Id
+planet = plain 65
+
+abbrev fields : Schema
+fields = record { name = codes "x"; kind = I32 } ∷ record { name = codes "y"; kind = I8 } ∷ []
+
+abbrev sky : WorldState
+sky = record {
+  live = (64, 0) ∷ (65, 0) ∷ (66, 0) ∷ (67, 2) ∷ [];
+  facts = ((64, plain 3), []) ∷ ((66, planet), []) ∷ ((67, position), pos 10 ∷ negsuc 2 ∷ []) ∷ ((67, planet), []) ∷ [];
+  names = (64, codes "Position") ∷ (65, codes "Planet") ∷ (66, codes "Sun") ∷ (67, codes "Earth") ∷ [];
+  schemas = (64, fields) ∷ [];
+  deletions = (67, 2) ∷ [];
+  pins = [];
+  accepted = 6;
+}
+
+abbrev sun : EntityId
+sun = record { index = 66; generation = 0 }
+
+abbrev earth : EntityId
+earth = record { index = 67; generation = 2 }
+
+abbrev refusal_of : Command → Option Refusal
+refusal_of c = first_reason (reasons sky c)
+
+-- facts that come
+
+one_add_adds_one_fact : added sky 66 position ≡ (66, position) ∷ []
+one_add_adds_one_fact = refl
+
+a_new_fact_of_a_component_has_zeros : value_at key_cmp (facts_after_add sky 66 position) (66, position) ≡ Some (pos 0 ∷ pos 0 ∷ [])
+unfolding id_cmp key_cmp facts_after_add
+a_new_fact_of_a_component_has_zeros = refl
+
+a_new_fact_of_a_tag_has_no_value : value_at key_cmp (facts_after_add sky 64 planet) (64, planet) ≡ Some []
+unfolding id_cmp key_cmp facts_after_add
+a_new_fact_of_a_tag_has_no_value = refl
+
+a_fact_that_is_held_keeps_its_value : facts_after_add sky 67 position ≡ sky.facts
+unfolding id_cmp key_cmp facts_after_add
+a_fact_that_is_held_keeps_its_value = refl
+
+-- types of ids: the world in which Planet is a component of one field, and in which Sun gives its pairs no data
+
+abbrev mass : Schema
+mass = record { name = codes "mass"; kind = U64 } ∷ []
+
+abbrev typed_sky : WorldState
+typed_sky = record sky { schemas = (64, fields) ∷ (65, mass) ∷ []; facts = ((66, plain 12), []) ∷ [] }
+
+a_pair_has_the_type_of_its_relationship_first : type_of_id typed_sky (pair 65 64) ≡ Some mass
+unfolding id_cmp key_cmp
+a_pair_has_the_type_of_its_relationship_first = refl
+
+a_pair_has_the_type_of_its_target_else : type_of_id typed_sky (pair 67 64) ≡ Some fields
+unfolding id_cmp key_cmp
+a_pair_has_the_type_of_its_target_else = refl
+
+pairs_of_a_tag_have_no_type : type_of_id typed_sky (pair 66 64) ≡ None
+unfolding id_cmp key_cmp
+pairs_of_a_tag_have_no_type = refl
+
+-- the ranges of fields
+
+the_least_and_the_greatest_number_fit : map (fits_kind I8) (negsuc 128 ∷ negsuc 127 ∷ pos 127 ∷ pos 128 ∷ []) ≡ false ∷ true ∷ true ∷ false ∷ []
+the_least_and_the_greatest_number_fit = refl
+
+no_negative_number_fits_an_unsigned_field : map (fits_kind U64) (negsuc 0 ∷ pos 0 ∷ pos (2 ^ 64 - 1) ∷ pos (2 ^ 64) ∷ []) ≡ false ∷ true ∷ true ∷ false ∷ []
+no_negative_number_fits_an_unsigned_field = refl
+
+-- refusals
+
+no_data_is_told_before_count : refusal_of (SetValue sun planet (pos 1 ∷ pos 2 ∷ [])) ≡ Some NoData
+unfolding id_cmp key_cmp facts_after_add reasons
+no_data_is_told_before_count = refl
+
+count_is_told_before_range : refusal_of (SetValue sun position (pos (2 ^ 40) ∷ [])) ≡ Some Count
+unfolding id_cmp key_cmp facts_after_add reasons
+count_is_told_before_range = refl
+
+each_value_is_measured_by_its_own_field : refusal_of (SetValue sun position (pos 1 ∷ pos 1000 ∷ [])) ≡ Some Range
+unfolding id_cmp key_cmp facts_after_add reasons
+each_value_is_measured_by_its_own_field = refl
+
+an_old_generation_is_dead : refusal_of (Add (record earth { generation = 1 }) planet) ≡ Some Dead
+unfolding id_cmp key_cmp facts_after_add reasons
+an_old_generation_is_dead = refl
+
+an_id_of_no_live_index_is_dead : refusal_of (Add earth (pair 65 70)) ≡ Some Dead
+unfolding id_cmp key_cmp facts_after_add reasons
+an_id_of_no_live_index_is_dead = refl
+
+dead_is_told_before_values : refusal_of (SetValue (record earth { generation = 1 }) planet []) ≡ Some Dead
+unfolding id_cmp key_cmp facts_after_add reasons
+dead_is_told_before_values = refl
+
+a_name_is_given_once : refusal_of (Entity (codes "Sun")) ≡ Some NameTaken
+unfolding reasons next_entity
+a_name_is_given_once = refl
+
+a_reserved_word_is_no_name : refusal_of (Component (codes "up") fields) ≡ Some BadName
+unfolding reasons next_entity
+a_reserved_word_is_no_name = refl
+
+-- new entities
+
+the_first_entity_has_index_64 : next_entity first_world ≡ Some (record { index = 64; generation = 0 })
+unfolding first_world next_entity
+the_first_entity_has_index_64 = refl
+
+the_smallest_free_index_comes_next : next_entity (record sky { live = (64, 0) ∷ (66, 0) ∷ (67, 2) ∷ [] }) ≡ Some (record { index = 65; generation = 0 })
+unfolding next_entity
+the_smallest_free_index_comes_next = refl
+
+a_used_index_gets_a_new_generation : next_entity (record sky { live = (64, 0) ∷ (65, 0) ∷ (66, 0) ∷ [] }) ≡ Some (record { index = 67; generation = 2 })
+unfolding next_entity
+a_used_index_gets_a_new_generation = refl
+
+an_index_retires_after_65536_deletions : next_entity (record sky { live = []; deletions = (64, 65536) ∷ (65, 65535) ∷ [] }) ≡ Some (record { index = 65; generation = 65535 })
+unfolding next_entity
+an_index_retires_after_65536_deletions = refl
+
+-- what a step says has changed
+
+abbrev changes_of : Command → Option Changed
+changes_of c = elim (step sky c) [ Ok a ↦ Some a.1 | Err r ↦ None ]
+
+a_fact_that_is_set_comes_with_its_value : changes_of (SetValue sun position (pos 5 ∷ pos 6 ∷ []))
+    ≡ Some (record { born = None; died = []; came = (66, position) ∷ []; went = []; written = ((66, position), pos 5 ∷ pos 6 ∷ []) ∷ [] })
+unfolding id_cmp key_cmp facts_after_add reasons effect differences step
+a_fact_that_is_set_comes_with_its_value = refl
+
+a_fact_that_was_held_does_not_come : changes_of (Add earth planet) ≡ Some (record { born = None; died = []; came = []; went = []; written = [] })
+unfolding id_cmp key_cmp facts_after_add reasons effect differences step
+a_fact_that_was_held_does_not_come = refl
+
+a_component_is_born_with_its_tag : changes_of (Component (codes "Mass") mass)
+    ≡ Some (record { born = Some (record { index = 68; generation = 0 }); died = []; came = (68, plain 3) ∷ []; went = []; written = [] })
+unfolding id_cmp key_cmp next_entity with_component reasons effect differences step
+a_component_is_born_with_its_tag = refl
+
+-- rows
+
+abbrev asks : List Id → Query
+asks ids = record { variables = codes "this" ∷ []; ids = ids; length = 0 }
+
+rows_come_by_ascending_index : rows sky (asks (planet ∷ []))
+    ≡ record { bindings = 66 ∷ []; fields = Shown 66 planet None ∷ [] } ∷ record { bindings = 67 ∷ []; fields = Shown 67 planet None ∷ [] } ∷ []
+unfolding id_cmp key_cmp rows
+rows_come_by_ascending_index = refl
+
+a_row_has_a_field_for_each_term : rows sky (asks (position ∷ planet ∷ position ∷ []))
+    ≡ record { bindings = 67 ∷ []; fields = Shown 67 position (Some (pos 10 ∷ negsuc 2 ∷ [])) ∷ Shown 67 planet None ∷ Shown 67 position (Some (pos 10 ∷ negsuc 2 ∷ [])) ∷ [] } ∷ []
+unfolding id_cmp key_cmp rows
+a_row_has_a_field_for_each_term = refl
+
+-- faults of a text
+
+abbrev at : FaultKind → ℕ → ℕ → Fault
+at kind from to = record { kind = kind; span = record { start = from; end = to } }
+
+a_lone_equals_sign_is_no_token : tokens_of (codes "Sun, = Earth") ≡ Err (record { start = 5; end = 6 })
+unfolding tokens_from tokens_of
+a_lone_equals_sign_is_no_token = refl
+
+a_lex_fault_spans_all_bytes_of_its_character : tokens_of (codes "Sun " ++ 195 ∷ 164 ∷ codes ", Earth") ≡ Err (record { start = 4; end = 6 })
+unfolding tokens_from tokens_of
+a_lex_fault_spans_all_bytes_of_its_character = refl
+
+a_lex_fault_is_told_before_an_earlier_syntax_fault : query_of sky (codes "Sun Earth 7") ≡ Err (at Lex 10 11)
+unfolding tokens_from tokens_of faults query_of
+a_lex_fault_is_told_before_an_earlier_syntax_fault = refl
+
+a_syntax_fault_is_told_before_an_earlier_unknown_name : query_of sky (codes "Moon, Sun Earth") ≡ Err (at Syntax 10 15)
+unfolding tokens_from tokens_of faults query_of
+a_syntax_fault_is_told_before_an_earlier_unknown_name = refl
+
+the_first_of_two_unknown_names_is_told : query_of sky (codes "Sun, Moon, Mars") ≡ Err (at UnknownName 5 9)
+unfolding tokens_from tokens_of faults query_of
+the_first_of_two_unknown_names_is_told = refl
+
+at_one_place_the_lesser_number_is_told : least_fault (at TooManyTerms 9 12 ∷ at UnknownName 9 12 ∷ []) ≡ Some (at UnknownName 9 12)
+at_one_place_the_lesser_number_is_told = refl
+
+the_end_of_an_empty_text_is_its_fault : query_of sky (codes " ") ≡ Err (at Syntax 1 1)
+unfolding tokens_from tokens_of faults query_of
+the_end_of_an_empty_text_is_its_fault = refl
+
+-- the order of ids
+
+a_plain_id_is_below_each_pair : id_cmp (plain 500) (pair 1 1) ≡ Less
+unfolding id_cmp
+a_plain_id_is_below_each_pair = refl
+
+pairs_go_by_relationship_first : id_cmp (pair 1 9) (pair 2 1) ≡ Less
+unfolding id_cmp
+pairs_go_by_relationship_first = refl
+
+pairs_of_one_relationship_go_by_target : id_cmp (pair 2 1) (pair 2 3) ≡ Less
+unfolding id_cmp
+pairs_of_one_relationship_go_by_target = refl
