@@ -1,6 +1,7 @@
 pub mod Map
 pub mod Text
 pub mod Schema
+pub mod Bytes
 pub mod World
 pub mod Values
 pub mod Refusal
