@@ -1,8 +1,12 @@
 -- How a value lies in memory: eight numbers, of which the first are its own.
-use Rattle.std.specs.Prelude.{◌≡◌, ℕ, ◌-◌, ◌≤◌, List, [], ◌∷◌, ◌++◌, length, take, drop, replicate, ℤ, pos}
-use Rattle.std.proofs.Common.{refl, arith, sym, ap, ◌∙◌, length-append, length-drop}
-use Rattle.std.proofs.Math.Seq.{drop-append_seam}
-use Rattle.std.proofs.lemmas.List.{length-take-le, take-append-drop, drop-replicate}
+use Rattle.std.specs.Prelude.{◌≡◌, ◌≢◌, ◌⊎◌, Bool, true, false, ℕ, ◌-◌, ◌≤◌, List, [], ◌∷◌, ◌++◌, length, take, drop, replicate, ℤ, pos}
+use Rattle.std.specs.Bool.{Decides}
+use Rattle.std.specs.Cmp.Lexicographic.{pointwise}
+use Rattle.std.specs.Ordering.{int_eq}
+use Rattle.std.proofs.lemmas.Bool.Decides.{Decides-int_eq}
+use Rattle.std.proofs.lemmas.Slice.Eq.{slice_eq-Decides}
+use Rattle.std.proofs.Common.{inl, inr, true≢false, refl, arith, sym, ap, ◌∙◌}
+use Rattle.std.proofs.lemmas.List.{length-take-le, take-append-drop}
 use Rattle.ecs_model.specs.Schema.{Schema, zeros}
 
 -- as many numbers as count, and zeros up to eight
@@ -16,13 +20,18 @@ given_back numbers count h =
     let shown : length (take count numbers) ≡ count = length-take-le count numbers (omega arith) in
     (ap (λ n. take count numbers ++ replicate (8 - n) (pos 0)) shown ∙ ap (λ ns. take count numbers ++ ns) (sym h.2) ∙ take-append-drop count numbers, shown)
 
--- few numbers over eight zeros
-pub filled_up : (ns : List ℤ) → length ns ≤ 8 → IsFilledUp (ns ++ drop (length ns) (replicate 8 (pos 0))) (length ns)
-filled_up ns h =
-    let whole : length (ns ++ drop (length ns) (replicate 8 (pos 0))) ≡ 8 = rw (length-append, length-drop) (omega arith) in
-    (h, whole, drop-append_seam ns (drop (length ns) (replicate 8 (pos 0))) ∙ drop-replicate (length ns) 8 (pos 0))
-
 -- a new value has a zero for each field
 pub zeros-replicate : (fs : Schema) → zeros fs ≡ replicate (length fs) (pos 0)
 zeros-replicate [] = refl
 zeros-replicate (f ∷ fs) = ap (λ vs. pos 0 ∷ vs) (zeros-replicate fs)
+
+-- `==` on values with what it tells, for `grind`
+pub value_eq_tells : (xs ys : List ℤ) → ((pointwise int_eq xs ys ≡ true) × (xs ≡ ys)) ⊎ ((pointwise int_eq xs ys ≡ false) × (xs ≢ ys))
+value_eq_tells xs ys = by (pointwise int_eq xs ys) refl
+  where
+    decides : Decides (pointwise int_eq xs ys) (xs ≡ ys)
+    decides = slice_eq-Decides Decides-int_eq xs ys (pointwise int_eq xs ys) refl
+
+    by : (b : Bool) → pointwise int_eq xs ys ≡ b → ((pointwise int_eq xs ys ≡ true) × (xs ≡ ys)) ⊎ ((pointwise int_eq xs ys ≡ false) × (xs ≢ ys))
+    by true e = inl (e, decides.0 e)
+    by false e = inr (e, λ p. true≢false (sym (decides.1 p) ∙ e))

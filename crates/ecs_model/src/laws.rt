@@ -20,5 +20,4 @@ pub fn no_row_stands_twice()
 /// Law: in a well-formed world two rows of a query with the same entities and the same ids are one row.
 pub fn rows_with_equal_entities_and_ids_are_one()
     ensures { EqualRowsAreOne }
-{
-}
+{}
