@@ -1,0 +1,5 @@
+mod Readings
+mod Cuts
+mod WordLists
+mod Forms
+mod Digits

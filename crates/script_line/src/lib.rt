@@ -1,0 +1,79 @@
+//! The lines of a script, a format of this product's own: reads one line into what it asks.
+//!
+//! Reading takes time linear in the line. Names and texts are slices of the line, and only fields and values are allocated.
+#![tactic(auto)]
+
+ghost use Rattle.std.specs.Prelude.{◌≡◌, IfOk};
+ghost use Rattle.ecs_model.specs.Script.{form_of};
+ghost use Rattle.script_line.specs.Line.{seen};
+
+mod blanks;
+mod line_forms;
+#[cfg(test)]
+mod tests;
+mod words;
+
+use ecs_model::Kind;
+use std::alloc::{AllocError, Allocator, Global};
+use std::str;
+
+/// The greatest number of bytes that a line may have.
+pub const MAX_LINE: usize = 4096;
+
+/// What a line of a script asks.
+#[derive(Drop)]
+#[derive_where(Debug)]
+pub enum Line<'a, A: Allocator = Global> {
+    /// Nothing: the line is blank or a comment.
+    Nothing,
+    /// The line has more than 4,096 bytes.
+    TooLong,
+    /// The line is no UTF-8, or it fits no form.
+    Bad,
+    /// `entity N`: a new entity. The name is any word.
+    Entity {
+        name: &'a str,
+    },
+    /// `component N f:kind ..`: a new component with these fields. The names are any words, a field's may be empty.
+    Component {
+        name: &'a str,
+        fields: Vec<(&'a str, Kind), A>,
+    },
+    /// `add E ID`: an entity gets a fact.
+    Add {
+        entity: &'a str,
+        id: &'a str,
+    },
+    /// `set E ID v ..`: a fact of an entity gets these values, of which there is at least one.
+    Set {
+        entity: &'a str,
+        id: &'a str,
+        values: Vec<i128, A>,
+    },
+    /// `query TEXT`: the rows of a query. The text has no blanks at its ends, and may be empty.
+    Query {
+        text: &'a str,
+    },
+}
+
+/// Reads a line, which is given without its line feed.
+///
+/// A line of more than 4,096 bytes is too long whatever it holds, and a comment may hold any bytes. The only error is that
+/// memory for fields or values was refused.
+pub fn read_line<'a, A: Allocator + Copy>(
+    alloc: A,
+    line: &'a [u8],
+) -> Result<Line<'a, A>, AllocError>
+    ensures { IfOk result (λ l. seen l ≡ form_of line.now) }
+{
+    if line.len() > MAX_LINE {
+        return Ok(Line::TooLong);
+    }
+    if line_forms::says_nothing(line) {
+        return Ok(Line::Nothing);
+    }
+    let Ok(text) = str::from_utf8(line) else {
+        return Ok(Line::Bad);
+    };
+    line_forms::read_form(alloc, text)
+}
