@@ -1,0 +1,4 @@
+pub mod Buffer
+pub mod Contents
+pub mod Lends
+pub mod Ownership
