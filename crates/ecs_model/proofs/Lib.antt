@@ -7,3 +7,5 @@ pub mod Steps
 pub mod FirstWorld
 pub mod DistinctRows
 mod Computed
+pub mod SpellingLemmas
+pub mod SyntaxLemmas

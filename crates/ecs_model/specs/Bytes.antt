@@ -1,5 +1,5 @@
 -- Values of components in memory.
-use Rattle.std.specs.Prelude.{ℕ, ◌+◌, List, [], ◌∷◌, flat_map, sum_by, take, drop, ℤ, pos, if◌then◌else◌}
+use Rattle.std.specs.Prelude.{ℕ, List, [], ◌∷◌, flat_map, sum_by, take, drop, ℤ, pos, if◌then◌else◌}
 use Rattle.std.specs.Int.{Width, w8, w16, w32, w64, to_le_bytes, from_le_bytes, cast_unsigned, cast_signed}
 use Rattle.std.specs.List.{zip}
 use Rattle.ecs_model.specs.declared.Kind.{Kind}

@@ -6,6 +6,7 @@
 pub mod faults;
 pub mod laws;
 pub mod names;
+pub mod text_laws;
 pub mod values;
 
 pub use names::is_name;

@@ -1,3 +1,4 @@
 pub mod Repeats
 pub mod Words
 pub mod Packed
+pub mod Meaning

@@ -1,7 +1,6 @@
 -- Where the numbers of a value stand among its bytes.
-use Rattle.std.proofs.Common.{◌≡◌, ℕ, zero, suc, ◌+◌, ◌-◌, ◌*◌, ◌%◌, ◌^◌, ◌<◌, ◌≤◌, Bool, true, false, IsTrue, ◌&&◌, List, [], ◌∷◌, ◌++◌, length, get_or, take, drop, sum_by, Option, Some, ℤ, pos, negsuc, refl, sym, ap, ◌∙◌, arith, to_z, of_z, append_assoc, slice_get, add-one}
+use Rattle.std.proofs.Common.{◌≡◌, ℕ, zero, suc, ◌+◌, ◌-◌, ◌%◌, ◌^◌, ◌<◌, ◌≤◌, Bool, true, false, IsTrue, ◌&&◌, List, [], ◌∷◌, ◌++◌, length, get_or, take, drop, Some, ℤ, pos, negsuc, refl, sym, ap, ◌∙◌, arith, to_z, of_z, append_assoc, slice_get, add-one}
 use Rattle.std.specs.Int.{w8, w16, w32, w64, w128}
-use mir.Val.{SFits}
 use lib.Signed.{mag}
 use borrow.Rule.Slice.PartMut.{put_mid}
 use Rattle.std.proofs.lemmas.Int.{to_z-of_z, ints}
@@ -56,7 +55,7 @@ size_of-more fs n f h e = sum_by_more (λ g. width g.kind) fs n f h ∙ ap (λ (
 pub size_of-more-le : (fs : Schema) (n : ℕ) (f : Field) → n < length fs → f ≡ get_or fs n f → size_of (take n fs) + width f.kind ≤ size_of fs
 size_of-more-le fs n f h e = omega (arith, sum_by_more_le (λ g. width g.kind) fs n f h, ap (λ (g : Field). width g.kind) e)
 
-size_of-first : (f : Field) (fs : Schema) → size_of (f ∷ fs) ≡ width f.kind + size_of fs
+pub size_of-first : (f : Field) (fs : Schema) → size_of (f ∷ fs) ≡ width f.kind + size_of fs
 size_of-first f fs = sum_by-cons (λ g. width g.kind) f fs
 
 -- a value has as many bytes as its fields
@@ -81,7 +80,7 @@ slice_get-values_in [] bs i f h e = absurd (omega arith)
 slice_get-values_in (g ∷ fs) bs zero f h e = ap (λ (x : Field). Some (number_in x.kind (take (width x.kind) bs))) (sym e)
 slice_get-values_in (g ∷ fs) bs (suc i) f h e =
     slice_get-values_in fs (drop (width g.kind) bs) i f (omega arith) e
-        ∙ ap (λ rest. Some (number_in f.kind (take (width f.kind) rest))) (drop-drop (size_of (take i fs)) (width g.kind) bs ∙ ap (λ n. drop n bs) (sym (size_of-first g (take i fs))))
+    ∙ ap (λ rest. Some (number_in f.kind (take (width f.kind) rest))) (drop-drop (size_of (take i fs)) (width g.kind) bs ∙ ap (λ n. drop n bs) (sym (size_of-first g (take i fs))))
 
 -- the number of one field, as it is read
 pub slice_get-read : (fs : Schema) (bs : List ℕ) (i : ℕ) (f : Field) (k : Kind) (start w : ℕ) (r : ℤ) → i < length fs → f ≡ get_or fs i f → k ≡ f.kind → w ≡ width k → start ≡ size_of (take i fs) → mag r < 2 ^ 127 → r ≡ number_in k (take (start + w - start) (drop start bs)) → slice_get (values_in fs bs) i ≡ Some (to_z w128 (of_z w128 r))
@@ -103,7 +102,7 @@ value_bytes-more (g ∷ fs) [] i f v h k e d = absurd (omega arith)
 value_bytes-more (g ∷ fs) (u ∷ vs) zero f v h k e d = rw (e, d) (append-nil (number_bytes g.kind u))
 value_bytes-more (g ∷ fs) (u ∷ vs) (suc i) f v h k e d =
     ap (λ bs. number_bytes g.kind u ++ bs) (value_bytes-more fs vs i f v (omega arith) (omega arith) e d)
-        ∙ sym (append_assoc (number_bytes g.kind u) (value_bytes (take i fs) (take i vs)) (number_bytes f.kind v))
+    ∙ sym (append_assoc (number_bytes g.kind u) (value_bytes (take i fs) (take i vs)) (number_bytes f.kind v))
 
 -- the bytes after one number more was written
 pub value_bytes-written : (fs : Schema) (vs : List ℤ) (i : ℕ) (f : Field) (v : ℤ) (start : ℕ) (first bytes : List ℕ) → i < length fs → i < length vs → f ≡ get_or fs i f → v ≡ get_or vs i v → start ≡ size_of (take i fs) → bytes ≡ value_bytes (take i fs) (take i vs) ++ drop start first
@@ -114,7 +113,7 @@ value_bytes-written fs vs i f v start first bytes h k e d s b =
     let n : length before ≡ start = length-value_bytes (take i fs) (take i vs) (length-take-le i vs (omega arith) ∙ sym (length-take-le i fs (omega arith))) ∙ sym s in
     let w : start + width f.kind - start ≡ width f.kind = omega arith in
     rw (b, w, take_at before (drop start first) start n, drop_at before (drop start first) start n, drop-drop (width f.kind) start first, add-one, value_bytes-more fs vs i f v h k e d)
-        (sym (append_assoc before number (drop (start + width f.kind) first)))
+    (sym (append_assoc before number (drop (start + width f.kind) first)))
 
 -- the bytes once all numbers are written
 pub value_bytes-whole : (fs : Schema) (vs : List ℤ) (n start : ℕ) (first bytes : List ℕ) → length fs ≤ n → length vs ≤ n → length first ≡ size_of fs → start ≡ size_of (take n fs) → bytes ≡ value_bytes (take n fs) (take n vs) ++ drop start first → bytes ≡ value_bytes fs vs

@@ -1,10 +1,9 @@
 -- What is wrong with the fields that names and kinds give.
-use Rattle.std.proofs.Common.{◌≡◌, ℕ, ◌+◌, ◌<◌, Bool, true, false, not, cond, ltb, eqb, ◌||◌, List, [], ◌∷◌, map, length, ◌-◌, take, drop, bytes_eq, Option, Some, None, refl, sym, ap, ◌∙◌, Bor}
+use Rattle.std.proofs.Common.{◌≡◌, ℕ, ◌+◌, Bool, false, not, cond, ltb, eqb, ◌||◌, List, [], ◌∷◌, map, length, ◌-◌, take, drop, bytes_eq, Some, None, refl, sym, ap, ◌∙◌, Bor}
 use Rattle.std.proofs.lemmas.List.{drop-drop, length-map, take_rest}
 use Rattle.std.specs.List.{list_any, list_all}
 use Rattle.std.proofs.lemmas.List.Folds.{list_all-map}
 use Rattle.ecs_model.specs.declared.Kind.{Kind}
-use Rattle.ecs_model.specs.declared.faults.SchemaFault.{SchemaFault}
 use Rattle.ecs_model.specs.declared.faults.SchemaFault.TheVariants.{TooManyFields, NoFields, BadField}
 use Rattle.ecs_model.specs.Text.{is_name}
 use Rattle.ecs_model.specs.Schema.{Field, repeats_name, schema_fault}

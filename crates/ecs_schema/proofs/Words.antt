@@ -4,11 +4,10 @@ use Rattle.std.specs.Int.{Width, w8, w16, w32, w64, w128, to_le_bytes}
 use mir.Val.{SFits, hbits}
 use lib.Signed.{mag}
 use lib.IntN.{nat_abs}
-use Rattle.std.specs.Prelude.{int_le, int_lt}
+use Rattle.std.specs.Prelude.{int_le}
 use Rattle.std.proofs.lemmas.Int.{to_z-of_z, ints}
 use Rattle.std.proofs.lemmas.Bool.Decides.{nat_tests}
-use Rattle.ecs_model.specs.declared.Kind.{Kind}
-use Rattle.ecs_model.specs.declared.Kind.TheVariants.{I8, U8, I16, U16, I32, U32, I64, U64}
+use Rattle.ecs_model.specs.declared.Kind.TheVariants.{I8, U8, I16, I32, I64}
 use Rattle.ecs_model.specs.Schema.{fits_kind}
 
 -- a signed number that was read, in 128 bits

@@ -6,8 +6,8 @@ ghost use Rattle.ecs_model.specs.Text.{is_name};
 ghost use Rattle.ecs_model.specs.Schema.{repeats_name, schema_fault};
 ghost use Rattle.ecs_schema.specs.Given.{given};
 
-use ecs_model::{Kind, is_name};
 use ecs_model::faults::SchemaFault;
+use ecs_model::{Kind, is_name};
 
 /// A component has at most eight fields.
 const MOST_FIELDS: usize = 8;

@@ -10,19 +10,18 @@ ghost use Rattle.ecs_schema.specs.Given.{IsValueOf, given};
 mod errors;
 mod fields;
 mod given;
+pub mod laws;
 mod numbers;
 #[cfg(test)]
 mod tests;
 mod values;
 
-use std::alloc::{Allocator, Global};
-use std::marker::Model;
-
 pub use ecs_model::Kind;
 pub use errors::{SchemaError, ValueFault};
 pub use fields::Field;
-
 use given::fault_of;
+use std::alloc::{Allocator, Global};
+use std::marker::Model;
 use values::{all_fit, read_field, size_of, write_value};
 
 /// The fields of a component, in order: one to eight, each with a name of its own.

@@ -20,7 +20,6 @@ pub fn width(kind: Kind) -> usize
     }
 }
 
-
 /// Whether a number is in the range of a kind.
 pub fn fits(kind: Kind, number: i128) -> bool
     ensures { result ≡ fits_kind kind number }
@@ -83,5 +82,7 @@ fn eight(bytes: &[u8]) -> [u8; 8]
     requires { length bytes.now ≡ 8 }
     ensures { result ≡ bytes.now }
 {
-    [bytes[0], bytes[1], bytes[2], bytes[3], bytes[4], bytes[5], bytes[6], bytes[7]]
+    [
+        bytes[0], bytes[1], bytes[2], bytes[3], bytes[4], bytes[5], bytes[6], bytes[7],
+    ]
 }

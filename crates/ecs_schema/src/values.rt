@@ -27,7 +27,10 @@ pub fn size_of<A: Allocator>(fields: &[Field<A>]) -> usize
 pub fn all_fit<A: Allocator>(fields: &[Field<A>], values: &[i128]) -> bool
     ensures { result ≡ all_fit fields.now values.now }
 {
-    fields.iter().zip(values).all(|(field, value)| fits(field.kind(), *value))
+    fields
+        .iter()
+        .zip(values)
+        .all(|(field, value)| fits(field.kind(), *value))
 }
 
 /// Writes the bytes of a value.

@@ -1,0 +1,72 @@
+-- Lists of faults: what the least says of the others.
+use Rattle.std.specs.Prelude.{◌≡◌, ◌≢◌, ℕ, ◌+◌, ◌<◌, ◌≤◌, zero, suc, List, [], ◌∷◌, ◌++◌, map, flat_map, fold, take, drop, length, Option, Some, None}
+use Rattle.std.proofs.Common.{ap, sym, ◌∙◌, refl, get_or, add-one, arith}
+use Rattle.std.proofs.Math.Seq.{drop-cons, take-suc}
+use Rattle.std.proofs.lemmas.List.{drop_all, get_or-map, length-map, map-append}
+use Rattle.std.proofs.lemmas.List.Sums.{fold-append}
+use Rattle.ecs_model.specs.declared.faults.Fault.{Fault}
+use Rattle.ecs_model.specs.World.{WorldState}
+use Rattle.ecs_model.specs.Grammar.{Part}
+use Rattle.ecs_model.specs.Query.{faults, id_of_term, least_fault, too_many, unknown_word}
+use Rattle.plain_query.specs.Check.{lesser}
+
+-- one more fault that is judged
+abbrev pub judged : Option Fault → Fault → Option Fault
+judged found f = Some (lesser found f)
+
+-- where a fault was found, one is least
+found_stays : (f : Fault) (fs : List Fault) → fold judged (Some f) fs ≢ None
+found_stays f [] e = cc
+found_stays f (g ∷ fs) e = found_stays (lesser (Some f) g) fs e
+
+-- without a least fault there is none
+pub none_least : (fs : List Fault) → least_fault fs ≡ None → fs ≡ []
+none_least [] e = refl
+none_least (f ∷ fs) e = absurd (found_stays f fs e)
+
+front_empty : {X : Type 0} (xs ys : List X) → xs ++ ys ≡ [] → xs ≡ []
+front_empty [] ys e = refl
+front_empty (x ∷ xs) ys e = absurd (cc)
+
+none_of : {X : Type 0} (f : X → List Fault) (xs : List X) (i : ℕ) (d : X) → flat_map f xs ≡ [] → i < length xs → f (get_or xs i d) ≡ []
+none_of f [] i d e h = absurd (omega arith)
+none_of f (x ∷ xs) zero d e h = front_empty (f x) (flat_map f xs) e
+none_of f (x ∷ xs) (suc i) d e h = none_of f xs i d (rest (f x) (flat_map f xs) e) (omega arith)
+  where
+    rest : (ys zs : List Fault) → ys ++ zs ≡ [] → zs ≡ []
+    rest [] zs p = p
+    rest (y ∷ ys) zs p = absurd (cc)
+
+-- without a least fault each word names an entity
+pub all_known : {X : Type 0} (w : WorldState) (view : X → Part) (xs : List X) (i : ℕ) (d : X) → least_fault (faults w (map view xs)) ≡ None → i < length xs
+    → unknown_word w (view (get_or xs i d)) ≡ []
+unfolding faults
+all_known w view xs i d e h =
+    let each : unknown_word w (get_or (map view xs) i (view d)) ≡ [] =
+    none_of (unknown_word w) (map view xs) i (view d) (front_empty (flat_map (unknown_word w) (map view xs)) (map too_many (take 1 (drop 32 (map view xs)))) (none_least _ e)) (rw (length-map xs view) h) in
+    ap (unknown_word w) (sym (get_or-map view xs i d (view d) h)) ∙ each
+
+-- few terms have none too many
+pub few_terms : {X : Type 0} (view : X → Part) (xs : List X) → length xs ≤ 32 → [] ≡ map too_many (take 1 (drop 32 (map view xs)))
+few_terms view xs h = let few : length (map view xs) ≤ 32 = rw (length-map xs view) h in ap (λ ps. map too_many (take 1 ps)) (sym (drop_all 32 (map view xs) few))
+
+-- of more, the 33rd is the first
+pub many_terms : {X : Type 0} (view : X → Part) (xs : List X) (d : X) → 32 < length xs → too_many (view (get_or xs 32 d)) ∷ [] ≡ map too_many (take 1 (drop 32 (map view xs)))
+many_terms view xs d h =
+    let many : 32 < length (map view xs) = rw (length-map xs view) h in
+    ap (λ p. too_many p ∷ []) (sym (get_or-map view xs 32 d (view d) h)) ∙ ap (λ ps. map too_many (take 1 ps)) (sym (drop-cons (map view xs) 32 (view d) many))
+
+-- all faults: those of unknown words, and then the term too many
+pub all_judged : (w : WorldState) (ps : List Part) (found : Option Fault) (more : List Fault) → found ≡ least_fault (flat_map (unknown_word w) ps) → more ≡ map too_many (take 1 (drop 32 ps))
+    → fold judged found more ≡ least_fault (faults w ps)
+unfolding faults
+all_judged w ps found more e m =
+    ap (λ o. fold judged o more) e ∙ ap (fold judged (least_fault (flat_map (unknown_word w) ps))) m
+    ∙ sym (fold-append judged None (flat_map (unknown_word w) ps) (map too_many (take 1 (drop 32 ps))))
+
+-- the ids with one more
+pub one_more_id : {X : Type 0} (w : WorldState) (view : X → Part) (xs : List X) (i : ℕ) (d : X) → i < length xs
+    → map (id_of_term w) (map view (take i xs)) ++ id_of_term w (view (get_or xs i d)) ∷ [] ≡ map (id_of_term w) (map view (take (i + 1) xs))
+one_more_id w view xs i d h =
+    let front = ap (λ n. take n xs) (add-one i) ∙ take-suc xs i d h in
+    sym (ap (λ ys. map (id_of_term w) (map view ys)) front ∙ ap (map (id_of_term w)) (map-append view (take i xs) (get_or xs i d ∷ [])) ∙ map-append (id_of_term w) (map view (take i xs)) (view (get_or xs i d) ∷ []))

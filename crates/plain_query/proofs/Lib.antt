@@ -1,0 +1,4 @@
+mod Printed
+mod Lines
+mod Faults
+mod Asked

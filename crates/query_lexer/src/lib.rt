@@ -1,0 +1,214 @@
+//! The tokens of query text.
+#![tactic(auto)]
+
+ghost use Rattle.std.specs.Prelude.{◌≡◌, ◌≢◌, ◌≤◌, ◌<◌, All, IfOk, IfSome, MatchOption, None, Some};
+ghost use Rattle.std.specs.Prelude.{drop, length, map, slice_range, take};
+ghost use Rattle.std.specs.List.{prefix_len};
+ghost use Rattle.ecs_model.specs.Laws.{EndsOnce};
+ghost use Rattle.ecs_model.specs.Text.{is_letter, is_name_byte, is_query_blank};
+ghost use Rattle.ecs_model.specs.Tokens.{IsLexFault, IsSpelledBy, char_len, sign_at, spelled, tokens_of};
+ghost use Rattle.query_lexer.specs.Lexed.{Answers, AnswersBy, next_of};
+ghost use Rattle.query_lexer.specs.Token.{AreSlicesOf, Ascend, seen, sign_of, text_length};
+
+use ecs_model::faults::{Fault, FaultKind, QueryFault};
+use ecs_model::{Mark, Span};
+use std::alloc::Allocator;
+
+/// What a token is.
+#[derive(Clone, Copy, Debug, PartialEq, Eq)]
+pub enum TokenKind {
+    /// An ASCII letter, then ASCII letters, digits, `_` and `.`, as many as stand there.
+    Name,
+    /// A mark.
+    Mark(Mark),
+    /// The end of the text.
+    End,
+}
+
+/// A token: its kind, its part of the source, and where that stands.
+#[derive(Clone, Copy, Debug, PartialEq, Eq)]
+pub struct Token<'a> {
+    pub kind: TokenKind,
+    pub text: &'a str,
+    pub span: Span,
+}
+
+/// The tokens of a query's text, each the longest that can stand at its place, and then its end, the
+/// empty slice behind the last byte.
+///
+/// Space, tab, carriage return and line feed may stand between tokens. Fails with the first character
+/// at which no token can begin, in all its bytes, or where memory is refused.
+pub fn lex<'a, A: Allocator + Copy>(
+    alloc: A,
+    text: &'a str,
+) -> Result<Vec<Token<'a>, A>, QueryFault>
+    ensures answers { Answers FaultKind.Lex (λ tokens. map seen tokens.items) result
+        (tokens_of text.now) }
+    ensures meaning { AnswersBy FaultKind.Lex
+        (λ tokens. IsSpelledBy text.now (map seen tokens.items)) (IsLexFault text.now) result }
+    ensures slices { IfOk result (λ tokens. AreSlicesOf text.now tokens.items) }
+    ensures ascend { IfOk result (λ tokens. Ascend tokens.items) }
+    ensures ended { IfOk result (λ tokens. EndsOnce (map seen tokens.items)) }
+    ensures length { IfOk result (λ tokens. text_length (map seen tokens.items) ≡ length text.now) }
+{
+    let mut tokens = Vec::new(alloc);
+    let mut at = 0;
+    loop {
+        let token = next_token(text, at)?;
+        at = token.span.end;
+        tokens.push(token).map_err(|_| QueryFault::Memory)?;
+        if let TokenKind::End = token.kind {
+            return Ok(tokens);
+        }
+    }
+}
+
+/// The token that follows a place in the text, behind blanks.
+fn next_token<'a>(text: &'a str, from: usize) -> Result<Token<'a>, QueryFault>
+    requires { from ≤ length text.now }
+    ensures answers { Answers FaultKind.Lex seen result (next_of text.now from) }
+    ensures slice { IfOk result (λ t. t.text.now ≡ slice_range text.now t.span.start t.span.end) }
+    ensures within { IfOk result (λ t.
+        (from ≤ t.span.start) × (t.span.start ≤ t.span.end) × (t.span.end ≤ length text.now)) }
+    ensures moves { IfOk result (λ t. t.kind ≢ TokenKind.End → t.span.start < t.span.end) }
+    ensures ends { IfOk result (λ t. t.kind ≡ TokenKind.End → t.span.end ≡ length text.now) }
+{
+    let bytes = text.as_bytes();
+    let start = from + blanks_len(&bytes[from..]);
+    let rest = &bytes[start..];
+    let Some(first) = rest.first() else {
+        let span = Span { start, end: start };
+        return Ok(Token {
+            kind: TokenKind::End,
+            text: &text[start..],
+            span,
+        });
+    };
+    let Some((kind, len)) = sign(rest) else {
+        let span = Span {
+            start,
+            end: start + char_bytes(*first),
+        };
+        return Err(QueryFault::Fault(Fault {
+            kind: FaultKind::Lex,
+            span,
+        }));
+    };
+    let span = Span {
+        start,
+        end: start + len,
+    };
+    Ok(Token {
+        kind,
+        text: &text[start..span.end],
+        span,
+    })
+}
+
+/// The kind and the length of the longest token at the front.
+fn sign(rest: &[u8]) -> Option<(TokenKind, usize)>
+    requires { 0 < length rest.now }
+    ensures found { MatchOption result (sign_at rest.now ≡ None)
+        (λ found. sign_at rest.now ≡ Some (sign_of found.0 (take found.1 rest.now))) }
+    ensures spells { IfSome result
+        (λ found. spelled (sign_of found.0 (take found.1 rest.now)) ≡ take found.1 rest.now) }
+    ensures within { IfSome result (λ found. (0 < found.1) × (found.1 ≤ length rest.now)) }
+    ensures ascii { IfSome result (λ found. All (λ byte. byte < 128) (take found.1 rest.now)) }
+    ensures no_end { IfSome result (λ found. found.0 ≢ TokenKind.End) }
+{
+    if is_letter(rest[0]) {
+        return Some((TokenKind::Name, name_len(rest)));
+    }
+    match rest[0] {
+        b',' => Some((TokenKind::Mark(Mark::Comma), 1)),
+        _ => None,
+    }
+}
+
+/// How many blanks stand at the front.
+fn blanks_len(rest: &[u8]) -> usize
+    ensures count { result ≡ prefix_len is_query_blank rest.now }
+    ensures within { result ≤ length rest.now }
+{
+    rest.iter().take_while(|byte| is_blank(**byte)).count()
+}
+
+/// How many bytes at the front may stand in a name.
+fn name_len(rest: &[u8]) -> usize
+    ensures count { result ≡ prefix_len is_name_byte rest.now }
+    ensures within { result ≤ length rest.now }
+{
+    rest.iter().take_while(|byte| is_of_name(**byte)).count()
+}
+
+fn is_blank(byte: u8) -> bool
+    ensures { result ≡ is_query_blank byte }
+{
+    matches!(byte, b' ' | b'\t' | b'\r' | b'\n')
+}
+
+fn is_letter(byte: u8) -> bool
+    ensures { result ≡ is_letter byte }
+{
+    byte.is_ascii_alphabetic()
+}
+
+fn is_of_name(byte: u8) -> bool
+    ensures { result ≡ is_name_byte byte }
+{
+    byte.is_ascii_alphanumeric() || byte == b'_' || byte == b'.'
+}
+
+/// How many bytes the character takes that begins with a byte.
+fn char_bytes(first: u8) -> usize
+    ensures { result ≡ char_len first }
+{
+    match first {
+        0..128 => 1,
+        128..224 => 2,
+        224..240 => 3,
+        _ => 4,
+    }
+}
+
+#[cfg(test)]
+mod tests {
+    use super::*;
+    use std::test::Fail;
+
+    fn lex_fault(start: usize, end: usize) -> Option<QueryFault> {
+        let span = Span { start, end };
+        Some(QueryFault::Fault(Fault {
+            kind: FaultKind::Lex,
+            span,
+        }))
+    }
+
+    #[test]
+    fn blanks_stand_between_tokens(rt: HostRuntime) -> Result<(), Fail> {
+        let tokens = lex(rt.alloc(), " \tSun\r\n\n,Sun.day_1 ")?;
+        let token = |kind, text, start, end| Token {
+            kind,
+            text,
+            span: Span { start, end },
+        };
+        let expected = [
+            token(TokenKind::Name, "Sun", 2, 5),
+            token(TokenKind::Mark(Mark::Comma), ",", 8, 9),
+            token(TokenKind::Name, "Sun.day_1", 9, 18),
+            token(TokenKind::End, "", 19, 19),
+        ];
+        assert_eq!(rt; tokens.as_slice(), expected.as_slice());
+        Ok(())
+    }
+
+    #[test]
+    fn no_token_begins_there(rt: HostRuntime) {
+        assert_eq!(rt; lex(rt.alloc(), "\u{e9}").err(), lex_fault(0, 2));
+        assert_eq!(rt;
+            lex(rt.alloc(), "Position & Planet").err(),
+            lex_fault(9, 10)
+        );
+        assert_eq!(rt; lex(rt.alloc(), "Sun, 1Sun").err(), lex_fault(5, 6));
+    }
+}
