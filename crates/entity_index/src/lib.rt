@@ -1,0 +1,11 @@
+//! Which entities are alive, with their generations, and where their rows stand.
+#![tactic(auto)]
+
+mod index;
+mod live;
+mod slot;
+#[cfg(test)]
+mod tests;
+
+pub use index::{CreateError, EntityIndex};
+pub use live::Live;

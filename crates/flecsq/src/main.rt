@@ -1,0 +1,139 @@
+//! The program `flecsq`: runs a script from a file or from standard input.
+#![tactic(auto)]
+
+use clap::error::ErrorKind;
+use clap::{Arg, Command, Error};
+use std::alloc::{AllocError, Global};
+use std::env;
+use std::fs::File;
+use std::io::{self, BufReader, BufWriter, Read, Write};
+use std::process::ExitCode;
+use world_script::{FromRead, RunError, Summary, ToWrite, run};
+
+const ABOUT: &str =
+    "Runs a script of entity component commands and queries, and prints rows and refusals.";
+
+const SCRIPTS: &str =
+    "A script is lines. This one makes a component and an entity, and asks for its value:
+
+  component Position x:i32 y:i32
+  entity Sun
+  set Sun Position 10 -3
+  query Position
+
+It prints `row $this=Sun [Position@Sun=10,-3]` and `rows 1`.
+
+Exit status: 0 if every line was accepted, 1 if a line was refused, 2 for a wrong use, 3 for a
+fault in reading or writing, for want of memory, or where the script is longer than 16777216 bytes.";
+
+/// Why a script gave no summary. The texts are those on standard error.
+#[derive(Clone, Copy)]
+enum Fault {
+    Read,
+    Write,
+    Memory,
+    TooLong,
+}
+
+impl Fault {
+    fn text(&self) -> &'static str {
+        match *self {
+            Fault::Read => "flecsq: read fault",
+            Fault::Write => "flecsq: write fault",
+            Fault::Memory => "flecsq: out of memory",
+            Fault::TooLong => "flecsq: script too long",
+        }
+    }
+}
+
+impl From<RunError> for Fault {
+    fn from(error: RunError) -> Fault {
+        match error {
+            RunError::Read => Fault::Read,
+            RunError::Write => Fault::Write,
+            RunError::Memory => Fault::Memory,
+            RunError::TooLong => Fault::TooLong,
+        }
+    }
+}
+
+/// What the arguments may be.
+fn command<'a>(alloc: Global) -> Result<Command<'a>, AllocError> {
+    let file = Arg::new(alloc, "FILE").help("The script; without it, standard input is read");
+    Command::new(alloc, "flecsq")
+        .version("0.1.0")
+        .about(ABOUT)
+        .after_help(SCRIPTS)
+        .arg(file)
+}
+
+/// Runs what the reader gives, buffered both ways.
+fn run_buffered<R: Read + Drop>(rt: &HostRuntime, reader: R) -> Result<Summary, Fault> {
+    let alloc = rt.alloc();
+    let reader = BufReader::new(alloc, reader).map_err(|_| Fault::Memory)?;
+    let mut writer = BufWriter::new(alloc, io::writer(rt)).map_err(|_| Fault::Memory)?;
+    let summary = run(
+        alloc,
+        &mut FromRead::new(reader),
+        &mut ToWrite::new(&mut writer),
+    )?;
+    writer.flush().map_err(|_| Fault::Write)?;
+    Ok(summary)
+}
+
+/// Opens the script and runs it. A file that can't be opened is a read fault.
+fn run_script(rt: &HostRuntime, file: Option<&str>) -> Result<Summary, Fault> {
+    match file {
+        Some(path) => run_buffered(rt, File::open(rt, path).map_err(|_| Fault::Read)?),
+        None => run_buffered(rt, rt.stdin()),
+    }
+}
+
+/// Prints help, the version, or what is wrong with the arguments.
+fn print_usage(rt: &HostRuntime, error: &Error) -> ExitCode {
+    if error.kind() == ErrorKind::OutOfMemory {
+        return print_fault(rt, &Fault::Memory);
+    }
+    match error.print(rt) {
+        Ok(()) => ExitCode::from(if error.use_stderr() { 2 } else { 0 }),
+        Err(_) => print_fault(rt, &Fault::Write),
+    }
+}
+
+fn print_fault(rt: &HostRuntime, fault: &Fault) -> ExitCode {
+    let _ = rt.eprintln(fault.text());
+    ExitCode::from(3)
+}
+
+/// The words of the command line, or the status with which the program ends without them.
+fn words_of(rt: &HostRuntime) -> Result<Vec<String>, ExitCode> {
+    let words = env::args(rt).map_err(|error| print_argument_fault(rt, &error))?;
+    words
+        .collect(rt.alloc())
+        .map_err(|_| print_fault(rt, &Fault::Memory))
+}
+
+fn print_argument_fault(rt: &HostRuntime, error: &io::Error) -> ExitCode {
+    if error.kind() == io::ErrorKind::OutOfMemory {
+        return print_fault(rt, &Fault::Memory);
+    }
+    let _ = rt.eprintln("error: an argument is not UTF-8");
+    ExitCode::from(2)
+}
+
+fn run_words(rt: &HostRuntime, words: &[String]) -> Result<ExitCode, ExitCode> {
+    let matches = command(rt.alloc())
+        .map_err(|_| print_fault(rt, &Fault::Memory))?
+        .try_get_matches_from(words)
+        .map_err(|error| print_usage(rt, &error))?;
+    let summary = run_script(rt, matches.get_str("FILE")).map_err(|fault| print_fault(rt, &fault))?;
+    Ok(ExitCode::from(if summary.refused == 0 { 0 } else { 1 }))
+}
+
+fn main(rt: HostRuntime) -> ExitCode {
+    let ended = words_of(&rt).and_then(|words| run_words(&rt, words.as_slice()));
+    match ended {
+        Ok(status) => status,
+        Err(status) => status,
+    }
+}

@@ -1,0 +1,32 @@
+use crate::{BindError, NameIndex};
+use ecs_id::EntityId;
+use std::test::Fail;
+
+const SUN: EntityId = EntityId {
+    index: 64,
+    generation: 0,
+};
+
+const EARTH: EntityId = EntityId {
+    index: 65,
+    generation: 0,
+};
+
+#[test]
+fn a_word_of_the_language_is_no_name(rt: HostRuntime) {
+    let mut names = NameIndex::new(rt.alloc());
+    assert!(rt; names.bind("self", SUN) == Err(BindError::BadName));
+}
+
+#[test]
+fn a_name_names_one_entity(rt: HostRuntime) -> Result<(), Fail> {
+    let mut names = NameIndex::new(rt.alloc());
+    names.bind("Sun", SUN)?;
+    assert_eq!(rt; names.find("Sun"), Some(SUN));
+    assert_eq!(rt; names.name_of(SUN), Some("Sun"));
+    assert!(rt; names.bind("Sun", EARTH) == Err(BindError::NameTaken));
+    names.unbind(SUN);
+    assert_eq!(rt; names.find("Sun"), None);
+    assert_eq!(rt; names.name_of(SUN), None);
+    Ok(())
+}

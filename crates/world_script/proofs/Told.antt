@@ -1,0 +1,32 @@
+-- What is told of bytes, over more than one call.
+use Rattle.std.proofs.Common.{◌≡◌, ℕ, ◌+◌, ◌<◌, ◌≤◌, List, [], ◌++◌, length, take, drop, Option, None, Some, sym, ap, subst, arith, append-nil, length-append, ◌-◌}
+use Rattle.std.proofs.lemmas.List.{length-take-le, take_rest}
+use Rattle.std.proofs.Math.Seq.{take-add}
+use Rattle.std.proofs.KnownBytes.{Consumes-trans, Appends-trans}
+use Rattle.std.specs.Io.KnownBytes.{Consumes, Appends}
+use Rattle.world_script.specs.Whole.{most_bytes, IsTooLong}
+
+-- a call that gave nothing
+pub Consumes-none_more : (a b c : Option (List ℕ)) (read piece : List ℕ) (n : ℕ) → n ≡ 0 → Consumes a b read → Consumes b c (take n piece) → Consumes a c read
+Consumes-none_more a b c read piece n e first second =
+    let P : List ℕ → Type 0 = λ l. Consumes a c l in
+    let Q : ℕ → Type 0 = λ k. Consumes b c (take k piece) in
+    subst P (append-nil read) (Consumes-trans a b c read [] first (subst Q e second))
+
+-- what was consumed is too long
+IsTooLong-consumed : (a c : Option (List ℕ)) (bytes : List ℕ) → most_bytes < length bytes → Consumes a c bytes → IsTooLong a
+IsTooLong-consumed None c bytes more h = tt
+IsTooLong-consumed (Some x) None bytes more h = absurd h
+IsTooLong-consumed (Some x) (Some z) bytes more h = omega (arith, ap length h, length-append bytes z)
+
+-- a call that gave more than a script may have
+pub IsTooLong-read : (a b c : Option (List ℕ)) (read piece : List ℕ) (n : ℕ) → Consumes a b read → Consumes b c (take n piece) → n ≤ length piece → most_bytes < length read + n → IsTooLong a
+IsTooLong-read a b c read piece n first second fits more =
+    IsTooLong-consumed a c (read ++ take n piece) (omega (arith, length-append read (take n piece), length-take-le n piece fits)) (Consumes-trans a b c read (take n piece) first second)
+
+-- a call that took a front of what was left
+pub Appends-more : (a b c : Option (List ℕ)) (bytes : List ℕ) (at n : ℕ) → Appends a b (take at bytes) → Appends b c (take n (take (length bytes - at) (drop at bytes))) → Appends a c (take (at + n) bytes)
+Appends-more a b c bytes at n first second =
+    let P : List ℕ → Type 0 = λ l. Appends a c l in
+    let Q : List ℕ → Type 0 = λ l. Appends b c (take n l) in
+    subst P (sym (take-add at n bytes)) (Appends-trans a b c (take at bytes) (take n (drop at bytes)) first (subst Q (take_rest bytes at) second))

@@ -1,0 +1,15 @@
+use Rattle.world_script.proofs.Outcome.{IfSome-read, printed_whole, counted_whole}
+use Rattle.world_script.proofs.runs.run_in.Goals as goal
+
+pub returns-clause-output : goal.returns-clause-output
+returns-clause-output g c =
+    let script = c.in_ok-script.script.items in
+    let lines = c.in_ok-summary.ensures in
+    let written = printed_whole _ script _ _ _ _ c.requires c.as_slice.ensures.value c.new-output.ensures.items lines.printed c.as_slice-2.ensures.value in
+    IfSome-read _ _ _ script c.in_ok-script.ensures.bytes c.in_ok-script.ensures.end (rw (← written) c.in_ok-write_all.ensures.ok)
+
+pub returns-clause-count : goal.returns-clause-count
+returns-clause-count g c =
+    let script = c.in_ok-script.script.items in
+    let lines = c.in_ok-summary.ensures in
+    IfSome-read _ _ _ script c.in_ok-script.ensures.bytes c.in_ok-script.ensures.end (counted_whole _ script _ _ _ c.requires c.as_slice.ensures.value lines.lines lines.refused)

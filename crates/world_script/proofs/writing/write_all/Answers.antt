@@ -1,0 +1,9 @@
+use Rattle.std.proofs.Common.{rules}
+use Rattle.world_script.proofs.Told.{Appends-more}
+use Rattle.world_script.proofs.writing.write_all.Goals as goal
+
+pub loop-at-preserved : goal.loop-at-preserved
+loop-at-preserved g c = record {
+  within = search rules;
+  written = Appends-more _ _ _ _ _ _ c.loop-at.invariant.written c.in-Ok.ensures.bytes;
+}

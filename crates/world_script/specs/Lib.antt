@@ -1,0 +1,4 @@
+pub mod Streams
+pub mod Whole
+pub mod Run
+pub mod Told

@@ -1,0 +1,24 @@
+//! From the bytes of a script to the bytes of its output.
+#![tactic(auto)]
+
+mod errors;
+mod lines;
+mod printing;
+mod reading;
+mod runs;
+mod sessions;
+mod std_streams;
+mod streams;
+mod tapes;
+#[cfg(test)]
+mod tests;
+mod worlds;
+mod writing;
+
+pub use errors::RunError;
+pub use lines::Summary;
+pub use reading::MOST_BYTES;
+pub use runs::run;
+pub use std_streams::{FromRead, ToWrite};
+pub use streams::{Calls, Sink, Source, Stop};
+pub use tapes::{Tape, Turn};

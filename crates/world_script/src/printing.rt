@@ -1,0 +1,133 @@
+//! What lines that are refused print.
+ghost use Rattle.std.specs.Prelude.{◌≡◌, ◌++◌, OnOk, IfOk, codes, decimal};
+ghost use Rattle.ecs_model.specs.Print.{fault_text, fault_word};
+ghost use Rattle.ecs_model.specs.Refusal.{refusal_text, schema_fault_text};
+ghost use Rattle.world_script.specs.Told.{refused_text, TellsRefusal, TellsAnswer};
+
+use ecs_model::faults::{CommandError, Fault, FaultKind, Refusal, SchemaFault};
+use itoa::Buffer;
+use std::alloc::{AllocError, Allocator};
+
+/// Tells that a line is refused.
+pub(crate) fn refuse<A: Allocator>(
+    number: usize,
+    kind: &str,
+    output: &mut Vec<u8, A>,
+) -> Result<bool, AllocError>
+    ensures { IfOk result (TellsRefusal number kind.now output.old.items output.new.items) }
+{
+    print_error(number, output)?;
+    output.extend_from_slice(kind.as_bytes())?;
+    output.extend_from_slice(b"\n")?;
+    Ok(true)
+}
+
+/// Tells that a query is refused.
+pub(crate) fn refuse_query<A: Allocator>(
+    number: usize,
+    fault: Fault,
+    output: &mut Vec<u8, A>,
+) -> Result<bool, AllocError>
+    ensures { IfOk result (TellsRefusal number (fault_text fault) output.old.items output.new.items) }
+{
+    print_error(number, output)?;
+    print_fault(fault, output)?;
+    output.extend_from_slice(b"\n")?;
+    Ok(true)
+}
+
+/// Tells what a world answered.
+pub(crate) fn tell_answer<A: Allocator>(
+    number: usize,
+    answer: Result<(), CommandError>,
+    output: &mut Vec<u8, A>,
+) -> Result<bool, AllocError>
+    ensures { IfOk result (TellsAnswer answer number output.old.items output.new.items) }
+{
+    match answer {
+        Ok(()) => Ok(false),
+        Err(CommandError::Refused(refusal)) => refuse(number, refusal_word(refusal), output),
+        Err(CommandError::Memory) => Err(AllocError),
+    }
+}
+
+/// Prints `error LINE `.
+fn print_error<A: Allocator>(number: usize, output: &mut Vec<u8, A>) -> Result<(), AllocError>
+    ensures { OnOk result (output.new.items ≡ output.old.items ++ codes "error " ++ decimal number ++ codes " ") }
+{
+    output.extend_from_slice(b"error ")?;
+    print_number(number, output)?;
+    output.extend_from_slice(b" ")
+}
+
+/// Prints `KIND a..b`.
+fn print_fault<A: Allocator>(fault: Fault, output: &mut Vec<u8, A>) -> Result<(), AllocError>
+    ensures { OnOk result (output.new.items ≡ output.old.items ++ fault_text fault) }
+{
+    output.extend_from_slice(fault_word(fault.kind).as_bytes())?;
+    output.extend_from_slice(b" ")?;
+    print_number(fault.span.start, output)?;
+    output.extend_from_slice(b"..")?;
+    print_number(fault.span.end, output)
+}
+
+/// Prints a number in decimal.
+fn print_number<A: Allocator>(number: usize, output: &mut Vec<u8, A>) -> Result<(), AllocError>
+    ensures { OnOk result (output.new.items ≡ output.old.items ++ decimal number) }
+{
+    let mut digits = Buffer::new();
+    output.extend_from_slice(digits.format(number).as_bytes())
+}
+
+/// The word of a refusal.
+fn refusal_word(refusal: Refusal) -> &'static str
+    ensures { result.now ≡ refusal_text refusal }
+{
+    match refusal {
+        Refusal::Dead => "Dead",
+        Refusal::UnknownName => "UnknownName",
+        Refusal::BadName => "BadName",
+        Refusal::NameTaken => "NameTaken",
+        Refusal::BuiltIn => "BuiltIn",
+        Refusal::NoData => "NoData",
+        Refusal::Count => "Count",
+        Refusal::Range => "Range",
+        Refusal::TraitFixed => "TraitFixed",
+        Refusal::InUse => "InUse",
+        Refusal::Cycle => "Cycle",
+        Refusal::TooManyIds => "TooManyIds",
+        Refusal::Panic => "Panic",
+        Refusal::Full => "Full",
+    }
+}
+
+/// The word of a faulty list of fields.
+pub(crate) fn schema_fault_word(fault: SchemaFault) -> &'static str
+    ensures { result.now ≡ schema_fault_text fault }
+{
+    match fault {
+        SchemaFault::TooManyFields => "TooManyFields",
+        SchemaFault::NoFields => "NoFields",
+        SchemaFault::BadField => "BadField",
+    }
+}
+
+/// The word of a kind of fault of a query.
+fn fault_word(kind: FaultKind) -> &'static str
+    ensures { result.now ≡ fault_word kind }
+{
+    match kind {
+        FaultKind::Lex => "Lex",
+        FaultKind::Syntax => "Syntax",
+        FaultKind::UnknownName => "UnknownName",
+        FaultKind::NotTraversable => "NotTraversable",
+        FaultKind::UnboundVariable => "UnboundVariable",
+        FaultKind::WildcardSource => "WildcardSource",
+        FaultKind::WildcardEquality => "WildcardEquality",
+        FaultKind::TooManyTerms => "TooManyTerms",
+        FaultKind::TooManyVariables => "TooManyVariables",
+        FaultKind::TooDeep => "TooDeep",
+        FaultKind::NoThis => "NoThis",
+        FaultKind::NotOneTerm => "NotOneTerm",
+    }
+}

@@ -1,0 +1,123 @@
+//! A reader and a writer for tests, which does as it is told.
+ghost use Rattle.std.specs.Prelude.{◌≡◌, ◌+◌, ◌<◌, ◌≤◌, Some, IfOk, length, take, drop, vec_len};
+
+use crate::streams::{Calls, Sink, Source, Stop};
+use std::alloc::{AllocError, Allocator, Global};
+
+/// What one call of a tape does.
+#[derive(Clone, Copy, Debug, PartialEq, Eq)]
+pub enum Turn {
+    /// At most so many bytes pass. A read gives at least one, where one is left.
+    Pass(usize),
+    /// The call answers no count.
+    Stop(Stop),
+}
+
+/// Bytes that are read from their front and written at their end.
+///
+/// Each call does what the next turn says. After the last turn a call passes as many bytes as it can.
+#[derive(Drop)]
+pub struct Tape<'a, A: Allocator = Global> {
+    bytes: Vec<u8, A>,
+    // so many of the bytes have been read
+    given: usize,
+    turns: Turns<'a>,
+    calls: Calls,
+    ghost inside: { given ≤ vec_len bytes },
+}
+
+impl<'a, A: Allocator> Tape<'a, A> {
+    /// A tape with these bytes on it.
+    pub fn new(alloc: A, bytes: &[u8], turns: &'a [Turn]) -> Result<Self, AllocError>
+        ensures to_read { IfOk result (λ tape. ⟦<Tape<'a, A> as Source>⟧.remaining tape ≡ Some bytes.now) }
+        ensures written { IfOk result (λ tape. ⟦<Tape<'a, A> as Sink>⟧.contents tape ≡ Some bytes.now) }
+    {
+        Ok(Tape {
+            bytes: Vec::from_slice(alloc, bytes)?,
+            given: 0,
+            turns: Turns(turns),
+            calls: Calls::NONE,
+        })
+    }
+
+    /// All its bytes.
+    pub fn bytes(&self) -> &[u8]
+        ensures { Some result.now ≡ ⟦<Tape<'a, A> as Sink>⟧.contents self.now }
+    {
+        self.bytes.as_slice()
+    }
+}
+
+/// The turns to come.
+#[derive(Drop)]
+struct Turns<'a>(&'a [Turn]);
+
+impl Turns<'_> {
+    fn next(&mut self) -> Turn {
+        match self.0.split_first() {
+            Some((turn, later)) => {
+                self.0 = later;
+                *turn
+            }
+            None => Turn::Pass(usize::MAX),
+        }
+    }
+}
+
+/// Copies at most so many of the bytes behind those given to the buffer's front, at least one where there is one and room for it, and answers how many.
+fn give(bytes: &[u8], given: usize, most: usize, buffer: &mut [u8]) -> usize
+    requires { given ≤ length bytes.now }
+    ensures bound { result ≤ length buffer.new }
+    ensures within { given + result ≤ length bytes.now }
+    ensures piece { take result buffer.new ≡ take result (drop given bytes.now) }
+    ensures end { result ≡ 0 → 0 < length buffer.new → given ≡ length bytes.now }
+{
+    let count = most.max(1).min(buffer.len()).min(bytes.len() - given);
+    buffer[..count].copy_from_slice(&bytes[given..given + count]);
+    count
+}
+
+impl<A: Allocator> Source for Tape<'_, A> {
+    ghost use Rattle.std.specs.Prelude.{Some, drop};
+
+    ghost remaining = { λ s. Some (drop s.given s.bytes.items) };
+
+    ghost calls = { λ s. s.calls };
+
+    fn read(&mut self, buffer: &mut [u8]) -> Result<usize, Stop> {
+        let answer = match self.turns.next() {
+            Turn::Stop(stop) => Err(stop),
+            Turn::Pass(most) => {
+                let count = give(self.bytes.as_slice(), self.given, most, buffer);
+                self.given += count;
+                Ok(count)
+            }
+        };
+        self.calls.count_read(answer);
+        answer
+    }
+}
+
+impl<A: Allocator> Sink for Tape<'_, A> {
+    ghost use Rattle.std.specs.Prelude.{Some};
+
+    ghost contents = { λ s. Some s.bytes.items };
+
+    ghost calls = { λ s. s.calls };
+
+    /// Memory that is refused is a failure.
+    fn write(&mut self, bytes: &[u8]) -> Result<usize, Stop> {
+        let answer = match self.turns.next() {
+            Turn::Stop(stop) => Err(stop),
+            Turn::Pass(most) => {
+                let count = most.min(bytes.len());
+                match self.bytes.extend_from_slice(&bytes[..count]) {
+                    Ok(()) => Ok(count),
+                    Err(_) => Err(Stop::Failed),
+                }
+            }
+        };
+        self.calls.count_write(answer, bytes);
+        answer
+    }
+}

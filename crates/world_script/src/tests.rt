@@ -1,0 +1,95 @@
+//! Scripts run over tapes.
+
+use crate::{RunError, Stop, Summary, Tape, Turn, run};
+use std::process::Abort;
+use std::test::Fail;
+
+/// A component, entities, facts and a query, and what they print.
+const SCRIPT: &[u8] =
+    b"component Position x:i32 y:i32\nentity Planet\nentity Likes\nentity Sun\nentity Earth\nentity Moon\nset Sun Position 0 0\nset Earth Position 10 -3\nadd Earth Planet\nquery Position\n";
+
+const OUTPUT: &[u8] =
+    b"row $this=Sun [Position@Sun=0,0]\nrow $this=Earth [Position@Earth=10,-3]\nrows 2\n";
+
+const SUMMARY: Summary = Summary {
+    lines: 10,
+    refused: 0,
+};
+
+const INTERRUPTED: [Turn; 2] = [Turn::Pass(10), Turn::Stop(Stop::Interrupted)];
+
+const FAILED: [Turn; 2] = [Turn::Pass(10), Turn::Stop(Stop::Failed)];
+
+const STALLED: [Turn; 2] = [Turn::Pass(10), Turn::Pass(0)];
+
+/// Runs a script from a tape onto a tape, and compares what was answered and what was written.
+fn expect(
+    rt: &(impl Abort + AllocGlobal),
+    script: &[u8],
+    reads: &[Turn],
+    writes: &[Turn],
+    answer: Result<Summary, RunError>,
+    written: &[u8],
+) -> Result<(), Fail> {
+    let mut reader = Tape::new(rt.alloc(), script, reads)?;
+    let mut writer = Tape::new(rt.alloc(), b"", writes)?;
+    let answered = run(rt.alloc(), &mut reader, &mut writer);
+    assert_eq!(rt; answered, answer);
+    assert_eq!(rt; writer.bytes(), written);
+    Ok(())
+}
+
+#[test]
+fn a_script_is_read_and_its_output_written_in_any_pieces(rt: HostRuntime) -> Result<(), Fail> {
+    expect(&rt, SCRIPT, &[], &[], Ok(SUMMARY), OUTPUT)?;
+    let bytes = Vec::from_elem(rt.alloc(), Turn::Pass(1), SCRIPT.len())?;
+    expect(
+        &rt,
+        SCRIPT,
+        bytes.as_slice(),
+        bytes.as_slice(),
+        Ok(SUMMARY),
+        OUTPUT,
+    )?;
+    let unended = &SCRIPT[..SCRIPT.len() - 1];
+    expect(&rt, unended, &[], &[], Ok(SUMMARY), OUTPUT)
+}
+
+#[test]
+fn faults_of_reads_and_writes_are_answered(rt: HostRuntime) -> Result<(), Fail> {
+    expect(&rt, SCRIPT, &INTERRUPTED, &[], Err(RunError::Read), b"")?;
+    expect(&rt, SCRIPT, &FAILED, &[], Err(RunError::Read), b"")?;
+    expect(
+        &rt,
+        SCRIPT,
+        &[],
+        &FAILED,
+        Err(RunError::Write),
+        b"row $this=",
+    )?;
+    expect(
+        &rt,
+        SCRIPT,
+        &[],
+        &STALLED,
+        Err(RunError::Write),
+        b"row $this=",
+    )
+}
+
+#[test]
+fn refused_lines_are_told_and_counted(rt: HostRuntime) -> Result<(), Fail> {
+    let summary = Summary {
+        lines: 3,
+        refused: 2,
+    };
+    let script = b"entity Sun\nentity Sun\nfly";
+    expect(
+        &rt,
+        script,
+        &[],
+        &[],
+        Ok(summary),
+        b"error 2 NameTaken\nerror 3 BadLine\n",
+    )
+}

@@ -1,0 +1,24 @@
+//! Writing a whole output.
+ghost use Rattle.std.specs.Prelude.{◌≡◌, length, take, OnOk, OnErr, IfErr};
+ghost use Rattle.std.specs.Io.KnownBytes.{Appends};
+ghost use Rattle.world_script.specs.Streams.{IsStopped};
+ghost use Rattle.world_script.specs.Whole.{AppendsFront};
+
+use crate::errors::RunError;
+use crate::streams::Sink;
+
+/// Writes all of the bytes, or up to the first write that fails, is interrupted or takes none.
+pub(crate) fn write_all<W: Sink>(writer: &mut W, bytes: &[u8]) -> Result<(), RunError>
+    ensures ok { OnOk result (Appends (W.contents writer.old) (W.contents writer.new) bytes.now) }
+    ensures front { OnErr result (AppendsFront (W.contents writer.old) (W.contents writer.new) bytes.now) }
+    ensures err { IfErr result (λ error. (error ≡ RunError.Write) × IsStopped (W.calls writer.new)) }
+{
+    let mut at = 0;
+    while at < bytes.len() {
+        match writer.write(&bytes[at..]) {
+            Ok(0) | Err(_) => return Err(RunError::Write),
+            Ok(count) => at += count,
+        }
+    }
+    Ok(())
+}
