@@ -9,7 +9,7 @@ pub mod names;
 pub mod text_laws;
 pub mod values;
 
-pub use names::is_name;
+pub use names::{is_name, is_name_byte, is_reserved};
 pub use values::{Fact, Value};
 
 /// A part of a text, in bytes: from `start` up to and without `end`.

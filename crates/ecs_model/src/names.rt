@@ -29,13 +29,15 @@ fn are_name_bytes(text: &[u8]) -> bool
     text.iter().all(|byte| is_name_byte(*byte))
 }
 
-fn is_name_byte(byte: u8) -> bool
+/// Whether a byte may stand in a name: an ASCII letter, a digit, `_` or `.`.
+pub fn is_name_byte(byte: u8) -> bool
     ensures { result ≡ is_name_byte byte }
 {
     byte.is_ascii_alphanumeric() || byte == b'_' || byte == b'.'
 }
 
-fn is_reserved(text: &[u8]) -> bool
+/// Whether a text is one of the words of the query language, which name nothing.
+pub fn is_reserved(text: &[u8]) -> bool
     ensures { result ≡ is_reserved text.now }
 {
     text == b"self".as_slice()

@@ -16,12 +16,11 @@ mod tests;
 
 use ecs_id::EntityId;
 use ecs_model::is_name;
+pub use error::BindError;
 use indexmap::IndexMap;
 use std::alloc::{AllocError, Allocator, Global};
 use std::hash::{BuildHasherDefault, FoldHasher};
 use std::marker::Model;
-
-pub use error::BindError;
 
 type ByName<A> = IndexMap<String<A>, EntityId, BuildHasherDefault<FoldHasher>, A>;
 

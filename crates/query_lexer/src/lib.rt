@@ -11,7 +11,7 @@ ghost use Rattle.query_lexer.specs.Lexed.{Answers, AnswersBy, next_of};
 ghost use Rattle.query_lexer.specs.Token.{AreSlicesOf, Ascend, seen, sign_of, text_length};
 
 use ecs_model::faults::{Fault, FaultKind, QueryFault};
-use ecs_model::{Mark, Span};
+use ecs_model::{Mark, Span, is_name_byte};
 use std::alloc::Allocator;
 
 /// What a token is.
@@ -138,7 +138,7 @@ fn name_len(rest: &[u8]) -> usize
     ensures count { result ≡ prefix_len is_name_byte rest.now }
     ensures within { result ≤ length rest.now }
 {
-    rest.iter().take_while(|byte| is_of_name(**byte)).count()
+    rest.iter().take_while(|byte| is_name_byte(**byte)).count()
 }
 
 fn is_blank(byte: u8) -> bool
@@ -151,12 +151,6 @@ fn is_letter(byte: u8) -> bool
     ensures { result ≡ is_letter byte }
 {
     byte.is_ascii_alphabetic()
-}
-
-fn is_of_name(byte: u8) -> bool
-    ensures { result ≡ is_name_byte byte }
-{
-    byte.is_ascii_alphanumeric() || byte == b'_' || byte == b'.'
 }
 
 /// How many bytes the character takes that begins with a byte.

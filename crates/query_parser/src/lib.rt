@@ -100,10 +100,11 @@ fn unexpected(span: Span) -> QueryFault
     })
 }
 
+/// Whether a word names nothing, since it is one of the query language.
 fn is_reserved(word: &str) -> bool
     ensures { result ≡ is_reserved word.now }
 {
-    matches!(word, "self" | "up" | "cascade" | "desc")
+    ecs_model::is_reserved(word.as_bytes())
 }
 
 #[cfg(test)]

@@ -1,4 +1,4 @@
-use Rattle.std.proofs.Common.{◌≡◌, None, Some, sym, ap, subst, ◌∙◌, rules}
+use Rattle.std.proofs.Common.{◌≡◌, None, sym, ◌∙◌, rules}
 use Rattle.std.specs.HashMap.{get_by_text}
 use Rattle.std.specs.String.{string_bytes}
 use Rattle.std.specs.FinMap as finite
@@ -23,6 +23,6 @@ returns-clause-bound g c = names_in-insert c.copies.new.by_name c.insert.new.sel
 pub returns-clause-others : goal.returns-clause-others
 returns-clause-others g c =
     let bound : names_in c.insert.new.self ≡ finite.insert c.args.self.now c.args.name.now c.args.entity =
-        names_in-insert c.copies.new.by_name c.insert.new.self (string_bytes c.in_ok-key.key) c.args.entity (search rules)
-        ∙ (λ i. finite.insert ((names_in-unchanged c.self.inside.by_name c.copies.new.by_name c.copies.ensures.by_name ∙ c.self.view_is) i) (c.in_ok-key.ensures.texts.0 i) c.args.entity) in
+    names_in-insert c.copies.new.by_name c.insert.new.self (string_bytes c.in_ok-key.key) c.args.entity (search rules)
+    ∙ (λ i. finite.insert ((names_in-unchanged c.self.inside.by_name c.copies.new.by_name c.copies.ensures.by_name ∙ c.self.view_is) i) (c.in_ok-key.ensures.texts.0 i) c.args.entity) in
     rw bound (OthersKeepTheirs-insert c.args.self.now c.args.name.now c.args.entity c.in_default.ensures.free.1)

@@ -1,8 +1,8 @@
-use Rattle.std.proofs.Common.{◌≡◌, None, Some, sym, ap, subst, ◌∙◌, rules}
+use Rattle.std.proofs.Common.{◌≡◌, Some, ◌∙◌, rules}
 use Rattle.std.specs.HashMap.{get}
 use Rattle.std.specs.String.{string_bytes}
 use Rattle.std.specs.FinMap as finite
-use Rattle.name_index.specs.Names.{names_in, entity_eq, IsUnnamed}
+use Rattle.name_index.specs.Names.{names_in, entity_eq}
 use Rattle.name_index.proofs.NamesLemmas.{named_by, named_as, one_to_one, unnamed, names_in-remove, AreInverse-remove, IsUnnamed-remove, OthersKeepTheirs-remove}
 use Rattle.name_index.proofs.NameIndex.unbind.Goals as goal
 
@@ -22,14 +22,14 @@ pub returns-clause-freed : goal.returns-clause-freed
 returns-clause-freed g c =
     let has : finite.get c.args.self.now (string_bytes c.in-Some.name) ≡ Some c.args.entity = named_by c.args.self.now c.self.inside.by_name c.self.inside.by_entity c.self.view_is c.self.invariant c.args.entity c.in-Some.name (search rules) in
     let gone : names_in c.swap_remove-2.new.self ≡ finite.remove c.args.self.now (string_bytes c.in-Some.name) =
-        names_in-remove c.self.inside.by_name c.swap_remove-2.new.self (string_bytes c.in-Some.name) (rw c.as_str.ensures.value at c.swap_remove-2.ensures.updates) ∙ (λ i. finite.remove (c.self.view_is i) (string_bytes c.in-Some.name)) in
+    names_in-remove c.self.inside.by_name c.swap_remove-2.new.self (string_bytes c.in-Some.name) (rw c.as_str.ensures.value at c.swap_remove-2.ensures.updates) ∙ (λ i. finite.remove (c.self.view_is i) (string_bytes c.in-Some.name)) in
     rw gone (IsUnnamed-remove c.args.self.now (string_bytes c.in-Some.name) c.args.entity (one_to_one c.args.self.now c.self.inside.by_name c.self.inside.by_entity c.self.view_is c.self.invariant) has)
 
 pub returns-clause-others : goal.returns-clause-others
 returns-clause-others g c =
     let has : finite.get c.args.self.now (string_bytes c.in-Some.name) ≡ Some c.args.entity = named_by c.args.self.now c.self.inside.by_name c.self.inside.by_entity c.self.view_is c.self.invariant c.args.entity c.in-Some.name (search rules) in
     let gone : names_in c.swap_remove-2.new.self ≡ finite.remove c.args.self.now (string_bytes c.in-Some.name) =
-        names_in-remove c.self.inside.by_name c.swap_remove-2.new.self (string_bytes c.in-Some.name) (rw c.as_str.ensures.value at c.swap_remove-2.ensures.updates) ∙ (λ i. finite.remove (c.self.view_is i) (string_bytes c.in-Some.name)) in
+    names_in-remove c.self.inside.by_name c.swap_remove-2.new.self (string_bytes c.in-Some.name) (rw c.as_str.ensures.value at c.swap_remove-2.ensures.updates) ∙ (λ i. finite.remove (c.self.view_is i) (string_bytes c.in-Some.name)) in
     rw gone (OthersKeepTheirs-remove c.args.self.now (string_bytes c.in-Some.name) c.args.entity has)
 
 pub returns-clause-named : goal.returns-clause-named
