@@ -1,5 +1,5 @@
 -- What is known of a command against which there is no reason, and of its world.
-use Rattle.std.proofs.Common.{◌≡◌, ◌⊎◌, ℕ, suc, ◌+◌, ◌-◌, ◌^◌, ◌<◌, ◌≤◌, ◌==◌, Bool, true, false, cond, if◌then◌else◌, not, ◌&&◌, ◌||◌, nat_lt, nat_le, ℤ, List, [], ◌∷◌, ◌++◌, map, length, Option, Some, None, is_some, is_none, option_map, Result, Ok, Err, IsOkAnd, OnOk, OnErr, refl, sym, ap, ◌∙◌, subst, inl, inr, arith, true≢false}
+use Rattle.std.proofs.Common.{◌≡◌, ◌⊎◌, ℕ, ◌+◌, ◌≤◌, ◌==◌, Bool, true, false, if◌then◌else◌, not, ◌||◌, ℤ, List, [], ◌∷◌, ◌++◌, length, Option, Some, None, is_some, is_none, option_map, Result, Ok, Err, IsOkAnd, OnOk, OnErr, refl, sym, ap, ◌∙◌, subst, inl, inr, arith, true≢false}
 use Rattle.std.proofs.lemmas.Bool.{cases_lt}
 use Rattle.std.proofs.lemmas.Bool.Decides.{nat_tests}
 use Rattle.std.specs.Option.{option_map_or, option_or}
@@ -18,7 +18,7 @@ use Rattle.ecs_model.specs.Keeps.{IsWellFormed}
 use Rattle.ecs_model.specs.Refusal.{first_reason}
 use Rattle.ecs_model.specs.Changes.{facts_after_add}
 use Rattle.ecs_model.specs.World.{WorldState, Key, key_cmp, type_of_id, new_value, named, is_live, holds, component, pair_is_tag, last_index}
-use Rattle.ecs_model.specs.Command.{Command, Changed, AnswersStep, Entity, Component, Add, SetValue, IsCommand, reasons, effect, counted, differences, written_by, step, next_entity, is_spent, is_dead, is_crowded, with_facts, adds_to_built_in, value_reasons, add_reasons, birth_reasons, name_reasons}
+use Rattle.ecs_model.specs.Command.{Command, AnswersStep, Entity, Component, Add, SetValue, IsCommand, reasons, effect, counted, differences, written_by, step, next_entity, is_spent, is_dead, is_crowded, with_facts, adds_to_built_in, value_reasons, add_reasons, birth_reasons, name_reasons}
 use Rattle.ecs_model.proofs.Maps.{of_some, key_cmp_total}
 use Rattle.ecs_model.proofs.Reasons.{passed, neither}
 use Rattle.ecs_model.proofs.Steps.{step_keeps}

@@ -1,23 +1,22 @@
 -- A map whose keys are all below a number, to which that number comes as a key.
-use Rattle.std.proofs.Common.{◌≡◌, ℕ, zero, suc, ◌+◌, ◌-◌, ◌<◌, ◌≤◌, Bool, true, false, cond, not, ◌&&◌, IsTrue, nat_lt, ℤ, List, [], ◌∷◌, ◌++◌, map, length, Option, Some, None, is_some, option_map, refl, sym, ap, ◌∙◌, arith, length-append, add-zero, inl, inr}
+use Rattle.std.proofs.Common.{◌≡◌, ℕ, zero, suc, ◌+◌, ◌-◌, ◌<◌, ◌≤◌, Bool, true, false, cond, not, ◌&&◌, IsTrue, nat_lt, ℤ, List, [], ◌∷◌, ◌++◌, Some, None, is_some, option_map, refl, sym, ap, ◌∙◌, arith, length-append, add-zero, inl, inr}
 use Rattle.std.proofs.lemmas.Bool.{cases_lt}
 use Rattle.std.specs.Cmp.{tied_itself}
 use Rattle.std.proofs.lemmas.Bool.Decides.{nat_tests}
 use Rattle.std.proofs.lemmas.Cmp.{nat_cmp_total}
-use Rattle.std.specs.declared.cmp.Ordering.TheVariants.{Less, Equal, Greater}
+use Rattle.std.specs.declared.cmp.Ordering.TheVariants.{Greater}
 use Rattle.std.specs.FinMap.{find, put}
 use Rattle.std.specs.FinMap.Entries.{by_order, find-put}
 use Rattle.std.specs.List.{list_all}
-use Rattle.std.specs.Ordering.{nat_cmp, is_eq, eq_by_cmp}
-use Rattle.ecs_id.specs.declared.EntityId.{EntityId}
+use Rattle.std.specs.Ordering.{nat_cmp, is_eq}
 use Rattle.ecs_id.specs.Id.{plain}
-use Rattle.ecs_model.specs.Map.{Map, has_key, with_value, count_at}
+use Rattle.ecs_model.specs.Map.{Map, has_key, with_value}
 use Rattle.ecs_model.specs.Schema.{Schema}
-use Rattle.ecs_model.specs.World.{WorldState, Key, key_cmp, component, is_live, first_index, last_index}
+use Rattle.ecs_model.specs.World.{Key, key_cmp, component, first_index, last_index}
 use Rattle.ecs_model.specs.Command.{first_passing, is_free, next_entity, with_named, with_component, effect, counted, Entity, Component}
 use Rattle.ecs_model.proofs.Maps.{both_true}
 use Rattle.plain_world.specs.Plain.{world_of, next_index, IsBelow, IsFilled}
-use Rattle.plain_world.proofs.Live.{alive, find-alive, has_key-alive}
+use Rattle.plain_world.proofs.Live.{alive, has_key-alive}
 use Rattle.plain_world.proofs.Sorted.{has_key-put}
 
 above : (x n : ℕ) → nat_lt x n ≡ true → nat_cmp n x ≡ Greater

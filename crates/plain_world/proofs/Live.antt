@@ -1,6 +1,5 @@
 -- Live entities, all of generation 0, beside their names.
-use Rattle.std.proofs.Common.{◌≡◌, ℕ, zero, suc, ◌+◌, ◌<◌, ◌≤◌, Bool, true, false, cond, not, ◌&&◌, eqb, ◌==◌, List, [], ◌∷◌, map, filter, filter_map, length, get_or, slice_get, Option, Some, None, is_some, if◌then◌else◌, refl, sym, ap, ◌∙◌, arith}
-use Rattle.std.proofs.lemmas.Bool.Decides.{nat_tests}
+use Rattle.std.proofs.Common.{◌≡◌, ℕ, zero, suc, ◌<◌, Bool, true, false, cond, ◌==◌, List, [], ◌∷◌, map, filter, filter_map, length, get_or, slice_get, Option, Some, None, is_some, if◌then◌else◌, refl, sym, ap, ◌∙◌, arith}
 use Rattle.std.proofs.lemmas.Cmp.{nat_cmp_total}
 use Rattle.std.proofs.lemmas.List.Elements.{at_read}
 use Rattle.std.specs.Cmp.{tied_itself}
@@ -9,8 +8,7 @@ use Rattle.std.specs.List as listed
 use Rattle.std.specs.Option.{option_and_then, option_map, option_map_or, unwrap_or}
 use Rattle.ecs_id.specs.declared.EntityId.{EntityId}
 use Rattle.std.specs.Ordering.{nat_cmp, is_eq}
-use Rattle.ecs_id.specs.Id.{Id}
-use Rattle.ecs_model.specs.Map.{Map, has_key, value_at}
+use Rattle.ecs_model.specs.Map.{Map, has_key}
 use Rattle.ecs_model.specs.Print.{handle_text}
 use Rattle.ecs_model.specs.World.{Key}
 use Rattle.plain_world.specs.Places.{IsPlace}

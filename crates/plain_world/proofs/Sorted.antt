@@ -1,18 +1,17 @@
 -- A map as a list in the order of its keys: what a search finds, and what is put at the place found.
-use Rattle.std.proofs.Common.{◌≡◌, ℕ, zero, suc, ◌+◌, ◌<◌, ◌≤◌, Bool, true, false, cond, ◌&&◌, ◌||◌, IsTrue, List, [], ◌∷◌, ◌++◌, length, get_or, set, take, drop, Option, Some, None, is_some, Result, Ok, Err, is_ok, IfOk, IfErr, refl, sym, ap, ◌∙◌, subst, arith, add-one}
+use Rattle.std.proofs.Common.{◌≡◌, ℕ, zero, suc, ◌<◌, Bool, true, false, cond, ◌&&◌, [], ◌∷◌, length, get_or, set, Some, None, is_some, Result, Ok, Err, is_ok, IfOk, IfErr, refl, sym, ap, ◌∙◌, arith, add-one}
 use Rattle.std.proofs.Math.Dec.{T}
 use Rattle.std.proofs.lemmas.Bool.{false≢true}
-use Rattle.std.proofs.lemmas.Grind.{common_steps}
 use Rattle.std.proofs.lemmas.List.Sorted.{searchable_from_sorted}
 use Rattle.std.specs.declared.cmp.Ordering.{Ordering}
 use Rattle.std.specs.declared.cmp.Ordering.TheVariants.{Less, Equal, Greater}
 use Rattle.std.specs.Cmp.{IsTotalOrder, tied_itself}
-use Rattle.std.specs.FinMap.{find, put, is_sorted}
+use Rattle.std.specs.FinMap.{find, put}
 use Rattle.std.specs.FinMap.Entries.{by_order, below_all, is_sorted-put, find-put}
 use Rattle.std.specs.List.{insert}
 use Rattle.std.specs.List.Sorted.{IsSearchInRange, IsBinarySearchResult, IsSortedBy}
 use Rattle.std.specs.Ordering.{is_lt, is_eq, ordering_reverse, eq_by_cmp}
-use Rattle.ecs_model.specs.Map.{Map, IsMap, value_at, has_key, with_value}
+use Rattle.ecs_model.specs.Map.{Map, IsMap, has_key}
 use Rattle.plain_world.specs.Places.{IsPlace, IsGap}
 
 pub both : (a b : Bool) → a ≡ true → b ≡ true → (a && b) ≡ true

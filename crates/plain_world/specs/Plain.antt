@@ -1,5 +1,5 @@
 -- The state of a world that is kept as lists and from which nothing is ever deleted.
-use Rattle.std.specs.Prelude.{◌≡◌, ℕ, ◌+◌, ◌<◌, ◌≤◌, List, [], map, length, nat_lt, IsTrue, ℤ}
+use Rattle.std.specs.Prelude.{ℕ, ◌+◌, ◌<◌, ◌≤◌, List, [], map, length, nat_lt, IsTrue, ℤ}
 use Rattle.std.specs.List.{list_all}
 use Rattle.std.specs.Ordering.{nat_cmp}
 use Rattle.ecs_model.specs.Map.{Map, has_key}

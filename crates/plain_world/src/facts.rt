@@ -79,8 +79,9 @@ pub(crate) fn put_new<A: Allocator>(facts: &mut Vec<Stored, A>, entity: u32, id:
         ≡ (if has_key key_cmp facts.old.items (entity, id) then facts.old.items
         else with_value key_cmp facts.old.items (entity, id) value) }
 {
+    let fact = Stored::new(entity, id, value);
     match place_of(facts, entity, id) {
         Ok(_) => {}
-        Err(at) => facts.insert(at, Stored::new(entity, id, value)).unwrap(),
+        Err(at) => facts.insert(at, fact).unwrap(),
     }
 }

@@ -1,10 +1,9 @@
-use Rattle.std.specs.Prelude.{ℕ, bytes_eq, ◌⊎◌, ◌≤◌, ◌<◌, IsTrue}
+use Rattle.std.specs.Prelude.{ℕ, bytes_eq, ◌⊎◌, ◌≤◌, IsTrue}
 use Rattle.std.proofs.Common.{ap, inl, inr, arith}
 use Rattle.std.proofs.lemmas.Bool.Decides.{nat_tests}
 use Rattle.std.specs.Option.{is_some}
 use Rattle.ecs_id.specs.Id.{IsIndex}
-use Rattle.ecs_model.specs.World.{is_live, is_built_in}
-use Rattle.plain_world.specs.Plain.{world_of}
+use Rattle.ecs_model.specs.World.{is_built_in}
 use Rattle.plain_world.proofs.Live.{entity_scanned, live_scanned}
 use Rattle.plain_world.proofs.PlainWorld.find.Goals as goal
 

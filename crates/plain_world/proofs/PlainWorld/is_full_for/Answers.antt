@@ -1,4 +1,4 @@
-use Rattle.std.proofs.Common.{◌≡◌, sym, ◌∙◌, subst}
+use Rattle.std.proofs.Common.{sym, ◌∙◌, subst}
 use Rattle.ecs_model.specs.Keeps.{IsWellFormed}
 use Rattle.plain_world.proofs.Crowding.{not_crowded_held, full_by_count}
 use Rattle.plain_world.proofs.PlainWorld.is_full_for.Goals as goal

@@ -1,5 +1,4 @@
-use Rattle.std.proofs.Common.{◌≡◌, ◌+◌, ◌^◌, ◌<◌, ◌++◌, ◌∷◌, [], is_some, ap, ◌∙◌, arith}
-use Rattle.ecs_model.specs.Command.{is_spent}
+use Rattle.std.proofs.Common.{is_some, ap, ◌∙◌, arith}
 use Rattle.ecs_model.proofs.Additions.{not_spent}
 use Rattle.plain_world.proofs.Accepted.{births-entity, some_next, entity_left}
 use Rattle.plain_world.proofs.PlainWorld.make_entity.Goals as goal

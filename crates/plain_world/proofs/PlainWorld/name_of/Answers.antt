@@ -1,4 +1,4 @@
-use Rattle.std.proofs.Common.{ap, sym, Some}
+use Rattle.std.proofs.Common.{sym}
 use Rattle.std.proofs.lemmas.Cmp.{nat_cmp_total}
 use Rattle.plain_world.proofs.Sorted.{find_read, find-gap}
 use Rattle.plain_world.proofs.PlainWorld.name_of.Goals as goal

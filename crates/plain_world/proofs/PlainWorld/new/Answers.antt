@@ -1,7 +1,7 @@
-use Rattle.std.proofs.Common.{◌≡◌, ℕ, ◌+◌, ◌<◌, ◌≤◌, List, [], map, length, nat_lt, true, refl, sym, ap, ◌∙◌, subst, arith}
-use Rattle.std.specs.List.{list_all, enumerate_from}
+use Rattle.std.proofs.Common.{◌≡◌, [], refl, sym, ◌∙◌, subst, arith}
+use Rattle.std.specs.List.{enumerate_from}
 use Rattle.ecs_model.specs.Keeps.{IsWellFormed}
-use Rattle.ecs_model.specs.World.{WorldState, first_world, built_in_names}
+use Rattle.ecs_model.specs.World.{first_world, built_in_names}
 use Rattle.ecs_model.proofs.FirstWorld.{first_world_is_sound}
 use Rattle.plain_world.specs.Plain.{world_of, IsPlain, IsFilled}
 use Rattle.plain_world.proofs.PlainWorld.new.Goals as goal

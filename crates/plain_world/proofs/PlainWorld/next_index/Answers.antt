@@ -1,4 +1,4 @@
-use Rattle.std.proofs.Common.{sym, ap, ◌∙◌, ◌+◌, ◌≤◌, ◌<◌, Some, None, arith, option_map, length}
+use Rattle.std.proofs.Common.{ap, ◌+◌, ◌≤◌, ◌<◌, Some, arith}
 use Rattle.ecs_model.specs.World.{last_index}
 use Rattle.plain_world.specs.Plain.{next_index}
 use Rattle.plain_world.proofs.Growth.{next_entity-room, next_entity-none}

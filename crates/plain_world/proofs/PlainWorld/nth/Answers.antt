@@ -1,8 +1,7 @@
-use Rattle.std.proofs.Common.{◌≡◌, ℕ, ◌<◌, map, length, get_or, refl, sym, ap, ◌∙◌, arith}
+use Rattle.std.proofs.Common.{ℕ, ◌<◌, map, length, sym}
 use Rattle.std.proofs.Math.ListN.{length-map}
 use Rattle.ecs_model.specs.Map.{Map}
 use Rattle.std.proofs.lemmas.Cmp.{nat_cmp_total}
-use Rattle.std.proofs.lemmas.List.Elements.{at_read}
 use Rattle.plain_world.proofs.Sorted.{find_read}
 use Rattle.plain_world.proofs.Live.{alive, slice_get-alive, place_read}
 use Rattle.plain_world.proofs.PlainWorld.nth.Goals as goal

@@ -1,4 +1,4 @@
-use Rattle.std.proofs.Common.{◌≡◌, ◌≤◌, length, subst, arith}
+use Rattle.std.proofs.Common.{subst, arith}
 use Rattle.ecs_model.specs.Keeps.{IsWellFormed}
 use Rattle.ecs_model.proofs.Additions.{not_spent}
 use Rattle.plain_world.proofs.Accepted.{set_reasons, type_has_few_fields, set_left}

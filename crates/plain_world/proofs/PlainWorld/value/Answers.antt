@@ -1,4 +1,4 @@
-use Rattle.std.proofs.Common.{ap, sym, Some}
+use Rattle.std.proofs.Common.{sym}
 use Rattle.ecs_model.proofs.Maps.{key_cmp_total}
 use Rattle.plain_world.proofs.Sorted.{find_read, find-gap}
 use Rattle.plain_world.proofs.PlainWorld.value.Goals as goal

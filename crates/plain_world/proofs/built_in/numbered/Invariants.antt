@@ -1,4 +1,4 @@
-use Rattle.std.proofs.Common.{◌≡◌, map, take, length, vec_len}
+use Rattle.std.proofs.Common.{◌≡◌, map, take, vec_len}
 use Rattle.std.specs.List.{enumerate_from}
 use Rattle.plain_world.proofs.built_in.numbered.Given as goal
 

@@ -1,9 +1,6 @@
-use Rattle.std.proofs.Common.{rules, sym, ◌∙◌, subst, List, ℤ}
+use Rattle.std.proofs.Common.{rules}
 use Rattle.std.proofs.lemmas.List.Sorted.{answers_always}
-use Rattle.std.specs.List.Sorted.{IsBinarySearchResult}
-use Rattle.std.specs.Ordering.{nat_cmp, ordering_then}
-use Rattle.ecs_id.specs.Id.{id_cmp}
-use Rattle.ecs_model.specs.World.{Key, key_cmp}
+use Rattle.ecs_model.specs.World.{key_cmp}
 use Rattle.ecs_model.proofs.Maps.{key_cmp_total, key_cmp_same}
 use Rattle.plain_world.proofs.Sorted.{searched}
 use Rattle.plain_world.proofs.facts.place_of.Goals as goal

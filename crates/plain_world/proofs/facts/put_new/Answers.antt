@@ -9,7 +9,7 @@ pub returns-in-Err : goal.returns-in-Err
 returns-in-Err g c =
     let absent = rw c.deref.ensures.value at c.in-Err.ensures.absent in
     let new : has_key key_cmp c.args.facts.now.items (c.args.entity, c.args.id) ≡ false = ap is_some (find-gap key_cmp_total c.args.facts.now.items (c.args.entity, c.args.id) c.in-Err.at absent) in
-    rw (c.insert.ensures.items, c.unwrap.ensures, c.new.ensures, new) (sym (put-gap key_cmp_total c.args.facts.now.items (c.args.entity, c.args.id) c.args.value c.in-Err.at absent))
+    rw (c.insert.ensures.items, c.unwrap.ensures, c.new-fact.ensures, new) (sym (put-gap key_cmp_total c.args.facts.now.items (c.args.entity, c.args.id) c.args.value c.in-Err.at absent))
 
 pub returns-in-Ok : goal.returns-in-Ok
 returns-in-Ok g c =
