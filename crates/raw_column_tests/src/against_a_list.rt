@@ -7,7 +7,7 @@ use std::test::Fail;
 
 const COUNT: u32 = 10_000;
 
-/// A column, and a plain list of the seeds of its elements.
+/// A column, and a plain list of the numbers that its elements are made of.
 #[derive(Drop)]
 struct Listed {
     column: Column,
