@@ -1,18 +1,14 @@
 -- What is known of lists of columns.
-use Rattle.std.proofs.Common.{◌≡◌, ℕ, ◌+◌, ◌-◌, ◌≤◌, ◌<◌, List, [], ◌∷◌, ◌++◌, length, map, take, drop, replicate, cond, nat_lt, suc, refl, sym, ap, subst, ◌∙◌, true, false, arith, get_or, slice_index_or, slice_set, ◌≢◌, get_or-set_other, inl, inr, vec_len, vec_capacity, Some}
+use Rattle.std.proofs.Common.{◌≡◌, ℕ, ◌+◌, ◌-◌, ◌≤◌, ◌<◌, List, [], ◌∷◌, ◌++◌, length, map, take, drop, replicate, cond, nat_lt, suc, refl, sym, ap, subst, ◌∙◌, true, false, arith, get_or, slice_index_or, slice_set, ◌≢◌, get_or-set_other, inl, inr, Option, Some, None, MatchOption, option_copied, Bor}
 use Rattle.std.proofs.lemmas.Grind.{get_or-set_at, common_steps}
-use Rattle.std.proofs.lemmas.List.{map-set, append-nil, map-append, get_or-map, length-map, length-set, length-append}
+use Rattle.std.proofs.lemmas.List.{map-set, append-nil, append_assoc, map-append, map_more, get_or-map, get_or_at, set_at, drop_all, drop_more, take_all, length-map, length-set, length-take}
+use Rattle.std.proofs.lemmas.Slice.Zip.{length-zip, get_or-zip}
 use Rattle.std.proofs.lemmas.Bool.Decides.{eqb_tells, nat_tests}
 use Rattle.std.proofs.lemmas.List.Elements.{filter_more}
 use Rattle.std.specs.List.{filter, zip}
-use Rattle.std.specs.declared.vec.Vec.{Vec}
 use Rattle.ecs_id.specs.Id.{Id}
-use Rattle.ecs_id.specs.declared.EntityId.{EntityId}
 use Rattle.raw_column.specs.Contents.{Contents}
-use Rattle.ecs_table.specs.Archetype.{Archetype, Values, values_of, pushed, with_item, with_item_in, with_zero, no_values, no_contents, IsBeside, IsStored}
-
-abbrev pub table : List Id → List Id → List Values → List EntityId → ℕ → Archetype
-table ids ds cs es r = record { ids = ids; data_ids = ds; columns = cs; entities = es; room = r }
+use Rattle.ecs_table.specs.Archetype.{Values, values_of, fitting, pushed, pushed_value, removed, with_item, with_item_in, with_last, with_zero, without_item, no_values, no_contents, HaveRoom}
 
 -- a slice that was lent and written to as a whole
 pub written_back : {X : Type 0} (n : ℕ) (new old : List X) → n ≡ length old → length new ≡ length old → take n (new ++ drop (length new) old) ≡ new
@@ -59,22 +55,61 @@ each_set P xs i y d lt here others k h =
 pub room_kept : (asked had has : ℕ) → (asked ≤ had → has ≡ had) → asked ≤ has → had ≤ has
 room_kept asked had has same enough = grind arith
 
+-- a loop over places that makes each element of itself and of its partner in another list
+pub paired_more : {I X : Type 0} (f : I × X → X) (is : List I) (xs ys : List X) (k : ℕ) (i : I) (x : X) → k < length is → k < length xs → ys ≡ map f (take k (zip is xs)) ++ drop k xs
+    → i ≡ get_or is k i → x ≡ get_or ys k x → slice_set ys k (f (i, x)) ≡ map f (take (k + 1) (zip is xs)) ++ drop (k + 1) xs
+paired_more f is xs ys k i x lt lt2 e a b =
+    let pairs = zip is xs in
+    let front = map f (take k pairs) in
+    let within : k < length pairs = omega (arith, length-zip is xs) in
+    let long : length front ≡ k = omega (arith, length-map (take k pairs) f, length-take k pairs) in
+    let split : ys ≡ front ++ get_or xs k x ∷ drop (k + 1) xs = e ∙ ap (λ l. front ++ l) (drop_more xs k x lt2) in
+    let same : x ≡ get_or xs k x = b ∙ ap (λ l. get_or l k x) split ∙ get_or_at front (get_or xs k x) (drop (k + 1) xs) x k long in
+    let here : (i, x) ≡ get_or pairs k (i, x) = ap (λ j. (j, x)) a ∙ ap (λ y. (get_or is k i, y)) same ∙ sym (get_or-zip is xs k (i, x) lt lt2) in
+    ap (λ l. slice_set l k (f (i, x))) split ∙ set_at front (get_or xs k x) (drop (k + 1) xs) (f (i, x)) k long
+    ∙ ap (λ p. front ++ f p ∷ drop (k + 1) xs) here
+    ∙ sym (append_assoc front (f (get_or pairs k (i, x)) ∷ []) (drop (k + 1) xs))
+    ∙ ap (λ l. l ++ drop (k + 1) xs) (sym (map_more f pairs k (i, x) within))
+
+pub paired_done : {I X : Type 0} (f : I × X → X) (is : List I) (xs ys : List X) (k : ℕ) → length is ≡ length xs → length xs ≤ k → ys ≡ map f (take k (zip is xs)) ++ drop k xs → ys ≡ map f (zip is xs)
+paired_done f is xs ys k e past done =
+    let all : length (zip is xs) ≤ k = omega (arith, length-zip is xs) in
+    done ∙ ap (λ l. map f (take k (zip is xs)) ++ l) (drop_all k xs past) ∙ append-nil (map f (take k (zip is xs))) ∙ ap (map f) (take_all k (zip is xs) all)
+
+-- what a clause on an optional slice says, as one equation
+pub said_option : (r : Option (Bor (List ℕ))) (o : Option (List ℕ)) → MatchOption r (o ≡ None) (λ bytes. o ≡ Some bytes.now) → option_copied r ≡ o
+said_option None o h = sym h
+said_option (Some bytes) o h = sym h
+
+pub fitting_same : (n : ℕ) (bytes : List ℕ) → length bytes ≡ n → fitting n (Some bytes) ≡ bytes
+fitting_same n bytes e = grind (arith, nat_tests)
+
+-- an element of zeros that is then overwritten
+pub pushed_set : (c zeros new : Contents) (bytes : List ℕ) (last : ℕ) (o : Option (List ℕ)) → zeros ≡ pushed c → last ≡ length c.items → new ≡ record zeros { items = slice_set zeros.items last bytes }
+    → o ≡ Some bytes → length bytes ≡ c.size → new ≡ pushed_value o c
+pushed_set c zeros new bytes last o e at f found long =
+    f ∙ ap (λ (v : Contents). record v { items = slice_set v.items last bytes }) e
+    ∙ ap (λ l. record c { room = c.room - 1; items = l }) (set_at c.items (replicate c.size 0) [] bytes last (sym at))
+    ∙ ap (λ b. record c { room = c.room - 1; items = c.items ++ b ∷ [] }) (sym (fitting_same c.size bytes long))
+    ∙ ap (λ p. pushed_value p c) (sym found)
+
+-- what is seen of columns after each call
 pub seen_pushed : (cs : List Contents) → map values_of (map pushed cs) ≡ map with_zero (map values_of cs)
 seen_pushed [] = refl
 seen_pushed (c ∷ cs) = ap (λ t. with_zero (values_of c) ∷ t) (seen_pushed cs)
 
+pub seen_removed : (row : ℕ) (cs : List Contents) → map values_of (map (removed row) cs) ≡ map (without_item row) (map values_of cs)
+seen_removed row [] = refl
+seen_removed row (c ∷ cs) = ap (λ t. without_item row (values_of c) ∷ t) (seen_removed row cs)
+
+pub seen_pushed_values : (value : Id → Option (List ℕ)) (ids : List Id) (cs : List Contents) → map values_of (map (λ p. pushed_value (value p.0) p.1) (zip ids cs)) ≡ map (λ p. with_last (value p.0) p.1) (zip ids (map values_of cs))
+seen_pushed_values value [] cs = refl
+seen_pushed_values value (i ∷ ids) [] = refl
+seen_pushed_values value (i ∷ ids) (c ∷ cs) = ap (λ t. with_last (value i) (values_of c) ∷ t) (seen_pushed_values value ids cs)
+
 pub seen_empty : (ss : List ℕ) → map values_of (map no_contents ss) ≡ map no_values ss
 seen_empty [] = refl
 seen_empty (s ∷ ss) = ap (λ t. no_values s ∷ t) (seen_empty ss)
-
-beside_pushed : (n m more : ℕ) (c : Contents) → IsBeside n more c → m ≡ n + 1 → IsBeside m (more - 1) (pushed c)
-beside_pushed n m more c h e = record { rows = omega (arith, length-append c.items (replicate c.size 0 ∷ []), h.rows); room = omega (arith, h.room) }
-
-same_rows : (cs new : List Contents) (k : ℕ) (d : Contents) → map values_of new ≡ map values_of cs → k < length cs → k < length new
-    → length (slice_index_or new k d).items ≡ length (slice_index_or cs k d).items
-same_rows cs new k d e lt lt2 =
-    let rows : List Values → ℕ = λ (vs : List Values). length (slice_index_or vs k (values_of d)).items in
-    sym (ap (λ (v : Values). length v.items) (get_or-map values_of new k d (values_of d) lt2)) ∙ ap rows e ∙ ap (λ (v : Values). length v.items) (get_or-map values_of cs k d (values_of d) lt)
 
 pub seen_set : (cs : List Contents) (k row : ℕ) (bytes : List ℕ) (new d : Contents) → k < length cs → new ≡ record (slice_index_or cs k d) { items = slice_set (slice_index_or cs k d).items row bytes }
     → map values_of (slice_set cs k new) ≡ with_item_in (Some k) (map values_of cs) row bytes
@@ -82,35 +117,20 @@ seen_set cs k row bytes new d lt e =
     ap (λ (v : Contents). map values_of (slice_set cs k v)) e ∙ map-set values_of cs k (record (slice_index_or cs k d) { items = slice_set (slice_index_or cs k d).items row bytes })
     ∙ ap (λ (v : Values). slice_set (map values_of cs) k (with_item v row bytes)) (sym (get_or-map values_of cs k d (no_values 0) lt))
 
--- a table is the same where its lists are
-pub same_table : (ids ids2 ds ds2 : List Id) (cs cs2 : List Values) (es es2 : List EntityId) (r : ℕ) → ids ≡ ids2 → ds ≡ ds2 → cs ≡ cs2 → es ≡ es2
-    → table ids ds cs es r ≡ table ids2 ds2 cs2 es2 r
-same_table ids ids2 ds ds2 cs cs2 es es2 r e f h j = ap (λ x. table x ds cs es r) e ∙ ap (λ x. table ids2 x cs es r) f ∙ ap (λ x. table ids2 ds2 x es r) h ∙ ap (λ x. table ids2 ds2 cs2 x r) j
+-- the room after each call
+pub room_each : (f : Contents → Contents) (had more : ℕ) (cs : List Contents) → ((c : Contents) → had ≤ c.room → more ≤ (f c).room) → HaveRoom had cs → HaveRoom more (map f cs)
+room_each f had more cs step h k d lt =
+    let within : k < length cs = subst (λ n. k < n) (length-map cs f) lt in
+    subst (λ (v : Contents). more ≤ v.room) (sym (get_or-map f cs k d d within)) (step (get_or cs k d) (h k d within))
 
-module _ {Z : Type 0} where
-  pub stored_new : (ids : List Id) (ss : List ℕ) (es : Vec EntityId Z) → length ids ≡ length ss → vec_len es ≡ 0 → IsStored ids (map no_contents ss) es 0
-  stored_new ids ss es e none = record {
-    paired = e ∙ sym (length-map ss no_contents);
-    beside = λ k d h. let lt : k < length ss = subst (λ n. k < n) (length-map ss no_contents) h in
-        subst (IsBeside (vec_len es) 0) (sym (get_or-map no_contents ss k 0 d lt)) (record { rows = sym none; room = omega arith });
-    room = omega arith;
-  }
-
-  pub stored_push : (ids : List Id) (cs new : List Contents) (es es2 : Vec EntityId Z) (more : ℕ) → IsStored ids cs es more → 0 < more → new ≡ map pushed cs
-      → vec_len es2 ≡ vec_len es + 1 → vec_capacity es ≤ vec_capacity es2 → IsStored ids new es2 (more - 1)
-  stored_push ids cs new es es2 more h some e longer grown = record {
-    paired = h.paired ∙ sym (ap length e ∙ length-map cs pushed);
-    beside = λ k d lt. let within : k < length cs = subst (λ n. k < n) (ap length e ∙ length-map cs pushed) lt in
-        subst (λ l. IsBeside (vec_len es2) (more - 1) (slice_index_or l k d)) (sym e)
-        (subst (IsBeside (vec_len es2) (more - 1)) (sym (get_or-map pushed cs k d d within)) (beside_pushed (vec_len es) (vec_len es2) more (slice_index_or cs k d) (h.beside k d within) longer));
-    room = omega (arith, h.room);
-  }
-
-  pub stored_reserve : (ids : List Id) (cs new : List Contents) (es es2 : Vec EntityId Z) (had more : ℕ) → IsStored ids cs es had → map values_of new ≡ map values_of cs → length new ≡ length cs
-      → ((k : ℕ) (d : Contents) → k < length cs → more ≤ (slice_index_or new k d).room) → vec_len es2 ≡ vec_len es → vec_len es2 + more ≤ vec_capacity es2 → IsStored ids new es2 more
-  stored_reserve ids cs new es es2 had more h same e enough long room = record {
-    paired = h.paired ∙ sym e;
-    beside = λ k d lt. let within : k < length cs = subst (λ n. k < n) e lt in
-        record { rows = same_rows cs new k d same within lt ∙ (h.beside k d within).rows ∙ sym long; room = enough k d within };
-    room = room;
-  }
+pub room_paired : (value : Id → Option (List ℕ)) (ids : List Id) (cs : List Contents) (more : ℕ) → HaveRoom more cs → HaveRoom (more - 1) (map (λ p. pushed_value (value p.0) p.1) (zip ids cs))
+room_paired value [] cs more h k d lt = absurd (omega arith)
+room_paired value (i ∷ ids) cs more h k d lt =
+    let f : Id × Contents → Contents = λ p. pushed_value (value p.0) p.1 in
+    let pairs = zip (i ∷ ids) cs in
+    let inside : k < length pairs = subst (λ n. k < n) (length-map pairs f) lt in
+    let first : k < length (i ∷ ids) = omega (arith, length-zip (i ∷ ids) cs) in
+    let second : k < length cs = omega (arith, length-zip (i ∷ ids) cs) in
+    let had : more ≤ (get_or cs k d).room = h k d second in
+    let same : get_or (map f pairs) k d ≡ f (get_or (i ∷ ids) k i, get_or cs k d) = get_or-map f pairs k (i, d) d inside ∙ ap f (get_or-zip (i ∷ ids) cs k (i, d) first second) in
+    subst (λ (v : Contents). more - 1 ≤ v.room) (sym same) (omega arith)

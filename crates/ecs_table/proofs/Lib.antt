@@ -1,1 +1,6 @@
 pub mod ColumnLemmas
+pub mod Soundness
+pub mod Stored
+pub mod Places
+pub mod Rows
+pub mod Ordered

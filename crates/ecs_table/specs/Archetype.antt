@@ -1,9 +1,10 @@
 -- What a contract sees of a `Table`: its ids, and for each one with data the value of each row.
-use Rattle.std.specs.Prelude.{◌≡◌, ℕ, ◌+◌, ◌-◌, ◌<◌, ◌≤◌, List, [], ◌∷◌, ◌++◌, map, length, replicate, nat_lt, slice_get, slice_set, slice_index_or, Option, Some, None}
-use Rattle.std.specs.List.{filter, zip, position}
+use Rattle.std.specs.Prelude.{◌≡◌, ℕ, ◌+◌, ◌-◌, ◌<◌, ◌≤◌, List, [], ◌∷◌, ◌++◌, map, length, replicate, nat_lt, slice_get, slice_set, slice_index, slice_index_or, Option, Some, None, option_map, unwrap_or, if◌then◌else◌, ◌==◌}
+use Rattle.std.specs.List.{filter, zip, position, swap_remove}
+use Rattle.std.specs.FinMap.{find}
 use Rattle.std.specs.Prelude.{vec_len, vec_capacity}
 use Rattle.std.specs.declared.vec.Vec.{Vec}
-use Rattle.ecs_id.specs.Id.{Id, id_eq}
+use Rattle.ecs_id.specs.Id.{Id, id_cmp, id_eq}
 use Rattle.ecs_id.specs.declared.EntityId.{EntityId}
 use Rattle.raw_column.specs.Contents.{Contents}
 
@@ -76,25 +77,122 @@ with_item_in (Some k) columns row bytes = slice_set columns k (with_item (values
 abbrev pub with_value : Archetype → ℕ → Id → List ℕ → Archetype
 with_value t row i bytes = record t { columns = with_item_in (index_in t.data_ids i) t.columns row bytes }
 
+-- the values without those of a row, whose place the last ones take
+abbrev pub without_item : ℕ → Values → Values
+without_item row v = record v { items = swap_remove v.items row [] }
+
+-- stands for an entity where a list has none
+abbrev pub no_entity : EntityId
+no_entity = record { index = 0; generation = 0 }
+
+abbrev pub entity_at : Archetype → ℕ → EntityId
+entity_at t row = slice_index_or t.entities row no_entity
+
+-- the table without a row, whose place the last one takes
+abbrev pub without_row : Archetype → ℕ → Archetype
+without_row t row = record t { columns = map (without_item row) t.columns; entities = swap_remove t.entities row no_entity; room = t.room + 1 }
+
+-- the entity that takes the place of a row that is removed: that of the last row, unless it is this one
+abbrev pub moved_into : Archetype → ℕ → Option EntityId
+moved_into t row = if nat_lt (row + 1) (length t.entities) then slice_get t.entities (length t.entities - 1) else None
+
+-- these bytes if they are n, or else n zeros
+abbrev pub fitting : ℕ → Option (List ℕ) → List ℕ
+fitting n None = replicate n 0
+fitting n (Some bytes) = if length bytes == n then bytes else replicate n 0
+
+-- the values with one at the end
+abbrev pub with_last : Option (List ℕ) → Values → Values
+with_last bytes v = record v { items = v.items ++ fitting v.size bytes ∷ [] }
+
+-- the table t with the row of s at the end: of each id the value that it has there, or else zeros
+abbrev pub with_moved : Archetype → Archetype → ℕ → Archetype
+with_moved t s row = record t { columns = map (λ p. with_last (value_of s row p.0) p.1) (zip t.data_ids t.columns); entities = t.entities ++ entity_at s row ∷ []; room = t.room - 1 }
+
+-- an id with data in both tables has values of one size
+abbrev pub HaveEqualSizes : Archetype → Archetype → Type 0
+HaveEqualSizes s t = (i : Id) (m n : ℕ) → size_of s i ≡ Some m → size_of t i ≡ Some n → m ≡ n
+
+-- ids, each with the bytes of a value, none for a tag
+abbrev pub Cells : Type 0
+Cells = List (Id × List ℕ)
+
+-- ids, each with how many bytes its values have, 0 for a tag
+abbrev pub Shape : Type 0
+Shape = List (Id × ℕ)
+
+-- the values of a row: of each id its bytes, none where it has no data
+abbrev pub cells_of : Archetype → ℕ → Cells
+cells_of t row = map (λ i. (i, unwrap_or (value_of t row i) [])) t.ids
+
+-- a row: its entity with its values, if there are so many rows
+abbrev pub row_of : Archetype → ℕ → Option (EntityId × Cells)
+row_of t row = option_map (λ e. (e, cells_of t row)) (slice_get t.entities row)
+
+-- how many bytes a value of an id has in a table, 0 for a tag
+abbrev pub byte_size : Archetype → Id → ℕ
+byte_size t i = unwrap_or (size_of t i) 0
+
+-- the ids of a table with their sizes
+abbrev pub shape_of : Archetype → Shape
+shape_of t = map (λ i. (i, byte_size t i)) t.ids
+
+-- zeros for each id
+abbrev pub zero_cells : Shape → Cells
+zero_cells f = map (λ c. (c.0, replicate c.1 0)) f
+
+-- for each id the value that it has in the cells, or else zeros
+abbrev pub carried : Shape → Cells → Cells
+carried f cells = map (λ c. (c.0, unwrap_or (find id_cmp c.0 cells) (replicate c.1 0))) f
+
+-- the cells with other bytes for an id
+abbrev pub with_cell : Id → List ℕ → Cells → Cells
+with_cell i bytes cells = map (λ c. (c.0, if id_eq c.0 i then bytes else c.1)) cells
+
+-- an id that both shapes have has one size in them
+abbrev pub HaveOneSize : Shape → Shape → Type 0
+HaveOneSize f g = (i : Id) (m n : ℕ) → find id_cmp i f ≡ Some m → find id_cmp i g ≡ Some n → m ≡ n
+
+-- there is a value for each of the n rows, and each has all its bytes
+pub record IsShaped (n : ℕ) (v : Values) : Type 0 where
+  pub rows : length v.items ≡ n
+  pub bytes : (j : ℕ) (d : List ℕ) → j < n → length (slice_index_or v.items j d) ≡ v.size
+
+-- what every table has: of each id a size from 0 to 64, and values of this size for each row where it is not 0
+pub record IsSound (t : Archetype) : Type 0 where
+  pub sizes : List ℕ
+  pub beside : length t.ids ≡ length sizes
+  pub small : (k : ℕ) → k < length sizes → slice_index sizes k ≤ 64
+  pub with_data : t.data_ids ≡ ids_with_data t.ids sizes
+  pub sized : map (λ v. v.size) t.columns ≡ filter (λ s. nat_lt 0 s) sizes
+  pub shaped : (k : ℕ) (d : Values) → k < length t.columns → IsShaped (length t.entities) (slice_index_or t.columns k d)
+
 -- what is seen of a column in a table
 abbrev pub values_of : Contents → Values
 values_of c = record { size = c.size; items = c.items }
 
--- a column has a value for each of the n rows, and room for as many more as are said to fit
-pub record IsBeside (n more : ℕ) (c : Contents) : Type 0 where
-  pub rows : length c.items ≡ n
-  pub room : more ≤ c.room
+-- what is seen of a table
+abbrev pub seen : List Id → List Id → List Contents → List EntityId → ℕ → Archetype
+seen ids data_ids columns entities room = record { ids = ids; data_ids = data_ids; columns = map values_of columns; entities = entities; room = room }
 
--- each column has so many rows and so much room
-abbrev pub AreBeside : ℕ → ℕ → List Contents → Type 0
-AreBeside n more cs = (k : ℕ) (d : Contents) → k < length cs → IsBeside n more (slice_index_or cs k d)
+-- each column has so much room
+abbrev pub HaveRoom : ℕ → List Contents → Type 0
+HaveRoom more cs = (k : ℕ) (d : Contents) → k < length cs → more ≤ (slice_index_or cs k d).room
 
 -- a column with an element of zeros at the end
 abbrev pub pushed : Contents → Contents
 pushed c = record c { room = c.room - 1; items = c.items ++ replicate c.size 0 ∷ [] }
 
+-- a column with an element at the end
+abbrev pub pushed_value : Option (List ℕ) → Contents → Contents
+pushed_value bytes c = record c { room = c.room - 1; items = c.items ++ fitting c.size bytes ∷ [] }
+
+-- a column without an element, whose place the last one takes
+abbrev pub removed : ℕ → Contents → Contents
+removed row c = record c { room = c.room + 1; items = swap_remove c.items row [] }
+
 -- how a table's lists stand beside each other
-pub record IsStored {Z : Type 0} (data_ids : List Id) (columns : List Contents) (entities : Vec EntityId Z) (more : ℕ) : Type 0 where
-  pub paired : length data_ids ≡ length columns
-  pub beside : AreBeside (vec_len entities) more columns
+pub record IsStored {Z : Type 0} (ids data_ids : List Id) (columns : List Contents) (entities : Vec EntityId Z) (more : ℕ) : Type 0 where
+  pub sound : IsSound (seen ids data_ids columns entities.items more)
+  pub each_room : HaveRoom more columns
   pub room : vec_len entities + more ≤ vec_capacity entities

@@ -1,8 +1,8 @@
 //! What is done to each column of a table.
-ghost use Rattle.std.specs.Prelude.{◌≡◌, ◌<◌, ◌≤◌, IfOk, IfSome, OnOk, length, ℕ, map, nat_lt, slice_index, slice_index_or};
+ghost use Rattle.std.specs.Prelude.{◌≡◌, ◌<◌, ◌≤◌, IfOk, IfSome, OnOk, length, ℕ, map, nat_lt, option_copied, slice_index, slice_index_or};
 ghost use Rattle.std.specs.List.{filter};
 ghost use Rattle.raw_column.specs.Contents.{Contents};
-ghost use Rattle.ecs_table.specs.Archetype.{ids_with_data, index_in, no_contents, pushed, values_of};
+ghost use Rattle.ecs_table.specs.Archetype.{ids_with_data, index_in, no_contents, pushed, pushed_value, removed, values_of};
 
 use ecs_id::Id;
 use raw_column::{Column, Memory};
@@ -63,6 +63,30 @@ pub fn push_zeros<A: Allocator>(columns: &mut [Column<A>])
 {
     for column in columns.iter_mut() {
         column.push_zero();
+    }
+}
+
+/// An element at the end of a column: these bytes, or zeros where none of its size are given.
+pub fn push_value<A: Allocator>(column: &mut Column<A>, value: Option<&[u8]>)
+    requires { 0 < column.old.room }
+    ensures { column.new ≡ pushed_value (option_copied value.entry) column.old }
+{
+    let last = column.len();
+    column.push_zero();
+    if let Some(bytes) = value
+        && bytes.len() == column.size()
+    {
+        column.set(last, bytes);
+    }
+}
+
+/// Removes an element of each column. The last one fills the gap.
+pub fn remove_each<A: Allocator>(columns: &mut [Column<A>], row: usize)
+    requires { (k : ℕ) (d : Contents) → k < length columns.old → row < length (slice_index_or columns.old k d).items }
+    ensures { columns.new ≡ map (removed row) columns.old }
+{
+    for column in columns.iter_mut() {
+        column.swap_remove(row);
     }
 }
 

@@ -1,8 +1,14 @@
 //! The table.
-ghost use Rattle.std.specs.Prelude.{◌≡◌, ℕ, ◌<◌, ◌≤◌, max, IfOk, OnOk, OnErr, IsOk, MatchOption, length, None, Some, slice_index};
-ghost use Rattle.ecs_table.specs.Archetype.{empty_table, size_of, value_of, with_row, with_value};
+ghost use Rattle.std.specs.Prelude.{◌≡◌, ℕ, ◌<◌, ◌≤◌, max, IfOk, IfSome, OnOk, OnErr, IsOk, MatchOption, length, List, map, None, option_map, replicate, Some, slice_index, slice_index_or};
+ghost use Rattle.std.specs.List.{zip};
+ghost use Rattle.raw_column.specs.Contents.{Contents};
+ghost use Rattle.ecs_id.specs.Id.{Id};
+ghost use Rattle.ecs_table.specs.Archetype.{empty_table, moved_into, pushed_value, size_of, value_of, with_moved, with_row, with_value, without_row, HaveEqualSizes, IsSound};
 
-use crate::columns::{all_ids, empty_columns, ids_with_data, index_of, push_zeros, reserve_each};
+use crate::columns::{
+    all_ids, empty_columns, ids_with_data, index_of, push_value, push_zeros, remove_each,
+    reserve_each,
+};
 use ecs_id::{EntityId, Id};
 use raw_column::{Column, Memory};
 use std::alloc::{Allocator, Global};
@@ -23,14 +29,13 @@ pub struct Table<A: Allocator = Global> {
 }
 
 impl<A: Allocator> Model for Table<A> {
-    ghost use Rattle.std.specs.Prelude.{map};
-    ghost use Rattle.ecs_table.specs.Archetype.{Archetype, values_of, IsStored};
+    ghost use Rattle.ecs_table.specs.Archetype.{Archetype, seen, IsStored};
 
     ghost Value = { Archetype };
 
-    ghost view = { λ t. record { ids = t.ids.items; data_ids = t.data_ids.items; columns = map values_of t.columns.items; entities = t.entities.items; room = t.room } };
+    ghost view = { λ t. seen t.ids.items t.data_ids.items t.columns.items t.entities.items t.room };
 
-    ghost invariant = { λ t. IsStored t.data_ids.items t.columns.items t.entities t.room };
+    ghost invariant = { λ t. IsStored t.ids.items t.data_ids.items t.columns.items t.entities t.room };
 }
 
 impl<A: Allocator + Copy> Table<A> {
@@ -71,21 +76,24 @@ impl<A: Allocator + Copy> Table<A> {
 impl<A: Allocator> Table<A> {
     /// The ids of each row's entity.
     pub fn ids(&self) -> &[Id]
-        ensures { result.now ≡ self.now.ids }
+        ensures value { result.now ≡ self.now.ids }
+        ensures sound { IsSound self.now }
     {
         self.ids.as_slice()
     }
 
     /// The entities by row.
     pub fn rows(&self) -> &[EntityId]
-        ensures { result.now ≡ self.now.entities }
+        ensures value { result.now ≡ self.now.entities }
+        ensures sound { IsSound self.now }
     {
         self.entities.as_slice()
     }
 
     /// How many more rows fit before memory is asked for.
     pub fn room(&self) -> usize
-        ensures { result ≡ self.now.room }
+        ensures value { result ≡ self.now.room }
+        ensures sound { IsSound self.now }
     {
         self.room
     }
@@ -103,13 +111,15 @@ impl<A: Allocator> Table<A> {
     /// The bytes of an id's value at a row, None where the table has no data of the id.
     pub fn value(&self, row: usize, id: Id) -> Option<&[u8]>
         requires { row < length self.now.entities }
-        ensures { MatchOption result (value_of self.now row id ≡ None) (λ bytes. value_of self.now row id ≡ Some bytes.now) }
+        ensures value { MatchOption result (value_of self.now row id ≡ None) (λ bytes. value_of self.now row id ≡ Some bytes.now) }
+        ensures size { IfSome result (λ bytes. size_of self.now id ≡ Some (length bytes.now)) }
     {
         match index_of(self.data_ids.as_slice(), id) {
             None => None,
             Some(index) => Some(self.columns[index].get(row)),
         }
     }
+
     /// Overwrites the value of an id with data at a row, with as many bytes.
     pub fn set_value(&mut self, row: usize, id: Id, value: &[u8])
         requires row { row < length self.old.entities }
@@ -120,5 +130,70 @@ impl<A: Allocator> Table<A> {
             let column = &mut self.columns[index];
             column.set(row, value);
         }
+    }
+
+    /// Removes a row. The last row fills the gap, and its entity is answered, unless it is the row that went.
+    pub fn remove_row(&mut self, row: usize) -> Option<EntityId>
+        requires { row < length self.old.entities }
+        ensures row { self.new ≡ without_row self.old row }
+        ensures moved { result ≡ moved_into self.old row }
+    {
+        self.entities.swap_remove(row);
+        remove_each(self.columns.as_mut_slice(), row);
+        self.room += 1;
+        self.entities.get(row).copied()
+    }
+
+    /// Moves a row to the end of another table: the values of common ids are kept, the others are zeros.
+    ///
+    /// Answers the row there, and the entity that fills the gap here, as `remove_row` does.
+    pub fn move_to(&mut self, row: usize, target: &mut Table<A>) -> (usize, Option<EntityId>)
+        requires row { row < length self.old.entities }
+        requires room { 0 < target.old.room }
+        requires sizes { HaveEqualSizes self.old target.old }
+        ensures row { result.0 ≡ length target.old.entities }
+        ensures moved { result.1 ≡ moved_into self.old row }
+        ensures left { self.new ≡ without_row self.old row }
+        ensures came { target.new ≡ with_moved target.old self.old row }
+
+        // What this says of each id: with data in both tables it keeps its value, and without data here it has zeros.
+        ensures kept { (i : Id) (n : ℕ) (bytes : List ℕ) → size_of target.old i ≡ Some n → value_of self.old row i ≡ Some bytes → value_of target.new result.0 i ≡ Some bytes }
+        ensures zeros { (i : Id) → value_of self.old row i ≡ None → value_of target.new result.0 i ≡ option_map (λ n. replicate n 0) (size_of target.old i) }
+    {
+        let last = target.entities.len();
+        target.push_row(self, row);
+        (last, self.remove_row(row))
+    }
+
+    /// A row at the end with the entity and the values of a row of another table, and zeros for its other ids.
+    fn push_row(&mut self, source: &Table<A>, row: usize)
+        requires row { row < length source.now.entities }
+        requires room { 0 < self.old.room }
+        requires sizes { HaveEqualSizes source.now self.old }
+        ensures came { self.new ≡ with_moved self.old source.now row }
+        ensures kept { (i : Id) (n : ℕ) (bytes : List ℕ) → size_of self.old i ≡ Some n → value_of source.now row i ≡ Some bytes → value_of self.new (length self.old.entities) i ≡ Some bytes }
+        ensures zeros { (i : Id) → value_of source.now row i ≡ None → value_of self.new (length self.old.entities) i ≡ option_map (λ n. replicate n 0) (size_of self.old i) }
+    {
+        self.entities.push(source.entities[row]).unwrap();
+        push_values(
+            self.columns.as_mut_slice(),
+            self.data_ids.as_slice(),
+            source,
+            row,
+        );
+        self.room -= 1;
+    }
+}
+
+/// An element at the end of each column: the value of its id in a row of a table, or zeros where the id has no data there.
+fn push_values<A: Allocator>(columns: &mut [Column<A>], ids: &[Id], source: &Table<A>, row: usize)
+    requires row { row < length source.now.entities }
+    requires paired { length ids.now ≡ length columns.old }
+    requires room { (k : ℕ) (d : Contents) → k < length columns.old → 0 < (slice_index_or columns.old k d).room }
+    ensures { columns.new ≡ map (λ p. pushed_value (value_of source.now row p.0) p.1) (zip ids.now columns.old) }
+{
+    for k in 0..columns.len() {
+        let column = &mut columns[k];
+        push_value(column, source.value(row, ids[k]));
     }
 }
