@@ -1,0 +1,4 @@
+mod EnteredLemmas
+mod ListedLemmas
+mod Same
+mod SlotLemmas

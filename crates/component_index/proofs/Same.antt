@@ -1,0 +1,56 @@
+-- When two patterns are the same, and two keys of tables.
+use Rattle.std.proofs.Common.{◌≡◌, ℕ, ◌==◌, ◌&&◌, Bool, true, false, true≢false, Option, Some, None, refl, sym, ap, ◌∙◌}
+use Rattle.std.proofs.lemmas.Bool.Decides.{Decides-eqb}
+use Rattle.std.specs.Ordering.{is_eq}
+use Rattle.std.specs.FinMap.{IsAntisymmetric}
+use Rattle.component_index.specs.declared.pattern.Part.{Part}
+use Rattle.component_index.specs.declared.pattern.Part.TheVariants.{Is, Any}
+use Rattle.component_index.specs.declared.pattern.Pattern.{Pattern}
+use Rattle.component_index.specs.Entered.{table_cmp, eq_by-table_cmp, same_table}
+use Rattle.component_index.specs.Listed.{pattern_eq}
+
+both : (a b : Bool) → (a && b) ≡ true → (a ≡ true) × (b ≡ true)
+both true b h = (refl, h)
+both false b h = absurd (true≢false (sym h))
+
+number : (m n : ℕ) → (m == n) ≡ true → m ≡ n
+number m n h = (Decides-eqb m n).0 h
+
+-- parts alone
+same_first : (a b : Part) → pattern_eq (record { first = a; second = None }) (record { first = b; second = None }) ≡ true → a ≡ b
+same_first (Is i) (Is j) h = ap Is (number i j (both (i == j) true h).0)
+same_first (Is i) Any h = absurd (true≢false (sym h))
+same_first Any (Is j) h = absurd (true≢false (sym h))
+same_first Any Any h = refl
+
+first_alone : (a b : Part) (s t : Option Part) → pattern_eq (record { first = a; second = s }) (record { first = b; second = t }) ≡ true → pattern_eq (record { first = a; second = None }) (record { first = b; second = None }) ≡ true
+first_alone (Is i) (Is j) s t h = ap (λ c. c && true) (both (i == j) _ h).0
+first_alone (Is i) Any s t h = h
+first_alone Any (Is j) s t h = h
+first_alone Any Any s t h = refl
+
+second_alone : (a b : Part) (s t : Option Part) → pattern_eq (record { first = a; second = s }) (record { first = b; second = t }) ≡ true → pattern_eq (record { first = Any; second = s }) (record { first = Any; second = t }) ≡ true
+second_alone (Is i) (Is j) s t h = (both (i == j) _ h).1
+second_alone (Is i) Any s t h = absurd (true≢false (sym h))
+second_alone Any (Is j) s t h = absurd (true≢false (sym h))
+second_alone Any Any s t h = h
+
+same_second : (s t : Option Part) → pattern_eq (record { first = Any; second = s }) (record { first = Any; second = t }) ≡ true → s ≡ t
+same_second None None h = refl
+same_second None (Some y) h = absurd (true≢false (sym h))
+same_second (Some x) None h = absurd (true≢false (sym h))
+same_second (Some (Is i)) (Some (Is j)) h = ap (λ n. Some (Is n)) (number i j h)
+same_second (Some (Is i)) (Some Any) h = absurd (true≢false (sym h))
+same_second (Some Any) (Some (Is j)) h = absurd (true≢false (sym h))
+same_second (Some Any) (Some Any) h = refl
+
+-- patterns that compare equal are one
+pub same_pattern : (p q : Pattern) → pattern_eq p q ≡ true → p ≡ q
+same_pattern p q h =
+    let a = same_first p.first q.first (first_alone p.first q.first p.second q.second h) in
+    let s = same_second p.second q.second (second_alone p.first q.first p.second q.second h) in
+    λ i. record { first = a i; second = s i }
+
+-- the order of the keys ties where they are one
+pub same_tied : IsAntisymmetric table_cmp
+same_tied x y e = same_table x y (sym (eq_by-table_cmp x y) ∙ ap is_eq e)

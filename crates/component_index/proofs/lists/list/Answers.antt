@@ -1,0 +1,13 @@
+use Rattle.std.proofs.Common.{rules, ◌≡◌, Some, sym}
+use Rattle.std.specs.HashMap.{get}
+use Rattle.component_index.specs.Listed.{pattern_eq}
+use Rattle.component_index.proofs.ListedLemmas.{Adds-one}
+use Rattle.component_index.proofs.lists.list.Goals as goal
+
+pub returns-in-Some-clause-listed : goal.returns-in-Some-clause-listed
+returns-in-Some-clause-listed g c =
+    let list = c.insert.new.self in
+    let was : get pattern_eq c.args.lists.now c.args.pattern ≡ Some c.in-Some.list.now = sym c.in-Some.ensures.value in
+    let holds = c.get_mut.follows.holds list in
+    Adds-one c.args.lists.now (c.get_mut.follows.lender list) c.args.pattern c.args.key (Some c.in-Some.list.now) was (Some list)
+    (holds.3 (search rules)).0 c.in_ok-insert.ensures.updates.0

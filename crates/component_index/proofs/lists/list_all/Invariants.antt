@@ -1,0 +1,7 @@
+use Rattle.component_index.specs.Listed.{Adds}
+use Rattle.component_index.specs.Patterns.{matches}
+use Rattle.component_index.proofs.ListedLemmas.{of_first}
+use Rattle.component_index.proofs.lists.list_all.Given as goal
+
+abbrev pub invariant-loop-id : goal.invariant-loop-id
+invariant-loop-id g l = Adds l.initial.lists l.lists (of_first (λ id pattern. matches pattern id) l.ids l.id-index) l.key

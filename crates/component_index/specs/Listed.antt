@@ -1,0 +1,59 @@
+-- The lists of tables, one for each pattern, and what they have to do with the tables that are entered.
+use Rattle.std.specs.Prelude.{◌≡◌, Bool, false, not, ◌&&◌, ◌||◌, List, [], ◌∷◌, Some, None, map}
+use Rattle.std.specs.declared.vec.Vec.{Vec}
+use Rattle.std.specs.Option.{option_map_or}
+use Rattle.std.specs.List.{list_any}
+use Rattle.std.specs.HashMap.{HashMap, get}
+use Rattle.std.specs.HashSet.{HashSet, contains}
+use Rattle.std.specs.FinMap as finite
+use Rattle.ecs_id.specs.Id.{Id, plain, pair}
+use Rattle.ecs_id.specs.declared.TableKey.{TableKey}
+use Rattle.component_index.specs.declared.pattern.Part.TheVariants.{Is, Any}
+use Rattle.component_index.specs.declared.pattern.Pattern.{Pattern}
+use Rattle.component_index.specs.contracts.pattern.PatternPartialEq.TheImpl as same_patterns
+use Rattle.component_index.specs.Patterns.{matches}
+use Rattle.component_index.specs.Entered.{Entered, table_eq}
+
+-- whether two patterns are the same
+abbrev pub pattern_eq : Pattern → Pattern → Bool
+pattern_eq = same_patterns.ghosts.eq
+
+-- the pattern is one of these
+abbrev pub is_among : List Pattern → Pattern → Bool
+is_among patterns pattern = list_any (λ one. pattern_eq one pattern) patterns
+
+-- the patterns that match the id
+abbrev pub patterns_of : Id → List Pattern
+patterns_of (plain c) = record { first = Is c; second = None } ∷ record { first = Any; second = None } ∷ []
+patterns_of (pair r t) =
+    record { first = Is r; second = Some (Is t) } ∷ record { first = Is r; second = Some Any }
+    ∷ record { first = Any; second = Some (Is t) } ∷ record { first = Any; second = Some Any } ∷ []
+
+-- the table is entered, with an id that the pattern matches, as a test
+abbrev pub is_matched : Entered → Pattern → TableKey → Bool
+is_matched tables pattern key = option_map_or (list_any (matches pattern)) (finite.get tables key) false
+
+-- what a map from tables to their ids holds
+abbrev pub entered_in : {Y S : Type 0} → HashMap TableKey (Vec Id Y) S → Entered
+entered_in tables = finite.from_entries (map (λ p. (p.0, p.1.items)) tables.entries)
+
+module _ {T S : Type 0} where
+  -- the table is in the list of the pattern
+  abbrev pub is_listed : HashMap Pattern (HashSet TableKey T) S → Pattern → TableKey → Bool
+  is_listed lists pattern key = option_map_or (λ list. contains table_eq list key) (get pattern_eq lists pattern) false
+
+  -- the new lists have what the old have, and the table where the pattern passes the test
+  abbrev pub Adds : HashMap Pattern (HashSet TableKey T) S → HashMap Pattern (HashSet TableKey T) S → (Pattern → Bool) → TableKey → Type 0
+  Adds old new test key = (p : Pattern) (k : TableKey) → is_listed new p k ≡ (is_listed old p k || (test p && table_eq key k))
+
+  -- the new lists have what the old have, but not the table where the pattern passes the test
+  abbrev pub Drops : HashMap Pattern (HashSet TableKey T) S → HashMap Pattern (HashSet TableKey T) S → (Pattern → Bool) → TableKey → Type 0
+  Drops old new test key = (p : Pattern) (k : TableKey) → is_listed new p k ≡ (is_listed old p k && not (test p && table_eq key k))
+
+  -- the new lists have what the old have, but for the table where the pattern passes the test
+  abbrev pub Keeps : HashMap Pattern (HashSet TableKey T) S → HashMap Pattern (HashSet TableKey T) S → (Pattern → Bool) → TableKey → Type 0
+  Keeps old new test key = (p : Pattern) (k : TableKey) → (test p && table_eq key k) ≡ false → is_listed new p k ≡ is_listed old p k
+
+  -- each table is in the list of each pattern that matches one of its ids, and no other table is in it
+  abbrev pub AreListed : {Y R : Type 0} → HashMap TableKey (Vec Id Y) R → HashMap Pattern (HashSet TableKey T) S → Type 0
+  AreListed tables lists = (p : Pattern) (k : TableKey) → is_listed lists p k ≡ is_matched (entered_in tables) p k

@@ -1,0 +1,21 @@
+-- What a pattern asks of an id.
+use Rattle.std.specs.Prelude.{ℕ, ◌==◌, ◌&&◌, Bool, true, false, Option, Some, None}
+use Rattle.ecs_id.specs.Id.{Id, plain, pair}
+use Rattle.component_index.specs.declared.pattern.Part.{Part}
+use Rattle.component_index.specs.declared.pattern.Part.TheVariants.{Is, Any}
+use Rattle.component_index.specs.declared.pattern.Pattern.{Pattern}
+
+-- the part asks for this index, or for any
+abbrev pub takes : Part → ℕ → Bool
+takes (Is index) i = i == index
+takes Any i = true
+
+abbrev parts_match : Part → Option Part → Id → Bool
+parts_match first None (plain c) = takes first c
+parts_match first None (pair r t) = false
+parts_match first (Some second) (plain c) = false
+parts_match first (Some second) (pair r t) = takes first r && takes second t
+
+-- the id is plain where the pattern has one part and a pair where it has two, and each part takes its index
+abbrev pub matches : Pattern → Id → Bool
+matches pattern id = parts_match pattern.first pattern.second id

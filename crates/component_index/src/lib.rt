@@ -1,0 +1,115 @@
+//! Which tables have an id that a pattern matches.
+#![tactic(auto)]
+
+ghost use Rattle.std.specs.Prelude.{◌≡◌, ◌↔◌, ◌<◌, Contains, None, Some, IfOk, OnErr, OnOk};
+ghost use Rattle.std.specs.List.{IsDistinct};
+ghost use Rattle.std.specs.FinMap as finite;
+ghost use Rattle.indexmap.specs.IndexMap.{IsUnchanged, spare};
+ghost use Rattle.ecs_id.specs.declared.TableKey.{TableKey};
+ghost use Rattle.component_index.specs.Entered.{table_eq, IsMatched};
+
+mod lists;
+mod pattern;
+#[cfg(test)]
+mod tests;
+
+use crate::lists::{Lists, list_all, unlist_all};
+use ecs_id::{Id, TableKey};
+use indexmap::IndexMap;
+pub use pattern::{Part, Pattern};
+use std::alloc::{AllocError, Allocator, Global};
+use std::hash::{BuildHasherDefault, FoldHasher};
+use std::marker::Model;
+
+type Entered<A> = IndexMap<TableKey, Vec<Id, A>, BuildHasherDefault<FoldHasher>, A>;
+
+/// For each pattern, the tables that have an id that it matches.
+///
+/// But for growth, `enter` and `leave` take time in the number of the table's ids, and not in that of the tables; `tables_of` takes
+/// constant time. Only `enter` takes memory.
+#[derive(Drop)]
+pub struct ComponentIndex<A: Allocator = Global> {
+    entered: Entered<A>,
+    lists: Lists<A>,
+}
+
+impl<A: Allocator> Model for ComponentIndex<A> {
+    ghost use Rattle.std.specs.Coded.{coded_list};
+    ghost use Rattle.std.specs.FinMap as finite;
+    ghost use Rattle.ecs_id.specs.Id.{id_code};
+    ghost use Rattle.component_index.specs.Entered.{Entered as Tables, table_code};
+    ghost use Rattle.component_index.specs.Listed.{entered_in, AreListed};
+
+    ghost Value = { Tables };
+
+    ghost coded = { finite.code table_code (coded_list id_code) };
+
+    ghost view = { λ s. entered_in s.entered };
+
+    ghost invariant = { λ s. AreListed s.entered s.lists };
+}
+
+impl<A: Allocator + Copy> ComponentIndex<A> {
+    /// An index without tables. It takes no memory before the first one.
+    pub fn new(alloc: A) -> Self
+        ensures empty { result ≡ finite.empty }
+    {
+        ComponentIndex {
+            entered: IndexMap::new(alloc),
+            lists: IndexMap::new(alloc),
+        }
+    }
+
+    /// Enters a table that isn't entered, with its ids.
+    ///
+    /// Where memory is refused, the index is as it was.
+    pub fn enter(&mut self, key: TableKey, ids: &[Id]) -> Result<(), AllocError>
+        requires { finite.get self.old key ≡ None }
+        ensures entered { OnOk result (self.new ≡ finite.insert self.old key ids.now) }
+        ensures refused { OnErr result (self.new ≡ self.old) }
+    {
+        let own = all_ids(&mut self.entered, ids)?;
+        if let Err(error) = list_all(&mut self.lists, ids, key) {
+            unlist_all(&mut self.lists, ids, key);
+            return Err(error);
+        }
+        self.entered.insert(key, own).unwrap();
+        Ok(())
+    }
+}
+
+impl<A: Allocator> ComponentIndex<A> {
+    /// The entered tables that have an id that the pattern matches, each once and in no order that is told.
+    pub fn tables_of(&self, pattern: Pattern) -> &[TableKey]
+        ensures listed { (key : TableKey) → Contains result.now key ↔ IsMatched self.now pattern key }
+        ensures once { IsDistinct table_eq result.now }
+    {
+        match self.lists.get(&pattern) {
+            Some(list) => list.as_slice(),
+            None => &[],
+        }
+    }
+
+    /// Takes out a table that was entered with these ids.
+    pub fn leave(&mut self, key: TableKey, ids: &[Id])
+        requires { finite.get self.old key ≡ Some ids.now }
+        ensures left { self.new ≡ finite.remove self.old key }
+    {
+        self.entered.swap_remove(&key);
+        unlist_all(&mut self.lists, ids, key);
+    }
+}
+
+// A list of its own of the ids, for a map with room for one more entry.
+fn all_ids<A: Allocator + Copy>(
+    entered: &mut Entered<A>,
+    ids: &[Id],
+) -> Result<Vec<Id, A>, AllocError>
+    ensures entered { IsUnchanged entered.old entered.new }
+    ensures room { OnOk result (0 < spare entered.new) }
+    ensures ids { IfOk result (λ own. own.items ≡ ids.now) }
+{
+    let alloc = *entered.allocator();
+    entered.reserve(1)?;
+    ids.iter().copied().collect(alloc)
+}

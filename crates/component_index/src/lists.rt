@@ -1,0 +1,164 @@
+//! The list of tables of each pattern.
+ghost use Rattle.std.specs.Prelude.{◌≡◌, OnErr, OnOk};
+ghost use Rattle.std.specs.List.{list_any};
+ghost use Rattle.ecs_id.specs.Id.{pair, plain};
+ghost use Rattle.component_index.specs.Patterns.{matches};
+ghost use Rattle.component_index.specs.Listed.{is_among, pattern_eq, patterns_of, Adds, Drops, Keeps};
+
+use crate::pattern::{Part, Pattern};
+use ecs_id::{Id, TableKey};
+use indexmap::{IndexMap, IndexSet};
+use std::alloc::{AllocError, Allocator};
+use std::hash::{BuildHasherDefault, FoldHasher};
+
+pub type List<A> = IndexSet<TableKey, BuildHasherDefault<FoldHasher>, A>;
+
+// No list is empty: the entry of a pattern goes with the last table of its list.
+pub type Lists<A> = IndexMap<Pattern, List<A>, BuildHasherDefault<FoldHasher>, A>;
+
+/// Puts the table into the list of the pattern, where it isn't in it.
+fn list<A: Allocator + Copy>(
+    lists: &mut Lists<A>,
+    pattern: Pattern,
+    key: TableKey,
+) -> Result<(), AllocError>
+    ensures listed { OnOk result (Adds lists.old lists.new (pattern_eq pattern) key) }
+    ensures refused { OnErr result (Keeps lists.old lists.new (pattern_eq pattern) key) }
+{
+    if let Some(list) = lists.get_mut(&pattern) {
+        list.insert(key)?;
+        return Ok(());
+    }
+    let mut list = IndexSet::new(*lists.allocator());
+    list.insert(key)?;
+    lists.insert(pattern, list)?;
+    Ok(())
+}
+
+/// Takes the table out of the list of the pattern, where it is in it.
+fn unlist<A: Allocator>(lists: &mut Lists<A>, pattern: Pattern, key: TableKey)
+    ensures { Drops lists.old lists.new (pattern_eq pattern) key }
+{
+    let Some(list) = lists.get_mut(&pattern) else {
+        return;
+    };
+    list.swap_remove(&key);
+    if list.is_empty() {
+        lists.swap_remove(&pattern);
+    }
+}
+
+fn list_each<A: Allocator + Copy>(
+    lists: &mut Lists<A>,
+    patterns: &[Pattern],
+    key: TableKey,
+) -> Result<(), AllocError>
+    ensures listed { OnOk result (Adds lists.old lists.new (is_among patterns.now) key) }
+    ensures refused { OnErr result (Keeps lists.old lists.new (is_among patterns.now) key) }
+{
+    for pattern in patterns {
+        list(lists, *pattern, key)?;
+    }
+    Ok(())
+}
+
+fn unlist_each<A: Allocator>(lists: &mut Lists<A>, patterns: &[Pattern], key: TableKey)
+    ensures { Drops lists.old lists.new (is_among patterns.now) key }
+{
+    for pattern in patterns {
+        unlist(lists, *pattern, key);
+    }
+}
+
+/// Puts the table into the lists of the patterns that match the id.
+fn list_id<A: Allocator + Copy>(
+    lists: &mut Lists<A>,
+    id: Id,
+    key: TableKey,
+) -> Result<(), AllocError>
+    ensures listed { OnOk result (Adds lists.old lists.new (λ pattern. matches pattern id) key) }
+    ensures refused { OnErr result (Keeps lists.old lists.new (λ pattern. matches pattern id) key) }
+{
+    match id.second() {
+        None => list_each(lists, &of_plain(id.first()), key),
+        Some(target) => list_each(lists, &of_pair(id.first(), target), key),
+    }
+}
+
+/// Takes the table out of the lists of the patterns that match the id.
+fn unlist_id<A: Allocator>(lists: &mut Lists<A>, id: Id, key: TableKey)
+    ensures { Drops lists.old lists.new (λ pattern. matches pattern id) key }
+{
+    match id.second() {
+        None => unlist_each(lists, &of_plain(id.first()), key),
+        Some(target) => unlist_each(lists, &of_pair(id.first(), target), key),
+    }
+}
+
+/// Puts the table into the lists of the patterns that match one of the ids. After an error it is in some of them.
+pub fn list_all<A: Allocator + Copy>(
+    lists: &mut Lists<A>,
+    ids: &[Id],
+    key: TableKey,
+) -> Result<(), AllocError>
+    ensures listed { OnOk result (Adds lists.old lists.new (λ pattern. list_any (matches pattern) ids.now) key) }
+    ensures refused { OnErr result (Keeps lists.old lists.new (λ pattern. list_any (matches pattern) ids.now) key) }
+{
+    for id in ids {
+        list_id(lists, *id, key)?;
+    }
+    Ok(())
+}
+
+/// Takes the table out of the lists of the patterns that match one of the ids.
+pub fn unlist_all<A: Allocator>(lists: &mut Lists<A>, ids: &[Id], key: TableKey)
+    ensures { Drops lists.old lists.new (λ pattern. list_any (matches pattern) ids.now) key }
+{
+    for id in ids {
+        unlist_id(lists, *id, key);
+    }
+}
+
+// The patterns that match the plain id.
+fn of_plain(index: u32) -> [Pattern; 2]
+    ensures { result ≡ patterns_of (plain index) }
+{
+    let second = None;
+    [
+        Pattern {
+            first: Part::Is(index),
+            second,
+        },
+        Pattern {
+            first: Part::Any,
+            second,
+        },
+    ]
+}
+
+// The patterns that match the pair.
+fn of_pair(relationship: u32, target: u32) -> [Pattern; 4]
+    ensures { result ≡ patterns_of (pair relationship target) }
+{
+    let is_relationship = Part::Is(relationship);
+    let is_target = Some(Part::Is(target));
+    let any = Some(Part::Any);
+    [
+        Pattern {
+            first: is_relationship,
+            second: is_target,
+        },
+        Pattern {
+            first: is_relationship,
+            second: any,
+        },
+        Pattern {
+            first: Part::Any,
+            second: is_target,
+        },
+        Pattern {
+            first: Part::Any,
+            second: any,
+        },
+    ]
+}
