@@ -1,0 +1,14 @@
+pub mod Changes
+pub mod Indexes
+pub mod Inserting
+pub mod Listing
+pub mod Making
+pub mod Moving
+pub mod Putting
+pub mod Releasing
+pub mod RowCalls
+pub mod Shapes
+pub mod Slots
+pub mod Steps
+pub mod StoreLemmas
+pub mod Tables

@@ -1,0 +1,193 @@
+-- A store before and after a table without rows is released.
+use Rattle.std.proofs.Common.{◌≡◌, ◌≢◌, ◌↔◌, ◌⊎◌, ℕ, ◌==◌, Bool, true, false, cond, if◌then◌else◌, List, Option, Some, None, IsSome, IfSome, IsTrue, is_some, length, nat_le, option_map, option_and_then, refl, sym, ap, subst, ◌∙◌, true≢false, arith, inl, inr}
+use Rattle.std.proofs.lemmas.Bool.Decides.{Decides-eqb}
+use Rattle.std.specs.List.{list_all}
+use Rattle.std.specs.FinMap.{is_sorted}
+use Rattle.std.specs.Ordering.{nat_cmp}
+use Rattle.slab.specs.Slab as slots
+use Rattle.slab.specs.Slab.{Slab, Updates}
+use Rattle.std.specs.HashMap.{HashMap, get_by, UpdatesBy}
+use Rattle.std.specs.BTreeMap as ordered
+use Rattle.std.specs.BTreeMap.{BTreeMap}
+use Rattle.std.specs.declared.vec.Vec.{Vec}
+use Rattle.ecs_id.specs.Id.{Id, id_cmp}
+use Rattle.ecs_id.specs.declared.Place.{Place}
+use Rattle.ecs_id.specs.declared.TableKey.{TableKey}
+use Rattle.ecs_table.specs.Archetype.{Archetype}
+use Rattle.ecs_table.proofs.Rows.{row_past}
+use Rattle.table_store.specs.declared.store.Slot.{Slot}
+use Rattle.table_store.specs.Store.{Store, Shape, IsStore, table_at, ids_at, shape_at, shape_of, with_id, without_id, key_eq, released_at}
+use Rattle.table_store.specs.Rows.{row_at, row_of, rows_in, IsStored}
+use Rattle.table_store.specs.Kept.{store_of, standing, IsKept, IsSlot, IsIndex, IsOrder}
+use Rattle.table_store.proofs.Slots.{table_at-released, table_at-slots, same_key, key_eq_true, listed_in, none_is_some, one_some}
+use Rattle.table_store.proofs.StoreLemmas.{stored}
+use Rattle.table_store.proofs.Changes.{rows_here}
+use Rattle.table_store.proofs.Indexes.{ids_eq, ids_same, ids_eq_true, get_ids, get_serial}
+
+-- where no table stands, none is released
+gone : (s : Store) (k : TableKey) → table_at s k ≡ None → (q : TableKey) → table_at s q ≡ released_at s k q
+gone s k none q = by (key_eq q k) refl
+  where
+    by : (b : Bool) → key_eq q k ≡ b → table_at s q ≡ (if b then None else table_at s q)
+    by true e = ap (table_at s) (same_key q k e) ∙ none
+    by false e = refl
+
+no_table : (o : Option Archetype) → is_some o ≡ false → o ≡ None
+no_table None h = refl
+no_table (Some t) h = absurd (true≢false h)
+
+pub not_standing : {Y : Type 0} (tables : Slab (Slot Y)) (last : ℕ) (s : Store) → store_of tables last ≡ s → (k : TableKey) → is_some (standing (slots.get tables k.slot) k.serial) ≡ false → (q : TableKey) → table_at s q ≡ released_at s k q
+not_standing tables last s view k h = gone s k (ap (λ v. table_at v k) (sym view) ∙ table_at-slots tables last k ∙ no_table (standing (slots.get tables k.slot) k.serial) h)
+
+serial_of : {Y : Type 0} (x : Slot Y) (serial : ℕ) → is_some (standing (Some x) serial) ≡ true → x.serial ≡ serial
+serial_of x serial h = by (serial == x.serial) refl h
+  where
+    by : (b : Bool) → (serial == x.serial) ≡ b → is_some (if b then Some x.table else None) ≡ true → x.serial ≡ serial
+    by true e h = sym ((Decides-eqb serial x.serial).0 e)
+    by false e h = absurd (true≢false (sym h))
+
+some_ids : (o : Option Archetype) → IsSome o → IsSome (option_map (λ t. t.ids) o)
+some_ids None h = h
+some_ids (Some t) h = refl
+
+ids_some : (o : Option Archetype) (l : List Id) → option_map (λ t. t.ids) o ≡ Some l → IsSome o
+ids_some None l h = absurd (none_is_some l h)
+ids_some (Some t) l h = refl
+
+module _ {Y S : Type 0} (tables new : Slab (Slot Y)) (by_ids named : HashMap (Vec Id Y) TableKey S) (by_serial dated : BTreeMap ℕ TableKey) (last : ℕ) (kept : IsKept tables by_ids by_serial last)
+    (k : TableKey) (x : Slot Y) (is : slots.get tables k.slot ≡ Some x) (stands : is_some (standing (slots.get tables k.slot) k.serial) ≡ true) (u : Updates tables new k.slot None) where
+  abbrev s : Store
+  s = store_of tables last
+
+  abbrev n : Store
+  n = store_of new last
+
+  serial : x.serial ≡ k.serial
+  serial = serial_of x k.serial (subst (λ o. is_some (standing o k.serial) ≡ true) is stands)
+
+  there : table_at s k ≡ Some x.table
+  there = table_at-slots tables last k ∙ ap (λ o. standing o k.serial) is ∙ ap (λ b. if b then Some x.table else None) ((Decides-eqb k.serial x.serial).1 (sym serial))
+
+  ids_there : ids_at s k ≡ Some x.table.ids
+  ids_there = ap (option_map (λ t. t.ids)) there
+
+  taken : (q : TableKey) → table_at n q ≡ released_at s k q
+  taken = table_at-released tables new last last k x is u serial
+
+  abbrev Cases : TableKey → Type 0
+  Cases q = ((q ≡ k) × (table_at n q ≡ None)) ⊎ ((q ≢ k) × (table_at n q ≡ table_at s q))
+
+  cases : (q : TableKey) → Cases q
+  cases q = by (key_eq q k) refl (taken q)
+    where
+      by : (b : Bool) → key_eq q k ≡ b → table_at n q ≡ (if b then None else table_at s q) → Cases q
+      by true e m = inl (same_key q k e, m)
+      by false e m = inr (λ h. true≢false (sym (key_eq_true q k h) ∙ e), m)
+
+  seen : (q : TableKey) → q ≢ k → table_at n q ≡ table_at s q
+  seen q d = elim (cases q) [ inl e ↦ absurd (d e.0) | inr e ↦ e.1 ]
+
+  -- a table that stands yet stood
+  stood : (q : TableKey) → IsSome (table_at n q) → (q ≢ k) × IsSome (table_at s q)
+  stood q h = elim (cases q) [ inl e ↦ absurd (true≢false (sym (subst IsSome e.1 h))) | inr e ↦ (e.0, subst IsSome e.1 h) ]
+
+  stays : (q : TableKey) → q ≢ k → IsSome (table_at s q) → IsSome (table_at n q)
+  stays q d h = subst IsSome (sym (seen q d)) h
+
+  shape_stood : (q : TableKey) (g : Shape) → shape_at n q ≡ Some g → shape_at s q ≡ Some g
+  shape_stood q g e = elim (cases q) [ inl h ↦ absurd (none_is_some g (sym (ap (option_map shape_of) h.1) ∙ e)) | inr h ↦ sym (ap (option_map shape_of) h.1) ∙ e ]
+
+  ids_stood : (q : TableKey) (l : List Id) → ids_at n q ≡ Some l → (q ≢ k) × (ids_at s q ≡ Some l)
+  ids_stood q l e = elim (cases q) [ inl h ↦ absurd (none_is_some l (sym (ap (option_map (λ t. t.ids)) h.1) ∙ e)) | inr h ↦ (h.0, sym (ap (option_map (λ t. t.ids)) h.1) ∙ e) ]
+
+  -- what holds of the shape under a key still holds of what is left
+  of_shape : (q : TableKey) (P : Shape → Type 0) → IfSome (shape_at s q) P → IfSome (shape_at n q) P
+  of_shape q P h = elim (cases q) [ inl e ↦ subst (λ o. IfSome (option_map shape_of o) P) (sym e.1) tt | inr e ↦ subst (λ o. IfSome (option_map shape_of o) P) (sym e.1) h ]
+
+  one : (q r : TableKey) → IsSome (table_at n q) → ids_at n q ≡ ids_at n r → q ≡ r
+  one q r h e = let was = stood q h in elim (cases r) [
+    | inl b ↦ absurd (true≢false (sym (subst IsSome (e ∙ ap (option_map (λ t. t.ids)) b.1) (some_ids (table_at n q) h))))
+    | inr b ↦ kept.store.one_each q r was.1 (sym (ap (option_map (λ t. t.ids)) (seen q was.0)) ∙ e ∙ ap (option_map (λ t. t.ids)) b.1)
+  ]
+
+  store_left : IsStore n
+  store_left = record {
+    one_each = one;
+    ascend = λ q. of_shape q (λ f. IsTrue (is_sorted id_cmp f)) (kept.store.ascend q);
+    small = λ q. of_shape q (λ f. IsTrue (list_all (λ c. nat_le c.1 64) f)) (kept.store.small q);
+    one_size = λ q r f g i a b e h. kept.store.one_size q r f g i a b (shape_stood q f e) (shape_stood r g h);
+    serials = λ q h. kept.store.serials q (stood q h).1;
+    given_once = λ q r h j. kept.store.given_once q r (stood q h).1 (stood r j).1;
+    listed = listed_in new last;
+  }
+
+  -- an edge may lead to the table that is gone
+  slot_stays : (y : Slot Y) → IsSlot s y → IsSlot n y
+  slot_stays y h = record {
+    sound = h.sound;
+    shape = h.shape;
+    more = λ i q e. let m = h.more i q e in (m.0, of_shape q (λ g. (b : ℕ) × (g ≡ with_id y.shape.items i b)) m.1);
+    less = λ i q e. let m = h.less i q e in (m.0, of_shape q (λ g. g ≡ without_id y.shape.items i) m.1);
+  }
+
+  other_slot : (o : Option (Slot Y)) → IfSome o (IsSlot s) → IfSome o (IsSlot n)
+  other_slot None h = tt
+  other_slot (Some y) h = slot_stays y h
+
+  slots_left : (m : ℕ) → IfSome (slots.get new m) (IsSlot n)
+  slots_left m = by (m == k.slot) refl
+    where
+      by : (b : Bool) → (m == k.slot) ≡ b → IfSome (slots.get new m) (IsSlot n)
+      by true e = subst (λ o. IfSome o (IsSlot n)) (sym (ap (slots.get new) ((Decides-eqb m k.slot).0 e) ∙ u.changed)) tt
+      by false e = subst (λ o. IfSome o (IsSlot n)) (sym (u.others m (λ h. true≢false (sym ((Decides-eqb m k.slot).1 h) ∙ e)))) (other_slot (slots.get tables m) (kept.slots m))
+
+  index_left : (l : List Id) → l ≡ x.table.ids → UpdatesBy (λ a b. ids_eq a.items b.items) (λ v. ids_eq l v.items) by_ids named None → IsIndex n named
+  index_left l its v ids q = by (ids_eq l ids) refl (get_ids by_ids named l None v ids)
+    where
+      by : (b : Bool) → ids_eq l ids ≡ b → get_by (λ z. ids_eq ids z.items) named ≡ cond b None (get_by (λ z. ids_eq ids z.items) by_ids) → (get_by (λ z. ids_eq ids z.items) named ≡ Some q) ↔ (ids_at n q ≡ Some ids)
+      by true e g =
+          let same = ids_same l ids e in (
+            λ h. absurd (none_is_some q (sym g ∙ h)),
+            λ h.
+                let was = ids_stood q ids h in
+                absurd (was.0 (kept.store.one_each q k (ids_some (table_at s q) ids was.1) (was.1 ∙ ap Some (sym same ∙ its) ∙ sym ids_there))),
+          )
+      by false e g = (
+        λ h.
+            let was = (kept.index ids q).0 (sym g ∙ h) in
+            let apart : q ≢ k = λ same. true≢false (sym (ids_eq_true l ids (its ∙ one_some x.table.ids ids (sym ids_there ∙ ap (ids_at s) (sym same) ∙ was))) ∙ e) in
+            ap (option_map (λ t. t.ids)) (seen q apart) ∙ was,
+        λ h. g ∙ (kept.index ids q).1 (ids_stood q ids h).1,
+      )
+
+  order_left : ordered.UpdatesBy nat_cmp (nat_cmp k.serial) by_serial dated None → IsOrder n dated
+  order_left v m q = elim (get_serial by_serial dated k.serial None v m) [
+    | inl a ↦ (
+      λ h. absurd (none_is_some q (sym a.1 ∙ h)),
+      λ h. let was = stood q h.0 in absurd (was.0 (kept.store.given_once q k was.1 (subst IsSome (sym there) refl) (h.1 ∙ a.0))),
+    )
+    | inr a ↦ (
+      λ h. let was = (kept.order m q).0 (sym a.1 ∙ h) in (stays q (λ e. a.0 (sym was.1 ∙ ap (λ z. z.serial) e)) was.0, was.1),
+      λ h. a.1 ∙ (kept.order m q).1 ((stood q h.0).1, h.1),
+    )
+  ]
+
+  rows_left : length x.table.entities ≡ 0 → (p : Place) → row_at n p ≡ row_at s p
+  unfolding row_at
+  rows_left empty p = elim (cases p.table) [
+    | inl h ↦ ap (option_and_then (λ t. row_of t p.row)) h.1 ∙ sym (ap (option_and_then (λ t. row_of t p.row)) (ap (table_at s) h.0 ∙ there) ∙ row_past x.table p.row (omega (arith, empty)))
+    | inr h ↦ ap (option_and_then (λ t. row_of t p.row)) h.1
+  ]
+
+  pub released_kept : (l : List Id) → l ≡ x.table.ids → UpdatesBy (λ a b. ids_eq a.items b.items) (λ v. ids_eq l v.items) by_ids named None → ordered.UpdatesBy nat_cmp (nat_cmp k.serial) by_serial dated None → IsKept new named dated last
+  released_kept l its v o = record { store = store_left; slots = slots_left; index = index_left l its v; order = order_left o }
+
+  pub released_stored : (l : List Id) → l ≡ x.table.ids → UpdatesBy (λ a b. ids_eq a.items b.items) (λ v. ids_eq l v.items) by_ids named None → ordered.UpdatesBy nat_cmp (nat_cmp k.serial) by_serial dated None → IsStored (store_of new last)
+  released_stored l its v o = stored new named dated last (released_kept l its v o) (store_of new last) refl
+
+  module _ (z : Store) (view : store_of tables last ≡ z) where
+    pub released : (q : TableKey) → table_at (store_of new last) q ≡ released_at z k q
+    released q = subst (λ w. table_at n q ≡ released_at w k q) view (taken q)
+
+    pub released_rows : rows_in z k ≡ 0 → (p : Place) → row_at (store_of new last) p ≡ row_at z p
+    released_rows = subst (λ w. rows_in w k ≡ 0 → (p : Place) → row_at n p ≡ row_at w p) view (λ e. rows_left (sym (rows_here s k x.table there) ∙ e))

@@ -1,0 +1,91 @@
+-- The fields of a store: slots of tables, the key of the table of each list of ids, and the keys by serial.
+use Rattle.std.specs.Prelude.{◌≡◌, ◌↔◌, ℕ, suc, ◌≤◌, ◌==◌, if◌then◌else◌, List, [], ◌∷◌, Option, Some, None, IsSome, IsNone, IfSome, ◌⊎◌, IfOk, OnErr, Result, max, ◌<◌}
+use Rattle.std.specs.Ordering.{nat_cmp}
+use Rattle.std.specs.declared.vec.Vec.{Vec}
+use Rattle.std.specs.HashMap.{HashMap, get, get_by}
+use Rattle.std.specs.declared.hash.BuildHasherDefault.{BuildHasherDefault}
+use Rattle.std.specs.declared.hash.FoldHasher.{FoldHasher}
+use Rattle.std.specs.BTreeMap as ordered
+use Rattle.std.specs.BTreeMap.{BTreeMap}
+use Rattle.std.specs.Cmp.Lexicographic.{pointwise}
+use Rattle.slab.specs.Slab as slots
+use Rattle.slab.specs.Slab.{Slab}
+use Rattle.ecs_id.specs.Id.{Id, id_eq}
+use Rattle.ecs_id.specs.declared.TableKey.{TableKey}
+use Rattle.ecs_table.specs.Archetype.{Archetype, IsSound}
+use Rattle.table_store.specs.declared.store.Slot.{Slot}
+use Rattle.table_store.specs.Store.{Store, Shape, IsStore, ids_at, table_at, shape_at, shape_of, shaped, shaped_at, made_at, with_id, without_id}
+use Rattle.table_store.specs.Rows.{IsStored, row_at}
+use Rattle.ecs_id.specs.declared.Place.{Place}
+
+-- the tables of slots, the first of which has this number
+abbrev pub tables_from : {Y : Type 0} → ℕ → List (Option (Slot Y)) → List (TableKey × Archetype)
+tables_from n [] = []
+tables_from n (None ∷ slots) = tables_from (suc n) slots
+tables_from n (Some x ∷ slots) = (record { slot = n; serial = x.serial }, x.table) ∷ tables_from (suc n) slots
+
+-- what is seen of the fields
+abbrev pub store_of : {Y : Type 0} → Slab (Slot Y) → ℕ → Store
+store_of tables last = record { tables = tables_from 0 tables.slots; last = last }
+
+-- the table in a slot, if it has this serial
+abbrev pub standing : {Y : Type 0} → Option (Slot Y) → ℕ → Option Archetype
+standing None serial = None
+standing (Some x) serial = if serial == x.serial then Some x.table else None
+
+-- under the key, if a table stands there yet, is one with the id more
+abbrev pub IsMore : Store → Shape → Id → TableKey → Type 0
+IsMore s f i k = (k.serial ≤ s.last) × IfSome (shape_at s k) (λ g. (n : ℕ) × (g ≡ with_id f i n))
+
+-- under the key, if a table stands there yet, is the one with the id less
+abbrev pub IsLess : Store → Shape → Id → TableKey → Type 0
+IsLess s f i k = (k.serial ≤ s.last) × IfSome (shape_at s k) (λ g. g ≡ without_id f i)
+
+-- what each slot has
+pub record IsSlot {Y : Type 0} (s : Store) (x : Slot Y) : Type 0 where
+  pub sound : IsSound x.table
+  pub shape : x.shape.items ≡ shape_of x.table
+  pub more : (i : Id) (k : TableKey) → get id_eq x.more i ≡ Some k → IsMore s x.shape.items i k
+  pub less : (i : Id) (k : TableKey) → get id_eq x.less i ≡ Some k → IsLess s x.shape.items i k
+
+-- the index has a key for a list of ids exactly where the table under the key has these ids
+abbrev pub IsIndex : {Y S : Type 0} → Store → HashMap (Vec Id Y) TableKey S → Type 0
+IsIndex s by_ids = (ids : List Id) (k : TableKey) → (get_by (λ v. pointwise id_eq ids v.items) by_ids ≡ Some k) ↔ (ids_at s k ≡ Some ids)
+
+-- the keys of the tables by their serials
+abbrev pub IsOrder : Store → BTreeMap ℕ TableKey → Type 0
+IsOrder s by_serial = (n : ℕ) (k : TableKey) → (ordered.get nat_cmp by_serial n ≡ Some k) ↔ (IsSome (table_at s k) × (k.serial ≡ n))
+
+pub record IsKept {Y S : Type 0} (tables : Slab (Slot Y)) (by_ids : HashMap (Vec Id Y) TableKey S) (by_serial : BTreeMap ℕ TableKey) (last : ℕ) : Type 0 where
+  pub store : IsStore (store_of tables last)
+  pub slots : (n : ℕ) → IfSome (slots.get tables n) (IsSlot (store_of tables last))
+  pub index : IsIndex (store_of tables last) by_ids
+  pub order : IsOrder (store_of tables last) by_serial
+
+-- a table of this shape is found or made under the key
+pub record IsMade (s : Store) (f : Shape) (key : TableKey) (n : Store) : Type 0 where
+  pub made : (q : TableKey) → table_at n q ≡ made_at s key (shaped f) q
+  pub shapes : (q : TableKey) → shape_at n q ≡ shaped_at s key f q
+  pub newest : IsNone (table_at s key) ↔ (s.last < key.serial)
+  pub last : n.last ≡ max s.last key.serial
+  pub rows : (p : Place) → row_at n p ≡ row_at s p
+
+-- a table of this shape is found or made, or the store is as it was
+pub record IsPut {E : Type 0} (s : Store) (f : Shape) (r : Result TableKey E) (n : Store) : Type 0 where
+  pub ok : IfOk r (λ key. IsMade s f key n)
+  pub err : OnErr r (n ≡ s)
+  pub whole : IsStored n
+
+-- the shape with one id more, where a size of it is given, or with one less
+abbrev pub stepped : Shape → Id → Option ℕ → Shape
+stepped f i None = without_id f i
+stepped f i (Some n) = with_id f i n
+
+-- the edges of a slot to tables with one id more, or with one less
+abbrev pub edges_of : {Y : Type 0} → Slot Y → Option ℕ → HashMap Id TableKey (BuildHasherDefault FoldHasher)
+edges_of x None = x.less
+edges_of x (Some n) = x.more
+
+-- the edges are those that were, or one of them is written
+abbrev pub IsWritten : {S : Type 0} → Id → TableKey → HashMap Id TableKey S → HashMap Id TableKey S → Type 0
+IsWritten id to old new = (i : Id) (k : TableKey) → get id_eq new i ≡ Some k → (get id_eq old i ≡ Some k) ⊎ ((i ≡ id) × (k ≡ to))

@@ -1,0 +1,103 @@
+//! The shapes of tables: their ids in order, each with how many bytes its values have.
+ghost use Rattle.std.specs.Prelude.{◌≡◌, ◌++◌, ◌∷◌, IfOk, IsTrue, map};
+ghost use Rattle.std.specs.FinMap.{is_sorted};
+ghost use Rattle.std.specs.List.{filter};
+ghost use Rattle.std.specs.Ordering.{is_lt};
+ghost use Rattle.ecs_id.specs.Id.{id_cmp};
+ghost use Rattle.table_store.specs.Kept.{stepped};
+ghost use Rattle.table_store.specs.Store.{with_id, without_id};
+
+use ecs_id::Id;
+use std::alloc::{AllocError, Allocator};
+
+/// The shape with one id more, where a size of it is given, or with one less.
+pub fn next_shape<A: Allocator + Copy>(
+    alloc: A,
+    shape: &[(Id, usize)],
+    id: Id,
+    added: Option<usize>,
+) -> Result<Vec<(Id, usize), A>, AllocError>
+    requires { IsTrue (is_sorted id_cmp shape.now) }
+    ensures { IfOk result (λ cells. cells.items ≡ stepped shape.now id added) }
+{
+    match added {
+        Some(size) => shape_with(alloc, shape, id, size),
+        None => shape_without(alloc, shape, id),
+    }
+}
+
+// The shape with one id more.
+fn shape_with<A: Allocator + Copy>(
+    alloc: A,
+    shape: &[(Id, usize)],
+    id: Id,
+    size: usize,
+) -> Result<Vec<(Id, usize), A>, AllocError>
+    requires { IsTrue (is_sorted id_cmp shape.now) }
+    ensures { IfOk result (λ cells. cells.items ≡ with_id shape.now id size) }
+{
+    let above = ids_above(alloc, shape, id)?;
+    let mut cells = ids_below(alloc, shape, id)?;
+    cells.push((id, size))?;
+    cells.extend_from_slice(above.as_slice())?;
+    Ok(cells)
+}
+
+// The part of a shape whose ids are below this one.
+fn ids_below<A: Allocator>(
+    alloc: A,
+    shape: &[(Id, usize)],
+    id: Id,
+) -> Result<Vec<(Id, usize), A>, AllocError>
+    ensures { IfOk result (λ cells. cells.items ≡ filter (λ c. is_lt (id_cmp c.0 id)) shape.now) }
+{
+    shape
+        .iter()
+        .copied()
+        .filter(|cell| cell.0 < id)
+        .collect(alloc)
+}
+
+// The part of a shape whose ids are above this one.
+fn ids_above<A: Allocator>(
+    alloc: A,
+    shape: &[(Id, usize)],
+    id: Id,
+) -> Result<Vec<(Id, usize), A>, AllocError>
+    ensures { IfOk result (λ cells. cells.items ≡ filter (λ c. is_lt (id_cmp id c.0)) shape.now) }
+{
+    shape
+        .iter()
+        .copied()
+        .filter(|cell| id < cell.0)
+        .collect(alloc)
+}
+
+// The shape with one id less.
+fn shape_without<A: Allocator>(
+    alloc: A,
+    shape: &[(Id, usize)],
+    id: Id,
+) -> Result<Vec<(Id, usize), A>, AllocError>
+    ensures { IfOk result (λ cells. cells.items ≡ without_id shape.now id) }
+{
+    shape
+        .iter()
+        .copied()
+        .filter(|cell| cell.0 != id)
+        .collect(alloc)
+}
+
+/// The ids of a shape.
+pub fn ids_of<A: Allocator>(alloc: A, shape: &[(Id, usize)]) -> Result<Vec<Id, A>, AllocError>
+    ensures { IfOk result (λ ids. ids.items ≡ map (λ c. c.0) shape.now) }
+{
+    shape.iter().map(|cell| cell.0).collect(alloc)
+}
+
+/// The sizes of a shape.
+pub fn sizes_of<A: Allocator>(alloc: A, shape: &[(Id, usize)]) -> Result<Vec<usize, A>, AllocError>
+    ensures { IfOk result (λ sizes. sizes.items ≡ map (λ c. c.1) shape.now) }
+{
+    shape.iter().map(|cell| cell.1).collect(alloc)
+}

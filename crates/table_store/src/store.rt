@@ -1,0 +1,480 @@
+//! The store of tables.
+ghost use Rattle.std.specs.Prelude.{◌≡◌, ◌↔◌, ◌<◌, ◌≤◌, ◌-◌, ◌+◌, ◌⊎◌, ◌≢◌, MatchResult, ℕ, [], is_some, IfOk, OnOk, OnErr, IsOk, IsNone, IsSome, IfSome, MatchOption, None, Some, map, max, length, option_map, slice_get, IsTrue};
+ghost use Rattle.std.specs.FinMap.{is_sorted};
+ghost use Rattle.std.specs.Ordering.{nat_cmp};
+ghost use Rattle.std.specs.List.{Contains};
+ghost use Rattle.std.specs.List.Sorted.{IsStrictlySortedBy};
+ghost use Rattle.slab.specs.Slab.{HasRoomFor, get as slot_at};
+ghost use Rattle.indexmap.specs.IndexMap.{IsUnchanged, get, spare};
+ghost use Rattle.ecs_id.specs.Id.{Id, id_cmp, id_eq};
+ghost use Rattle.ecs_id.specs.declared.Place.{Place};
+ghost use Rattle.ecs_id.specs.declared.TableKey.{TableKey};
+ghost use Rattle.ecs_table.specs.Archetype.{Archetype, with_row, with_value, without_row};
+ghost use Rattle.table_store.specs.Store.{HasSize, Shape, changed_at, find_in, ids_at, made_at, moved_at, released_at, room_at, shape_at, shaped, shaped_at, table_at, with_id, without_id};
+ghost use Rattle.table_store.specs.Kept.{IsPut, IsWritten, edges_of, standing, stepped};
+ghost use Rattle.std.specs.BTreeMap as ordered;
+ghost use Rattle.table_store.specs.Rows.{IsStored, Row, filler, moved_rows, removed_rows, row_at, rows_in, with_cell, with_row_at, zero_cells};
+
+use crate::shape::{ids_of, next_shape, sizes_of};
+use ecs_id::{EntityId, Id, TableKey};
+use ecs_table::Table;
+use indexmap::IndexMap;
+use raw_column::Memory;
+use slab::Slab;
+use std::alloc::{AllocError, Allocator, Global};
+use std::collections::BTreeMap;
+use std::collections::btree_map::Range;
+use std::hash::{BuildHasherDefault, FoldHasher};
+use std::marker::Model;
+use std::ops::Bound;
+
+type ByIds<A> = IndexMap<Vec<Id, A>, TableKey, BuildHasherDefault<FoldHasher>, A>;
+
+type Edges<A> = IndexMap<Id, TableKey, BuildHasherDefault<FoldHasher>, A>;
+
+/// A table with its serial, and the edges that lead from it.
+#[derive(Drop)]
+struct Slot<A: Allocator> {
+    serial: u128,
+    table: Table<A>,
+    // the ids of the table, each with how many bytes its values have
+    shape: Vec<(Id, usize), A>,
+    // for an id, the table that has it more
+    more: Edges<A>,
+    // for an id, the table that has it less
+    less: Edges<A>,
+}
+
+/// The tables of a world, one for each set of ids.
+#[derive(Drop)]
+pub struct TableStore<A: Allocator = Global> {
+    tables: Slab<Slot<A>, A>,
+    by_ids: ByIds<A>,
+    by_serial: BTreeMap<u128, TableKey, A>,
+    // the greatest serial that was given
+    last: u128,
+}
+
+impl<A: Allocator> Model for TableStore<A> {
+    ghost use Rattle.table_store.specs.Store.{Store};
+    ghost use Rattle.table_store.specs.Kept.{store_of, IsKept};
+
+    ghost Value = { Store };
+
+    ghost view = { λ s. store_of s.tables s.last };
+
+    ghost invariant = { λ s. IsKept s.tables s.by_ids s.by_serial s.last };
+}
+
+impl<A: Allocator + Copy> TableStore<A> {
+    /// A store without tables.
+    pub fn new(alloc: A) -> Self
+        ensures empty { result.tables ≡ [] }
+        ensures unused { result.last ≡ 0 }
+        ensures whole { IsStored result }
+    {
+        TableStore {
+            tables: Slab::new(alloc),
+            by_ids: IndexMap::new(alloc),
+            by_serial: BTreeMap::new(alloc),
+            last: 0,
+        }
+    }
+
+    /// The table of these ids, which is made where there is none. Beside each id stands how many bytes its value has, 0 to 64: 0 for a tag.
+    ///
+    /// A serial is never given twice: past the greatest `u128`, and past 4,294,967,296 tables that stand, it answers `Memory`.
+    pub fn find_or_make(&mut self, cells: &[(Id, usize)]) -> Result<TableKey, Memory>
+        requires ascend { IsTrue (is_sorted id_cmp cells.now) }
+        requires small { (j : ℕ) → IfSome (slice_get cells.now j) (λ c. c.1 ≤ 64) }
+        requires sizes { (j : ℕ) → IfSome (slice_get cells.now j) (λ c. HasSize self.old c.0 c.1) }
+        ensures made { IfOk result (λ key. (q : TableKey) → table_at self.new q ≡ made_at self.old key (shaped cells.now) q) }
+        ensures shapes { IfOk result (λ key. (q : TableKey) → shape_at self.new q ≡ shaped_at self.old key cells.now q) }
+        ensures newest { IfOk result (λ key. IsNone (table_at self.old key) ↔ (self.old.last < key.serial)) }
+        ensures last { IfOk result (λ key. self.new.last ≡ max self.old.last key.serial) }
+        ensures rows { (p : Place) → row_at self.new p ≡ row_at self.old p }
+        ensures err { OnErr result (self.new ≡ self.old) }
+        ensures whole { IsStored self.new }
+    {
+        self.find_or_put(cells)
+    }
+
+    // `find_or_make`, whose clauses stand in `IsMade`.
+    #[tactic(none)]
+    fn find_or_put(&mut self, cells: &[(Id, usize)]) -> Result<TableKey, Memory>
+        requires ascend { IsTrue (is_sorted id_cmp cells.now) }
+        requires small { (j : ℕ) → IfSome (slice_get cells.now j) (λ c. c.1 ≤ 64) }
+        requires sizes { (j : ℕ) → IfSome (slice_get cells.now j) (λ c. HasSize self.old c.0 c.1) }
+        ensures { IsPut self.old cells.now result self.new }
+    {
+        let Ok(ids) = ids_of(*self.by_ids.allocator(), cells) else {
+            return Err(Memory);
+        };
+        if let Some(key) = self.by_ids.get(ids.as_slice()) {
+            return Ok(*key);
+        }
+        self.make(ids, cells)
+    }
+
+    // The table of ids that no table has.
+    #[tactic(none)]
+    fn make(&mut self, ids: Vec<Id, A>, cells: &[(Id, usize)]) -> Result<TableKey, Memory>
+        requires ascend { IsTrue (is_sorted id_cmp cells.now) }
+        requires small { (j : ℕ) → IfSome (slice_get cells.now j) (λ c. c.1 ≤ 64) }
+        requires sizes { (j : ℕ) → IfSome (slice_get cells.now j) (λ c. HasSize self.old c.0 c.1) }
+        requires ids { ids.items ≡ map (λ c. c.0) cells.now }
+        requires missing { (q : TableKey) → ids_at self.old q ≢ Some (map (λ c. c.0) cells.now) }
+        ensures { IsPut self.old cells.now result self.new }
+    {
+        let Ok(key) = next_key(&self.tables, self.last) else {
+            return Err(Memory);
+        };
+        let Ok(slot) = prepare(
+            &mut self.tables,
+            &mut self.by_ids,
+            &mut self.by_serial,
+            key,
+            ids.as_slice(),
+            cells,
+        ) else {
+            return Err(Memory);
+        };
+        self.tables.insert_reserved(slot);
+        self.by_ids.insert(ids, key).unwrap();
+        self.last = key.serial;
+        Ok(key)
+    }
+
+    /// The table that has the ids of this one, and one more. Beside the id stands how many bytes its value has.
+    pub fn with(&mut self, key: TableKey, id: Id, size: usize) -> Result<TableKey, Memory>
+        requires stands { IsSome (table_at self.old key) }
+        requires small { size ≤ 64 }
+        requires sizes { HasSize self.old id size }
+        ensures made { (f : Shape) → shape_at self.old key ≡ Some f → IfOk result (λ to. (q : TableKey) → table_at self.new q ≡ made_at self.old to (shaped (with_id f id size)) q) }
+        ensures shapes { (f : Shape) → shape_at self.old key ≡ Some f → IfOk result (λ to. (q : TableKey) → shape_at self.new q ≡ shaped_at self.old to (with_id f id size) q) }
+        ensures newest { IfOk result (λ to. IsNone (table_at self.old to) ↔ (self.old.last < to.serial)) }
+        ensures last { IfOk result (λ to. self.new.last ≡ max self.old.last to.serial) }
+        ensures rows { (p : Place) → row_at self.new p ≡ row_at self.old p }
+        ensures err { OnErr result (self.new ≡ self.old) }
+        ensures whole { IsStored self.new }
+    {
+        self.step(key, id, Some(size))
+    }
+
+    /// The table that has the ids of this one, without one of them.
+    pub fn without(&mut self, key: TableKey, id: Id) -> Result<TableKey, Memory>
+        requires stands { IsSome (table_at self.old key) }
+        ensures made { (f : Shape) → shape_at self.old key ≡ Some f → IfOk result (λ to. (q : TableKey) → table_at self.new q ≡ made_at self.old to (shaped (without_id f id)) q) }
+        ensures shapes { (f : Shape) → shape_at self.old key ≡ Some f → IfOk result (λ to. (q : TableKey) → shape_at self.new q ≡ shaped_at self.old to (without_id f id) q) }
+        ensures newest { IfOk result (λ to. IsNone (table_at self.old to) ↔ (self.old.last < to.serial)) }
+        ensures last { IfOk result (λ to. self.new.last ≡ max self.old.last to.serial) }
+        ensures rows { (p : Place) → row_at self.new p ≡ row_at self.old p }
+        ensures err { OnErr result (self.new ≡ self.old) }
+        ensures whole { IsStored self.new }
+    {
+        self.step(key, id, None)
+    }
+
+    // The table with one id more, where a size of it is given, or with one less.
+    fn step(&mut self, key: TableKey, id: Id, added: Option<usize>) -> Result<TableKey, Memory>
+        requires stands { IsSome (table_at self.old key) }
+        requires small { IfSome added (λ n. n ≤ 64) }
+        requires sizes { IfSome added (λ n. HasSize self.old id n) }
+        ensures { (f : Shape) → shape_at self.old key ≡ Some f → IsPut self.old (stepped f id added) result self.new }
+    {
+        let slot = &self.tables[key.slot as usize];
+        if let Some(to) = followed(&self.tables, slot, id, added) {
+            return Ok(to);
+        }
+        let Ok(cells) = next_shape(*self.by_ids.allocator(), slot.shape.as_slice(), id, added)
+        else {
+            return Err(Memory);
+        };
+        match self.find_or_put(cells.as_slice()) {
+            Ok(to) => {
+                self.keep_edge(key, id, added, to);
+                Ok(to)
+            }
+            Err(_) => Err(Memory),
+        }
+    }
+
+    // Keeps an edge for the next time. Where memory is refused, the table is found by its ids again.
+    fn keep_edge(&mut self, key: TableKey, id: Id, added: Option<usize>, to: TableKey)
+        requires stands { IsSome (table_at self.old key) }
+        requires leads { (f : Shape) → shape_at self.old key ≡ Some f → shape_at self.old to ≡ Some (stepped f id added) }
+        ensures { self.new ≡ self.old }
+    {
+        write_edge(&mut self.tables[key.slot as usize], id, added, to);
+    }
+
+    /// Makes room for `additional` more rows in a table. After an error the store is as it was.
+    pub fn reserve(&mut self, key: TableKey, additional: usize) -> Result<(), Memory>
+        requires stands { IsSome (table_at self.old key) }
+        ensures tables { OnOk result ((q : TableKey) → table_at self.new q ≡ changed_at self.old key (λ t. record t { room = max t.room additional }) q) }
+        ensures shapes { (q : TableKey) → shape_at self.new q ≡ shape_at self.old q }
+        ensures last { self.new.last ≡ self.old.last }
+        ensures rows { (p : Place) → row_at self.new p ≡ row_at self.old p }
+        ensures err { OnErr result (self.new ≡ self.old) }
+        ensures succeeds { additional ≤ room_at self.old key → IsOk result }
+        ensures whole { IsStored self.new }
+    {
+        self.tables[key.slot as usize].table.reserve(additional)
+    }
+}
+
+// The key that the next table gets, if there is a serial and a slot for one more.
+fn next_key<A: Allocator>(tables: &Slab<Slot<A>, A>, last: u128) -> Result<TableKey, Memory>
+    ensures serial { IfOk result (λ key. key.serial ≡ last + 1) }
+    ensures slot { IfOk result (λ key. key.slot ≡ tables.now.vacant_key) }
+    ensures vacant { IfOk result (λ key. slot_at tables.now key.slot ≡ None) }
+{
+    if last == u128::MAX {
+        return Err(Memory);
+    }
+    let slot = tables.vacant_key();
+    if slot > u32::MAX as usize {
+        return Err(Memory);
+    }
+    Ok(TableKey {
+        slot: slot as u32,
+        serial: last + 1,
+    })
+}
+
+// All that is to grow for a new table, and its slot. Its key stands under its serial then.
+fn prepare<A: Allocator + Copy>(
+    tables: &mut Slab<Slot<A>, A>,
+    by_ids: &mut ByIds<A>,
+    by_serial: &mut BTreeMap<u128, TableKey, A>,
+    key: TableKey,
+    ids: &[Id],
+    cells: &[(Id, usize)],
+) -> Result<Slot<A>, Memory>
+    requires ids { ids.now ≡ map (λ c. c.0) cells.now }
+    requires small { (j : ℕ) → IfSome (slice_get cells.now j) (λ c. c.1 ≤ 64) }
+    ensures tables { tables.new ≡ record tables.old { capacity = tables.new.capacity } }
+    ensures by_ids { IsUnchanged by_ids.old by_ids.new }
+    ensures by_serial { MatchResult result (λ _. ordered.Updates nat_cmp by_serial.old by_serial.new key.serial (Some key)) (λ _. ordered.IsUnchanged by_serial.old by_serial.new) }
+    ensures slot { OnOk result (HasRoomFor tables.new 1) }
+    ensures entry { OnOk result (0 < spare by_ids.new) }
+    ensures serial { IfOk result (λ slot. slot.serial ≡ key.serial) }
+    ensures table { IfOk result (λ slot. slot.table ≡ shaped cells.now) }
+    ensures shape { IfOk result (λ slot. slot.shape.items ≡ cells.now) }
+    ensures more { IfOk result (λ slot. slot.more.entries ≡ []) }
+    ensures less { IfOk result (λ slot. slot.less.entries ≡ []) }
+{
+    let slot = new_slot(*by_ids.allocator(), key.serial, ids, cells)?;
+    make_room(tables, by_ids)?;
+    match by_serial.insert(key.serial, key) {
+        Ok(_) => Ok(slot),
+        Err(_) => Err(Memory),
+    }
+}
+
+// A slot with an empty table.
+fn new_slot<A: Allocator + Copy>(
+    alloc: A,
+    serial: u128,
+    ids: &[Id],
+    cells: &[(Id, usize)],
+) -> Result<Slot<A>, Memory>
+    requires ids { ids.now ≡ map (λ c. c.0) cells.now }
+    requires small { (j : ℕ) → IfSome (slice_get cells.now j) (λ c. c.1 ≤ 64) }
+    ensures serial { IfOk result (λ slot. slot.serial ≡ serial) }
+    ensures table { IfOk result (λ slot. slot.table ≡ shaped cells.now) }
+    ensures shape { IfOk result (λ slot. slot.shape.items ≡ cells.now) }
+    ensures more { IfOk result (λ slot. slot.more.entries ≡ []) }
+    ensures less { IfOk result (λ slot. slot.less.entries ≡ []) }
+{
+    let sizes = sizes_of(alloc, cells)?;
+    let table = Table::new(alloc, ids, sizes.as_slice())?;
+    let shape = Vec::from_slice(alloc, cells)?;
+    Ok(Slot {
+        serial,
+        table,
+        shape,
+        more: IndexMap::new(alloc),
+        less: IndexMap::new(alloc),
+    })
+}
+
+// Room for one more table.
+fn make_room<A: Allocator + Copy>(
+    tables: &mut Slab<Slot<A>, A>,
+    by_ids: &mut ByIds<A>,
+) -> Result<(), AllocError>
+    ensures tables { tables.new ≡ record tables.old { capacity = tables.new.capacity } }
+    ensures by_ids { IsUnchanged by_ids.old by_ids.new }
+    ensures slot { OnOk result (HasRoomFor tables.new 1) }
+    ensures entry { OnOk result (0 < spare by_ids.new) }
+{
+    tables.reserve(1)?;
+    by_ids.reserve(1)
+}
+
+// Whether a table stands under the key.
+fn stands<A: Allocator>(tables: &Slab<Slot<A>, A>, key: TableKey) -> bool
+    ensures { result ≡ is_some (standing (slot_at tables.now key.slot) key.serial) }
+{
+    match tables.get(key.slot as usize) {
+        Some(slot) => slot.serial == key.serial,
+        None => false,
+    }
+}
+
+// Where the edge for an id leads, if there is one and the table stands.
+fn followed<A: Allocator>(
+    tables: &Slab<Slot<A>, A>,
+    slot: &Slot<A>,
+    id: Id,
+    added: Option<usize>,
+) -> Option<TableKey>
+    ensures edge { IfSome result (λ to. get id_eq (edges_of slot.now added) id ≡ Some to) }
+    ensures stands { IfSome result (λ to. IsSome (standing (slot_at tables.now to.slot) to.serial)) }
+{
+    let edges = match added {
+        Some(_) => &slot.more,
+        None => &slot.less,
+    };
+    let to = *edges.get(&id)?;
+    if stands(tables, to) { Some(to) } else { None }
+}
+
+// Writes an edge, if there is memory for it.
+fn insert_edge<A: Allocator + Copy>(edges: &mut Edges<A>, id: Id, to: TableKey)
+    ensures { IsWritten id to edges.old edges.new }
+{
+    let _ = edges.insert(id, to);
+}
+
+fn write_edge<A: Allocator + Copy>(slot: &mut Slot<A>, id: Id, added: Option<usize>, to: TableKey)
+    ensures slot { slot.new ≡ record slot.old { more = slot.new.more; less = slot.new.less } }
+    ensures more { (slot.new.more ≡ slot.old.more) ⊎ (IsSome added × IsWritten id to slot.old.more slot.new.more) }
+    ensures less { (slot.new.less ≡ slot.old.less) ⊎ (IsNone added × IsWritten id to slot.old.less slot.new.less) }
+{
+    match added {
+        Some(_) => insert_edge(&mut slot.more, id, to),
+        None => insert_edge(&mut slot.less, id, to),
+    }
+}
+
+impl<A: Allocator> TableStore<A> {
+    /// The table under a key, None once it was released.
+    pub fn get(&self, key: TableKey) -> Option<&Table<A>>
+        ensures table { MatchOption result (table_at self.now key ≡ None) (λ t. table_at self.now key ≡ Some t.now) }
+        ensures whole { IsStored self.now }
+    {
+        let slot = self.tables.get(key.slot as usize)?;
+        if slot.serial == key.serial {
+            Some(&slot.table)
+        } else {
+            None
+        }
+    }
+
+    /// A row at the end of a table, whose values are zeros. Answers its number.
+    pub fn append(&mut self, key: TableKey, entity: EntityId) -> usize
+        requires room { 0 < room_at self.old key }
+        ensures row { result ≡ rows_in self.old key }
+        ensures tables { (q : TableKey) → table_at self.new q ≡ changed_at self.old key (λ t. with_row t entity) q }
+        ensures shapes { (q : TableKey) → shape_at self.new q ≡ shape_at self.old q }
+        ensures vacant { row_at self.old (record { table = key; row = result }) ≡ None }
+        ensures rows { (f : Shape) → shape_at self.old key ≡ Some f → (s : Place) → row_at self.new s ≡ with_row_at (row_at self.old) (record { table = key; row = result }) (entity, zero_cells f) s }
+        ensures left { room_at self.new key ≡ room_at self.old key - 1 }
+        ensures last { self.new.last ≡ self.old.last }
+        ensures whole { IsStored self.new }
+    {
+        let table = &mut self.tables[key.slot as usize].table;
+        let row = table.rows().len();
+        table.append(entity);
+        row
+    }
+
+    /// Overwrites the value of an id with data at a row, with as many bytes.
+    pub fn set_value(&mut self, key: TableKey, row: usize, id: Id, value: &[u8])
+        requires there { row < rows_in self.old key }
+        requires data { 0 < length value.now }
+        requires size { (f : Shape) → shape_at self.old key ≡ Some f → find_in id f ≡ Some (length value.now) }
+        ensures tables { (q : TableKey) → table_at self.new q ≡ changed_at self.old key (λ t. with_value t row id value.now) q }
+        ensures shapes { (q : TableKey) → shape_at self.new q ≡ shape_at self.old q }
+        ensures rows { (v : Row) → row_at self.old (record { table = key; row = row }) ≡ Some v → (s : Place) → row_at self.new s ≡ with_row_at (row_at self.old) (record { table = key; row = row }) (with_cell v id value.now) s }
+        ensures last { self.new.last ≡ self.old.last }
+        ensures whole { IsStored self.new }
+    {
+        self.tables[key.slot as usize]
+            .table
+            .set_value(row, id, value);
+    }
+
+    /// Takes a row away. The last row fills the gap; its entity is answered, unless it is the one that went.
+    pub fn remove_row(&mut self, key: TableKey, row: usize) -> Option<EntityId>
+        requires there { row < rows_in self.old key }
+        ensures tables { (q : TableKey) → table_at self.new q ≡ changed_at self.old key (λ t. without_row t row) q }
+        ensures shapes { (q : TableKey) → shape_at self.new q ≡ shape_at self.old q }
+        ensures rows { (s : Place) → row_at self.new s ≡ removed_rows self.old (record { table = key; row = row }) s }
+        ensures filled { result ≡ option_map (λ r. r.0) (filler self.old (record { table = key; row = row })) }
+        ensures last { self.new.last ≡ self.old.last }
+        ensures whole { IsStored self.new }
+    {
+        self.tables[key.slot as usize].table.remove_row(row)
+    }
+
+    /// Moves a row to the end of another table: the values of common ids are kept, the others are zeros.
+    ///
+    /// Answers the row there, and the entity that fills the gap here, as `remove_row` does.
+    pub fn move_row(
+        &mut self,
+        from: TableKey,
+        row: usize,
+        to: TableKey,
+    ) -> (usize, Option<EntityId>)
+        requires there { row < rows_in self.old from }
+        requires apart { from ≢ to }
+        requires room { 0 < room_at self.old to }
+        ensures row { result.0 ≡ rows_in self.old to }
+        ensures tables { (s : Archetype) → table_at self.old from ≡ Some s
+            → (q : TableKey) → table_at self.new q ≡ moved_at self.old from to s row q }
+        ensures shapes { (q : TableKey) → shape_at self.new q ≡ shape_at self.old q }
+        ensures vacant { row_at self.old (record { table = to; row = result.0 }) ≡ None }
+        ensures rows { (v : Row) (f : Shape) → row_at self.old (record { table = from; row = row }) ≡ Some v → shape_at self.old to ≡ Some f
+            → (s : Place) → row_at self.new s ≡ moved_rows self.old (record { table = from; row = row }) v (record { table = to; row = result.0 }) f s }
+        ensures filled { result.1 ≡ option_map (λ r. r.0) (filler self.old (record { table = from; row = row })) }
+        ensures last { self.new.last ≡ self.old.last }
+        ensures whole { IsStored self.new }
+    {
+        // Out of its slot and back: two tables of one slab can't be borrowed at once.
+        let mut source = self.tables.remove(from.slot as usize);
+        let target = &mut self.tables[to.slot as usize].table;
+        let moved = source.table.move_to(row, target);
+        self.tables.insert_reserved(source);
+        moved
+    }
+
+    /// The tables whose serials are greater than this one: each with its key beside its serial, by rising serial.
+    pub fn since(&self, serial: u128) -> Range<'_, u128, TableKey>
+        ensures listed { (q : TableKey) → Contains result (q.serial, q) ↔ (IsSome (table_at self.now q) × (serial < q.serial)) }
+        ensures serials { (j : ℕ) → IfSome (slice_get result j) (λ e. e.0 ≡ e.1.serial) }
+        ensures rising { IsStrictlySortedBy nat_cmp (map (λ e. e.0) result) }
+        ensures whole { IsStored self.now }
+    {
+        self.by_serial
+            .range((Bound::Excluded(serial), Bound::Unbounded))
+    }
+
+    /// Takes a table without rows away, and its key for good. Of a key that is gone it does nothing.
+    pub fn release(&mut self, key: TableKey)
+        requires empty { rows_in self.old key ≡ 0 }
+        ensures tables { (q : TableKey) → table_at self.new q ≡ released_at self.old key q }
+        ensures rows { (p : Place) → row_at self.new p ≡ row_at self.old p }
+        ensures last { self.new.last ≡ self.old.last }
+        ensures whole { IsStored self.new }
+    {
+        if !stands(&self.tables, key) {
+            return;
+        }
+        let slot = self.tables.remove(key.slot as usize);
+        self.by_ids.swap_remove(slot.table.ids());
+        self.by_serial.remove(&key.serial);
+    }
+}
