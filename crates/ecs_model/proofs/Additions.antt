@@ -8,14 +8,14 @@ use Rattle.ecs_id.specs.Id.{Id, plain, mentioned}
 use Rattle.ecs_model.specs.Map.{Map, IsMap, value_at, has_key, with_value, keys}
 use Rattle.ecs_model.specs.World.{WorldState, Key, key_cmp, is_live, is_built_in, holds, value_of, ids_of, new_value, type_of_id, entities, pair_is_tag}
 use Rattle.ecs_model.specs.Changes.{facts_after_add}
-use Rattle.ecs_model.specs.Provisional.{is_not_yet_added}
+use Rattle.ecs_model.specs.Provisional.{is_not_yet_changed}
 use Rattle.ecs_model.specs.Command.{is_crowded, is_spent, with_facts, counted}
 use Rattle.ecs_model.specs.Keeps.{IsWellFormed}
 use Rattle.ecs_model.proofs.Maps.{of_some, if_some, key_cmp_total, eq_itself, fact_value_at, IsMap-with_value, keys-with_value}
 use Rattle.ecs_model.proofs.Reasons.{neither}
 use Rattle.ecs_model.proofs.Typing.{IsTyped, zeros_typed, same_type}
 
-hidden : {A : Type 0} (b : Bool) (x : A) (o : Option A) → is_some (cond b (Some x) o) ≡ false → (b ≡ false) × (is_some o ≡ false)
+pub hidden : {A : Type 0} (b : Bool) (x : A) (o : Option A) → is_some (cond b (Some x) o) ≡ false → (b ≡ false) × (is_some o ≡ false)
 hidden true x o h = absurd (true≢false h)
 hidden false x o h = (refl, h)
 
@@ -54,7 +54,7 @@ not_spent n h = grind (arith, nat_tests)
 at_most : (m n : ℕ) → nat_lt m n ≡ false → n ≤ m
 at_most m n h = grind (arith, nat_tests)
 
-all_pass : {A : Type 0} (xs : List A) → list_all (λ x. true) xs ≡ true
+pub all_pass : {A : Type 0} (xs : List A) → list_all (λ x. true) xs ≡ true
 all_pass [] = refl
 all_pass (x ∷ xs) = all_pass xs
 
@@ -69,7 +69,7 @@ pub record CanGet (w : WorldState) (e : ℕ) (id : Id) : Type 0 where
   pub live : is_live w e ≡ true
   pub mentions : list_all (is_live w) (mentioned id) ≡ true
   pub own : is_built_in e ≡ false
-  pub no_trait : is_not_yet_added id ≡ false
+  pub no_trait : is_not_yet_changed id ≡ false
 
 module _ (w : WorldState) (e : ℕ) (id : Id) (facts : Map Key (List ℤ)) (h : IsWellFormed w) (a : IsAddition w e id facts) (can : CanGet w e id) where
   abbrev after : WorldState
@@ -92,7 +92,7 @@ module _ (w : WorldState) (e : ℕ) (id : Id) (facts : Map Key (List ℤ)) (h : 
   same_tags : (r : ℕ) → has_key key_cmp facts (r, plain pair_is_tag) ≡ holds w r (plain pair_is_tag)
   same_tags r =
       elim (a.others (r, plain pair_is_tag)) [
-        | inl p ↦ absurd (true≢false (ap (λ q. is_not_yet_added q.1) p ∙ can.no_trait))
+        | inl p ↦ absurd (true≢false (ap (λ q. is_not_yet_changed q.1) p ∙ can.no_trait))
         | inr p ↦ ap is_some p
       ]
 

@@ -33,15 +33,52 @@ unnamed_by n (e ∷ es) j h p = by (bytes_eq n e.1) (eq_by_cmp nat_cmp j e.0) re
 later : (i : ℕ) → first_index ≤ i → is_built_in i ≡ false
 later i low = grind (arith, nat_tests)
 
-all_more : (p q : ℕ → Bool) → ((j : ℕ) → p j ≡ true → q j ≡ true) → (xs : List ℕ) → list_all p xs ≡ true → list_all q xs ≡ true
+pub all_more : (p q : ℕ → Bool) → ((j : ℕ) → p j ≡ true → q j ≡ true) → (xs : List ℕ) → list_all p xs ≡ true → list_all q xs ≡ true
 all_more p q f [] h = refl
 all_more p q f (x ∷ xs) h = let parts = both_true (p x) (list_all p xs) h in λ k. f x parts.0 k && all_more p q f xs parts.1 k
 
--- what comes with a new entity: its name, in a component's case its fields, and at most the fact that it is a component
-pub record IsBirth (w : WorldState) (i g : ℕ) (n : List ℕ) (schemas : Map ℕ Schema) (facts : Map Key (List ℤ)) : Type 0 where
+-- the names of a world with at most one more, which no entity has
+pub record IsNaming (w : WorldState) (i : ℕ) (names : Map ℕ (List ℕ)) : Type 0 where
+  pub in_order : IsMap nat_cmp names
+  pub others : (j : ℕ) → j ≢ i → value_at nat_cmp names j ≡ name_of w j
+  pub sound : (n : List ℕ) → value_at nat_cmp names i ≡ Some n → is_name n ≡ true
+  pub unused : (n : List ℕ) → value_at nat_cmp names i ≡ Some n → (j : ℕ) → name_of w j ≢ Some n
+
+-- a new name is such a change
+pub name_is_naming : (w : WorldState) (i : ℕ) (n : List ℕ) → IsWellFormed w → is_name n ≡ true → is_some (named w n) ≡ false
+    → IsNaming w i (with_value nat_cmp w.names i n)
+name_is_naming w i n h name unnamed = record {
+  in_order = IsMap-with_value nat_cmp nat_cmp_total w.names i n (h.in_order).names;
+  others = λ j d. elim (nat_value_at w.names i n j) [ inl p ↦ absurd (d p.0) | inr p ↦ p.1 ];
+  sound = λ m p. subst (λ x. is_name x ≡ true) (same m p) name;
+  unused = λ m p j taken. unnamed_by n w.names j unnamed (taken ∙ ap Some (sym (same m p)));
+}
+  where
+    same : (m : List ℕ) → value_at nat_cmp (with_value nat_cmp w.names i n) i ≡ Some m → n ≡ m
+    same m p =
+        elim (nat_value_at w.names i n i) [
+          | inl q ↦ let one : Some n ≡ Some m = sym q.1 ∙ p in cc
+          | inr q ↦ absurd (q.0 refl)
+        ]
+
+-- an index that is not live has no name
+no_name : (w : WorldState) (i : ℕ) → IsWellFormed w → is_live w i ≡ false → (n : List ℕ) → name_of w i ≢ Some n
+no_name w i h dead n p =
+    true≢false (sym (of_some (λ x. (is_live w i ≡ true) × (is_name x ≡ true)) (name_of w i) ((h.live).names i) n p).0 ∙ dead)
+
+-- and so is no name at all
+pub no_name_is_naming : (w : WorldState) (i : ℕ) → IsWellFormed w → is_live w i ≡ false → IsNaming w i w.names
+no_name_is_naming w i h dead = record {
+  in_order = (h.in_order).names;
+  others = λ j d. refl;
+  sound = λ n p. absurd (no_name w i h dead n p);
+  unused = λ n p. absurd (no_name w i h dead n p);
+}
+
+-- what comes with a new entity: at most a name, in a component's case its fields, and at most the fact that it is a component
+pub record IsBirth (w : WorldState) (i g : ℕ) (names : Map ℕ (List ℕ)) (schemas : Map ℕ Schema) (facts : Map Key (List ℤ)) : Type 0 where
   pub free : IsFree w i g
-  pub name : is_name n ≡ true
-  pub unnamed : is_some (named w n) ≡ false
+  pub naming : IsNaming w i names
   pub schemas_in_order : IsMap nat_cmp schemas
   pub facts_in_order : IsMap key_cmp facts
   pub other_schemas : (j : ℕ) → j ≢ i → value_at nat_cmp schemas j ≡ value_at nat_cmp w.schemas j
@@ -51,18 +88,19 @@ pub record IsBirth (w : WorldState) (i g : ℕ) (n : List ℕ) (schemas : Map �
   pub few : (e : ℕ) → length (filter_map (λ k. if k.0 == e then Some k.1 else None) (keys facts)) ≤ 64
 
 -- the world with it
-abbrev pub with_birth : WorldState → ℕ → ℕ → List ℕ → Map ℕ Schema → Map Key (List ℤ) → WorldState
-with_birth w i g n schemas facts = record w {
+abbrev pub with_birth : WorldState → ℕ → ℕ → Map ℕ (List ℕ) → Map ℕ Schema → Map Key (List ℤ) → WorldState
+with_birth w i g names schemas facts = record w {
   live = with_value nat_cmp w.live i g;
-  names = with_value nat_cmp w.names i n;
+  names = names;
   schemas = schemas;
   facts = facts;
   accepted = w.accepted + 1;
 }
 
-module _ (w : WorldState) (i g : ℕ) (n : List ℕ) (schemas : Map ℕ Schema) (facts : Map Key (List ℤ)) (h : IsWellFormed w) (b : IsBirth w i g n schemas facts) where
+module _ (w : WorldState) (i g : ℕ) (names : Map ℕ (List ℕ)) (schemas : Map ℕ Schema) (facts : Map Key (List ℤ)) (h : IsWellFormed w)
+    (b : IsBirth w i g names schemas facts) where
   abbrev after : WorldState
-  after = with_birth w i g n schemas facts
+  after = with_birth w i g names schemas facts
 
   new_index : (j : ℕ) → is_live w j ≡ true → j ≢ i
   new_index j l p = true≢false (sym l ∙ ap (is_live w) p ∙ (b.free).fresh)
@@ -99,33 +137,33 @@ module _ (w : WorldState) (i g : ℕ) (n : List ℕ) (schemas : Map ℕ Schema) 
   built_in_live j l = elim (nat_value_at w.live i g j) [ inl p ↦ absurd (given j l p.0) | inr p ↦ p.1 ]
 
   built_in_names : (j : ℕ) → is_built_in j ≡ true → name_of after j ≡ name_of w j
-  built_in_names j l = elim (nat_value_at w.names i n j) [ inl p ↦ absurd (given j l p.0) | inr p ↦ p.1 ]
+  built_in_names j l = (b.naming).others j (given j l)
 
   built_in_facts : (f : ℕ) (k : Id) → is_built_in f ≡ true → value_of after f k ≡ value_of w f k
   built_in_facts f k l = elim (b.other_facts (f, k)) [ inl p ↦ absurd (given f l (ap (λ q. q.0) p)) | inr p ↦ p ]
 
   names_live : (j : ℕ) (m : List ℕ) → name_of after j ≡ Some m → (is_live after j ≡ true) × (is_name m ≡ true)
   names_live j m found =
-      elim (nat_value_at w.names i n j) [
-        | inl p ↦ let same : Some n ≡ Some m = sym p.1 ∙ found in
-            let is : n ≡ m = cc in (ap (is_live after) p.0 ∙ new_live, subst (λ x. is_name x ≡ true) is b.name)
-        | inr p ↦ let old = of_some (λ x. (is_live w j ≡ true) × (is_name x ≡ true)) (name_of w j) ((h.live).names j) m (sym p.1 ∙ found) in
+      elim (nat_value_at w.live i g j) [
+        | inl p ↦ (ap is_some p.1, (b.naming).sound m (sym (ap (value_at nat_cmp names) p.0) ∙ found))
+        | inr p ↦ let old = of_some (λ x. (is_live w j ≡ true) × (is_name x ≡ true)) (name_of w j) ((h.live).names j) m (sym ((b.naming).others j p.0) ∙ found) in
             (still_live j old.0, old.1)
       ]
 
-  not_taken : (j : ℕ) (m : List ℕ) → Some n ≡ Some m → name_of w j ≢ Some m
-  not_taken j m e p = unnamed_by n w.names j b.unnamed (p ∙ sym e)
+  -- the new entity's name is no other's
+  own_name : (j k : ℕ) (m : List ℕ) → j ≡ i → k ≢ i → name_of after j ≡ Some m → name_of after k ≢ Some m
+  own_name j k m is other p q = (b.naming).unused m (sym (ap (value_at nat_cmp names) is) ∙ p) k (sym ((b.naming).others k other) ∙ q)
 
   names_differ : (j k : ℕ) (m : List ℕ) → name_of after j ≡ Some m → name_of after k ≡ Some m → j ≡ k
   names_differ j k m p q =
-      elim (nat_value_at w.names i n j) [
-        | inl r ↦ elim (nat_value_at w.names i n k) [
+      elim (nat_value_at w.live i g j) [
+        | inl r ↦ elim (nat_value_at w.live i g k) [
           | inl s ↦ r.0 ∙ sym s.0
-          | inr s ↦ absurd (not_taken k m (sym r.1 ∙ p) (sym s.1 ∙ q))
+          | inr s ↦ absurd (own_name j k m r.0 s.0 p q)
         ]
-        | inr r ↦ elim (nat_value_at w.names i n k) [
-          | inl s ↦ absurd (not_taken j m (sym s.1 ∙ q) (sym r.1 ∙ p))
-          | inr s ↦ (h.live).names_differ j k m (sym r.1 ∙ p) (sym s.1 ∙ q)
+        | inr r ↦ elim (nat_value_at w.live i g k) [
+          | inl s ↦ absurd (own_name k j m s.0 r.0 q p)
+          | inr s ↦ (h.live).names_differ j k m (sym ((b.naming).others j r.0) ∙ p) (sym ((b.naming).others k s.0) ∙ q)
         ]
       ]
 
@@ -172,12 +210,12 @@ module _ (w : WorldState) (i g : ℕ) (n : List ℕ) (schemas : Map ℕ Schema) 
       let old = of_some (λ y. (is_live w j ≡ true) × (0 < y) × (y < 2 ^ 64)) (value_at nat_cmp w.pins j) ((h.live).pins j) x found in
       (still_live j old.0, old.1, old.2)
 
-  pub birth_keeps : is_spent w ≡ false → IsWellFormed (with_birth w i g n schemas facts)
+  pub birth_keeps : is_spent w ≡ false → IsWellFormed (with_birth w i g names schemas facts)
   birth_keeps spent = record {
     in_order = record {
       live = IsMap-with_value nat_cmp nat_cmp_total w.live i g (h.in_order).live;
       facts = b.facts_in_order;
-      names = IsMap-with_value nat_cmp nat_cmp_total w.names i n (h.in_order).names;
+      names = (b.naming).in_order;
       schemas = b.schemas_in_order;
       deletions = (h.in_order).deletions;
       pins = (h.in_order).pins;

@@ -1,6 +1,11 @@
 -- Checks of single definitions, which the prover computes.
-use Rattle.std.specs.Prelude.{◌≡◌, ℕ, ◌-◌, ◌^◌, true, false, List, [], ◌∷◌, ◌++◌, map, pos, negsuc, codes, Option, Some, None, Ok, Err, refl}
+use Rattle.std.specs.Prelude.{◌≡◌, ℕ, ◌-◌, ◌^◌, ◌==◌, true, false, List, [], ◌∷◌, ◌++◌, map, pos, negsuc, codes, Option, Some, None, Ok, Err, is_ok, refl}
+use Rattle.std.specs.Fmt.{digits}
+use Rattle.std.specs.Option.{option_map_or}
+use Rattle.std.specs.Str.{chars, is_utf8}
 use Rattle.std.specs.declared.cmp.Ordering.TheVariants.{Less}
+use Rattle.std.proofs.Common.{ap, true≢false}
+use lib.Utf8.{encode}
 use Rattle.ecs_id.specs.declared.EntityId.{EntityId}
 use Rattle.ecs_id.specs.Id.{Id, plain, pair, id_cmp}
 use Rattle.ecs_model.specs.declared.Kind.TheVariants.{I8, I32, U64}
@@ -8,16 +13,20 @@ use Rattle.ecs_model.specs.declared.faults.Fault.{Fault}
 use Rattle.ecs_model.specs.declared.faults.FaultKind.{FaultKind}
 use Rattle.ecs_model.specs.declared.faults.FaultKind.TheVariants.{Lex, Syntax, UnknownName, TooManyTerms}
 use Rattle.ecs_model.specs.declared.faults.Refusal.{Refusal}
-use Rattle.ecs_model.specs.declared.faults.Refusal.TheVariants.{Dead, BadName, NameTaken, NoData, Count, Range}
+use Rattle.ecs_model.specs.declared.faults.Refusal.TheVariants.{Dead, UnknownName, BadName, NameTaken, BuiltIn, NoData, Count, Range, Full}
+use Rattle.ecs_model.specs.declared.faults.CommandError.TheVariants.{Refused}
 use Rattle.ecs_model.specs.Map.{value_at}
 use Rattle.ecs_model.specs.Schema.{Schema, fits_kind}
 use Rattle.ecs_model.specs.Refusal.{first_reason}
 use Rattle.ecs_model.specs.World.{WorldState, key_cmp, first_world, type_of_id}
-use Rattle.ecs_model.specs.Changes.{added, facts_after_add}
-use Rattle.ecs_model.specs.Command.{Command, Changed, Entity, Component, Add, SetValue, next_entity, with_component, reasons, effect, differences, step}
+use Rattle.ecs_model.specs.Changes.{added, facts_after_add, facts_after_remove}
+use Rattle.ecs_model.specs.Command.{Command, Changed, Fresh, Entity, Component, Add, SetValue, Remove, next_entity, with_born, with_component, reasons, effect, differences, step, IsBorn, SaysNothing, AnswersStep}
 use Rattle.ecs_model.specs.Tokens.{tokens_from, tokens_of}
 use Rattle.ecs_model.specs.Query.{Query, least_fault, faults, query_of}
 use Rattle.ecs_model.specs.Meaning.{Shown, rows}
+use Rattle.ecs_model.specs.Session.{EntityRef, by_name, by_handle, pair_of, with_both, entity_found}
+use Rattle.ecs_model.specs.Script.{BadLine, handle_of, id_and_rest, forms, form_among, form_of}
+use Rattle.ecs_model.specs.Output.{show_text}
 
 -- A world of a component and a tag, Position and Planet at 64 and 65, and of Sun and Earth, both planets. Earth has a position.
 
@@ -66,6 +75,20 @@ a_new_fact_of_a_tag_has_no_value = refl
 a_fact_that_is_held_keeps_its_value : facts_after_add sky 67 position ≡ sky.facts
 unfolding id_cmp key_cmp facts_after_add
 a_fact_that_is_held_keeps_its_value = refl
+
+-- facts that go
+
+-- Sun holds Planet, the pair of Position and Planet, and that of Planet and Position; Earth holds Planet.
+abbrev paired_sky : WorldState
+paired_sky = record sky { facts = ((66, planet), []) ∷ ((66, pair 64 65), []) ∷ ((66, pair 65 64), []) ∷ ((67, planet), []) ∷ [] }
+
+the_removed_fact_alone_goes : facts_after_remove paired_sky 66 (pair 64 65) ≡ ((66, planet), []) ∷ ((66, pair 65 64), []) ∷ ((67, planet), []) ∷ []
+unfolding id_cmp key_cmp facts_after_remove
+the_removed_fact_alone_goes = refl
+
+a_pair_turned_around_is_another : facts_after_remove paired_sky 67 (pair 65 64) ≡ paired_sky.facts
+unfolding id_cmp key_cmp facts_after_remove
+a_pair_turned_around_is_another = refl
 
 -- types of ids: the world in which Planet is a component of one field, and in which Sun gives its pairs no data
 
@@ -121,6 +144,41 @@ dead_is_told_before_values : refusal_of (SetValue (record earth { generation = 1
 unfolding id_cmp key_cmp facts_after_add reasons
 dead_is_told_before_values = refl
 
+removing_what_is_not_held_is_accepted : refusal_of (Remove sun (pair 64 65)) ≡ None
+unfolding id_cmp key_cmp reasons
+removing_what_is_not_held_is_accepted = refl
+
+an_old_generation_has_nothing_removed : refusal_of (Remove (record earth { generation = 1 }) planet) ≡ Some Dead
+unfolding id_cmp key_cmp reasons
+an_old_generation_has_nothing_removed = refl
+
+dead_is_told_before_built_in : refusal_of (Remove (record earth { generation = 1 }) (plain 1)) ≡ Some Dead
+unfolding id_cmp key_cmp reasons
+dead_is_told_before_built_in = refl
+
+an_index_that_is_no_built_in_entity_is_dead_in_an_id : refusal_of (Remove earth (pair 23 65)) ≡ Some Dead
+unfolding id_cmp key_cmp reasons
+an_index_that_is_no_built_in_entity_is_dead_in_an_id = refl
+
+abbrev spent_sky : WorldState
+spent_sky = record sky { live = (3, 0) ∷ (64, 0) ∷ (65, 0) ∷ (66, 0) ∷ []; accepted = 2 ^ 64 - 1 }
+
+built_in_is_told_before_full : first_reason (reasons spent_sky (Remove sun (pair 65 3))) ≡ Some BuiltIn
+unfolding id_cmp key_cmp reasons
+built_in_is_told_before_full = refl
+
+a_spent_count_refuses_what_changes_nothing : first_reason (reasons spent_sky (Remove sun (pair 64 65))) ≡ Some Full
+unfolding id_cmp key_cmp reasons
+a_spent_count_refuses_what_changes_nothing = refl
+
+a_spent_count_refuses_a_new_entity : first_reason (reasons spent_sky Fresh) ≡ Some Full
+unfolding reasons next_entity
+a_spent_count_refuses_a_new_entity = refl
+
+one_command_is_left : first_reason (reasons (record spent_sky { accepted = 2 ^ 64 - 2 }) Fresh) ≡ None
+unfolding reasons next_entity
+one_command_is_left = refl
+
 a_name_is_given_once : refusal_of (Entity (codes "Sun")) ≡ Some NameTaken
 unfolding reasons next_entity
 a_name_is_given_once = refl
@@ -165,6 +223,79 @@ a_component_is_born_with_its_tag : changes_of (Component (codes "Mass") mass)
     ≡ Some (record { born = Some (record { index = 68; generation = 0 }); died = []; came = (68, plain 3) ∷ []; went = []; written = [] })
 unfolding id_cmp key_cmp next_entity with_component reasons effect differences step
 a_component_is_born_with_its_tag = refl
+
+a_new_entity_is_born_without_facts : changes_of Fresh
+    ≡ Some (record { born = Some (record { index = 68; generation = 0 }); died = []; came = []; went = []; written = [] })
+unfolding id_cmp key_cmp next_entity with_born reasons effect differences step
+a_new_entity_is_born_without_facts = refl
+
+a_fact_that_is_removed_goes : changes_of (Remove earth planet)
+    ≡ Some (record { born = None; died = []; came = []; went = (67, planet) ∷ []; written = [] })
+unfolding id_cmp key_cmp facts_after_remove reasons effect differences step
+a_fact_that_is_removed_goes = refl
+
+-- what a call may answer
+
+abbrev born_sky : WorldState
+born_sky = record sky { live = (64, 0) ∷ (65, 0) ∷ (66, 0) ∷ (67, 2) ∷ (68, 0) ∷ []; accepted = 7 }
+
+the_entity_born_is_answered : AnswersStep IsBorn (Ok (record { index = 68; generation = 0 })) (step sky Fresh) sky born_sky
+unfolding id_cmp key_cmp next_entity with_born reasons effect differences step
+the_entity_born_is_answered = (refl, refl)
+
+no_other_entity_is_answered : AnswersStep IsBorn (Ok earth) (step sky Fresh) sky born_sky → ⊥
+unfolding id_cmp key_cmp next_entity with_born reasons effect differences step
+no_other_entity_is_answered h = true≢false (ap (λ o. option_map_or (λ e. e.index == 68) o false) h.1)
+
+an_accepted_command_leaves_its_world : AnswersStep SaysNothing (Ok tt) (step sky Fresh) sky sky → ⊥
+unfolding id_cmp key_cmp next_entity with_born reasons effect differences step
+an_accepted_command_leaves_its_world h = true≢false (ap (λ w. w.accepted == 6) h.0)
+
+an_accepted_command_is_not_refused : AnswersStep SaysNothing (Err (Refused Full)) (step sky Fresh) sky sky → ⊥
+unfolding id_cmp key_cmp next_entity with_born reasons effect differences step
+an_accepted_command_is_not_refused h = true≢false (ap is_ok h.0)
+
+-- references
+
+abbrev unknown : EntityRef
+unknown = by_name (codes "Moon")
+
+an_entity_is_found_by_its_handle : entity_found sky (by_handle 67 2) ≡ Ok earth
+an_entity_is_found_by_its_handle = refl
+
+a_dead_handle_is_told_before_an_unknown_name : with_both sky Add unknown (pair_of unknown (by_handle 67 1)) ≡ Err Dead
+a_dead_handle_is_told_before_an_unknown_name = refl
+
+an_unknown_name_is_told_where_all_handles_live : with_both sky Add (by_handle 67 2) (pair_of unknown (by_handle 66 0)) ≡ Err UnknownName
+an_unknown_name_is_told_where_all_handles_live = refl
+
+a_pair_is_made_of_indexes : with_both sky Add (by_name (codes "Earth")) (pair_of (by_handle 66 0) (by_name (codes "Earth"))) ≡ Ok (Add earth (pair 66 67))
+a_pair_is_made_of_indexes = refl
+
+leading_zeros_are_read : map handle_of (codes "000000067.00002" ∷ codes "0.0" ∷ codes "999999999.65535" ∷ [])
+    ≡ Some (by_handle 67 2) ∷ Some (by_handle 0 0) ∷ Some (by_handle 999999999 65535) ∷ []
+leading_zeros_are_read = refl
+
+too_many_digits_and_too_great_generations_are_no_handle : map handle_of (codes "0000000067.2" ∷ codes "67.000002" ∷ codes "67.65536" ∷ codes "67." ∷ codes ".2" ∷ codes "67" ∷ codes "6.7.2" ∷ [])
+    ≡ None ∷ None ∷ None ∷ None ∷ None ∷ None ∷ None ∷ []
+too_many_digits_and_too_great_generations_are_no_handle = refl
+
+a_pair_may_have_blanks_inside : id_and_rest (codes "(\tA , #1.0 ) 7") ≡ Some (pair_of (by_name (codes "A")) (by_handle 1 0), codes " 7")
+a_pair_may_have_blanks_inside = refl
+
+a_pair_ends_at_a_blank : map id_and_rest (codes "(A,B)7" ∷ codes "(A,B))" ∷ codes "(A,B" ∷ codes "(A B,A)" ∷ codes "(A,B,C)" ∷ codes "(A)" ∷ [])
+    ≡ None ∷ None ∷ None ∷ None ∷ None ∷ None ∷ []
+a_pair_ends_at_a_blank = refl
+
+-- lines
+
+nothing_stands_behind_new : form_of (codes "new Mars") ≡ BadLine
+unfolding forms form_among is_utf8 chars encode
+nothing_stands_behind_new = refl
+
+an_entity_is_shown_with_its_facts_in_order : show_text sky earth ≡ codes "show Earth [Position=10,-3] [Planet]\n"
+unfolding id_cmp key_cmp digits
+an_entity_is_shown_with_its_facts_in_order = refl
 
 -- rows
 

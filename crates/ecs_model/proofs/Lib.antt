@@ -3,7 +3,12 @@ pub mod Typing
 pub mod Reasons
 pub mod Additions
 pub mod Births
+pub mod Removals
+pub mod Born
+pub mod Answering
+pub mod RefusedLines
 pub mod Steps
+pub mod Differences
 pub mod FirstWorld
 pub mod DistinctRows
 mod Computed

@@ -89,7 +89,7 @@ module _ {K : Type 0} (R : K → K → Ordering) (o : IsTotalOrder R) where
       let parts = both_true (is_lt (R y e.0)) (below_all R y es) h in
       λ i. is_lt (o.trans x y e.0 p (less (R y e.0) parts.0) i) && below_less x y es p parts.1 i
 
-  absent_below : {X : Type 0} (x : K) (es : Map K X) → below_all R x es ≡ true → value_at R es x ≡ None
+  pub absent_below : {X : Type 0} (x : K) (es : Map K X) → below_all R x es ≡ true → value_at R es x ≡ None
   absent_below x [] h = refl
   absent_below x (e ∷ es) h =
       let parts = both_true (is_lt (R x e.0)) (below_all R x es) h in

@@ -1,8 +1,9 @@
 -- What each command does to the facts.
 use Rattle.std.specs.Prelude.{ℕ, List, [], ◌∷◌, fold, ℤ, if◌then◌else◌}
+use Rattle.std.specs.List.{list_any}
 use Rattle.ecs_id.specs.Id.{Id}
-use Rattle.ecs_model.specs.Map.{Map, has_key, with_value}
-use Rattle.ecs_model.specs.World.{WorldState, Key, key_cmp, new_value}
+use Rattle.ecs_model.specs.Map.{Map, has_key, with_value, without}
+use Rattle.ecs_model.specs.World.{WorldState, Key, key_cmp, key_eq, new_value}
 
 module _ (w : WorldState) where
   -- the facts that `add` puts: this one, and in time all that traits bring with it
@@ -16,3 +17,11 @@ module _ (w : WorldState) where
   -- after `add`
   unfoldable pub facts_after_add : ℕ → Id → Map Key (List ℤ)
   facts_after_add e i = fold with_new w.facts (added e i)
+
+  -- the facts that `remove` takes: this one, and in time its mirror
+  abbrev pub removed : ℕ → Id → List Key
+  removed e i = (e, i) ∷ []
+
+  -- after `remove`
+  unfoldable pub facts_after_remove : ℕ → Id → Map Key (List ℤ)
+  facts_after_remove e i = without key_cmp w.facts (λ k. list_any (key_eq k) (removed e i))

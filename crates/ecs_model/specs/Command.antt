@@ -13,16 +13,18 @@ use Rattle.ecs_model.specs.Map.{Map, keys, has_key, with_value, without, count_a
 use Rattle.ecs_model.specs.Text.{is_name}
 use Rattle.ecs_model.specs.Schema.{Schema, all_fit, schema_fault}
 use Rattle.ecs_model.specs.World.{WorldState, Key, key_cmp, component, is_live, is_alive, entity_at, entities, ids_of, named, name_of, type_of_id, is_built_in, first_index, last_index}
-use Rattle.ecs_model.specs.Changes.{facts_after_add}
-use Rattle.ecs_model.specs.Provisional.{is_not_yet_added}
+use Rattle.ecs_model.specs.Changes.{facts_after_add, facts_after_remove}
+use Rattle.ecs_model.specs.Provisional.{is_not_yet_changed}
 use Rattle.ecs_model.specs.Refusal.{first_reason}
 
 -- the calls that change a world
 pub data Command : Type 0 where
+  Fresh : Command
   Entity : List ℕ → Command
   Component : List ℕ → Schema → Command
   Add : EntityId → Id → Command
   SetValue : EntityId → Id → List ℤ → Command
+  Remove : EntityId → Id → Command
 
 -- a new component has fields that make a schema
 abbrev pub IsCommand : Command → Type 0
@@ -60,9 +62,9 @@ module _ (w : WorldState) where
   abbrev pub is_dead : EntityId → Id → Bool
   is_dead e i = not (is_alive w e) || not (list_all (is_live w) (mentioned i))
 
-  -- whether `add` would write to a built-in entity
-  abbrev pub adds_to_built_in : ℕ → Id → Bool
-  adds_to_built_in e i = is_built_in e || is_not_yet_added i
+  -- whether `add`, `set` or `remove` would change a fact of a built-in entity
+  abbrev pub changes_built_in : ℕ → Id → Bool
+  changes_built_in e i = is_built_in e || is_not_yet_changed i
 
   -- whether an entity has more than 64 ids
   abbrev pub is_crowded : Bool
@@ -75,6 +77,11 @@ module _ (w : WorldState) where
   -- with one accepted command more
   abbrev pub counted : WorldState
   counted = record w { accepted = w.accepted + 1 }
+
+  -- with a new entity
+  unfoldable pub with_born : Option EntityId → WorldState
+  with_born None = w
+  with_born (Some e) = record w { live = with_value nat_cmp w.live e.index e.generation }
 
   -- with a new entity of this name
   unfoldable pub with_named : List ℕ → Option EntityId → WorldState
@@ -110,17 +117,21 @@ value_reasons (Some fs) vs = (not (length vs == length fs), Count) ∷ (not (all
 
 -- the reasons against a command, in the order in which they are judged
 unfoldable pub reasons : WorldState → Command → List (Bool × Refusal)
+reasons w Fresh = birth_reasons w
 reasons w (Entity n) = name_reasons w n ++ birth_reasons w
 reasons w (Component n s) = name_reasons w n ++ birth_reasons w
-reasons w (Add e i) = (is_dead w e i, Dead) ∷ (adds_to_built_in w e.index i, BuiltIn) ∷ add_reasons w e.index i
-reasons w (SetValue e i vs) = (is_dead w e i, Dead) ∷ (adds_to_built_in w e.index i, BuiltIn) ∷ (value_reasons (type_of_id w i) vs ++ add_reasons w e.index i)
+reasons w (Add e i) = (is_dead w e i, Dead) ∷ (changes_built_in w e.index i, BuiltIn) ∷ add_reasons w e.index i
+reasons w (SetValue e i vs) = (is_dead w e i, Dead) ∷ (changes_built_in w e.index i, BuiltIn) ∷ (value_reasons (type_of_id w i) vs ++ add_reasons w e.index i)
+reasons w (Remove e i) = (is_dead w e i, Dead) ∷ (changes_built_in w e.index i, BuiltIn) ∷ (is_spent w, Full) ∷ []
 
 -- the world that an accepted command leaves, but for its count
 unfoldable pub effect : WorldState → Command → WorldState
+effect w Fresh = with_born w (next_entity w)
 effect w (Entity n) = with_named w n (next_entity w)
 effect w (Component n s) = with_component w n s (next_entity w)
 effect w (Add e i) = with_facts w (facts_after_add w e.index i)
 effect w (SetValue e i vs) = with_facts w (with_value key_cmp (facts_after_add w e.index i) (e.index, i) vs)
+effect w (Remove e i) = with_facts w (facts_after_remove w e.index i)
 
 -- the value that a command writes
 abbrev pub written_by : Command → Map Key (List ℤ)
@@ -143,8 +154,16 @@ step w c =
     let v = counted (effect w c) in
     option_map_or Err (first_reason (reasons w c)) (Ok (v, differences w v (written_by c)))
 
--- a call answers as the step does, and leaves what it says: a refusal leaves the world as it was, and so does refused memory, which may stand in place of any answer
-abbrev pub AnswersStep : {T : Type 0} → Result T CommandError → Result (WorldState × Changed) Refusal → WorldState → WorldState → Type 0
-AnswersStep (Ok done) stepped old new = IsOkAnd stepped (λ a. new ≡ a.0)
-AnswersStep (Err (Refused reason)) stepped old new = (stepped ≡ Err reason) × (new ≡ old)
-AnswersStep (Err Memory) stepped old new = new ≡ old
+-- what an accepted call answers says nothing
+abbrev pub SaysNothing : Unit {0} → Changed → Type 0
+SaysNothing done changed = Unit {0}
+
+-- what an accepted call answers is the entity born
+abbrev pub IsBorn : EntityId → Changed → Type 0
+IsBorn e changed = changed.born ≡ Some e
+
+-- a call answers as the step does, an accepted one what fits what has changed, and leaves what the step says: a refusal leaves the world as it was, and so does refused memory, which may stand in place of any answer
+abbrev pub AnswersStep : {T : Type 0} → (T → Changed → Type 0) → Result T CommandError → Result (WorldState × Changed) Refusal → WorldState → WorldState → Type 0
+AnswersStep Fits (Ok done) stepped old new = IsOkAnd stepped (λ a. (new ≡ a.0) × Fits done a.1)
+AnswersStep Fits (Err (Refused reason)) stepped old new = (stepped ≡ Err reason) × (new ≡ old)
+AnswersStep Fits (Err Memory) stepped old new = new ≡ old

@@ -1,15 +1,20 @@
 -- The laws of these definitions, as statements.
-use Rattle.std.specs.Prelude.{◌≡◌, ◌≢◌, ◌↔◌, ℕ, List, [], ◌∷◌, ◌++◌, map, All, AllPairs, Contains, Ok, Err}
+use Rattle.std.specs.Prelude.{◌≡◌, ◌≢◌, ◌↔◌, ℕ, false, List, [], ◌∷◌, ◌++◌, map, All, AllPairs, Contains, Option, None, IsTrue, Ok, Err}
+use Rattle.ecs_id.specs.declared.EntityId.{EntityId}
 use Rattle.ecs_id.specs.Id.{Id}
 use Rattle.ecs_model.specs.declared.Span.{Span}
-use Rattle.ecs_model.specs.World.{WorldState, first_world}
-use Rattle.ecs_model.specs.Command.{Command, Changed, IsCommand, step}
+use Rattle.ecs_model.specs.World.{WorldState, first_world, holds}
+use Rattle.ecs_model.specs.Changes.{facts_after_remove}
+use Rattle.ecs_model.specs.Command.{Command, Fresh, Entity, Component, Changed, IsCommand, next_entity, step}
 use Rattle.ecs_model.specs.Keeps.{IsWellFormed}
 use Rattle.ecs_model.specs.Tokens.{Token, token, End, IsSpelledBy, IsLexFault, tokens_of}
 use Rattle.ecs_model.specs.Grammar.{Part, IsQuery, IsSyntaxFault}
 use Rattle.ecs_model.specs.Parse.{parts_of}
 use Rattle.ecs_model.specs.Query.{Query}
 use Rattle.ecs_model.specs.Meaning.{Field, Shown, Row, rows}
+use Rattle.ecs_model.specs.Session.{SessionState}
+use Rattle.ecs_model.specs.Script.{Form}
+use Rattle.ecs_model.specs.Output.{effect_of}
 
 -- a text spells at most one list of tokens
 abbrev pub OneSpelling : Type 0
@@ -38,6 +43,25 @@ FirstWorldIsWellFormed = IsWellFormed first_world
 -- each accepted command leaves a well-formed world
 abbrev pub StepKeeps : Type 0
 StepKeeps = (w v : WorldState) (c : Command) (changed : Changed) → IsWellFormed w → IsCommand c → step w c ≡ Ok (v, changed) → IsWellFormed v
+
+-- the entity that a command makes, if it makes one: the next
+abbrev pub made_by : WorldState → Command → Option EntityId
+made_by w Fresh = next_entity w
+made_by w (Entity n) = next_entity w
+made_by w (Component n s) = next_entity w
+made_by w _ = None
+
+-- the entity born is the one that the command makes
+abbrev pub BornIsMade : Type 0
+BornIsMade = (w v : WorldState) (c : Command) (changed : Changed) → step w c ≡ Ok (v, changed) → changed.born ≡ made_by w c
+
+-- removing what isn't held leaves the facts as they were
+abbrev pub RemovesHeldAlone : Type 0
+RemovesHeldAlone = (w : WorldState) (e : ℕ) (i : Id) → holds w e i ≡ false → facts_after_remove w e i ≡ w.facts
+
+-- a refused line changes nothing
+abbrev pub RefusedLinesChangeNothing : Type 0
+RefusedLinesChangeNothing = (s : SessionState) (n : ℕ) (f : Form) → IsTrue (effect_of s n f).refused → (effect_of s n f).session ≡ s
 
 -- no row is there twice
 abbrev pub RowsAreDistinct : Type 0

@@ -1,5 +1,5 @@
 -- Finite maps and sets, as lists whose keys strictly rise: such a list is the only one with its entries.
-use Rattle.std.specs.Prelude.{ℕ, Bool, not, List, [], map, filter, fold, is_some, Option, unwrap_or, IsTrue}
+use Rattle.std.specs.Prelude.{ℕ, Bool, not, List, map, filter, is_some, Option, unwrap_or, IsTrue}
 use Rattle.std.specs.declared.cmp.Ordering.{Ordering}
 use Rattle.std.specs.Ordering.{nat_cmp}
 use Rattle.std.specs.FinMap.{find, put, is_sorted}

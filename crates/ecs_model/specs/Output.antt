@@ -1,17 +1,19 @@
 -- What a script prints.
 use Rattle.std.specs.Prelude.{ℕ, ◌+◌, Bool, true, false, List, [], ◌∷◌, ◌++◌, flat_map, length, count_by, codes, decimal, Option, Some, None, Result, Ok, Err}
+use Rattle.ecs_id.specs.declared.EntityId.{EntityId}
+use Rattle.ecs_id.specs.Id.{Id}
 use Rattle.ecs_model.specs.declared.faults.Fault.{Fault}
 use Rattle.ecs_model.specs.declared.faults.Refusal.{Refusal}
 use Rattle.ecs_model.specs.declared.faults.SchemaFault.{SchemaFault}
 use Rattle.ecs_model.specs.Schema.{Schema, schema_fault}
 use Rattle.ecs_model.specs.Refusal.{refusal_text, schema_fault_text}
-use Rattle.ecs_model.specs.World.{WorldState}
+use Rattle.ecs_model.specs.World.{WorldState, ids_of, value_of}
 use Rattle.ecs_model.specs.Query.{Query}
 use Rattle.ecs_model.specs.Meaning.{rows}
 use Rattle.ecs_model.specs.Query.{query_of}
-use Rattle.ecs_model.specs.Print.{fault_text, row_text}
-use Rattle.ecs_model.specs.Session.{SessionState, first_session, MakeComponent, apply}
-use Rattle.ecs_model.specs.Script.{Form, Nothing, LongLine, BadLine, Obey, Define, Ask, form_of, lines_of}
+use Rattle.ecs_model.specs.Print.{fault_text, handle_text, entity_text, id_text, value_text, row_text}
+use Rattle.ecs_model.specs.Session.{SessionState, first_session, Order, MakeFresh, MakeComponent, entity_found, apply}
+use Rattle.ecs_model.specs.Script.{Form, Nothing, LongLine, BadLine, Obey, Define, Show, Ask, form_of, lines_of}
 
 -- what a line does: the session after it, what it prints, and whether it was refused
 pub record Effect : Type 0 where
@@ -23,6 +25,7 @@ pub record Effect : Type 0 where
 abbrev pub refused_line : SessionState → ℕ → List ℕ → Effect
 refused_line s n kind = record { session = s; printed = codes "error " ++ decimal n ++ codes " " ++ kind ++ codes "\n"; refused = true }
 
+-- an accepted line, and what it prints
 abbrev pub accepted_line : SessionState → List ℕ → Effect
 accepted_line s text = record { session = s; printed = text; refused = false }
 
@@ -30,15 +33,35 @@ accepted_line s text = record { session = s; printed = text; refused = false }
 abbrev pub rows_text : WorldState → Query → List ℕ
 rows_text w q = flat_map (row_text w q.variables) (rows w q) ++ codes "rows " ++ decimal (length (rows w q)) ++ codes "\n"
 
--- a command that is accepted prints nothing
-abbrev pub order_effect : SessionState → ℕ → Result SessionState Refusal → Effect
-order_effect s n (Err r) = refused_line s n (refusal_text r)
-order_effect s n (Ok t) = accepted_line t []
+-- a fact: ` [ID=v,v]`, without a value ` [ID]`
+abbrev pub fact_text : WorldState → ℕ → Id → List ℕ
+fact_text w e i = codes " [" ++ id_text w i ++ value_text (value_of w e i) ++ codes "]"
 
+-- the line of `show`: the entity and its facts in the order of ids
+abbrev pub show_text : WorldState → EntityId → List ℕ
+show_text w e = codes "show " ++ entity_text w e ++ flat_map (fact_text w e.index) (ids_of w e.index) ++ codes "\n"
+
+-- what an accepted command prints: of `new` the entity born, and else nothing
+abbrev pub own_text : Order → Option EntityId → List ℕ
+own_text MakeFresh (Some e) = handle_text e ++ codes "\n"
+own_text order born = []
+
+-- what a line of a command does
+abbrev pub order_effect : SessionState → ℕ → Order → Result (SessionState × Option EntityId) Refusal → Effect
+order_effect s n order (Err r) = refused_line s n (refusal_text r)
+order_effect s n order (Ok a) = accepted_line a.0 (own_text order a.1)
+
+-- what a line of a new component does: its fields are judged first
 abbrev pub define_effect : SessionState → ℕ → List ℕ → Schema → Option SchemaFault → Effect
 define_effect s n name fs (Some f) = refused_line s n (schema_fault_text f)
-define_effect s n name fs None = order_effect s n (apply s (MakeComponent name fs))
+define_effect s n name fs None = order_effect s n (MakeComponent name fs) (apply s (MakeComponent name fs))
 
+-- what a line of `show` does
+abbrev pub show_effect : SessionState → ℕ → Result EntityId Refusal → Effect
+show_effect s n (Err r) = refused_line s n (refusal_text r)
+show_effect s n (Ok e) = accepted_line s (show_text s.world e)
+
+-- what a line of a query does
 abbrev pub ask_effect : SessionState → ℕ → Result Query Fault → Effect
 ask_effect s n (Err f) = refused_line s n (fault_text f)
 ask_effect s n (Ok q) = accepted_line s (rows_text s.world q)
@@ -48,8 +71,9 @@ unfoldable pub effect_of : SessionState → ℕ → Form → Effect
 effect_of s n Nothing = accepted_line s []
 effect_of s n LongLine = refused_line s n (codes "LineTooLong")
 effect_of s n BadLine = refused_line s n (codes "BadLine")
-effect_of s n (Obey order) = order_effect s n (apply s order)
+effect_of s n (Obey order) = order_effect s n order (apply s order)
 effect_of s n (Define name fs) = define_effect s n name fs (schema_fault fs)
+effect_of s n (Show r) = show_effect s n (entity_found s.world r)
 effect_of s n (Ask text) = ask_effect s n (query_of s.world text)
 
 -- what is done in a row by lines under their numbers

@@ -1,10 +1,10 @@
 -- The syntax of a list of tokens as a function: what the grammar relates to the tokens, or the first token that no query allows.
-use Rattle.std.specs.Prelude.{ℕ, List, [], ◌∷◌, Result, Ok, Err, if◌then◌else◌}
+use Rattle.std.specs.Prelude.{List, [], ◌∷◌, Result, Ok, Err, if◌then◌else◌}
 use Rattle.ecs_model.specs.declared.Span.{Span}
 use Rattle.ecs_model.specs.declared.Mark.TheVariants.{Comma}
 use Rattle.ecs_model.specs.Text.{is_reserved}
 use Rattle.ecs_model.specs.Tokens.{Token, token, Name, Punct, End}
-use Rattle.ecs_model.specs.Grammar.{Reference, word, Part, term}
+use Rattle.ecs_model.specs.Grammar.{word, Part, term}
 
 -- nothing can be read at the first token
 abbrev pub refused : {A : Type 0} → List Token → Result A Span

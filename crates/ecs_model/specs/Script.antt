@@ -1,19 +1,19 @@
 -- The lines of a script and their forms.
-use Rattle.std.specs.Prelude.{ℕ, ◌==◌, Bool, true, false, not, ◌&&◌, ◌||◌, List, [], ◌∷◌, length, drop, ℤ, pos, neg_ℤ, nat_lt, codes, bytes_eq, Option, Some, None, option_map, option_and_then, if◌then◌else◌}
+use Rattle.std.specs.Prelude.{ℕ, ◌==◌, Bool, true, false, not, ◌&&◌, ◌||◌, List, [], ◌∷◌, length, drop, ℤ, pos, neg_ℤ, nat_le, nat_lt, codes, bytes_eq, Option, Some, None, option_map, option_and_then, if◌then◌else◌}
 use Rattle.std.specs.List.{list_any, find, slice_split, before_first, after_first}
 use Rattle.std.specs.Str.{is_utf8}
 use Rattle.ecs_model.specs.Text.{is_blank, trim_front, trimmed, words, is_number, number_of}
 use Rattle.ecs_model.specs.declared.Kind.{Kind}
 use Rattle.ecs_model.specs.declared.Kind.TheVariants.{I8, U8, I16, U16, I32, U32, I64, U64}
-use Rattle.ecs_model.specs.Provisional.{is_not_yet_read}
 use Rattle.ecs_model.specs.Schema.{Field, Schema}
-use Rattle.ecs_model.specs.Session.{EntityRef, by_name, IdRef, plain_of, Order, MakeEntity, AddTo, SetIn}
+use Rattle.ecs_model.specs.Session.{EntityRef, by_name, by_handle, IdRef, plain_of, pair_of, Order, MakeFresh, MakeEntity, AddTo, SetIn, RemoveFrom}
 
 -- what a line asks
 pub data Form : Type 0 where
   Nothing LongLine BadLine : Form
   Obey : Order → Form
   Define : List ℕ → Schema → Form
+  Show : EntityRef → Form
   Ask : List ℕ → Form
 
 -- without the last part, if that is empty
@@ -30,17 +30,47 @@ lines_of script = without_empty_last (slice_split (λ b. b == 10) script)
 abbrev pub word_and_rest : List ℕ → List ℕ × List ℕ
 word_and_rest bs = (before_first is_blank (trim_front bs), drop (length (before_first is_blank (trim_front bs))) (trim_front bs))
 
--- a reference to an entity: no blanks, brackets and commas
+-- a handle behind its `#`: `index.generation`, of 1 to 9 digits, and of 1 to 5 that are at most 65535
+abbrev pub handle_of : List ℕ → Option EntityRef
+handle_of bs =
+    let i = before_first (λ b. b == 46) bs in
+    let g = after_first (λ b. b == 46) bs in
+    if is_number 1 9 i && is_number 1 5 g && nat_le (number_of g) 65535 then Some (by_handle (number_of i) (number_of g)) else None
+
+-- a reference to an entity: no blanks, brackets and commas, and a handle where it begins with `#`
 abbrev pub reference_of : List ℕ → Option EntityRef
 reference_of [] = None
 reference_of (b ∷ bs) =
     if list_any (λ c. is_blank c || c == 40 || c == 41 || c == 44) (b ∷ bs) then None
-    else if is_not_yet_read b then None
+    else if b == 35 then handle_of bs
     else Some (by_name (b ∷ bs))
+
+-- a pair of references, if both are there
+abbrev pub pair_ref : Option EntityRef → Option EntityRef → Option IdRef
+pair_ref (Some r) (Some t) = Some (pair_of r t)
+pair_ref _ _ = None
+
+-- what stands between the brackets of a pair: two references with one `,` between
+abbrev pub pair_in : List ℕ → Option IdRef
+pair_in bs = pair_ref (reference_of (trimmed (before_first (λ b. b == 44) bs))) (reference_of (trimmed (after_first (λ b. b == 44) bs)))
+
+-- whether a text is empty or begins with a blank
+abbrev pub is_apart : List ℕ → Bool
+is_apart [] = true
+is_apart (b ∷ bs) = is_blank b
+
+-- a pair behind its `(`, and what stands behind its `)`
+abbrev pub pair_and_rest : List ℕ → Option (IdRef × List ℕ)
+pair_and_rest bs =
+    let rest = after_first (λ b. b == 41) bs in
+    if list_any (λ b. b == 41) bs && is_apart rest then option_map (λ i. (i, rest)) (pair_in (before_first (λ b. b == 41) bs)) else None
 
 -- an id at the front of a text without blanks at its front, and what stands behind it
 abbrev pub id_and_rest : List ℕ → Option (IdRef × List ℕ)
-id_and_rest bs = option_map (λ r. (plain_of r, (word_and_rest bs).1)) (reference_of ((word_and_rest bs).0))
+id_and_rest [] = None
+id_and_rest (b ∷ bs) =
+    if b == 40 then pair_and_rest bs
+    else option_map (λ r. (plain_of r, (word_and_rest (b ∷ bs)).1)) (reference_of ((word_and_rest (b ∷ bs)).0))
 
 -- an optional `-` and 1 to 38 digits
 abbrev pub value_of_word : List ℕ → Option ℤ
@@ -80,6 +110,10 @@ abbrev pub one_word : (List ℕ → Form) → List (List ℕ) → Form
 one_word f (w ∷ []) = f w
 one_word f _ = BadLine
 
+-- a line of an entity
+abbrev pub entity_line : (EntityRef → Form) → List ℕ → Form
+entity_line f rest = one_word (λ w. form_or_bad f (reference_of w)) (words rest)
+
 -- a line of an entity, an id and the words behind it
 abbrev pub fact_line : (EntityRef → IdRef → List (List ℕ) → Form) → List ℕ → Form
 fact_line f rest =
@@ -109,6 +143,9 @@ forms =
     ∷ (codes "add", fact_line (λ r i. nothing_more (Obey (AddTo r i))))
     ∷ (codes "set", fact_line set_line)
     ∷ (codes "query", λ rest. Ask (trimmed rest))
+    ∷ (codes "new", λ rest. nothing_more (Obey MakeFresh) (words rest))
+    ∷ (codes "remove", fact_line (λ r i. nothing_more (Obey (RemoveFrom r i))))
+    ∷ (codes "show", entity_line Show)
     ∷ []
 
 -- whether a line is blank or a comment

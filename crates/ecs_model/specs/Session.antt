@@ -1,15 +1,15 @@
--- The state of a session, and one command of it, with entities by name.
-use Rattle.std.specs.Prelude.{ℕ, Bool, List, [], ◌∷◌, ℤ, Option, is_none, option_map, option_and_then, Result, Ok, Err}
+-- The state of a session, and one command of it, with entities by name or by handle.
+use Rattle.std.specs.Prelude.{ℕ, Bool, false, not, List, [], ◌∷◌, ℤ, Option, Some, None, is_none, option_map, option_and_then, Result, Ok, Err, if◌then◌else◌}
 use Rattle.std.specs.List.{list_any}
 use Rattle.std.specs.Option.{option_map_or}
 use Rattle.ecs_id.specs.declared.EntityId.{EntityId}
-use Rattle.ecs_id.specs.Id.{Id, plain}
+use Rattle.ecs_id.specs.Id.{Id, plain, pair}
 use Rattle.ecs_model.specs.Schema.{Schema}
-use Rattle.ecs_model.specs.World.{WorldState, first_world, entity_at, named}
+use Rattle.ecs_model.specs.World.{WorldState, first_world, is_alive, entity_at, named}
 use Rattle.ecs_model.specs.declared.faults.Refusal.{Refusal}
 use Rattle.ecs_model.specs.declared.faults.Refusal.TheVariants.{Dead, UnknownName}
 use Rattle.ecs_model.specs.Refusal.{first_reason}
-use Rattle.ecs_model.specs.Command.{Command, Changed, Entity, Component, Add, SetValue, step}
+use Rattle.ecs_model.specs.Command.{Command, Changed, Fresh, Entity, Component, Add, SetValue, Remove, step}
 
 -- the state of a session
 pub record SessionState : Type 0 where
@@ -19,37 +19,57 @@ pub record SessionState : Type 0 where
 abbrev pub first_session : SessionState
 first_session = record { world = first_world }
 
--- an entity by its name
+-- an entity by its name, or by its index and its generation
 pub data EntityRef : Type 0 where
   by_name : List ℕ → EntityRef
+  by_handle : ℕ → ℕ → EntityRef
 
--- an id by names
+-- an id by references: that of a component or tag, or that of a relationship and a target
 pub data IdRef : Type 0 where
   plain_of : EntityRef → IdRef
+  pair_of : EntityRef → EntityRef → IdRef
 
 -- the commands of a session
 pub data Order : Type 0 where
+  MakeFresh : Order
   MakeEntity : List ℕ → Order
   MakeComponent : List ℕ → Schema → Order
   AddTo : EntityRef → IdRef → Order
   SetIn : EntityRef → IdRef → List ℤ → Order
+  RemoveFrom : EntityRef → IdRef → Order
 
 -- the references in an id
 abbrev pub refs_of_id : IdRef → List EntityRef
 refs_of_id (plain_of r) = r ∷ []
+refs_of_id (pair_of r t) = r ∷ t ∷ []
+
+-- the entity that a handle means
+abbrev pub handle : ℕ → ℕ → EntityId
+handle i g = record { index = i; generation = g }
 
 module _ (w : WorldState) where
   -- the live entity of a reference
   abbrev pub found : EntityRef → Option EntityId
   found (by_name n) = option_and_then (entity_at w) (named w n)
+  found (by_handle i g) = if is_alive w (handle i g) then Some (handle i g) else None
 
-  -- the reasons against references
+  -- whether a reference is the handle of no live entity
+  abbrev pub is_dead_handle : EntityRef → Bool
+  is_dead_handle (by_name n) = false
+  is_dead_handle (by_handle i g) = not (is_alive w (handle i g))
+
+  -- the reasons against references: a dead handle comes before a name that names nothing
   abbrev pub ref_reasons : List EntityRef → List (Bool × Refusal)
-  ref_reasons refs = (list_any (λ r. is_none (found r)) refs, UnknownName) ∷ []
+  ref_reasons refs = (list_any is_dead_handle refs, Dead) ∷ (list_any (λ r. is_none (found r)) refs, UnknownName) ∷ []
+
+  -- the entity of a reference
+  abbrev pub entity_found : EntityRef → Result EntityId Refusal
+  entity_found r = option_map_or Err (first_reason (ref_reasons (r ∷ []))) (option_map_or Ok (found r) (Err Dead))
 
   -- the id of a reference
   abbrev pub id_found : IdRef → Option Id
   id_found (plain_of r) = option_map (λ e. plain e.index) (found r)
+  id_found (pair_of r t) = option_and_then (λ e. option_map (λ f. pair e.index f.index) (found t)) (found r)
 
   -- what f makes of an entity and an id
   abbrev pub with_both : {A : Type 0} → (EntityId → Id → A) → EntityRef → IdRef → Result A Refusal
@@ -57,19 +77,21 @@ module _ (w : WorldState) where
       option_map_or Err (first_reason (ref_reasons (r ∷ refs_of_id i)))
       (option_map_or Ok (option_and_then (λ e. option_map (f e) (id_found i)) (found r)) (Err Dead))
 
--- what a world answered, of the session
-abbrev pub session_answer : Result (WorldState × Changed) Refusal → Result SessionState Refusal
+-- what a world answered, of the session: the new session, and the entity born
+abbrev pub session_answer : Result (WorldState × Changed) Refusal → Result (SessionState × Option EntityId) Refusal
 session_answer (Err r) = Err r
-session_answer (Ok a) = Ok (record { world = a.0 })
+session_answer (Ok a) = Ok (record { world = a.0 }, (a.1).born)
 
 -- a command of the world within a session
-abbrev pub world_order : SessionState → Result Command Refusal → Result SessionState Refusal
+abbrev pub world_order : SessionState → Result Command Refusal → Result (SessionState × Option EntityId) Refusal
 world_order s (Err r) = Err r
 world_order s (Ok c) = session_answer (step s.world c)
 
--- the answer to a command: a refusal, or the new session
-unfoldable pub apply : SessionState → Order → Result SessionState Refusal
+-- the answer to a command: a refusal, or the new session and the entity born
+unfoldable pub apply : SessionState → Order → Result (SessionState × Option EntityId) Refusal
+apply s MakeFresh = world_order s (Ok Fresh)
 apply s (MakeEntity n) = world_order s (Ok (Entity n))
 apply s (MakeComponent n fs) = world_order s (Ok (Component n fs))
 apply s (AddTo r i) = world_order s (with_both s.world Add r i)
 apply s (SetIn r i vs) = world_order s (with_both s.world (λ e j. SetValue e j vs) r i)
+apply s (RemoveFrom r i) = world_order s (with_both s.world Remove r i)

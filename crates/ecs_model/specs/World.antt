@@ -4,7 +4,7 @@ use Rattle.std.specs.List.{find, enumerate_from}
 use Rattle.std.specs.Option.{option_or, option_eq, option_map_or}
 use Rattle.std.specs.declared.cmp.Ordering.{Ordering}
 use Rattle.std.specs.Ordering.{nat_cmp}
-use Rattle.std.specs.Ordering.{on, then_cmp}
+use Rattle.std.specs.Ordering.{on, then_cmp, eq_by_cmp}
 use Rattle.ecs_id.specs.declared.EntityId.{EntityId}
 use Rattle.ecs_id.specs.Id.{Id, plain, pair, id_cmp}
 use Rattle.ecs_model.specs.Map.{Map, value_at, has_key, keys}
@@ -17,6 +17,10 @@ Key = ℕ × Id
 -- by entity, then by id
 unfoldable pub key_cmp : Key → Key → Ordering
 key_cmp = then_cmp (on (λ k. k.0) nat_cmp) (on (λ k. k.1) id_cmp)
+
+-- whether two facts are of one entity and one id
+abbrev pub key_eq : Key → Key → Bool
+key_eq = eq_by_cmp key_cmp
 
 -- the state of a world, by index
 pub record WorldState : Type 0 where

@@ -1,6 +1,6 @@
 //! What is proved of the definitions alone: each function's contract is a law, and its body does nothing.
 
-ghost use Rattle.ecs_model.specs.Laws.{EqualRowsAreOne, FirstWorldIsWellFormed, RowsAreDistinct, StepKeeps};
+ghost use Rattle.ecs_model.specs.Laws.{BornIsMade, EqualRowsAreOne, FirstWorldIsWellFormed, RefusedLinesChangeNothing, RemovesHeldAlone, RowsAreDistinct, StepKeeps};
 
 /// Law: the world before any command is well formed.
 pub fn first_world_is_well_formed()
@@ -10,6 +10,21 @@ pub fn first_world_is_well_formed()
 /// Law: each accepted command leaves a well-formed world.
 pub fn every_step_keeps_the_world_well_formed()
     ensures { StepKeeps }
+{}
+
+/// Law: the entity that an accepted command tells as born is the next entity, of the commands that make one, and else there is none.
+pub fn the_entity_born_is_the_next()
+    ensures { BornIsMade }
+{}
+
+/// Law: removing what isn't held leaves the facts as they were.
+pub fn removing_what_is_not_held_takes_nothing()
+    ensures { RemovesHeldAlone }
+{}
+
+/// Law: a refused line of a script changes nothing.
+pub fn a_refused_line_changes_nothing()
+    ensures { RefusedLinesChangeNothing }
 {}
 
 /// Law: in a well-formed world no row of a query stands twice.
