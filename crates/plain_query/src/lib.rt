@@ -4,6 +4,8 @@
 mod check;
 mod print;
 mod rows;
+#[cfg(test)]
+mod tests;
 
 ghost use Rattle.plain_query.specs.Check.{AnswersQuery};
 
@@ -11,8 +13,9 @@ use check::ids_of_query;
 use ecs_id::{EntityId, Id};
 use ecs_model::Value;
 use ecs_model::faults::QueryFault;
+pub use print::{write_entity, write_handle, write_id, write_value};
 use rows::write_rows;
-use std::alloc::Allocator;
+use std::alloc::{AllocError, Allocator};
 
 /// Asks a query's text in a world, and writes its rows behind what was written: a line for each entity that holds all ids that
 /// the text names, in the order of indexes, and then `rows COUNT`.
@@ -30,17 +33,17 @@ pub fn ask<A: Allocator + Copy, W: Readable>(
         Ok(ids) => ids,
         Err(fault) => return Err(fault),
     };
-    write_rows(world, ids.as_slice(), out).map_err(|_| QueryFault::Memory)
+    write_rows(alloc, world, ids.as_slice(), out).map_err(|_| QueryFault::Memory)
 }
 
-/// A world as queries read it. None of these calls takes memory.
+/// A world as queries read it. Only `live` takes memory.
 pub trait Readable {
-    ghost use Rattle.std.specs.Prelude.{◌≡◌, ◌<◌, length, slice_get, IfSome, is_some, option_map, Some};
+    ghost use Rattle.std.specs.Prelude.{◌≡◌, IfOk, IfSome, is_some, option_map};
     ghost use Rattle.std.specs.Option.{option_copied};
     ghost use Rattle.ecs_id.specs.Id.{IsIndex};
-    ghost use Rattle.ecs_model.specs.World.{WorldState, entities, holds, named, value_of, type_of_id};
+    ghost use Rattle.ecs_model.specs.World.{WorldState, entity_at, holds, name_of, named, value_of, type_of_id};
     ghost use Rattle.ecs_model.specs.Session.{found, by_name};
-    ghost use Rattle.ecs_model.specs.Print.{index_text};
+    ghost use Rattle.plain_query.specs.Rows.{live_entities};
 
     // The state of the world that the value stands for.
     ghost state: { Self → WorldState };
@@ -55,24 +58,25 @@ pub trait Readable {
     fn has(&self, entity: u32, id: Id) -> bool
         ensures { result ≡ holds (state self.now) entity id };
 
-    /// The value of a fact.
-    fn value(&self, entity: u32, id: Id) -> Option<&Value>
-        ensures { option_copied result ≡ value_of (state self.now) entity id };
+    /// The value of a fact: without numbers where the id has no type.
+    fn value(&self, entity: u32, id: Id) -> Option<Value>
+        ensures { result ≡ value_of (state self.now) entity id };
 
     /// Whether facts of an id have values.
     fn has_type(&self, id: Id) -> bool
         ensures { result ≡ is_some (type_of_id (state self.now) id) };
 
-    /// What is printed of the live entity at an index.
-    fn text_of(&self, index: u32) -> &str
-        ensures { result.now ≡ index_text (state self.now) index };
+    /// The name of the entity at an index, if it has one.
+    fn name_of(&self, index: u32) -> Option<&str>
+        ensures { option_copied result ≡ name_of (state self.now) index };
 
-    /// How many entities live.
-    fn entity_count(&self) -> usize
-        ensures { result ≡ length (entities (state self.now)) };
+    /// The live entity at an index.
+    fn at(&self, index: u32) -> Option<EntityId>
+        ensures { result ≡ entity_at (state self.now) index };
 
-    /// The index of a live entity, by its place in the order of indexes.
-    fn entity_at(&self, place: usize) -> u32
-        requires { place < length (entities (state self.now)) }
-        ensures { slice_get (entities (state self.now)) place ≡ Some result };
+    /// The live entities in the order of indexes. A query asks for them once.
+    ///
+    /// Fails where memory is refused.
+    fn live<A: Allocator + Copy>(&self, alloc: A) -> Result<Vec<EntityId, A>, AllocError>
+        ensures { IfOk result (λ entities. entities.items ≡ live_entities (state self.now)) };
 }

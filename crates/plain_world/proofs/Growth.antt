@@ -1,5 +1,5 @@
 -- A map whose keys are all below a number, to which that number comes as a key.
-use Rattle.std.proofs.Common.{◌≡◌, ℕ, zero, suc, ◌+◌, ◌-◌, ◌<◌, ◌≤◌, Bool, true, false, cond, not, ◌&&◌, IsTrue, nat_lt, ℤ, List, [], ◌∷◌, ◌++◌, Some, None, is_some, option_map, refl, sym, ap, ◌∙◌, arith, length-append, add-zero, inl, inr}
+use Rattle.std.proofs.Common.{◌≡◌, ℕ, zero, suc, ◌+◌, ◌-◌, ◌<◌, ◌≤◌, Bool, true, false, cond, not, ◌&&◌, IsTrue, nat_lt, ℤ, List, [], ◌∷◌, ◌++◌, Option, Some, None, is_some, option_map, refl, sym, ap, ◌∙◌, arith, length-append, add-zero, inl, inr}
 use Rattle.std.proofs.lemmas.Bool.{cases_lt}
 use Rattle.std.specs.Cmp.{tied_itself}
 use Rattle.std.proofs.lemmas.Bool.Decides.{nat_tests}
@@ -13,9 +13,10 @@ use Rattle.ecs_id.specs.Id.{plain}
 use Rattle.ecs_model.specs.Map.{Map, has_key, with_value}
 use Rattle.ecs_model.specs.Schema.{Schema}
 use Rattle.ecs_model.specs.World.{Key, key_cmp, component, first_index, last_index}
-use Rattle.ecs_model.specs.Command.{first_passing, is_free, next_entity, with_named, with_component, effect, counted, Entity, Component}
+use Rattle.ecs_model.specs.Command.{first_passing, is_free, next_entity, with_born, with_named, with_component, effect, counted, Fresh, Entity, Component}
 use Rattle.ecs_model.proofs.Maps.{both_true}
-use Rattle.plain_world.specs.Plain.{world_of, next_index, IsBelow, IsFilled}
+use Rattle.plain_world.specs.Plain.{Entities, names_in, world_of, next_index, IsBelow, IsFilled}
+use Rattle.plain_world.proofs.Named.{IsBelow-names, names-named, names-nameless}
 use Rattle.plain_world.proofs.Live.{alive, has_key-alive}
 use Rattle.plain_world.proofs.Sorted.{has_key-put}
 
@@ -84,91 +85,117 @@ first_passing_none test (suc n) i low =
     ap (λ b. elim b [ true ↦ Some i | false ↦ first_passing test n (i + 1) ]) (low i (omega arith) (omega arith))
     ∙ first_passing_none test n (i + 1) (λ j le lt. low j (omega arith) (omega arith))
 
-module _ (names : Map ℕ (List ℕ)) (facts : Map Key (List ℤ)) (schemas : Map ℕ Schema) (accepted : ℕ) (filled : IsFilled names schemas) where
+module _ (entities : Entities) (facts : Map Key (List ℤ)) (schemas : Map ℕ Schema) (accepted : ℕ) (filled : IsFilled entities schemas) where
   -- no index up to the next one is free, and that one is
-  taken : (j : ℕ) → first_index ≤ j → j < next_index names → is_free (world_of names facts schemas accepted) j ≡ false
-  taken j le lt = ap (λ b. not b && true) (has_key-alive names j ∙ filled.no_gap j le lt)
+  taken : (j : ℕ) → first_index ≤ j → j < next_index entities → is_free (world_of entities facts schemas accepted) j ≡ false
+  taken j le lt = ap (λ b. not b && true) (has_key-alive entities j ∙ filled.no_gap j le lt)
 
-  next_free : is_free (world_of names facts schemas accepted) (next_index names) ≡ true
-  next_free = ap (λ b. not b && true) (has_key-alive names (next_index names) ∙ ap is_some (find-above names (next_index names) filled.names_below))
+  next_free : is_free (world_of entities facts schemas accepted) (next_index entities) ≡ true
+  next_free = ap (λ b. not b && true) (has_key-alive entities (next_index entities) ∙ ap is_some (find-above entities (next_index entities) filled.entities_below))
 
   -- the next entity has the index after all that are given out
-  pub next_entity-room : next_index names ≤ last_index → next_entity (world_of names facts schemas accepted) ≡ Some (record { index = next_index names; generation = 0 })
+  pub next_entity-room : next_index entities ≤ last_index → next_entity (world_of entities facts schemas accepted) ≡ Some (record { index = next_index entities; generation = 0 })
   unfolding next_entity
   next_entity-room room =
-      let k : ℕ = next_index names - first_index in
+      let k : ℕ = next_index entities - first_index in
       let low = filled.low in
-      let whole : first_index + k ≡ next_index names = omega arith in
+      let whole : first_index + k ≡ next_index entities = omega arith in
       ap (option_map (λ i. record { index = i; generation = 0 }))
-      (first_passing_at (is_free (world_of names facts schemas accepted)) (last_index - first_index + 1) first_index k (λ j le lt. taken j le (omega arith)) (omega arith) (ap (is_free (world_of names facts schemas accepted)) whole ∙ next_free) ∙ ap Some whole)
+      (first_passing_at (is_free (world_of entities facts schemas accepted)) (last_index - first_index + 1) first_index k (λ j le lt. taken j le (omega arith)) (omega arith) (ap (is_free (world_of entities facts schemas accepted)) whole ∙ next_free) ∙ ap Some whole)
 
   -- none is left once the last index is given out
-  pub next_entity-none : last_index < next_index names → next_entity (world_of names facts schemas accepted) ≡ None
+  pub next_entity-none : last_index < next_index entities → next_entity (world_of entities facts schemas accepted) ≡ None
   unfolding next_entity
   next_entity-none full =
       ap (option_map (λ i. record { index = i; generation = 0 }))
-      (first_passing_none (is_free (world_of names facts schemas accepted)) (last_index - first_index + 1) first_index (λ j le lt. taken j le (omega arith)))
+      (first_passing_none (is_free (world_of entities facts schemas accepted)) (last_index - first_index + 1) first_index (λ j le lt. taken j le (omega arith)))
 
-module _ (names : Map ℕ (List ℕ)) (facts : Map Key (List ℤ)) (schemas : Map ℕ Schema) (accepted : ℕ) (filled : IsFilled names schemas) where
+module _ (entities : Entities) (facts : Map Key (List ℤ)) (schemas : Map ℕ Schema) (accepted : ℕ) (filled : IsFilled entities schemas) where
   -- an index later stands the next one
-  later : (n : List ℕ) → next_index (names ++ (next_index names, n) ∷ []) ≡ next_index names + 1
-  later n = rw length-append (omega arith)
+  later : (o : Option (List ℕ)) → next_index (entities ++ (next_index entities, o) ∷ []) ≡ next_index entities + 1
+  later o = rw length-append (omega arith)
 
-  -- a new name comes at the end
-  pub names-entity : (n : List ℕ) → with_value nat_cmp names (next_index names) n ≡ names ++ (next_index names, n) ∷ []
-  names-entity n = put-end names (next_index names) n filled.names_below
+  -- a new entity comes at the end, and so does its name
+  live-born : (o : Option (List ℕ)) → with_value nat_cmp (alive entities) (next_index entities) 0 ≡ alive (entities ++ (next_index entities, o) ∷ [])
+  live-born o =
+      put-end (alive entities) (next_index entities) 0 (IsBelow-alive entities (next_index entities) filled.entities_below)
+      ∙ sym (alive-push entities (next_index entities) o)
 
-  live-entity : (n : List ℕ) → with_value nat_cmp (alive names) (next_index names) 0 ≡ alive (names ++ (next_index names, n) ∷ [])
-  live-entity n = put-end (alive names) (next_index names) 0 (IsBelow-alive names (next_index names) filled.names_below) ∙ sym (alive-push names (next_index names) n)
+  names-born : (n : List ℕ) → with_value nat_cmp (names_in entities) (next_index entities) n ≡ names_in (entities ++ (next_index entities, Some n) ∷ [])
+  names-born n =
+      put-end (names_in entities) (next_index entities) n (IsBelow-names entities (next_index entities) filled.entities_below)
+      ∙ sym (names-named entities (next_index entities) n)
 
-  -- the world after a new entity
-  pub effect-entity : (n : List ℕ) → next_index names ≤ last_index
-      → world_of (names ++ (next_index names, n) ∷ []) facts schemas (accepted + 1) ≡ counted (effect (world_of names facts schemas accepted) (Entity n))
-  unfolding effect with_named
-  effect-entity n room =
-      (λ i. record { live = sym (live-entity n) i; facts = facts; names = sym (names-entity n) i; schemas = schemas; deletions = []; pins = []; accepted = accepted + 1 })
-      ∙ ap (λ e. counted (with_named (world_of names facts schemas accepted) n e)) (sym (next_entity-room names facts schemas accepted filled room))
-
-  -- the world after a new component
-  pub effect-component : (n : List ℕ) (fs : Schema) → next_index names ≤ last_index
-      → world_of (names ++ (next_index names, n) ∷ []) (with_value key_cmp facts (next_index names, plain component) []) (schemas ++ (next_index names, fs) ∷ []) (accepted + 1)
-      ≡ counted (effect (world_of names facts schemas accepted) (Component n fs))
-  unfolding effect with_component
-  effect-component n fs room =
+  -- the world after a new entity without a name
+  pub effect-fresh : next_index entities ≤ last_index
+      → world_of (entities ++ (next_index entities, None) ∷ []) facts schemas (accepted + 1) ≡ counted (effect (world_of entities facts schemas accepted) Fresh)
+  unfolding effect with_born
+  effect-fresh room =
       (λ i. record {
-        live = sym (live-entity n) i;
-        facts = with_value key_cmp facts (next_index names, plain component) [];
-        names = sym (names-entity n) i;
-        schemas = sym (put-end schemas (next_index names) fs filled.schemas_below) i;
+        live = sym (live-born None) i;
+        facts = facts;
+        names = names-nameless entities (next_index entities) i;
+        schemas = schemas;
         deletions = [];
         pins = [];
         accepted = accepted + 1;
-      }) ∙ ap (λ e. counted (with_component (world_of names facts schemas accepted) n fs e)) (sym (next_entity-room names facts schemas accepted filled room))
+      }) ∙ ap (λ e. counted (with_born (world_of entities facts schemas accepted) e)) (sym (next_entity-room entities facts schemas accepted filled room))
 
-  -- and the indexes stay without a gap
-  no_gap-entity : (n : List ℕ) (i : ℕ) → first_index ≤ i → i < next_index names + 1 → IsTrue (has_key nat_cmp (names ++ (next_index names, n) ∷ []) i)
-  no_gap-entity n i le lt = rw (← names-entity n) (elim (cases_lt i (next_index names)) [
-    | inl low ↦ has_key-put nat_cmp_total names (next_index names) i n (filled.no_gap i le low)
-    | inr high ↦ let same : i ≡ next_index names = omega arith in rw (find-put nat_cmp nat_cmp_total i (next_index names) n names, same, tied_itself nat_cmp_total (next_index names)) refl
+  -- after a new entity
+  pub effect-entity : (n : List ℕ) → next_index entities ≤ last_index
+      → world_of (entities ++ (next_index entities, Some n) ∷ []) facts schemas (accepted + 1) ≡ counted (effect (world_of entities facts schemas accepted) (Entity n))
+  unfolding effect with_named
+  effect-entity n room =
+      (λ i. record {
+        live = sym (live-born (Some n)) i;
+        facts = facts;
+        names = sym (names-born n) i;
+        schemas = schemas;
+        deletions = [];
+        pins = [];
+        accepted = accepted + 1;
+      }) ∙ ap (λ e. counted (with_named (world_of entities facts schemas accepted) n e)) (sym (next_entity-room entities facts schemas accepted filled room))
+
+  -- and after a new component
+  pub effect-component : (n : List ℕ) (fs : Schema) → next_index entities ≤ last_index
+      → world_of (entities ++ (next_index entities, Some n) ∷ []) (with_value key_cmp facts (next_index entities, plain component) []) (schemas ++ (next_index entities, fs) ∷ []) (accepted + 1)
+      ≡ counted (effect (world_of entities facts schemas accepted) (Component n fs))
+  unfolding effect with_component
+  effect-component n fs room =
+      (λ i. record {
+        live = sym (live-born (Some n)) i;
+        facts = with_value key_cmp facts (next_index entities, plain component) [];
+        names = sym (names-born n) i;
+        schemas = sym (put-end schemas (next_index entities) fs filled.schemas_below) i;
+        deletions = [];
+        pins = [];
+        accepted = accepted + 1;
+      }) ∙ ap (λ e. counted (with_component (world_of entities facts schemas accepted) n fs e)) (sym (next_entity-room entities facts schemas accepted filled room))
+
+  -- the indexes stay without a gap
+  no_gap-born : (o : Option (List ℕ)) (i : ℕ) → first_index ≤ i → i < next_index entities + 1 → IsTrue (has_key nat_cmp (entities ++ (next_index entities, o) ∷ []) i)
+  no_gap-born o i le lt = rw (← put-end entities (next_index entities) o filled.entities_below) (elim (cases_lt i (next_index entities)) [
+    | inl low ↦ has_key-put nat_cmp_total entities (next_index entities) i o (filled.no_gap i le low)
+    | inr high ↦ let same : i ≡ next_index entities = omega arith in rw (find-put nat_cmp nat_cmp_total i (next_index entities) o entities, same, tied_itself nat_cmp_total (next_index entities)) refl
   ])
 
-  pub IsFilled-entity : (n : List ℕ) → next_index names ≤ last_index → IsFilled (names ++ (next_index names, n) ∷ []) schemas
-  IsFilled-entity n room =
+  pub IsFilled-born : (o : Option (List ℕ)) → next_index entities ≤ last_index → IsFilled (entities ++ (next_index entities, o) ∷ []) schemas
+  IsFilled-born o room =
       let low = filled.low in
       record {
-        names_below = rw (later n) (IsBelow-push names (next_index names) n filled.names_below);
-        schemas_below = rw (later n) (IsBelow-more schemas (next_index names) (next_index names + 1) filled.schemas_below (omega arith));
-        no_gap = λ i le lt. no_gap-entity n i le (rw (later n) at lt);
-        low = rw (later n) (omega arith);
-        high = rw (later n) (omega arith);
+        entities_below = rw (later o) (IsBelow-push entities (next_index entities) o filled.entities_below);
+        schemas_below = rw (later o) (IsBelow-more schemas (next_index entities) (next_index entities + 1) filled.schemas_below (omega arith));
+        no_gap = λ i le lt. no_gap-born o i le (rw (later o) at lt);
+        low = rw (later o) (omega arith);
+        high = rw (later o) (omega arith);
       }
 
-  pub IsFilled-component : (n : List ℕ) (fs : Schema) → next_index names ≤ last_index → IsFilled (names ++ (next_index names, n) ∷ []) (schemas ++ (next_index names, fs) ∷ [])
+  pub IsFilled-component : (n : List ℕ) (fs : Schema) → next_index entities ≤ last_index → IsFilled (entities ++ (next_index entities, Some n) ∷ []) (schemas ++ (next_index entities, fs) ∷ [])
   IsFilled-component n fs room =
-      let one = IsFilled-entity n room in
+      let one = IsFilled-born (Some n) room in
       record {
-        names_below = one.names_below;
-        schemas_below = rw (later n) (IsBelow-push schemas (next_index names) fs filled.schemas_below);
+        entities_below = one.entities_below;
+        schemas_below = rw (later (Some n)) (IsBelow-push schemas (next_index entities) fs filled.schemas_below);
         no_gap = one.no_gap;
         low = one.low;
         high = one.high;

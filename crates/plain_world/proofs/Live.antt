@@ -1,16 +1,15 @@
 -- Live entities, all of generation 0, beside their names.
-use Rattle.std.proofs.Common.{◌≡◌, ℕ, zero, suc, ◌<◌, Bool, true, false, cond, ◌==◌, List, [], ◌∷◌, map, filter, filter_map, length, get_or, slice_get, Option, Some, None, is_some, if◌then◌else◌, refl, sym, ap, ◌∙◌, arith}
+use Rattle.std.proofs.Common.{◌≡◌, ℕ, zero, suc, ◌<◌, Bool, true, false, cond, ◌&&◌, [], ◌∷◌, map, length, get_or, slice_get, Option, Some, None, is_some, if◌then◌else◌, refl, sym, ap, ◌∙◌, arith}
 use Rattle.std.proofs.lemmas.Cmp.{nat_cmp_total}
 use Rattle.std.proofs.lemmas.List.Elements.{at_read}
 use Rattle.std.specs.Cmp.{tied_itself}
-use Rattle.std.specs.FinMap.{find}
+use Rattle.std.specs.FinMap.{find, is_sorted}
+use Rattle.std.specs.FinMap.Entries.{below_all}
 use Rattle.std.specs.List as listed
-use Rattle.std.specs.Option.{option_and_then, option_map, option_map_or, unwrap_or}
+use Rattle.std.specs.Option.{option_and_then, option_map}
 use Rattle.ecs_id.specs.declared.EntityId.{EntityId}
-use Rattle.std.specs.Ordering.{nat_cmp, is_eq}
-use Rattle.ecs_model.specs.Map.{Map, has_key}
-use Rattle.ecs_model.specs.Print.{handle_text}
-use Rattle.ecs_model.specs.World.{Key}
+use Rattle.std.specs.Ordering.{nat_cmp, is_eq, is_lt}
+use Rattle.ecs_model.specs.Map.{Map, IsMap, has_key}
 use Rattle.plain_world.specs.Places.{IsPlace}
 
 abbrev hit : Bool → Option ℕ → Option ℕ
@@ -30,6 +29,18 @@ module _ {X : Type 0} where
 
   pub has_key-alive : (m : Map ℕ X) (i : ℕ) → has_key nat_cmp (alive m) i ≡ has_key nat_cmp m i
   has_key-alive m i = rw (find-alive m i) (elim (has_key nat_cmp m i) as (λ b. is_some {T = ℕ} (if b then Some 0 else None) ≡ b) [ true ↦ refl | false ↦ refl ])
+
+  below-alive : (x : ℕ) (m : Map ℕ X) → below_all nat_cmp x (alive m) ≡ below_all nat_cmp x m
+  below-alive x [] = refl
+  below-alive x (e ∷ m) = ap (λ b. is_lt (nat_cmp x e.0) && b) (below-alive x m)
+
+  sorted-alive : (m : Map ℕ X) → is_sorted nat_cmp (alive m) ≡ is_sorted nat_cmp m
+  sorted-alive [] = refl
+  sorted-alive (e ∷ m) = λ i. below-alive e.0 m i && sorted-alive m i
+
+  -- in order as the live ones are
+  pub IsMap-listed : (m : Map ℕ X) → IsMap nat_cmp (alive m) → IsMap nat_cmp m
+  IsMap-listed m h = sym (sorted-alive m) ∙ h
 
   -- an entry that a scan finds is alive
   pub alive_scanned : (test : ℕ × X → Bool) (m : Map ℕ X) (e : ℕ × X) → listed.find test m ≡ Some e → find nat_cmp e.0 (alive m) ≡ Some 0
@@ -66,17 +77,11 @@ module _ {X : Type 0} where
   slice_get-alive (f ∷ m) zero e lt at = ap (λ q. Some q.0) (sym at)
   slice_get-alive (f ∷ m) (suc i) e lt at = slice_get-alive m i e (omega arith) at
 
--- the ids of an entity are as many as its facts
-pub length-ids : {X : Type 0} (m : Map Key X) (e : ℕ) → length (filter_map (λ k. if k.0 == e then Some k.1 else None) (map (λ f. f.0) m)) ≡ length (filter (λ f. (f.0).0 == e) m)
-length-ids [] e = refl
-length-ids (f ∷ m) e =
-    elim ((f.0).0 == e) as (λ b. length (listed.cons_option (if b then Some (f.0).1 else None) (filter_map (λ k. if k.0 == e then Some k.1 else None) (map (λ f. f.0) m))) ≡ length (cond b (f ∷ filter (λ f. (f.0).0 == e) m) (filter (λ f. (f.0).0 == e) m))) [
-      | true ↦ ap suc (length-ids m e)
-      | false ↦ length-ids m e
-    ]
-
--- what is printed of a live entity is its name, and of no entity nothing
-pub text_named : (m : Map ℕ (List ℕ)) (i : ℕ) (r : Option (List ℕ)) → r ≡ find nat_cmp i m
-    → unwrap_or r [] ≡ option_map_or (λ e. option_map_or (λ n. n) (find nat_cmp e.index m) (handle_text e)) (option_map {U = EntityId} (λ g. record { index = i; generation = g }) (find nat_cmp i (alive m))) []
-text_named m i None is = rw (find-alive m i, ← is) refl
-text_named m i (Some n) is = rw (find-alive m i, ← is) (rw (← is) refl)
+-- the live entity of an index
+pub entity_listed : {X : Type 0} (m : Map ℕ X) (i : ℕ) (b : Bool) → b ≡ has_key nat_cmp m i
+    → (if b then Some (record { index = i; generation = 0 }) else None) ≡ option_map {U = EntityId} (λ g. record { index = i; generation = g }) (find nat_cmp i (alive m))
+entity_listed m i b is = by b ∙ ap (option_map (λ g. record { index = i; generation = g })) (ap (λ c. if c then Some 0 else None) is ∙ sym (find-alive m i))
+  where
+    by : (b : Bool) → (if b then Some (record { index = i; generation = 0 }) else None) ≡ option_map {U = EntityId} (λ g. record { index = i; generation = g }) (if b then Some 0 else None)
+    by true = refl
+    by false = refl

@@ -1,5 +1,5 @@
 -- A map as a list in the order of its keys: what a search finds, and what is put at the place found.
-use Rattle.std.proofs.Common.{◌≡◌, ℕ, zero, suc, ◌<◌, Bool, true, false, cond, ◌&&◌, [], ◌∷◌, length, get_or, set, Some, None, is_some, Result, Ok, Err, is_ok, IfOk, IfErr, refl, sym, ap, ◌∙◌, arith, add-one}
+use Rattle.std.proofs.Common.{◌≡◌, ℕ, zero, suc, ◌<◌, Bool, true, false, cond, not, ◌&&◌, [], ◌∷◌, length, get_or, set, Some, None, is_some, Result, Ok, Err, is_ok, IfOk, IfErr, refl, sym, ap, ◌∙◌, arith, add-one}
 use Rattle.std.proofs.Math.Dec.{T}
 use Rattle.std.proofs.lemmas.Bool.{false≢true}
 use Rattle.std.proofs.lemmas.List.Sorted.{searchable_from_sorted}
@@ -8,10 +8,10 @@ use Rattle.std.specs.declared.cmp.Ordering.TheVariants.{Less, Equal, Greater}
 use Rattle.std.specs.Cmp.{IsTotalOrder, tied_itself}
 use Rattle.std.specs.FinMap.{find, put}
 use Rattle.std.specs.FinMap.Entries.{by_order, below_all, is_sorted-put, find-put}
-use Rattle.std.specs.List.{insert}
+use Rattle.std.specs.List.{insert, remove}
 use Rattle.std.specs.List.Sorted.{IsSearchInRange, IsBinarySearchResult, IsSortedBy}
 use Rattle.std.specs.Ordering.{is_lt, is_eq, ordering_reverse, eq_by_cmp}
-use Rattle.ecs_model.specs.Map.{Map, IsMap, has_key}
+use Rattle.ecs_model.specs.Map.{Map, IsMap, has_key, without}
 use Rattle.plain_world.specs.Places.{IsPlace, IsGap}
 
 pub both : (a b : Bool) → a ≡ true → b ≡ true → (a && b) ≡ true
@@ -115,15 +115,29 @@ module _ {K X : Type 0} {R : K → K → Ordering} (o : IsTotalOrder R) where
   put-place (e ∷ m) k v (suc i) h p =
       ap (λ r. by_order r ((k, v) ∷ e ∷ m) ((e.0, v) ∷ m) (e ∷ put R k v m)) (above_front e m k i h p) ∙ ap (λ l. e ∷ l) (put-place m k v i (second _ _ h) (place_tail e m k i p))
 
-  -- of two values put at one key the second stays
-  pub put-put : (m : Map K X) (k : K) (u v : X) → put R k v (put R k u m) ≡ put R k v m
-  put-put [] k u v = ap (λ r. by_order r ((k, v) ∷ (k, u) ∷ []) ((k, v) ∷ []) ((k, u) ∷ (k, v) ∷ [])) (tied_itself o k)
-  put-put (e ∷ m) k u v =
-      elim (R k e.0) as (λ r. R k e.0 ≡ r → put R k v (by_order r ((k, u) ∷ e ∷ m) ((e.0, u) ∷ m) (e ∷ put R k u m)) ≡ by_order r ((k, v) ∷ e ∷ m) ((e.0, v) ∷ m) (e ∷ put R k v m)) [
-        | Less ↦ λ q. ap (λ r. by_order r ((k, v) ∷ (k, u) ∷ e ∷ m) ((k, v) ∷ e ∷ m) ((k, u) ∷ put R k v (e ∷ m))) (tied_itself o k)
-        | Equal ↦ λ q. ap (λ r. by_order r ((k, v) ∷ (e.0, u) ∷ m) ((e.0, v) ∷ m) ((e.0, u) ∷ put R k v m)) q
-        | Greater ↦ λ q. ap (λ r. by_order r ((k, v) ∷ e ∷ put R k u m) ((e.0, v) ∷ put R k u m) (e ∷ put R k v (put R k u m))) q ∙ ap (λ l. e ∷ l) (put-put m k u v)
-      ] refl
+  -- where a gap is, nothing goes
+  pub without-gap : (m : Map K X) (k : K) (i : ℕ) → IsGap R m k i → without R m (λ q. eq_by_cmp R q k) ≡ m
+  without-gap [] k i g = refl
+  without-gap (e ∷ m) k zero g =
+      ap (λ r. cond (not (is_eq r)) (e ∷ without R m (λ q. eq_by_cmp R q k)) (without R m (λ q. eq_by_cmp R q k))) (g.above 0 e (omega arith) (omega arith))
+      ∙ ap (λ l. e ∷ l) (without-gap m k 0 (record { in_range = omega arith; below = λ j d lo hi. absurd (omega arith); above = λ j d lo hi. g.above (suc j) d (omega arith) (omega arith) }))
+  without-gap (e ∷ m) k (suc i) g =
+      ap (λ r. cond (not (is_eq r)) (e ∷ without R m (λ q. eq_by_cmp R q k)) (without R m (λ q. eq_by_cmp R q k))) (g.below 0 e (omega arith) (omega arith))
+      ∙ ap (λ l. e ∷ l) (without-gap m k i (record { in_range = omega (arith, g.in_range); below = λ j d lo hi. g.below (suc j) d (omega arith) (omega arith); above = λ j d lo hi. g.above (suc j) d (omega arith) (omega arith) }))
+
+  -- the entry of the key goes
+  pub without-place : (m : Map K X) (k : K) (i : ℕ) → IsMap R m → IsPlace m k i → without R m (λ q. eq_by_cmp R q k) ≡ remove m i
+  without-place [] k i h p = absurd (omega (arith, p.in_range))
+  without-place (e ∷ m) k zero h p =
+      ap (λ r. cond (not (is_eq r)) (e ∷ without R m (λ q. eq_by_cmp R q k)) (without R m (λ q. eq_by_cmp R q k))) (turned o k e.0 Equal (at_front e m k p))
+      ∙ without-gap m k 0 (record {
+        in_range = omega arith;
+        below = λ j d lo hi. absurd (omega arith);
+        above = λ j d lo hi. turned o k _ Less (ap (λ q. R q (get_or m j d).0) (sym (p.has_key e)) ∙ below_each e.0 m (first _ _ h) j d hi);
+      })
+  without-place (e ∷ m) k (suc i) h p =
+      ap (λ r. cond (not (is_eq r)) (e ∷ without R m (λ q. eq_by_cmp R q k)) (without R m (λ q. eq_by_cmp R q k))) (turned o k e.0 Greater (above_front e m k i h p))
+      ∙ ap (λ l. e ∷ l) (without-place m k i (second _ _ h) (place_tail e m k i p))
 
   pub IsMap-put : (m : Map K X) (k : K) (v : X) → IsMap R m → IsMap R (put R k v m)
   IsMap-put m k v h = from_T _ (is_sorted-put R o k v m (to_T _ h))

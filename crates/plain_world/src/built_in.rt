@@ -1,11 +1,11 @@
 //! The built-in entities and their facts.
 
-ghost use Rattle.std.specs.Prelude.{◌≡◌, ◌++◌, ◌<◌, ◌^◌, [], map, length, IfOk, OnOk};
+ghost use Rattle.std.specs.Prelude.{◌≡◌, ◌++◌, ◌<◌, ◌^◌, [], map, length, IfOk, OnOk, Some};
 ghost use Rattle.std.specs.List.{enumerate_from};
 ghost use Rattle.ecs_model.specs.World.{built_in_names, first_world};
 
+use crate::entities::Listed;
 use crate::facts::Stored;
-use crate::names::Named;
 use ecs_id::Id;
 use ecs_model::Value;
 use std::alloc::{AllocError, Allocator};
@@ -67,21 +67,21 @@ const ON_INSTANTIATE: u32 = 19;
 /// The last built-in index.
 pub(crate) const LAST: u32 = 22;
 
-pub(crate) fn names<A: Allocator + Copy>(alloc: A) -> Result<Vec<Named<A>, A>, AllocError>
-    ensures { IfOk result (λ v. v.items ≡ enumerate_from 1 built_in_names) }
+pub(crate) fn entities<A: Allocator + Copy>(alloc: A) -> Result<Vec<Listed<A>, A>, AllocError>
+    ensures { IfOk result (λ v. v.items ≡ enumerate_from 1 (map Some built_in_names)) }
 {
     numbered(alloc, &NAMES)
 }
 
 /// The entities of these names, with indexes from 1 on.
-fn numbered<A: Allocator + Copy>(alloc: A, names: &[&str]) -> Result<Vec<Named<A>, A>, AllocError>
+fn numbered<A: Allocator + Copy>(alloc: A, names: &[&str]) -> Result<Vec<Listed<A>, A>, AllocError>
     requires { length names.now < 2 ^ 24 }
-    ensures { IfOk result (λ v. v.items ≡ enumerate_from 1 (map (λ t. t.now) names.now)) }
+    ensures { IfOk result (λ v. v.items ≡ enumerate_from 1 (map (λ t. Some t.now) names.now)) }
 {
     let mut entities = Vec::new(alloc);
     for name in names {
         let index = entities.len() as u32 + 1;
-        entities.push(Named::new(alloc, index, name)?)?;
+        entities.push(Listed::named(alloc, index, name)?)?;
     }
     Ok(entities)
 }

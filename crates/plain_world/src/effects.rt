@@ -1,29 +1,45 @@
 //! What accepted commands do. Each makes all its growth first, and then cannot fail.
 
-ghost use Rattle.std.specs.Prelude.{◌≡◌, None, OnOk, OnErr};
-ghost use Rattle.ecs_model.specs.Command.{Add, Component, Entity, SetValue, counted, effect, reasons};
+ghost use Rattle.std.specs.Prelude.{◌≡◌, None, Some, IfOk, OnOk, OnErr};
+ghost use Rattle.ecs_model.specs.Command.{Add, Component, Entity, Fresh, Remove, SetValue, counted, effect, next_entity, reasons};
 ghost use Rattle.ecs_model.specs.Refusal.{first_reason};
 ghost use Rattle.ecs_model.specs.World.{new_value};
 
 use crate::PlainWorld;
 use crate::built_in::COMPONENT;
-use crate::facts::{put, put_new};
-use crate::names::Named;
+use crate::entities::Listed;
+use crate::facts::{put, put_new, take};
 use ecs_id::{EntityId, Id};
 use ecs_model::Value;
 use ecs_schema::Schema;
 use std::alloc::{AllocError, Allocator};
 
 impl<A: Allocator + Copy> PlainWorld<A> {
+    pub(crate) fn make_fresh(&mut self) -> Result<EntityId, AllocError>
+        requires { first_reason (reasons self.old Fresh) ≡ None }
+        ensures born { IfOk result (λ e. next_entity self.old ≡ Some e) }
+        ensures ok { OnOk result (self.new ≡ counted (effect self.old Fresh)) }
+        ensures err { OnErr result (self.new ≡ self.old) }
+    {
+        let index = self.next_index().unwrap();
+        self.entities.reserve(1)?;
+        self.entities.push_reserved(Listed::nameless(index));
+        self.accepted += 1;
+        Ok(EntityId {
+            index,
+            generation: 0,
+        })
+    }
+
     pub(crate) fn make_entity(&mut self, name: &str) -> Result<(), AllocError>
         requires { first_reason (reasons self.old (Entity name.now)) ≡ None }
         ensures ok { OnOk result (self.new ≡ counted (effect self.old (Entity name.now))) }
         ensures err { OnErr result (self.new ≡ self.old) }
     {
         let index = self.next_index().unwrap();
-        let named = Named::new(*self.names.allocator(), index, name)?;
-        self.names.reserve(1)?;
-        self.names.push_reserved(named);
+        let named = Listed::named(*self.entities.allocator(), index, name)?;
+        self.entities.reserve(1)?;
+        self.entities.push_reserved(named);
         self.accepted += 1;
         Ok(())
     }
@@ -34,11 +50,11 @@ impl<A: Allocator + Copy> PlainWorld<A> {
         ensures err { OnErr result (self.new ≡ self.old) }
     {
         let index = self.next_index().unwrap();
-        let named = Named::new(*self.names.allocator(), index, name)?;
-        self.names.reserve(1)?;
+        let named = Listed::named(*self.entities.allocator(), index, name)?;
+        self.entities.reserve(1)?;
         self.schemas.reserve(1)?;
         self.facts.reserve(1)?;
-        self.names.push_reserved(named);
+        self.entities.push_reserved(named);
         // What is known of it: it has no fault.
         let _ = schema.fields();
         self.schemas.push_reserved((index, schema));
@@ -79,6 +95,14 @@ impl<A: Allocator + Copy> PlainWorld<A> {
         put(&mut self.facts, entity.index, id, value);
         self.accepted += 1;
         Ok(())
+    }
+
+    pub(crate) fn remove_fact(&mut self, entity: EntityId, id: Id)
+        requires { first_reason (reasons self.old (Remove entity id)) ≡ None }
+        ensures { self.new ≡ counted (effect self.old (Remove entity id)) }
+    {
+        take(&mut self.facts, entity.index, id);
+        self.accepted += 1;
     }
 
     /// The value of a new fact.

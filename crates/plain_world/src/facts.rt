@@ -1,8 +1,8 @@
 //! Facts in the order of their keys.
 
-ghost use Rattle.std.specs.Prelude.{◌≡◌, ◌<◌, vec_len, vec_capacity, IfOk, IfErr, if◌then◌else◌};
-ghost use Rattle.ecs_model.specs.Map.{IsMap, has_key, with_value};
-ghost use Rattle.ecs_model.specs.World.{key_cmp};
+ghost use Rattle.std.specs.Prelude.{◌≡◌, ◌==◌, ◌<◌, filter, vec_len, vec_capacity, IfOk, IfErr, if◌then◌else◌};
+ghost use Rattle.ecs_model.specs.Map.{IsMap, has_key, with_value, without};
+ghost use Rattle.ecs_model.specs.World.{key_cmp, key_eq};
 ghost use Rattle.plain_world.specs.Places.{IsPlace, IsGap};
 
 use ecs_id::Id;
@@ -12,7 +12,7 @@ use std::marker::Model;
 
 /// A fact: an entity, by its index, holds an id, with a value.
 #[derive(Clone, Copy)]
-pub(crate) struct Stored {
+pub struct Stored {
     entity: u32,
     id: Id,
     value: Value,
@@ -42,10 +42,18 @@ impl Stored {
         (self.entity, self.id)
     }
 
-    pub(crate) fn value(&self) -> &Value
-        ensures { result.now ≡ self.now.1 }
+    /// The id that is held.
+    pub fn id(&self) -> Id
+        ensures { result ≡ (self.now.0).1 }
     {
-        &self.value
+        self.id
+    }
+
+    /// The value: without numbers where the id has no type.
+    pub fn value(&self) -> Value
+        ensures { result ≡ self.now.1 }
+    {
+        self.value
     }
 }
 
@@ -84,4 +92,27 @@ pub(crate) fn put_new<A: Allocator>(facts: &mut Vec<Stored, A>, entity: u32, id:
         Ok(_) => {}
         Err(at) => facts.insert(at, fact).unwrap(),
     }
+}
+
+/// Takes the fact of a key away, if it is there.
+pub(crate) fn take<A: Allocator>(facts: &mut Vec<Stored, A>, entity: u32, id: Id)
+    requires { IsMap key_cmp facts.old.items }
+    ensures { facts.new.items ≡ without key_cmp facts.old.items (λ k. key_eq k (entity, id)) }
+{
+    match place_of(facts, entity, id) {
+        Ok(at) => {
+            facts.remove(at);
+        }
+        Err(_) => {}
+    }
+}
+
+/// The facts of an entity, in the order of ids.
+pub(crate) fn of_entity(facts: &[Stored], entity: u32) -> &[Stored]
+    requires { IsMap key_cmp facts.now }
+    ensures { result.now ≡ filter (λ f. (f.0).0 == entity) facts.now }
+{
+    let start = facts.partition_point(|fact| fact.key().0 < entity);
+    let end = facts.partition_point(|fact| fact.key().0 <= entity);
+    &facts[start..end]
 }

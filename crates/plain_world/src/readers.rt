@@ -4,13 +4,13 @@ ghost use Rattle.std.specs.Prelude.{IfSome, option_map, ◌≡◌, ◌<◌, leng
 ghost use Rattle.std.specs.Option.{option_copied};
 ghost use Rattle.std.specs.Ordering.{nat_cmp};
 ghost use Rattle.ecs_id.specs.Id.{IsIndex};
-ghost use Rattle.ecs_model.specs.Print.{index_text};
 ghost use Rattle.ecs_model.specs.Map.{value_at};
 ghost use Rattle.ecs_model.specs.Session.{by_name, found};
-ghost use Rattle.ecs_model.specs.World.{entities, holds, ids_of, is_alive, is_live, name_of, named, type_of_id, value_of};
+ghost use Rattle.ecs_model.specs.World.{entities, entity_at, holds, ids_of, is_alive, is_live, name_of, named, type_of_id, value_of};
+ghost use Rattle.plain_world.specs.Plain.{held_by, ids_and_values};
 
 use crate::built_in::PAIR_IS_TAG;
-use crate::{PlainWorld, facts, names};
+use crate::{PlainWorld, Stored, entities, facts};
 use ecs_id::{EntityId, Id};
 use ecs_model::Value;
 use ecs_schema::Schema;
@@ -23,7 +23,7 @@ impl<A: Allocator> PlainWorld<A> {
         ensures name { option_map (λ e. e.index) result ≡ named self.now name.now }
         ensures index { IfSome result (λ e. IsIndex e.index) }
     {
-        let _ = &self.names;
+        let _ = &self.entities;
         let index = self.index_of(name)?;
         Some(EntityId {
             index,
@@ -39,8 +39,8 @@ impl<A: Allocator> PlainWorld<A> {
     }
 
     /// The value of a fact: without numbers where the id has no type.
-    pub fn value(&self, entity: u32, id: Id) -> Option<&Value>
-        ensures { option_copied result ≡ value_of self.now entity id }
+    pub fn value(&self, entity: u32, id: Id) -> Option<Value>
+        ensures { result ≡ value_of self.now entity id }
     {
         match facts::place_of(&self.facts, entity, id) {
             Ok(at) => Some(self.facts[at].value()),
@@ -48,42 +48,54 @@ impl<A: Allocator> PlainWorld<A> {
         }
     }
 
-    /// The name of an entity, by its index.
+    /// The facts of an entity, by its index, in the order of ids: each id that it holds, with its value.
+    pub fn facts_of(&self, entity: u32) -> &[Stored]
+        ensures { ids_and_values result.now ≡ held_by self.now entity }
+    {
+        facts::of_entity(&self.facts, entity)
+    }
+
+    /// The name of an entity, by its index, if it has one.
     pub fn name_of(&self, entity: u32) -> Option<&str>
         ensures { option_copied result ≡ name_of self.now entity }
     {
-        match names::place_of(&self.names, entity) {
-            Ok(at) => Some(self.names[at].name()),
+        match entities::place_of(&self.entities, entity) {
+            Ok(at) => self.entities[at].name(),
             Err(_) => None,
         }
     }
 
-    /// What is printed of the live entity of an index: its name, and nothing where none lives.
-    pub fn text_of(&self, index: u32) -> &str
-        ensures { result.now ≡ index_text self.now index }
+    /// The live entity of an index.
+    pub fn at(&self, index: u32) -> Option<EntityId>
+        ensures { result ≡ entity_at self.now index }
     {
-        let _ = &self.names;
-        match self.name_of(index) {
-            None => "",
-            Some(name) => name,
+        match entities::place_of(&self.entities, index) {
+            Ok(at) => Some(self.entities[at].entity()),
+            Err(_) => None,
         }
+    }
+
+    /// Whether this very entity is alive.
+    pub fn is_alive(&self, entity: EntityId) -> bool
+        ensures { result ≡ is_alive self.now entity }
+    {
+        self.is_live(entity.index) && entity.generation == 0
     }
 
     /// How many entities live.
     pub fn entity_count(&self) -> usize
         ensures { result ≡ length (entities self.now) }
     {
-        self.names.len()
+        self.entities.len()
     }
 
-    /// The live entity at a place in the order of indexes, counted from 0, and its name.
-    pub fn nth(&self, place: usize) -> (u32, &str)
+    /// The live entity at a place in the order of indexes, counted from 0.
+    pub fn nth(&self, place: usize) -> EntityId
         requires { place < length (entities self.now) }
-        ensures entity { slice_get (entities self.now) place ≡ Some result.0 }
-        ensures name { name_of self.now result.0 ≡ Some result.1.now }
+        ensures index { slice_get (entities self.now) place ≡ Some result.index }
+        ensures alive { entity_at self.now result.index ≡ Some result }
     {
-        let named = &self.names[place];
-        (named.index(), named.name())
+        self.entities[place].entity()
     }
 
     /// Whether the facts of an id have values.
@@ -121,30 +133,21 @@ impl<A: Allocator> PlainWorld<A> {
     pub(crate) fn index_of(&self, name: &str) -> Option<u32>
         ensures { result ≡ named self.now name.now }
     {
-        let named = self.names.iter().find(|named| named.name() == name)?;
-        Some(named.index())
+        let listed = entities::find(&self.entities, name)?;
+        Some(listed.index())
     }
 
     pub(crate) fn is_live(&self, index: u32) -> bool
         ensures live { result ≡ is_live self.now index }
         ensures generation { value_at nat_cmp self.now.live index ≡ (if result then Some 0 else None) }
     {
-        names::place_of(&self.names, index).is_ok()
-    }
-
-    pub(crate) fn is_alive(&self, entity: EntityId) -> bool
-        ensures { result ≡ is_alive self.now entity }
-    {
-        self.is_live(entity.index) && entity.generation == 0
+        entities::place_of(&self.entities, index).is_ok()
     }
 
     /// How many ids an entity holds.
     pub(crate) fn count_ids(&self, entity: u32) -> usize
         ensures { result ≡ length (ids_of self.now entity) }
     {
-        self.facts
-            .iter()
-            .filter(|fact| fact.key().0 == entity)
-            .count()
+        facts::of_entity(&self.facts, entity).len()
     }
 }

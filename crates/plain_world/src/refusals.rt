@@ -2,8 +2,8 @@
 
 ghost use Rattle.std.specs.Prelude.{◌≡◌, ◌++◌, ◌||◌, option_map, IsTrue};
 ghost use Rattle.ecs_model.specs.Changes.{facts_after_add};
-ghost use Rattle.ecs_model.specs.Command.{Add, SetValue, add_reasons, birth_reasons, is_crowded, is_dead, is_spent, name_reasons, next_entity, reasons, value_reasons, with_facts};
-ghost use Rattle.ecs_model.specs.Provisional.{is_not_yet_added};
+ghost use Rattle.ecs_model.specs.Command.{Add, Remove, SetValue, add_reasons, birth_reasons, is_crowded, is_dead, is_spent, name_reasons, next_entity, reasons, value_reasons, with_facts};
+ghost use Rattle.ecs_model.specs.Provisional.{is_not_yet_changed};
 ghost use Rattle.ecs_model.specs.Refusal.{first_reason};
 ghost use Rattle.ecs_model.specs.World.{is_built_in, is_live, type_of_id};
 
@@ -21,6 +21,17 @@ const LAST_INDEX: u32 = 0xff_ffff;
 const MOST_IDS: usize = 64;
 
 impl<A: Allocator> PlainWorld<A> {
+    /// Why no entity is made.
+    pub(crate) fn birth_refusal(&self) -> Option<Refusal>
+        ensures { result ≡ first_reason (birth_reasons self.now) }
+    {
+        if self.next_index().is_none() || self.is_spent() {
+            Some(Refusal::Full)
+        } else {
+            None
+        }
+    }
+
     /// Why no entity is made with this name.
     pub(crate) fn name_refusal(&self, name: &str) -> Option<Refusal>
         ensures { result ≡ first_reason (name_reasons self.now name.now ++ birth_reasons self.now) }
@@ -29,10 +40,8 @@ impl<A: Allocator> PlainWorld<A> {
             Some(Refusal::BadName)
         } else if self.index_of(name).is_some() {
             Some(Refusal::NameTaken)
-        } else if self.next_index().is_none() || self.is_spent() {
-            Some(Refusal::Full)
         } else {
-            None
+            self.birth_refusal()
         }
     }
 
@@ -42,7 +51,7 @@ impl<A: Allocator> PlainWorld<A> {
     {
         if self.is_dead(entity, id) {
             Some(Refusal::Dead)
-        } else if adds_to_built_in(entity, id) {
+        } else if changes_built_in(entity, id) {
             Some(Refusal::BuiltIn)
         } else {
             self.growth_refusal(entity, id)
@@ -55,13 +64,28 @@ impl<A: Allocator> PlainWorld<A> {
     {
         if self.is_dead(entity, id) {
             Some(Refusal::Dead)
-        } else if adds_to_built_in(entity, id) {
+        } else if changes_built_in(entity, id) {
             Some(Refusal::BuiltIn)
         } else {
             match self.value_refusal(id, values) {
                 None => self.growth_refusal(entity, id),
                 refusal => refusal,
             }
+        }
+    }
+
+    /// Why an id is not taken away.
+    pub(crate) fn remove_refusal(&self, entity: EntityId, id: Id) -> Option<Refusal>
+        ensures { result ≡ first_reason (reasons self.now (Remove entity id)) }
+    {
+        if self.is_dead(entity, id) {
+            Some(Refusal::Dead)
+        } else if changes_built_in(entity, id) {
+            Some(Refusal::BuiltIn)
+        } else if self.is_spent() {
+            Some(Refusal::Full)
+        } else {
+            None
         }
     }
 
@@ -98,7 +122,7 @@ impl<A: Allocator> PlainWorld<A> {
         requires { IsTrue (is_live self.now entity) }
         ensures { result ≡ is_crowded (with_facts self.now (facts_after_add self.now entity id)) }
     {
-        let _ = &self.names;
+        let _ = &self.entities;
         if self.has(entity, id) {
             return false;
         }
@@ -124,14 +148,14 @@ impl<A: Allocator> PlainWorld<A> {
     pub(crate) fn next_index(&self) -> Option<u32>
         ensures { result ≡ option_map (λ e. e.index) (next_entity self.now) }
     {
-        let next = self.names.len() as u32 + 42;
+        let next = self.entities.len() as u32 + 42;
         if next <= LAST_INDEX { Some(next) } else { None }
     }
 }
 
-/// Whether a built-in entity would get a fact, or an id that mentions one would come.
-fn adds_to_built_in(entity: EntityId, id: Id) -> bool
-    ensures { result ≡ (is_built_in entity.index || is_not_yet_added id) }
+/// Whether a fact of a built-in entity would change, or one with an id that mentions a built-in entity.
+fn changes_built_in(entity: EntityId, id: Id) -> bool
+    ensures { result ≡ (is_built_in entity.index || is_not_yet_changed id) }
 {
     is_built_in(entity.index) || is_built_in(id.first()) || id.second().is_some_and(is_built_in)
 }

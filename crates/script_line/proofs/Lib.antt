@@ -3,3 +3,4 @@ mod Cuts
 mod WordLists
 mod Forms
 mod Digits
+mod Named

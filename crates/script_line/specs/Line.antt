@@ -1,27 +1,53 @@
 -- What a line that was read asks, as a form.
 use Rattle.std.specs.Prelude.{ℕ, List, map}
 use denote.Ref.{Bor}
+use Rattle.ecs_id.specs.declared.EntityId.{EntityId}
 use Rattle.ecs_model.specs.declared.Kind.{Kind}
 use Rattle.ecs_model.specs.Schema.{Field}
-use Rattle.ecs_model.specs.Session.{by_name, plain_of, MakeEntity, AddTo, SetIn}
+use Rattle.ecs_model.specs.Session.{EntityRef, by_name, by_handle, IdRef, plain_of, pair_of, MakeFresh, MakeEntity, AddTo, SetIn, RemoveFrom}
 use Rattle.ecs_model.specs.Script.{Form, LongLine, BadLine, Obey, Define, Ask, form_or_bad, forms, looked_up, word_and_rest}
 use Rattle.ecs_model.specs.Script
 use Rattle.script_line.specs.declared.Line.{Line}
-use Rattle.script_line.specs.declared.Line.TheVariants.{Nothing, TooLong, Bad, Entity, Component, Add, Set, Query}
+use Rattle.script_line.specs.declared.Line.TheVariants.{Nothing, TooLong, Bad, New, Entity, Component, Add, Set, Remove, Show, Query}
+use Rattle.script_line.specs.declared.references.Reference.{Reference}
+use Rattle.script_line.specs.declared.references.Reference.TheVariants.{Name, Handle}
+use Rattle.script_line.specs.declared.references.IdReference.{IdReference}
+use Rattle.script_line.specs.declared.references.IdReference.TheVariants.{Plain, Pair}
 
 -- a field that was read
 abbrev pub seen_field : Bor (List ℕ) × Kind → Field
 seen_field f = record { name = (f.0).now; kind = f.1 }
+
+-- a handle that was read
+abbrev pub seen_handle : EntityId → EntityRef
+seen_handle e = by_handle e.index e.generation
+
+-- a reference that was read
+abbrev pub seen_reference : Reference → EntityRef
+seen_reference (Name name) = by_name name.now
+seen_reference (Handle e) = seen_handle e
+
+-- an id that was read
+abbrev pub seen_id : IdReference → IdRef
+seen_id (Plain r) = plain_of (seen_reference r)
+seen_id (Pair r t) = pair_of (seen_reference r) (seen_reference t)
+
+-- an id that was read, and what stands behind it
+abbrev pub seen_id_and_rest : IdReference × Bor (List ℕ) → IdRef × List ℕ
+seen_id_and_rest p = (seen_id p.0, (p.1).now)
 
 -- the form of a line that was read
 abbrev pub seen : {A : Type 0} → Line A → Form
 seen Nothing = Script.Nothing
 seen TooLong = LongLine
 seen Bad = BadLine
+seen New = Obey MakeFresh
 seen (Entity name) = Obey (MakeEntity name.now)
 seen (Component name fields) = Define name.now (map seen_field fields.items)
-seen (Add entity id) = Obey (AddTo (by_name entity.now) (plain_of (by_name id.now)))
-seen (Set entity id values) = Obey (SetIn (by_name entity.now) (plain_of (by_name id.now)) values.items)
+seen (Add entity id) = Obey (AddTo (seen_reference entity) (seen_id id))
+seen (Set entity id values) = Obey (SetIn (seen_reference entity) (seen_id id) values.items)
+seen (Remove entity id) = Obey (RemoveFrom (seen_reference entity) (seen_id id))
+seen (Show entity) = Script.Show (seen_reference entity)
 seen (Query text) = Ask text.now
 
 -- what a line of text asks by its first word, if it says anything

@@ -9,11 +9,14 @@ ghost use Rattle.script_line.specs.Line.{seen};
 
 mod blanks;
 mod line_forms;
+mod numbers;
+mod references;
 #[cfg(test)]
 mod tests;
 mod words;
 
 use ecs_model::Kind;
+pub use references::{IdReference, Reference};
 use std::alloc::{AllocError, Allocator, Global};
 use std::str;
 
@@ -30,6 +33,8 @@ pub enum Line<'a, A: Allocator = Global> {
     TooLong,
     /// The line is no UTF-8, or it fits no form.
     Bad,
+    /// `new`: a new entity without a name.
+    New,
     /// `entity N`: a new entity. The name is any word.
     Entity {
         name: &'a str,
@@ -41,14 +46,23 @@ pub enum Line<'a, A: Allocator = Global> {
     },
     /// `add E ID`: an entity gets a fact.
     Add {
-        entity: &'a str,
-        id: &'a str,
+        entity: Reference<'a>,
+        id: IdReference<'a>,
     },
     /// `set E ID v ..`: a fact of an entity gets these values, of which there is at least one.
     Set {
-        entity: &'a str,
-        id: &'a str,
+        entity: Reference<'a>,
+        id: IdReference<'a>,
         values: Vec<i128, A>,
+    },
+    /// `remove E ID`: a fact of an entity goes.
+    Remove {
+        entity: Reference<'a>,
+        id: IdReference<'a>,
+    },
+    /// `show E`: the facts of an entity are told.
+    Show {
+        entity: Reference<'a>,
     },
     /// `query TEXT`: the rows of a query. The text has no blanks at its ends, and may be empty.
     Query {

@@ -1,21 +1,22 @@
 //! The forms of lines.
 ghost use Rattle.std.specs.Prelude.{◌≡◌, ℕ, List, map, IfOk, option_map};
 ghost use Rattle.ecs_model.specs.Text.{trim_front, words};
-ghost use Rattle.ecs_model.specs.Script.{Form, Obey, all_of, component_line, fact_line, field_of_word, form_or_bad, id_and_rest, nothing_more, one_word, says_nothing, set_line, value_of_word};
-ghost use Rattle.ecs_model.specs.Session.{EntityRef, IdRef, AddTo, MakeEntity, plain_of, by_name};
-ghost use Rattle.script_line.specs.Line.{by_first_word, seen, seen_field};
+ghost use Rattle.ecs_model.specs.Script.{Form, Obey, Show, all_of, component_line, entity_line, fact_line, field_of_word, form_or_bad, nothing_more, one_word, says_nothing, set_line, value_of_word};
+ghost use Rattle.ecs_model.specs.Session.{EntityRef, IdRef, AddTo, MakeEntity, MakeFresh, RemoveFrom};
+ghost use Rattle.script_line.specs.Line.{by_first_word, seen, seen_field, seen_id, seen_reference};
 
-use crate::Line;
 use crate::blanks::{blanks_at_front, next_word, trim_front, trimmed, word_and_rest};
-use crate::words::{field_of_word, reference_of, value_of_word};
+use crate::references::{id_and_rest, reference_of};
+use crate::words::{field_of_word, value_of_word};
+use crate::{IdReference, Line, Reference};
 use ecs_model::Kind;
 use std::alloc::{AllocError, Allocator};
 
 /// The front of a line about a fact: an entity, an id, and what stands behind them.
 #[derive(Clone, Copy)]
 struct Fact<'a> {
-    entity: &'a str,
-    id: &'a str,
+    entity: Reference<'a>,
+    id: IdReference<'a>,
     behind: &'a str,
 }
 
@@ -39,10 +40,13 @@ pub(crate) fn read_form<'a, A: Allocator + Copy>(
 {
     let (word, rest) = word_and_rest(line);
     match word {
+        "new" => Ok(new_line(rest)),
         "entity" => Ok(entity_line(rest)),
         "component" => component_line(alloc, rest),
         "add" => Ok(add_line(rest)),
         "set" => set_line(alloc, rest),
+        "remove" => Ok(remove_line(rest)),
+        "show" => Ok(show_line(rest)),
         "query" => Ok(Line::Query {
             text: trimmed(rest),
         }),
@@ -50,13 +54,43 @@ pub(crate) fn read_form<'a, A: Allocator + Copy>(
     }
 }
 
+/// Reads what stands behind `new`: nothing.
+fn new_line<'a, A: Allocator>(rest: &'a str) -> Line<'a, A>
+    ensures { seen result ≡ nothing_more (Obey MakeFresh) (words rest.now) }
+{
+    match next_word(rest) {
+        None => Line::New,
+        Some(_) => Line::Bad,
+    }
+}
+
 /// Reads what stands behind `entity`: one word.
 fn entity_line<'a, A: Allocator>(rest: &'a str) -> Line<'a, A>
     ensures { seen result ≡ one_word (λ n. Obey (MakeEntity n)) (words rest.now) }
 {
-    match next_word(rest) {
-        Some((name, behind)) if next_word(behind).is_none() => Line::Entity { name },
-        _ => Line::Bad,
+    match only_word(rest) {
+        Some(name) => Line::Entity { name },
+        None => Line::Bad,
+    }
+}
+
+/// Reads what stands behind `show`: an entity.
+fn show_line<'a, A: Allocator>(rest: &'a str) -> Line<'a, A>
+    ensures { seen result ≡ entity_line Show rest.now }
+{
+    match only_word(rest).and_then(|word| reference_of(word)) {
+        Some(entity) => Line::Show { entity },
+        None => Line::Bad,
+    }
+}
+
+/// The word of a text of one word.
+fn only_word(text: &str) -> Option<&str>
+    ensures { (f : List ℕ → Form) → one_word f (words text.now) ≡ form_or_bad (λ w. f w.now) result }
+{
+    match next_word(text) {
+        Some((word, behind)) if next_word(behind).is_none() => Some(word),
+        _ => None,
     }
 }
 
@@ -96,7 +130,7 @@ fn fields_of<'a, A: Allocator>(alloc: A, text: &'a str) -> Result<Option<Fields<
 /// Reads an entity and an id, and what stands behind them.
 fn fact_of(text: &str) -> Option<Fact<'_>>
     ensures { (f : EntityRef → IdRef → List (List ℕ) → Form) → fact_line f text.now
-        ≡ form_or_bad (λ t. f (by_name t.entity.now) (plain_of (by_name t.id.now)) (words t.behind.now)) result }
+        ≡ form_or_bad (λ t. f (seen_reference t.entity) (seen_id t.id) (words t.behind.now)) result }
 {
     let (entity, behind) = word_and_rest(text);
     let entity = reference_of(entity)?;
@@ -104,24 +138,41 @@ fn fact_of(text: &str) -> Option<Fact<'_>>
     Some(Fact { entity, id, behind })
 }
 
-/// Reads an id at the front of a text, and what stands behind it.
-fn id_and_rest(text: &str) -> Option<(&str, &str)>
-    ensures { option_map (λ p. (plain_of (by_name p.0.now), p.1.now)) result ≡ id_and_rest text.now }
+/// Reads an entity and an id behind which no word stands.
+fn bare_fact(text: &str) -> Option<Fact<'_>>
+    ensures { (f : EntityRef → IdRef → Form) → fact_line (λ r i. nothing_more (f r i)) text.now
+        ≡ form_or_bad (λ t. f (seen_reference t.entity) (seen_id t.id)) result }
 {
-    let (word, rest) = word_and_rest(text);
-    Some((reference_of(word)?, rest))
+    let fact = fact_of(text)?;
+    match next_word(fact.behind) {
+        None => Some(fact),
+        Some(_) => None,
+    }
 }
 
 /// Reads what stands behind `add`: an entity and an id.
 fn add_line<'a, A: Allocator>(rest: &'a str) -> Line<'a, A>
     ensures { seen result ≡ fact_line (λ r i. nothing_more (Obey (AddTo r i))) rest.now }
 {
-    match fact_of(rest) {
-        Some(fact) if next_word(fact.behind).is_none() => Line::Add {
+    match bare_fact(rest) {
+        Some(fact) => Line::Add {
             entity: fact.entity,
             id: fact.id,
         },
-        _ => Line::Bad,
+        None => Line::Bad,
+    }
+}
+
+/// Reads what stands behind `remove`: an entity and an id.
+fn remove_line<'a, A: Allocator>(rest: &'a str) -> Line<'a, A>
+    ensures { seen result ≡ fact_line (λ r i. nothing_more (Obey (RemoveFrom r i))) rest.now }
+{
+    match bare_fact(rest) {
+        Some(fact) => Line::Remove {
+            entity: fact.entity,
+            id: fact.id,
+        },
+        None => Line::Bad,
     }
 }
 

@@ -33,27 +33,96 @@ fn lines_have_their_forms(rt: HostRuntime) -> Result<(), Fail> {
         ("component P x", "Bad"),
         ("component P x:i8 y:f32", "Bad"),
         ("component", "Bad"),
-        ("add E ID", "Add { entity: \"E\", id: \"ID\" }"),
-        ("add E (A,B)", "Bad"),
-        ("add #1.0 X", "Bad"),
+        ("new \t", "New"),
+        ("new Sun", "Bad"),
+        (
+            "add E ID",
+            "Add { entity: Name(\"E\"), id: Plain(Name(\"ID\")) }",
+        ),
         ("add E", "Bad"),
         ("add E A B", "Bad"),
         (
+            "remove E ID ",
+            "Remove { entity: Name(\"E\"), id: Plain(Name(\"ID\")) }",
+        ),
+        ("remove E ID 1", "Bad"),
+        ("show E", "Show { entity: Name(\"E\") }"),
+        ("show", "Bad"),
+        ("show (A,B)", "Bad"),
+        ("show E F", "Bad"),
+        (
             "set E P 1 -2",
-            "Set { entity: \"E\", id: \"P\", values: [1, -2] }",
+            "Set { entity: Name(\"E\"), id: Plain(Name(\"P\")), values: [1, -2] }",
         ),
         ("set E P", "Bad"),
         ("set E P -", "Bad"),
         ("set E P +1", "Bad"),
         (
             "set E P -99999999999999999999999999999999999999",
-            "Set { entity: \"E\", id: \"P\", values: [-99999999999999999999999999999999999999] }",
+            "Set { entity: Name(\"E\"), id: Plain(Name(\"P\")), values: [-99999999999999999999999999999999999999] }",
         ),
         ("set E P 000000000000000000000000000000000000007", "Bad"),
         ("query \t a, b \r", "Query { text: \"a, b\" }"),
         ("query", "Query { text: \"\" }"),
         ("query(A,B)", "Bad"),
         ("fly x", "Bad"),
+    ] {
+        let told = told(rt.alloc(), line.as_bytes())?;
+        assert_eq!(rt; told.as_str(), form, "of {line:?}");
+    }
+    Ok(())
+}
+
+#[test]
+fn entities_have_names_or_handles(rt: HostRuntime) -> Result<(), Fail> {
+    for (line, form) in [
+        (
+            "show #7.65535",
+            "Show { entity: Handle(EntityId { index: 7, generation: 65535 }) }",
+        ),
+        (
+            "show #999999999.00000",
+            "Show { entity: Handle(EntityId { index: 999999999, generation: 0 }) }",
+        ),
+        ("show #7.65536", "Bad"),
+        ("show #0000000007.0", "Bad"),
+        ("show #7.000000", "Bad"),
+        ("show #7", "Bad"),
+        ("show #7.", "Bad"),
+        ("show #.0", "Bad"),
+        ("show #7.0.0", "Bad"),
+        ("show #", "Bad"),
+        ("show A#7.0", "Show { entity: Name(\"A#7.0\") }"),
+        ("entity #7", "Entity { name: \"#7\" }"),
+    ] {
+        let told = told(rt.alloc(), line.as_bytes())?;
+        assert_eq!(rt; told.as_str(), form, "of {line:?}");
+    }
+    Ok(())
+}
+
+#[test]
+fn ids_may_be_pairs(rt: HostRuntime) -> Result<(), Fail> {
+    let pair =
+        "Add { entity: Name(\"E\"), id: Pair { relationship: Name(\"R\"), target: Name(\"T\") } }";
+    for (line, form) in [
+        ("add E (R,T)", pair),
+        ("add E(R,T)", "Bad"),
+        ("add E  ( R\t,  T )\r", pair),
+        (
+            "set #1.0 (#2.0,T) -3",
+            "Set { entity: Handle(EntityId { index: 1, generation: 0 }), id: Pair { relationship: Handle(EntityId { index: 2, generation: 0 }), target: Name(\"T\") }, values: [-3] }",
+        ),
+        ("set E (R,T)3", "Bad"),
+        ("add E (R,T", "Bad"),
+        ("add E R,T)", "Bad"),
+        ("add E (R)", "Bad"),
+        ("add E (R,)", "Bad"),
+        ("add E (,T)", "Bad"),
+        ("add E (R,S,T)", "Bad"),
+        ("add E (R S,T)", "Bad"),
+        ("add E ((R,S),T)", "Bad"),
+        ("add E (R,T) x", "Bad"),
     ] {
         let told = told(rt.alloc(), line.as_bytes())?;
         assert_eq!(rt; told.as_str(), form, "of {line:?}");

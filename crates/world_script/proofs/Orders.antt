@@ -9,19 +9,18 @@ use Rattle.ecs_model.specs.declared.faults.CommandError.{CommandError}
 use Rattle.ecs_model.specs.declared.faults.CommandError.TheVariants.{Refused, Memory}
 use Rattle.ecs_model.specs.declared.faults.Fault.{Fault}
 use Rattle.ecs_model.specs.declared.faults.Refusal.{Refusal}
-use Rattle.ecs_model.specs.declared.faults.Refusal.TheVariants.{UnknownName}
 use Rattle.ecs_model.specs.declared.faults.SchemaFault.{SchemaFault}
 use Rattle.ecs_model.specs.Schema.{Schema, schema_fault}
 use Rattle.ecs_model.specs.Refusal.{refusal_text, schema_fault_text}
 use Rattle.ecs_model.specs.Print.{fault_text}
 use Rattle.ecs_model.specs.World.{WorldState}
-use Rattle.ecs_model.specs.Command.{Command, Changed, Entity, Component, Add, SetValue, step, AnswersStep}
+use Rattle.ecs_model.specs.Command.{Command, Changed, Fresh, Entity, Component, Add, SetValue, Remove, step, SaysNothing, IsBorn, AnswersStep}
 use Rattle.ecs_model.specs.Query.{Query, query_of}
-use Rattle.ecs_model.specs.Session.{SessionState, by_name, plain_of, session_answer, world_order, apply, MakeEntity, AddTo, SetIn}
-use Rattle.ecs_model.specs.Script.{Form, Nothing, LongLine, BadLine, Obey, Define, Ask, form_of}
-use Rattle.ecs_model.specs.Output.{effect_of, order_effect, define_effect, ask_effect, refused_line, accepted_line, rows_text}
+use Rattle.ecs_model.specs.Session.{SessionState, EntityRef, IdRef, Order, MakeFresh, MakeEntity, MakeComponent, AddTo, SetIn, RemoveFrom, entity_found, with_both, session_answer, world_order, apply}
+use Rattle.ecs_model.specs.Script.{Form, Nothing, LongLine, BadLine, Obey, Define, Show, Ask, form_of}
+use Rattle.ecs_model.specs.Output.{effect_of, own_text, order_effect, define_effect, show_effect, ask_effect, refused_line, accepted_line, rows_text, show_text}
 use Rattle.world_script.specs.Run.{IsDone, line_effect}
-use Rattle.world_script.specs.Told.{session_of, TellsRefusal, TellsNothing, TellsAnswer, FindsBoth}
+use Rattle.world_script.specs.Told.{session_of, TellsRefusal, TellsNothing, TellsAnswer, TellsBorn, FindsBoth}
 
 -- a line that was refused
 pub IsDone-refused : (s : SessionState) (n : ℕ) (kind before after : List ℕ) (refused : Bool) → TellsRefusal n kind before after refused → IsDone (refused_line s n kind) s before after refused
@@ -31,67 +30,67 @@ IsDone-refused s n kind before after refused told = record { session_left = refl
 pub IsDone-nothing : (s : SessionState) (before after : List ℕ) (refused : Bool) → TellsNothing before after refused → IsDone (accepted_line s []) s before after refused
 IsDone-nothing s before after refused told = record { session_left = refl; printed = told.0 ∙ sym (append-nil before); answered = told.1 }
 
-module _ {T : Type 0} where
+-- what says nothing prints nothing
+abbrev pub IsSilent : Order → Type 0
+IsSilent order = (born : Option EntityId) → own_text order born ≡ []
+
+module _ (w v : WorldState) (n : ℕ) (before after : List ℕ) (refused : Bool) where
   -- a command that the world has answered
-  pub IsDone-stepped : (answer : Result T CommandError) (stepped : Result (WorldState × Changed) Refusal) (w v : WorldState) (n : ℕ) (before after : List ℕ) (refused : Bool)
-      → AnswersStep answer stepped w v → TellsAnswer answer n before after refused
-      → IsDone (order_effect (session_of w) n (session_answer stepped)) (session_of v) before after refused
-  IsDone-stepped (Ok done) (Ok a) w v n before after refused answered told =
-      record { session_left = ap session_of answered; printed = told.0 ∙ sym (append-nil before); answered = told.1 }
-  IsDone-stepped (Ok done) (Err r) w v n before after refused answered told = absurd answered
-  IsDone-stepped (Err (Refused reason)) stepped w v n before after refused answered told =
-      let P : Result (WorldState × Changed) Refusal → Type 0 = λ st. IsDone (order_effect (session_of w) n (session_answer st)) (session_of v) before after refused in
+  IsDone-stepped : (order : Order) → IsSilent order → (answer : Result (Unit {0}) CommandError) (stepped : Result (WorldState × Changed) Refusal)
+      → AnswersStep SaysNothing answer stepped w v → TellsAnswer answer n before after refused
+      → IsDone (order_effect (session_of w) n order (session_answer stepped)) (session_of v) before after refused
+  IsDone-stepped order silent (Ok done) (Ok a) answered told =
+      record { session_left = ap session_of answered.0; printed = told.0 ∙ sym (append-nil before) ∙ ap (λ l. before ++ l) (sym (silent (a.1).born)); answered = told.1 }
+  IsDone-stepped order silent (Ok done) (Err r) answered told = absurd answered
+  IsDone-stepped order silent (Err (Refused reason)) stepped answered told =
+      let P : Result (WorldState × Changed) Refusal → Type 0 = λ st. IsDone (order_effect (session_of w) n order (session_answer st)) (session_of v) before after refused in
       subst P (sym answered.0) (record { session_left = ap session_of answered.1; printed = told.0; answered = told.1 })
-  IsDone-stepped (Err Memory) stepped w v n before after refused answered told = absurd told
+  IsDone-stepped order silent (Err Memory) stepped answered told = absurd told
+
+  -- a new entity without a name
+  IsDone-born : (answer : Result EntityId CommandError) (stepped : Result (WorldState × Changed) Refusal)
+      → AnswersStep IsBorn answer stepped w v → TellsBorn answer n before after refused
+      → IsDone (order_effect (session_of w) n MakeFresh (session_answer stepped)) (session_of v) before after refused
+  IsDone-born (Ok e) (Ok a) answered told =
+      let P : Option EntityId → Type 0 = λ b. after ≡ before ++ own_text MakeFresh b in
+      record { session_left = ap session_of answered.0; printed = subst P (sym answered.1) told.0; answered = told.1 }
+  IsDone-born (Ok e) (Err r) answered told = absurd answered
+  IsDone-born (Err (Refused reason)) stepped answered told =
+      let P : Result (WorldState × Changed) Refusal → Type 0 = λ st. IsDone (order_effect (session_of w) n MakeFresh (session_answer st)) (session_of v) before after refused in
+      subst P (sym answered.0) (record { session_left = ap session_of answered.1; printed = told.0; answered = told.1 })
+  IsDone-born (Err Memory) stepped answered told = absurd told
 
   -- a command of a session that is one of the world
-  pub IsDone-order : (answer : Result T CommandError) (order : Result Command Refusal) (c : Command) (w v : WorldState) (n : ℕ) (before after : List ℕ) (refused : Bool) → order ≡ Ok c
-      → AnswersStep answer (step w c) w v → TellsAnswer answer n before after refused
-      → IsDone (order_effect (session_of w) n (world_order (session_of w) order)) (session_of v) before after refused
-  IsDone-order answer order c w v n before after refused e answered told =
-      let P : Result Command Refusal → Type 0 = λ o. IsDone (order_effect (session_of w) n (world_order (session_of w) o)) (session_of v) before after refused in
-      subst P (sym e) (IsDone-stepped answer (step w c) w v n before after refused answered told)
+  IsDone-order : (order : Order) → IsSilent order → (answer : Result (Unit {0}) CommandError) (asked : Result Command Refusal) (c : Command) → asked ≡ Ok c
+      → AnswersStep SaysNothing answer (step w c) w v → TellsAnswer answer n before after refused
+      → IsDone (order_effect (session_of w) n order (world_order (session_of w) asked)) (session_of v) before after refused
+  IsDone-order order silent answer asked c e answered told =
+      let P : Result Command Refusal → Type 0 = λ o. IsDone (order_effect (session_of w) n order (world_order (session_of w) o)) (session_of v) before after refused in
+      subst P (sym e) (IsDone-stepped order silent answer (step w c) answered told)
 
-  pub IsDone-entity : (answer : Result T CommandError) (name : List ℕ) (w v : WorldState) (n : ℕ) (before after : List ℕ) (refused : Bool)
-      → AnswersStep answer (step w (Entity name)) w v → TellsAnswer answer n before after refused
-      → IsDone (effect_of (session_of w) n (Obey (MakeEntity name))) (session_of v) before after refused
-  unfolding effect_of apply
-  IsDone-entity answer name w v n before after refused answered told = IsDone-stepped answer (step w (Entity name)) w v n before after refused answered told
+-- a command whose references are refused
+IsDone-unfound : (w : WorldState) (n : ℕ) (before after : List ℕ) (refused : Bool) (order : Order) (asked : Result Command Refusal) (reason : Refusal) → asked ≡ Err reason
+    → TellsRefusal n (refusal_text reason) before after refused
+    → IsDone (order_effect (session_of w) n order (world_order (session_of w) asked)) (session_of w) before after refused
+IsDone-unfound w n before after refused order asked reason e told =
+    let P : Result Command Refusal → Type 0 = λ o. IsDone (order_effect (session_of w) n order (world_order (session_of w) o)) (session_of w) before after refused in
+    subst P (sym e) (IsDone-refused (session_of w) n (refusal_text reason) before after refused told)
 
-  pub IsDone-add : (answer : Result T CommandError) (entity id : List ℕ) (both : EntityId × Id) (w v : WorldState) (n : ℕ) (before after : List ℕ) (refused : Bool)
-      → FindsBoth w entity id (Some both) → AnswersStep answer (step w (Add both.0 both.1)) w v → TellsAnswer answer n before after refused
-      → IsDone (effect_of (session_of w) n (Obey (AddTo (by_name entity) (plain_of (by_name id))))) (session_of v) before after refused
-  unfolding effect_of apply
-  IsDone-add answer entity id both w v n before after refused finds answered told =
-      IsDone-order answer _ (Add both.0 both.1) w v n before after refused (finds Add) answered told
+-- an entity whose facts were shown
+pub IsDone-shown : (r : EntityRef) (e : EntityId) (w : WorldState) (n : ℕ) (before after : List ℕ) → entity_found w r ≡ Ok e → after ≡ before ++ show_text w e
+    → IsDone (effect_of (session_of w) n (Show r)) (session_of w) before after false
+unfolding effect_of
+IsDone-shown r e w n before after found added =
+    let P : Result EntityId Refusal → Type 0 = λ o. IsDone (show_effect (session_of w) n o) (session_of w) before after false in
+    subst P (sym found) (record { session_left = refl; printed = added; answered = refl })
 
-  pub IsDone-set : (answer : Result T CommandError) (entity id : List ℕ) (values : List ℤ) (both : EntityId × Id) (w v : WorldState) (n : ℕ) (before after : List ℕ) (refused : Bool)
-      → FindsBoth w entity id (Some both) → AnswersStep answer (step w (SetValue both.0 both.1 values)) w v → TellsAnswer answer n before after refused
-      → IsDone (effect_of (session_of w) n (Obey (SetIn (by_name entity) (plain_of (by_name id)) values))) (session_of v) before after refused
-  unfolding effect_of apply
-  IsDone-set answer entity id values both w v n before after refused finds answered told =
-      IsDone-order answer _ (SetValue both.0 both.1 values) w v n before after refused (finds (λ e i. SetValue e i values)) answered told
-
--- a command of which a name is unknown
-pub IsDone-unknown : (order : Result Command Refusal) (w : WorldState) (n : ℕ) (before after : List ℕ) (refused : Bool) → order ≡ Err UnknownName
-    → TellsRefusal n (refusal_text UnknownName) before after refused
-    → IsDone (order_effect (session_of w) n (world_order (session_of w) order)) (session_of w) before after refused
-IsDone-unknown order w n before after refused e told =
-    let P : Result Command Refusal → Type 0 = λ o. IsDone (order_effect (session_of w) n (world_order (session_of w) o)) (session_of w) before after refused in
-    subst P (sym e) (IsDone-refused (session_of w) n (refusal_text UnknownName) before after refused told)
-
-pub IsDone-add_unknown : (entity id : List ℕ) (w : WorldState) (n : ℕ) (before after : List ℕ) (refused : Bool) → FindsBoth w entity id None
-    → TellsRefusal n (refusal_text UnknownName) before after refused
-    → IsDone (effect_of (session_of w) n (Obey (AddTo (by_name entity) (plain_of (by_name id))))) (session_of w) before after refused
-unfolding effect_of apply
-IsDone-add_unknown entity id w n before after refused finds told = IsDone-unknown _ w n before after refused (finds Add) told
-
-pub IsDone-set_unknown : (entity id : List ℕ) (values : List ℤ) (w : WorldState) (n : ℕ) (before after : List ℕ) (refused : Bool) → FindsBoth w entity id None
-    → TellsRefusal n (refusal_text UnknownName) before after refused
-    → IsDone (effect_of (session_of w) n (Obey (SetIn (by_name entity) (plain_of (by_name id)) values))) (session_of w) before after refused
-unfolding effect_of apply
-IsDone-set_unknown entity id values w n before after refused finds told =
-    IsDone-unknown _ w n before after refused (finds (λ e i. SetValue e i values)) told
+-- one whose reference is refused
+IsDone-unshown : (r : EntityRef) (reason : Refusal) (w : WorldState) (n : ℕ) (before after : List ℕ) (refused : Bool) → entity_found w r ≡ Err reason
+    → TellsRefusal n (refusal_text reason) before after refused → IsDone (effect_of (session_of w) n (Show r)) (session_of w) before after refused
+unfolding effect_of
+IsDone-unshown r reason w n before after refused unfound told =
+    let P : Result EntityId Refusal → Type 0 = λ o. IsDone (show_effect (session_of w) n o) (session_of w) before after refused in
+    subst P (sym unfound) (IsDone-refused (session_of w) n (refusal_text reason) before after refused told)
 
 -- a query whose rows were added
 pub IsDone-rows : (text : List ℕ) (q : Query) (w : WorldState) (n : ℕ) (before after : List ℕ) → query_of w text ≡ Ok q → after ≡ before ++ rows_text w q
@@ -102,7 +101,7 @@ IsDone-rows text q w n before after e added =
     subst P (sym e) (record { session_left = refl; printed = added; answered = refl })
 
 -- a query that is refused
-pub IsDone-fault : (text : List ℕ) (f : Fault) (w : WorldState) (n : ℕ) (before same after : List ℕ) (refused : Bool) → query_of w text ≡ Err f → same ≡ before
+IsDone-fault : (text : List ℕ) (f : Fault) (w : WorldState) (n : ℕ) (before same after : List ℕ) (refused : Bool) → query_of w text ≡ Err f → same ≡ before
     → TellsRefusal n (fault_text f) same after refused → IsDone (effect_of (session_of w) n (Ask text)) (session_of w) before after refused
 unfolding effect_of
 IsDone-fault text f w n before same after refused e kept told =
@@ -112,51 +111,89 @@ IsDone-fault text f w n before same after refused e kept told =
 
 -- the same, where memory may be refused instead
 module _ (r : Result Bool AllocError) (w v : WorldState) (n : ℕ) (before after : List ℕ) where
-  pub IfOk-entity : (answer : Result (Unit {0}) CommandError) (name : List ℕ) → AnswersStep answer (step w (Entity name)) w v → IfOk r (TellsAnswer answer n before after)
+  pub IfOk-new : (answer : Result EntityId CommandError) → AnswersStep IsBorn answer (step w Fresh) w v → IfOk r (TellsBorn answer n before after)
+      → IfOk r (IsDone (effect_of (session_of w) n (Obey MakeFresh)) (session_of v) before after)
+  unfolding effect_of apply
+  IfOk-new answer answered = IfOk-weaker r _ _ (λ refused told. IsDone-born w v n before after refused answer (step w Fresh) answered told)
+
+  pub IfOk-entity : (answer : Result (Unit {0}) CommandError) (name : List ℕ) → AnswersStep SaysNothing answer (step w (Entity name)) w v → IfOk r (TellsAnswer answer n before after)
       → IfOk r (IsDone (effect_of (session_of w) n (Obey (MakeEntity name))) (session_of v) before after)
-  IfOk-entity answer name answered = IfOk-weaker r _ _ (λ refused told. IsDone-entity answer name w v n before after refused answered told)
+  unfolding effect_of apply
+  IfOk-entity answer name answered = IfOk-weaker r _ _ (λ refused told. IsDone-stepped w v n before after refused (MakeEntity name) (λ _. refl) answer (step w (Entity name)) answered told)
 
-  pub IfOk-add : (answer : Result (Unit {0}) CommandError) (entity id : List ℕ) (both : EntityId × Id) → FindsBoth w entity id (Some both) → AnswersStep answer (step w (Add both.0 both.1)) w v
-      → IfOk r (TellsAnswer answer n before after)
-      → IfOk r (IsDone (effect_of (session_of w) n (Obey (AddTo (by_name entity) (plain_of (by_name id))))) (session_of v) before after)
-  IfOk-add answer entity id both finds answered = IfOk-weaker r _ _ (λ refused told. IsDone-add answer entity id both w v n before after refused finds answered told)
+  -- a command of an entity and an id
+  IfOk-fact : (order : Order) → IsSilent order → (f : EntityId → Id → Command) (answer : Result (Unit {0}) CommandError) (entity : EntityRef) (id : IdRef) (both : EntityId × Id)
+      → FindsBoth w entity id (Ok both) → AnswersStep SaysNothing answer (step w (f both.0 both.1)) w v → IfOk r (TellsAnswer answer n before after)
+      → IfOk r (IsDone (order_effect (session_of w) n order (world_order (session_of w) (with_both w f entity id))) (session_of v) before after)
+  IfOk-fact order silent f answer entity id both finds answered =
+      IfOk-weaker r _ _ (λ refused told. IsDone-order w v n before after refused order silent answer _ (f both.0 both.1) (finds f) answered told)
 
-  pub IfOk-set : (answer : Result (Unit {0}) CommandError) (entity id : List ℕ) (values : List ℤ) (both : EntityId × Id) → FindsBoth w entity id (Some both)
-      → AnswersStep answer (step w (SetValue both.0 both.1 values)) w v → IfOk r (TellsAnswer answer n before after)
-      → IfOk r (IsDone (effect_of (session_of w) n (Obey (SetIn (by_name entity) (plain_of (by_name id)) values))) (session_of v) before after)
-  IfOk-set answer entity id values both finds answered = IfOk-weaker r _ _ (λ refused told. IsDone-set answer entity id values both w v n before after refused finds answered told)
+  pub IfOk-add : (answer : Result (Unit {0}) CommandError) (entity : EntityRef) (id : IdRef) (both : EntityId × Id) → FindsBoth w entity id (Ok both)
+      → AnswersStep SaysNothing answer (step w (Add both.0 both.1)) w v → IfOk r (TellsAnswer answer n before after)
+      → IfOk r (IsDone (effect_of (session_of w) n (Obey (AddTo entity id))) (session_of v) before after)
+  unfolding effect_of apply
+  IfOk-add answer entity id both = IfOk-fact (AddTo entity id) (λ _. refl) Add answer entity id both
 
-module _ (r : Result Bool AllocError) (w : WorldState) (n : ℕ) (before after : List ℕ) where
-  pub IfOk-add_unknown : (entity id : List ℕ) → FindsBoth w entity id None → IfOk r (TellsRefusal n (refusal_text UnknownName) before after)
-      → IfOk r (IsDone (effect_of (session_of w) n (Obey (AddTo (by_name entity) (plain_of (by_name id))))) (session_of w) before after)
-  IfOk-add_unknown entity id finds = IfOk-weaker r _ _ (λ refused told. IsDone-add_unknown entity id w n before after refused finds told)
+  pub IfOk-set : (answer : Result (Unit {0}) CommandError) (entity : EntityRef) (id : IdRef) (values : List ℤ) (both : EntityId × Id) → FindsBoth w entity id (Ok both)
+      → AnswersStep SaysNothing answer (step w (SetValue both.0 both.1 values)) w v → IfOk r (TellsAnswer answer n before after)
+      → IfOk r (IsDone (effect_of (session_of w) n (Obey (SetIn entity id values))) (session_of v) before after)
+  unfolding effect_of apply
+  IfOk-set answer entity id values both = IfOk-fact (SetIn entity id values) (λ _. refl) (λ e i. SetValue e i values) answer entity id both
 
-  pub IfOk-set_unknown : (entity id : List ℕ) (values : List ℤ) → FindsBoth w entity id None → IfOk r (TellsRefusal n (refusal_text UnknownName) before after)
-      → IfOk r (IsDone (effect_of (session_of w) n (Obey (SetIn (by_name entity) (plain_of (by_name id)) values))) (session_of w) before after)
-  IfOk-set_unknown entity id values finds = IfOk-weaker r _ _ (λ refused told. IsDone-set_unknown entity id values w n before after refused finds told)
+  pub IfOk-remove : (answer : Result (Unit {0}) CommandError) (entity : EntityRef) (id : IdRef) (both : EntityId × Id) → FindsBoth w entity id (Ok both)
+      → AnswersStep SaysNothing answer (step w (Remove both.0 both.1)) w v → IfOk r (TellsAnswer answer n before after)
+      → IfOk r (IsDone (effect_of (session_of w) n (Obey (RemoveFrom entity id))) (session_of v) before after)
+  unfolding effect_of apply
+  IfOk-remove answer entity id both = IfOk-fact (RemoveFrom entity id) (λ _. refl) Remove answer entity id both
 
-  pub IfOk-fault : (text : List ℕ) (f : Fault) (same : List ℕ) → query_of w text ≡ Err f → same ≡ before → IfOk r (TellsRefusal n (fault_text f) same after)
-      → IfOk r (IsDone (effect_of (session_of w) n (Ask text)) (session_of w) before after)
-  IfOk-fault text f same e kept = IfOk-weaker r _ _ (λ refused told. IsDone-fault text f w n before same after refused e kept told)
+module _ (r : Result Bool AllocError) (w : WorldState) (n : ℕ) (before after : List ℕ) (reason : Refusal) where
+  IfOk-unfound : (order : Order) (f : EntityId → Id → Command) (entity : EntityRef) (id : IdRef) → FindsBoth w entity id (Err reason) → IfOk r (TellsRefusal n (refusal_text reason) before after)
+      → IfOk r (IsDone (order_effect (session_of w) n order (world_order (session_of w) (with_both w f entity id))) (session_of w) before after)
+  IfOk-unfound order f entity id finds = IfOk-weaker r _ _ (λ refused told. IsDone-unfound w n before after refused order _ reason (finds f) told)
 
--- a component whose fields make a schema
-pub IfOk-component : (r : Result Bool AllocError) (w v : WorldState) (n : ℕ) (before after : List ℕ) (answer : Result (Unit {0}) CommandError) (name : List ℕ) (fields schema : Schema)
-    → schema ≡ fields → schema_fault fields ≡ None → AnswersStep answer (step w (Component name schema)) w v → IfOk r (TellsAnswer answer n before after)
-    → IfOk r (IsDone (effect_of (session_of w) n (Define name fields)) (session_of v) before after)
-unfolding effect_of apply
-IfOk-component r w v n before after answer name fields schema same sound answered told =
-    let P : Option SchemaFault → Type 0 = λ o. IfOk r (IsDone (define_effect (session_of w) n name fields o) (session_of v) before after) in
-    let Q : Schema → Type 0 = λ s. AnswersStep answer (step w (Component name s)) w v in
-    subst P (sym sound) (IfOk-weaker r _ _ (λ refused tells. IsDone-stepped answer (step w (Component name fields)) w v n before after refused (subst Q same answered) tells) told)
+  pub IfOk-add_unfound : (entity : EntityRef) (id : IdRef) → FindsBoth w entity id (Err reason) → IfOk r (TellsRefusal n (refusal_text reason) before after)
+      → IfOk r (IsDone (effect_of (session_of w) n (Obey (AddTo entity id))) (session_of w) before after)
+  unfolding effect_of apply
+  IfOk-add_unfound entity id = IfOk-unfound (AddTo entity id) Add entity id
 
--- a component whose fields make none
-pub IfOk-no_schema : (r : Result Bool AllocError) (w : WorldState) (n : ℕ) (before after name : List ℕ) (fields : Schema) (f : SchemaFault)
-    → schema_fault fields ≡ Some f → IfOk r (TellsRefusal n (schema_fault_text f) before after)
-    → IfOk r (IsDone (effect_of (session_of w) n (Define name fields)) (session_of w) before after)
-unfolding effect_of
-IfOk-no_schema r w n before after name fields f faulty told =
-    let P : Option SchemaFault → Type 0 = λ o. IfOk r (IsDone (define_effect (session_of w) n name fields o) (session_of w) before after) in
-    subst P (sym faulty) (IfOk-weaker r _ _ (λ refused tells. IsDone-refused (session_of w) n (schema_fault_text f) before after refused tells) told)
+  pub IfOk-set_unfound : (entity : EntityRef) (id : IdRef) (values : List ℤ) → FindsBoth w entity id (Err reason) → IfOk r (TellsRefusal n (refusal_text reason) before after)
+      → IfOk r (IsDone (effect_of (session_of w) n (Obey (SetIn entity id values))) (session_of w) before after)
+  unfolding effect_of apply
+  IfOk-set_unfound entity id values = IfOk-unfound (SetIn entity id values) (λ e i. SetValue e i values) entity id
+
+  pub IfOk-remove_unfound : (entity : EntityRef) (id : IdRef) → FindsBoth w entity id (Err reason) → IfOk r (TellsRefusal n (refusal_text reason) before after)
+      → IfOk r (IsDone (effect_of (session_of w) n (Obey (RemoveFrom entity id))) (session_of w) before after)
+  unfolding effect_of apply
+  IfOk-remove_unfound entity id = IfOk-unfound (RemoveFrom entity id) Remove entity id
+
+  pub IfOk-unshown : (entity : EntityRef) → entity_found w entity ≡ Err reason → IfOk r (TellsRefusal n (refusal_text reason) before after)
+      → IfOk r (IsDone (effect_of (session_of w) n (Show entity)) (session_of w) before after)
+  IfOk-unshown entity unfound = IfOk-weaker r _ _ (λ refused told. IsDone-unshown entity reason w n before after refused unfound told)
+
+-- a query that is refused
+pub IfOk-fault : (r : Result Bool AllocError) (w : WorldState) (n : ℕ) (before after text : List ℕ) (f : Fault) (same : List ℕ) → query_of w text ≡ Err f → same ≡ before → IfOk r (TellsRefusal n (fault_text f) same after)
+    → IfOk r (IsDone (effect_of (session_of w) n (Ask text)) (session_of w) before after)
+IfOk-fault r w n before after text f same e kept = IfOk-weaker r _ _ (λ refused told. IsDone-fault text f w n before same after refused e kept told)
+
+module _ (r : Result Bool AllocError) (w v : WorldState) (n : ℕ) (before after name : List ℕ) (fields : Schema) where
+  -- a component whose fields make a schema
+  pub IfOk-component : (answer : Result (Unit {0}) CommandError) → (schema_fault fields ≡ None) × AnswersStep SaysNothing answer (step w (Component name fields)) w v
+      → IfOk r (TellsAnswer answer n before after) → IfOk r (IsDone (effect_of (session_of w) n (Define name fields)) (session_of v) before after)
+  unfolding effect_of apply
+  IfOk-component answer answered told =
+      let P : Option SchemaFault → Type 0 = λ o. IfOk r (IsDone (define_effect (session_of w) n name fields o) (session_of v) before after) in
+      subst P (sym answered.0) (
+      IfOk-weaker r _ _ (λ refused tells. IsDone-stepped w v n before after refused (MakeComponent name fields) (λ _. refl) answer (step w (Component name fields)) answered.1 tells) told
+      )
+
+  -- a component whose fields make none
+  pub IfOk-no_schema : (f : SchemaFault) → (schema_fault fields ≡ Some f) × (v ≡ w) → IfOk r (TellsRefusal n (schema_fault_text f) before after)
+      → IfOk r (IsDone (effect_of (session_of w) n (Define name fields)) (session_of v) before after)
+  unfolding effect_of
+  IfOk-no_schema f faulty told =
+      let P : Option SchemaFault → Type 0 = λ o. IfOk r (IsDone (define_effect (session_of w) n name fields o) (session_of v) before after) in
+      let Q : WorldState → Type 0 = λ u. IfOk r (IsDone (refused_line (session_of w) n (schema_fault_text f)) (session_of u) before after) in
+      subst P (sym faulty.0) (subst Q (sym faulty.1) (IfOk-weaker r _ _ (λ refused tells. IsDone-refused (session_of w) n (schema_fault_text f) before after refused tells) told))
 
 -- a line that says nothing, one that is too long, and one that fits no form
 module _ (s : SessionState) (n : ℕ) (line before after : List ℕ) where

@@ -1,11 +1,13 @@
-//! What lines that are refused print.
+//! What lines that are refused print, and what commands print.
 ghost use Rattle.std.specs.Prelude.{◌≡◌, ◌++◌, OnOk, IfOk, codes, decimal};
 ghost use Rattle.ecs_model.specs.Print.{fault_text, fault_word};
 ghost use Rattle.ecs_model.specs.Refusal.{refusal_text, schema_fault_text};
-ghost use Rattle.world_script.specs.Told.{refused_text, TellsRefusal, TellsAnswer};
+ghost use Rattle.world_script.specs.Told.{refused_text, TellsRefusal, TellsAnswer, TellsBorn};
 
+use ecs_id::EntityId;
 use ecs_model::faults::{CommandError, Fault, FaultKind, Refusal, SchemaFault};
 use itoa::Buffer;
+use plain_query::write_handle;
 use std::alloc::{AllocError, Allocator};
 
 /// Tells that a line is refused.
@@ -22,6 +24,17 @@ pub(crate) fn refuse<A: Allocator>(
     Ok(true)
 }
 
+/// Tells that a command is refused.
+pub(crate) fn refuse_command<A: Allocator>(
+    number: usize,
+    refusal: Refusal,
+    output: &mut Vec<u8, A>,
+) -> Result<bool, AllocError>
+    ensures { IfOk result (TellsRefusal number (refusal_text refusal) output.old.items output.new.items) }
+{
+    refuse(number, refusal_word(refusal), output)
+}
+
 /// Tells that a query is refused.
 pub(crate) fn refuse_query<A: Allocator>(
     number: usize,
@@ -36,7 +49,7 @@ pub(crate) fn refuse_query<A: Allocator>(
     Ok(true)
 }
 
-/// Tells what a world answered.
+/// Tells what a world answered to a command that says nothing.
 pub(crate) fn tell_answer<A: Allocator>(
     number: usize,
     answer: Result<(), CommandError>,
@@ -46,7 +59,26 @@ pub(crate) fn tell_answer<A: Allocator>(
 {
     match answer {
         Ok(()) => Ok(false),
-        Err(CommandError::Refused(refusal)) => refuse(number, refusal_word(refusal), output),
+        Err(CommandError::Refused(refusal)) => refuse_command(number, refusal, output),
+        Err(CommandError::Memory) => Err(AllocError),
+    }
+}
+
+/// Tells the entity that a world made.
+pub(crate) fn tell_born<A: Allocator>(
+    number: usize,
+    answer: Result<EntityId, CommandError>,
+    output: &mut Vec<u8, A>,
+) -> Result<bool, AllocError>
+    ensures { IfOk result (TellsBorn answer number output.old.items output.new.items) }
+{
+    match answer {
+        Ok(entity) => {
+            write_handle(entity, output)?;
+            output.extend_from_slice(b"\n")?;
+            Ok(false)
+        }
+        Err(CommandError::Refused(refusal)) => refuse_command(number, refusal, output),
         Err(CommandError::Memory) => Err(AllocError),
     }
 }

@@ -10,6 +10,7 @@ use crate::lines::{RunLine, Summary, run_lines};
 use crate::reading::read_script;
 use crate::sessions::Session;
 use crate::streams::{Sink, Source};
+use crate::worlds::PlainScriptWorld;
 use crate::writing::write_all;
 use std::alloc::Allocator;
 
@@ -32,7 +33,8 @@ pub fn run<A: Allocator + Copy, R: Source, W: Sink>(
     ensures read { result ≡ Err RunError.Read → IsStopped (R.calls reader.new) × (writer.new ≡ writer.old) }
     ensures write { result ≡ Err RunError.Write → IsStopped (W.calls writer.new) }
 {
-    let mut session = Session::new(alloc)?;
+    let world = PlainScriptWorld::new(alloc)?;
+    let mut session = Session { alloc, world };
     run_in(alloc, &mut session, reader, writer)
 }
 

@@ -1,50 +1,37 @@
 //! What a session does with a line.
 ghost use Rattle.std.specs.Prelude.{map, IfOk};
-ghost use Rattle.ecs_model.specs.Script.{Obey, Define, Ask};
-ghost use Rattle.ecs_model.specs.Session.{MakeEntity, AddTo, SetIn, by_name, plain_of};
+ghost use Rattle.ecs_model.specs.Script.{Obey, Define, Show, Ask};
+ghost use Rattle.ecs_model.specs.Session.{MakeFresh, MakeEntity, AddTo, SetIn, RemoveFrom};
 ghost use Rattle.ecs_model.specs.Output.{effect_of};
-ghost use Rattle.script_line.specs.Line.{seen_field};
+ghost use Rattle.script_line.specs.Line.{seen_field, seen_id, seen_reference};
 ghost use Rattle.world_script.specs.Run.{IsDone};
-ghost use Rattle.world_script.specs.Told.{FindsBoth, session_of};
+ghost use Rattle.world_script.specs.Told.{session_of};
 
 use crate::lines::RunLine;
-use crate::printing::{refuse, refuse_query, schema_fault_word, tell_answer};
-use crate::worlds::ScriptWorld;
-use ecs_id::{EntityId, Id};
+use crate::printing::{
+    refuse, refuse_command, refuse_query, schema_fault_word, tell_answer, tell_born,
+};
+use crate::references::{find_both, find_entity};
+use crate::script_world::ScriptWorld;
+use crate::showing::show_entity;
 use ecs_model::Kind;
 use ecs_model::faults::QueryFault;
-use ecs_schema::{Schema, SchemaError};
-use plain_query::{Readable, ask};
-use plain_world::PlainWorld;
-use script_line::{Line, read_line};
+use ecs_schema::SchemaError;
+use plain_query::ask;
+use script_line::{IdReference, Line, Reference, read_line};
 use std::alloc::{AllocError, Allocator};
 
 /// A session: a world, to which lines of a script speak.
 #[derive(Drop)]
-pub(crate) struct Session<A: Allocator> {
-    alloc: A,
-    world: ScriptWorld<A>,
+pub(crate) struct Session<A: Allocator, W> {
+    pub(crate) alloc: A,
+    pub(crate) world: W,
 }
 
-impl<A: Allocator + Copy> Session<A> {
-    ghost use Rattle.std.specs.Prelude.{◌≡◌, IfOk};
-    ghost use Rattle.ecs_model.specs.World.{first_world};
-
-    /// A session in which nothing has been done.
-    pub(crate) fn new(alloc: A) -> Result<Self, AllocError>
-        ensures { IfOk result (λ session. session.world.world ≡ first_world) }
-    {
-        let world = ScriptWorld {
-            world: PlainWorld::new(alloc)?,
-        };
-        Ok(Session { alloc, world })
-    }
-}
-
-impl<A: Allocator + Copy> RunLine<A> for Session<A> {
+impl<A: Allocator + Copy, W: ScriptWorld<A>> RunLine<A> for Session<A, W> {
     ghost use Rattle.world_script.specs.Told.{session_of};
 
-    ghost state = { λ s. session_of s.world.world };
+    ghost state = { λ s. session_of (W.state s.world) };
 
     fn run_line(
         &mut self,
@@ -52,135 +39,168 @@ impl<A: Allocator + Copy> RunLine<A> for Session<A> {
         line: &[u8],
         output: &mut Vec<u8, A>,
     ) -> Result<bool, AllocError> {
+        let world = &mut self.world;
         match read_line(self.alloc, line)? {
             Line::Nothing => Ok(false),
             Line::TooLong => refuse(number, "LineTooLong", output),
             Line::Bad => refuse(number, "BadLine", output),
-            Line::Entity { name } => run_entity(&mut self.world, number, name, output),
+            Line::New => run_new(world, number, output),
+            Line::Entity { name } => run_entity(world, number, name, output),
             Line::Component { name, fields } => {
-                run_component(
-                    self.alloc,
-                    &mut self.world,
-                    number,
-                    name,
-                    fields.as_slice(),
-                    output,
-                )
+                run_component(self.alloc, world, number, name, fields.as_slice(), output)
             }
-            Line::Add { entity, id } => run_add(&mut self.world, number, entity, id, output),
-            Line::Set { entity, id, values } => run_set(
-                &mut self.world,
-                number,
-                entity,
-                id,
-                values.as_slice(),
-                output,
-            ),
-            Line::Query { text } => run_query(self.alloc, &self.world, number, text, output),
+            Line::Add { entity, id } => run_add(world, number, entity, id, output),
+            Line::Set { entity, id, values } => {
+                run_set(world, number, entity, id, values.as_slice(), output)
+            }
+            Line::Remove { entity, id } => run_remove(world, number, entity, id, output),
+            Line::Show { entity } => run_show(self.alloc, world, number, entity, output),
+            Line::Query { text } => run_query(self.alloc, world, number, text, output),
         }
     }
 }
 
+/// `new`
+fn run_new<A: Allocator, W: ScriptWorld<A>>(
+    world: &mut W,
+    number: usize,
+    output: &mut Vec<u8, A>,
+) -> Result<bool, AllocError>
+    ensures { IfOk result (IsDone (effect_of (session_of (W.state world.old)) number (Obey MakeFresh))
+        (session_of (W.state world.new)) output.old.items output.new.items) }
+{
+    let answer = world.fresh();
+    tell_born(number, answer, output)
+}
+
 /// `entity N`
-fn run_entity<A: Allocator + Copy>(
-    world: &mut ScriptWorld<A>,
+fn run_entity<A: Allocator, W: ScriptWorld<A>>(
+    world: &mut W,
     number: usize,
     name: &str,
     output: &mut Vec<u8, A>,
 ) -> Result<bool, AllocError>
-    ensures { IfOk result (IsDone (effect_of (session_of world.old.world) number (Obey (MakeEntity name.now)))
-        (session_of world.new.world) output.old.items output.new.items) }
+    ensures { IfOk result (IsDone (effect_of (session_of (W.state world.old)) number (Obey (MakeEntity name.now)))
+        (session_of (W.state world.new)) output.old.items output.new.items) }
 {
-    let answer = world.world.entity(name);
+    let answer = world.entity(name);
     tell_answer(number, answer, output)
 }
 
 /// `component N f:kind ..`
-fn run_component<A: Allocator + Copy>(
+fn run_component<A: Allocator + Copy, W: ScriptWorld<A>>(
     alloc: A,
-    world: &mut ScriptWorld<A>,
+    world: &mut W,
     number: usize,
     name: &str,
     fields: &[(&str, Kind)],
     output: &mut Vec<u8, A>,
 ) -> Result<bool, AllocError>
-    ensures { IfOk result (IsDone (effect_of (session_of world.old.world) number (Define name.now (map seen_field fields.now)))
-        (session_of world.new.world) output.old.items output.new.items) }
+    ensures { IfOk result (IsDone (effect_of (session_of (W.state world.old)) number (Define name.now (map seen_field fields.now)))
+        (session_of (W.state world.new)) output.old.items output.new.items) }
 {
-    match Schema::new(alloc, fields) {
-        Ok(schema) => {
-            let answer = world.world.component(name, schema);
-            tell_answer(number, answer, output)
-        }
+    match world.component(alloc, name, fields) {
+        Ok(answer) => tell_answer(number, answer, output),
         Err(SchemaError::Fault(fault)) => refuse(number, schema_fault_word(fault), output),
         Err(SchemaError::Memory) => Err(AllocError),
     }
 }
 
 /// `add E ID`
-fn run_add<A: Allocator + Copy>(
-    world: &mut ScriptWorld<A>,
+fn run_add<A: Allocator, W: ScriptWorld<A>>(
+    world: &mut W,
     number: usize,
-    entity: &str,
-    id: &str,
+    entity: Reference<'_>,
+    id: IdReference<'_>,
     output: &mut Vec<u8, A>,
 ) -> Result<bool, AllocError>
-    ensures { IfOk result (IsDone (effect_of (session_of world.old.world) number (Obey (AddTo (by_name entity.now) (plain_of (by_name id.now)))))
-        (session_of world.new.world) output.old.items output.new.items) }
+    ensures { IfOk result (IsDone (effect_of (session_of (W.state world.old)) number (Obey (AddTo (seen_reference entity.entry) (seen_id id.entry))))
+        (session_of (W.state world.new)) output.old.items output.new.items) }
 {
     match find_both(world, entity, id) {
-        None => refuse(number, "UnknownName", output),
-        Some(both) => {
-            let answer = world.world.add(both.0, both.1);
+        Err(refusal) => refuse_command(number, refusal, output),
+        Ok(both) => {
+            let answer = world.add(both.0, both.1);
             tell_answer(number, answer, output)
         }
     }
 }
 
 /// `set E ID v ..`
-fn run_set<A: Allocator + Copy>(
-    world: &mut ScriptWorld<A>,
+fn run_set<A: Allocator, W: ScriptWorld<A>>(
+    world: &mut W,
     number: usize,
-    entity: &str,
-    id: &str,
+    entity: Reference<'_>,
+    id: IdReference<'_>,
     values: &[i128],
     output: &mut Vec<u8, A>,
 ) -> Result<bool, AllocError>
-    ensures { IfOk result (IsDone (effect_of (session_of world.old.world) number (Obey (SetIn (by_name entity.now) (plain_of (by_name id.now)) values.now)))
-        (session_of world.new.world) output.old.items output.new.items) }
+    ensures { IfOk result (IsDone (effect_of (session_of (W.state world.old)) number (Obey (SetIn (seen_reference entity.entry) (seen_id id.entry) values.now)))
+        (session_of (W.state world.new)) output.old.items output.new.items) }
 {
     match find_both(world, entity, id) {
-        None => refuse(number, "UnknownName", output),
-        Some(both) => {
-            let answer = world.world.set(both.0, both.1, values);
+        Err(refusal) => refuse_command(number, refusal, output),
+        Ok(both) => {
+            let answer = world.set(both.0, both.1, values);
             tell_answer(number, answer, output)
         }
     }
 }
 
-/// `query TEXT`
-fn run_query<A: Allocator + Copy>(
+/// `remove E ID`
+fn run_remove<A: Allocator, W: ScriptWorld<A>>(
+    world: &mut W,
+    number: usize,
+    entity: Reference<'_>,
+    id: IdReference<'_>,
+    output: &mut Vec<u8, A>,
+) -> Result<bool, AllocError>
+    ensures { IfOk result (IsDone (effect_of (session_of (W.state world.old)) number (Obey (RemoveFrom (seen_reference entity.entry) (seen_id id.entry))))
+        (session_of (W.state world.new)) output.old.items output.new.items) }
+{
+    match find_both(world, entity, id) {
+        Err(refusal) => refuse_command(number, refusal, output),
+        Ok(both) => {
+            let answer = world.remove(both.0, both.1);
+            tell_answer(number, answer, output)
+        }
+    }
+}
+
+/// `show E`
+fn run_show<A: Allocator + Copy, W: ScriptWorld<A>>(
     alloc: A,
-    world: &ScriptWorld<A>,
+    world: &W,
+    number: usize,
+    entity: Reference<'_>,
+    output: &mut Vec<u8, A>,
+) -> Result<bool, AllocError>
+    ensures { IfOk result (IsDone (effect_of (session_of (W.state world.now)) number (Show (seen_reference entity.entry)))
+        (session_of (W.state world.now)) output.old.items output.new.items) }
+{
+    match find_entity(world, entity) {
+        Err(refusal) => refuse_command(number, refusal, output),
+        Ok(found) => {
+            show_entity(alloc, world, found, output)?;
+            Ok(false)
+        }
+    }
+}
+
+/// `query TEXT`
+fn run_query<A: Allocator + Copy, W: ScriptWorld<A>>(
+    alloc: A,
+    world: &W,
     number: usize,
     text: &str,
     output: &mut Vec<u8, A>,
 ) -> Result<bool, AllocError>
-    ensures { IfOk result (IsDone (effect_of (session_of world.now.world) number (Ask text.now))
-        (session_of world.now.world) output.old.items output.new.items) }
+    ensures { IfOk result (IsDone (effect_of (session_of (W.state world.now)) number (Ask text.now))
+        (session_of (W.state world.now)) output.old.items output.new.items) }
 {
     match ask(alloc, world, text, output) {
         Ok(()) => Ok(false),
         Err(QueryFault::Fault(fault)) => refuse_query(number, fault, output),
         Err(QueryFault::Memory) => Err(AllocError),
     }
-}
-
-/// The entity of a name and the id of another.
-fn find_both<A: Allocator>(world: &ScriptWorld<A>, entity: &str, id: &str) -> Option<(EntityId, Id)>
-    ensures { FindsBoth world.now.world entity.now id.now result }
-{
-    let entity = world.find(entity)?;
-    let named = world.find(id)?;
-    Some((entity, Id::plain(named.index)))
 }

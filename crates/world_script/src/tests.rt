@@ -93,3 +93,39 @@ fn refused_lines_are_told_and_counted(rt: HostRuntime) -> Result<(), Fail> {
         b"error 2 NameTaken\nerror 3 BadLine\n",
     )
 }
+
+#[test]
+fn pairs_are_shown_in_order_and_a_new_entity_is_told(rt: HostRuntime) -> Result<(), Fail> {
+    let summary = Summary {
+        lines: 7,
+        refused: 0,
+    };
+    let script =
+        b"component Weight kg:u8\nentity Holds\nentity Box\nset Box (Holds,Weight) 7\nset Box (Weight,Holds) 9\nshow Box\nnew\n";
+    expect(
+        &rt,
+        script,
+        &[],
+        &[],
+        Ok(summary),
+        b"show Box [(Weight,Holds)=9] [(Holds,Weight)=7]\n#67.0\n",
+    )
+}
+
+#[test]
+fn a_dead_handle_comes_before_an_unknown_name(rt: HostRuntime) -> Result<(), Fail> {
+    let summary = Summary {
+        lines: 7,
+        refused: 3,
+    };
+    let script =
+        b"entity Box\nadd Nobody #99.0\nadd Nobody Box\nadd #64.0 Box\nremove #64.0 Box\nshow #64.0\nshow #64.1\n";
+    expect(
+        &rt,
+        script,
+        &[],
+        &[],
+        Ok(summary),
+        b"error 2 Dead\nerror 3 UnknownName\nshow Box\nerror 7 Dead\n",
+    )
+}

@@ -14,11 +14,11 @@ overflow_add-self g c =
 pub invariant_of-self-2 : goal.invariant_of-self-2
 invariant_of-self-2 g c =
     let w = c.self.inside in
-    (entity_left w.names.items w.facts.items w.schemas.items w.accepted c.self.invariant c.args.self.now c.self.view_is c.args.name.now c.requires c.next_index.result c.unwrap-index.result c.next_index.ensures c.unwrap-index.ensures
+    (entity_left w.entities.items w.facts.items w.schemas.items w.accepted c.self.invariant c.args.self.now c.self.view_is c.args.name.now c.requires c.next_index.result c.unwrap-index.result c.next_index.ensures c.unwrap-index.ensures
     c.push_reserved.new.self.items (rw (c.push_reserved.ensures.items, c.reserve.ensures.items, c.in_ok-named.ensures))).1
 
 pub returns-clause-ok : goal.returns-clause-ok
 returns-clause-ok g c =
     let w = c.self.inside in
-    (entity_left w.names.items w.facts.items w.schemas.items w.accepted c.self.invariant c.args.self.now c.self.view_is c.args.name.now c.requires c.next_index.result c.unwrap-index.result c.next_index.ensures c.unwrap-index.ensures
+    (entity_left w.entities.items w.facts.items w.schemas.items w.accepted c.self.invariant c.args.self.now c.self.view_is c.args.name.now c.requires c.next_index.result c.unwrap-index.result c.next_index.ensures c.unwrap-index.ensures
     c.push_reserved.new.self.items (rw (c.push_reserved.ensures.items, c.reserve.ensures.items, c.in_ok-named.ensures))).0

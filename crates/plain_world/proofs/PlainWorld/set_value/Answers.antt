@@ -17,9 +17,9 @@ overflow_add-self g c =
 pub invariant_of-self-2 : goal.invariant_of-self-2
 invariant_of-self-2 g c =
     let w = c.self.inside in
-    (set_left w.names.items w.facts.items w.schemas.items w.accepted c.self.invariant c.args.self.now c.self.view_is c.args.entity c.args.id c.args.values.now c.requires c.put.new.facts.items (rw (c.put.ensures, c.reserve.ensures.items, c.new-value.ensures))).1
+    (set_left w.entities.items w.facts.items w.schemas.items w.accepted c.self.invariant c.args.self.now c.self.view_is c.args.entity c.args.id c.args.values.now c.requires c.put.new.facts.items (rw (c.put.ensures, c.reserve.ensures.items, c.new-value.ensures))).1
 
 pub returns-clause-ok : goal.returns-clause-ok
 returns-clause-ok g c =
     let w = c.self.inside in
-    (set_left w.names.items w.facts.items w.schemas.items w.accepted c.self.invariant c.args.self.now c.self.view_is c.args.entity c.args.id c.args.values.now c.requires c.put.new.facts.items (rw (c.put.ensures, c.reserve.ensures.items, c.new-value.ensures))).0
+    (set_left w.entities.items w.facts.items w.schemas.items w.accepted c.self.invariant c.args.self.now c.self.view_is c.args.entity c.args.id c.args.values.now c.requires c.put.new.facts.items (rw (c.put.ensures, c.reserve.ensures.items, c.new-value.ensures))).0

@@ -6,7 +6,7 @@ use Rattle.plain_world.proofs.PlainWorld.value.Goals as goal
 pub returns-in-Ok : goal.returns-in-Ok
 returns-in-Ok g c =
     let found = rw c.deref.ensures.value at c.in-Ok.ensures.found in
-    rw (← c.self.view_is) (find_read key_cmp_total c.self.inside.facts.items (c.args.entity, c.args.id) c.in-Ok.at c.index.result.now c.value.result.now c.self.invariant.sound.in_order.facts found c.index.ensures c.value.ensures)
+    rw (← c.self.view_is) (find_read key_cmp_total c.self.inside.facts.items (c.args.entity, c.args.id) c.in-Ok.at c.index.result.now c.value.result c.self.invariant.sound.in_order.facts found c.index.ensures c.value.ensures)
 
 pub returns-in-Err : goal.returns-in-Err
 returns-in-Err g c =

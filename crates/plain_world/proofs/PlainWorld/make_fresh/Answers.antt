@@ -1,0 +1,29 @@
+use Rattle.std.proofs.Common.{is_some, ap, ◌∙◌, arith}
+use Rattle.ecs_model.proofs.Additions.{not_spent}
+use Rattle.plain_world.proofs.Accepted.{births-fresh, some_next, fresh_left, made_is_next}
+use Rattle.plain_world.proofs.PlainWorld.make_fresh.Goals as goal
+
+pub unwrap-index-requires : goal.unwrap-index-requires
+unwrap-index-requires g c = ap is_some c.next_index.ensures ∙ some_next _ (births-fresh c.args.self.now c.requires).0
+
+pub overflow_add-self : goal.overflow_add-self
+overflow_add-self g c =
+    let spent = rw (← c.self.view_is) at (births-fresh c.args.self.now c.requires).1 in
+    omega (arith, not_spent c.self.inside.accepted spent)
+
+pub invariant_of-self-2 : goal.invariant_of-self-2
+invariant_of-self-2 g c =
+    let w = c.self.inside in
+    (fresh_left w.entities.items w.facts.items w.schemas.items w.accepted c.self.invariant c.args.self.now c.self.view_is c.requires c.next_index.result c.unwrap-index.result c.next_index.ensures c.unwrap-index.ensures
+    c.push_reserved.new.self.items (rw (c.push_reserved.ensures.items, c.reserve.ensures.items, c.nameless.ensures))).1
+
+pub returns-clause-born : goal.returns-clause-born
+returns-clause-born g c =
+    let w = c.self.inside in
+    made_is_next w.entities.items w.facts.items w.schemas.items w.accepted c.self.invariant c.args.self.now c.self.view_is (births-fresh c.args.self.now c.requires).0 c.next_index.result c.unwrap-index.result c.next_index.ensures c.unwrap-index.ensures
+
+pub returns-clause-ok : goal.returns-clause-ok
+returns-clause-ok g c =
+    let w = c.self.inside in
+    (fresh_left w.entities.items w.facts.items w.schemas.items w.accepted c.self.invariant c.args.self.now c.self.view_is c.requires c.next_index.result c.unwrap-index.result c.next_index.ensures c.unwrap-index.ensures
+    c.push_reserved.new.self.items (rw (c.push_reserved.ensures.items, c.reserve.ensures.items, c.nameless.ensures))).0

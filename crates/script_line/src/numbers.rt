@@ -1,0 +1,52 @@
+//! Numbers in decimal.
+ghost use Rattle.std.specs.Prelude.{◌≡◌, ◌^◌, ◌<◌, ◌≤◌, IfSome, IsTrue, length, if◌then◌else◌};
+ghost use Rattle.std.specs.List.{list_all};
+ghost use Rattle.ecs_model.specs.Text.{is_digit, is_number, number_of};
+
+/// Reads a number of 1 to `most` digits.
+pub(crate) fn number_within(digits: &[u8], most: usize) -> Option<u128>
+    requires { most ≤ 38 }
+    ensures value { result ≡ (if is_number 1 most digits.now then Some (number_of digits.now) else None) }
+    ensures bound { IfSome result (λ n. n < 10 ^ most) }
+{
+    if is_number(digits, most) {
+        Some(number_of(digits))
+    } else {
+        None
+    }
+}
+
+/// Whether a text is 1 to `most` digits.
+fn is_number(text: &[u8], most: usize) -> bool
+    ensures { result ≡ is_number 1 most text.now }
+{
+    all_digits(text) && !text.is_empty() && text.len() <= most
+}
+
+/// Whether each byte is a decimal digit.
+fn all_digits(bytes: &[u8]) -> bool
+    ensures { result ≡ list_all is_digit bytes.now }
+{
+    bytes.iter().all(|b| is_digit(*b))
+}
+
+/// Whether a byte is a decimal digit.
+fn is_digit(byte: u8) -> bool
+    ensures { result ≡ is_digit byte }
+{
+    byte.is_ascii_digit()
+}
+
+/// The number that digits spell.
+fn number_of(digits: &[u8]) -> u128
+    requires digits { IsTrue (list_all is_digit digits.now) }
+    requires length { length digits.now ≤ 38 }
+    ensures value { result ≡ number_of digits.now }
+    ensures bound { result < 10 ^ length digits.now }
+{
+    let mut number = 0;
+    for digit in digits {
+        number = number * 10 + u128::from(*digit - b'0');
+    }
+    number
+}

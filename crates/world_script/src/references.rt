@@ -1,0 +1,114 @@
+//! Entities and ids as lines name them, looked up in a world. A dead handle comes before an unknown name, wherever the two stand.
+ghost use Rattle.std.specs.Prelude.{◌≡◌, IfOk, IfSome, IsTrue};
+ghost use Rattle.std.specs.List.{list_any};
+ghost use Rattle.ecs_id.specs.Id.{IsIndex};
+ghost use Rattle.ecs_model.specs.World.{is_alive};
+ghost use Rattle.ecs_model.specs.Session.{entity_found, found, id_found, is_dead_handle, refs_of_id};
+ghost use Rattle.script_line.specs.Line.{seen_id, seen_reference};
+ghost use Rattle.world_script.specs.Told.{FindsBoth};
+
+use crate::script_world::ScriptWorld;
+use ecs_id::{EntityId, Id};
+use ecs_model::faults::Refusal;
+use script_line::{IdReference, Reference};
+use std::alloc::Allocator;
+
+/// The entity of a reference.
+pub(crate) fn find_entity<A: Allocator, W: ScriptWorld<A>>(
+    world: &W,
+    entity: Reference<'_>,
+) -> Result<EntityId, Refusal>
+    ensures value { result ≡ entity_found (W.state world.now) (seen_reference entity.entry) }
+    ensures alive { IfOk result (λ e. IsTrue (is_alive (W.state world.now) e)) }
+{
+    if is_dead_handle(world, entity) {
+        return Err(Refusal::Dead);
+    }
+    match live_entity(world, entity) {
+        Some(entity) => Ok(entity),
+        None => Err(Refusal::UnknownName),
+    }
+}
+
+/// The entity of a reference and the id of others.
+pub(crate) fn find_both<A: Allocator, W: ScriptWorld<A>>(
+    world: &W,
+    entity: Reference<'_>,
+    id: IdReference<'_>,
+) -> Result<(EntityId, Id), Refusal>
+    ensures { FindsBoth (W.state world.now) (seen_reference entity.entry) (seen_id id.entry) result }
+{
+    if is_dead_handle(world, entity) || names_dead_handle(world, id) {
+        return Err(Refusal::Dead);
+    }
+    let Some(entity) = live_entity(world, entity) else {
+        return Err(Refusal::UnknownName);
+    };
+    let Some(id) = live_id(world, id) else {
+        return Err(Refusal::UnknownName);
+    };
+    Ok((entity, id))
+}
+
+/// Whether a reference is the handle of no live entity.
+fn is_dead_handle<A: Allocator, W: ScriptWorld<A>>(world: &W, reference: Reference<'_>) -> bool
+    ensures { result ≡ is_dead_handle (W.state world.now) (seen_reference reference.entry) }
+{
+    match reference {
+        Reference::Name(_) => false,
+        Reference::Handle(entity) => !world.is_alive(entity),
+    }
+}
+
+/// Whether some reference of an id is the handle of no live entity.
+fn names_dead_handle<A: Allocator, W: ScriptWorld<A>>(world: &W, id: IdReference<'_>) -> bool
+    ensures { result ≡ list_any (is_dead_handle (W.state world.now)) (refs_of_id (seen_id id.entry)) }
+{
+    match id {
+        IdReference::Plain(reference) => is_dead_handle(world, reference),
+        IdReference::Pair {
+            relationship,
+            target,
+        } => is_dead_handle(world, relationship) || is_dead_handle(world, target),
+    }
+}
+
+/// The live entity of a reference.
+fn live_entity<A: Allocator, W: ScriptWorld<A>>(
+    world: &W,
+    reference: Reference<'_>,
+) -> Option<EntityId>
+    ensures value { result ≡ found (W.state world.now) (seen_reference reference.entry) }
+    ensures index { IfSome result (λ e. IsIndex e.index) }
+{
+    match reference {
+        Reference::Name(name) => world.find(name),
+        Reference::Handle(entity) => {
+            if world.is_alive(entity) {
+                Some(entity)
+            } else {
+                None
+            }
+        }
+    }
+}
+
+/// The id of references, where each is that of a live entity.
+fn live_id<A: Allocator, W: ScriptWorld<A>>(world: &W, id: IdReference<'_>) -> Option<Id>
+    ensures { result ≡ id_found (W.state world.now) (seen_id id.entry) }
+{
+    match id {
+        IdReference::Plain(reference) => {
+            let component = live_entity(world, reference)?;
+            Some(Id::plain(component.index))
+        }
+        IdReference::Pair {
+            relationship,
+            target,
+        } => {
+            let relationship = live_entity(world, relationship)?;
+            let target = live_entity(world, target)?;
+            Some(Id::pair(relationship.index, target.index))
+        }
+    }
+}
