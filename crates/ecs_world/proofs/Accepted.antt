@@ -1,0 +1,273 @@
+-- What the calls need that carry out accepted commands, and what they leave.
+use Rattle.std.proofs.Common.{◌≡◌, ℕ, ◌+◌, ◌≤◌, ◌==◌, Bool, true, false, not, ◌&&◌, List, [], ◌∷◌, take, length, replicate, ℤ, Option, Some, None, is_some, unwrap_or, if◌then◌else◌, IsTrue, Result, Ok, Err, is_err, IfOk, OnOk, OnErr, refl, sym, ap, subst, ◌∙◌, arith, true≢false}
+use Rattle.std.proofs.lemmas.Bool.Decides.{Decides-eqb}
+use Rattle.std.specs.FinMap as finite
+use Rattle.std.specs.List.{list_all}
+use Rattle.std.specs.Option.{option_map_or}
+use Rattle.std.specs.Ordering.{nat_cmp}
+use Rattle.ecs_id.specs.declared.EntityId.{EntityId}
+use Rattle.ecs_id.specs.Id.{Id, plain, mentioned, id_cmp, id_eq}
+use Rattle.ecs_model.specs.Map.{Map, value_at, has_key, with_value, without}
+use Rattle.ecs_model.specs.Schema.{Schema, schema_fault, zeros}
+use Rattle.ecs_model.specs.Keeps.{IsWellFormed}
+use Rattle.ecs_model.specs.Refusal.{first_reason}
+use Rattle.ecs_model.specs.Changes.{facts_after_add, facts_after_remove}
+use Rattle.ecs_model.specs.World.{WorldState, Key, key_cmp, component, holds, type_of_id, new_value}
+use Rattle.ecs_model.specs.Command.{Command, IsCommand, Fresh, Entity, Component, Add, SetValue, Remove, reasons, effect, counted, is_spent, with_facts}
+use Rattle.ecs_model.specs.Command as model
+use Rattle.ecs_model.proofs.Additions.{held_after_add, not_spent}
+use Rattle.ecs_model.proofs.Answering.{effect_well_formed}
+use Rattle.ecs_model.proofs.Maps.{of_some}
+use Rattle.ecs_model.proofs.Removals.{removes_held_alone}
+use Rattle.name_index.specs.Names.{IsUnnamed, Names}
+use Rattle.ecs_world.specs.Holdings.{AreHoldings, Cells, HoldAlike, Holdings, KeepsSizes, Sizes, agrees, cells_at, held_at, holds_id, lives, next_entity, with_cells, with_entity}
+use Rattle.ecs_world.specs.State.{IsWorld, byte_count, is_known_rightly, state_of, type_of, value_in}
+use Rattle.ecs_world.proofs.Births.{birth_left, component_known, effect-component, effect-entity, effect-fresh, none_live, other_schemas, state_component, state_fresh, state_named, tags_empty, tags_tagged}
+use Rattle.ecs_world.proofs.Judged.{CanBear, CanChange, add_of_set, bears-component, bears-entity, bears-fresh, judged-add, judged-remove}
+use Rattle.ecs_world.proofs.Left.{cells_left, effect-add, effect-remove, effect-set, facts_held, facts_new, held_world, recounted, state_gone, state_put, tags_gone, tags_put, there, types_after_add}
+use Rattle.ecs_world.proofs.NameLists.{AreNamed-bound, AreNamed-same, unnamed}
+use Rattle.ecs_world.proofs.States.{AreNamed-world, holds_is, next_same, size_agrees, state_alike, type_is, world_alike, zeros_are_new}
+
+pub on_ok : {T E : Type 0} {P : Type 0} (r : Result T E) → OnOk r P → is_err r ≡ false → P
+on_ok (Ok t) p h = p
+on_ok (Err e) p h = absurd (true≢false h)
+
+pub on_ok_all : {T E : Type 0} {P Q : Type 0} (r : Result T E) → OnOk r P → (P → Q) → OnOk r Q
+on_ok_all (Ok t) p f = f p
+on_ok_all (Err e) p f = tt
+
+pub on_err : {T E : Type 0} {P : Type 0} (r : Result T E) → OnErr r P → is_err r ≡ true → P
+on_err (Ok t) p h = absurd (true≢false (sym h))
+on_err (Err e) p h = p
+
+-- what is made is what was to be made
+pub made_is : {E : Type 0} (o : Option EntityId) (B : EntityId → Type 0) (r : Result EntityId E) (e : EntityId) → IfOk r (λ f. o ≡ Some f) → IfOk r B → is_err r ≡ false → o ≡ Some e → B e
+made_is o B (Ok f) e next born h at =
+    let found : Some f ≡ Some e = sym next ∙ at in
+    let same : f ≡ e = cc in subst B same born
+made_is o B (Err x) e next born h at = absurd (true≢false h)
+
+-- a command that is accepted is counted
+pub counts : (w v : WorldState) → w ≡ v → is_spent v ≡ false → w.accepted + 1 ≤ 18446744073709551615
+counts w v is room = omega (arith, not_spent w.accepted (ap is_spent is ∙ room))
+
+pub sound_after : (v u : WorldState) (c : Command) → IsWellFormed v → IsCommand c → first_reason (reasons v c) ≡ None → u ≡ counted (effect v c) → IsWellFormed u
+sound_after v u c sound command none is = subst IsWellFormed (sym is) (effect_well_formed v c sound command none)
+
+module _ (h : Holdings) (names : Names) (schemas : Map ℕ Schema) (accepted : ℕ) (world : IsWorld h names schemas accepted) (v : WorldState) (is : state_of h names schemas accepted ≡ v) where
+  abbrev w : WorldState
+  w = state_of h names schemas accepted
+
+  sound_v : IsWellFormed v
+  sound_v = subst IsWellFormed is world.sound
+
+  -- the size of an id's type passes
+  size_known : (i : Id) (size : ℕ) → size ≡ byte_count (type_of_id v i) → list_all (has_key nat_cmp h.live) (mentioned i) ≡ true → list_all (is_known_rightly h schemas) ((i, size) ∷ []) ≡ true
+  size_known i size at live =
+      let same : size ≡ byte_count (type_of h schemas i) = at ∙ ap (λ u. byte_count (type_of_id u i)) (sym is) ∙ ap byte_count (type_is h names schemas accepted world i) in
+      λ k. ((Decides-eqb size (byte_count (type_of h schemas i))).1 same k && live k) && true
+
+  -- the names and the schemas are as they were
+  pub kept : (h' : Holdings) (names' : Names) (schemas' : Map ℕ Schema) → IsWorld h' names schemas accepted × (state_of h' names schemas accepted ≡ v) → names' ≡ names → schemas' ≡ schemas
+      → IsWorld h' names' schemas' accepted × (state_of h' names' schemas' accepted ≡ v)
+  kept h' names' schemas' left same_names same_schemas =
+      subst (λ ns. IsWorld h' ns schemas' accepted × (state_of h' ns schemas' accepted ≡ v)) (sym same_names) (subst (λ ss. IsWorld h' names ss accepted × (state_of h' names ss accepted ≡ v)) (sym same_schemas) left)
+
+  pub unchanged : IsWorld h names schemas accepted × (state_of h names schemas accepted ≡ v)
+  unchanged = (world, is)
+
+  -- a refusal of memory leaves the world as it was
+  pub failed : (added : Sizes) → list_all (is_known_rightly h schemas) added ≡ true → (h' : Holdings) → AreHoldings h' → HoldAlike h' h → KeepsSizes h.known added h'.known
+      → IsWorld h' names schemas accepted × (state_of h' names schemas accepted ≡ v)
+  failed added fits h' whole' alike keeps = (world_alike h' h names schemas accepted added world whole' alike keeps fits, state_alike h' h names schemas accepted alike ∙ is)
+
+  module _ (e : EntityId) (i : Id) where
+    module _ (can' : CanChange v e i) where
+      abbrev can : CanChange w e i
+      can = subst (λ u. CanChange u e i) (sym is) can'
+
+      pub alive_there : IsTrue (lives h e) × IsTrue (is_some (cells_at h e.index))
+      alive_there = (can.alive, ap is_some (there h names schemas accepted world e i can).1)
+
+      pub held_there : (b : Bool) → holds v e.index i ≡ b → holds_id h e.index i ≡ b
+      held_there b held = sym (holds_is h names schemas accepted world e.index i) ∙ ap (λ u. holds u e.index i) is ∙ held
+
+      pub size_there : (size : ℕ) → size ≡ byte_count (type_of_id v i) → agrees h.known i size ≡ true
+      size_there size at = size_agrees h names schemas accepted world i size (at ∙ ap (λ u. byte_count (type_of_id u i)) (sym is) ∙ ap byte_count (type_is h names schemas accepted world i))
+
+      pub fits_there : (size : ℕ) → size ≡ byte_count (type_of_id v i) → list_all (is_known_rightly h schemas) ((i, size) ∷ []) ≡ true
+      fits_there size at = size_known i size at can.mentions
+
+      -- a value is written to a fact that is held
+      pub written_left : (h' : Holdings) (bytes : List ℕ) (vs : List ℤ) → AreHoldings h' → HoldAlike h' (with_cells h e.index (with_value id_cmp (held_at h e.index) i bytes)) → KeepsSizes h.known [] h'.known
+          → value_in (type_of_id v i) bytes ≡ vs → (accepted' : ℕ) (u : WorldState) → record v { facts = with_value key_cmp v.facts (e.index, i) vs; accepted = accepted' } ≡ u → IsWellFormed u
+          → IsWorld h' names schemas accepted' × (state_of h' names schemas accepted' ≡ u)
+      written_left h' bytes vs whole' alike keeps value accepted' u to sound =
+          let state : state_of h' names schemas accepted' ≡ u =
+          state_put h names schemas accepted world e i can h' whole' bytes alike accepted'
+          ∙ (λ k. record (is k) { facts = with_value key_cmp (is k).facts (e.index, i) ((ap (λ t. value_in t bytes) (sym (type_is h names schemas accepted world i) ∙ ap (λ x. type_of_id x i) is) ∙ value) k); accepted = accepted' })
+          ∙ to in (
+            cells_left h names schemas accepted world e i can h' whole' (with_value id_cmp (held_at h e.index) i bytes) alike [] keeps refl (tags_put h names schemas accepted world e i can h' whole' bytes alike) accepted' (subst IsWellFormed (sym state) sound),
+            state,
+          )
+
+    -- a fact comes
+    module _ (none : first_reason (reasons v (Add e i)) ≡ None) where
+      pub come : (h' : Holdings) (size : ℕ) → AreHoldings h' → size ≡ byte_count (type_of_id v i) → holds v e.index i ≡ false
+          → HoldAlike h' (with_cells h e.index (with_value id_cmp (held_at h e.index) i (replicate size 0))) → KeepsSizes h.known ((i, size) ∷ []) h'.known
+          → IsWorld h' names schemas accepted × (state_of h' names schemas accepted ≡ with_facts v (facts_after_add v e.index i))
+      come h' size whole' at absent alike keeps =
+          let can' = judged-add v e i none in
+          let value : value_in (type_of h schemas i) (replicate size 0) ≡ new_value v i =
+          ap (λ n. value_in (type_of h schemas i) (replicate n 0)) (at ∙ ap (λ u. byte_count (type_of_id u i)) (sym is) ∙ ap byte_count (type_is h names schemas accepted world i))
+          ∙ zeros_are_new (type_of h schemas i) ∙ ap (λ o. option_map_or zeros o []) (sym (type_is h names schemas accepted world i) ∙ ap (λ x. type_of_id x i) is) in
+          let state : state_of h' names schemas accepted ≡ with_facts v (facts_after_add v e.index i) =
+          state_put h names schemas accepted world e i (can can') h' whole' (replicate size 0) alike accepted
+          ∙ (λ k. record (is k) { facts = with_value key_cmp (is k).facts (e.index, i) (value k) })
+          ∙ ap (with_facts v) (sym (facts_new v e.index i absent)) in (
+            cells_left h names schemas accepted world e i (can can') h' whole' (with_value id_cmp (held_at h e.index) i (replicate size 0)) alike ((i, size) ∷ []) keeps (fits_there can' size at)
+                (tags_put h names schemas accepted world e i (can can') h' whole' (replicate size 0) alike) accepted (subst IsWellFormed (sym state) (held_world v e i sound_v none)),
+            state,
+          )
+
+    -- a fact goes
+    module _ (none : first_reason (reasons v (Remove e i)) ≡ None) where
+      pub go : (h' : Holdings) → AreHoldings h' → HoldAlike h' (with_cells h e.index (without id_cmp (held_at h e.index) (λ k. id_eq k i))) → KeepsSizes h.known [] h'.known
+          → IsWorld h' names schemas (accepted + 1) × (state_of h' names schemas (accepted + 1) ≡ counted (effect v (Remove e i)))
+      go h' whole' alike keeps =
+          let can' = judged-remove v e i none in
+          let state : state_of h' names schemas (accepted + 1) ≡ counted (effect v (Remove e i)) =
+          state_gone h names schemas accepted world e i (can can') h' whole' alike (accepted + 1)
+          ∙ (λ k. record (is k) { facts = facts_after_remove (is k) e.index i; accepted = (is k).accepted + 1 })
+          ∙ ap counted (sym (effect-remove v e i)) in (
+            cells_left h names schemas accepted world e i (can can') h' whole' (without id_cmp (held_at h e.index) (λ k. id_eq k i)) alike [] keeps refl (tags_gone h names schemas accepted world e i (can can') h' whole' alike)
+                (accepted + 1) (sound_after v (state_of h' names schemas (accepted + 1)) (Remove e i) sound_v tt none state),
+            state,
+          )
+
+  -- the command is counted, and nothing else changes
+  pub counted_left : (c : Command) → IsCommand c → first_reason (reasons v c) ≡ None → effect v c ≡ v → IsWorld h names schemas (accepted + 1) × (state_of h names schemas (accepted + 1) ≡ counted (effect v c))
+  counted_left c command none same =
+      let state : state_of h names schemas (accepted + 1) ≡ counted (effect v c) = ap counted is ∙ ap counted (sym same) in (
+        record {
+          whole = world.whole;
+          sound = sound_after v (state_of h names schemas (accepted + 1)) c sound_v command none state;
+          settled = world.settled;
+          known = world.known;
+          named = world.named;
+          one_to_one = world.one_to_one;
+        },
+        state,
+      )
+
+  -- where the world is that of a command's effect, it is counted
+  pub counted_from : (u : WorldState) (c : Command) → effect u c ≡ v → is_spent v ≡ false → IsWorld h names schemas (accepted + 1) × (state_of h names schemas (accepted + 1) ≡ counted (effect u c))
+  counted_from u c same room =
+      let state : state_of h names schemas (accepted + 1) ≡ counted (effect u c) = ap counted is ∙ ap counted (sym same) in (
+        record {
+          whole = world.whole;
+          sound = recounted w world.sound (ap is_spent is ∙ room);
+          settled = world.settled;
+          known = world.known;
+          named = world.named;
+          one_to_one = world.one_to_one;
+        },
+        state,
+      )
+
+  -- the tag of components is known
+  pub component_fits : list_all (is_known_rightly h schemas) ((plain component, 0) ∷ []) ≡ true
+  component_fits =
+      let none : value_at nat_cmp schemas component ≡ None = ((world.sound).built_in).schemas component refl in
+      let live : has_key nat_cmp h.live component ≡ true = ap is_some (((world.sound).built_in).live component refl) in
+      λ k. ((0 == byte_count (none k)) && (live k && true)) && true
+
+  pub component_agrees : list_all (λ (c : Id × ℕ). agrees h.known c.0 c.1) ((plain component, 0) ∷ []) ≡ true
+  component_agrees =
+      let none : value_at nat_cmp schemas component ≡ None = ((world.sound).built_in).schemas component refl in
+      λ k. size_agrees h names schemas accepted world (plain component) 0 (sym (ap byte_count none)) k && true
+
+  pub next_of : (e : EntityId) → next_entity h ≡ Some e → model.next_entity v ≡ Some e
+  next_of e next = ap model.next_entity (sym is) ∙ sym (next_same h names schemas accepted) ∙ next
+
+  pub next_some : CanBear v → IsTrue (is_some (next_entity h))
+  next_some can = ap is_some (next_same h names schemas accepted ∙ ap model.next_entity is ∙ (can.next).1)
+
+  module _ (e : EntityId) (next : model.next_entity v ≡ Some e) where
+    abbrev next_w : model.next_entity w ≡ Some e
+    next_w = ap model.next_entity is ∙ next
+
+    pub next_there : next_entity h ≡ Some e
+    next_there = next_same h names schemas accepted ∙ next_w
+
+    pub next_unnamed : IsUnnamed names e
+    next_unnamed = unnamed names h.live (AreNamed-world h names schemas accepted world) e (none_live h names schemas accepted world e next_w)
+
+    -- it has no schema
+    pub next_plain : value_at nat_cmp schemas e.index ≡ None
+    next_plain = by (value_at nat_cmp schemas e.index) refl
+      where
+        by : (o : Option Schema) → value_at nat_cmp schemas e.index ≡ o → o ≡ None
+        by None p = refl
+        by (Some fs) p = absurd (true≢false (sym (of_some (λ x. (has_key nat_cmp h.live e.index ≡ true) × (schema_fault x ≡ None)) (value_at nat_cmp schemas e.index) (((world.sound).live).schemas e.index) fs p).0
+            ∙ ap is_some (none_live h names schemas accepted world e next_w)))
+
+    -- an entity without a name
+    pub fresh_left : first_reason (reasons v Fresh) ≡ None → (h' : Holdings) → AreHoldings h' → HoldAlike h' (with_cells (with_entity h e) e.index []) → KeepsSizes h.known [] h'.known
+        → IsWorld h' names schemas (accepted + 1) × (state_of h' names schemas (accepted + 1) ≡ counted (effect v Fresh))
+    fresh_left none h' whole' alike keeps =
+        let state : state_of h' names schemas (accepted + 1) ≡ counted (effect v Fresh) =
+        state_fresh h names schemas accepted world e next_w h' whole' alike (accepted + 1)
+        ∙ (λ k. record (is k) { live = with_value nat_cmp (is k).live e.index e.generation; accepted = (is k).accepted + 1 }) ∙ ap counted (sym (effect-fresh v e next)) in (
+          birth_left h names schemas accepted world e next_w h' whole' [] alike schemas (λ j d. refl) (tags_empty h names schemas accepted world e next_w h' whole' alike) names
+              (AreNamed-same names h.live (AreNamed-world h names schemas accepted world) e (none_live h names schemas accepted world e next_w)) [] keeps refl (accepted + 1)
+              (sound_after v (state_of h' names schemas (accepted + 1)) Fresh sound_v tt none state),
+          state,
+        )
+
+    -- an entity with a name
+    pub named_left : (n : List ℕ) → first_reason (reasons v (Entity n)) ≡ None → finite.get names n ≡ None → (names' : Names) → names' ≡ finite.insert names n e
+        → (h' : Holdings) → AreHoldings h' → HoldAlike h' (with_cells (with_entity h e) e.index []) → KeepsSizes h.known [] h'.known
+        → IsWorld h' names' schemas (accepted + 1) × (state_of h' names' schemas (accepted + 1) ≡ counted (effect v (Entity n)))
+    named_left n none free names' bound h' whole' alike keeps =
+        subst (λ ns. IsWorld h' ns schemas (accepted + 1) × (state_of h' ns schemas (accepted + 1) ≡ counted (effect v (Entity n)))) (sym bound)
+        (let state : state_of h' (finite.insert names n e) schemas (accepted + 1) ≡ counted (effect v (Entity n)) =
+        state_named h names schemas accepted world e next_w h' whole' alike n free (accepted + 1)
+        ∙ (λ k. record (is k) { live = with_value nat_cmp (is k).live e.index e.generation; names = with_value nat_cmp (is k).names e.index n; accepted = (is k).accepted + 1 }) ∙ ap counted (sym (effect-entity v n e next)) in (
+          birth_left h names schemas accepted world e next_w h' whole' [] alike schemas (λ j d. refl) (tags_empty h names schemas accepted world e next_w h' whole' alike) (finite.insert names n e)
+              (AreNamed-bound names h.live (AreNamed-world h names schemas accepted world) e (none_live h names schemas accepted world e next_w) n free) [] keeps refl (accepted + 1)
+              (sound_after v (state_of h' (finite.insert names n e) schemas (accepted + 1)) (Entity n) sound_v tt none state),
+          state,
+        ))
+
+    -- a component
+    pub component_left : (n : List ℕ) (s : Schema) → schema_fault s ≡ None → first_reason (reasons v (Component n s)) ≡ None → finite.get names n ≡ None → (names' : Names) → names' ≡ finite.insert names n e
+        → (schemas' : Map ℕ Schema) → schemas' ≡ with_value nat_cmp schemas e.index s
+        → (h' : Holdings) → AreHoldings h' → HoldAlike h' (with_cells (with_entity h e) e.index ((plain component, []) ∷ [])) → KeepsSizes h.known ((plain component, 0) ∷ []) h'.known
+        → IsWorld h' names' schemas' (accepted + 1) × (state_of h' names' schemas' (accepted + 1) ≡ counted (effect v (Component n s)))
+    component_left n s proper none free names' bound schemas' typed h' whole' alike keeps =
+        subst (λ ns. IsWorld h' ns schemas' (accepted + 1) × (state_of h' ns schemas' (accepted + 1) ≡ counted (effect v (Component n s)))) (sym bound)
+        (subst (λ ss. IsWorld h' (finite.insert names n e) ss (accepted + 1) × (state_of h' (finite.insert names n e) ss (accepted + 1) ≡ counted (effect v (Component n s)))) (sym typed)
+        (let state : state_of h' (finite.insert names n e) (with_value nat_cmp schemas e.index s) (accepted + 1) ≡ counted (effect v (Component n s)) =
+        state_component h names schemas accepted world e next_w h' whole' alike s n free (accepted + 1)
+        ∙ (λ k. record (is k) {
+          live = with_value nat_cmp (is k).live e.index e.generation;
+          names = with_value nat_cmp (is k).names e.index n;
+          schemas = with_value nat_cmp (is k).schemas e.index s;
+          facts = with_value key_cmp (is k).facts (e.index, plain component) [];
+          accepted = (is k).accepted + 1;
+        }) ∙ ap counted (sym (effect-component v n s e next)) in (
+          birth_left h names schemas accepted world e next_w h' whole' ((plain component, []) ∷ []) alike (with_value nat_cmp schemas e.index s) (other_schemas h names schemas accepted world e next_w h' whole' alike s)
+              (tags_tagged h names schemas accepted world e next_w h' whole' alike s) (finite.insert names n e)
+              (AreNamed-bound names h.live (AreNamed-world h names schemas accepted world) e (none_live h names schemas accepted world e next_w) n free) ((plain component, 0) ∷ []) keeps
+              (component_known h names schemas accepted world e next_w h' whole' alike s) (accepted + 1)
+              (sound_after v (state_of h' (finite.insert names n e) (with_value nat_cmp schemas e.index s) (accepted + 1)) (Component n s) sound_v proper none state),
+          state,
+        )))
+
+pub effect-remove-none : (v : WorldState) (e : EntityId) (i : Id) → holds v e.index i ≡ false → effect v (Remove e i) ≡ v
+effect-remove-none v e i absent = effect-remove v e i ∙ ap (with_facts v) (removes_held_alone v e.index i absent)
+
+-- what holds before a fact comes, holds after
+pub can_still : (u v : WorldState) (e : EntityId) (i : Id) → v ≡ with_facts u (facts_after_add u e.index i) → CanChange u e i → CanChange v e i
+can_still u v e i is can = subst (λ x. CanChange x e i) (sym is) (record { alive = can.alive; mentions = can.mentions; no_trait = can.no_trait; room = can.room })

@@ -1,0 +1,123 @@
+-- What is known of a command against which there is no reason.
+use Rattle.std.proofs.Common.{◌≡◌, ◌⊎◌, ℕ, Bool, true, false, not, ◌||◌, ℤ, List, [], ◌∷◌, ◌++◌, Option, Some, None, is_some, is_none, refl, sym, ap, ◌∙◌, subst, inl, inr, true≢false}
+use Rattle.std.specs.List.{list_all}
+use Rattle.ecs_id.specs.declared.EntityId.{EntityId}
+use Rattle.ecs_id.specs.Id.{Id, mentioned}
+use Rattle.ecs_model.specs.declared.faults.Refusal.{Refusal}
+use Rattle.ecs_model.specs.declared.faults.Refusal.TheVariants.{Dead, BadName, NameTaken, BuiltIn, TooManyIds, Full}
+use Rattle.ecs_model.specs.Refusal.{first_reason}
+use Rattle.ecs_model.specs.Provisional.{is_not_yet_changed}
+use Rattle.ecs_model.specs.Changes.{facts_after_add}
+use Rattle.ecs_model.specs.Text.{is_name}
+use Rattle.ecs_model.specs.Schema.{Schema}
+use Rattle.ecs_model.specs.World.{WorldState, type_of_id, is_alive, is_live, is_built_in, named}
+use Rattle.ecs_model.specs.Command.{Fresh, Entity, Component, Add, SetValue, Remove, reasons, is_dead, is_spent, is_crowded, with_facts, changes_built_in, add_reasons, value_reasons, birth_reasons, name_reasons, next_entity}
+use Rattle.ecs_model.proofs.Reasons.{passed, neither, denied}
+use Rattle.ecs_world.proofs.Refusing.{passed_over}
+
+-- without any reason there is none among the first, and none among the later ones
+none_of_both : (rs ss : List (Bool × Refusal)) → first_reason (rs ++ ss) ≡ None → (first_reason rs ≡ None) × (first_reason ss ≡ None)
+none_of_both [] ss h = (refl, h)
+none_of_both ((true, q) ∷ rs) ss h = (h, absurd (true≢false (ap is_some h)))
+none_of_both ((false, q) ∷ rs) ss h = none_of_both rs ss h
+
+-- the fact of a live entity, with an id of live indexes that are no traits
+pub record CanChange (w : WorldState) (e : EntityId) (i : Id) : Type 0 where
+  pub alive : is_alive w e ≡ true
+  pub mentions : list_all (is_live w) (mentioned i) ≡ true
+  pub no_trait : is_not_yet_changed i ≡ false
+  pub room : is_spent w ≡ false
+
+module _ (w : WorldState) (e : EntityId) (i : Id) where
+  pub living : is_dead w e i ≡ false → (is_alive w e ≡ true) × (list_all (is_live w) (mentioned i) ≡ true)
+  living dead =
+      let parts = neither (not (is_alive w e)) (not (list_all (is_live w) (mentioned i))) dead in
+      (denied (is_alive w e) parts.0, denied (list_all (is_live w) (mentioned i)) parts.1)
+
+  judged : is_dead w e i ≡ false → changes_built_in w e.index i ≡ false → is_spent w ≡ false → CanChange w e i
+  judged dead built spent =
+      let live = living dead in
+      record { alive = live.0; mentions = live.1; no_trait = (neither (is_built_in e.index) (is_not_yet_changed i) built).1; room = spent }
+
+  add_parts : (rs : List (Bool × Refusal)) → first_reason ((is_dead w e i, Dead) ∷ (changes_built_in w e.index i, BuiltIn) ∷ rs) ≡ None
+      → (is_dead w e i ≡ false) × (changes_built_in w e.index i ≡ false) × (first_reason rs ≡ None)
+  add_parts rs none =
+      let live = passed (is_dead w e i) Dead ((changes_built_in w e.index i, BuiltIn) ∷ rs) none in
+      let own = passed (changes_built_in w e.index i) BuiltIn rs live.1 in
+      (live.0, own.0, own.1)
+
+  unspent : first_reason (add_reasons w e.index i) ≡ None → is_spent w ≡ false
+  unspent none =
+      let few = passed (is_crowded (with_facts w (facts_after_add w e.index i))) TooManyIds ((is_spent w, Full) ∷ []) none in
+      (passed (is_spent w) Full [] few.1).0
+
+  pub judged-add : first_reason (reasons w (Add e i)) ≡ None → CanChange w e i
+  unfolding reasons
+  judged-add none = let parts = add_parts (add_reasons w e.index i) none in judged parts.0 parts.1 (unspent parts.2)
+
+  pub judged-remove : first_reason (reasons w (Remove e i)) ≡ None → CanChange w e i
+  unfolding reasons
+  judged-remove none = let parts = add_parts ((is_spent w, Full) ∷ []) none in judged parts.0 parts.1 (passed (is_spent w) Full [] parts.2).0
+
+  -- what may be set may be added
+  pub add_of_set : (vs : List ℤ) → first_reason (reasons w (SetValue e i vs)) ≡ None → (first_reason (value_reasons (type_of_id w i) vs) ≡ None) × (first_reason (reasons w (Add e i)) ≡ None)
+  unfolding reasons
+  add_of_set vs none =
+      let parts = add_parts (value_reasons (type_of_id w i) vs ++ add_reasons w e.index i) none in
+      let both = none_of_both (value_reasons (type_of_id w i) vs) (add_reasons w e.index i) parts.2 in (
+        both.0,
+        sym (sym both.1 ∙ passed_over (changes_built_in w e.index i) BuiltIn (add_reasons w e.index i) parts.1 ∙ passed_over (is_dead w e i) Dead ((changes_built_in w e.index i, BuiltIn) ∷ add_reasons w e.index i) parts.0),
+      )
+
+  pub remove_dead : is_dead w e i ≡ true → Some Dead ≡ first_reason (reasons w (Remove e i))
+  unfolding reasons
+  remove_dead d = ap (λ b. first_reason ((b, Dead) ∷ (changes_built_in w e.index i, BuiltIn) ∷ (is_spent w, Full) ∷ [])) (sym d)
+
+  pub remove_built_in : is_dead w e i ≡ false → changes_built_in w e.index i ≡ true → Some BuiltIn ≡ first_reason (reasons w (Remove e i))
+  unfolding reasons
+  remove_built_in d b = (λ k. first_reason ((sym d k, Dead) ∷ (sym b k, BuiltIn) ∷ (is_spent w, Full) ∷ []))
+
+  pub remove_later : (o : Option Refusal) → is_dead w e i ≡ false → changes_built_in w e.index i ≡ false → o ≡ first_reason ((is_spent w, Full) ∷ []) → o ≡ first_reason (reasons w (Remove e i))
+  unfolding reasons
+  remove_later o d b is = is ∙ (λ k. first_reason ((sym d k, Dead) ∷ (sym b k, BuiltIn) ∷ (is_spent w, Full) ∷ []))
+
+-- an entity can be made
+pub record CanBear (w : WorldState) : Type 0 where
+  pub next : (e : EntityId) × (next_entity w ≡ Some e)
+  pub room : is_spent w ≡ false
+
+there : (o : Option EntityId) → is_none o ≡ false → (e : EntityId) × (o ≡ Some e)
+there None h = absurd (true≢false h)
+there (Some e) h = (e, refl)
+
+births : (w : WorldState) → first_reason (birth_reasons w) ≡ None → CanBear w
+births w none =
+    let parts = neither (is_none (next_entity w)) (is_spent w) (passed (is_none (next_entity w) || is_spent w) Full [] none).0 in
+    record { next = there (next_entity w) parts.0; room = parts.1 }
+
+named_births : (w : WorldState) (n : List ℕ) → first_reason (name_reasons w n ++ birth_reasons w) ≡ None → CanBear w
+named_births w n none = births w (none_of_both (name_reasons w n) (birth_reasons w) none).1
+
+pub bears-fresh : (w : WorldState) → first_reason (reasons w Fresh) ≡ None → CanBear w
+unfolding reasons
+bears-fresh w none = births w none
+
+pub bears-entity : (w : WorldState) (n : List ℕ) → first_reason (reasons w (Entity n)) ≡ None → CanBear w
+unfolding reasons
+bears-entity w n none = named_births w n none
+
+pub bears-component : (w : WorldState) (n : List ℕ) (fs : Schema) → first_reason (reasons w (Component n fs)) ≡ None → CanBear w
+unfolding reasons
+bears-component w n fs none = named_births w n none
+
+pub fresh_refusal : (w : WorldState) → first_reason (birth_reasons w) ≡ first_reason (reasons w Fresh)
+unfolding reasons
+fresh_refusal w = refl
+
+pub entity_refusal : (w : WorldState) (n : List ℕ) → first_reason (name_reasons w n ++ birth_reasons w) ≡ first_reason (reasons w (Entity n))
+unfolding reasons
+entity_refusal w n = refl
+
+pub component_refusal : (w : WorldState) (n : List ℕ) (fs : Schema) → first_reason (name_reasons w n ++ birth_reasons w) ≡ first_reason (reasons w (Component n fs))
+unfolding reasons
+component_refusal w n fs = refl

@@ -1,0 +1,211 @@
+-- What commands on facts leave.
+use Rattle.std.proofs.Common.{◌≡◌, ◌≢◌, ◌⊎◌, ℕ, ◌+◌, ◌≤◌, ◌<◌, ◌^◌, ◌==◌, Bool, true, false, cond, not, ◌&&◌, ◌||◌, List, [], ◌∷◌, map, length, replicate, ℤ, Option, Some, None, option_map, unwrap_or, is_some, if◌then◌else◌, IsTrue, IfSome, refl, sym, ap, subst, ◌∙◌, inl, inr, arith, true≢false}
+use Rattle.std.specs.Cmp.{nat_cmp_total, Equal-is}
+use Rattle.std.specs.List.{list_all, list_any}
+use Rattle.std.specs.Option.{option_eq, option_map_or, option_or}
+use Rattle.std.specs.Ordering.{nat_cmp, eq_by_cmp}
+use Rattle.ecs_id.specs.declared.EntityId.{EntityId}
+use Rattle.ecs_id.specs.Id.{Id, plain, pair, mentioned, id_cmp, id_eq}
+use Rattle.ecs_model.specs.Map.{Map, IsMap, value_at, has_key, keys, with_value, without}
+use Rattle.ecs_model.specs.Schema.{Schema, zeros, all_fit}
+use Rattle.ecs_model.specs.Keeps.{IsWellFormed}
+use Rattle.ecs_model.specs.Provisional.{is_not_yet_changed}
+use Rattle.ecs_model.specs.Refusal.{first_reason}
+use Rattle.ecs_model.specs.Changes.{facts_after_add, facts_after_remove}
+use Rattle.ecs_model.specs.World.{WorldState, Key, key_cmp, key_eq, pair_is_tag, holds, is_alive, is_live, type_of_id, new_value, value_of}
+use Rattle.ecs_model.specs.Command.{Add, SetValue, Remove, reasons, effect, counted, is_spent, with_facts}
+use Rattle.ecs_model.proofs.Maps.{key_cmp_total, key_cmp_same, keys-with_value}
+use Rattle.ecs_model.proofs.Additions.{add_is_addition, not_spent}
+use Rattle.ecs_model.proofs.Answering.{effect_well_formed}
+use Rattle.ecs_model.proofs.Typing.{same_type}
+use Rattle.ecs_model.proofs.Removals.{removes_held_alone}
+use Rattle.name_index.specs.Names.{Names}
+use Rattle.ecs_world.specs.Holdings.{AreHoldings, Cells, HoldAlike, Holdings, KeepsSizes, Sizes, bytes_at, cells_at, held_at, holds_id, lives, with_cells}
+use Rattle.ecs_world.specs.State.{IsWorld, all_facts, byte_count, is_known_rightly, names_of, state_of, type_in, type_of, value_in}
+use Rattle.ecs_world.proofs.Entities.{generation_of}
+use Rattle.ecs_world.proofs.Facts.{bytes_in}
+use Rattle.ecs_world.proofs.FactChanges.{AreCells, bytes_put, bytes_gone, facts_put, facts_gone}
+use Rattle.ecs_world.proofs.Judged.{CanChange, judged-add, judged-remove}
+use Rattle.ecs_world.proofs.States.{AreCells-whole, AreCells-world, all_true, holds_is, settled_at, type_in-same, type_is, zeros_are_new}
+
+-- a world is well formed before it is counted
+pub uncounted : (w : WorldState) → IsWellFormed (counted w) → IsWellFormed w
+uncounted w h = record {
+  in_order = record {
+    live = (h.in_order).live;
+    facts = (h.in_order).facts;
+    names = (h.in_order).names;
+    schemas = (h.in_order).schemas;
+    deletions = (h.in_order).deletions;
+    pins = (h.in_order).pins;
+  };
+  indexes = record { given_out = (h.indexes).given_out; generation = (h.indexes).generation };
+  built_in = record {
+    live = (h.built_in).live;
+    names = (h.built_in).names;
+    facts = (h.built_in).facts;
+    schemas = (h.built_in).schemas;
+  };
+  live = record { names = (h.live).names; names_differ = (h.live).names_differ; schemas = (h.live).schemas; pins = (h.live).pins; facts = (h.live).facts };
+  typed = λ e i. typed e i;
+  few_ids = h.few_ids;
+  counted = omega (arith, h.counted);
+}
+  where
+    types : (i : Id) → type_of_id (counted w) i ≡ type_of_id w i
+    types (plain c) = refl
+    types (pair r t) = refl
+
+    typed : (e : ℕ) (i : Id) → IfSome (value_of w e i) (λ v. (length v ≡ length (new_value w i)) × IsTrue (option_map_or (λ fs. all_fit fs v) (type_of_id w i) true))
+    typed e i = subst (λ o. IfSome (value_of w e i) (λ v. (length v ≡ length (option_map_or zeros o [])) × IsTrue (option_map_or (λ fs. all_fit fs v) o true))) (types i) (h.typed e i)
+
+-- and where one more command can be counted, after it
+pub recounted : (w : WorldState) → IsWellFormed w → is_spent w ≡ false → IsWellFormed (counted w)
+recounted w h room = record {
+  in_order = record {
+    live = (h.in_order).live;
+    facts = (h.in_order).facts;
+    names = (h.in_order).names;
+    schemas = (h.in_order).schemas;
+    deletions = (h.in_order).deletions;
+    pins = (h.in_order).pins;
+  };
+  indexes = record { given_out = (h.indexes).given_out; generation = (h.indexes).generation };
+  built_in = record {
+    live = (h.built_in).live;
+    names = (h.built_in).names;
+    facts = (h.built_in).facts;
+    schemas = (h.built_in).schemas;
+  };
+  live = record { names = (h.live).names; names_differ = (h.live).names_differ; schemas = (h.live).schemas; pins = (h.live).pins; facts = (h.live).facts };
+  typed = λ e i. typed e i;
+  few_ids = h.few_ids;
+  counted = not_spent w.accepted room;
+}
+  where
+    types : (i : Id) → type_of_id w i ≡ type_of_id (counted w) i
+    types (plain c) = refl
+    types (pair r t) = refl
+
+    typed : (e : ℕ) (i : Id) → IfSome (value_of w e i) (λ v. (length v ≡ length (new_value (counted w) i)) × IsTrue (option_map_or (λ fs. all_fit fs v) (type_of_id (counted w) i) true))
+    typed e i = subst (λ o. IfSome (value_of w e i) (λ v. (length v ≡ length (option_map_or zeros o [])) × IsTrue (option_map_or (λ fs. all_fit fs v) o true))) (types i) (h.typed e i)
+
+-- the key of the trait is not that of a fact which may change
+no_tag_key : (e r : ℕ) (i : Id) → is_not_yet_changed i ≡ false → eq_by_cmp key_cmp (r, plain pair_is_tag) (e, i) ≡ false
+no_tag_key e r i h = by (eq_by_cmp key_cmp (r, plain pair_is_tag) (e, i)) refl
+  where
+    by : (b : Bool) → eq_by_cmp key_cmp (r, plain pair_is_tag) (e, i) ≡ b → b ≡ false
+    by true p =
+        let same : ◌≡◌ {A = Key} (r, plain pair_is_tag) (e, i) = key_cmp_same (r, plain pair_is_tag) (e, i) ((Equal-is (key_cmp (r, plain pair_is_tag) (e, i))).0 p) in
+        absurd (true≢false (ap (λ k. is_not_yet_changed k.1) same ∙ h))
+    by false p = refl
+
+module _ (h : Holdings) (names : Names) (schemas : Map ℕ Schema) (accepted : ℕ) (world : IsWorld h names schemas accepted) (e : EntityId) (i : Id) (can : CanChange (state_of h names schemas accepted) e i) where
+  abbrev w : WorldState
+  w = state_of h names schemas accepted
+
+  pub there : (cs : Cells) × (cells_at h e.index ≡ Some cs)
+  there = settled_at h names schemas accepted world e.index (ap is_some (generation_of (value_at nat_cmp h.live e.index) e.generation can.alive))
+
+  module _ (h' : Holdings) (whole' : AreHoldings h') (cs' : Cells) (alike : HoldAlike h' (with_cells h e.index cs')) (added : Sizes) (keeps : KeepsSizes h.known added h'.known)
+      (fits : list_all (is_known_rightly h schemas) added ≡ true) (tags : (r : ℕ) → holds_id h' r (plain pair_is_tag) ≡ holds_id h r (plain pair_is_tag)) where
+    pub types_left : (j : Id) → type_of h' schemas j ≡ type_of h schemas j
+    types_left j = type_in-same schemas schemas (λ r. holds_id h r (plain pair_is_tag)) (λ r. holds_id h' r (plain pair_is_tag)) (λ x. true) j (all_true (mentioned j)) (λ k t. refl) tags
+
+    pub cells_left : (accepted' : ℕ) → IsWellFormed (state_of h' names schemas accepted') → IsWorld h' names schemas accepted'
+    cells_left accepted' sound = record {
+      whole = whole';
+      sound = sound;
+      settled = ap keys alike.cells ∙ keys-with_value nat_cmp nat_cmp_total h.cells e.index cs' (world.whole).cells (ap is_some there.1) ∙ world.settled ∙ ap keys (sym alike.live);
+      known = (λ k. list_all (λ c. (c.1 == byte_count (types_left c.0 k)) && list_all (has_key nat_cmp (alike.live k)) (mentioned c.0)) h'.known) ∙ keeps (is_known_rightly h schemas) world.known fits;
+      named = λ n f p. ap (λ live. option_eq ◌==◌ (value_at nat_cmp live f.index) (Some f.generation)) alike.live ∙ world.named n f p;
+      one_to_one = world.one_to_one;
+    }
+
+  -- a fact comes, or has new bytes
+  module _ (h' : Holdings) (whole' : AreHoldings h') (bytes : List ℕ) (alike : HoldAlike h' (with_cells h e.index (with_value id_cmp (held_at h e.index) i bytes))) where
+    now_put : (d : ℕ) (j : Id) → bytes_in h'.cells d j ≡ cond (eq_by_cmp key_cmp (d, j) (e.index, i)) (Some bytes) (bytes_in h.cells d j)
+    now_put d j = ap (λ cells. bytes_in cells d j) alike.cells ∙ bytes_put h.cells e.index i bytes d j
+
+    pub tags_put : (r : ℕ) → holds_id h' r (plain pair_is_tag) ≡ holds_id h r (plain pair_is_tag)
+    tags_put r = ap is_some (now_put r (plain pair_is_tag) ∙ ap (λ b. cond b (Some bytes) (bytes_in h.cells r (plain pair_is_tag))) (no_tag_key e.index r i can.no_trait))
+
+    types_put : (j : Id) → type_of h' schemas j ≡ type_of h schemas j
+    types_put j = type_in-same schemas schemas (λ r. holds_id h r (plain pair_is_tag)) (λ r. holds_id h' r (plain pair_is_tag)) (λ x. true) j (all_true (mentioned j)) (λ k t. refl) tags_put
+
+    facts_left : all_facts (type_of h' schemas) h'.cells ≡ with_value key_cmp w.facts (e.index, i) (value_in (type_of h schemas i) bytes)
+    facts_left = facts_put (type_of h schemas) (type_of h' schemas) h.cells h'.cells (AreCells-world h names schemas accepted world) (AreCells-whole h' whole') (λ d j bs p. types_put j) e.index i bytes now_put
+        ∙ ap (λ t. with_value key_cmp w.facts (e.index, i) (value_in t bytes)) (types_put i)
+
+    pub state_put : (accepted' : ℕ) → state_of h' names schemas accepted' ≡ record w { facts = with_value key_cmp w.facts (e.index, i) (value_in (type_of h schemas i) bytes); accepted = accepted' }
+    state_put accepted' = λ k. record {
+      live = alike.live k;
+      facts = facts_left k;
+      names = names_of names (alike.live k);
+      schemas = schemas;
+      deletions = alike.deletions k;
+      pins = [];
+      accepted = accepted';
+    }
+
+  -- a fact goes
+  module _ (h' : Holdings) (whole' : AreHoldings h') (alike : HoldAlike h' (with_cells h e.index (without id_cmp (held_at h e.index) (λ k. id_eq k i)))) where
+    now_gone : (d : ℕ) (j : Id) → bytes_in h'.cells d j ≡ cond (eq_by_cmp key_cmp (d, j) (e.index, i)) None (bytes_in h.cells d j)
+    now_gone d j = ap (λ cells. bytes_in cells d j) alike.cells ∙ bytes_gone h.cells e.index i d j
+
+    pub tags_gone : (r : ℕ) → holds_id h' r (plain pair_is_tag) ≡ holds_id h r (plain pair_is_tag)
+    tags_gone r = ap is_some (now_gone r (plain pair_is_tag) ∙ ap (λ b. cond b None (bytes_in h.cells r (plain pair_is_tag))) (no_tag_key e.index r i can.no_trait))
+
+    types_gone : (j : Id) → type_of h' schemas j ≡ type_of h schemas j
+    types_gone j = type_in-same schemas schemas (λ r. holds_id h r (plain pair_is_tag)) (λ r. holds_id h' r (plain pair_is_tag)) (λ x. true) j (all_true (mentioned j)) (λ k t. refl) tags_gone
+
+    gone_left : all_facts (type_of h' schemas) h'.cells ≡ facts_after_remove w e.index i
+    unfolding facts_after_remove
+    gone_left = facts_gone (type_of h schemas) (type_of h' schemas) h.cells h'.cells (AreCells-world h names schemas accepted world) (AreCells-whole h' whole') (λ d j bs p. types_gone j) e.index i now_gone
+
+    pub state_gone : (accepted' : ℕ) → state_of h' names schemas accepted' ≡ record w { facts = facts_after_remove w e.index i; accepted = accepted' }
+    state_gone accepted' = λ k. record {
+      live = alike.live k;
+      facts = gone_left k;
+      names = names_of names (alike.live k);
+      schemas = schemas;
+      deletions = alike.deletions k;
+      pins = [];
+      accepted = accepted';
+    }
+
+-- a new fact has a new value
+pub facts_new : (w : WorldState) (e : ℕ) (i : Id) → holds w e i ≡ false → facts_after_add w e i ≡ with_value key_cmp w.facts (e, i) (new_value w i)
+unfolding facts_after_add
+facts_new w e i absent = ap (λ b. if b then w.facts else with_value key_cmp w.facts (e, i) (new_value w i)) absent
+
+-- a fact that is held stays as it is
+pub facts_held : (w : WorldState) (e : ℕ) (i : Id) → holds w e i ≡ true → facts_after_add w e i ≡ w.facts
+unfolding facts_after_add
+facts_held w e i held = ap (λ b. if b then w.facts else with_value key_cmp w.facts (e, i) (new_value w i)) held
+
+pub effect-add : (w : WorldState) (e : EntityId) (i : Id) → effect w (Add e i) ≡ with_facts w (facts_after_add w e.index i)
+unfolding effect
+effect-add w e i = refl
+
+pub effect-set : (w : WorldState) (e : EntityId) (i : Id) (vs : List ℤ) → effect w (SetValue e i vs) ≡ with_facts w (with_value key_cmp (facts_after_add w e.index i) (e.index, i) vs)
+unfolding effect
+effect-set w e i vs = refl
+
+pub effect-remove : (w : WorldState) (e : EntityId) (i : Id) → effect w (Remove e i) ≡ with_facts w (facts_after_remove w e.index i)
+unfolding effect
+effect-remove w e i = refl
+
+-- the world with the fact, not yet counted
+pub held_world : (w : WorldState) (e : EntityId) (i : Id) → IsWellFormed w → first_reason (reasons w (Add e i)) ≡ None → IsWellFormed (with_facts w (facts_after_add w e.index i))
+held_world w e i sound none = uncounted (with_facts w (facts_after_add w e.index i)) (subst (λ v. IsWellFormed (counted v)) (effect-add w e i) (effect_well_formed w (Add e i) sound tt none))
+
+-- after `add` an id has the type that it had
+pub types_after_add : (w : WorldState) (e : EntityId) (i j : Id) → IsWellFormed w → is_not_yet_changed i ≡ false → type_of_id (with_facts w (facts_after_add w e.index i)) j ≡ type_of_id w j
+types_after_add w e i j sound no_trait = same_type w (with_facts w (facts_after_add w e.index i)) (λ x. true) j (all_true (mentioned j)) (λ k t. refl) tags
+  where
+    tags : (r : ℕ) → has_key key_cmp (facts_after_add w e.index i) (r, plain pair_is_tag) ≡ holds w r (plain pair_is_tag)
+    tags r = elim ((add_is_addition w e.index i sound).others (r, plain pair_is_tag)) [
+      | inl p ↦ absurd (true≢false (ap (λ q. is_not_yet_changed q.1) p ∙ no_trait))
+      | inr p ↦ ap is_some p
+    ]

@@ -1,0 +1,8 @@
+use Rattle.std.proofs.Common.{◌∙◌}
+use Rattle.ecs_world.proofs.States.{ids_told}
+use Rattle.ecs_world.proofs.World.ids_of.Goals as goal
+
+pub returns : goal.returns
+returns g c =
+    let w = c.self.inside in
+    rw (← c.self.view_is) (c.ids_of.ensures ∙ ids_told w.archetypes w.names w.schemas.entries w.accepted c.self.invariant c.args.entity)

@@ -1,0 +1,51 @@
+use Rattle.std.proofs.Common.{◌≡◌, [], ◌∷◌, Some, refl, sym, ap, ◌∙◌, arith}
+use Rattle.ecs_model.proofs.Additions.{not_spent}
+use Rattle.ecs_world.proofs.Accepted.{failed, fresh_left, next_of, next_some, on_err}
+use Rattle.ecs_world.proofs.Judged.{bears-fresh}
+use Rattle.ecs_world.proofs.Told.{told_fresh}
+use Rattle.ecs_world.proofs.World.make_fresh.Goals as goal
+
+pub slice_bounds-create-end : goal.slice_bounds-create-end
+slice_bounds-create-end g c = refl
+
+pub create-requires-clause-left : goal.create-requires-clause-left
+create-requires-clause-left g c =
+    let w = c.self.inside in
+    next_some w.archetypes w.names w.schemas.entries w.accepted c.self.invariant c.args.self.now c.self.view_is (bears-fresh c.args.self.now c.requires)
+
+pub create-requires-clause-ascend : goal.create-requires-clause-ascend
+create-requires-clause-ascend g c = refl
+
+pub create-requires-clause-small : goal.create-requires-clause-small
+create-requires-clause-small g c = refl
+
+pub create-requires-clause-agree : goal.create-requires-clause-agree
+create-requires-clause-agree g c = refl
+
+pub invariant_of-self : goal.invariant_of-self
+invariant_of-self g c =
+    let w = c.self.inside in
+    (failed w.archetypes w.names w.schemas.entries w.accepted c.self.invariant c.args.self.now c.self.view_is [] refl c.create.new.self c.create.ensures.whole c.in_default.ensures.err c.create.ensures.sizes).0
+
+pub returns-in_default : goal.returns-in_default
+returns-in_default g c =
+    let w = c.self.inside in
+    (failed w.archetypes w.names w.schemas.entries w.accepted c.self.invariant c.args.self.now c.self.view_is [] refl c.create.new.self c.create.ensures.whole c.in_default.ensures.err c.create.ensures.sizes).1
+
+pub overflow_add-self : goal.overflow_add-self
+overflow_add-self g c =
+    let spent = rw (← c.self.view_is) at ((bears-fresh c.args.self.now c.requires).room) in
+    omega (arith, not_spent c.self.inside.accepted spent)
+
+pub invariant_of-self-2 : goal.invariant_of-self-2
+invariant_of-self-2 g c =
+    let w = c.self.inside in
+    (fresh_left w.archetypes w.names w.schemas.entries w.accepted c.self.invariant c.args.self.now c.self.view_is c.in-Ok.entity (next_of w.archetypes w.names w.schemas.entries w.accepted c.self.invariant c.args.self.now c.self.view_is c.in-Ok.entity c.in-Ok.ensures.next) c.requires c.create.new.self c.create.ensures.whole c.in-Ok.ensures.born c.create.ensures.sizes).0
+
+pub returns : goal.returns
+returns g c =
+    let w = c.self.inside in
+    let next = next_of w.archetypes w.names w.schemas.entries w.accepted c.self.invariant c.args.self.now c.self.view_is c.in-Ok.entity c.in-Ok.ensures.next in
+    told_fresh c.args.self.now _ c.with_born.result c.in-Ok.entity next c.requires
+    (fresh_left w.archetypes w.names w.schemas.entries w.accepted c.self.invariant c.args.self.now c.self.view_is c.in-Ok.entity next c.requires c.create.new.self c.create.ensures.whole c.in-Ok.ensures.born c.create.ensures.sizes).1
+    (c.with_born.ensures ∙ (λ k. record (c.none.ensures k) { born = Some c.in-Ok.entity }))

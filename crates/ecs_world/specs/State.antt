@@ -1,0 +1,98 @@
+-- What the parts of a world mean: its state.
+use Rattle.std.specs.Prelude.{◌≡◌, ℕ, ◌==◌, Bool, ◌&&◌, List, [], ◌∷◌, map, flat_map, filter_map, ℤ, Option, Some, None, option_map, if◌then◌else◌, IsTrue}
+use Rattle.std.specs.List.{find, list_all}
+use Rattle.std.specs.Option.{option_map_or, option_or}
+use Rattle.std.specs.Ordering.{nat_cmp}
+use Rattle.std.specs.FinMap as finite
+use Rattle.ecs_id.specs.declared.EntityId.{EntityId}
+use Rattle.ecs_id.specs.Id.{Id, plain, pair, mentioned}
+use Rattle.ecs_model.specs.Map.{Map, has_key, keys, value_at}
+use Rattle.ecs_model.specs.Schema.{Schema}
+use Rattle.ecs_model.specs.Bytes.{size_of, values_in}
+use Rattle.ecs_model.specs.Keeps.{IsWellFormed}
+use Rattle.ecs_model.specs.World.{WorldState, Key, holds, pair_is_tag}
+use Rattle.ecs_model.specs.Command.{Changed}
+use Rattle.name_index.specs.Names.{Names, IsOneToOne, entity_eq}
+use Rattle.ecs_world.specs.Holdings.{AreHoldings, Cells, Holdings, Sizes, holds_id, lives}
+
+-- the fields of an id's values, by the components' fields and by whether a relationship keeps its pairs without data
+abbrev pub type_in : Map ℕ Schema → (ℕ → Bool) → Id → Option Schema
+type_in schemas is_tag (plain c) = value_at nat_cmp schemas c
+type_in schemas is_tag (pair r t) = if is_tag r then None else option_or (value_at nat_cmp schemas r) (value_at nat_cmp schemas t)
+
+-- the fields of an id's values in a world of these parts
+abbrev pub type_of : Holdings → Map ℕ Schema → Id → Option Schema
+type_of h schemas = type_in schemas (λ r. holds_id h r (plain pair_is_tag))
+
+-- the value that bytes mean, empty where the id has no type
+abbrev pub value_in : Option Schema → List ℕ → List ℤ
+value_in o bytes = option_map_or (λ fs. values_in fs bytes) o []
+
+-- how many bytes a value has, 0 where the id has no type
+abbrev pub byte_count : Option Schema → ℕ
+byte_count o = option_map_or size_of o 0
+
+-- the facts of one entity
+abbrev pub facts_of : (Id → Option Schema) → ℕ → Cells → Map Key (List ℤ)
+facts_of types e cells = map (λ c. ((e, c.0), value_in (types c.0) c.1)) cells
+
+-- the facts of all entities
+abbrev pub all_facts : (Id → Option Schema) → Map ℕ Cells → Map Key (List ℤ)
+all_facts types cells = flat_map (λ e. facts_of types e.0 e.1) cells
+
+-- the name of an entity
+abbrev pub name_in : Names → EntityId → Option (List ℕ)
+name_in names e = option_map (λ p. p.0) (find (λ p. entity_eq p.1 e) (finite.entries names))
+
+-- the names of the live entities, by index
+abbrev pub names_of : Names → Map ℕ ℕ → Map ℕ (List ℕ)
+names_of names live = filter_map (λ e. option_map (λ n. (e.0, n)) (name_in names (record { index = e.0; generation = e.1 }))) live
+
+-- the state of a world of these parts
+abbrev pub state_of : Holdings → Names → Map ℕ Schema → ℕ → WorldState
+state_of h names schemas accepted = record {
+  live = h.live;
+  facts = all_facts (type_of h schemas) h.cells;
+  names = names_of names h.live;
+  schemas = schemas;
+  deletions = h.deletions;
+  pins = [];
+  accepted = accepted;
+}
+
+-- whether an id has the size of its type, and mentions live entities
+abbrev pub is_known_rightly : Holdings → Map ℕ Schema → Id × ℕ → Bool
+is_known_rightly h schemas c = (c.1 == byte_count (type_of h schemas c.0)) && list_all (has_key nat_cmp h.live) (mentioned c.0)
+
+-- what the parts of a world have
+pub record IsWorld (h : Holdings) (names : Names) (schemas : Map ℕ Schema) (accepted : ℕ) : Type 0 where
+  pub whole : AreHoldings h
+  pub sound : IsWellFormed (state_of h names schemas accepted)
+  -- every live entity is settled
+  pub settled : keys h.cells ≡ keys h.live
+  -- every table is of ids of live entities, with the sizes of their types
+  pub known : IsTrue (list_all (is_known_rightly h schemas) h.known)
+  -- names are of live entities
+  pub named : (n : List ℕ) (e : EntityId) → finite.get names n ≡ Some e → IsTrue (lives h e)
+  pub one_to_one : IsOneToOne names
+
+-- a call answers exactly what has changed
+abbrev pub IsTold : Changed → Changed → Type 0
+IsTold told changed = told ≡ changed
+
+-- what changes where nothing does
+abbrev pub no_change : Changed
+no_change = record { born = None; died = []; came = []; went = []; written = [] }
+
+-- a list of what is there
+abbrev pub listed : {X : Type 0} → Option X → List X
+listed None = []
+listed (Some x) = x ∷ []
+
+-- what changes where an entity is made
+abbrev pub birth : EntityId → Changed
+birth e = record no_change { born = Some e }
+
+-- what changes where a fact comes that isn't held yet
+abbrev pub coming : WorldState → ℕ → Id → Changed
+coming w e i = record no_change { came = if holds w e i then [] else (e, i) ∷ [] }

@@ -1,0 +1,167 @@
+//! The built-in entities and their facts.
+
+ghost use Rattle.std.specs.Prelude.{◌≡◌, ◌+◌, ◌<◌, IfOk, OnOk, IsTrue, map};
+ghost use Rattle.std.specs.List.{list_all};
+ghost use Rattle.ecs_id.specs.Id.{id_cmp};
+ghost use Rattle.ecs_model.specs.Map.{IsMap};
+ghost use Rattle.ecs_model.specs.World.{built_in_names};
+ghost use Rattle.ecs_world.specs.BuiltIn.{AreFirstNames, IsSettled, is_first_tag, tags_of};
+
+use crate::archetypes::Archetypes;
+use ecs_id::{EntityId, Id};
+use name_index::NameIndex;
+use raw_column::Memory;
+use std::alloc::Allocator;
+
+/// In order of index, from 1 on.
+const NAMES: [&str; 22] = [
+    "ChildOf",
+    "IsA",
+    "Component",
+    "Prefab",
+    "Disabled",
+    "Exclusive",
+    "Symmetric",
+    "Transitive",
+    "Reflexive",
+    "Acyclic",
+    "Traversable",
+    "PairIsTag",
+    "With",
+    "OnDelete",
+    "OnDeleteTarget",
+    "Remove",
+    "Delete",
+    "Panic",
+    "OnInstantiate",
+    "Override",
+    "Inherit",
+    "DontInherit",
+];
+
+const CHILD_OF: u32 = 1;
+
+const IS_A: u32 = 2;
+
+pub(crate) const COMPONENT: u32 = 3;
+
+const EXCLUSIVE: u32 = 6;
+
+const TRANSITIVE: u32 = 8;
+
+const REFLEXIVE: u32 = 9;
+
+const ACYCLIC: u32 = 10;
+
+const TRAVERSABLE: u32 = 11;
+
+pub(crate) const PAIR_IS_TAG: u32 = 12;
+
+const WITH: u32 = 13;
+
+const ON_DELETE: u32 = 14;
+
+const ON_DELETE_TARGET: u32 = 15;
+
+const DELETE: u32 = 17;
+
+const ON_INSTANTIATE: u32 = 19;
+
+/// The last built-in index.
+pub(crate) const LAST: u32 = 22;
+
+/// The built-in entities, each in its table.
+pub(crate) fn archetypes<A: Allocator + Copy>(alloc: A) -> Result<Archetypes<A>, Memory>
+    ensures { IfOk result (λ a. IsSettled a 22) }
+{
+    let mut archetypes = Archetypes::new(alloc)?;
+    for settled in 0..LAST {
+        settle(&mut archetypes, settled)?;
+    }
+    Ok(archetypes)
+}
+
+/// Puts the next built-in entity into its table, after so many.
+fn settle<A: Allocator + Copy>(archetypes: &mut Archetypes<A>, settled: u32) -> Result<(), Memory>
+    requires few { settled < 22 }
+    requires before { IsSettled archetypes.old settled }
+    ensures { OnOk result (IsSettled archetypes.new (settled + 1)) }
+{
+    let exclusive = (Id::plain(EXCLUSIVE), 0);
+    let acyclic = (Id::plain(ACYCLIC), 0);
+    let traversable = (Id::plain(TRAVERSABLE), 0);
+    let pair_is_tag = (Id::plain(PAIR_IS_TAG), 0);
+    match settled + 1 {
+        CHILD_OF => {
+            let deletes_with_target = (Id::pair(ON_DELETE_TARGET, DELETE), 0);
+            let ids = [
+                exclusive,
+                acyclic,
+                traversable,
+                pair_is_tag,
+                deletes_with_target,
+            ];
+            put(archetypes, settled, &ids)
+        }
+        IS_A => {
+            let transitive = (Id::plain(TRANSITIVE), 0);
+            let reflexive = (Id::plain(REFLEXIVE), 0);
+            let ids = [transitive, reflexive, acyclic, traversable, pair_is_tag];
+            put(archetypes, settled, &ids)
+        }
+        TRANSITIVE => put(archetypes, settled, &[(Id::pair(WITH, TRAVERSABLE), 0)]),
+        TRAVERSABLE => put(archetypes, settled, &[(Id::pair(WITH, ACYCLIC), 0)]),
+        WITH => put(archetypes, settled, &[pair_is_tag]),
+        ON_DELETE | ON_DELETE_TARGET | ON_INSTANTIATE => {
+            put(archetypes, settled, &[exclusive, pair_is_tag])
+        }
+        _ => put(archetypes, settled, &[]),
+    }
+}
+
+/// Puts the next built-in entity into the table of its ids, after so many.
+fn put<A: Allocator + Copy>(
+    archetypes: &mut Archetypes<A>,
+    settled: u32,
+    ids: &[(Id, usize)],
+) -> Result<(), Memory>
+    requires few { settled < 22 }
+    requires before { IsSettled archetypes.old settled }
+    requires tags { ids.now ≡ tags_of (settled + 1) }
+    requires ascend { IsMap id_cmp ids.now }
+    requires first { IsTrue (list_all is_first_tag ids.now) }
+    ensures { OnOk result (IsSettled archetypes.new (settled + 1)) }
+{
+    let entity = EntityId {
+        index: settled + 1,
+        generation: 0,
+    };
+    archetypes.settle(entity, ids)
+}
+
+/// The names of the built-in entities.
+pub(crate) fn names<A: Allocator + Copy>(alloc: A) -> Result<NameIndex<A>, Memory>
+    ensures { IfOk result (λ n. AreFirstNames n 22) }
+{
+    bound(alloc, &NAMES)
+}
+
+/// These names, bound to the entities from index 1 on.
+fn bound<A: Allocator + Copy>(alloc: A, list: &[&str]) -> Result<NameIndex<A>, Memory>
+    requires { map (λ t. t.now) list.now ≡ built_in_names }
+    ensures { IfOk result (λ n. AreFirstNames n 22) }
+{
+    let mut names = NameIndex::new(alloc);
+    let mut count = 0;
+    for name in list {
+        count += 1;
+        let entity = EntityId {
+            index: count,
+            generation: 0,
+        };
+        if names.bind(name, entity).is_err() {
+            return Err(Memory);
+        }
+    }
+    Ok(names)
+}
