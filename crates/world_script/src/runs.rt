@@ -10,7 +10,7 @@ use crate::lines::{RunLine, Summary, run_lines};
 use crate::reading::read_script;
 use crate::sessions::Session;
 use crate::streams::{Sink, Source};
-use crate::worlds::PlainScriptWorld;
+use crate::worlds::TableScriptWorld;
 use crate::writing::write_all;
 use std::alloc::Allocator;
 
@@ -33,7 +33,7 @@ pub fn run<A: Allocator + Copy, R: Source, W: Sink>(
     ensures read { result ≡ Err RunError.Read → IsStopped (R.calls reader.new) × (writer.new ≡ writer.old) }
     ensures write { result ≡ Err RunError.Write → IsStopped (W.calls writer.new) }
 {
-    let world = PlainScriptWorld::new(alloc)?;
+    let world = TableScriptWorld::new(alloc).map_err(|_| RunError::Memory)?;
     let mut session = Session { alloc, world };
     run_in(alloc, &mut session, reader, writer)
 }

@@ -1,23 +1,23 @@
 //! The world of a script.
-ghost use Rattle.std.specs.Prelude.{◌≡◌, IfOk, map};
+ghost use Rattle.std.specs.Prelude.{◌≡◌, Ok, Err, MatchResult};
 
 use crate::script_world::ScriptWorld;
 use ecs_id::{EntityId, Id};
 use ecs_model::faults::CommandError;
 use ecs_model::{Kind, Value};
 use ecs_schema::{Schema, SchemaError};
+use ecs_world::{Changes, Memory, World};
 use plain_query::Readable;
-use plain_world::{PlainWorld, Stored};
 use std::alloc::{AllocError, Allocator};
 use std::marker::Model;
 
-/// The world of a script, kept as ordered lists.
+/// The world of a script, in archetype tables.
 #[derive(Drop)]
-pub(crate) struct PlainScriptWorld<A: Allocator> {
-    world: PlainWorld<A>,
+pub(crate) struct TableScriptWorld<A: Allocator> {
+    world: World<A>,
 }
 
-impl<A: Allocator> Model for PlainScriptWorld<A> {
+impl<A: Allocator> Model for TableScriptWorld<A> {
     ghost use Rattle.ecs_model.specs.World.{WorldState};
     ghost use Rattle.ecs_model.specs.Keeps.{IsWellFormed};
 
@@ -28,20 +28,21 @@ impl<A: Allocator> Model for PlainScriptWorld<A> {
     ghost invariant = { λ w. IsWellFormed w.world };
 }
 
-impl<A: Allocator + Copy> PlainScriptWorld<A> {
+impl<A: Allocator + Copy> TableScriptWorld<A> {
+    ghost use Rattle.std.specs.Prelude.{IfOk};
     ghost use Rattle.ecs_model.specs.World.{first_world};
 
     /// The world before any command.
-    pub(crate) fn new(alloc: A) -> Result<Self, AllocError>
+    pub(crate) fn new(alloc: A) -> Result<Self, Memory>
         ensures { IfOk result (λ w. w ≡ first_world) }
     {
-        Ok(PlainScriptWorld {
-            world: PlainWorld::new(alloc)?,
+        Ok(TableScriptWorld {
+            world: World::new(alloc)?,
         })
     }
 }
 
-impl<A: Allocator> Readable for PlainScriptWorld<A> {
+impl<A: Allocator> Readable for TableScriptWorld<A> {
     ghost state = { λ w. w };
 
     fn find(&self, name: &str) -> Option<EntityId> {
@@ -57,7 +58,7 @@ impl<A: Allocator> Readable for PlainScriptWorld<A> {
     }
 
     fn has_type(&self, id: Id) -> bool {
-        self.world.has_type(id)
+        self.world.type_of(id).is_some()
     }
 
     fn name_of(&self, index: u32) -> Option<&str> {
@@ -69,22 +70,20 @@ impl<A: Allocator> Readable for PlainScriptWorld<A> {
     }
 
     fn live<B: Allocator + Copy>(&self, alloc: B) -> Result<Vec<EntityId, B>, AllocError> {
-        let count = self.world.entity_count();
-        let mut entities = Vec::with_capacity(alloc, count)?;
-        for place in 0..count {
-            entities.push(self.world.nth(place))?;
-        }
-        Ok(entities)
+        self.world.live().collect(alloc)
     }
 }
 
-impl<A: Allocator + Copy> ScriptWorld<A> for PlainScriptWorld<A> {
+impl<A: Allocator + Copy> ScriptWorld<A> for TableScriptWorld<A> {
     fn fresh(&mut self) -> Result<EntityId, CommandError> {
-        self.world.fresh()
+        match self.world.fresh() {
+            Ok(changes) => Ok(changes.born().unwrap()),
+            Err(error) => Err(error),
+        }
     }
 
     fn entity(&mut self, name: &str) -> Result<(), CommandError> {
-        self.world.entity(name)
+        without_changes(self.world.entity(name))
     }
 
     fn component(
@@ -94,21 +93,21 @@ impl<A: Allocator + Copy> ScriptWorld<A> for PlainScriptWorld<A> {
         fields: &[(&str, Kind)],
     ) -> Result<Result<(), CommandError>, SchemaError> {
         match Schema::new(alloc, fields) {
-            Ok(schema) => Ok(self.world.component(name, schema)),
+            Ok(schema) => Ok(without_changes(self.world.component(name, schema))),
             Err(error) => Err(error),
         }
     }
 
     fn add(&mut self, entity: EntityId, id: Id) -> Result<(), CommandError> {
-        self.world.add(entity, id)
+        without_changes(self.world.add(entity, id))
     }
 
     fn set(&mut self, entity: EntityId, id: Id, values: &[i128]) -> Result<(), CommandError> {
-        self.world.set(entity, id, values)
+        without_changes(self.world.set(entity, id, values))
     }
 
     fn remove(&mut self, entity: EntityId, id: Id) -> Result<(), CommandError> {
-        self.world.remove(entity, id)
+        without_changes(self.world.remove(entity, id))
     }
 
     fn is_alive(&self, entity: EntityId) -> bool {
@@ -116,13 +115,19 @@ impl<A: Allocator + Copy> ScriptWorld<A> for PlainScriptWorld<A> {
     }
 
     fn ids_of(&self, entity: EntityId, alloc: A) -> Result<Vec<Id, A>, AllocError> {
-        ids_in(self.world.facts_of(entity.index), alloc)
+        let ids = self.world.ids_of(entity).unwrap();
+        Vec::from_slice(alloc, ids)
     }
 }
 
-/// The ids of facts.
-fn ids_in<A: Allocator + Copy>(facts: &[Stored], alloc: A) -> Result<Vec<Id, A>, AllocError>
-    ensures { IfOk result (λ ids. ids.items ≡ map (λ f. (f.0).1) facts.now) }
+/// The answer to a command, without what it has changed.
+fn without_changes<A: Allocator>(
+    answer: Result<Changes<A>, CommandError>,
+) -> Result<(), CommandError>
+    ensures { MatchResult answer (λ _. result ≡ Ok tt) (λ e. result ≡ Err e) }
 {
-    facts.iter().map(|fact| fact.id()).collect(alloc)
+    match answer {
+        Ok(_) => Ok(()),
+        Err(error) => Err(error),
+    }
 }
