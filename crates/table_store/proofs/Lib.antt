@@ -12,3 +12,4 @@ pub mod Slots
 pub mod Steps
 pub mod StoreLemmas
 pub mod Tables
+pub mod TestLemmas

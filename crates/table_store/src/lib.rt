@@ -3,5 +3,7 @@
 
 mod shape;
 mod store;
+#[cfg(test)]
+mod tests;
 
 pub use store::TableStore;
