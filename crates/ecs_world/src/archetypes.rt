@@ -8,12 +8,12 @@ ghost use Rattle.ecs_model.specs.Map.{IsMap, keys, with_value, without};
 ghost use Rattle.ecs_world.specs.Holdings.{AreHoldings, HoldAlike, KeepsSizes, agrees, bytes_at, cells_at, entity_at, first_holdings, held_at, holds_id, live_entities, lives, next_entity, with_cells, with_entity, zero_cells};
 
 use crate::rows::{carry, enter, narrower, table_for, value_in, wider};
-use table_store::TableStore;
 use ecs_id::{EntityId, Id};
 use entity_index::{EntityIndex, Live};
 use raw_column::Memory;
 use std::alloc::{Allocator, Global};
 use std::marker::Model;
+use table_store::TableStore;
 
 /// The greatest index that is given out.
 const LAST_INDEX: u32 = 16_777_215;

@@ -12,12 +12,12 @@ ghost use Rattle.ecs_world.specs.Holdings.{HoldAlike, KeepsSizes, agrees, held_a
 ghost use Rattle.table_store.specs.Rows.{IsStored, carried, cells_of, row_at};
 ghost use Rattle.table_store.specs.Store.{Shape, room_at, shape_at, table_at, with_id, without_id};
 
-use table_store::TableStore;
 use ecs_id::{EntityId, Id, Place, TableKey};
 use ecs_table::Table;
 use entity_index::EntityIndex;
 use raw_column::Memory;
 use std::alloc::Allocator;
+use table_store::TableStore;
 
 /// The table of these ids, with room for a row.
 pub fn table_for<A: Allocator + Copy>(
