@@ -178,23 +178,23 @@ module _ (place place' : EntityId → Option Place) (row row' : Place → Option
     (fills : Option Row) (is_last : (w : Row) → fills ≡ Some w → (row last ≡ Some w) × (last ≢ p))
     (pe : (y : EntityId) → place' y ≡ refilled (λ z. cond (same_entity z x) (Some q) (place z)) p (owner fills) y)
     (re : (s : Place) → row' s ≡ gap_filled (with_row_at (without_row_at row p) q (x, v)) last p fills s) where
-  abbrev place1 : EntityId → Option Place
-  place1 y = cond (same_entity y x) (Some q) (place y)
+  abbrev place_arrived : EntityId → Option Place
+  place_arrived y = cond (same_entity y x) (Some q) (place y)
 
-  abbrev row1 : Place → Option Row
-  row1 = with_row_at (without_row_at row p) q (x, v)
+  abbrev row_arrived : Place → Option Row
+  row_arrived = with_row_at (without_row_at row p) q (x, v)
 
-  inv1 : AreInverse place1 row1
-  inv1 = AreInverse-move place place1 row row1 inv x p q v at vacant (λ y. refl) (λ s. refl)
+  inverse_arrived : AreInverse place_arrived row_arrived
+  inverse_arrived = AreInverse-move place place_arrived row row_arrived inv x p q v at vacant (λ y. refl) (λ s. refl)
 
-  vacant1 : row1 p ≡ None
-  vacant1 = left_vacant place place1 row row1 inv x p q v at vacant (λ y. refl) (λ s. refl)
+  vacant_arrived : row_arrived p ≡ None
+  vacant_arrived = left_vacant place place_arrived row row_arrived inv x p q v at vacant (λ y. refl) (λ s. refl)
 
-  content1 : (y : EntityId) → content row1 (place1 y) ≡ cond (same_entity y x) (Some v) (content row (place y))
-  content1 = content-move place place1 row row1 inv x p q v at vacant (λ y. refl) (λ s. refl)
+  content_arrived : (y : EntityId) → content row_arrived (place_arrived y) ≡ cond (same_entity y x) (Some v) (content row (place y))
+  content_arrived = content-move place place_arrived row row_arrived inv x p q v at vacant (λ y. refl) (λ s. refl)
 
-  last1 : (w : Row) → fills ≡ Some w → row1 last ≡ Some w
-  last1 w e = other_stands place place1 row row1 inv x p q v at vacant (λ y. refl) (λ s. refl) last w (is_last w e).0 (is_last w e).1
+  last_arrived : (w : Row) → fills ≡ Some w → row_arrived last ≡ Some w
+  last_arrived w e = other_stands place place_arrived row row_arrived inv x p q v at vacant (λ y. refl) (λ s. refl) last w (is_last w e).0 (is_last w e).1
 
   -- what a move out of a table that keeps its rows together does: nothing is changed but what is in the entity's row
   pub moved : (AreInverse place' row') × ((y : EntityId) → content row' (place' y) ≡ cond (same_entity y x) (Some v) (content row (place y)))
@@ -202,17 +202,17 @@ module _ (place place' : EntityId → Option Place) (row row' : Place → Option
     where
       by : (o : Option Row) → fills ≡ o → (AreInverse place' row') × ((y : EntityId) → content row' (place' y) ≡ cond (same_entity y x) (Some v) (content row (place y)))
       by None e =
-          let pe1 : (y : EntityId) → place' y ≡ place1 y = λ y. pe y ∙ ap (λ o. refilled place1 p (owner o) y) e in
-          let re1 : (s : Place) → row' s ≡ row1 s = λ s. re s ∙ ap (λ o. gap_filled row1 last p o s) e in
-          (λ y s. (λ h. ap owner (re1 s) ∙ (inv1 y s).0 (sym (pe1 y) ∙ h), λ h. pe1 y ∙ (inv1 y s).1 (ap owner (sym (re1 s)) ∙ h)), λ y. (λ k. content (λ s. re1 s k) (pe1 y k)) ∙ content1 y)
+          let places_are : (y : EntityId) → place' y ≡ place_arrived y = λ y. pe y ∙ ap (λ o. refilled place_arrived p (owner o) y) e in
+          let rows_are : (s : Place) → row' s ≡ row_arrived s = λ s. re s ∙ ap (λ o. gap_filled row_arrived last p o s) e in
+          (λ y s. (λ h. ap owner (rows_are s) ∙ (inverse_arrived y s).0 (sym (places_are y) ∙ h), λ h. places_are y ∙ (inverse_arrived y s).1 (ap owner (sym (rows_are s)) ∙ h)), λ y. (λ k. content (λ s. rows_are s k) (places_are y k)) ∙ content_arrived y)
       by (Some w) e =
-          let pe1 : (y : EntityId) → place' y ≡ cond (same_entity y w.0) (Some p) (place1 y) = λ y. pe y ∙ ap (λ o. refilled place1 p (owner o) y) e in
-          let re1 : (s : Place) → row' s ≡ with_row_at (without_row_at row1 last) p (w.0, w.1) s = λ s. re s ∙ ap (λ o. gap_filled row1 last p o s) e in
-          let at1 : place1 w.0 ≡ Some last = (inv1 w.0 last).1 (ap owner (last1 w e)) in
-          let here : content row1 (place1 w.0) ≡ Some w.1 = ap (content row1) at1 ∙ ap (option_map (λ r. r.1)) (last1 w e) in (
-            AreInverse-move place1 place' row1 row' inv1 w.0 last p w.1 at1 vacant1 pe1 re1,
-            λ y. content-move place1 place' row1 row' inv1 w.0 last p w.1 at1 vacant1 pe1 re1 y
-                ∙ unchanged (same_entity y w.0) (content row1 (place1 y)) (Some w.1) (λ b. ap (λ z. content row1 (place1 z)) ((same_entity-tells y w.0).0 b) ∙ here) ∙ content1 y,
+          let places_are : (y : EntityId) → place' y ≡ cond (same_entity y w.0) (Some p) (place_arrived y) = λ y. pe y ∙ ap (λ o. refilled place_arrived p (owner o) y) e in
+          let rows_are : (s : Place) → row' s ≡ with_row_at (without_row_at row_arrived last) p (w.0, w.1) s = λ s. re s ∙ ap (λ o. gap_filled row_arrived last p o s) e in
+          let last_is_there : place_arrived w.0 ≡ Some last = (inverse_arrived w.0 last).1 (ap owner (last_arrived w e)) in
+          let here : content row_arrived (place_arrived w.0) ≡ Some w.1 = ap (content row_arrived) last_is_there ∙ ap (option_map (λ r. r.1)) (last_arrived w e) in (
+            AreInverse-move place_arrived place' row_arrived row' inverse_arrived w.0 last p w.1 last_is_there vacant_arrived places_are rows_are,
+            λ y. content-move place_arrived place' row_arrived row' inverse_arrived w.0 last p w.1 last_is_there vacant_arrived places_are rows_are y
+                ∙ unchanged (same_entity y w.0) (content row_arrived (place_arrived y)) (Some w.1) (λ b. ap (λ z. content row_arrived (place_arrived z)) ((same_entity-tells y w.0).0 b) ∙ here) ∙ content_arrived y,
           )
 
 -- an entity's row is written where it stands
