@@ -159,3 +159,9 @@ module _ (s : ℕ) where
   -- zeros at the end lengthen the zeros after the first n elements
   pub tail_grow : (n k j : ℕ) (bs : List ℕ) → n * s ≤ length bs → drop (n * s) bs ≡ replicate (k * s) 0 → drop (n * s) (bs ++ replicate j 0) ≡ replicate (k * s + j) 0
   tail_grow n k j bs le tail = drop-append-le (n * s) bs (replicate j 0) le ∙ ap (λ l. l ++ replicate j 0) tail ∙ replicate-append-replicate (k * s) j 0
+
+  -- fewer bytes that hold the first n elements hold the same ones
+  pub rows_front : (n j : ℕ) (bs : List ℕ) → n * s ≤ j → j ≤ length bs → rows s n (take j bs) ≡ rows s n bs
+  rows_front n j bs le fits =
+      let front : length (take j bs) ≡ j = length-take-le j bs fits in
+      sym (rows_prefix n (take j bs) (drop j bs) (omega arith)) ∙ ap (rows s n) (take-append-drop j bs)

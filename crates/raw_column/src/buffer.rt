@@ -1,5 +1,6 @@
 //! A run of bytes in a block from an allocator, or none. A clause sees it as its bytes.
-ghost use Rattle.std.specs.Prelude.{◌≡◌, ◌+◌, ◌-◌, ◌^◌, ◌<◌, ◌≤◌, [], ◌++◌, length, take, drop, replicate, OnOk, OnErr};
+ghost use Rattle.std.specs.Prelude.{◌≡◌, ◌+◌, ◌-◌, ◌^◌, ◌<◌, ◌≤◌, [], ◌++◌, length, take, drop, replicate, OnOk, OnErr, IsOk, Some};
+ghost use Rattle.raw_column.specs.Buffer.{IsPlaced};
 
 use crate::element::{clear, copy};
 use crate::memory::{Base, Bytes, Deed, allocate, deallocate};
@@ -111,10 +112,42 @@ impl<A: Allocator> Buffer<A> {
             bytes,
             deed,
         };
-        if let Some(old) = mem::replace(&mut self.allocation, Some(new)) {
-            old.free(&self.alloc);
+        replace(&mut self.allocation, Some(new), &self.alloc);
+        Ok(())
+    }
+
+    /// Moves to a block of `len` bytes, the first of those that are there. No bytes take no memory.
+    pub(crate) fn shrink(&mut self, len: usize) -> Result<(), AllocError>
+        requires { len ≤ length self.old }
+        ensures ok { OnOk result (self.new ≡ take len self.old) }
+        ensures err { OnErr result (self.new ≡ self.old) }
+        ensures frees { len ≡ 0 → IsOk result }
+    {
+        if len == 0 {
+            replace(&mut self.allocation, None, &self.alloc);
+        } else if let Some(old) = &self.allocation {
+            let (base, filling, deed) = allocate(&self.alloc, len)?;
+            let kept = old.bytes.slice(old.base, 0, len);
+            let bytes = filling.append(base, 0, kept).whole();
+            let new = Allocation {
+                base,
+                len,
+                bytes,
+                deed,
+            };
+            replace(&mut self.allocation, Some(new), &self.alloc);
         }
         Ok(())
+    }
+}
+
+/// Another block, or none, in the place of the one that is held, which goes back to the allocator.
+fn replace<A: Allocator>(held: &mut Option<Allocation<A>>, new: Option<Allocation<A>>, alloc: &A)
+    requires { IsPlaced held.old alloc.now }
+    ensures { held.new ≡ new }
+{
+    if let Some(old) = mem::replace(held, new) {
+        old.free(alloc);
     }
 }
 
@@ -128,9 +161,6 @@ impl<A: Allocator> Drop for Buffer<A> {
 }
 
 impl<A: Allocator> Allocation<A> {
-    ghost use Rattle.raw_column.specs.Buffer.{IsPlaced};
-    ghost use Rattle.std.specs.Prelude.{Some};
-
     fn free(self, alloc: &A)
         requires { IsPlaced (Some self) alloc.now }
     {

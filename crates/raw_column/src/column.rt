@@ -20,7 +20,7 @@ impl From<AllocError> for Memory {
     }
 }
 
-/// A list of elements of one size in bytes. It takes memory in `reserve` alone, and keeps it until it is dropped.
+/// A list of elements of one size in bytes. It takes memory in `reserve`, and gives it back in `shrink_to` and when it is dropped.
 ///
 /// The elements lie side by side from the block's front. The places after them are zero, so that a new element
 /// is there without a write.
@@ -123,6 +123,23 @@ impl<A: Allocator> Column<A> {
         self.buffer.grow(capacity * self.size)?;
         self.capacity = capacity;
         Ok(())
+    }
+
+    /// Gives memory back: a smaller block that has places for `min_capacity` elements, or for all that there are. A block that is
+    /// refused leaves the column as it was. Without elements and places nothing is kept.
+    pub fn shrink_to(&mut self, min_capacity: usize)
+        ensures items { self.new ≡ record self.old { room = self.new.room } }
+        ensures capacity { capacity_of self.new ≤ capacity_of self.old }
+        ensures lower_bound { min min_capacity (capacity_of self.old) ≤ capacity_of self.new }
+        ensures frees { self.old.items ≡ [] → min_capacity ≡ 0 → self.new.room ≡ 0 }
+    {
+        let capacity = self.len.max(min_capacity);
+        if self.capacity <= capacity {
+            return;
+        }
+        if self.buffer.shrink(capacity * self.size).is_ok() {
+            self.capacity = capacity;
+        }
     }
 
     /// An element of zeros at the end.

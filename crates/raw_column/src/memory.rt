@@ -139,7 +139,7 @@ impl Filling {
     }
 
     /// The same block, once each of its places holds a value.
-    fn whole(self) -> Bytes
+    pub(crate) fn whole(self) -> Bytes
         requires { self.spare ≡ 0 }
         ensures { (result.at ≡ self.at) × (result.items ≡ self.items) }
     {
