@@ -120,6 +120,36 @@ fn the_last_element_fills_the_gap(rt: HostRuntime) -> Result<(), Fail> {
     Ok(())
 }
 
+#[test]
+fn most_elements_gone_give_their_places_back(rt: HostRuntime) -> Result<(), Fail> {
+    let alloc = rt.alloc();
+    let mut listed = Listed {
+        column: Column::new(alloc, 12),
+        list: Vec::new(alloc),
+    };
+    for seed in 0..1000 {
+        push(&mut listed, seed)?;
+    }
+    for row in 0..990 {
+        remove(&mut listed, row % 7);
+    }
+    listed.column.shrink_to(16);
+    expect_same(&rt, &listed);
+    assert_eq!(rt; listed.column.len(), 10);
+    assert_eq!(rt; listed.column.room(), 6);
+    for seed in 0..50 {
+        push(&mut listed, seed)?;
+    }
+    expect_same(&rt, &listed);
+    for _ in 0..60 {
+        remove(&mut listed, 0);
+    }
+    listed.column.shrink_to(0);
+    assert!(rt; listed.column.is_empty());
+    assert_eq!(rt; listed.column.room(), 0);
+    Ok(())
+}
+
 fn sent<T: Send>(value: T) -> T {
     value
 }
