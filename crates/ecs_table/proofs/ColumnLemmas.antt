@@ -55,6 +55,11 @@ each_set P xs i y d lt here others k h =
 pub room_kept : (asked had has : ℕ) → (asked ≤ had → has ≡ had) → asked ≤ has → had ≤ has
 room_kept asked had has same enough = grind arith
 
+-- columns of the same values have as many elements
+pub same_rows : (cs new : List Contents) (k : ℕ) (d : Contents) → map values_of new ≡ map values_of cs → k < length new → k < length cs → length (slice_index_or new k d).items ≡ length (slice_index_or cs k d).items
+same_rows cs new k d e lt lt2 =
+    ap (λ (v : Values). length v.items) (sym (get_or-map values_of new k d (values_of d) lt) ∙ ap (λ l. slice_index_or l k (values_of d)) e ∙ get_or-map values_of cs k d (values_of d) lt2)
+
 -- a loop over places that makes each element of itself and of its partner in another list
 pub paired_more : {I X : Type 0} (f : I × X → X) (is : List I) (xs ys : List X) (k : ℕ) (i : I) (x : X) → k < length is → k < length xs → ys ≡ map f (take k (zip is xs)) ++ drop k xs
     → i ≡ get_or is k i → x ≡ get_or ys k x → slice_set ys k (f (i, x)) ≡ map f (take (k + 1) (zip is xs)) ++ drop (k + 1) xs

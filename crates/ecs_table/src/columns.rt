@@ -1,5 +1,5 @@
 //! What is done to each column of a table.
-ghost use Rattle.std.specs.Prelude.{◌≡◌, ◌<◌, ◌≤◌, IfOk, IfSome, OnOk, length, ℕ, map, nat_lt, option_copied, slice_index, slice_index_or};
+ghost use Rattle.std.specs.Prelude.{◌≡◌, ◌-◌, ◌<◌, ◌≤◌, IfOk, IfSome, OnOk, length, ℕ, map, min, nat_lt, option_copied, slice_index, slice_index_or};
 ghost use Rattle.std.specs.List.{filter};
 ghost use Rattle.raw_column.specs.Contents.{Contents};
 ghost use Rattle.ecs_table.specs.Archetype.{ids_with_data, index_in, no_contents, pushed, pushed_value, removed, values_of};
@@ -103,4 +103,14 @@ pub fn reserve_each<A: Allocator + Copy>(
         column.reserve(additional)?;
     }
     Ok(())
+}
+
+/// Gives memory back in each column: places for `min_capacity` elements are kept, or for all that there are.
+pub fn shrink_each<A: Allocator>(columns: &mut [Column<A>], min_capacity: usize)
+    ensures items { map values_of columns.new ≡ map values_of columns.old }
+    ensures room { (k : ℕ) (d : Contents) → k < length columns.old → min (slice_index_or columns.old k d).room (min_capacity - length (slice_index_or columns.old k d).items) ≤ (slice_index_or columns.new k d).room }
+{
+    for column in columns.iter_mut() {
+        column.shrink_to(min_capacity);
+    }
 }

@@ -1,5 +1,5 @@
 //! The table.
-ghost use Rattle.std.specs.Prelude.{◌≡◌, ℕ, ◌<◌, ◌≤◌, max, IfOk, IfSome, OnOk, OnErr, IsOk, MatchOption, length, List, map, None, option_map, replicate, Some, slice_index, slice_index_or};
+ghost use Rattle.std.specs.Prelude.{◌≡◌, ℕ, ◌<◌, ◌≤◌, max, min, IfOk, IfSome, OnOk, OnErr, IsOk, MatchOption, length, List, map, None, option_map, replicate, Some, slice_index, slice_index_or};
 ghost use Rattle.std.specs.List.{zip};
 ghost use Rattle.raw_column.specs.Contents.{Contents};
 ghost use Rattle.ecs_id.specs.Id.{Id};
@@ -7,16 +7,19 @@ ghost use Rattle.ecs_table.specs.Archetype.{empty_table, moved_into, pushed_valu
 
 use crate::columns::{
     all_ids, empty_columns, ids_with_data, index_of, push_value, push_zeros, remove_each,
-    reserve_each,
+    reserve_each, shrink_each,
 };
 use ecs_id::{EntityId, Id};
 use raw_column::{Column, Memory};
 use std::alloc::{Allocator, Global};
 use std::marker::Model;
 
+// A table with places for so many rows keeps them: a few rows that come and go aren't worth a new block.
+const SMALL: usize = 64;
+
 /// The rows of the entities that have exactly the same ids.
 ///
-/// Each id with data has a column with a value for each row. A tag has none. Only `new` and `reserve` take memory.
+/// Each id with data has a column with a value for each row. A tag has none. Only `new` and `reserve` take memory, and `shrink_to` gives it back.
 #[derive(Drop)]
 pub struct Table<A: Allocator = Global> {
     ids: Vec<Id, A>,
@@ -70,6 +73,25 @@ impl<A: Allocator + Copy> Table<A> {
         reserve_each(self.columns.as_mut_slice(), additional)?;
         self.room = additional;
         Ok(())
+    }
+
+    /// Keeps room for `room` more rows at most, and gives memory back where the rows fill less than half of it.
+    ///
+    /// A small table keeps its memory. A smaller block that is refused is no error. Where `room` is at most half of the rows, the cost
+    /// is a constant for each row that came or went.
+    pub fn shrink_to(&mut self, room: usize)
+        ensures { self.new ≡ record self.old { room = min self.old.room room } }
+    {
+        self.room = self.room.min(room);
+        let rows = self.entities.len();
+        let capacity = self.entities.capacity();
+        if capacity <= SMALL || rows >= capacity / 2 {
+            return;
+        }
+        // Places for half as many rows again stay, so that giving back and growing again are a constant for a row.
+        let kept = (rows + rows / 2).max(rows + self.room).max(SMALL / 2);
+        self.entities.shrink_to(kept);
+        shrink_each(self.columns.as_mut_slice(), kept);
     }
 }
 

@@ -2,6 +2,7 @@ ghost use Rattle.std.specs.Prelude.{◌≡◌, ◌<◌, length};
 
 use crate::Table;
 use ecs_id::{EntityId, Id};
+use std::process::Abort;
 use std::test::Fail;
 
 #[test]
@@ -68,6 +69,54 @@ fn the_last_row_fills_a_gap(rt: HostRuntime) -> Result<(), Fail> {
     assert!(rt; target.rows() == [third].as_slice());
     assert!(rt; has_value(&target, 0, mass, &[3]));
     Ok(())
+}
+
+#[test]
+fn a_table_that_lost_most_rows_keeps_the_others(rt: HostRuntime) -> Result<(), Fail> {
+    let mass = Id::plain(64);
+    let mut table = Table::new(rt.alloc(), &[mass], &[4])?;
+    for index in 1..200 {
+        push(&mut table, mass, index)?;
+    }
+    for _ in 0..195 {
+        remove_sixth(&mut table);
+    }
+    table.shrink_to(0);
+    assert_eq!(rt; table.room(), 0);
+    assert_eq!(rt; table.rows().len(), 5);
+    expect_own_values(&rt, &table, mass);
+    for index in 200..300 {
+        push(&mut table, mass, index)?;
+    }
+    assert_eq!(rt; table.rows().len(), 105);
+    expect_own_values(&rt, &table, mass);
+    Ok(())
+}
+
+/// A row whose value is the number of its entity.
+fn push(table: &mut Table, id: Id, index: u32) -> Result<(), Fail> {
+    let row = table.rows().len();
+    table.reserve(1)?;
+    table.append(numbered(index));
+    if let Some(value) = table.value(row, id)
+        && value.len() == 4
+    {
+        table.set_value(row, id, &index.to_le_bytes());
+    }
+    Ok(())
+}
+
+fn remove_sixth(table: &mut Table) {
+    if 5 < table.rows().len() {
+        table.remove_row(5);
+    }
+}
+
+fn expect_own_values(rt: &impl Abort, table: &Table, id: Id) {
+    for row in 0..table.rows().len() {
+        let index = table.rows()[row].index;
+        assert!(rt; has_value(table, row, id, &index.to_le_bytes()));
+    }
 }
 
 fn has_value(table: &Table, row: usize, id: Id, bytes: &[u8]) -> bool

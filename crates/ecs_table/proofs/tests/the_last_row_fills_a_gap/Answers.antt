@@ -1,4 +1,4 @@
-use Rattle.std.proofs.Common.{◌≡◌, ℕ, List, [], ◌∷◌, cond, ap, sym, ◌∙◌, true, false, Option, Some, None}
+use Rattle.std.proofs.Common.{◌≡◌, [], ◌∷◌, cond, ap, sym, ◌∙◌, Some, None}
 use Rattle.std.proofs.lemmas.Option.{same_Some}
 use Rattle.ecs_id.specs.Id.{Id, id_eq_itself}
 use Rattle.ecs_table.proofs.Ordered.{size_of_new}
