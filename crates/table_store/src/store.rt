@@ -1,5 +1,5 @@
 //! The store of tables.
-ghost use Rattle.std.specs.Prelude.{◌≡◌, ◌↔◌, ◌<◌, ◌≤◌, ◌-◌, ◌+◌, ◌⊎◌, ◌≢◌, MatchResult, ℕ, [], is_some, IfOk, OnOk, OnErr, IsOk, IsNone, IsSome, IfSome, MatchOption, None, Some, map, max, length, option_map, slice_get, IsTrue};
+ghost use Rattle.std.specs.Prelude.{◌≡◌, ◌↔◌, ◌<◌, ◌≤◌, ◌-◌, ◌+◌, ◌⊎◌, ◌≢◌, MatchResult, ℕ, [], is_some, IfOk, OnOk, OnErr, IsOk, IsNone, IsSome, IfSome, MatchOption, None, Some, map, max, min, length, option_map, slice_get, IsTrue};
 ghost use Rattle.std.specs.FinMap.{is_sorted};
 ghost use Rattle.std.specs.Ordering.{nat_cmp};
 ghost use Rattle.std.specs.List.{Contains};
@@ -220,6 +220,18 @@ impl<A: Allocator + Copy> TableStore<A> {
         ensures whole { IsStored self.new }
     {
         self.tables[key.slot as usize].table.reserve(additional)
+    }
+
+    /// Keeps room for `room` more rows at most in a table, and gives back memory that rows left behind, as `Table::shrink_to` does.
+    pub fn shrink_to(&mut self, key: TableKey, room: usize)
+        requires stands { IsSome (table_at self.old key) }
+        ensures tables { (q : TableKey) → table_at self.new q ≡ changed_at self.old key (λ t. record t { room = min t.room room }) q }
+        ensures shapes { (q : TableKey) → shape_at self.new q ≡ shape_at self.old q }
+        ensures rows { (p : Place) → row_at self.new p ≡ row_at self.old p }
+        ensures last { self.new.last ≡ self.old.last }
+        ensures whole { IsStored self.new }
+    {
+        self.tables[key.slot as usize].table.shrink_to(room);
     }
 }
 

@@ -61,6 +61,9 @@ fn values_move(rt: HostRuntime) -> Result<(), Fail> {
     written(&mut store, from, 0, position, &[1, 2, 3, 4])?;
     written(&mut store, from, 1, position, &[5, 6, 7, 8])?;
     assert!(rt; moved(&mut store, from, to)? == (0, Some(MOON)));
+    shrunk(&mut store, from)?;
+    shrunk(&mut store, to)?;
+    assert!(rt; !has_room(&store, from));
     assert!(rt; has_value(&store, from, 0, position, Some(&[5, 6, 7, 8])));
     assert!(rt; moved(&mut store, from, to)? == (1, None));
     assert!(rt; is_empty(&store, from));
@@ -248,6 +251,18 @@ fn reserved(store: &mut TableStore, key: TableKey) -> Result<(), Memory>
         return Err(Memory);
     }
     result
+}
+
+/// Keeps no room for further rows.
+fn shrunk(store: &mut TableStore, key: TableKey) -> Result<(), Memory>
+    requires { IsSized store.old }
+    ensures { OnOk result (IsSized store.new) }
+{
+    if !stands(store, key) {
+        return Err(Memory);
+    }
+    store.shrink_to(key, 0);
+    Ok(())
 }
 
 /// Moves the first row of a table to another, where room is made for it.
