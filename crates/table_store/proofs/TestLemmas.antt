@@ -1,12 +1,12 @@
 -- The ids of the tests keep their sizes over each call.
 use Rattle.std.proofs.Common.{◌≡◌, ℕ, suc, zero, ◌≤◌, ◌<◌, ◌==◌, ◌&&◌, Bool, true, false, if◌then◌else◌, List, [], ◌∷◌, Option, Some, None, IsTrue, IsSome, IfSome, IfOk, OnOk, MatchOption, Result, Ok, Err, is_some, length, nat_eq, nat_lt, not, option_map, slice_get, unwrap_or, refl, sym, ap, subst, ◌∙◌, true≢false, arith, inl, inr}
 use Rattle.std.proofs.lemmas.Bool.Decides.{Decides-eqb, nat_tests}
-use Rattle.std.specs.List.{find, list_all}
+use Rattle.std.specs.List.{find}
 use Rattle.ecs_id.specs.declared.TableKey.{TableKey}
 use Rattle.std.specs.FinMap.{is_sorted}
 use Rattle.ecs_id.specs.Id.{Id, id_cmp, id_eq, packed, plain}
 use Rattle.ecs_id.specs.declared.EntityId.{EntityId}
-use Rattle.ecs_table.specs.Archetype.{Archetype, IsSound, index_in, size_of}
+use Rattle.ecs_table.specs.Archetype.{Archetype, IsSound, size_of}
 use Rattle.ecs_table.proofs.Rows.{data_says, found_in_shape, index_cases, size_absent}
 use Rattle.table_store.specs.Store.{HasSize, Shape, Store, find_in, key_eq, released_at, room_at, shape_at, shape_of, shaped_at, table_at, with_id, without_id}
 use Rattle.table_store.specs.Rows.{rows_in}

@@ -1,5 +1,5 @@
 use Rattle.std.proofs.Common.{sym, ap, subst, option_map}
-use Rattle.table_store.specs.Store.{HasSize, shape_of, table_at, with_id, without_id}
+use Rattle.table_store.specs.Store.{HasSize, shape_of, table_at, with_id}
 use Rattle.table_store.specs.Tests.{IsOfSizes}
 use Rattle.table_store.proofs.Changes.{there}
 use Rattle.table_store.proofs.TestLemmas.{has_size, sized_put, sized_with}
