@@ -15,7 +15,7 @@ use Rattle.ecs_table.specs.Archetype.{Archetype}
 use Rattle.ecs_model.proofs.Maps.{to_T, from_T, of_some, if_some, some_of}
 use Rattle.entity_index.specs.Entities.{Entities, IsWellFormed, is_alive, is_live, place_of, with_place}
 use Rattle.ecs_world.specs.Archetypes.{IsSound, all_cells, cells_there, known_in, meaning}
-use Rattle.ecs_world.specs.Holdings.{AreHoldings, HoldAlike, agrees, cells_at, sizes_of, with_cells}
+use Rattle.ecs_world.specs.Holdings.{AreHoldings, HoldAlike, Holdings, agrees, cells_at, sizes_of, with_cells}
 use Rattle.table_store.specs.Rows.{Cells, HasRows, IsStored, Row, cells_of, row_at, row_of, rows_in, shape_of_cells}
 use Rattle.table_store.specs.Store.{Store, find_in, shape_at, table_at}
 use Rattle.ecs_world.proofs.Known.{of_shape, size_agrees}
@@ -189,6 +189,9 @@ module _ (w : Entities) (s s' : Store) (sound : IsSound w s) (rows : (p : Place)
 
   pub alike_same : HoldAlike (meaning w s') (meaning w s)
   alike_same = record { live = refl; deletions = refl; cells = λ k. map (λ e. (e.0, unwrap_or (option_map (λ r. r.1) (rows e.1 k)) [])) w.places }
+
+  pub alike_then : (h : Holdings) → HoldAlike (meaning w s) h → HoldAlike (meaning w s') h
+  alike_then h a = record { live = a.live; deletions = a.deletions; cells = alike_same.cells ∙ a.cells }
 
 -- what a row is in its table
 module _ (s : Store) (p : Place) (v : Row) (at : row_at s p ≡ Some v) where

@@ -21,8 +21,8 @@ const LAST_INDEX: u32 = 16_777_215;
 /// The entities in their archetype tables.
 ///
 /// An entity is settled once it stands in a table. A call that fails for want of memory leaves what each entity holds as it was.
-/// `settle`, `create`, `add` and `remove` touch one row and the last of its table. `set_value`, `ids_of` and `bytes` take no memory, and
-/// look at no more than the ids of one table.
+/// `settle`, `create`, `add` and `remove` touch one row and the last of its table. A table that lost most of its rows to `add` or `remove`
+/// gives memory back. `set_value`, `ids_of` and `bytes` take no memory, and look at no more than the ids of one table.
 #[derive(Drop)]
 pub struct Archetypes<A: Allocator = Global> {
     entities: EntityIndex<A>,

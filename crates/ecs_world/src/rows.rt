@@ -5,6 +5,7 @@ ghost use Rattle.std.specs.List.{list_all};
 ghost use Rattle.std.specs.Option.{option_copied};
 ghost use Rattle.ecs_id.specs.Id.{id_cmp};
 ghost use Rattle.ecs_id.specs.declared.Place.{Place};
+ghost use Rattle.ecs_id.specs.declared.TableKey.{TableKey};
 ghost use Rattle.ecs_model.specs.Map.{IsMap, value_at, with_value};
 ghost use Rattle.entity_index.specs.Entities.{is_alive, place_of};
 ghost use Rattle.ecs_world.specs.Archetypes.{IsSound, known_in, meaning};
@@ -97,7 +98,9 @@ pub fn enter<A: Allocator>(
 }
 
 /// Moves the row of an entity to another table. The entity whose row fills the gap stands there from then on.
-pub fn carry<A: Allocator>(
+///
+/// The table that loses the row gives back the memory that its rows left behind.
+pub fn carry<A: Allocator + Copy>(
     entities: &mut EntityIndex<A>,
     tables: &mut TableStore<A>,
     entity: EntityId,
@@ -111,6 +114,26 @@ pub fn carry<A: Allocator>(
     ensures sound { IsSound entities.new tables.new }
     ensures held { (f : Shape) → shape_at tables.old to ≡ Some f → HoldAlike (meaning entities.new tables.new) (with_cells (meaning entities.old tables.old) entity.index (carried f (held_at (meaning entities.old tables.old) entity.index))) }
     ensures sizes { KeepsSizes (known_in tables.old) [] (known_in tables.new) }
+{
+    carry_row(entities, tables, entity, place, to);
+    tables.shrink_to(place.table, 0);
+}
+
+// `carry`, with the memory kept.
+fn carry_row<A: Allocator>(
+    entities: &mut EntityIndex<A>,
+    tables: &mut TableStore<A>,
+    entity: EntityId,
+    place: Place,
+    to: TableKey,
+)
+    requires sound { IsSound entities.old tables.old }
+    requires there { place_of entities.old entity ≡ Some place }
+    requires apart { place.table ≢ to }
+    requires room { 0 < room_at tables.old to }
+    ensures sound { IsSound entities.new tables.new }
+    ensures held { (f : Shape) → shape_at tables.old to ≡ Some f → HoldAlike (meaning entities.new tables.new) (with_cells (meaning entities.old tables.old) entity.index (carried f (held_at (meaning entities.old tables.old) entity.index))) }
+    ensures shapes { (q : TableKey) → shape_at tables.new q ≡ shape_at tables.old q }
 {
     let (row, filled) = tables.move_row(place.table, place.row, to);
     entities.set_place(entity, Place { table: to, row });

@@ -1,60 +1,20 @@
--- The row moves, the last row fills its gap, and the index is told of both.
-use Rattle.std.proofs.Common.{◌≡◌, ◌∙◌, None, ap, option_map, rules, sym, true}
-use Rattle.ecs_id.specs.declared.Place.{Place}
-use Rattle.entity_index.specs.Entities.{is_alive}
-use Rattle.table_store.specs.Rows.{filler}
-use Rattle.ecs_world.proofs.RowChanges.{alike_carried, filler_alive, places_alone, places_both, sound_carried}
-use Rattle.ecs_world.proofs.Known.{room_stands, same_kept}
-use Rattle.ecs_world.proofs.Soundness.{own_row, placed_alive, row_within}
+-- The table that lost the row keeps its rows when it gives memory back.
+use Rattle.std.proofs.Common.{◌∙◌}
+use Rattle.ecs_world.proofs.Known.{same_kept, shape_stands, shape_there}
+use Rattle.ecs_world.proofs.Soundness.{alike_then, own_row, row_stands, sound_same}
 use Rattle.ecs_world.proofs.rows.carry.Goals as goal
 
-pub move_row-row-requires-clause-there : goal.move_row-row-requires-clause-there
-move_row-row-requires-clause-there g c =
+pub shrink_to-requires : goal.shrink_to-requires
+shrink_to-requires g c =
     let r = own_row c.args.entities.now c.args.tables.now c.requires.sound c.args.entity c.args.place c.requires.there in
-    row_within c.args.tables.now c.args.place (c.args.entity, r.0) r.1
+    let f = shape_there c.args.tables.now c.args.place.table (row_stands c.args.tables.now c.args.place (c.args.entity, r.0) r.1) in
+    record { stands = shape_stands c.carry_row.new.tables c.args.place.table f.0 (c.carry_row.ensures.shapes c.args.place.table ∙ f.1) }
 
-pub set_place-requires-in-Some : goal.set_place-requires-in-Some
-set_place-requires-in-Some g c = ap (λ u. is_alive u c.in-Some.other) c.set_place.ensures.placed
-    ∙ filler_alive c.args.entities.now c.args.tables.now c.requires.sound c.args.place c.in-Some.other (sym c.move_row-row.ensures.filled ∙ c.in-Some.is)
+pub returns-clause-sound : goal.returns-clause-sound
+returns-clause-sound g c = sound_same c.carry_row.new.entities c.carry_row.new.tables c.shrink_to.new.self c.carry_row.ensures.sound c.shrink_to.ensures.rows c.shrink_to.ensures.whole
 
-pub returns-in-Some-clause-sound : goal.returns-in-Some-clause-sound
-returns-in-Some-clause-sound g c =
-    let f = room_stands c.args.tables.now c.args.to c.requires.room in
-    let alive : is_alive c.args.entities.now c.args.entity ≡ true = placed_alive c.args.entities.now c.args.entity c.args.place c.requires.there in
-    sound_carried c.args.entities.now c.set_place-in-Some.new.self c.args.tables.now c.move_row-row.new.self c.requires.sound c.args.entity c.args.place (record { table = c.args.to; row = c.move_row-row.result.0 }) f.0 c.requires.there c.move_row-row.ensures.vacant
-    (places_both c.args.entities.now c.args.entity c.args.place (record { table = c.args.to; row = c.move_row-row.result.0 }) alive c.set_place.new.self c.set_place-in-Some.new.self c.in-Some.other c.set_place.ensures.placed (ap (λ u. is_alive u c.in-Some.other) c.set_place.ensures.placed ∙ filler_alive c.args.entities.now c.args.tables.now c.requires.sound c.args.place c.in-Some.other (sym c.move_row-row.ensures.filled ∙ c.in-Some.is)) c.set_place-in-Some.ensures.placed (option_map (λ r. r.0) (filler c.args.tables.now c.args.place)) (sym c.move_row-row.ensures.filled ∙ c.in-Some.is))
-    (ap (λ u. u.live) c.set_place-in-Some.ensures.placed ∙ ap (λ u. u.live) c.set_place.ensures.placed) (ap (λ u. u.deletions) c.set_place-in-Some.ensures.placed ∙ ap (λ u. u.deletions) c.set_place.ensures.placed) (ap (λ u. u.last) c.set_place-in-Some.ensures.placed ∙ ap (λ u. u.last) c.set_place.ensures.placed) c.set_place-in-Some.ensures.well_formed c.move_row-row.ensures.whole
-    (λ v there. c.move_row-row.ensures.rows v f.0 there f.1)
+pub returns-clause-held : goal.returns-clause-held
+returns-clause-held g c = λ f at. alike_then c.carry_row.new.entities c.carry_row.new.tables c.shrink_to.new.self c.carry_row.ensures.sound c.shrink_to.ensures.rows c.shrink_to.ensures.whole _ (c.carry_row.ensures.held f at)
 
-pub returns-in-Some-clause-held : goal.returns-in-Some-clause-held
-returns-in-Some-clause-held g c = λ f at.
-    let alive : is_alive c.args.entities.now c.args.entity ≡ true = placed_alive c.args.entities.now c.args.entity c.args.place c.requires.there in
-    alike_carried c.args.entities.now c.set_place-in-Some.new.self c.args.tables.now c.move_row-row.new.self c.requires.sound c.args.entity c.args.place (record { table = c.args.to; row = c.move_row-row.result.0 }) f c.requires.there c.move_row-row.ensures.vacant
-    (places_both c.args.entities.now c.args.entity c.args.place (record { table = c.args.to; row = c.move_row-row.result.0 }) alive c.set_place.new.self c.set_place-in-Some.new.self c.in-Some.other c.set_place.ensures.placed (ap (λ u. is_alive u c.in-Some.other) c.set_place.ensures.placed ∙ filler_alive c.args.entities.now c.args.tables.now c.requires.sound c.args.place c.in-Some.other (sym c.move_row-row.ensures.filled ∙ c.in-Some.is)) c.set_place-in-Some.ensures.placed (option_map (λ r. r.0) (filler c.args.tables.now c.args.place)) (sym c.move_row-row.ensures.filled ∙ c.in-Some.is))
-    (ap (λ u. u.live) c.set_place-in-Some.ensures.placed ∙ ap (λ u. u.live) c.set_place.ensures.placed) (ap (λ u. u.deletions) c.set_place-in-Some.ensures.placed ∙ ap (λ u. u.deletions) c.set_place.ensures.placed) (ap (λ u. u.last) c.set_place-in-Some.ensures.placed ∙ ap (λ u. u.last) c.set_place.ensures.placed) c.set_place-in-Some.ensures.well_formed c.move_row-row.ensures.whole
-    (λ v there. c.move_row-row.ensures.rows v f there at)
-
-pub returns-in-Some-clause-sizes : goal.returns-in-Some-clause-sizes
-returns-in-Some-clause-sizes g c = same_kept c.args.tables.now c.move_row-row.new.self c.move_row-row.ensures.whole.0 c.move_row-row.ensures.shapes
-
-pub returns-in_default-clause-sound : goal.returns-in_default-clause-sound
-returns-in_default-clause-sound g c =
-    let f = room_stands c.args.tables.now c.args.to c.requires.room in
-    let alive : is_alive c.args.entities.now c.args.entity ≡ true = placed_alive c.args.entities.now c.args.entity c.args.place c.requires.there in
-    let none : c.move_row-row.result.1 ≡ None = search rules in
-    sound_carried c.args.entities.now c.set_place.new.self c.args.tables.now c.move_row-row.new.self c.requires.sound c.args.entity c.args.place (record { table = c.args.to; row = c.move_row-row.result.0 }) f.0 c.requires.there c.move_row-row.ensures.vacant
-    (places_alone c.args.entities.now c.args.entity c.args.place (record { table = c.args.to; row = c.move_row-row.result.0 }) alive c.set_place.new.self c.set_place.ensures.placed (option_map (λ r. r.0) (filler c.args.tables.now c.args.place)) (sym c.move_row-row.ensures.filled ∙ none))
-    (ap (λ u. u.live) c.set_place.ensures.placed) (ap (λ u. u.deletions) c.set_place.ensures.placed) (ap (λ u. u.last) c.set_place.ensures.placed) c.set_place.ensures.well_formed c.move_row-row.ensures.whole
-    (λ v there. c.move_row-row.ensures.rows v f.0 there f.1)
-
-pub returns-in_default-clause-held : goal.returns-in_default-clause-held
-returns-in_default-clause-held g c = λ f at.
-    let alive : is_alive c.args.entities.now c.args.entity ≡ true = placed_alive c.args.entities.now c.args.entity c.args.place c.requires.there in
-    let none : c.move_row-row.result.1 ≡ None = search rules in
-    alike_carried c.args.entities.now c.set_place.new.self c.args.tables.now c.move_row-row.new.self c.requires.sound c.args.entity c.args.place (record { table = c.args.to; row = c.move_row-row.result.0 }) f c.requires.there c.move_row-row.ensures.vacant
-    (places_alone c.args.entities.now c.args.entity c.args.place (record { table = c.args.to; row = c.move_row-row.result.0 }) alive c.set_place.new.self c.set_place.ensures.placed (option_map (λ r. r.0) (filler c.args.tables.now c.args.place)) (sym c.move_row-row.ensures.filled ∙ none))
-    (ap (λ u. u.live) c.set_place.ensures.placed) (ap (λ u. u.deletions) c.set_place.ensures.placed) (ap (λ u. u.last) c.set_place.ensures.placed) c.set_place.ensures.well_formed c.move_row-row.ensures.whole
-    (λ v there. c.move_row-row.ensures.rows v f there at)
-
-pub returns-in_default-clause-sizes : goal.returns-in_default-clause-sizes
-returns-in_default-clause-sizes g c = same_kept c.args.tables.now c.move_row-row.new.self c.move_row-row.ensures.whole.0 c.move_row-row.ensures.shapes
+pub returns-clause-sizes : goal.returns-clause-sizes
+returns-clause-sizes g c = same_kept c.args.tables.now c.shrink_to.new.self c.shrink_to.ensures.whole.0 (λ q. c.shrink_to.ensures.shapes q ∙ c.carry_row.ensures.shapes q)
