@@ -1,3 +1,4 @@
+pub mod Bytes
 pub mod EntryLists
 pub mod Readings
 pub mod LiveSlots

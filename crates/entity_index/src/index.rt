@@ -4,6 +4,7 @@ ghost use Rattle.std.specs.Bool.{OnTrue, OnFalse};
 ghost use Rattle.entity_index.specs.Entities.{built_in_entities, entity_at, is_alive, is_deletable, live_entities, next_entity, place_of, with_entity, with_place, without_entity, IsFull, IsNext, IsWellFormed};
 
 use crate::live::Live;
+use crate::packed::{PackedPlace, unpacked};
 use crate::slot::{FIRST_INDEX, Slot, first_places, first_slots};
 use ecs_id::{EntityId, Place};
 use std::alloc::{AllocError, Allocator, Global};
@@ -46,7 +47,7 @@ pub struct EntityIndex<A: Allocator = Global> {
     // by index, up to the greatest that was used
     slots: Vec<Slot, A>,
     // by index too, apart from the slots so that these stay small
-    places: Vec<Option<Place>, A>,
+    places: Vec<Option<PackedPlace>, A>,
     // the indexes of slots that can be given out again, with the smallest on top
     free: BinaryHeap<Reverse<u32>, A>,
     last: u32,
@@ -196,7 +197,7 @@ impl<A: Allocator> EntityIndex<A> {
         ensures { result ≡ place_of self.now entity }
     {
         if self.is_alive(entity) {
-            self.places[entity.index as usize]
+            unpacked(&self.places[entity.index as usize])
         } else {
             None
         }
@@ -208,7 +209,7 @@ impl<A: Allocator> EntityIndex<A> {
         ensures placed { self.new ≡ with_place self.old entity.index place }
         ensures well_formed { IsWellFormed self.new }
     {
-        self.places[entity.index as usize] = Some(place);
+        self.places[entity.index as usize] = Some(PackedPlace::new(place));
     }
 
     /// The live entities, by ascending index.

@@ -3,6 +3,7 @@
 
 mod index;
 mod live;
+mod packed;
 mod slot;
 #[cfg(test)]
 mod tests;

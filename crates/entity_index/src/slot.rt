@@ -3,7 +3,7 @@ ghost use Rattle.std.specs.Prelude.{◌≡◌, IfOk, None, map};
 ghost use Rattle.std.specs.List.{range_with_len};
 ghost use Rattle.entity_index.specs.Slots.{first_slot};
 
-use ecs_id::Place;
+use crate::packed::PackedPlace;
 use std::alloc::{AllocError, Allocator};
 
 /// The last of the built-in entities, which have the indexes from 1 on.
@@ -39,7 +39,7 @@ pub fn first_slots<A: Allocator>(alloc: A) -> Result<Vec<Slot, A>, AllocError>
 }
 
 /// The places beside these slots: none stands there.
-pub fn first_places<A: Allocator>(alloc: A) -> Result<Vec<Option<Place>, A>, AllocError>
+pub fn first_places<A: Allocator>(alloc: A) -> Result<Vec<Option<PackedPlace>, A>, AllocError>
     ensures { IfOk result (λ places. places.items ≡ map (λ _. None) (range_with_len 0 64)) }
 {
     (0..FIRST_INDEX).map(|_| None).collect(alloc)

@@ -15,5 +15,5 @@ pub returns-then-is_alive : goal.returns-then-is_alive
 returns-then-is_alive g c =
     let alive : is_alive (meaning c.self.inside.slots.items c.self.inside.places.items c.self.inside.last) c.args.entity ≡ true = ap (λ w. is_alive w c.args.entity) c.self.view_is ∙ sym c.if-is_alive.ensures.answer in
     let within = alive_within c.self.inside.slots.items c.self.inside.places.items c.self.inside.last c.args.entity alive in
-    let read = c.index.ensures ∙ get_or_default c.self.inside.places.items c.args.entity.index c.index.result.now None (omega (arith, within, c.self.invariant.paired)) in
+    let read = c.unpacked.ensures ∙ c.index.ensures ∙ get_or_default c.self.inside.places.items c.args.entity.index c.index.result.now None (omega (arith, within, c.self.invariant.paired)) in
     rw (← c.self.view_is) (read ∙ sym (place_at_slot c.self.inside.slots.items c.self.inside.places.items c.self.inside.last c.args.entity alive))
