@@ -1,5 +1,5 @@
 -- What the calls need that carry out accepted commands, and what they leave.
-use Rattle.std.proofs.Common.{◌≡◌, ℕ, ◌+◌, ◌≤◌, ◌==◌, Bool, true, false, not, ◌&&◌, List, [], ◌∷◌, take, length, replicate, ℤ, Option, Some, None, is_some, unwrap_or, if◌then◌else◌, IsTrue, Result, Ok, Err, is_err, IfOk, OnOk, OnErr, refl, sym, ap, subst, ◌∙◌, arith, true≢false}
+use Rattle.std.proofs.Common.{◌≡◌, ℕ, ◌+◌, ◌≤◌, ◌==◌, Bool, true, false, ◌&&◌, List, [], ◌∷◌, replicate, ℤ, Option, Some, None, is_some, IsTrue, Result, Ok, Err, is_err, IfOk, OnOk, OnErr, refl, sym, ap, subst, ◌∙◌, arith, true≢false}
 use Rattle.std.proofs.lemmas.Bool.Decides.{Decides-eqb}
 use Rattle.std.specs.FinMap as finite
 use Rattle.std.specs.List.{list_all}
@@ -12,19 +12,19 @@ use Rattle.ecs_model.specs.Schema.{Schema, schema_fault, zeros}
 use Rattle.ecs_model.specs.Keeps.{IsWellFormed}
 use Rattle.ecs_model.specs.Refusal.{first_reason}
 use Rattle.ecs_model.specs.Changes.{facts_after_add, facts_after_remove}
-use Rattle.ecs_model.specs.World.{WorldState, Key, key_cmp, component, holds, type_of_id, new_value}
+use Rattle.ecs_model.specs.World.{WorldState, key_cmp, component, holds, type_of_id, new_value}
 use Rattle.ecs_model.specs.Command.{Command, IsCommand, Fresh, Entity, Component, Add, SetValue, Remove, reasons, effect, counted, is_spent, with_facts}
 use Rattle.ecs_model.specs.Command as model
-use Rattle.ecs_model.proofs.Additions.{held_after_add, not_spent}
+use Rattle.ecs_model.proofs.Additions.{not_spent}
 use Rattle.ecs_model.proofs.Answering.{effect_well_formed}
 use Rattle.ecs_model.proofs.Maps.{of_some}
 use Rattle.ecs_model.proofs.Removals.{removes_held_alone}
 use Rattle.name_index.specs.Names.{IsUnnamed, Names}
-use Rattle.ecs_world.specs.Holdings.{AreHoldings, Cells, HoldAlike, Holdings, KeepsSizes, Sizes, agrees, cells_at, held_at, holds_id, lives, next_entity, with_cells, with_entity}
+use Rattle.ecs_world.specs.Holdings.{AreHoldings, HoldAlike, Holdings, KeepsSizes, Sizes, agrees, cells_at, held_at, holds_id, lives, next_entity, with_cells, with_entity}
 use Rattle.ecs_world.specs.State.{IsWorld, byte_count, is_known_rightly, state_of, type_of, value_in}
 use Rattle.ecs_world.proofs.Births.{birth_left, component_known, effect-component, effect-entity, effect-fresh, none_live, other_schemas, state_component, state_fresh, state_named, tags_empty, tags_tagged}
-use Rattle.ecs_world.proofs.Judged.{CanBear, CanChange, add_of_set, bears-component, bears-entity, bears-fresh, judged-add, judged-remove}
-use Rattle.ecs_world.proofs.Left.{cells_left, effect-add, effect-remove, effect-set, facts_held, facts_new, held_world, recounted, state_gone, state_put, tags_gone, tags_put, there, types_after_add}
+use Rattle.ecs_world.proofs.Judged.{CanBear, CanChange, judged-add, judged-remove}
+use Rattle.ecs_world.proofs.Left.{cells_left, effect-remove, facts_new, held_world, recounted, state_gone, state_put, tags_gone, tags_put, there}
 use Rattle.ecs_world.proofs.NameLists.{AreNamed-bound, AreNamed-same, unnamed}
 use Rattle.ecs_world.proofs.States.{AreNamed-world, holds_is, next_same, size_agrees, state_alike, type_is, world_alike, zeros_are_new}
 

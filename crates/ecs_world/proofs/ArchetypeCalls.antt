@@ -1,7 +1,7 @@
 -- What each call asks of the index and the store, and what it tells of the holdings.
-use Rattle.std.proofs.Common.{◌≡◌, ◌≢◌, ◌<◌, ℕ, Bool, true, false, cond, not, ◌&&◌, ◌==◌, List, [], ◌∷◌, map, length, replicate, Option, Some, None, option_map, unwrap_or, is_some, refl, sym, ap, subst, ◌∙◌, true≢false}
-use Rattle.std.specs.List.{filter, list_all}
-use Rattle.std.specs.Option.{IfSome, IsSome, option_eq}
+use Rattle.std.proofs.Common.{◌≡◌, ◌≢◌, ℕ, Bool, true, false, cond, not, ◌==◌, [], length, replicate, Option, Some, None, option_map, unwrap_or, is_some, refl, sym, ap, subst, ◌∙◌, true≢false}
+use Rattle.std.specs.List.{filter}
+use Rattle.std.specs.Option.{IsSome, option_eq}
 use Rattle.std.specs.Ordering.{nat_cmp, eq_by_cmp}
 use Rattle.std.specs.Cmp.{nat_cmp_total}
 use Rattle.std.specs.FinMap.Entries.{find, put, is_sorted, find-put}
@@ -13,15 +13,15 @@ use Rattle.ecs_id.specs.Id.{Id, id_cmp, id_eq}
 use Rattle.ecs_model.proofs.Maps.{both_true, of_some, some_of}
 use Rattle.entity_index.specs.Entities.{Entities, IsWellFormed, IsNext, is_alive, is_live, place_of, count_at}
 use Rattle.entity_index.specs.Entities as index
-use Rattle.ecs_world.specs.Archetypes.{IsSound, known_in, meaning}
+use Rattle.ecs_world.specs.Archetypes.{IsSound, meaning}
 use Rattle.ecs_world.specs.Holdings.{HoldAlike, Holdings, agrees, cells_at, held_at, holds_id, lives, with_cells, with_entity}
-use Rattle.table_store.specs.Rows.{Cells, IsStored, Row, carried, row_at, shape_of_cells, with_cell, with_row_at}
-use Rattle.table_store.specs.Store.{Store, Shape, find_in, shape_at, table_at, with_id, without_id}
+use Rattle.table_store.specs.Rows.{Cells, IsStored, carried, row_at, shape_of_cells}
+use Rattle.table_store.specs.Store.{Store, Shape, find_in, shape_at, with_id, without_id}
 use Rattle.ecs_world.proofs.Carried.{carried_with, carried_without, find_shape, narrower_other, wider_other}
 use Rattle.ecs_world.proofs.Known.{has_size}
 use Rattle.ecs_world.proofs.MapLists.{eq_tells, nat_same}
 use Rattle.ecs_world.proofs.Placings.{content}
-use Rattle.ecs_world.proofs.Soundness.{alike_same, alive_place, cells_alive, cells_found, dead_nowhere, found_alive, own_row, placed_alive, row_shape, row_sorted}
+use Rattle.ecs_world.proofs.Soundness.{alike_same, cells_alive, dead_nowhere, found_alive, own_row, row_shape, row_sorted}
 
 -- what is said of holdings that are alike
 pub alike_with : (a m n h : Holdings) (i : ℕ) (v : Cells) → HoldAlike a (with_cells m i v) → HoldAlike m n → n ≡ h → HoldAlike a (with_cells h i v)

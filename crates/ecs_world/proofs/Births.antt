@@ -1,7 +1,6 @@
 -- What the birth of an entity leaves.
-use Rattle.std.proofs.Common.{◌≡◌, ◌≢◌, ◌⊎◌, ℕ, ◌+◌, ◌==◌, Bool, true, false, cond, not, ◌&&◌, List, [], ◌∷◌, map, replicate, ℤ, Option, Some, None, option_map, unwrap_or, is_some, if◌then◌else◌, IsTrue, refl, sym, ap, subst, ◌∙◌, inl, inr, arith, true≢false}
-use Rattle.std.proofs.lemmas.Bool.Decides.{Decides-eqb}
-use Rattle.std.specs.Cmp.{nat_cmp_total, Equal-is}
+use Rattle.std.proofs.Common.{◌≡◌, ◌≢◌, ℕ, ◌==◌, Bool, true, false, cond, ◌&&◌, List, [], ◌∷◌, Option, Some, None, is_some, refl, sym, ap, ◌∙◌, inl, inr, true≢false}
+use Rattle.std.specs.Cmp.{Equal-is}
 use Rattle.std.specs.FinMap as finite
 use Rattle.std.specs.FinMap.Entries.{by_order}
 use Rattle.std.specs.List.{list_all}
@@ -11,21 +10,21 @@ use Rattle.std.specs.declared.cmp.Ordering.TheVariants.{Less, Equal, Greater}
 use Rattle.std.specs.Ordering.{nat_cmp, eq_by_cmp}
 use Rattle.ecs_id.specs.declared.EntityId.{EntityId}
 use Rattle.ecs_id.specs.Id.{Id, plain, mentioned, first_of}
-use Rattle.ecs_model.specs.Map.{Map, IsMap, value_at, has_key, keys, with_value}
+use Rattle.ecs_model.specs.Map.{Map, value_at, has_key, keys, with_value}
 use Rattle.ecs_model.specs.Schema.{Schema}
 use Rattle.ecs_model.specs.Keeps.{IsWellFormed}
-use Rattle.ecs_model.specs.World.{WorldState, Key, key_cmp, component, pair_is_tag}
+use Rattle.ecs_model.specs.World.{WorldState, key_cmp, component, pair_is_tag}
 use Rattle.ecs_model.specs.Command.{Fresh, Entity, Component, effect, counted, with_born, with_named, with_component}
 use Rattle.ecs_model.specs.Command as model
 use Rattle.ecs_model.proofs.Maps.{both_true, key_cmp_same, nat_value_at}
 use Rattle.ecs_model.proofs.Reasons.{next_is_free}
 use Rattle.name_index.specs.Names.{Names}
-use Rattle.ecs_world.specs.Holdings.{AreHoldings, Cells, HoldAlike, Holdings, KeepsSizes, Sizes, bytes_at, cells_at, holds_id, lives, with_cells, with_entity}
-use Rattle.ecs_world.specs.State.{IsWorld, all_facts, byte_count, is_known_rightly, names_of, state_of, type_in, type_of, value_in}
+use Rattle.ecs_world.specs.Holdings.{AreHoldings, Cells, HoldAlike, Holdings, KeepsSizes, Sizes, cells_at, holds_id, with_cells, with_entity}
+use Rattle.ecs_world.specs.State.{IsWorld, all_facts, byte_count, is_known_rightly, names_of, state_of, type_of, value_in}
 use Rattle.ecs_world.proofs.Entities.{alive_of}
 use Rattle.ecs_world.proofs.Facts.{bytes_in}
 use Rattle.ecs_world.proofs.FactChanges.{bytes_empty, bytes_first, facts_put, facts_same}
-use Rattle.ecs_world.proofs.NameLists.{AreNamed, AreNamed-bound, AreNamed-same, names_bound, names_same}
+use Rattle.ecs_world.proofs.NameLists.{AreNamed, names_bound, names_same}
 use Rattle.ecs_world.proofs.States.{AreCells-whole, AreCells-world, AreNamed-world, all_implied, known_held, type_in-same, unsettled_at}
 
 -- the same key put into maps with the same keys

@@ -1,9 +1,7 @@
 -- Cells carried to a table with one id more, or one less.
-use Rattle.std.proofs.Common.{◌≡◌, ◌≢◌, ℕ, Bool, true, false, cond, not, List, [], ◌∷◌, map, length, replicate, Option, Some, None, option_map, unwrap_or, is_some, refl, sym, ap, subst, ◌∙◌, true≢false}
+use Rattle.std.proofs.Common.{◌≡◌, ℕ, Bool, true, false, cond, not, List, length, replicate, Option, Some, None, option_map, unwrap_or, refl, sym, ap, ◌∙◌}
 use Rattle.std.specs.List.{filter}
-use Rattle.std.specs.Ordering.{eq_by_cmp}
-use Rattle.std.specs.declared.cmp.Ordering.TheVariants.{Equal}
-use Rattle.std.specs.FinMap.Entries.{find, put, is_sorted, where_key, find-put, find-where_key, is_sorted-put, is_sorted-where_key, same_entries}
+use Rattle.std.specs.FinMap.Entries.{find, put, is_sorted, find-put, find-where_key, is_sorted-put, is_sorted-where_key, same_entries}
 use Rattle.ecs_id.specs.Id.{Id, id_cmp, id_cmp_same, id_cmp_total, id_eq, id_eq_itself, id_eq_same}
 use Rattle.ecs_model.proofs.Maps.{to_T, from_T}
 use Rattle.table_store.specs.Rows.{Cells, carried, shape_of_cells}

@@ -1,11 +1,11 @@
 -- The facts after a change of what one entity holds.
-use Rattle.std.proofs.Common.{◌≡◌, ◌≢◌, ◌⊎◌, ℕ, ◌==◌, Bool, true, false, cond, not, ◌||◌, List, [], ◌∷◌, ℤ, Option, Some, None, option_map, unwrap_or, is_some, refl, sym, ap, subst, ◌∙◌, inl, inr, arith, true≢false}
+use Rattle.std.proofs.Common.{◌≡◌, ◌≢◌, ℕ, Bool, true, false, cond, not, ◌||◌, List, [], ◌∷◌, ℤ, Option, Some, None, option_map, unwrap_or, refl, sym, ap, ◌∙◌, inl, inr}
 use Rattle.std.specs.List.{list_any}
-use Rattle.std.specs.Cmp.{nat_cmp_total, Equal-is}
+use Rattle.std.specs.Cmp.{Equal-is}
 use Rattle.std.specs.Ordering.{nat_cmp, eq_by_cmp}
 use Rattle.std.specs.FinMap.Entries.{find-put, find-where_key}
 use Rattle.ecs_id.specs.Id.{Id, id_cmp, id_cmp_total, id_cmp_same, id_eq}
-use Rattle.ecs_model.specs.Map.{Map, IsMap, value_at, has_key, with_value, without}
+use Rattle.ecs_model.specs.Map.{Map, IsMap, value_at, with_value, without}
 use Rattle.ecs_model.specs.Schema.{Schema}
 use Rattle.ecs_model.specs.World.{Key, key_cmp, key_eq}
 use Rattle.ecs_model.proofs.Maps.{key_cmp_total, key_cmp_same, nat_value_at, IsMap-with_value}

@@ -1,18 +1,18 @@
 -- The facts of all entities as one list: what is found in it, that it is in order, and what a change of one entity does.
-use Rattle.std.proofs.Common.{◌≡◌, ◌≢◌, ◌⊎◌, ℕ, ◌==◌, Bool, true, false, cond, ◌&&◌, List, [], ◌∷◌, ◌++◌, map, flat_map, filter_map, ℤ, Option, Some, None, option_map, unwrap_or, is_some, if◌then◌else◌, refl, sym, ap, subst, ◌∙◌, inl, inr, arith, true≢false, T, not}
+use Rattle.std.proofs.Common.{◌≡◌, ◌≢◌, ℕ, ◌==◌, Bool, true, false, cond, ◌&&◌, List, [], ◌∷◌, ◌++◌, filter_map, ℤ, Option, Some, None, option_map, unwrap_or, is_some, if◌then◌else◌, refl, sym, ap, subst, ◌∙◌, arith, true≢false}
 use Rattle.std.proofs.lemmas.Bool.Decides.{nat_tests, Decides-eqb}
 use Rattle.std.proofs.lemmas.Cmp.{nat_cmp_total, tied_itself}
 use Rattle.std.specs.List.{cons_option}
 use Rattle.std.specs.declared.cmp.Ordering.{Ordering}
 use Rattle.std.specs.declared.cmp.Ordering.TheVariants.{Less, Equal, Greater}
 use Rattle.std.specs.Ordering.{nat_cmp, eq_by_cmp, is_eq, is_lt, ordering_then}
-use Rattle.std.specs.FinMap.{find, put, is_sorted}
-use Rattle.std.specs.FinMap.Entries.{where_key, below_all, find-put, find-where_key, is_sorted-put, is_sorted-where_key, same_entries}
-use Rattle.ecs_id.specs.Id.{Id, id_cmp, id_cmp_total, id_cmp_same}
+use Rattle.std.specs.FinMap.{find, is_sorted}
+use Rattle.std.specs.FinMap.Entries.{below_all, same_entries}
+use Rattle.ecs_id.specs.Id.{Id, id_cmp, id_cmp_same}
 use Rattle.ecs_model.specs.Map.{Map, IsMap, value_at, keys}
 use Rattle.ecs_model.specs.Schema.{Schema}
 use Rattle.ecs_model.specs.World.{Key, key_cmp}
-use Rattle.ecs_model.proofs.Maps.{to_T, from_T, both_true, key_cmp_total, key_cmp_same, eq_itself, absent_below}
+use Rattle.ecs_model.proofs.Maps.{to_T, both_true, key_cmp_total, key_cmp_same, eq_itself, absent_below}
 use Rattle.ecs_world.specs.Holdings.{Cells}
 use Rattle.ecs_world.specs.State.{all_facts, facts_of, value_in}
 

@@ -1,26 +1,24 @@
 -- The built-in entities, settled and named one after another.
-use Rattle.std.proofs.Common.{◌≡◌, ◌≢◌, ◌⊎◌, ℕ, zero, suc, ◌+◌, ◌≤◌, ◌<◌, ◌==◌, Bool, true, false, cond, not, ◌&&◌, ◌||◌, List, [], ◌∷◌, ◌++◌, map, take, length, get_or, nat_le, Option, Some, None, is_some, unwrap_or, if◌then◌else◌, IsTrue, refl, sym, ap, subst, ◌∙◌, inl, inr, arith, true≢false, add-one}
+use Rattle.std.proofs.Common.{◌≡◌, ℕ, zero, suc, ◌+◌, ◌≤◌, ◌<◌, ◌==◌, Bool, true, false, cond, not, ◌&&◌, ◌||◌, List, [], ◌∷◌, ◌++◌, map, take, length, get_or, nat_le, Some, None, is_some, if◌then◌else◌, refl, sym, ap, subst, ◌∙◌, arith}
 use Rattle.std.proofs.lemmas.Bool.Decides.{nat_tests, Decides-eqb}
 use Rattle.std.proofs.lemmas.List.{length-map}
 use Rattle.std.specs.Borrow.{Bor}
-use Rattle.std.specs.Cmp.{nat_cmp_total}
 use Rattle.std.specs.FinMap as finite
 use Rattle.std.specs.FinMap.Entries.{below_all, by_order}
 use Rattle.std.specs.List.{list_all, range_with_len, enumerate_from}
 use Rattle.std.specs.Option.{option_eq, option_or}
-use Rattle.std.specs.declared.cmp.Ordering.{Ordering}
-use Rattle.std.specs.declared.cmp.Ordering.TheVariants.{Less, Equal, Greater}
+use Rattle.std.specs.declared.cmp.Ordering.TheVariants.{Equal, Greater}
 use Rattle.std.specs.Ordering.{nat_cmp, eq_by_cmp, is_eq, is_lt}
 use Rattle.ecs_id.specs.declared.EntityId.{EntityId}
 use Rattle.ecs_id.specs.Id.{Id, plain, pair, mentioned, id_cmp, id_eq}
 use Rattle.ecs_model.specs.Map.{Map, IsMap, value_at, has_key, keys, with_value}
 use Rattle.ecs_model.specs.Schema.{Schema}
 use Rattle.ecs_model.specs.Keeps.{IsWellFormed}
-use Rattle.ecs_model.specs.World.{WorldState, built_in_names, first_world, is_built_in, key_cmp, pair_is_tag}
+use Rattle.ecs_model.specs.World.{built_in_names, first_world, is_built_in, key_cmp, pair_is_tag}
 use Rattle.ecs_model.proofs.FirstWorld.{first_world_is_sound}
 use Rattle.ecs_model.proofs.Maps.{both_true}
 use Rattle.name_index.specs.Names.{IsUnnamed, Names}
-use Rattle.ecs_world.specs.Holdings.{AreHoldings, Cells, HoldAlike, Holdings, KeepsSizes, Sizes, agrees, cells_at, first_holdings, holds_id, lives, with_cells, zero_cells}
+use Rattle.ecs_world.specs.Holdings.{AreHoldings, HoldAlike, Holdings, KeepsSizes, Sizes, agrees, cells_at, first_holdings, holds_id, lives, with_cells, zero_cells}
 use Rattle.ecs_world.specs.State.{IsWorld, all_facts, byte_count, is_known_rightly, names_of, state_of, type_in, type_of}
 use Rattle.ecs_world.specs.BuiltIn.{AreFirstNames, IsSettled, first_cells, first_live, is_first_tag, settled_to, tags_of}
 use Rattle.ecs_world.proofs.NameLists.{AreNamed, AreNamed-bound, names_bound, unnamed}

@@ -1,5 +1,5 @@
 -- The first holdings, and the next entity.
-use Rattle.std.proofs.Common.{◌≡◌, ℕ, suc, zero, ◌↔◌, ◌+◌, ◌-◌, Bool, true, false, cond, List, [], ◌∷◌, Option, Some, None, option_map, refl, sym, ap, subst, ◌∙◌}
+use Rattle.std.proofs.Common.{◌≡◌, ℕ, suc, zero, ◌↔◌, ◌+◌, ◌-◌, Bool, true, false, cond, [], Option, Some, None, option_map, refl, sym, ap, ◌∙◌}
 use Rattle.ecs_id.specs.declared.EntityId.{EntityId}
 use Rattle.ecs_id.specs.declared.Place.{Place}
 use Rattle.ecs_model.specs.Command as command
@@ -7,7 +7,7 @@ use Rattle.ecs_model.specs.World.{last_index}
 use Rattle.entity_index.specs.Entities.{Entities, IsWellFormed, is_alive, built_in_entities, first_passing, first_index, place_of, count_at}
 use Rattle.entity_index.specs.Entities as index
 use Rattle.ecs_world.specs.Archetypes.{IsSound, meaning}
-use Rattle.ecs_world.specs.Holdings.{Holdings, is_free, first_holdings, next_entity}
+use Rattle.ecs_world.specs.Holdings.{first_holdings, next_entity}
 use Rattle.table_store.specs.Rows.{IsStored, row_at, row_of}
 use Rattle.table_store.specs.Store.{Store, key_eq, shape_of, table_at}
 use Rattle.std.specs.Option.{option_and_then}

@@ -1,16 +1,15 @@
 -- What is known of a command against which there is no reason.
-use Rattle.std.proofs.Common.{◌≡◌, ◌⊎◌, ℕ, Bool, true, false, not, ◌||◌, ℤ, List, [], ◌∷◌, ◌++◌, Option, Some, None, is_some, is_none, refl, sym, ap, ◌∙◌, subst, inl, inr, true≢false}
+use Rattle.std.proofs.Common.{◌≡◌, ℕ, Bool, true, false, not, ◌||◌, ℤ, List, [], ◌∷◌, ◌++◌, Option, Some, None, is_some, is_none, refl, sym, ap, ◌∙◌, true≢false}
 use Rattle.std.specs.List.{list_all}
 use Rattle.ecs_id.specs.declared.EntityId.{EntityId}
 use Rattle.ecs_id.specs.Id.{Id, mentioned}
 use Rattle.ecs_model.specs.declared.faults.Refusal.{Refusal}
-use Rattle.ecs_model.specs.declared.faults.Refusal.TheVariants.{Dead, BadName, NameTaken, BuiltIn, TooManyIds, Full}
+use Rattle.ecs_model.specs.declared.faults.Refusal.TheVariants.{Dead, BuiltIn, TooManyIds, Full}
 use Rattle.ecs_model.specs.Refusal.{first_reason}
 use Rattle.ecs_model.specs.Provisional.{is_not_yet_changed}
 use Rattle.ecs_model.specs.Changes.{facts_after_add}
-use Rattle.ecs_model.specs.Text.{is_name}
 use Rattle.ecs_model.specs.Schema.{Schema}
-use Rattle.ecs_model.specs.World.{WorldState, type_of_id, is_alive, is_live, is_built_in, named}
+use Rattle.ecs_model.specs.World.{WorldState, type_of_id, is_alive, is_live, is_built_in}
 use Rattle.ecs_model.specs.Command.{Fresh, Entity, Component, Add, SetValue, Remove, reasons, is_dead, is_spent, is_crowded, with_facts, changes_built_in, add_reasons, value_reasons, birth_reasons, name_reasons, next_entity}
 use Rattle.ecs_model.proofs.Reasons.{passed, neither, denied}
 use Rattle.ecs_world.proofs.Refusing.{passed_over}

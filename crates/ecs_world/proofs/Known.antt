@@ -1,24 +1,22 @@
 -- The ids of all tables of a store, with their sizes.
-use Rattle.std.proofs.Common.{◌≡◌, ◌≢◌, ℕ, ◌<◌, ◌≤◌, Bool, true, false, cond, not, ◌&&◌, ◌||◌, ◌==◌, List, [], ◌∷◌, map, Option, Some, None, option_map, unwrap_or, is_some, refl, sym, ap, subst, ◌∙◌, true≢false, arith}
+use Rattle.std.proofs.Common.{◌≡◌, ℕ, ◌<◌, ◌≤◌, Bool, true, false, cond, not, ◌||◌, ◌==◌, List, [], ◌∷◌, Option, Some, None, option_map, unwrap_or, refl, sym, ap, subst, ◌∙◌, true≢false, arith}
 use Rattle.std.specs.Prelude.{nat_le, max}
 use Rattle.std.proofs.lemmas.Grind.{common_steps}
 use Rattle.std.proofs.lemmas.Bool.Decides.{Decides-eqb, nat_tests}
 use Rattle.std.proofs.lemmas.List.Folds.{list_all-append}
 use Rattle.std.proofs.lemmas.Option.{IfSome_then}
-use Rattle.std.specs.List.{find, filter, flat_map, list_all, slice_get}
+use Rattle.std.specs.List.{find, flat_map, list_all, slice_get}
 use Rattle.std.specs.Option.{IfSome, IsSome}
 use Rattle.std.specs.FinMap.{is_sorted}
-use Rattle.std.specs.FinMap.Entries as entries
-use Rattle.std.specs.Ordering.{eq_by_cmp}
 use Rattle.ecs_id.specs.declared.TableKey.{TableKey}
 use Rattle.ecs_id.specs.Id.{Id, id_cmp, id_cmp_same, id_cmp_total, id_eq, id_eq_same, id_eq_turned}
 use Rattle.ecs_table.specs.Archetype.{Archetype}
-use Rattle.ecs_model.proofs.Maps.{both_true, of_some, if_some, some_of}
+use Rattle.ecs_model.proofs.Maps.{both_true, of_some, some_of}
 use Rattle.ecs_world.specs.Holdings.{KeepsSizes, agrees}
 use Rattle.ecs_world.specs.Archetypes.{known_in}
 use Rattle.table_store.specs.Store.{Store, IsStore, Shape, HasSize, changed_at, find_in, key_eq, room_at, shape_at, shape_of, shaped_at, table_at, with_id, without_id}
 use Rattle.ecs_world.proofs.Placings.{key_eq-tells}
-use Rattle.ecs_world.proofs.MapLists.{list_at, both, list_all_flat, list_all_filter, each_found, list_all_put}
+use Rattle.ecs_world.proofs.MapLists.{list_at, list_all_flat, list_all_filter, each_found, list_all_put}
 
 in_list : (test : Id × ℕ → Bool) (k : TableKey) (es : List (TableKey × Archetype)) (g : Shape) → option_map shape_of (option_map (λ e. e.1) (find (λ e. key_eq k e.0) es)) ≡ Some g
     → list_all test (flat_map (λ e. shape_of e.1) es) ≡ true → list_all test g ≡ true

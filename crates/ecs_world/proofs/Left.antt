@@ -1,32 +1,31 @@
 -- What commands on facts leave.
-use Rattle.std.proofs.Common.{◌≡◌, ◌≢◌, ◌⊎◌, ℕ, ◌+◌, ◌≤◌, ◌<◌, ◌^◌, ◌==◌, Bool, true, false, cond, not, ◌&&◌, ◌||◌, List, [], ◌∷◌, map, length, replicate, ℤ, Option, Some, None, option_map, unwrap_or, is_some, if◌then◌else◌, IsTrue, IfSome, refl, sym, ap, subst, ◌∙◌, inl, inr, arith, true≢false}
+use Rattle.std.proofs.Common.{◌≡◌, ℕ, ◌==◌, Bool, true, false, cond, ◌&&◌, List, [], length, ℤ, Some, None, is_some, if◌then◌else◌, IsTrue, IfSome, refl, sym, ap, subst, ◌∙◌, inl, inr, arith, true≢false}
 use Rattle.std.specs.Cmp.{nat_cmp_total, Equal-is}
-use Rattle.std.specs.List.{list_all, list_any}
-use Rattle.std.specs.Option.{option_eq, option_map_or, option_or}
+use Rattle.std.specs.List.{list_all}
+use Rattle.std.specs.Option.{option_eq, option_map_or}
 use Rattle.std.specs.Ordering.{nat_cmp, eq_by_cmp}
 use Rattle.ecs_id.specs.declared.EntityId.{EntityId}
 use Rattle.ecs_id.specs.Id.{Id, plain, pair, mentioned, id_cmp, id_eq}
-use Rattle.ecs_model.specs.Map.{Map, IsMap, value_at, has_key, keys, with_value, without}
+use Rattle.ecs_model.specs.Map.{Map, value_at, has_key, keys, with_value, without}
 use Rattle.ecs_model.specs.Schema.{Schema, zeros, all_fit}
 use Rattle.ecs_model.specs.Keeps.{IsWellFormed}
 use Rattle.ecs_model.specs.Provisional.{is_not_yet_changed}
 use Rattle.ecs_model.specs.Refusal.{first_reason}
 use Rattle.ecs_model.specs.Changes.{facts_after_add, facts_after_remove}
-use Rattle.ecs_model.specs.World.{WorldState, Key, key_cmp, key_eq, pair_is_tag, holds, is_alive, is_live, type_of_id, new_value, value_of}
+use Rattle.ecs_model.specs.World.{WorldState, Key, key_cmp, pair_is_tag, holds, type_of_id, new_value, value_of}
 use Rattle.ecs_model.specs.Command.{Add, SetValue, Remove, reasons, effect, counted, is_spent, with_facts}
-use Rattle.ecs_model.proofs.Maps.{key_cmp_total, key_cmp_same, keys-with_value}
+use Rattle.ecs_model.proofs.Maps.{key_cmp_same, keys-with_value}
 use Rattle.ecs_model.proofs.Additions.{add_is_addition, not_spent}
 use Rattle.ecs_model.proofs.Answering.{effect_well_formed}
 use Rattle.ecs_model.proofs.Typing.{same_type}
-use Rattle.ecs_model.proofs.Removals.{removes_held_alone}
 use Rattle.name_index.specs.Names.{Names}
-use Rattle.ecs_world.specs.Holdings.{AreHoldings, Cells, HoldAlike, Holdings, KeepsSizes, Sizes, bytes_at, cells_at, held_at, holds_id, lives, with_cells}
-use Rattle.ecs_world.specs.State.{IsWorld, all_facts, byte_count, is_known_rightly, names_of, state_of, type_in, type_of, value_in}
+use Rattle.ecs_world.specs.Holdings.{AreHoldings, Cells, HoldAlike, Holdings, KeepsSizes, Sizes, cells_at, held_at, holds_id, with_cells}
+use Rattle.ecs_world.specs.State.{IsWorld, all_facts, byte_count, is_known_rightly, names_of, state_of, type_of, value_in}
 use Rattle.ecs_world.proofs.Entities.{generation_of}
 use Rattle.ecs_world.proofs.Facts.{bytes_in}
-use Rattle.ecs_world.proofs.FactChanges.{AreCells, bytes_put, bytes_gone, facts_put, facts_gone}
-use Rattle.ecs_world.proofs.Judged.{CanChange, judged-add, judged-remove}
-use Rattle.ecs_world.proofs.States.{AreCells-whole, AreCells-world, all_true, holds_is, settled_at, type_in-same, type_is, zeros_are_new}
+use Rattle.ecs_world.proofs.FactChanges.{bytes_put, bytes_gone, facts_put, facts_gone}
+use Rattle.ecs_world.proofs.Judged.{CanChange}
+use Rattle.ecs_world.proofs.States.{AreCells-whole, AreCells-world, all_true, settled_at, type_in-same}
 
 -- a world is well formed before it is counted
 pub uncounted : (w : WorldState) → IsWellFormed (counted w) → IsWellFormed w

@@ -1,20 +1,20 @@
 -- The names of live entities as a map by index: what the finite map of names tells of it.
-use Rattle.std.proofs.Common.{◌≡◌, ◌≢◌, ◌⊎◌, ◌↔◌, ℕ, Bool, true, false, cond, ◌&&◌, List, [], ◌∷◌, map, filter_map, Option, Some, None, option_map, is_some, bytes_eq, refl, sym, ap, subst, ◌∙◌, inl, inr, arith, true≢false}
+use Rattle.std.proofs.Common.{◌≡◌, ◌≢◌, ◌⊎◌, ◌↔◌, ℕ, Bool, true, false, cond, ◌&&◌, List, [], ◌∷◌, filter_map, Option, Some, None, option_map, is_some, bytes_eq, refl, sym, ap, subst, ◌∙◌, inl, inr, arith, true≢false}
 use Rattle.std.proofs.lemmas.Bool.Decides.{nat_tests}
 use Rattle.std.proofs.lemmas.Slice.Eq.{bytes_eq-Decides}
-use Rattle.std.specs.Cmp.{IsTotalOrder, nat_cmp_total, Equal-is}
+use Rattle.std.specs.Cmp.{nat_cmp_total, Equal-is}
 use Rattle.std.specs.Cmp.Lexicographic.{slice_cmp, nat_list_cmp_total}
 use Rattle.std.specs.List.{cons_option, find}
 use Rattle.std.specs.declared.cmp.Ordering.{Ordering}
-use Rattle.std.specs.declared.cmp.Ordering.TheVariants.{Less, Equal, Greater}
-use Rattle.std.specs.Ordering.{nat_cmp, eq_by_cmp, is_eq, is_lt}
+use Rattle.std.specs.declared.cmp.Ordering.TheVariants.{Equal}
+use Rattle.std.specs.Ordering.{nat_cmp, eq_by_cmp, is_lt}
 use Rattle.std.specs.FinMap as finite
 use Rattle.std.specs.FinMap.{is_sorted, nat_cmp-IsAntisymmetric, slice_cmp-IsAntisymmetric}
 use Rattle.std.specs.FinMap.Entries.{below_all, same_entries}
 use Rattle.ecs_id.specs.declared.EntityId.{EntityId}
 use Rattle.ecs_model.specs.Map.{Map, IsMap, value_at, with_value}
-use Rattle.ecs_model.proofs.Maps.{to_T, from_T, both_true, eq_itself, absent_below, nat_value_at, some_of, IsMap-with_value}
-use Rattle.name_index.specs.Names.{Names, entity_eq, IsUnnamed, IsOneToOne, OthersKeepTheirs}
+use Rattle.ecs_model.proofs.Maps.{to_T, from_T, both_true, eq_itself, absent_below, nat_value_at, IsMap-with_value}
+use Rattle.name_index.specs.Names.{Names, entity_eq, IsUnnamed, IsOneToOne}
 use Rattle.ecs_world.specs.State.{name_in, names_of}
 use Rattle.ecs_world.proofs.Entities.{same_entity, entity_eq_true}
 

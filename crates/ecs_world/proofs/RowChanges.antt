@@ -1,16 +1,13 @@
 -- An entity enters a row, its row moves to another table, or its row is written.
-use Rattle.std.proofs.Common.{◌≡◌, ◌≢◌, ◌⊎◌, ◌<◌, ℕ, Bool, true, false, cond, not, ◌&&◌, ◌==◌, List, [], ◌∷◌, map, length, replicate, Option, Some, None, option_map, unwrap_or, is_some, refl, sym, ap, subst, ◌∙◌, true≢false, arith}
-use Rattle.std.specs.Option.{IsSome}
+use Rattle.std.proofs.Common.{◌≡◌, ◌≢◌, Bool, true, false, cond, [], Option, Some, None, option_map, unwrap_or, refl, sym, ap, subst, ◌∙◌, true≢false}
 use Rattle.ecs_id.specs.declared.EntityId.{EntityId}
 use Rattle.ecs_id.specs.declared.Place.{Place}
-use Rattle.ecs_id.specs.declared.TableKey.{TableKey}
-use Rattle.ecs_id.specs.Id.{Id, id_cmp}
 use Rattle.entity_index.specs.Entities.{Entities, IsWellFormed, is_alive, place_of, with_place}
 use Rattle.ecs_world.specs.Archetypes.{IsSound, meaning}
-use Rattle.ecs_world.specs.Holdings.{HoldAlike, cells_at, held_at, with_cells}
+use Rattle.ecs_world.specs.Holdings.{HoldAlike, held_at, with_cells}
 use Rattle.ecs_world.specs.Placings.{AreInverse}
-use Rattle.table_store.specs.Rows.{Cells, IsStored, Row, carried, filler, gap_filled, last_place, moved_rows, row_at, same_place, with_row_at, without_row_at}
-use Rattle.table_store.specs.Store.{Store, Shape, shape_at}
+use Rattle.table_store.specs.Rows.{Cells, IsStored, Row, carried, filler, last_place, moved_rows, row_at, same_place, with_row_at}
+use Rattle.table_store.specs.Store.{Store, Shape}
 use Rattle.ecs_world.proofs.Placings.{AreInverse-enter, AreInverse-write, content, content-enter, content-write, moved, refilled, same_entity, same_place-tells}
 use Rattle.ecs_world.proofs.Soundness.{alike_after, cells_alive, own_row, place_after, placed_alive}
 

@@ -1,9 +1,9 @@
 -- What an entity's place and its row say of each other, and what is held by index.
-use Rattle.std.proofs.Common.{◌≡◌, ◌≢◌, ◌⊎◌, ◌<◌, ℕ, suc, zero, Bool, true, false, cond, not, ◌&&◌, ◌||◌, ◌==◌, List, [], ◌∷◌, map, length, Option, Some, None, option_map, unwrap_or, is_some, refl, sym, ap, subst, ◌∙◌, inl, inr, true≢false, arith}
+use Rattle.std.proofs.Common.{◌≡◌, ◌<◌, ℕ, Bool, true, false, cond, ◌&&◌, ◌==◌, [], map, length, Option, Some, None, option_map, unwrap_or, is_some, refl, sym, ap, subst, ◌∙◌, true≢false}
 use Rattle.std.proofs.lemmas.Bool.Decides.{Decides-eqb}
 use Rattle.std.proofs.lemmas.Option.{slice_get_within}
 use Rattle.std.specs.List.{list_all, slice_get}
-use Rattle.std.specs.Option.{IfSome, IsSome, option_and_then, option_eq}
+use Rattle.std.specs.Option.{IsSome, option_and_then, option_eq}
 use Rattle.std.specs.Cmp.{nat_cmp_total}
 use Rattle.std.specs.Ordering.{nat_cmp, eq_by_cmp}
 use Rattle.std.specs.FinMap.{find, put, is_sorted, nat_cmp-IsAntisymmetric}
@@ -12,12 +12,12 @@ use Rattle.ecs_id.specs.declared.EntityId.{EntityId}
 use Rattle.ecs_id.specs.declared.Place.{Place}
 use Rattle.ecs_id.specs.Id.{Id, id_cmp, id_cmp_same, id_cmp_total}
 use Rattle.ecs_table.specs.Archetype.{Archetype}
-use Rattle.ecs_model.proofs.Maps.{to_T, from_T, of_some, if_some, some_of}
+use Rattle.ecs_model.proofs.Maps.{to_T, of_some, if_some, some_of}
 use Rattle.entity_index.specs.Entities.{Entities, IsWellFormed, is_alive, is_live, place_of, with_place}
 use Rattle.ecs_world.specs.Archetypes.{IsSound, all_cells, cells_there, known_in, meaning}
 use Rattle.ecs_world.specs.Holdings.{AreHoldings, HoldAlike, Holdings, agrees, cells_at, sizes_of, with_cells}
-use Rattle.table_store.specs.Rows.{Cells, HasRows, IsStored, Row, cells_of, row_at, row_of, rows_in, shape_of_cells}
-use Rattle.table_store.specs.Store.{Store, find_in, shape_at, table_at}
+use Rattle.table_store.specs.Rows.{Cells, IsStored, Row, cells_of, row_at, row_of, rows_in, shape_of_cells}
+use Rattle.table_store.specs.Store.{Store, shape_at, table_at}
 use Rattle.ecs_world.proofs.Known.{of_shape, size_agrees}
 use Rattle.ecs_world.proofs.MapLists.{each_found, eq_tells, find_mapped, nat_same, sorted_mapped}
 use Rattle.ecs_world.proofs.Placings.{content, same_entity, same_entity-tells}

@@ -1,29 +1,25 @@
 -- What the state of a world tells of its parts.
-use Rattle.std.proofs.Common.{◌≡◌, ◌≢◌, ◌⊎◌, ℕ, ◌+◌, ◌≤◌, ◌<◌, ◌^◌, ◌==◌, Bool, true, false, cond, not, ◌&&◌, ◌||◌, List, [], ◌∷◌, map, length, replicate, ℤ, Option, Some, None, option_map, unwrap_or, is_some, if◌then◌else◌, IfSome, IsTrue, refl, sym, ap, subst, ◌∙◌, inl, inr, arith, true≢false}
-use Rattle.std.proofs.lemmas.Bool.Decides.{nat_tests, Decides-eqb}
-use Rattle.std.specs.Cmp.{nat_cmp_total, Equal-is}
-use Rattle.std.specs.FinMap as finite
-use Rattle.std.specs.FinMap.Entries.{is_some-find, by_order}
+use Rattle.std.proofs.Common.{◌≡◌, ℕ, ◌==◌, Bool, true, false, cond, not, ◌&&◌, ◌||◌, List, [], ◌∷◌, length, replicate, Option, Some, None, option_map, unwrap_or, is_some, if◌then◌else◌, IfSome, IsTrue, refl, sym, ap, subst, ◌∙◌, true≢false}
+use Rattle.std.proofs.lemmas.Bool.Decides.{Decides-eqb}
+use Rattle.std.specs.FinMap.Entries.{is_some-find}
 use Rattle.std.specs.List.{list_all, list_any}
 use Rattle.std.specs.Option.{option_eq, option_map_or, option_or}
-use Rattle.std.specs.declared.cmp.Ordering.{Ordering}
-use Rattle.std.specs.declared.cmp.Ordering.TheVariants.{Less, Equal, Greater}
 use Rattle.std.specs.Ordering.{nat_cmp, eq_by_cmp}
 use Rattle.ecs_id.specs.declared.EntityId.{EntityId}
-use Rattle.ecs_id.specs.Id.{Id, plain, pair, mentioned, id_cmp, id_cmp_same, id_eq, id_eq_same}
-use Rattle.ecs_model.specs.Map.{Map, IsMap, value_at, has_key, keys, with_value}
-use Rattle.ecs_model.specs.Schema.{Schema, schema_fault, zeros}
+use Rattle.ecs_id.specs.Id.{Id, plain, pair, mentioned, id_cmp, id_eq, id_eq_same}
+use Rattle.ecs_model.specs.Map.{Map, IsMap, value_at, has_key, keys}
+use Rattle.ecs_model.specs.Schema.{Schema, zeros}
 use Rattle.ecs_model.specs.Bytes.{size_of, values_in}
 use Rattle.ecs_model.specs.Keeps.{IsWellFormed}
-use Rattle.ecs_model.specs.World.{WorldState, Key, key_cmp, component, pair_is_tag, holds, value_of, ids_of, is_alive, is_live, type_of_id, new_value, name_of, named, is_built_in}
-use Rattle.ecs_model.proofs.Maps.{of_some, some_of, both_true, eq_itself}
+use Rattle.ecs_model.specs.World.{WorldState, pair_is_tag, holds, value_of, ids_of, is_alive, type_of_id, name_of}
+use Rattle.ecs_model.proofs.Maps.{of_some, some_of, both_true}
 use Rattle.ecs_model.specs.Command as model
 use Rattle.ecs_schema.proofs.Meaning.{values_in-zeros}
 use Rattle.name_index.specs.Names.{Names}
 use Rattle.ecs_world.specs.Holdings.{AreHoldings, Cells, HoldAlike, Holdings, KeepsSizes, Sizes, agrees, bytes_at, cells_at, entity_at, held_at, holds_id, lives, next_entity, sizes_of}
-use Rattle.ecs_world.specs.State.{IsWorld, all_facts, byte_count, is_known_rightly, name_in, names_of, state_of, type_in, type_of, value_in}
+use Rattle.ecs_world.specs.State.{IsWorld, byte_count, is_known_rightly, name_in, state_of, type_in, type_of, value_in}
 use Rattle.ecs_world.proofs.Entities.{generation_of}
-use Rattle.ecs_world.proofs.Facts.{bytes_in, AllRise, find-facts, ids-facts}
+use Rattle.ecs_world.proofs.Facts.{find-facts, ids-facts}
 use Rattle.ecs_world.proofs.FactChanges.{AreCells}
 use Rattle.ecs_world.proofs.NameLists.{AreNamed, and_then, names_at}
 

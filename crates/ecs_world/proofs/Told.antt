@@ -1,11 +1,11 @@
 -- What accepted commands tell is what has changed.
-use Rattle.std.proofs.Common.{◌≡◌, ℕ, ◌+◌, Bool, true, false, ℤ, List, [], ◌∷◌, Option, Some, None, Result, Ok, Err, if◌then◌else◌, refl, sym, ap, subst, ◌∙◌}
+use Rattle.std.proofs.Common.{◌≡◌, ℕ, Bool, ℤ, List, [], ◌∷◌, Some, None, Ok, if◌then◌else◌, sym, ap, ◌∙◌}
 use Rattle.ecs_id.specs.declared.EntityId.{EntityId}
 use Rattle.ecs_id.specs.Id.{Id, plain}
 use Rattle.ecs_model.specs.Schema.{Schema}
 use Rattle.ecs_model.specs.Keeps.{IsWellFormed}
 use Rattle.ecs_model.specs.Refusal.{first_reason}
-use Rattle.ecs_model.specs.World.{WorldState, Key, component, holds}
+use Rattle.ecs_model.specs.World.{WorldState, component, holds}
 use Rattle.ecs_model.specs.Command.{Command, Changed, AnswersStep, Fresh, Entity, Component, Add, SetValue, Remove, reasons, effect, counted, step}
 use Rattle.ecs_model.specs.Command as model
 use Rattle.ecs_model.proofs.Answering.{answers_accepted, changes_of}

@@ -1,5 +1,5 @@
 -- Values against which there is no reason, and their bytes.
-use Rattle.std.proofs.Common.{◌≡◌, ◌≢◌, ◌⊎◌, ◌↔◌, ℕ, ◌≤◌, ◌==◌, Bool, true, false, not, ℤ, List, [], ◌∷◌, ◌++◌, take, length, Option, Some, None, is_some, if◌then◌else◌, Result, Ok, Err, is_ok, IsErrOf, OnOk, refl, sym, ap, subst, ◌∙◌, inl, inr, arith, true≢false}
+use Rattle.std.proofs.Common.{◌≡◌, ◌≢◌, ◌⊎◌, ◌↔◌, ℕ, ◌≤◌, ◌==◌, Bool, true, false, not, ℤ, List, [], ◌∷◌, ◌++◌, take, length, Option, Some, None, if◌then◌else◌, Result, Ok, Err, is_ok, IsErrOf, OnOk, refl, sym, ap, ◌∙◌, inl, inr, arith, true≢false}
 use Rattle.std.proofs.lemmas.Bool.Decides.{nat_tests, Decides-eqb}
 use Rattle.std.proofs.Math.Seq.{take-append_seam}
 use Rattle.std.specs.Option.{option_or}
@@ -18,7 +18,7 @@ use Rattle.ecs_model.proofs.Reasons.{passed, denied}
 use Rattle.ecs_schema.proofs.Packed.{length-value_bytes}
 use Rattle.ecs_schema.specs.declared.errors.ValueFault.{ValueFault}
 use Rattle.ecs_schema.specs.declared.errors.ValueFault.TheVariants as fault
-use Rattle.ecs_world.specs.State.{byte_count, value_in}
+use Rattle.ecs_world.specs.State.{value_in}
 
 -- the fields of the type, as many numbers, each in its range
 pub record AreValues (o : Option Schema) (vs : List ℤ) : Type 0 where

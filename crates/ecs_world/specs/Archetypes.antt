@@ -1,6 +1,5 @@
 -- What an index of entities and a store of tables mean together.
-use Rattle.std.specs.Prelude.{◌≡◌, ℕ, List, [], map, flat_map, Option, option_map, unwrap_or}
-use Rattle.ecs_id.specs.declared.EntityId.{EntityId}
+use Rattle.std.specs.Prelude.{◌≡◌, ℕ, List, [], map, flat_map, option_map, unwrap_or}
 use Rattle.ecs_id.specs.declared.Place.{Place}
 use Rattle.ecs_model.specs.Map.{Map}
 use Rattle.ecs_model.specs.World.{last_index}

@@ -1,5 +1,5 @@
 -- The built-in entities in tables and with names, as they are settled one after another.
-use Rattle.std.specs.Prelude.{◌≡◌, ℕ, ◌==◌, Bool, ◌&&◌, List, [], ◌∷◌, map, take, Option, Some, None, unwrap_or, IsTrue}
+use Rattle.std.specs.Prelude.{◌≡◌, ℕ, ◌==◌, Bool, ◌&&◌, List, [], map, take, Some, unwrap_or, IsTrue}
 use Rattle.std.specs.List.{list_all, enumerate_from, range_with_len}
 use Rattle.std.specs.Ordering.{nat_cmp}
 use Rattle.std.specs.FinMap as finite

@@ -1,5 +1,5 @@
 -- Which entities live, and what each of them holds: ids with the bytes of their values.
-use Rattle.std.specs.Prelude.{◌≡◌, ℕ, ◌+◌, ◌-◌, nat_lt, ◌==◌, Bool, not, ◌&&◌, ◌||◌, List, [], ◌∷◌, map, length, replicate, Option, Some, None, is_some, unwrap_or, option_map, IsTrue, IfSome}
+use Rattle.std.specs.Prelude.{◌≡◌, ℕ, ◌+◌, ◌-◌, nat_lt, ◌==◌, Bool, not, ◌&&◌, ◌||◌, List, [], map, length, replicate, Option, Some, is_some, unwrap_or, option_map, IsTrue, IfSome}
 use Rattle.std.specs.List.{list_all, range_with_len}
 use Rattle.std.specs.Option.{option_eq}
 use Rattle.std.specs.Ordering.{nat_cmp}

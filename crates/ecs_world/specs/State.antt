@@ -13,7 +13,7 @@ use Rattle.ecs_model.specs.Keeps.{IsWellFormed}
 use Rattle.ecs_model.specs.World.{WorldState, Key, holds, pair_is_tag}
 use Rattle.ecs_model.specs.Command.{Changed}
 use Rattle.name_index.specs.Names.{Names, IsOneToOne, entity_eq}
-use Rattle.ecs_world.specs.Holdings.{AreHoldings, Cells, Holdings, Sizes, holds_id, lives}
+use Rattle.ecs_world.specs.Holdings.{AreHoldings, Cells, Holdings, holds_id, lives}
 
 -- the fields of an id's values, by the components' fields and by whether a relationship keeps its pairs without data
 abbrev pub type_in : Map ℕ Schema → (ℕ → Bool) → Id → Option Schema

@@ -1,4 +1,4 @@
-use Rattle.std.proofs.Common.{refl, sym, ◌∙◌}
+use Rattle.std.proofs.Common.{refl, sym}
 use Rattle.ecs_model.specs.Command.{Add}
 use Rattle.ecs_model.proofs.Answering.{step-refused}
 use Rattle.ecs_world.proofs.World.add.Goals as goal

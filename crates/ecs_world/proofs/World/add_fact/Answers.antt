@@ -1,8 +1,8 @@
-use Rattle.std.proofs.Common.{◌≡◌, false, sym, ap, ◌∙◌, arith}
-use Rattle.ecs_model.specs.Command.{Add, is_spent}
+use Rattle.std.proofs.Common.{sym, ◌∙◌, arith}
+use Rattle.ecs_model.specs.Command.{Add}
 use Rattle.ecs_model.proofs.Additions.{not_spent}
 use Rattle.ecs_world.proofs.Accepted.{can_still, counted_from}
-use Rattle.ecs_world.proofs.Judged.{CanChange, judged-add}
+use Rattle.ecs_world.proofs.Judged.{judged-add}
 use Rattle.ecs_world.proofs.Left.{effect-add}
 use Rattle.ecs_world.proofs.Told.{told_add}
 use Rattle.ecs_world.proofs.World.add_fact.Goals as goal

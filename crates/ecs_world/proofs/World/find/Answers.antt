@@ -1,4 +1,4 @@
-use Rattle.std.proofs.Common.{rules, ap, ◌∙◌, option_map}
+use Rattle.std.proofs.Common.{ap, ◌∙◌, option_map}
 use Rattle.ecs_world.proofs.NameLists.{named_got}
 use Rattle.ecs_world.proofs.States.{AreNamed-world}
 use Rattle.ecs_world.proofs.World.find.Goals as goal

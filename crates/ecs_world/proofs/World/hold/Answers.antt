@@ -1,4 +1,4 @@
-use Rattle.std.proofs.Common.{◌≡◌, [], ◌∷◌, refl, sym, ap, subst, ◌∙◌, true, false, if◌then◌else◌}
+use Rattle.std.proofs.Common.{[], ◌∷◌, refl, sym, ap, subst, ◌∙◌, false, if◌then◌else◌}
 use Rattle.ecs_model.specs.Command.{with_facts}
 use Rattle.ecs_model.specs.Keeps.{IsWellFormed}
 use Rattle.ecs_world.specs.State.{no_change}

@@ -1,9 +1,9 @@
-use Rattle.std.proofs.Common.{◌≡◌, [], ◌∷◌, Some, is_some, refl, sym, ap, subst, ◌∙◌, arith}
-use Rattle.ecs_id.specs.Id.{id_of, plain}
+use Rattle.std.proofs.Common.{[], ◌∷◌, Some, is_some, refl, sym, ap, subst, ◌∙◌, arith}
+use Rattle.ecs_id.specs.Id.{plain}
 use Rattle.ecs_model.specs.Keeps.{IsWellFormed}
 use Rattle.ecs_model.specs.World.{component}
 use Rattle.ecs_model.proofs.Additions.{not_spent}
-use Rattle.ecs_world.specs.Holdings.{HoldAlike, next_entity, with_cells, with_entity, zero_cells, agrees}
+use Rattle.ecs_world.specs.Holdings.{HoldAlike, next_entity, with_cells, with_entity}
 use Rattle.ecs_world.proofs.Accepted.{component_agrees, component_fits, component_left, failed, kept, made_is, next_of, next_plain, next_some, next_unnamed, on_err, on_ok, unchanged}
 use Rattle.ecs_world.proofs.Judged.{bears-component}
 use Rattle.ecs_world.proofs.NameLists.{freed}

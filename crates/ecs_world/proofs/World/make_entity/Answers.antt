@@ -1,4 +1,4 @@
-use Rattle.std.proofs.Common.{◌≡◌, [], ◌∷◌, Some, is_some, refl, sym, ap, ◌∙◌, arith}
+use Rattle.std.proofs.Common.{[], Some, is_some, refl, sym, ap, ◌∙◌, arith}
 use Rattle.ecs_model.proofs.Additions.{not_spent}
 use Rattle.ecs_world.specs.Holdings.{HoldAlike, next_entity, with_cells, with_entity}
 use Rattle.ecs_world.proofs.Accepted.{failed, kept, made_is, named_left, next_of, next_some, next_unnamed, on_err, on_ok, unchanged}

@@ -1,6 +1,6 @@
-use Rattle.std.proofs.Common.{◌≡◌, [], ◌∷◌, Some, refl, sym, ap, ◌∙◌, arith}
+use Rattle.std.proofs.Common.{[], Some, refl, ◌∙◌, arith}
 use Rattle.ecs_model.proofs.Additions.{not_spent}
-use Rattle.ecs_world.proofs.Accepted.{failed, fresh_left, next_of, next_some, on_err}
+use Rattle.ecs_world.proofs.Accepted.{failed, fresh_left, next_of, next_some}
 use Rattle.ecs_world.proofs.Judged.{bears-fresh}
 use Rattle.ecs_world.proofs.Told.{told_fresh}
 use Rattle.ecs_world.proofs.World.make_fresh.Goals as goal

@@ -1,4 +1,3 @@
-use Rattle.std.proofs.Common.{rules, ◌≡◌, [], sym, subst}
 use Rattle.ecs_world.proofs.First.{first_is_world, first_state}
 use Rattle.ecs_world.proofs.World.new.Goals as goal
 

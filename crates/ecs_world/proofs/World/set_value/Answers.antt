@@ -1,4 +1,4 @@
-use Rattle.std.proofs.Common.{◌≡◌, ◌+◌, true, take, length, sym, ap, ◌∙◌, arith, [], ◌∷◌}
+use Rattle.std.proofs.Common.{◌+◌, true, take, length, sym, ap, ◌∙◌, arith, [], ◌∷◌}
 use Rattle.std.proofs.lemmas.List.{length-take-le}
 use Rattle.ecs_model.specs.Map.{with_value}
 use Rattle.ecs_model.specs.World.{holds, key_cmp, type_of_id}

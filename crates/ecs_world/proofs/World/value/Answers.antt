@@ -1,4 +1,4 @@
-use Rattle.std.proofs.Common.{ap, Some, ◌∙◌, sym}
+use Rattle.std.proofs.Common.{ap, Some, ◌∙◌}
 use Rattle.ecs_world.proofs.States.{none_told, size_told, tag_told, value_told}
 use Rattle.ecs_world.proofs.World.value.Goals as goal
 

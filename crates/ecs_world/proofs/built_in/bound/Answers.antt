@@ -1,4 +1,4 @@
-use Rattle.std.proofs.Common.{◌≡◌, refl, sym, ◌∙◌, ap, arith, add-one}
+use Rattle.std.proofs.Common.{refl, sym, ◌∙◌, arith}
 use Rattle.ecs_world.proofs.Accepted.{on_ok}
 use Rattle.ecs_world.proofs.First.{first_none, first_unnamed, named_all, named_step}
 use Rattle.ecs_world.proofs.built_in.bound.Goals as goal

@@ -1,4 +1,4 @@
-use Rattle.std.proofs.Common.{◌≡◌, ◌+◌, refl, arith}
+use Rattle.std.proofs.Common.{◌+◌, refl, arith}
 use Rattle.ecs_world.proofs.Accepted.{on_ok_all}
 use Rattle.ecs_world.proofs.First.{first_alive, first_unsettled, settled_more, tags_agree, tags_small}
 use Rattle.ecs_world.proofs.built_in.put.Goals as goal

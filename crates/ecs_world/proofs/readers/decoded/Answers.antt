@@ -1,8 +1,7 @@
-use Rattle.std.proofs.Common.{rules, ◌≡◌, ℕ, zero, suc, ◌+◌, ◌<◌, ◌≤◌, List, [], ◌∷◌, ◌++◌, take, set, length, ℤ, Some, refl, sym, ap, ◌∙◌, subst, arith, add-one, to_z, of_z}
+use Rattle.std.proofs.Common.{rules, ◌≡◌, ℕ, zero, suc, ◌+◌, ◌<◌, List, [], ◌∷◌, ◌++◌, take, set, length, ℤ, Some, refl, sym, ap, ◌∙◌, arith, add-one, to_z, of_z}
 use Rattle.std.specs.Int.{w128}
 use Rattle.std.specs.List.{slice_get}
 use Rattle.std.proofs.lemmas.List.{length-set, take_more_set}
-use Rattle.std.proofs.lemmas.Int.{to_z-of_z}
 use Rattle.ecs_model.specs.Bytes.{values_in}
 use Rattle.ecs_schema.proofs.Meaning.{length-values_in}
 use Rattle.ecs_world.proofs.readers.decoded.Goals as goal

@@ -1,5 +1,4 @@
 -- The new row is the entity's, and no other row changes.
-use Rattle.ecs_id.specs.declared.Place.{Place}
 use Rattle.table_store.specs.Rows.{zero_cells}
 use Rattle.ecs_world.proofs.RowChanges.{alike_entered, sound_entered}
 use Rattle.ecs_world.proofs.Known.{room_stands, same_kept}

@@ -1,5 +1,5 @@
 -- The value is written in the entity's row.
-use Rattle.std.proofs.Common.{◌∙◌, ap, refl, subst, sym}
+use Rattle.std.proofs.Common.{◌∙◌, ap, subst, sym}
 use Rattle.std.specs.FinMap.{put}
 use Rattle.std.specs.List.{list_all}
 use Rattle.std.specs.Option.{IsSome}
