@@ -34,7 +34,7 @@ impl From<CommandError> for Fault {
     }
 }
 
-/// A world with three components and a tag, and the entities that were made in it.
+/// A world with three components and a tag, and how many entities were made after them.
 #[derive(Drop)]
 struct Bench {
     world: World,
@@ -42,7 +42,7 @@ struct Bench {
     velocity: Id,
     mass: Id,
     tag: Id,
-    entities: Vec<EntityId>,
+    count: u32,
 }
 
 /// The id of an entity that is used as component or tag.
@@ -68,7 +68,7 @@ fn tag(world: &mut World, name: &str) -> Result<Id, Fault> {
 }
 
 impl Bench {
-    fn new(alloc: Global) -> Result<Bench, Fault> {
+    fn new(alloc: Global, count: u32) -> Result<Bench, Fault> {
         let mut world = World::new(alloc).or(Err(Fault::World))?;
         let plane = [("x", Kind::I32), ("y", Kind::I32)];
         let position = component(alloc, &mut world, "Position", &plane)?;
@@ -81,7 +81,7 @@ impl Bench {
             velocity,
             mass,
             tag,
-            entities: Vec::new(alloc),
+            count,
         })
     }
 
@@ -96,30 +96,40 @@ impl Bench {
         self.world.set(entity, self.position, &[x, -y])?;
         self.world.set(entity, self.velocity, &[y, x])?;
         self.world.set(entity, self.mass, &[i128::from(number)])?;
-        self.entities.push(entity).or(Err(Fault::World))
+        Ok(())
+    }
+
+    /// The entity that was made with this number: the tag was born last before them. No list of them is kept, as the memory measured
+    /// is to be the world's.
+    fn entity(&self, number: u32) -> Result<EntityId, Fault> {
+        let index = self.tag.first().wrapping_add(1).wrapping_add(number);
+        self.world.at(index).ok_or(Fault::World)
     }
 
     /// Moves each entity to the table with the tag, and then each to the one without its velocity.
     fn move_all(&mut self) -> Result<(), Fault> {
-        for entity in &self.entities {
-            self.world.add(*entity, self.tag)?;
+        for number in 0..self.count {
+            let entity = self.entity(number)?;
+            self.world.add(entity, self.tag)?;
         }
-        for entity in &self.entities {
-            self.world.remove(*entity, self.velocity)?;
+        for number in 0..self.count {
+            let entity = self.entity(number)?;
+            self.world.remove(entity, self.velocity)?;
         }
         Ok(())
     }
 
     /// The sum of the entities' values, and how many ids they hold.
-    fn sums(&self) -> (i128, u64) {
+    fn sums(&self) -> Result<(i128, u64), Fault> {
         let (mut sum, mut count) = (0i128, 0u64);
-        for entity in &self.entities {
-            for id in self.world.ids_of(*entity).unwrap_or(&[]) {
+        for number in 0..self.count {
+            let entity = self.entity(number)?;
+            for id in self.world.ids_of(entity).unwrap_or(&[]) {
                 count = count.wrapping_add(1);
                 sum = sum.wrapping_add(self.sum_of(entity.index, *id));
             }
         }
-        (sum, count)
+        Ok((sum, count))
     }
 
     fn sum_of(&self, index: u32, id: Id) -> i128 {
@@ -134,12 +144,12 @@ impl Bench {
 }
 
 fn run(alloc: Global, count: u32) -> Result<(i128, u64), Fault> {
-    let mut bench = Bench::new(alloc)?;
+    let mut bench = Bench::new(alloc, count)?;
     for number in 0..count {
         bench.make(number)?;
     }
     bench.move_all()?;
-    Ok(bench.sums())
+    bench.sums()
 }
 
 fn main(rt: HostRuntime) -> std::io::Result<()> {
