@@ -4,10 +4,11 @@ SCRIPT ?= examples/solar_system.flecsq
 PROGRAM := crates/flecsq/out/flecsq
 SOURCES := crates.txt $(shell find crates -name out -prune -o -path '*/must-fail/*' -prune -o -type f \( -name '*.rt' -o -name '*.antt' \) -print)
 
-.PHONY: run test check clean
+.PHONY: run test edits bench check clean
 
+# (status 1 says that lines of the script were refused, which its output shows: that is no failure of make)
 run: $(PROGRAM)
-	@$(PROGRAM) "$(SCRIPT)"
+	@$(PROGRAM) "$(SCRIPT)" || { status=$$?; [ $$status -eq 1 ] || exit $$status; }
 
 # Every function is proved before the program is built. rt tells of each one as it goes.
 $(PROGRAM): $(SOURCES)
@@ -18,6 +19,15 @@ $(PROGRAM): $(SOURCES)
 # The gate (every proof from nothing, the must-fail edits, the tests), then the script rows and the program from outside.
 test:
 	@python3 tests/run.py
+
+# Edits that the check must refuse, and why it refuses each. Of the crates that changed since the commit SINCE; or of CRATES="..", or
+# CRATES=all. TIER is edits (those under edits/), must-fail (those that the gate tries too) or both.
+edits:
+	@python3 tools/edits.py $(if $(SINCE),--since "$(SINCE)") $(if $(CRATES),--crates "$(CRATES)") $(if $(TIER),--tier "$(TIER)")
+
+# Workloads through the program, and the benchmarks among the crates. WORKLOADS=".." names some of them.
+bench: $(PROGRAM)
+	@python3 bench/bench.py $(WORKLOADS)
 
 # Every crate, over what earlier runs kept.
 check:

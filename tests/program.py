@@ -6,13 +6,43 @@ import sys
 import tempfile
 import time
 
+import hostile
+
 SCRIPT = b"entity Sun\nquery Sun\n"
 OUTPUT = b"rows 0\n"
 
 
-def run_words(program, words, script=b"", **streams):
+# Runs a program on a file, and tells its peak of resident memory in KB. (A process of its own: what a parent has held counts for
+# its children.)
+PEAK = """
+import resource, subprocess, sys
+subprocess.run(sys.argv[1:], stdin=subprocess.DEVNULL, stdout=subprocess.DEVNULL, check=True)
+print(resource.getrusage(resource.RUSAGE_CHILDREN).ru_maxrss)
+"""
+
+
+def run_words(program, words, script=b"", seconds=60, **streams):
     streams = {"stdout": subprocess.PIPE, "stderr": subprocess.PIPE, **streams}
-    return subprocess.run([program, *words], input=script, timeout=60, **streams)
+    return subprocess.run([program, *words], input=script, timeout=seconds, **streams)
+
+
+def least_seconds(program, script, most):
+    """The least time of three runs, each of which may take so many seconds."""
+    times = []
+    for _ in range(3):
+        begun = time.monotonic()
+        if run_words(program, [], script, most).returncode:
+            raise ValueError("the script is not accepted")
+        times.append(time.monotonic() - begun)
+    return min(times)
+
+
+def peak_of(program, script, room):
+    """The peak of resident memory of a run, in KB."""
+    with open(os.path.join(room, "walk"), "wb") as file:
+        file.write(script)
+    words = [sys.executable, "-c", PEAK, program, file.name]
+    return int(subprocess.run(words, stdout=subprocess.PIPE, timeout=120, check=True).stdout)
 
 
 def answers(ran, status, output=None, complaint=None):
@@ -55,9 +85,28 @@ def arguments_are_judged_before_the_file(program, room):
     return answers(run_words(program, [os.path.join(room, "none"), "--fly"]), 2, b"")
 
 
-def help_tells_what_a_script_is(program, room):
+def help_tells_lines_statuses_and_the_reference(program, room):
     ran = run_words(program, ["--help"])
-    return answers(ran, 0, complaint=b"") and b"Usage: flecsq [FILE]" in ran.stdout and b"A script is lines" in ran.stdout
+    lines = ran.stdout.decode().splitlines()
+    forms = ["entity NAME", "new", "component NAME FIELD:KIND ..", "add ENTITY ID", "set ENTITY ID VALUE ..", "remove ENTITY ID"]
+    forms += ["show ENTITY", "query NAME, ..", "// .."]
+    statuses = ["0  Every line was accepted", "1  A line was refused", "2  The arguments are wrong", "3  A read or a write failed"]
+    return (
+        answers(ran, 0, complaint=b"")
+        and "Usage: flecsq [FILE]" in lines
+        and all(any(line.startswith(f"  {form}  ") for line in lines) for form in forms)
+        and all(any(line.startswith(f"  {status}") for line in lines) for status in statuses)
+        and "docs/LANGUAGE.md" in lines[-1]
+        and all(len(line) <= 80 for line in lines)
+    )
+
+
+def script_of_the_help_prints_what_it_says(program, room):
+    lines = run_words(program, ["--help"]).stdout.decode().splitlines()
+    first = next(at for at, line in enumerate(lines) if line.startswith("This script")) + 1
+    last = next(at for at, line in enumerate(lines) if line.startswith("It prints"))
+    ran = run_words(program, [], "\n".join(lines[first:last]).encode())
+    return ran.returncode == 0 and lines[last] == "It prints `{}` and `{}`.".format(*ran.stdout.decode().splitlines())
 
 
 def version_is_told(program, room):
@@ -105,6 +154,22 @@ def two_thousand_lines_take_less_than_two_seconds(program, room):
     return ran.returncode == 0 and ran.stdout.endswith(b"rows 500\n") and time.monotonic() - begun < 2
 
 
+def colliding_names_take_at_most_twice_as_long(program, room):
+    """40,000 names whose hashes agree under the hasher's fixed seed, against as many other names. (So short a time as the floor
+    tells nothing.)"""
+    others = least_seconds(program, hostile.script_of_names(hostile.other_names(40_000)), 60)
+    most = max(2 * others, 0.25)
+    return least_seconds(program, hostile.script_of_names(hostile.colliding_names(40_000)), 2 * most + 2) <= most
+
+
+def walk_through_tables_gives_memory_back(program, room):
+    """Sixteen entities of 3 KB of values walk through 4,096 tables: each emptied one may hold on to 10 KB, for its ids, its
+    columns and its edges, and the program to the script and to the output."""
+    steps, short = (hostile.walk_through_tables(count, 16) for count in (4_096, 64))
+    grown = peak_of(program, steps, room) - peak_of(program, short, room)
+    return grown <= 10 * 4_032 + 2 * (len(steps) - len(short)) // 1024
+
+
 CASES = [
     reads_standard_input,
     reads_a_file,
@@ -114,21 +179,32 @@ CASES = [
     two_files_are_a_wrong_use,
     unknown_flag_is_a_wrong_use,
     arguments_are_judged_before_the_file,
-    help_tells_what_a_script_is,
+    help_tells_lines_statuses_and_the_reference,
+    script_of_the_help_prints_what_it_says,
     version_is_told,
     closed_output_is_a_write_fault,
     no_output_at_all_is_a_write_fault,
     full_disk_is_a_write_fault,
     pieces_do_not_matter,
     two_thousand_lines_take_less_than_two_seconds,
+    colliding_names_take_at_most_twice_as_long,
+    walk_through_tables_gives_memory_back,
 ]
+
+
+def passes(case, program, room):
+    try:
+        return case(program, room)
+    except (subprocess.SubprocessError, ValueError, LookupError, StopIteration) as why:
+        print(f"program {case.__name__}: {type(why).__name__}: {str(why)[:200]}")
+        return False
 
 
 def run(program):
     failed = 0
     with tempfile.TemporaryDirectory() as room:
         for case in CASES:
-            if not case(program, room):
+            if not passes(case, program, room):
                 print(f"program {case.__name__} FAILED")
                 failed += 1
     print(f"program: {len(CASES) - failed} right, {failed} wrong")

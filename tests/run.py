@@ -1,13 +1,15 @@
 #!/usr/bin/env python3
 """run.py [--no-gate]: the gate, then the script rows and the program from outside, with one count over all of them.
 
-Without the gate, the rows and the program's own tests run against the program that was built last.
+Without the gate, the rows and the program's own tests run against the program that was built last. Before the last line stands
+where the minutes went.
 """
 import os
 import re
 import subprocess
 import sys
 
+import minutes
 import program
 import rows
 
@@ -16,10 +18,11 @@ PROGRAM = os.path.join(TOP, "crates", "flecsq", "out", "flecsq")
 COUNTS = re.compile(r"(\d+) passed, (\d+) failed")
 
 
-def run_gate():
+def run_gate(spent):
     """Runs `rt ci`, shows what it prints, and returns how much passed and failed."""
     counts = None
     with subprocess.Popen(["rt", "ci"], cwd=TOP, stdin=subprocess.DEVNULL, stdout=subprocess.PIPE, text=True, errors="replace") as gate:
+        spent.start_gate(gate.pid)
         for line in gate.stdout:
             found = COUNTS.fullmatch(line.strip())
             if found:
@@ -27,21 +30,37 @@ def run_gate():
                 print(f"the gate: passed {counts[0]}, failed {counts[1]}", flush=True)
             else:
                 print(line, end="", flush=True)
+    spent.end_gate()
     if counts is None:
+        print("the gate ended without its count")
         return 0, 1
     passed, failed = counts
     return passed, failed or int(gate.returncode != 0)
 
 
-def main():
-    passed, failed = (0, 0) if "--no-gate" in sys.argv[1:] else run_gate()
-    if os.path.isfile(PROGRAM):
-        for suite in (rows, program):
-            more_passed, more_failed = suite.run(PROGRAM)
-            passed, failed = passed + more_passed, failed + more_failed
-    else:
+def check_worked_rows():
+    """Whether the worked rows that the prover computes are those that the program is tested with."""
+    ran = subprocess.run([sys.executable, os.path.join(TOP, "tools", "worked_rows.py"), "--check"], cwd=TOP, check=False)
+    print(f"worked rows: {'those of tests/rows' if ran.returncode == 0 else 'NOT those of tests/rows'}", flush=True)
+    return (1, 0) if ran.returncode == 0 else (0, 1)
+
+
+def run_program():
+    """Runs the rows and the program from outside."""
+    if not os.path.isfile(PROGRAM):
         print("there is no program to run the rows against")
-        failed += 1
+        return 0, 1
+    counts = [suite.run(PROGRAM) for suite in (rows, program)]
+    return sum(passed for passed, _ in counts), sum(failed for _, failed in counts)
+
+
+def main():
+    spent = minutes.Minutes()
+    counts = [] if "--no-gate" in sys.argv[1:] else [run_gate(spent)]
+    counts += [check_worked_rows(), run_program()]
+    passed, failed = (sum(it) for it in zip(*counts))
+    for line in spent.table(minutes.lines_of_code(TOP)):
+        print(line)
     print(f"{passed} passed, {failed} failed")
     return 1 if failed or not passed else 0
 

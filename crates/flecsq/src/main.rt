@@ -10,21 +10,38 @@ use std::io::{self, BufReader, BufWriter, Read, Write};
 use std::process::ExitCode;
 use world_script::{FromRead, RunError, Summary, ToWrite, run};
 
-const ABOUT: &str =
-    "Runs a script of entity component commands and queries, and prints rows and refusals.";
+const ABOUT: &str = "Runs a script of commands and queries, and prints rows and refusals.";
 
-const SCRIPTS: &str =
-    "A script is lines. This one makes a component and an entity, and asks for its value:
+const SCRIPTS: &str = "A script is lines of these forms:
+  entity NAME                   Makes an entity
+  new                           Makes an entity without a name, and prints it
+  component NAME FIELD:KIND ..  Makes a component with one to eight fields
+  add ENTITY ID                 Adds an id to an entity, its values zeros
+  set ENTITY ID VALUE ..        Adds an id, and gives it these values
+  remove ENTITY ID              Takes an id from an entity
+  show ENTITY                   Prints an entity with all that it holds
+  query NAME, ..                Prints each entity that holds all of these
+  // ..                         Does nothing, as an empty line
 
+ENTITY is a name or a handle, as `#64.0`, which `new` prints. ID is an ENTITY or
+a pair `(RELATIONSHIP,TARGET)` of two. KIND is i8, u8, i16, u16, i32, u32, i64
+or u64. A refused line prints `error LINE KIND`, and changes nothing.
+
+This script makes a component and an entity, and asks for its value:
   component Position x:i32 y:i32
   entity Sun
   set Sun Position 10 -3
   query Position
-
 It prints `row $this=Sun [Position@Sun=10,-3]` and `rows 1`.
 
-Exit status: 0 if every line was accepted, 1 if a line was refused, 2 for a wrong use, 3 for a
-fault in reading or writing, for want of memory, or where the script is longer than 16777216 bytes.";
+Exit status:
+  0  Every line was accepted
+  1  A line was refused
+  2  The arguments are wrong
+  3  A read or a write failed, memory was refused, or the script has more than
+     16777216 bytes
+
+The reference of all this is docs/LANGUAGE.md in flecsq's repository.";
 
 /// Why a script gave no summary. The texts are those on standard error.
 #[derive(Clone, Copy)]

@@ -1,0 +1,341 @@
+#!/usr/bin/env python3
+"""edits.py: tries edits that the check must refuse, and says of each why it was refused.
+
+usage: edits.py [--since COMMIT | --crates NAMES] [--tier edits|must-fail|both] [--at-once N] [--keep FOLDER]
+
+An edit is a file edits/CRATE/NAME.edit, or crates/CRATE/must-fail/NAME.edit for those that `rt ci` tries too: a line
+`file: src/..`, then pairs of lines `old: TEXT` and `new: TEXT`, where each old text stands in that file exactly once.
+
+--since   the crates that changed since that commit, what is not committed included. Without it: since the merge base with
+          origin/main where that is an earlier commit, else since the commit before the last
+--crates  these crates, in one word as "ecs_id raw_column", or all
+--tier    edits (without it), must-fail, or both
+--at-once how many checks run side by side: one a processor, where it is left out
+--keep    a folder for what the check printed under each edit
+
+All work is done on copies in a temporary folder. An edit says something of a contract where a goal about values fails.
+It says nothing where the crate is still proved, where the edited code cannot be read, where it changes what is no code,
+and where it is refused only because a proof file names what the edit took away: any change of names is refused so. The
+status is 0 where each edit says something, else 1; 2 for a wrong use.
+"""
+import argparse
+import os
+import re
+import shutil
+import subprocess
+import sys
+import tempfile
+import threading
+from concurrent.futures import ThreadPoolExecutor
+
+TOP = os.path.realpath(os.path.join(os.path.dirname(os.path.realpath(__file__)), ".."))
+PARTS = ("src", "specs", "proofs")
+# What antt says where a proof file names a place, a goal or a declaration that is not there (any more).
+OF_NAMES = re.compile(r"has no field|has no `|is not in scope|is no name|was not admitted|which (was|were) rejected, (was|were) not checked")
+
+
+class BadEdit(Exception):
+    """An edit that cannot be applied, or that changes no code."""
+
+
+def libraries():
+    """The libraries of the repository that each crate uses, by crates.txt."""
+    uses = {}
+    with open(os.path.join(TOP, "crates.txt"), encoding="utf-8") as lines:
+        for line in lines:
+            head, colon, below = line.partition("#")[0].partition(":")
+            if colon:
+                uses[head.split()[0]] = below.split()
+    return {crate: [it for it in below if it in uses] for crate, below in uses.items()}
+
+
+def closure(crate, uses):
+    """The crate and all libraries below it, lowest first."""
+    found = []
+    for below in uses[crate]:
+        found += [it for it in closure(below, uses) if it not in found]
+    return [*found, crate]
+
+
+def git(*words):
+    ran = subprocess.run(["git", *words], cwd=TOP, stdout=subprocess.PIPE, stderr=subprocess.PIPE, text=True, check=False)
+    return ran.stdout.strip() if ran.returncode == 0 else None
+
+
+def default_commit():
+    base = git("merge-base", "HEAD", "origin/main")
+    if base and base != git("rev-parse", "HEAD"):
+        return base
+    return "HEAD~1" if git("rev-parse", "HEAD~1") else "HEAD"
+
+
+def changed_since(commit):
+    """The crates whose code, definitions, proofs or edits differ from those of the commit."""
+    committed = git("diff", "--name-only", commit, "--")
+    if committed is None:
+        sys.exit(f"edits.py: git knows no commit {commit}")
+    found = set()
+    for path in [*committed.splitlines(), *(git("ls-files", "--others", "--exclude-standard") or "").splitlines()]:
+        of_crate = re.match(r"crates/([^/]+)/(src|specs|proofs|must-fail)/", path) or re.match(r"edits/([^/]+)/", path)
+        if of_crate:
+            found.add(of_crate[1])
+    return found
+
+
+def edits_of(crate, tier):
+    folders = {"edits": [f"edits/{crate}"], "must-fail": [f"crates/{crate}/must-fail"]}
+    found = []
+    for folder in folders.get(tier) or [*folders["edits"], *folders["must-fail"]]:
+        if os.path.isdir(os.path.join(TOP, folder)):
+            names = sorted(it for it in os.listdir(os.path.join(TOP, folder)) if it.endswith(".edit"))
+            found += [os.path.join(TOP, folder, it) for it in names]
+    return found
+
+
+def read_edit(edit, crate):
+    """The texts of the files that the edit changes, by their path in the crate."""
+    folder, path, old, texts = os.path.join(TOP, "crates", crate), "", None, {}
+    with open(edit, encoding="utf-8") as it:
+        lines = it.read().split("\n")
+    for line in lines:
+        if line.startswith("file: "):
+            path = line[len("file: ") :].strip()
+        elif line.startswith("old: "):
+            old = line[len("old: ") :]
+        elif line.startswith("new:"):
+            if not path or not old:
+                raise BadEdit("a line 'new:' stands before any 'file:' or 'old:'")
+            if not path.startswith("src/"):
+                raise BadEdit(f"it changes {path}, which is no code: that shows nothing of a contract")
+            if path not in texts:
+                with open(os.path.join(folder, path), encoding="utf-8") as it:
+                    texts[path] = it.read()
+            if texts[path].count(old) != 1:
+                raise BadEdit(f"an old text stands in {path} {texts[path].count(old)} times, and not once")
+            texts[path], old = texts[path].replace(old, re.sub(r"\A ", "", line[len("new:") :])), None
+    if not texts:
+        raise BadEdit("it has no pair of lines 'old:' and 'new:'")
+    return texts
+
+
+class Room:
+    """A copy of a part of the repository, in which edits are tried one after another."""
+
+    def __init__(self, folder, uses):
+        self.folder, self.uses = folder, uses
+
+    def take(self, crate):
+        """Copies the crate and the libraries below it, with what earlier checks kept of them."""
+        needed = closure(crate, self.uses)
+        for name in needed:
+            to = os.path.join(self.folder, "crates", name)
+            if not os.path.isdir(to):
+                self.copy_crate(os.path.join(TOP, "crates", name), to)
+        kept = "crates/{}/out/incremental".format(crate)
+        if os.path.isdir(os.path.join(TOP, kept)) and not os.path.isdir(os.path.join(self.folder, kept)):
+            shutil.copytree(os.path.join(TOP, kept), os.path.join(self.folder, kept))
+        if os.path.isfile(os.path.join(TOP, "HANDLES")):
+            shutil.copy2(os.path.join(TOP, "HANDLES"), self.folder)
+        # (a list of the crates that are here, with the libraries of the kit as they were)
+        with open(os.path.join(TOP, "crates.txt"), encoding="utf-8") as lines:
+            named = [it for it in lines if it.partition("#")[0].partition(":")[0].split()[:1] in [[name] for name in needed]]
+        with open(os.path.join(self.folder, "crates.txt"), "w", encoding="utf-8") as it:
+            it.writelines(named)
+
+    def copy_crate(self, crate, to):
+        for part in (*PARTS, "out/rlib"):
+            if os.path.isdir(os.path.join(crate, part)):
+                shutil.copytree(os.path.join(crate, part), os.path.join(to, part))
+        # (only where the library seems to have changed since it was built does its next build need what its checks kept)
+        if os.path.isdir(os.path.join(crate, "out/incremental")) and is_newer_than_built(crate):
+            shutil.copytree(os.path.join(crate, "out/incremental"), os.path.join(to, "out/incremental"))
+
+    def leave(self, crate):
+        shutil.rmtree(os.path.join(self.folder, "crates", crate, "out/incremental"), ignore_errors=True)
+
+    def check(self, crate, texts, jobs):
+        """What `rt check` prints, with these texts in place of the crate's own, and its status."""
+        folder = os.path.join(self.folder, "crates", crate)
+        for path, text in texts.items():
+            with open(os.path.join(folder, path), "w", encoding="utf-8") as it:
+                it.write(text)
+        try:
+            how = {"cwd": folder, "stdin": subprocess.DEVNULL, "stdout": subprocess.PIPE, "stderr": subprocess.STDOUT}
+            ran = subprocess.run(["rt", "check", "--jobs", str(jobs)], text=True, errors="replace", check=False, **how)
+        finally:
+            for path in texts:
+                shutil.copy2(os.path.join(TOP, "crates", crate, path), os.path.join(folder, path))
+        return ran.stdout, ran.returncode
+
+
+def is_newer_than_built(crate):
+    try:
+        built = os.stat(os.path.join(crate, "out/rlib/stamp")).st_mtime
+    except OSError:
+        return True
+    files = [os.path.join(at, it) for part in PARTS for at, _, names in os.walk(os.path.join(crate, part)) for it in names]
+    return any(os.stat(it).st_mtime > built for it in files)
+
+
+class Failed:
+    """A goal or a declaration that the check refused: its name, where it stands, what kind of refusal it is, and more words for it."""
+
+    # Those that say something of a contract, the best first.
+    TELLING = ("false", "value", "open")
+    WORDS = {"false": "the known facts allow values at which it is false", "new": "no proof speaks of this place yet"}
+
+    def __init__(self, goal, place, kind, words=""):
+        self.goal, self.place, self.kind, self.words = goal, place, kind, words
+
+    def __str__(self):
+        words = self.words or self.WORDS.get(self.kind, "")
+        return f"`{self.goal}` of {self.place}{f' ({words})' if words else ''}"
+
+
+def failed_declaration(goal, file, said):
+    """What antt refused in a proof file. (It says which name is missing right after these words.)"""
+    if not OF_NAMES.search(said):
+        return Failed(goal, place_of(file), "value")
+    missing = re.search(r"has no (?:field )?`[^`]*`|`[^`]*`: is not in scope|`[^`]*` is (not in scope|no name)", said)
+    return Failed(goal, place_of(file), "names", missing[0] if missing else "it names what is not there")
+
+
+def place_of(file):
+    """The function, or the file of lemmas, that a path below proofs/ belongs to."""
+    inside = re.sub(r"\A(\./)?proofs/", "", file)
+    of_function = re.fullmatch(r"(.*)/(Answers|Invariants|Proof)\.antt", inside)
+    return of_function[1].replace("/", "::") if of_function else f"proofs/{inside}"
+
+
+def failures(said, crate):
+    """What the check refused, by its lines: the line of a function follows those of the goals that nobody answered in it."""
+    found, pending = [], []
+    for line in said.splitlines():
+        refused = re.match(r"(\S+?):\d+:\d+: error: `([^`]+)`: (.*)", line)
+        if refused and "proofs/" in refused[1]:
+            found.append(failed_declaration(refused[2], refused[1], refused[3]))
+            continue
+        unproved = re.match(r"note: (src/\S+?):\d+:\d+: it is not proved that .*?\(`([^`]+)`\)(.*)", line)
+        if unproved:
+            pending.append(Failed(unproved[2], "", "false" if "goal is false" in unproved[3] else "open"))
+            continue
+        function = re.match(rf"fn {crate}::(\S+): (not proved|no proof)", line)
+        if function:
+            for it in pending:
+                it.place = function[1]
+            found, pending = found + pending, []
+    return found + pending
+
+
+def judged(said, status, crate, known):
+    """Whether the edit says something of a contract, and the words for it. `known` are the functions of the unedited crate."""
+    if status == 0:
+        return False, "PROVED: the check does not refuse it"
+    unread = [it for it in said.splitlines() if re.match(r"(\./)?(src|specs)/\S+:\d+:\d+: error", it) or re.match(r"error(\[|:)", it)]
+    if unread:
+        return False, f"SAYS NOTHING: the edited code cannot be read: {unread[0][:200]}"
+    if status != 1 or "logic=not-proved" not in said:
+        return False, f"NO VERDICT: rt ended with status {status}: {(said.strip().splitlines() or [''])[-1][:200]}"
+    found = failures(said, crate)
+    renamed = {it.place for it in found if it.kind == "names"}
+    for it in found:
+        # (a goal that nobody answered may be an old one at a renamed place, or one of a function that the edit made)
+        if it.kind == "open" and (it.place in renamed or it.place not in known):
+            it.kind = "new"
+    telling = sorted((it for it in found if it.kind in Failed.TELLING), key=lambda it: Failed.TELLING.index(it.kind))
+    if telling:
+        more = f" and {len(telling) - 1} more" if len(telling) > 1 else ""
+        return True, f"refused: {telling[0]}{more}"
+    if found:
+        return False, f"SAYS NOTHING: refused for names only: {found[0]}"
+    return False, "SAYS NOTHING: refused, and no line tells which goal failed"
+
+
+def functions_of(said, crate):
+    return set(re.findall(rf"(?m)^fn {crate}::(\S+): proved", said))
+
+
+class Run:
+    """The whole run: what it was asked, and what it found."""
+
+    def __init__(self, asked, uses):
+        self.asked, self.uses, self.printing = asked, uses, threading.Lock()
+        self.told = self.silent = 0
+
+    def tell(self, crate, name, is_telling, words, said=""):
+        with self.printing:
+            print(f"{crate}/{name}: {words}", flush=True)
+            self.told, self.silent = self.told + is_telling, self.silent + (not is_telling)
+            if self.asked.keep:
+                with open(os.path.join(self.asked.keep, f"{crate}.{name}.log"), "w", encoding="utf-8") as it:
+                    it.write(said)
+
+    def try_all(self, crate, edits, jobs):
+        """Tries edits of one crate, in turn, in a copy of their own."""
+        with tempfile.TemporaryDirectory(prefix="edits-") as folder:
+            room = Room(folder, self.uses)
+            room.take(crate)
+            said, status = room.check(crate, {}, jobs)
+            known = functions_of(said, crate)
+            for edit in edits:
+                name = os.path.basename(edit)[: -len(".edit")]
+                if status:
+                    self.tell(crate, name, False, "NOT TRIED: the crate as it stands is not proved", said)
+                    continue
+                try:
+                    texts = read_edit(edit, crate)
+                except (BadEdit, OSError, UnicodeDecodeError) as why:
+                    self.tell(crate, name, False, f"BAD EDIT: {why}")
+                    continue
+                answer = room.check(crate, texts, jobs)
+                self.tell(crate, name, *judged(*answer, crate, known), answer[0])
+
+
+def asked():
+    parser = argparse.ArgumentParser(description=__doc__, formatter_class=argparse.RawDescriptionHelpFormatter, usage=argparse.SUPPRESS)
+    parser.add_argument("--since", default="")
+    parser.add_argument("--crates", default="")
+    parser.add_argument("--tier", choices=("edits", "must-fail", "both"), default="edits")
+    parser.add_argument("--at-once", type=int, default=0)
+    parser.add_argument("--keep", default="")
+    return parser.parse_args()
+
+
+def processors():
+    return len(os.sched_getaffinity(0)) if hasattr(os, "sched_getaffinity") else os.cpu_count() or 1
+
+
+def main():
+    given, uses = asked(), libraries()
+    if given.crates:
+        chosen = set(uses) if given.crates == "all" else set(given.crates.split())
+    else:
+        commit = given.since or default_commit()
+        chosen = changed_since(commit)
+        print(f"crates that changed since {commit}: {' '.join(sorted(chosen)) or 'none'}", flush=True)
+    unknown = sorted(chosen - set(uses))
+    if unknown and given.crates:
+        print(f"edits.py: crates.txt names no crate {' '.join(unknown)}", file=sys.stderr)
+        return 2
+    if given.keep:
+        os.makedirs(given.keep, exist_ok=True)
+    edits = {it: edits_of(it, given.tier) for it in uses if it in chosen}
+    edits = {crate: found for crate, found in edits.items() if found}
+    run = Run(given, uses)
+    for crate in sorted(os.listdir(os.path.join(TOP, "edits"))) if os.path.isdir(os.path.join(TOP, "edits")) else []:
+        if crate not in uses:
+            run.tell("edits", crate, False, "BAD EDIT: crates.txt names no such crate")
+    lanes = given.at_once or processors()
+    # (where there are fewer crates than processors, the edits of each are dealt out)
+    parts = max(1, lanes // max(len(edits), 1))
+    tasks = [(crate, found[at::parts]) for crate, found in edits.items() for at in range(parts) if found[at::parts]]
+    tasks.sort(key=lambda it: -len(it[1]))
+    with ThreadPoolExecutor(lanes) as pool:
+        for it in [pool.submit(run.try_all, crate, found, 1) for crate, found in tasks]:
+            it.result()
+    print(f"{run.told} edits say something of a contract, {run.silent} do not")
+    return 1 if run.silent else 0
+
+
+if __name__ == "__main__":
+    sys.exit(main())
