@@ -12,4 +12,3 @@ pub mod Slots
 pub mod Steps
 pub mod StoreLemmas
 pub mod Tables
-pub mod TestLemmas

@@ -1,24 +1,22 @@
 -- A store before and after a table is made.
-use Rattle.std.proofs.Common.{◌≡◌, ◌≢◌, ◌↔◌, ◌⊎◌, ℕ, ◌+◌, ◌≤◌, ◌<◌, ◌==◌, Bool, true, false, cond, if◌then◌else◌, [], Option, Some, None, IsSome, IfSome, IsTrue, is_some, nat_le, option_map, option_and_then, unwrap_or, slice_get, refl, sym, ap, subst, ◌∙◌, true≢false, arith, inl, inr}
+use Rattle.std.proofs.Common.{◌≡◌, ◌≢◌, ◌↔◌, ◌⊎◌, ℕ, ◌+◌, ◌≤◌, ◌<◌, ◌==◌, Bool, true, false, cond, if◌then◌else◌, [], ◌∷◌, map, ◌-◌, ◌^◌, Option, Some, None, IsSome, IfSome, IsTrue, is_some, nat_le, option_map, option_and_then, unwrap_or, slice_get, refl, sym, ap, subst, ◌∙◌, true≢false, arith, inl, inr}
 use Rattle.std.proofs.lemmas.Bool.Decides.{Decides-eqb}
-use Rattle.std.specs.List.{list_all}
+use Rattle.std.specs.List.{list_all, zip}
 use Rattle.std.specs.FinMap.{is_sorted}
 use Rattle.std.specs.Ordering.{nat_cmp}
 use Rattle.slab.specs.Slab as slots
 use Rattle.slab.specs.Slab.{Slab, Updates}
-use Rattle.std.specs.HashMap.{HashMap, get_by, UpdatesBy}
-use Rattle.std.specs.Map.{lookup}
 use Rattle.std.specs.BTreeMap as ordered
 use Rattle.std.specs.BTreeMap.{BTreeMap}
 use Rattle.std.specs.declared.vec.Vec.{Vec}
-use Rattle.ecs_id.specs.Id.{Id, id_eq, id_cmp}
+use Rattle.ecs_id.specs.Id.{Id, id_cmp}
 use Rattle.ecs_id.specs.declared.Place.{Place}
 use Rattle.ecs_id.specs.declared.TableKey.{TableKey}
 use Rattle.ecs_table.specs.Archetype.{Archetype, IsSound}
 use Rattle.table_store.specs.declared.store.Slot.{Slot}
 use Rattle.table_store.specs.Store.{Store, Shape, IsStore, table_at, ids_at, shape_at, shape_of, shaped, shaped_at, with_id, without_id, find_in, key_eq, made_at}
 use Rattle.table_store.specs.Rows.{row_at, row_of}
-use Rattle.table_store.specs.Kept.{store_of, IsKept, IsSlot, IsIndex, IsOrder}
+use Rattle.table_store.specs.Kept.{Held, HasNoEdge, store_of, key_of, SetsIds, IsKept, IsSlot, IsIndex, IsOrder}
 use Rattle.table_store.proofs.Slots.{table_at-made, same_key, key_eq_true, key_eq_false, listed_in, none_is_some, one_some}
 use Rattle.table_store.proofs.StoreLemmas.{ids_of, ids_in_shape}
 use Rattle.table_store.proofs.Shapes.{HaveSizes, size_found, shape_of_shaped, all_small}
@@ -46,10 +44,14 @@ module _ (s : Store) where
   pub ids_of_shape_at : (q : TableKey) (g : Shape) → shape_at s q ≡ Some g → ids_at s q ≡ Some (ids_of g)
   ids_of_shape_at q g e = ids_in_shape (table_at s q) ∙ ap (option_map ids_of) e
 
-module _ {Y S : Type 0} (tables new : Slab (Slot Y)) (by_ids named : HashMap (Vec Id Y) TableKey S) (by_serial dated : BTreeMap ℕ TableKey) (last : ℕ) (kept : IsKept tables by_ids by_serial last)
-    (f : Shape) (k : TableKey) (y : Slot Y) (sorted : IsTrue (is_sorted id_cmp f)) (small : (j : ℕ) → IfSome (slice_get f j) (λ c. c.1 ≤ 64)) (sizes : HaveSizes (store_of tables last) f)
-    (missing : get_by (λ v. ids_eq (ids_of f) v.items) by_ids ≡ None) (serial : k.serial ≡ last + 1) (free : slots.get tables k.slot ≡ None) (u : Updates tables new k.slot (Some y))
-    (ys : y.serial ≡ k.serial) (yt : y.table ≡ shaped f) (yf : y.shape.items ≡ f) (no_more : y.more.entries ≡ []) (no_less : y.less.entries ≡ []) where
+zip_parts : (f : Shape) → ◌≡◌ {A = Shape} (zip (ids_of f) (map (λ c. c.1) f)) f
+zip_parts [] = refl
+zip_parts (c ∷ f) = ap (λ l. c ∷ l) (zip_parts f)
+
+module _ {Y : Type 0} (tables new : Slab (Held Y)) (by_ids named : BTreeMap (Vec Id Y) TableKey) (by_serial dated : BTreeMap ℕ TableKey) (last : ℕ) (kept : IsKept tables by_ids by_serial last)
+    (f : Shape) (k : TableKey) (y : Held Y) (sorted : IsTrue (is_sorted id_cmp f)) (small : (j : ℕ) → IfSome (slice_get f j) (λ c. c.1 ≤ 64)) (sizes : HaveSizes (store_of tables last) f)
+    (missing : key_of by_ids (ids_of f) ≡ None) (serial : k.serial ≡ last + 1) (free : slots.get tables k.slot ≡ None) (u : Updates tables new k.slot (Some y))
+    (ys : y.value.serial ≡ k.serial) (yt : y.value.table ≡ shaped f) (yf : y.value.sizes.items ≡ map (λ c. c.1) f) (no_more : HasNoEdge y.value.more) (no_less : HasNoEdge y.value.less) (numbered : k.slot < 2 ^ 32 - 1) where
   abbrev s : Store
   s = store_of tables last
 
@@ -167,6 +169,7 @@ module _ {Y S : Type 0} (tables new : Slab (Slot Y)) (by_ids named : HashMap (Ve
     one_size = one_sized;
     serials = serials_new;
     given_once = once;
+    numbered = λ q h. elim (cases q) [ inl e ↦ subst (λ z. z.slot < 2 ^ 32 - 1) (sym e.0) numbered | inr e ↦ kept.store.numbered q (subst IsSome e.1 h) ];
     listed = listed_in new k.serial;
   }
 
@@ -178,33 +181,33 @@ module _ {Y S : Type 0} (tables new : Slab (Slot Y)) (by_ids named : HashMap (Ve
   slot_stays x h = record {
     sound = h.sound;
     shape = h.shape;
-    more = λ i q e. let m = h.more i q e in (omega (arith, m.0, serial), subst (λ o. IfSome o (λ g. (b : ℕ) × (g ≡ with_id x.shape.items i b))) (sym (edge_shape q m.0)) m.1);
-    less = λ i q e. let m = h.less i q e in (omega (arith, m.0, serial), subst (λ o. IfSome o (λ g. g ≡ without_id x.shape.items i)) (sym (edge_shape q m.0)) m.1);
+    more = λ i q e. let m = h.more i q e in (omega (arith, m.0, serial), subst (λ o. IfSome o (λ g. (b : ℕ) × (g ≡ with_id (shape_of x.table) i b))) (sym (edge_shape q m.0)) m.1);
+    less = λ i q e. let m = h.less i q e in (omega (arith, m.0, serial), subst (λ o. IfSome o (λ g. g ≡ without_id (shape_of x.table) i)) (sym (edge_shape q m.0)) m.1);
   }
 
-  slot_made : IsSound (shaped f) → IsSlot n y
+  slot_made : IsSound (shaped f) → IsSlot n y.value
   slot_made sound = record {
     sound = subst IsSound (sym yt) sound;
-    shape = yf ∙ sym (shape_of_shaped f sorted) ∙ ap shape_of (sym yt);
-    more = λ i q e. absurd (none_is_some q (sym (ap (λ es. lookup (λ j. id_eq i j) es) no_more) ∙ e));
-    less = λ i q e. absurd (none_is_some q (sym (ap (λ es. lookup (λ j. id_eq i j) es) no_less) ∙ e));
+    shape = (λ i. zip (yt i).ids (yf i)) ∙ zip_parts f ∙ sym (shape_of_shaped f sorted) ∙ ap shape_of (sym yt);
+    more = λ i q e. absurd (none_is_some q (sym (no_more i) ∙ e));
+    less = λ i q e. absurd (none_is_some q (sym (no_less i) ∙ e));
   }
 
-  other_slot : (o : Option (Slot Y)) → IfSome o (IsSlot s) → IfSome o (IsSlot n)
+  other_slot : (o : Option (Held Y)) → IfSome o (λ z. IsSlot s z.value) → IfSome o (λ z. IsSlot n z.value)
   other_slot None h = tt
-  other_slot (Some x) h = slot_stays x h
+  other_slot (Some x) h = slot_stays x.value h
 
-  slots_made : IsSound (shaped f) → (m : ℕ) → IfSome (slots.get new m) (IsSlot n)
+  slots_made : IsSound (shaped f) → (m : ℕ) → IfSome (slots.get new m) (λ z. IsSlot n z.value)
   slots_made sound m = by (m == k.slot) refl
     where
-      by : (b : Bool) → (m == k.slot) ≡ b → IfSome (slots.get new m) (IsSlot n)
-      by true e = subst (λ o. IfSome o (IsSlot n)) (sym (ap (slots.get new) ((Decides-eqb m k.slot).0 e) ∙ u.changed)) (slot_made sound)
-      by false e = subst (λ o. IfSome o (IsSlot n)) (sym (u.others m (λ h. true≢false (sym ((Decides-eqb m k.slot).1 h) ∙ e)))) (other_slot (slots.get tables m) (kept.slots m))
+      by : (b : Bool) → (m == k.slot) ≡ b → IfSome (slots.get new m) (λ z. IsSlot n z.value)
+      by true e = subst (λ o. IfSome o (λ z. IsSlot n z.value)) (sym (ap (slots.get new) ((Decides-eqb m k.slot).0 e) ∙ u.changed)) (slot_made sound)
+      by false e = subst (λ o. IfSome o (λ z. IsSlot n z.value)) (sym (u.others m (λ h. true≢false (sym ((Decides-eqb m k.slot).1 h) ∙ e)))) (other_slot (slots.get tables m) (kept.slots m))
 
-  index_made : UpdatesBy (λ a b. ids_eq a.items b.items) (λ v. ids_eq (ids_of f) v.items) by_ids named (Some k) → IsIndex n named
+  index_made : SetsIds (ids_of f) (Some k) by_ids named → IsIndex n named
   index_made v ids q = by (ids_eq (ids_of f) ids) refl (get_ids by_ids named (ids_of f) (Some k) v ids)
     where
-      by : (b : Bool) → ids_eq (ids_of f) ids ≡ b → get_by (λ z. ids_eq ids z.items) named ≡ cond b (Some k) (get_by (λ z. ids_eq ids z.items) by_ids) → (get_by (λ z. ids_eq ids z.items) named ≡ Some q) ↔ (ids_at n q ≡ Some ids)
+      by : (b : Bool) → ids_eq (ids_of f) ids ≡ b → key_of named ids ≡ cond b (Some k) (key_of by_ids ids) → (key_of named ids ≡ Some q) ↔ (ids_at n q ≡ Some ids)
       by true e g =
           let same = ids_same (ids_of f) ids e in (
             λ h. elim (ids_cases q) [ inl a ↦ a.1 ∙ ap Some same | inr a ↦ absurd (a.0 (one_some q k (sym h ∙ g))) ],
@@ -233,5 +236,5 @@ module _ {Y S : Type 0} (tables new : Slab (Slot Y)) (by_ids named : HashMap (Ve
       there_now : IsSome (table_at n k)
       there_now = elim (cases k) [ inl a ↦ some_of _ (shaped f) a.1 | inr a ↦ absurd (a.0 refl) ]
 
-  pub made_kept : IsSound (shaped f) → UpdatesBy (λ a b. ids_eq a.items b.items) (λ v. ids_eq (ids_of f) v.items) by_ids named (Some k) → ordered.UpdatesBy nat_cmp (nat_cmp k.serial) by_serial dated (Some k) → IsKept new named dated k.serial
+  pub made_kept : IsSound (shaped f) → SetsIds (ids_of f) (Some k) by_ids named → ordered.UpdatesBy nat_cmp (nat_cmp k.serial) by_serial dated (Some k) → IsKept new named dated k.serial
   made_kept sound v o = record { store = made_store; slots = slots_made sound; index = index_made v; order = order_made o }

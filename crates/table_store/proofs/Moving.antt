@@ -4,7 +4,6 @@ use Rattle.std.proofs.lemmas.Bool.Decides.{Decides-eqb}
 use Rattle.slab.specs.Slab as slots
 use Rattle.slab.specs.Slab.{Slab, Updates, with_value, slab_len}
 use Rattle.slab.proofs.SlabLemmas.{Updates-with_value}
-use Rattle.std.specs.HashMap.{HashMap}
 use Rattle.std.specs.BTreeMap.{BTreeMap}
 use Rattle.std.specs.declared.vec.Vec.{Vec}
 use Rattle.ecs_id.specs.Id.{Id}
@@ -16,7 +15,7 @@ use Rattle.ecs_table.proofs.Soundness.{sound_with_moved, sound_without_row}
 use Rattle.table_store.specs.declared.store.Slot.{Slot}
 use Rattle.table_store.specs.Store.{Shape, Store, changed_at, key_eq, moved_at, shape_at, shape_of, table_at}
 use Rattle.table_store.specs.Rows.{IsStored, Row, carried, filler, gap_filled, last_place, moved_rows, removed_rows, row_at, row_of, same_place, with_row_at, without_row_at}
-use Rattle.table_store.specs.Kept.{store_of, IsKept}
+use Rattle.table_store.specs.Kept.{Held, store_of, IsKept}
 use Rattle.table_store.proofs.Slots.{key_eq_false, one_some, same_key}
 use Rattle.table_store.proofs.StoreLemmas.{stored}
 use Rattle.table_store.proofs.Changes.{IsKept-changed, changed, row_changed, row_here, shape_here, shapes, table_here, the_slot, written, written_kept, written_row, written_shapes}
@@ -56,27 +55,27 @@ both_first false b h = h
 other_table : (r q p : Place) → q.table ≢ p.table → same_place r q ≡ true → same_place r p ≡ false
 other_table r q p apart e = ap (λ b. b && r.row == p.row) (key_eq_false r.table p.table (λ same. apart (sym (same_key r.table q.table (both_first (key_eq r.table q.table) (r.row == q.row) e)) ∙ same)))
 
-module _ {Y S : Type 0} (tables out back : Slab (Slot Y)) (last : ℕ) (s : Store) (view : store_of tables last ≡ s) (by_ids : HashMap (Vec Id Y) TableKey S) (by_serial : BTreeMap ℕ TableKey) (kept : IsKept tables by_ids by_serial last)
+module _ {Y : Type 0} (tables out back : Slab (Held Y)) (last : ℕ) (s : Store) (view : store_of tables last ≡ s) (by_ids : BTreeMap (Vec Id Y) TableKey) (by_serial : BTreeMap ℕ TableKey) (kept : IsKept tables by_ids by_serial last)
     (from to : TableKey) (apart : from ≢ to) (src tgt : Archetype) (at_from : table_at s from ≡ Some src) (at_to : table_at s to ≡ Some tgt) (row : ℕ) (there : row < length src.entities)
-    (x : Slot Y) (is_x : slots.get tables from.slot ≡ Some x) (u1 : Updates tables out from.slot None) where
+    (x : Held Y) (is_x : slots.get tables from.slot ≡ Some x) (u1 : Updates tables out from.slot None) where
   slots_differ : to.slot ≢ from.slot
   slots_differ e =
       let f = the_slot tables last s view from src at_from in let t = the_slot tables last s view to tgt at_to in
       let same : f.0 ≡ t.0 = one_some f.0 t.0 (sym f.1 ∙ ap (slots.get tables) (sym e) ∙ t.1) in
-      let serials : from.serial ≡ to.serial = sym f.2 ∙ ap (λ (v : Slot Y). v.serial) same ∙ t.2 in
+      let serials : from.serial ≡ to.serial = sym f.2 ∙ ap (λ (v : Held Y). v.value.serial) same ∙ t.2 in
       apart (λ i. record { slot = sym e i; serial = serials i })
 
   pub target_there : IsSome (slots.get out to.slot)
   target_there = subst IsSome (sym (u1.others to.slot slots_differ ∙ (the_slot tables last s view to tgt at_to).1)) refl
 
-  pub source_is : x.table ≡ src
+  pub source_is : x.value.table ≡ src
   source_is = table_here tables last s view from src at_from x is_x
 
-  module _ (z : Slot Y) (is_z : slots.get out to.slot ≡ Some z) where
+  module _ (z : Held Y) (is_z : slots.get out to.slot ≡ Some z) where
     is_z0 : slots.get tables to.slot ≡ Some z
     is_z0 = sym (u1.others to.slot slots_differ) ∙ is_z
 
-    pub target_is : z.table ≡ tgt
+    pub target_is : z.value.table ≡ tgt
     target_is = table_here tables last s view to tgt at_to z is_z0
 
     sound_src : IsSound src
@@ -91,19 +90,22 @@ module _ {Y S : Type 0} (tables out back : Slab (Slot Y)) (last : ℕ) (s : Stor
         let tt0 : shape_at (store_of tables last) to ≡ Some (shape_of tgt) = ap (λ w. shape_at w to) view ∙ shape_here s to tgt at_to in
         kept.store.one_size from to (shape_of src) (shape_of tgt) i m n st tt0 p q
 
-    pub sizes_equal : HaveEqualSizes x.table z.table
-    sizes_equal = subst (λ v. HaveEqualSizes v z.table) (sym source_is) (subst (λ v. HaveEqualSizes src v) (sym target_is) (equal_sizes src tgt sound_src sound_tgt sizes_alike))
+    pub sizes_equal : HaveEqualSizes x.value.table z.value.table
+    sizes_equal = subst (λ v. HaveEqualSizes v z.value.table) (sym source_is) (subst (λ v. HaveEqualSizes src v) (sym target_is) (equal_sizes src tgt sound_src sound_tgt sizes_alike))
 
-    module _ (xt zt : Archetype) (left : xt ≡ without_row x.table row) (came : zt ≡ with_moved z.table x.table row)
-        (u2 : Updates (with_value out to.slot (record z { table = zt })) back from.slot (Some (record x { table = xt }))) where
-      abbrev x1 : Slot Y
-      x1 = record x { table = xt }
+    module _ (dx dz : Slot Y) (lent_x : dx ≡ x.value) (lent_z : dz ≡ z.value) (xt zt : Archetype) (own_left : xt ≡ without_row dx.table row) (own_came : zt ≡ with_moved dz.table dx.table row)
+        (u2 : Updates (with_value out to.slot (record z { value = record dz { table = zt } })) back from.slot (Some (record x { value = record dx { table = xt } }))) where
+      abbrev x1 : Held Y
+      x1 = record x { value = record dx { table = xt } }
 
-      abbrev z1 : Slot Y
-      z1 = record z { table = zt }
+      abbrev z1 : Held Y
+      z1 = record z { value = record dz { table = zt } }
+
+      came : zt ≡ with_moved z.value.table x.value.table row
+      came = own_came ∙ (λ i. with_moved (lent_z i).table (lent_x i).table row)
 
       -- the store between: the row is gone, and stands nowhere yet
-      abbrev mid : Slab (Slot Y)
+      abbrev mid : Slab (Held Y)
       mid = with_value tables from.slot x1
 
       abbrev s1 : Store
@@ -116,16 +118,16 @@ module _ {Y S : Type 0} (tables out back : Slab (Slot Y)) (last : ℕ) (s : Stor
       out_updates = Updates-with_value out to.slot z1 (subst IsSome (sym is_z) refl)
 
       kept1 : IsKept mid by_ids by_serial last
-      kept1 = written_kept tables last s view from src at_from x is_x xt (λ v. without_row v row) left by_ids by_serial kept (shape_of_removed src row) (sound_without_row src row there sound_src)
+      kept1 = written_kept tables last s view from src at_from x is_x dx lent_x xt (λ v. without_row v row) own_left by_ids by_serial kept (shape_of_removed src row) (sound_without_row src row there sound_src)
 
       rows1 : (q : Place) → row_at s1 q ≡ removed_rows s (record { table = from; row = row }) q
-      rows1 = removed_is s from src at_from row there sound_src s1 (written_row tables last s view from src at_from x is_x xt (λ v. without_row v row) left)
+      rows1 = removed_is s from src at_from row there sound_src s1 (written_row tables last s view from src at_from x is_x dx lent_x xt (λ v. without_row v row) own_left)
 
       tables1 : (q : TableKey) → table_at s1 q ≡ changed_at s from (λ v. without_row v row) q
-      tables1 = written tables last s view from src at_from x is_x xt (λ v. without_row v row) left
+      tables1 = written tables last s view from src at_from x is_x dx lent_x xt (λ v. without_row v row) own_left
 
       shapes1 : (q : TableKey) → shape_at s1 q ≡ shape_at s q
-      shapes1 = written_shapes tables last s view from src at_from x is_x xt (λ v. without_row v row) left (shape_of_removed src row)
+      shapes1 = written_shapes tables last s view from src at_from x is_x dx lent_x xt (λ v. without_row v row) own_left (shape_of_removed src row)
 
       at_to1 : table_at s1 to ≡ Some tgt
       at_to1 = tables1 to ∙ ap (λ b. if b then option_map (λ v. without_row v row) (table_at s to) else table_at s to) (key_eq_false to from (λ e. apart (sym e))) ∙ at_to
@@ -147,24 +149,24 @@ module _ {Y S : Type 0} (tables out back : Slab (Slot Y)) (last : ℕ) (s : Stor
       abbrev f : Archetype → Archetype
       f v = with_moved v src row
 
-      made : zt ≡ f z.table
-      made = came ∙ ap (λ v. with_moved z.table v row) source_is
+      made : zt ≡ f z.value.table
+      made = came ∙ ap (λ v. with_moved z.value.table v row) source_is
 
       pub moved_kept : IsKept back by_ids by_serial last
-      moved_kept = IsKept-changed mid back last s1 refl to tgt at_to1 z z1 is_z1 u3 f made refl by_ids by_serial kept1 (shape_of_moved tgt src row sound_tgt) (sound_with_moved tgt src row sound_tgt) refl refl refl
+      moved_kept = IsKept-changed mid back last s1 refl to tgt at_to1 z z1 is_z1 u3 f made (ap (λ v. v.serial) lent_z) by_ids by_serial kept1 (shape_of_moved tgt src row sound_tgt) (sound_with_moved tgt src row sound_tgt) (ap (λ v. v.sizes) lent_z) (ap (λ v. v.more) lent_z) (ap (λ v. v.less) lent_z)
 
       pub moved_stored : IsStored (store_of back last)
       moved_stored = stored back by_ids by_serial last moved_kept (store_of back last) refl
 
       pub moved_tables : (q : TableKey) → table_at (store_of back last) q ≡ moved_at s from to src row q
-      moved_tables q = changed mid back last s1 refl to tgt at_to1 z z1 is_z1 u3 f made refl q ∙ by (key_eq q to) refl
+      moved_tables q = changed mid back last s1 refl to tgt at_to1 z z1 is_z1 u3 f made (ap (λ v. v.serial) lent_z) q ∙ by (key_eq q to) refl
         where
           by : (b : Bool) → key_eq q to ≡ b → (if b then option_map f (table_at s1 q) else table_at s1 q) ≡ (if b then option_map f (table_at s q) else changed_at s from (λ t. without_row t row) q)
           by true e = ap (option_map f) (ap (table_at s1) (same_key q to e) ∙ at_to1 ∙ sym (ap (table_at s) (same_key q to e) ∙ at_to))
           by false e = tables1 q
 
       pub moved_shapes : (q : TableKey) → shape_at (store_of back last) q ≡ shape_at s q
-      moved_shapes q = shapes mid back last s1 refl to tgt at_to1 z z1 is_z1 u3 f made refl (shape_of_moved tgt src row sound_tgt) q ∙ shapes1 q
+      moved_shapes q = shapes mid back last s1 refl to tgt at_to1 z z1 is_z1 u3 f made (ap (λ v. v.serial) lent_z) (shape_of_moved tgt src row sound_tgt) q ∙ shapes1 q
 
       pub vacant_there : row_at s (record { table = to; row = length tgt.entities }) ≡ None
       vacant_there = row_here s to tgt at_to (length tgt.entities) ∙ row_past tgt (length tgt.entities) (omega arith)
@@ -172,7 +174,7 @@ module _ {Y S : Type 0} (tables out back : Slab (Slot Y)) (last : ℕ) (s : Stor
       -- one row came
       came_row : (v : Row) → row_of src row ≡ Some v → (p : Place) → row_at (store_of back last) p ≡ with_row_at (row_at s1) (record { table = to; row = length tgt.entities }) (v.0, carried (shape_of tgt) v.1) p
       unfolding row_at
-      came_row v is p = row_changed mid back last s1 refl to tgt at_to1 z z1 is_z1 u3 f made refl p ∙ by (key_eq p.table to) refl
+      came_row v is p = row_changed mid back last s1 refl to tgt at_to1 z z1 is_z1 u3 f made (ap (λ v. v.serial) lent_z) p ∙ by (key_eq p.table to) refl
         where
           by : (b : Bool) → key_eq p.table to ≡ b → (if b then row_of (f tgt) p.row else row_at s1 p) ≡ cond (b && p.row == length tgt.entities) (Some (v.0, carried (shape_of tgt) v.1)) (row_at s1 p)
           by true e = row_of_moved tgt src row p.row there sound_src sound_tgt sizes_alike

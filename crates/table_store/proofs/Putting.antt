@@ -1,11 +1,10 @@
 -- A table is found or made.
-use Rattle.std.proofs.Common.{◌≡◌, ◌≢◌, ◌↔◌, ℕ, suc, ◌+◌, ◌≤◌, Bool, true, false, if◌then◌else◌, List, ◌∷◌, Option, Some, None, IsSome, IsNone, IfSome, IfOk, OnOk, IsOk, IsTrue, Result, Ok, Err, map, max, option_map, unwrap_or, slice_index_or, slice_get, length, [], refl, sym, ap, subst, ◌∙◌, true≢false, arith, rules}
+use Rattle.std.proofs.Common.{◌≡◌, ◌≢◌, ◌↔◌, ℕ, suc, ◌+◌, ◌-◌, ◌^◌, ◌<◌, ◌≤◌, Bool, true, false, if◌then◌else◌, List, ◌∷◌, Option, Some, None, IsSome, IsNone, IfSome, IfOk, OnOk, IsOk, IsTrue, Result, Ok, Err, map, max, option_map, unwrap_or, slice_index_or, slice_get, length, [], refl, sym, ap, subst, ◌∙◌, true≢false, arith, rules}
 use Rattle.std.specs.FinMap.{is_sorted}
 use Rattle.std.specs.Ordering.{nat_cmp, is_eq}
 use Rattle.std.specs.Map.{lookup}
 use Rattle.slab.specs.Slab as slots
 use Rattle.slab.specs.Slab.{Slab, Updates}
-use Rattle.std.specs.HashMap.{HashMap, get_by, UpdatesBy}
 use Rattle.std.specs.BTreeMap as ordered
 use Rattle.std.specs.BTreeMap.{BTreeMap}
 use Rattle.std.specs.declared.vec.Vec.{Vec}
@@ -14,10 +13,9 @@ use Rattle.ecs_id.specs.declared.Place.{Place}
 use Rattle.ecs_id.specs.declared.TableKey.{TableKey}
 use Rattle.ecs_table.specs.Archetype.{Archetype, IsSound}
 use Rattle.ecs_table.proofs.Soundness.{sound_empty}
-use Rattle.table_store.specs.declared.store.Slot.{Slot}
 use Rattle.table_store.specs.Store.{Store, Shape, IsStore, table_at, ids_at, shape_at, shape_of, shaped, key_eq}
 use Rattle.table_store.specs.Rows.{row_at}
-use Rattle.table_store.specs.Kept.{tables_from, store_of, IsKept, IsSlot, IsMade, IsPut}
+use Rattle.table_store.specs.Kept.{FindAlike, HasNoEdge, Held, SetsIds, key_of, tables_from, store_of, IsKept, IsSlot, IsMade, IsPut}
 use Rattle.table_store.proofs.Slots.{same_key, none_is_some, one_some}
 use Rattle.table_store.proofs.StoreLemmas.{ids_of, ids_in_shape, stored}
 use Rattle.table_store.proofs.Shapes.{HaveSizes, same_shape, small_sizes}
@@ -25,29 +23,40 @@ use Rattle.table_store.proofs.Indexes.{ids_eq}
 use Rattle.table_store.proofs.Changes.{there}
 use Rattle.table_store.proofs.Making.{made, made_shapes, made_rows, made_kept, is_new, sized_shape, stands_of_shape}
 
-pub same_store : {Y : Type 0} (tables grown : Slab (Slot Y)) (last : ℕ) → grown ≡ record tables { capacity = grown.capacity } → store_of grown last ≡ store_of tables last
-same_store tables grown last e = ap (λ (t : Slab (Slot _)). store_of t last) e
+pub same_store : {Y : Type 0} (tables grown : Slab (Held Y)) (last : ℕ) → grown ≡ record tables { capacity = grown.capacity } → store_of grown last ≡ store_of tables last
+same_store tables grown last e = ap (λ (t : Slab (Held _)). store_of t last) e
 
 -- the same fields, grown
-pub IsKept-grown : {Y S : Type 0} (tables grown : Slab (Slot Y)) (by_ids room_ids : HashMap (Vec Id Y) TableKey S) (by_serial same_serial : BTreeMap ℕ TableKey) (last : ℕ)
-    → grown.slots ≡ tables.slots → room_ids.entries ≡ by_ids.entries → same_serial.entries ≡ by_serial.entries → IsKept tables by_ids by_serial last → IsKept grown room_ids same_serial last
+pub IsKept-grown : {Y : Type 0} (tables grown : Slab (Held Y)) (by_ids room_ids : BTreeMap (Vec Id Y) TableKey) (by_serial same_serial : BTreeMap ℕ TableKey) (last : ℕ)
+    → grown.slots ≡ tables.slots → room_ids.entries ≡ by_ids.entries → FindAlike by_serial same_serial → IsKept tables by_ids by_serial last → IsKept grown room_ids same_serial last
 IsKept-grown tables grown by_ids room_ids by_serial same_serial last ts is ss kept = record {
   store = subst (λ xs. IsStore (record { tables = tables_from 0 xs; last = last })) (sym ts) kept.store;
-  slots = λ n. subst (λ xs. IfSome (slice_index_or xs n None) (IsSlot (record { tables = tables_from 0 xs; last = last }))) (sym ts) (kept.slots n);
+  slots = λ n. subst (λ xs. IfSome (slice_index_or xs n None) (λ x. IsSlot (record { tables = tables_from 0 xs; last = last }) x.value)) (sym ts) (kept.slots n);
   index = λ ids q. subst (λ xs. (lookup (λ v. ids_eq ids v.items) room_ids.entries ≡ Some q) ↔ (ids_at (record { tables = tables_from 0 xs; last = last }) q ≡ Some ids)) (sym ts)
       (subst (λ es. (lookup (λ v. ids_eq ids v.items) es ≡ Some q) ↔ (ids_at (store_of tables last) q ≡ Some ids)) (sym is) (kept.index ids q));
-  order = λ n q. subst (λ xs. (lookup (λ m. is_eq (nat_cmp n m)) same_serial.entries ≡ Some q) ↔ (IsSome (table_at (record { tables = tables_from 0 xs; last = last }) q) × (q.serial ≡ n))) (sym ts)
-      (subst (λ es. (lookup (λ m. is_eq (nat_cmp n m)) es ≡ Some q) ↔ (IsSome (table_at (store_of tables last) q) × (q.serial ≡ n))) (sym ss) (kept.order n q));
+  order = λ n q. subst (λ xs. (ordered.get nat_cmp same_serial n ≡ Some q) ↔ (IsSome (table_at (record { tables = tables_from 0 xs; last = last }) q) × (q.serial ≡ n))) (sym ts)
+      (subst (λ k. (k ≡ Some q) ↔ (IsSome (table_at (store_of tables last) q) × (q.serial ≡ n))) (sym (ss n)) (kept.order n q));
 }
 
 -- no list of ids that the index does not have is that of a table
-pub missing_from : {Y S : Type 0} (tables : Slab (Slot Y)) (by_ids : HashMap (Vec Id Y) TableKey S) (by_serial : BTreeMap ℕ TableKey) (last : ℕ) (s : Store) → store_of tables last ≡ s → IsKept tables by_ids by_serial last
-    → (ids : List Id) → ((q : TableKey) → ids_at s q ≢ Some ids) → get_by (λ v. ids_eq ids v.items) by_ids ≡ None
-missing_from tables by_ids by_serial last s view kept ids h = by (get_by (λ v. ids_eq ids v.items) by_ids) refl
+pub missing_from : {Y : Type 0} (tables : Slab (Held Y)) (by_ids : BTreeMap (Vec Id Y) TableKey) (by_serial : BTreeMap ℕ TableKey) (last : ℕ) (s : Store) → store_of tables last ≡ s → IsKept tables by_ids by_serial last
+    → (ids : List Id) → ((q : TableKey) → ids_at s q ≢ Some ids) → key_of by_ids ids ≡ None
+missing_from tables by_ids by_serial last s view kept ids h = by (key_of by_ids ids) refl
   where
-    by : (o : Option TableKey) → get_by (λ v. ids_eq ids v.items) by_ids ≡ o → o ≡ None
+    by : (o : Option TableKey) → key_of by_ids ids ≡ o → o ≡ None
     by None e = refl
     by (Some q) e = absurd (h q (subst (λ v. ids_at v q ≡ Some ids) view ((kept.index ids q).0 e)))
+
+-- no table was given a serial that comes later
+pub not_given : {Y : Type 0} (tables : Slab (Held Y)) (by_ids : BTreeMap (Vec Id Y) TableKey) (by_serial : BTreeMap ℕ TableKey) (last : ℕ) → IsKept tables by_ids by_serial last → (n : ℕ) → n ≡ last + 1 → ordered.get nat_cmp by_serial n ≡ None
+not_given tables by_ids by_serial last kept n later = by (ordered.get nat_cmp by_serial n) refl
+  where
+    by : (o : Option TableKey) → ordered.get nat_cmp by_serial n ≡ o → o ≡ None
+    by None e = refl
+    by (Some q) e =
+        let given = (kept.order n q).0 e in
+        let low = (kept.store.serials q given.0).1 in
+        absurd (omega (arith, low, given.1, later))
 
 same_length : (g : Shape) → length (ids_of g) ≡ length (map (λ c. c.1) g)
 same_length [] = refl
@@ -56,14 +65,14 @@ same_length (c ∷ g) = ap (λ n. suc n) (same_length g)
 sound_shaped : (f : Shape) → ((j : ℕ) → IfSome (slice_get f j) (λ c. c.1 ≤ 64)) → IsSound (shaped f)
 sound_shaped f small = sound_empty (ids_of f) (map (λ c. c.1) f) (same_length f) (small_sizes f small)
 
-module _ {Y S : Type 0} (tables grown new : Slab (Slot Y)) (by_ids room_ids named : HashMap (Vec Id Y) TableKey S) (by_serial dated : BTreeMap ℕ TableKey) (last : ℕ) (s : Store) (view : store_of tables last ≡ s)
-    (kept : IsKept tables by_ids by_serial last) (growth : grown ≡ record tables { capacity = grown.capacity }) (same_ids : room_ids.entries ≡ by_ids.entries)
-    (f : Shape) (k : TableKey) (y : Slot Y) (sorted : IsTrue (is_sorted id_cmp f)) (small : (j : ℕ) → IfSome (slice_get f j) (λ c. c.1 ≤ 64)) (sizes : HaveSizes s f)
+module _ {Y : Type 0} (tables grown new : Slab (Held Y)) (by_ids named : BTreeMap (Vec Id Y) TableKey) (by_serial dated : BTreeMap ℕ TableKey) (last : ℕ) (s : Store) (view : store_of tables last ≡ s)
+    (kept : IsKept tables by_ids by_serial last) (growth : grown ≡ record tables { capacity = grown.capacity })
+    (f : Shape) (k : TableKey) (y : Held Y) (sorted : IsTrue (is_sorted id_cmp f)) (small : (j : ℕ) → IfSome (slice_get f j) (λ c. c.1 ≤ 64)) (sizes : HaveSizes s f)
     (missing : (q : TableKey) → ids_at s q ≢ Some (ids_of f)) (serial : k.serial ≡ last + 1) (slot : ℕ) (slot_is : slot ≡ k.slot) (free : slots.get tables k.slot ≡ None) (u : Updates grown new slot (Some y))
-    (ys : y.serial ≡ k.serial) (yt : y.table ≡ shaped f) (yf : y.shape.items ≡ f) (no_more : y.more.entries ≡ []) (no_less : y.less.entries ≡ [])
-    (v : UpdatesBy (λ a b. ids_eq a.items b.items) (λ z. ids_eq (ids_of f) z.items) room_ids named (Some k)) (o : ordered.UpdatesBy nat_cmp (nat_cmp k.serial) by_serial dated (Some k)) where
-  kept_grown : IsKept grown room_ids by_serial last
-  kept_grown = IsKept-grown tables grown by_ids room_ids by_serial by_serial last (ap (λ t. t.slots) growth) same_ids refl kept
+    (ys : y.value.serial ≡ k.serial) (yt : y.value.table ≡ shaped f) (yf : y.value.sizes.items ≡ map (λ c. c.1) f) (no_more : HasNoEdge y.value.more) (no_less : HasNoEdge y.value.less) (numbered : k.slot < 2 ^ 32 - 1)
+    (v : SetsIds (ids_of f) (Some k) by_ids named) (o : ordered.UpdatesBy nat_cmp (nat_cmp k.serial) by_serial dated (Some k)) where
+  kept_grown : IsKept grown by_ids by_serial last
+  kept_grown = IsKept-grown tables grown by_ids by_ids by_serial by_serial last (ap (λ t. t.slots) growth) refl (λ n. refl) kept
 
   seen : store_of grown last ≡ s
   seen = same_store tables grown last growth ∙ view
@@ -71,8 +80,8 @@ module _ {Y S : Type 0} (tables grown new : Slab (Slot Y)) (by_ids room_ids name
   sizes_there : HaveSizes (store_of grown last) f
   sizes_there = subst (λ z. HaveSizes z f) (sym seen) sizes
 
-  none_there : get_by (λ z. ids_eq (ids_of f) z.items) room_ids ≡ None
-  none_there = missing_from grown room_ids by_serial last s seen kept_grown (ids_of f) missing
+  none_there : key_of by_ids (ids_of f) ≡ None
+  none_there = missing_from grown by_ids by_serial last s seen kept_grown (ids_of f) missing
 
   free_there : slots.get grown k.slot ≡ None
   free_there = ap (λ t. slots.get t k.slot) growth ∙ free
@@ -81,18 +90,18 @@ module _ {Y S : Type 0} (tables grown new : Slab (Slot Y)) (by_ids room_ids name
   updates = subst (λ z. Updates grown new z (Some y)) slot_is u
 
   pub put_kept : IsKept new named dated k.serial
-  put_kept = made_kept grown new room_ids named by_serial dated last kept_grown f k y sorted small sizes_there none_there serial free_there updates ys yt yf no_more no_less (sound_shaped f small) v o
+  put_kept = made_kept grown new by_ids named by_serial dated last kept_grown f k y sorted small sizes_there none_there serial free_there updates ys yt yf no_more no_less numbered (sound_shaped f small) v o
 
   is_made : IsMade (store_of grown last) f k (store_of new k.serial)
   is_made = record {
-    made = made grown new room_ids named by_serial dated last kept_grown f k y sorted small sizes_there none_there serial free_there updates ys yt yf no_more no_less;
-    shapes = made_shapes grown new room_ids named by_serial dated last kept_grown f k y sorted small sizes_there none_there serial free_there updates ys yt yf no_more no_less;
+    made = made grown new by_ids named by_serial dated last kept_grown f k y sorted small sizes_there none_there serial free_there updates ys yt yf no_more no_less numbered;
+    shapes = made_shapes grown new by_ids named by_serial dated last kept_grown f k y sorted small sizes_there none_there serial free_there updates ys yt yf no_more no_less numbered;
     newest = (
       λ _. omega (arith, serial),
-      λ _. subst IsNone (sym (is_new grown new room_ids named by_serial dated last kept_grown f k y sorted small sizes_there none_there serial free_there updates ys yt yf no_more no_less)) refl,
+      λ _. subst IsNone (sym (is_new grown new by_ids named by_serial dated last kept_grown f k y sorted small sizes_there none_there serial free_there updates ys yt yf no_more no_less numbered)) refl,
     );
     last = largest last k.serial serial;
-    rows = made_rows grown new room_ids named by_serial dated last kept_grown f k y sorted small sizes_there none_there serial free_there updates ys yt yf no_more no_less;
+    rows = made_rows grown new by_ids named by_serial dated last kept_grown f k y sorted small sizes_there none_there serial free_there updates ys yt yf no_more no_less numbered;
   }
     where
       largest : (m n : ℕ) → n ≡ m + 1 → n ≡ max m n
@@ -106,7 +115,7 @@ module _ {Y S : Type 0} (tables grown new : Slab (Slot Y)) (by_ids room_ids name
   }
 
 -- a refusal: nothing is seen of what has grown
-pub is_refused : {Y S E : Type 0} (tables grown : Slab (Slot Y)) (by_ids room_ids : HashMap (Vec Id Y) TableKey S) (by_serial same_serial : BTreeMap ℕ TableKey) (last : ℕ) (s : Store) → store_of tables last ≡ s → IsKept grown room_ids same_serial last
+pub is_refused : {Y E : Type 0} (tables grown : Slab (Held Y)) (by_ids room_ids : BTreeMap (Vec Id Y) TableKey) (by_serial same_serial : BTreeMap ℕ TableKey) (last : ℕ) (s : Store) → store_of tables last ≡ s → IsKept grown room_ids same_serial last
     → grown ≡ record tables { capacity = grown.capacity } → (f : Shape) (e : E) → IsPut s f (Err e) (store_of grown last)
 is_refused tables grown by_ids room_ids by_serial same_serial last s view kept growth f e = record {
   ok = tt;
@@ -115,7 +124,7 @@ is_refused tables grown by_ids room_ids by_serial same_serial last s view kept g
 }
 
 -- nothing is done
-pub is_kept : {Y S E : Type 0} (tables : Slab (Slot Y)) (by_ids : HashMap (Vec Id Y) TableKey S) (by_serial : BTreeMap ℕ TableKey) (last : ℕ) (s : Store) → store_of tables last ≡ s → IsKept tables by_ids by_serial last
+pub is_kept : {Y E : Type 0} (tables : Slab (Held Y)) (by_ids : BTreeMap (Vec Id Y) TableKey) (by_serial : BTreeMap ℕ TableKey) (last : ℕ) (s : Store) → store_of tables last ≡ s → IsKept tables by_ids by_serial last
     → (f : Shape) (e : E) → IsPut s f (Err e) s
 is_kept tables by_ids by_serial last s view kept f e = record { ok = tt; err = refl; whole = stored tables by_ids by_serial last kept s view }
 
@@ -157,14 +166,14 @@ shape_found s f key is sizes e = by (table_at s key) refl
         let ids : ids_of (shape_of t) ≡ ids_of f = one_some _ _ (sym (ap (option_map ids_of) here) ∙ sym (ids_in_shape (table_at s key)) ∙ e) in
         ap Some (same_shape s key (shape_of t) f here (sized_shape s key (shape_of t) is here) sizes ids)
 
-pub is_found : {Y S E : Type 0} (tables : Slab (Slot Y)) (by_ids : HashMap (Vec Id Y) TableKey S) (by_serial : BTreeMap ℕ TableKey) (last : ℕ) (s : Store) → store_of tables last ≡ s → IsKept tables by_ids by_serial last
-    → (f : Shape) (key : TableKey) → HaveSizes s f → get_by (λ v. ids_eq (ids_of f) v.items) by_ids ≡ Some key → IsPut {E = E} s f (Ok key) s
+pub is_found : {Y E : Type 0} (tables : Slab (Held Y)) (by_ids : BTreeMap (Vec Id Y) TableKey) (by_serial : BTreeMap ℕ TableKey) (last : ℕ) (s : Store) → store_of tables last ≡ s → IsKept tables by_ids by_serial last
+    → (f : Shape) (key : TableKey) → HaveSizes s f → key_of by_ids (ids_of f) ≡ Some key → IsPut {E = E} s f (Ok key) s
 is_found tables by_ids by_serial last s view kept f key sizes e =
     let whole = stored tables by_ids by_serial last kept s view in
     record { ok = IsMade-found s f key whole.0 (shape_found s f key whole.0 sizes (subst (λ z. ids_at z key ≡ Some (ids_of f)) view ((kept.index (ids_of f) key).0 e))); err = tt; whole = whole }
 
-pub not_there : {Y S : Type 0} (tables : Slab (Slot Y)) (by_ids : HashMap (Vec Id Y) TableKey S) (by_serial : BTreeMap ℕ TableKey) (last : ℕ) (s : Store) → store_of tables last ≡ s → IsKept tables by_ids by_serial last
-    → (ids : List Id) → get_by (λ v. ids_eq ids v.items) by_ids ≡ None → (q : TableKey) → ids_at s q ≢ Some ids
+pub not_there : {Y : Type 0} (tables : Slab (Held Y)) (by_ids : BTreeMap (Vec Id Y) TableKey) (by_serial : BTreeMap ℕ TableKey) (last : ℕ) (s : Store) → store_of tables last ≡ s → IsKept tables by_ids by_serial last
+    → (ids : List Id) → key_of by_ids ids ≡ None → (q : TableKey) → ids_at s q ≢ Some ids
 not_there tables by_ids by_serial last s view kept ids none q h = none_is_some q (sym none ∙ (kept.index ids q).1 (subst (λ z. ids_at z q ≡ Some ids) (sym view) h))
 
 pub on_ok : {T E : Type 0} (r : Result T E) (P : Type 0) → IsOk r → OnOk r P → P

@@ -6,7 +6,6 @@ use Rattle.std.specs.FinMap.{is_sorted}
 use Rattle.std.specs.Ordering.{nat_cmp}
 use Rattle.slab.specs.Slab as slots
 use Rattle.slab.specs.Slab.{Slab, Updates}
-use Rattle.std.specs.HashMap.{HashMap, get_by, UpdatesBy}
 use Rattle.std.specs.BTreeMap as ordered
 use Rattle.std.specs.BTreeMap.{BTreeMap}
 use Rattle.std.specs.declared.vec.Vec.{Vec}
@@ -18,7 +17,7 @@ use Rattle.ecs_table.proofs.Rows.{row_past}
 use Rattle.table_store.specs.declared.store.Slot.{Slot}
 use Rattle.table_store.specs.Store.{Store, Shape, IsStore, table_at, ids_at, shape_at, shape_of, with_id, without_id, key_eq, released_at}
 use Rattle.table_store.specs.Rows.{row_at, row_of, rows_in, IsStored}
-use Rattle.table_store.specs.Kept.{store_of, standing, IsKept, IsSlot, IsIndex, IsOrder}
+use Rattle.table_store.specs.Kept.{Held, SetsIds, key_of, store_of, standing, IsKept, IsSlot, IsIndex, IsOrder}
 use Rattle.table_store.proofs.Slots.{table_at-released, table_at-slots, same_key, key_eq_true, listed_in, none_is_some, one_some}
 use Rattle.table_store.proofs.StoreLemmas.{stored}
 use Rattle.table_store.proofs.Changes.{rows_here}
@@ -36,14 +35,14 @@ no_table : (o : Option Archetype) → is_some o ≡ false → o ≡ None
 no_table None h = refl
 no_table (Some t) h = absurd (true≢false h)
 
-pub not_standing : {Y : Type 0} (tables : Slab (Slot Y)) (last : ℕ) (s : Store) → store_of tables last ≡ s → (k : TableKey) → is_some (standing (slots.get tables k.slot) k.serial) ≡ false → (q : TableKey) → table_at s q ≡ released_at s k q
+pub not_standing : {Y : Type 0} (tables : Slab (Held Y)) (last : ℕ) (s : Store) → store_of tables last ≡ s → (k : TableKey) → is_some (standing (slots.get tables k.slot) k.serial) ≡ false → (q : TableKey) → table_at s q ≡ released_at s k q
 not_standing tables last s view k h = gone s k (ap (λ v. table_at v k) (sym view) ∙ table_at-slots tables last k ∙ no_table (standing (slots.get tables k.slot) k.serial) h)
 
-serial_of : {Y : Type 0} (x : Slot Y) (serial : ℕ) → is_some (standing (Some x) serial) ≡ true → x.serial ≡ serial
-serial_of x serial h = by (serial == x.serial) refl h
+serial_of : {Y : Type 0} (x : Held Y) (serial : ℕ) → is_some (standing (Some x) serial) ≡ true → x.value.serial ≡ serial
+serial_of x serial h = by (serial == x.value.serial) refl h
   where
-    by : (b : Bool) → (serial == x.serial) ≡ b → is_some (if b then Some x.table else None) ≡ true → x.serial ≡ serial
-    by true e h = sym ((Decides-eqb serial x.serial).0 e)
+    by : (b : Bool) → (serial == x.value.serial) ≡ b → is_some (if b then Some x.value.table else None) ≡ true → x.value.serial ≡ serial
+    by true e h = sym ((Decides-eqb serial x.value.serial).0 e)
     by false e h = absurd (true≢false (sym h))
 
 some_ids : (o : Option Archetype) → IsSome o → IsSome (option_map (λ t. t.ids) o)
@@ -54,21 +53,21 @@ ids_some : (o : Option Archetype) (l : List Id) → option_map (λ t. t.ids) o �
 ids_some None l h = absurd (none_is_some l h)
 ids_some (Some t) l h = refl
 
-module _ {Y S : Type 0} (tables new : Slab (Slot Y)) (by_ids named : HashMap (Vec Id Y) TableKey S) (by_serial dated : BTreeMap ℕ TableKey) (last : ℕ) (kept : IsKept tables by_ids by_serial last)
-    (k : TableKey) (x : Slot Y) (is : slots.get tables k.slot ≡ Some x) (stands : is_some (standing (slots.get tables k.slot) k.serial) ≡ true) (u : Updates tables new k.slot None) where
+module _ {Y : Type 0} (tables new : Slab (Held Y)) (by_ids named : BTreeMap (Vec Id Y) TableKey) (by_serial dated : BTreeMap ℕ TableKey) (last : ℕ) (kept : IsKept tables by_ids by_serial last)
+    (k : TableKey) (x : Held Y) (is : slots.get tables k.slot ≡ Some x) (stands : is_some (standing (slots.get tables k.slot) k.serial) ≡ true) (u : Updates tables new k.slot None) where
   abbrev s : Store
   s = store_of tables last
 
   abbrev n : Store
   n = store_of new last
 
-  serial : x.serial ≡ k.serial
+  serial : x.value.serial ≡ k.serial
   serial = serial_of x k.serial (subst (λ o. is_some (standing o k.serial) ≡ true) is stands)
 
-  there : table_at s k ≡ Some x.table
-  there = table_at-slots tables last k ∙ ap (λ o. standing o k.serial) is ∙ ap (λ b. if b then Some x.table else None) ((Decides-eqb k.serial x.serial).1 (sym serial))
+  there : table_at s k ≡ Some x.value.table
+  there = table_at-slots tables last k ∙ ap (λ o. standing o k.serial) is ∙ ap (λ b. if b then Some x.value.table else None) ((Decides-eqb k.serial x.value.serial).1 (sym serial))
 
-  ids_there : ids_at s k ≡ Some x.table.ids
+  ids_there : ids_at s k ≡ Some x.value.table.ids
   ids_there = ap (option_map (λ t. t.ids)) there
 
   taken : (q : TableKey) → table_at n q ≡ released_at s k q
@@ -118,6 +117,7 @@ module _ {Y S : Type 0} (tables new : Slab (Slot Y)) (by_ids named : HashMap (Ve
     one_size = λ q r f g i a b e h. kept.store.one_size q r f g i a b (shape_stood q f e) (shape_stood r g h);
     serials = λ q h. kept.store.serials q (stood q h).1;
     given_once = λ q r h j. kept.store.given_once q r (stood q h).1 (stood r j).1;
+    numbered = λ q h. kept.store.numbered q (stood q h).1;
     listed = listed_in new last;
   }
 
@@ -126,25 +126,25 @@ module _ {Y S : Type 0} (tables new : Slab (Slot Y)) (by_ids named : HashMap (Ve
   slot_stays y h = record {
     sound = h.sound;
     shape = h.shape;
-    more = λ i q e. let m = h.more i q e in (m.0, of_shape q (λ g. (b : ℕ) × (g ≡ with_id y.shape.items i b)) m.1);
-    less = λ i q e. let m = h.less i q e in (m.0, of_shape q (λ g. g ≡ without_id y.shape.items i) m.1);
+    more = λ i q e. let m = h.more i q e in (m.0, of_shape q (λ g. (b : ℕ) × (g ≡ with_id (shape_of y.table) i b)) m.1);
+    less = λ i q e. let m = h.less i q e in (m.0, of_shape q (λ g. g ≡ without_id (shape_of y.table) i) m.1);
   }
 
-  other_slot : (o : Option (Slot Y)) → IfSome o (IsSlot s) → IfSome o (IsSlot n)
+  other_slot : (o : Option (Held Y)) → IfSome o (λ z. IsSlot s z.value) → IfSome o (λ z. IsSlot n z.value)
   other_slot None h = tt
-  other_slot (Some y) h = slot_stays y h
+  other_slot (Some y) h = slot_stays y.value h
 
-  slots_left : (m : ℕ) → IfSome (slots.get new m) (IsSlot n)
+  slots_left : (m : ℕ) → IfSome (slots.get new m) (λ z. IsSlot n z.value)
   slots_left m = by (m == k.slot) refl
     where
-      by : (b : Bool) → (m == k.slot) ≡ b → IfSome (slots.get new m) (IsSlot n)
-      by true e = subst (λ o. IfSome o (IsSlot n)) (sym (ap (slots.get new) ((Decides-eqb m k.slot).0 e) ∙ u.changed)) tt
-      by false e = subst (λ o. IfSome o (IsSlot n)) (sym (u.others m (λ h. true≢false (sym ((Decides-eqb m k.slot).1 h) ∙ e)))) (other_slot (slots.get tables m) (kept.slots m))
+      by : (b : Bool) → (m == k.slot) ≡ b → IfSome (slots.get new m) (λ z. IsSlot n z.value)
+      by true e = subst (λ o. IfSome o (λ z. IsSlot n z.value)) (sym (ap (slots.get new) ((Decides-eqb m k.slot).0 e) ∙ u.changed)) tt
+      by false e = subst (λ o. IfSome o (λ z. IsSlot n z.value)) (sym (u.others m (λ h. true≢false (sym ((Decides-eqb m k.slot).1 h) ∙ e)))) (other_slot (slots.get tables m) (kept.slots m))
 
-  index_left : (l : List Id) → l ≡ x.table.ids → UpdatesBy (λ a b. ids_eq a.items b.items) (λ v. ids_eq l v.items) by_ids named None → IsIndex n named
+  index_left : (l : List Id) → l ≡ x.value.table.ids → SetsIds l None by_ids named → IsIndex n named
   index_left l its v ids q = by (ids_eq l ids) refl (get_ids by_ids named l None v ids)
     where
-      by : (b : Bool) → ids_eq l ids ≡ b → get_by (λ z. ids_eq ids z.items) named ≡ cond b None (get_by (λ z. ids_eq ids z.items) by_ids) → (get_by (λ z. ids_eq ids z.items) named ≡ Some q) ↔ (ids_at n q ≡ Some ids)
+      by : (b : Bool) → ids_eq l ids ≡ b → key_of named ids ≡ cond b None (key_of by_ids ids) → (key_of named ids ≡ Some q) ↔ (ids_at n q ≡ Some ids)
       by true e g =
           let same = ids_same l ids e in (
             λ h. absurd (none_is_some q (sym g ∙ h)),
@@ -155,7 +155,7 @@ module _ {Y S : Type 0} (tables new : Slab (Slot Y)) (by_ids named : HashMap (Ve
       by false e g = (
         λ h.
             let was = (kept.index ids q).0 (sym g ∙ h) in
-            let apart : q ≢ k = λ same. true≢false (sym (ids_eq_true l ids (its ∙ one_some x.table.ids ids (sym ids_there ∙ ap (ids_at s) (sym same) ∙ was))) ∙ e) in
+            let apart : q ≢ k = λ same. true≢false (sym (ids_eq_true l ids (its ∙ one_some x.value.table.ids ids (sym ids_there ∙ ap (ids_at s) (sym same) ∙ was))) ∙ e) in
             ap (option_map (λ t. t.ids)) (seen q apart) ∙ was,
         λ h. g ∙ (kept.index ids q).1 (ids_stood q ids h).1,
       )
@@ -172,17 +172,17 @@ module _ {Y S : Type 0} (tables new : Slab (Slot Y)) (by_ids named : HashMap (Ve
     )
   ]
 
-  rows_left : length x.table.entities ≡ 0 → (p : Place) → row_at n p ≡ row_at s p
+  rows_left : length x.value.table.entities ≡ 0 → (p : Place) → row_at n p ≡ row_at s p
   unfolding row_at
   rows_left empty p = elim (cases p.table) [
-    | inl h ↦ ap (option_and_then (λ t. row_of t p.row)) h.1 ∙ sym (ap (option_and_then (λ t. row_of t p.row)) (ap (table_at s) h.0 ∙ there) ∙ row_past x.table p.row (omega (arith, empty)))
+    | inl h ↦ ap (option_and_then (λ t. row_of t p.row)) h.1 ∙ sym (ap (option_and_then (λ t. row_of t p.row)) (ap (table_at s) h.0 ∙ there) ∙ row_past x.value.table p.row (omega (arith, empty)))
     | inr h ↦ ap (option_and_then (λ t. row_of t p.row)) h.1
   ]
 
-  pub released_kept : (l : List Id) → l ≡ x.table.ids → UpdatesBy (λ a b. ids_eq a.items b.items) (λ v. ids_eq l v.items) by_ids named None → ordered.UpdatesBy nat_cmp (nat_cmp k.serial) by_serial dated None → IsKept new named dated last
+  pub released_kept : (l : List Id) → l ≡ x.value.table.ids → SetsIds l None by_ids named → ordered.UpdatesBy nat_cmp (nat_cmp k.serial) by_serial dated None → IsKept new named dated last
   released_kept l its v o = record { store = store_left; slots = slots_left; index = index_left l its v; order = order_left o }
 
-  pub released_stored : (l : List Id) → l ≡ x.table.ids → UpdatesBy (λ a b. ids_eq a.items b.items) (λ v. ids_eq l v.items) by_ids named None → ordered.UpdatesBy nat_cmp (nat_cmp k.serial) by_serial dated None → IsStored (store_of new last)
+  pub released_stored : (l : List Id) → l ≡ x.value.table.ids → SetsIds l None by_ids named → ordered.UpdatesBy nat_cmp (nat_cmp k.serial) by_serial dated None → IsStored (store_of new last)
   released_stored l its v o = stored new named dated last (released_kept l its v o) (store_of new last) refl
 
   module _ (z : Store) (view : store_of tables last ≡ z) where
@@ -190,4 +190,4 @@ module _ {Y S : Type 0} (tables new : Slab (Slot Y)) (by_ids named : HashMap (Ve
     released q = subst (λ w. table_at n q ≡ released_at w k q) view (taken q)
 
     pub released_rows : rows_in z k ≡ 0 → (p : Place) → row_at (store_of new last) p ≡ row_at z p
-    released_rows = subst (λ w. rows_in w k ≡ 0 → (p : Place) → row_at n p ≡ row_at w p) view (λ e. rows_left (sym (rows_here s k x.table there) ∙ e))
+    released_rows = subst (λ w. rows_in w k ≡ 0 → (p : Place) → row_at n p ≡ row_at w p) view (λ e. rows_left (sym (rows_here s k x.value.table there) ∙ e))

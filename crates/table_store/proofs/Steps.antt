@@ -1,17 +1,15 @@
 -- Edges between tables, and the shapes to which they lead.
 use Rattle.std.proofs.Common.{◌≡◌, ◌⊎◌, ℕ, ◌≤◌, ◌==◌, Bool, true, false, cond, List, Option, Some, None, IsSome, IsNone, IfSome, IsTrue, Ok, Err, is_some, option_map, slice_get, unwrap_or, if◌then◌else◌, nat_le, not, refl, sym, ap, subst, ◌∙◌, true≢false, inl, inr}
 use Rattle.std.proofs.lemmas.Bool.Decides.{Decides-eqb}
-use Rattle.std.specs.List.{list_all}
+use Rattle.std.specs.List.{list_all, zip}
 use Rattle.std.specs.FinMap.{is_sorted}
 use Rattle.std.specs.FinMap.Entries.{is_sorted-put, is_sorted-where_key, find-put}
 use Rattle.slab.specs.Slab as slots
 use Rattle.slab.specs.Slab.{Slab, Updates, with_value}
 use Rattle.slab.proofs.SlabLemmas.{Updates-with_value}
-use Rattle.std.specs.HashMap.{HashMap, get, get_by}
 use Rattle.std.specs.BTreeMap as ordered
 use Rattle.std.specs.BTreeMap.{BTreeMap}
 use Rattle.std.specs.Ordering.{nat_cmp}
-use Rattle.std.specs.Cmp.Lexicographic.{pointwise}
 use Rattle.std.proofs.Common.{T, ◌↔◌}
 use Rattle.std.specs.declared.vec.Vec.{Vec}
 use Rattle.ecs_id.specs.Id.{Id, id_eq, id_cmp, id_cmp_total, id_eq_itself}
@@ -19,7 +17,7 @@ use Rattle.ecs_id.specs.declared.TableKey.{TableKey}
 use Rattle.ecs_table.specs.Archetype.{Archetype, IsSound}
 use Rattle.table_store.specs.declared.store.Slot.{Slot}
 use Rattle.table_store.specs.Store.{Store, Shape, IsStore, HasSize, table_at, ids_at, shape_at, shape_of, shaped, key_eq, find_in, with_id, without_id}
-use Rattle.table_store.specs.Kept.{store_of, standing, stepped, edges_of, IsKept, IsSlot, IsMore, IsLess, IsPut, IsMade, IsWritten}
+use Rattle.table_store.specs.Kept.{Held, store_of, standing, stepped, edge_of, edges_of, key_of, IsKept, IsSlot, IsMore, IsLess, IsPut, IsMade, IsWritten}
 use Rattle.table_store.proofs.Slots.{key_eq_true, table_at-slots, same_seen, one_some}
 use Rattle.table_store.proofs.StoreLemmas.{stored}
 use Rattle.table_store.proofs.Shapes.{HaveSizes, get_put, get_filtered, small_at, size_of_stored}
@@ -47,34 +45,41 @@ if_each : {X : Type 0} {P : X → Type 0} (o : Option X) → ((x : X) → o ≡ 
 if_each None h = tt
 if_each (Some x) h = h x refl
 
-abbrev IndexAt : {Y S : Type 0} → Store → HashMap (Vec Id Y) TableKey S → List Id → TableKey → Type 0
-IndexAt s by_ids ids q = (get_by (λ v. pointwise id_eq ids v.items) by_ids ≡ Some q) ↔ (ids_at s q ≡ Some ids)
+abbrev IndexAt : {Y : Type 0} → Store → BTreeMap (Vec Id Y) TableKey → List Id → TableKey → Type 0
+IndexAt s by_ids ids q = (key_of by_ids ids ≡ Some q) ↔ (ids_at s q ≡ Some ids)
 
 abbrev OrderAt : Store → BTreeMap ℕ TableKey → ℕ → TableKey → Type 0
 OrderAt s by_serial n q = (ordered.get nat_cmp by_serial n ≡ Some q) ↔ (IsSome (table_at s q) × (q.serial ≡ n))
 
 -- the shape in the slot of a key
-module _ {Y S : Type 0} (tables : Slab (Slot Y)) (by_ids : HashMap (Vec Id Y) TableKey S) (by_serial : BTreeMap ℕ TableKey) (last : ℕ) (s : Store) (view : store_of tables last ≡ s) (kept : IsKept tables by_ids by_serial last)
-    (k : TableKey) (stands : IsSome (table_at s k)) (x : Slot Y) (is : slots.get tables k.slot ≡ Some x) where
+module _ {Y : Type 0} (tables : Slab (Held Y)) (by_ids : BTreeMap (Vec Id Y) TableKey) (by_serial : BTreeMap ℕ TableKey) (last : ℕ) (s : Store) (view : store_of tables last ≡ s) (kept : IsKept tables by_ids by_serial last)
+    (k : TableKey) (stands : IsSome (table_at s k)) (x : Held Y) (is : slots.get tables k.slot ≡ Some x) where
   abbrev f : Shape
-  f = x.shape.items
+  f = shape_of x.value.table
 
   store_is : IsStore s
   store_is = subst IsStore view kept.store
 
-  slot_is : IsSlot s x
-  slot_is = subst (λ z. IsSlot z x) view (subst (λ o. IfSome o (IsSlot (store_of tables last))) is (kept.slots k.slot))
+  slot_is : IsSlot s x.value
+  slot_is = subst (λ z. IsSlot z x.value) view (subst (λ o. IfSome o (λ z. IsSlot (store_of tables last) z.value)) is (kept.slots k.slot))
+
+  -- the ids and sizes of the slot
+  paired_there : zip x.value.table.ids x.value.sizes.items ≡ f
+  paired_there = slot_is.shape
+
+  pub paired_is : (d e : Slot Y) (ids : List Id) (sizes : List ℕ) → ids ≡ d.table.ids → d ≡ x.value → sizes ≡ e.sizes.items → e ≡ x.value → ◌≡◌ {A = Shape} (zip ids sizes) f
+  paired_is d e ids sizes p lent q too = (λ i. zip ((p ∙ ap (λ v. v.table.ids) lent) i) ((q ∙ ap (λ v. v.sizes.items) too) i)) ∙ paired_there
 
   pub shape_there : shape_at s k ≡ Some f
   shape_there =
       let t = there (table_at s k) stands in
-      ap (option_map shape_of) t.1 ∙ ap (λ u. Some (shape_of u)) (sym (table_here tables last s view k t.0 t.1 x is)) ∙ ap Some (sym slot_is.shape)
+      ap (option_map shape_of) t.1 ∙ ap (λ u. Some (shape_of u)) (sym (table_here tables last s view k t.0 t.1 x is))
 
   pub sorted_there : IsTrue (is_sorted id_cmp f)
   sorted_there = sized_shape s k f store_is shape_there
 
   -- an edge whose table stands leads to the shape that is asked for
-  edge_leads : (id : Id) (to : TableKey) (added : Option ℕ) → IfSome added (λ n. HasSize s id n) → get id_eq (edges_of x added) id ≡ Some to → (g : Shape) → shape_at s to ≡ Some g → g ≡ stepped f id added
+  edge_leads : (id : Id) (to : TableKey) (added : Option ℕ) → IfSome added (λ n. HasSize s id n) → edge_of (edges_of x.value added) id ≡ Some to → (g : Shape) → shape_at s to ≡ Some g → g ≡ stepped f id added
   edge_leads id to None sizes e g h = subst (λ o. IfSome o (λ g. g ≡ without_id f id)) h (slot_is.less id to e).1
   edge_leads id to (Some n) sizes e g h =
       let m = subst (λ o. IfSome o (λ g. (b : ℕ) × (g ≡ with_id f id b))) h (slot_is.more id to e).1 in
@@ -86,7 +91,7 @@ module _ {Y S : Type 0} (tables : Slab (Slot Y)) (by_ids : HashMap (Vec Id Y) Ta
   standing_there to h = subst (λ z. IsSome (table_at z to)) view (subst IsSome (sym (table_at-slots tables last to)) h)
 
   -- the edge is followed
-  pub is_followed : {E : Type 0} (id : Id) (to : TableKey) (added : Option ℕ) → IfSome added (λ n. HasSize s id n) → get id_eq (edges_of x added) id ≡ Some to → is_some (standing (slots.get tables to.slot) to.serial) ≡ true
+  pub is_followed : {E : Type 0} (id : Id) (to : TableKey) (added : Option ℕ) → IfSome added (λ n. HasSize s id n) → edge_of (edges_of x.value added) id ≡ Some to → is_some (standing (slots.get tables to.slot) to.serial) ≡ true
       → (g : Shape) → shape_at s k ≡ Some g → IsPut {E = E} s (stepped g id added) (Ok to) s
   is_followed id to added sizes e h g at =
       let t = there (table_at s to) (standing_there to h) in
@@ -113,42 +118,54 @@ module _ {Y S : Type 0} (tables : Slab (Slot Y)) (by_ids : HashMap (Vec Id Y) Ta
   ])
 
   -- an edge is written
-  module _ (y : Slot Y) (id : Id) (to : TableKey) (added : Option ℕ) (same : y ≡ record x { more = y.more; less = y.less }) (leads : shape_at s to ≡ Some (stepped f id added))
-      (more : (y.more ≡ x.more) ⊎ (IsSome added × IsWritten id to x.more y.more)) (less : (y.less ≡ x.less) ⊎ (IsNone added × IsWritten id to x.less y.less)) where
+  module _ (d v : Slot Y) (lent : d ≡ x.value) (id : Id) (to : TableKey) (added : Option ℕ) (kept_rest : v ≡ record d { more = v.more; less = v.less }) (leads : shape_at s to ≡ Some (stepped f id added))
+      (new_more : (v.more ≡ d.more) ⊎ (IsSome added × IsWritten id to d.more v.more)) (new_less : (v.less ≡ d.less) ⊎ (IsNone added × IsWritten id to d.less v.less)) where
+    abbrev y : Held Y
+    y = record x { value = v }
+
+    same : v ≡ record x.value { more = v.more; less = v.less }
+    same = kept_rest ∙ ap (λ (z : Slot Y). record z { more = v.more; less = v.less }) lent
+
+    more : (v.more ≡ x.value.more) ⊎ (IsSome added × IsWritten id to x.value.more v.more)
+    more = subst (λ (z : Slot Y). (v.more ≡ z.more) ⊎ (IsSome added × IsWritten id to z.more v.more)) lent new_more
+
+    less : (v.less ≡ x.value.less) ⊎ (IsNone added × IsWritten id to x.value.less v.less)
+    less = subst (λ (z : Slot Y). (v.less ≡ z.less) ⊎ (IsNone added × IsWritten id to z.less v.less)) lent new_less
+
     pub same_view : store_of (with_value tables k.slot y) last ≡ s
     same_view = same_seen tables last k.slot x y is (ap (λ z. z.serial) same) (ap (λ z. z.table) same) ∙ view
 
     serial_le : to.serial ≤ s.last
     serial_le = (store_is.serials to (stands_of_shape s to _ leads)).1
 
-    more_now : (i : Id) (q : TableKey) → get id_eq y.more i ≡ Some q → IsMore s f i q
+    more_now : (i : Id) (q : TableKey) → edge_of v.more i ≡ Some q → IsMore s f i q
     more_now i q e = elim more [
-      | inl a ↦ slot_is.more i q (subst (λ m. get id_eq m i ≡ Some q) a e)
+      | inl a ↦ slot_is.more i q (subst (λ m. edge_of m i ≡ Some q) a e)
       | inr a ↦ elim (a.1 i q e) [
         | inl b ↦ slot_is.more i q b
         | inr b ↦ subst (λ z. IsMore s f z q) (sym b.0) (subst (λ z. IsMore s f id z) (sym b.1) (edge_more s f id to added a.0 serial_le leads))
       ]
     ]
 
-    less_now : (i : Id) (q : TableKey) → get id_eq y.less i ≡ Some q → IsLess s f i q
+    less_now : (i : Id) (q : TableKey) → edge_of v.less i ≡ Some q → IsLess s f i q
     less_now i q e = elim less [
-      | inl a ↦ slot_is.less i q (subst (λ m. get id_eq m i ≡ Some q) a e)
+      | inl a ↦ slot_is.less i q (subst (λ m. edge_of m i ≡ Some q) a e)
       | inr a ↦ elim (a.1 i q e) [
         | inl b ↦ slot_is.less i q b
         | inr b ↦ subst (λ z. IsLess s f z q) (sym b.0) (subst (λ z. IsLess s f id z) (sym b.1) (edge_less s f id to added a.0 serial_le leads))
       ]
     ]
 
-    shape_same : y.shape.items ≡ f
-    shape_same = ap (λ z. z.shape.items) same
-
-    table_same : y.table ≡ x.table
+    table_same : v.table ≡ x.value.table
     table_same = ap (λ z. z.table) same
 
-    slot_now : IsSlot s y
+    shape_same : shape_of v.table ≡ f
+    shape_same = ap shape_of table_same
+
+    slot_now : IsSlot s v
     slot_now = record {
       sound = subst IsSound (sym table_same) slot_is.sound;
-      shape = shape_same ∙ slot_is.shape ∙ ap shape_of (sym table_same);
+      shape = (λ i. zip (table_same i).ids (same i).sizes.items) ∙ slot_is.shape ∙ sym shape_same;
       more = λ i q e. subst (λ z. IsMore s z i q) (sym shape_same) (more_now i q e);
       less = λ i q e. subst (λ z. IsLess s z i q) (sym shape_same) (less_now i q e);
     }
@@ -156,12 +173,12 @@ module _ {Y S : Type 0} (tables : Slab (Slot Y)) (by_ids : HashMap (Vec Id Y) Ta
     u : Updates tables (with_value tables k.slot y) k.slot (Some y)
     u = Updates-with_value tables k.slot y (subst IsSome (sym is) refl)
 
-    slots_now : (m : ℕ) → IfSome (slots.get (with_value tables k.slot y) m) (IsSlot s)
+    slots_now : (m : ℕ) → IfSome (slots.get (with_value tables k.slot y) m) (λ z. IsSlot s z.value)
     slots_now m = by (m == k.slot) refl
       where
-        by : (b : Bool) → (m == k.slot) ≡ b → IfSome (slots.get (with_value tables k.slot y) m) (IsSlot s)
-        by true e = subst (λ o. IfSome o (IsSlot s)) (sym (ap (slots.get (with_value tables k.slot y)) ((Decides-eqb m k.slot).0 e) ∙ u.changed)) slot_now
-        by false e = subst (λ o. IfSome o (IsSlot s)) (sym (u.others m (λ h. true≢false (sym ((Decides-eqb m k.slot).1 h) ∙ e)))) (subst (λ z. IfSome (slots.get tables m) (IsSlot z)) view (kept.slots m))
+        by : (b : Bool) → (m == k.slot) ≡ b → IfSome (slots.get (with_value tables k.slot y) m) (λ z. IsSlot s z.value)
+        by true e = subst (λ o. IfSome o (λ z. IsSlot s z.value)) (sym (ap (slots.get (with_value tables k.slot y)) ((Decides-eqb m k.slot).0 e) ∙ u.changed)) slot_now
+        by false e = subst (λ o. IfSome o (λ z. IsSlot s z.value)) (sym (u.others m (λ h. true≢false (sym ((Decides-eqb m k.slot).1 h) ∙ e)))) (subst (λ z. IfSome (slots.get tables m) (λ o. IsSlot z o.value)) view (kept.slots m))
 
     pub edge_kept : IsKept (with_value tables k.slot y) by_ids by_serial last
     edge_kept =
@@ -169,7 +186,7 @@ module _ {Y S : Type 0} (tables : Slab (Slot Y)) (by_ids : HashMap (Vec Id Y) Ta
         let old = view ∙ back in
         record {
           store = subst IsStore old kept.store;
-          slots = λ m. subst (λ z. IfSome (slots.get (with_value tables k.slot y) m) (IsSlot z)) back (slots_now m);
+          slots = λ m. subst (λ z. IfSome (slots.get (with_value tables k.slot y) m) (λ o. IsSlot z o.value)) back (slots_now m);
           index = λ ids q. subst (λ z. IndexAt z by_ids ids q) old (kept.index ids q);
           order = λ n q. subst (λ z. OrderAt z by_serial n q) old (kept.order n q);
         }

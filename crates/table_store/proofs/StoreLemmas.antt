@@ -3,22 +3,22 @@ use Rattle.std.proofs.Common.{◌≡◌, ℕ, ◌≤◌, ◌==◌, Bool, true, f
 use Rattle.std.proofs.lemmas.Bool.Decides.{Decides-eqb}
 use Rattle.slab.specs.Slab as slots
 use Rattle.slab.specs.Slab.{Slab, Updates}
-use Rattle.std.specs.HashMap.{get}
 use Rattle.std.specs.BTreeMap.{BTreeMap}
-use Rattle.ecs_id.specs.Id.{Id, id_eq}
+use Rattle.std.specs.List.{zip}
+use Rattle.ecs_id.specs.Id.{Id}
 use Rattle.ecs_id.specs.declared.TableKey.{TableKey}
 use Rattle.ecs_table.specs.Archetype.{Archetype, IsSound}
 use Rattle.table_store.specs.declared.store.Slot.{Slot}
 use Rattle.table_store.specs.Store.{Store, Shape, IsStore, table_at, ids_at, shape_at, shape_of, with_id, without_id, byte_size}
 use Rattle.table_store.specs.Rows.{Row, row_at, row_of, HasRows, IsStored, shape_of_cells}
-use Rattle.table_store.specs.Kept.{store_of, standing, IsSlot, IsMore, IsLess, IsKept, IsOrder}
+use Rattle.table_store.specs.Kept.{store_of, standing, Held, IsSlot, IsMore, IsLess, IsKept, IsOrder, edge_of}
 use Rattle.table_store.proofs.Tables.{HasCells, has_cells}
 use Rattle.table_store.proofs.Slots.{table_at-slots}
 
 abbrev pub ids_of : Shape → List Id
 ids_of f = map (λ c. c.0) f
 
-ids_of_shape : (t : Archetype) (ids : List Id) → ids_of (map (λ i. (i, byte_size t i)) ids) ≡ ids
+pub ids_of_shape : (t : Archetype) (ids : List Id) → ids_of (map (λ i. (i, byte_size t i)) ids) ≡ ids
 ids_of_shape t [] = refl
 ids_of_shape t (i ∷ ids) = ap (λ l. i ∷ l) (ids_of_shape t ids)
 
@@ -54,6 +54,7 @@ module _ (s n : Store) (shapes : (q : TableKey) → shape_at n q ≡ shape_at s 
     one_size = λ k q f g i a b p r. is.one_size k q f g i a b (sym (shapes k) ∙ p) (sym (shapes q) ∙ r);
     serials = λ k h. rw last (is.serials k (still k h));
     given_once = λ k q h j. is.given_once k q (still k h) (still q j);
+    numbered = λ k h. is.numbered k (still k h);
     listed = listed;
   }
 
@@ -64,13 +65,16 @@ module _ (s n : Store) (shapes : (q : TableKey) → shape_at n q ≡ shape_at s 
     less_at : (f g : Shape) → g ≡ f → (i : Id) (k : TableKey) → IsLess s f i k → IsLess n g i k
     less_at f g e i k h = subst (λ v. IsLess n v i k) (sym e) (subst (λ l. k.serial ≤ l) (sym last) h.0, subst (λ o. IfSome o (λ g. g ≡ without_id f i)) (sym (shapes k)) h.1)
 
-  pub IsSlot-shapes : {Y : Type 0} → n.last ≡ s.last → (x y : Slot Y) → IsSound y.table → y.shape.items ≡ shape_of y.table → y.shape.items ≡ x.shape.items → y.more ≡ x.more → y.less ≡ x.less → IsSlot s x → IsSlot n y
-  IsSlot-shapes last x y sound shape same more less is = record {
+  pub IsSlot-shapes : {Y : Type 0} → n.last ≡ s.last → (x y : Slot Y) → IsSound y.table → shape_of y.table ≡ shape_of x.table → y.sizes ≡ x.sizes → y.more ≡ x.more → y.less ≡ x.less → IsSlot s x → IsSlot n y
+  IsSlot-shapes last x y sound same sizes more less is = record {
     sound = sound;
-    shape = shape;
-    more = λ i k h. more_at last x.shape.items y.shape.items same i k (is.more i k (subst (λ m. get id_eq m i ≡ Some k) more h));
-    less = λ i k h. less_at last x.shape.items y.shape.items same i k (is.less i k (subst (λ m. get id_eq m i ≡ Some k) less h));
+    shape = (λ i. zip (ids i) (sizes i).items) ∙ is.shape ∙ sym same;
+    more = λ i k h. more_at last (shape_of x.table) (shape_of y.table) same i k (is.more i k (subst (λ m. edge_of m i ≡ Some k) more h));
+    less = λ i k h. less_at last (shape_of x.table) (shape_of y.table) same i k (is.less i k (subst (λ m. edge_of m i ≡ Some k) less h));
   }
+    where
+      ids : y.table.ids ≡ x.table.ids
+      ids = sym (ids_of_shape y.table y.table.ids) ∙ ap ids_of same ∙ ids_of_shape x.table x.table.ids
 
   pub IsOrder-shapes : (m : BTreeMap ℕ TableKey) → IsOrder s m → IsOrder n m
   IsOrder-shapes m is = λ a k. (λ h. let was = (is a k).0 h in (before k was.0, was.1), λ h. (is a k).1 (still k h.0, h.1))
@@ -84,15 +88,15 @@ rows_of_table (Some t) r h = by (row_of t r) (h r)
     by None e = tt
     by (Some v) e = ap Some e
 
-cells_standing : {Y : Type 0} (s : Store) (o : Option (Slot Y)) (serial : ℕ) → IfSome o (IsSlot s) → IfSome (standing o serial) HasCells
+cells_standing : {Y : Type 0} (s : Store) (o : Option (Held Y)) (serial : ℕ) → IfSome o (λ x. IsSlot s x.value) → IfSome (standing o serial) HasCells
 cells_standing s None serial h = tt
-cells_standing s (Some x) serial h = by (serial == x.serial)
+cells_standing s (Some x) serial h = by (serial == x.value.serial)
   where
-    by : (b : Bool) → IfSome (if b then Some x.table else None) HasCells
-    by true = has_cells x.table h.sound
+    by : (b : Bool) → IfSome (if b then Some x.value.table else None) HasCells
+    by true = has_cells x.value.table h.sound
     by false = tt
 
-module _ {Y S : Type 0} (tables : Slab (Slot Y)) (by_ids : _) (by_serial : _) (last : ℕ) (kept : IsKept {Y = Y} {S = S} tables by_ids by_serial last) where
+module _ {Y : Type 0} (tables : Slab (Held Y)) (by_ids : _) (by_serial : _) (last : ℕ) (kept : IsKept {Y = Y} tables by_ids by_serial last) where
   pub HasRows-kept : HasRows (store_of tables last)
   unfolding row_at
   HasRows-kept p = rows_of_table (table_at (store_of tables last) p.table) p.row (subst (λ o. IfSome o HasCells) (sym (table_at-slots tables last p.table)) (cells_standing (store_of tables last) _ p.table.serial (kept.slots p.table.slot)))
@@ -101,18 +105,18 @@ module _ {Y S : Type 0} (tables : Slab (Slot Y)) (by_ids : _) (by_serial : _) (l
   stored s view = subst IsStored view (kept.store, HasRows-kept)
 
 -- what is found in the slot of a key
-module _ {Y : Type 0} (tables : Slab (Slot Y)) (last : ℕ) (s : Store) (view : store_of tables last ≡ s) (k : TableKey) where
-  at_key : (o : Option (Slot Y)) → o ≡ slots.get tables k.slot → table_at s k ≡ standing o k.serial
+module _ {Y : Type 0} (tables : Slab (Held Y)) (last : ℕ) (s : Store) (view : store_of tables last ≡ s) (k : TableKey) where
+  at_key : (o : Option (Held Y)) → o ≡ slots.get tables k.slot → table_at s k ≡ standing o k.serial
   at_key o e = subst (λ v. table_at v k ≡ standing o k.serial) view (table_at-slots tables last k ∙ ap (λ x. standing x k.serial) (sym e))
 
-  pub found : (x : Slot Y) → Some x ≡ slots.get tables k.slot → (x.serial == k.serial) ≡ true → table_at s k ≡ Some x.table
-  found x e b = at_key (Some x) e ∙ ap (λ t. if t then Some x.table else None) ((Decides-eqb k.serial x.serial).1 (sym ((Decides-eqb x.serial k.serial).0 b)))
+  pub found : (x : Held Y) → Some x ≡ slots.get tables k.slot → (x.value.serial == k.serial) ≡ true → table_at s k ≡ Some x.value.table
+  found x e b = at_key (Some x) e ∙ ap (λ t. if t then Some x.value.table else None) ((Decides-eqb k.serial x.value.serial).1 (sym ((Decides-eqb x.value.serial k.serial).0 b)))
 
-  pub of_another : (x : Slot Y) → Some x ≡ slots.get tables k.slot → (x.serial == k.serial) ≡ false → table_at s k ≡ None
-  of_another x e b = at_key (Some x) e ∙ by (k.serial == x.serial) refl
+  pub of_another : (x : Held Y) → Some x ≡ slots.get tables k.slot → (x.value.serial == k.serial) ≡ false → table_at s k ≡ None
+  of_another x e b = at_key (Some x) e ∙ by (k.serial == x.value.serial) refl
     where
-      by : (t : Bool) → (k.serial == x.serial) ≡ t → (if t then Some x.table else None) ≡ None
-      by true h = absurd (true≢false (sym ((Decides-eqb x.serial k.serial).1 (sym ((Decides-eqb k.serial x.serial).0 h))) ∙ b))
+      by : (t : Bool) → (k.serial == x.value.serial) ≡ t → (if t then Some x.value.table else None) ≡ None
+      by true h = absurd (true≢false (sym ((Decides-eqb x.value.serial k.serial).1 (sym ((Decides-eqb k.serial x.value.serial).0 h))) ∙ b))
       by false h = refl
 
   pub vacant : None ≡ slots.get tables k.slot → table_at s k ≡ None

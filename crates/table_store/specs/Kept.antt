@@ -1,37 +1,52 @@
 -- The fields of a store: slots of tables, the key of the table of each list of ids, and the keys by serial.
-use Rattle.std.specs.Prelude.{◌≡◌, ◌↔◌, ℕ, suc, ◌≤◌, ◌==◌, if◌then◌else◌, List, [], ◌∷◌, Option, Some, None, IsSome, IsNone, IfSome, ◌⊎◌, IfOk, OnErr, Result, max, ◌<◌}
+use Rattle.std.specs.Prelude.{◌≡◌, ◌↔◌, ℕ, suc, ◌≤◌, ◌==◌, cond, if◌then◌else◌, List, [], ◌∷◌, map, Option, Some, None, IsSome, IsNone, IfSome, ◌⊎◌, IfOk, OnErr, Result, max, ◌<◌}
+use Rattle.std.specs.List.{zip}
 use Rattle.std.specs.Ordering.{nat_cmp}
 use Rattle.std.specs.declared.vec.Vec.{Vec}
-use Rattle.std.specs.HashMap.{HashMap, get, get_by}
-use Rattle.std.specs.declared.hash.BuildHasherDefault.{BuildHasherDefault}
-use Rattle.std.specs.declared.hash.FoldHasher.{FoldHasher}
+use Rattle.std.specs.declared.boxed.Box.{Box}
 use Rattle.std.specs.BTreeMap as ordered
 use Rattle.std.specs.BTreeMap.{BTreeMap}
-use Rattle.std.specs.Cmp.Lexicographic.{pointwise}
+use Rattle.std.specs.Cmp.Lexicographic.{slice_cmp}
 use Rattle.slab.specs.Slab as slots
 use Rattle.slab.specs.Slab.{Slab}
-use Rattle.ecs_id.specs.Id.{Id, id_eq}
+use Rattle.ecs_id.specs.Id.{Id, id_cmp, id_eq}
 use Rattle.ecs_id.specs.declared.TableKey.{TableKey}
 use Rattle.ecs_table.specs.Archetype.{Archetype, IsSound}
+use Rattle.table_store.specs.declared.edges.Edges.{Edges}
 use Rattle.table_store.specs.declared.store.Slot.{Slot}
 use Rattle.table_store.specs.Store.{Store, Shape, IsStore, ids_at, table_at, shape_at, shape_of, shaped, shaped_at, made_at, with_id, without_id}
 use Rattle.table_store.specs.Rows.{IsStored, row_at}
 use Rattle.ecs_id.specs.declared.Place.{Place}
 
+-- a slot in its box
+abbrev pub Held : Type 0 → Type 0
+Held Y = Box (Slot Y) Y
+
 -- the tables of slots, the first of which has this number
-abbrev pub tables_from : {Y : Type 0} → ℕ → List (Option (Slot Y)) → List (TableKey × Archetype)
+abbrev pub tables_from : {Y : Type 0} → ℕ → List (Option (Held Y)) → List (TableKey × Archetype)
 tables_from n [] = []
 tables_from n (None ∷ slots) = tables_from (suc n) slots
-tables_from n (Some x ∷ slots) = (record { slot = n; serial = x.serial }, x.table) ∷ tables_from (suc n) slots
+tables_from n (Some x ∷ slots) = (record { slot = n; serial = x.value.serial }, x.value.table) ∷ tables_from (suc n) slots
 
 -- what is seen of the fields
-abbrev pub store_of : {Y : Type 0} → Slab (Slot Y) → ℕ → Store
+abbrev pub store_of : {Y : Type 0} → Slab (Held Y) → ℕ → Store
 store_of tables last = record { tables = tables_from 0 tables.slots; last = last }
 
 -- the table in a slot, if it has this serial
-abbrev pub standing : {Y : Type 0} → Option (Slot Y) → ℕ → Option Archetype
+abbrev pub standing : {Y : Type 0} → Option (Held Y) → ℕ → Option Archetype
 standing None serial = None
-standing (Some x) serial = if serial == x.serial then Some x.table else None
+standing (Some x) serial = if serial == x.value.serial then Some x.value.table else None
+
+-- where the edge for an id leads: the first edge stands apart from the others
+abbrev pub edge_or : Option (Id × TableKey) → Id → Option TableKey → Option TableKey
+edge_or None i other = other
+edge_or (Some e) i other = cond (id_eq e.0 i) (Some e.1) other
+
+abbrev pub edge_of : {Y : Type 0} → Edges Y → Id → Option TableKey
+edge_of edges i = edge_or edges.first i (ordered.get id_cmp edges.others i)
+
+abbrev pub HasNoEdge : {Y : Type 0} → Edges Y → Type 0
+HasNoEdge edges = (i : Id) → edge_of edges i ≡ None
 
 -- under the key, if a table stands there yet, is one with the id more
 abbrev pub IsMore : Store → Shape → Id → TableKey → Type 0
@@ -44,23 +59,35 @@ IsLess s f i k = (k.serial ≤ s.last) × IfSome (shape_at s k) (λ g. g ≡ wit
 -- what each slot has
 pub record IsSlot {Y : Type 0} (s : Store) (x : Slot Y) : Type 0 where
   pub sound : IsSound x.table
-  pub shape : x.shape.items ≡ shape_of x.table
-  pub more : (i : Id) (k : TableKey) → get id_eq x.more i ≡ Some k → IsMore s x.shape.items i k
-  pub less : (i : Id) (k : TableKey) → get id_eq x.less i ≡ Some k → IsLess s x.shape.items i k
+  pub shape : zip x.table.ids x.sizes.items ≡ shape_of x.table
+  pub more : (i : Id) (k : TableKey) → edge_of x.more i ≡ Some k → IsMore s (shape_of x.table) i k
+  pub less : (i : Id) (k : TableKey) → edge_of x.less i ≡ Some k → IsLess s (shape_of x.table) i k
+
+-- the key that the index has for a list of ids
+abbrev pub key_of : {Y : Type 0} → BTreeMap (Vec Id Y) TableKey → List Id → Option TableKey
+key_of by_ids ids = ordered.get_by (λ v. slice_cmp id_cmp ids v.items) by_ids
 
 -- the index has a key for a list of ids exactly where the table under the key has these ids
-abbrev pub IsIndex : {Y S : Type 0} → Store → HashMap (Vec Id Y) TableKey S → Type 0
-IsIndex s by_ids = (ids : List Id) (k : TableKey) → (get_by (λ v. pointwise id_eq ids v.items) by_ids ≡ Some k) ↔ (ids_at s k ≡ Some ids)
+abbrev pub IsIndex : {Y : Type 0} → Store → BTreeMap (Vec Id Y) TableKey → Type 0
+IsIndex s by_ids = (ids : List Id) (k : TableKey) → (key_of by_ids ids ≡ Some k) ↔ (ids_at s k ≡ Some ids)
 
 -- the keys of the tables by their serials
 abbrev pub IsOrder : Store → BTreeMap ℕ TableKey → Type 0
 IsOrder s by_serial = (n : ℕ) (k : TableKey) → (ordered.get nat_cmp by_serial n ≡ Some k) ↔ (IsSome (table_at s k) × (k.serial ≡ n))
 
-pub record IsKept {Y S : Type 0} (tables : Slab (Slot Y)) (by_ids : HashMap (Vec Id Y) TableKey S) (by_serial : BTreeMap ℕ TableKey) (last : ℕ) : Type 0 where
+pub record IsKept {Y : Type 0} (tables : Slab (Held Y)) (by_ids : BTreeMap (Vec Id Y) TableKey) (by_serial : BTreeMap ℕ TableKey) (last : ℕ) : Type 0 where
   pub store : IsStore (store_of tables last)
-  pub slots : (n : ℕ) → IfSome (slots.get tables n) (IsSlot (store_of tables last))
+  pub slots : (n : ℕ) → IfSome (slots.get tables n) (λ x. IsSlot (store_of tables last) x.value)
   pub index : IsIndex (store_of tables last) by_ids
   pub order : IsOrder (store_of tables last) by_serial
+
+-- the index has another key for a list of ids, or none
+abbrev pub SetsIds : {Y : Type 0} → List Id → Option TableKey → BTreeMap (Vec Id Y) TableKey → BTreeMap (Vec Id Y) TableKey → Type 0
+SetsIds ids key old new = ordered.UpdatesBy (λ v w. slice_cmp id_cmp v.items w.items) (λ v. slice_cmp id_cmp ids v.items) old new key
+
+-- both find the same key for each serial
+abbrev pub FindAlike : BTreeMap ℕ TableKey → BTreeMap ℕ TableKey → Type 0
+FindAlike old new = (n : ℕ) → ordered.get nat_cmp new n ≡ ordered.get nat_cmp old n
 
 -- a table of this shape is found or made under the key
 pub record IsMade (s : Store) (f : Shape) (key : TableKey) (n : Store) : Type 0 where
@@ -82,10 +109,10 @@ stepped f i None = without_id f i
 stepped f i (Some n) = with_id f i n
 
 -- the edges of a slot to tables with one id more, or with one less
-abbrev pub edges_of : {Y : Type 0} → Slot Y → Option ℕ → HashMap Id TableKey (BuildHasherDefault FoldHasher)
+abbrev pub edges_of : {Y : Type 0} → Slot Y → Option ℕ → Edges Y
 edges_of x None = x.less
 edges_of x (Some n) = x.more
 
 -- the edges are those that were, or one of them is written
-abbrev pub IsWritten : {S : Type 0} → Id → TableKey → HashMap Id TableKey S → HashMap Id TableKey S → Type 0
-IsWritten id to old new = (i : Id) (k : TableKey) → get id_eq new i ≡ Some k → (get id_eq old i ≡ Some k) ⊎ ((i ≡ id) × (k ≡ to))
+abbrev pub IsWritten : {Y : Type 0} → Id → TableKey → Edges Y → Edges Y → Type 0
+IsWritten id to old new = (i : Id) (k : TableKey) → edge_of new i ≡ Some k → (edge_of old i ≡ Some k) ⊎ ((i ≡ id) × (k ≡ to))

@@ -1,4 +1,3 @@
 pub mod Store
 pub mod Rows
 pub mod Kept
-pub mod Tests

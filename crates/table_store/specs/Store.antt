@@ -1,5 +1,5 @@
 -- What a contract sees of a store: the table under each key.
-use Rattle.std.specs.Prelude.{◌≡◌, ℕ, ◌≤◌, ◌==◌, Bool, ◌&&◌, List, map, Option, Some, None, option_map, unwrap_or, if◌then◌else◌, IsTrue, IsSome, IfSome, nat_le, slice_get, not}
+use Rattle.std.specs.Prelude.{◌≡◌, ℕ, ◌-◌, ◌^◌, ◌<◌, ◌≤◌, ◌==◌, Bool, ◌&&◌, List, map, Option, Some, None, option_map, unwrap_or, if◌then◌else◌, IsTrue, IsSome, IfSome, nat_le, slice_get, not}
 use Rattle.std.specs.List.{find, filter, list_all}
 use Rattle.std.specs.FinMap.{put, is_sorted}
 use Rattle.std.specs.FinMap as finite
@@ -84,5 +84,7 @@ pub record IsStore (s : Store) : Type 0 where
   -- serials begin at 1, and each was given once
   pub serials : (k : TableKey) → IsSome (table_at s k) → (1 ≤ k.serial) × (k.serial ≤ s.last)
   pub given_once : (k q : TableKey) → IsSome (table_at s k) → IsSome (table_at s q) → k.serial ≡ q.serial → k ≡ q
+  -- slots are numbered from 0, and there are at most 4,294,967,295
+  pub numbered : (k : TableKey) → IsSome (table_at s k) → k.slot < 2 ^ 32 - 1
   -- each table that is listed is found under its key
   pub listed : (j : ℕ) → IfSome (slice_get s.tables j) (λ e. table_at s e.0 ≡ Some e.1)

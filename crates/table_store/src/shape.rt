@@ -1,7 +1,7 @@
 //! The shapes of tables: their ids in order, each with how many bytes its values have.
 ghost use Rattle.std.specs.Prelude.{◌≡◌, ◌++◌, ◌∷◌, IfOk, IsTrue, map};
 ghost use Rattle.std.specs.FinMap.{is_sorted};
-ghost use Rattle.std.specs.List.{filter};
+ghost use Rattle.std.specs.List.{filter, zip};
 ghost use Rattle.std.specs.Ordering.{is_lt};
 ghost use Rattle.ecs_id.specs.Id.{id_cmp};
 ghost use Rattle.table_store.specs.Kept.{stepped};
@@ -10,20 +10,36 @@ ghost use Rattle.table_store.specs.Store.{with_id, without_id};
 use ecs_id::Id;
 use std::alloc::{AllocError, Allocator};
 
-/// The shape with one id more, where a size of it is given, or with one less.
+/// The shape with one id more, where a size of it is given, or with one less. It stands as its ids, and their sizes.
 pub fn next_shape<A: Allocator + Copy>(
     alloc: A,
-    shape: &[(Id, usize)],
+    ids: &[Id],
+    sizes: &[usize],
     id: Id,
     added: Option<usize>,
 ) -> Result<Vec<(Id, usize), A>, AllocError>
-    requires { IsTrue (is_sorted id_cmp shape.now) }
-    ensures { IfOk result (λ cells. cells.items ≡ stepped shape.now id added) }
+    requires { IsTrue (is_sorted id_cmp (zip ids.now sizes.now)) }
+    ensures { IfOk result (λ cells. cells.items ≡ stepped (zip ids.now sizes.now) id added) }
 {
+    let shape = paired(alloc, ids, sizes)?;
     match added {
-        Some(size) => shape_with(alloc, shape, id, size),
-        None => shape_without(alloc, shape, id),
+        Some(size) => shape_with(alloc, shape.as_slice(), id, size),
+        None => shape_without(alloc, shape.as_slice(), id),
     }
+}
+
+// Each id with its size.
+fn paired<A: Allocator>(
+    alloc: A,
+    ids: &[Id],
+    sizes: &[usize],
+) -> Result<Vec<(Id, usize), A>, AllocError>
+    ensures { IfOk result (λ cells. cells.items ≡ zip ids.now sizes.now) }
+{
+    ids.iter()
+        .copied()
+        .zip(sizes.iter().copied())
+        .collect(alloc)
 }
 
 // The shape with one id more.

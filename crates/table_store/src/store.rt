@@ -1,58 +1,60 @@
 //! The store of tables.
-ghost use Rattle.std.specs.Prelude.{◌≡◌, ◌↔◌, ◌<◌, ◌≤◌, ◌-◌, ◌+◌, ◌⊎◌, ◌≢◌, MatchResult, ℕ, [], is_some, IfOk, OnOk, OnErr, IsOk, IsNone, IsSome, IfSome, MatchOption, None, Some, map, max, min, length, option_map, slice_get, IsTrue};
+ghost use Rattle.std.specs.Prelude.{◌≡◌, ◌↔◌, ◌<◌, ◌≤◌, ◌-◌, ◌+◌, ◌^◌, ◌⊎◌, ◌≢◌, MatchResult, ℕ, [], is_some, IfOk, OnOk, OnErr, IsOk, IsNone, IsSome, IfSome, MatchOption, None, Some, map, max, min, length, option_map, slice_get, IsTrue};
 ghost use Rattle.std.specs.FinMap.{is_sorted};
 ghost use Rattle.std.specs.Ordering.{nat_cmp};
 ghost use Rattle.std.specs.List.{Contains};
 ghost use Rattle.std.specs.List.Sorted.{IsStrictlySortedBy};
 ghost use Rattle.slab.specs.Slab.{HasRoomFor, get as slot_at};
-ghost use Rattle.indexmap.specs.IndexMap.{IsUnchanged, get, spare};
 ghost use Rattle.ecs_id.specs.Id.{Id, id_cmp, id_eq};
 ghost use Rattle.ecs_id.specs.declared.Place.{Place};
 ghost use Rattle.ecs_id.specs.declared.TableKey.{TableKey};
 ghost use Rattle.ecs_table.specs.Archetype.{Archetype, with_row, with_value, without_row};
 ghost use Rattle.table_store.specs.Store.{HasSize, Shape, changed_at, find_in, ids_at, made_at, moved_at, released_at, room_at, shape_at, shaped, shaped_at, table_at, with_id, without_id};
-ghost use Rattle.table_store.specs.Kept.{IsPut, IsWritten, edges_of, standing, stepped};
+ghost use Rattle.table_store.specs.Kept.{FindAlike, HasNoEdge, SetsIds, IsPut, IsWritten, edge_of, edges_of, standing, stepped};
 ghost use Rattle.std.specs.BTreeMap as ordered;
 ghost use Rattle.table_store.specs.Rows.{IsStored, Row, filler, moved_rows, removed_rows, row_at, rows_in, with_cell, with_row_at, zero_cells};
 
+use crate::edges::Edges;
 use crate::shape::{ids_of, next_shape, sizes_of};
 use ecs_id::{EntityId, Id, TableKey};
 use ecs_table::Table;
-use indexmap::IndexMap;
 use raw_column::Memory;
 use slab::Slab;
 use std::alloc::{AllocError, Allocator, Global};
 use std::collections::BTreeMap;
 use std::collections::btree_map::Range;
-use std::hash::{BuildHasherDefault, FoldHasher};
 use std::marker::Model;
 use std::ops::Bound;
-
-type ByIds<A> = IndexMap<Vec<Id, A>, TableKey, BuildHasherDefault<FoldHasher>, A>;
-
-type Edges<A> = IndexMap<Id, TableKey, BuildHasherDefault<FoldHasher>, A>;
 
 /// A table with its serial, and the edges that lead from it.
 #[derive(Drop)]
 struct Slot<A: Allocator> {
     serial: u128,
     table: Table<A>,
-    // the ids of the table, each with how many bytes its values have
-    shape: Vec<(Id, usize), A>,
+    // how many bytes a value has, beside the ids of the table
+    sizes: Vec<usize, A>,
     // for an id, the table that has it more
     more: Edges<A>,
     // for an id, the table that has it less
     less: Edges<A>,
 }
 
+// In boxes, so that one can be taken out for a moment: two slots of one slab can't be borrowed at once.
+type Slots<A> = Slab<Box<Slot<A>, A>, A>;
+
+type ByIds<A> = BTreeMap<Vec<Id, A>, TableKey, A>;
+
+type BySerial<A> = BTreeMap<u128, TableKey, A>;
+
 /// The tables of a world, one for each set of ids.
 #[derive(Drop)]
 pub struct TableStore<A: Allocator = Global> {
-    tables: Slab<Slot<A>, A>,
+    tables: Slots<A>,
     by_ids: ByIds<A>,
-    by_serial: BTreeMap<u128, TableKey, A>,
+    by_serial: BySerial<A>,
     // the greatest serial that was given
     last: u128,
+    alloc: A,
 }
 
 impl<A: Allocator> Model for TableStore<A> {
@@ -75,15 +77,16 @@ impl<A: Allocator + Copy> TableStore<A> {
     {
         TableStore {
             tables: Slab::new(alloc),
-            by_ids: IndexMap::new(alloc),
+            by_ids: BTreeMap::new(alloc),
             by_serial: BTreeMap::new(alloc),
             last: 0,
+            alloc,
         }
     }
 
     /// The table of these ids, which is made where there is none. Beside each id stands how many bytes its value has, 0 to 64: 0 for a tag.
     ///
-    /// A serial is never given twice: past the greatest `u128`, and past 4,294,967,296 tables that stand, it answers `Memory`.
+    /// A serial is never given twice: past the greatest `u128`, and past 4,294,967,295 slots, it answers `Memory`.
     pub fn find_or_make(&mut self, cells: &[(Id, usize)]) -> Result<TableKey, Memory>
         requires ascend { IsTrue (is_sorted id_cmp cells.now) }
         requires small { (j : ℕ) → IfSome (slice_get cells.now j) (λ c. c.1 ≤ 64) }
@@ -107,7 +110,7 @@ impl<A: Allocator + Copy> TableStore<A> {
         requires sizes { (j : ℕ) → IfSome (slice_get cells.now j) (λ c. HasSize self.old c.0 c.1) }
         ensures { IsPut self.old cells.now result self.new }
     {
-        let Ok(ids) = ids_of(*self.by_ids.allocator(), cells) else {
+        let Ok(ids) = ids_of(self.alloc, cells) else {
             return Err(Memory);
         };
         if let Some(key) = self.by_ids.get(ids.as_slice()) {
@@ -130,17 +133,17 @@ impl<A: Allocator + Copy> TableStore<A> {
             return Err(Memory);
         };
         let Ok(slot) = prepare(
+            self.alloc,
             &mut self.tables,
             &mut self.by_ids,
             &mut self.by_serial,
             key,
-            ids.as_slice(),
+            ids,
             cells,
         ) else {
             return Err(Memory);
         };
         self.tables.insert_reserved(slot);
-        self.by_ids.insert(ids, key).unwrap();
         self.last = key.serial;
         Ok(key)
     }
@@ -186,8 +189,13 @@ impl<A: Allocator + Copy> TableStore<A> {
         if let Some(to) = followed(&self.tables, slot, id, added) {
             return Ok(to);
         }
-        let Ok(cells) = next_shape(*self.by_ids.allocator(), slot.shape.as_slice(), id, added)
-        else {
+        let Ok(cells) = next_shape(
+            self.alloc,
+            slot.table.ids(),
+            slot.sizes.as_slice(),
+            id,
+            added,
+        ) else {
             return Err(Memory);
         };
         match self.find_or_put(cells.as_slice()) {
@@ -236,16 +244,17 @@ impl<A: Allocator + Copy> TableStore<A> {
 }
 
 // The key that the next table gets, if there is a serial and a slot for one more.
-fn next_key<A: Allocator>(tables: &Slab<Slot<A>, A>, last: u128) -> Result<TableKey, Memory>
+fn next_key<A: Allocator>(tables: &Slots<A>, last: u128) -> Result<TableKey, Memory>
     ensures serial { IfOk result (λ key. key.serial ≡ last + 1) }
     ensures slot { IfOk result (λ key. key.slot ≡ tables.now.vacant_key) }
+    ensures numbered { IfOk result (λ key. key.slot < 2 ^ 32 - 1) }
     ensures vacant { IfOk result (λ key. slot_at tables.now key.slot ≡ None) }
 {
     if last == u128::MAX {
         return Err(Memory);
     }
     let slot = tables.vacant_key();
-    if slot > u32::MAX as usize {
+    if slot >= u32::MAX as usize {
         return Err(Memory);
     }
     Ok(TableKey {
@@ -254,34 +263,33 @@ fn next_key<A: Allocator>(tables: &Slab<Slot<A>, A>, last: u128) -> Result<Table
     })
 }
 
-// All that is to grow for a new table, and its slot. Its key stands under its serial then.
+// All that is to grow for a new table, and its slot. Its key stands in both indexes then.
 fn prepare<A: Allocator + Copy>(
-    tables: &mut Slab<Slot<A>, A>,
+    alloc: A,
+    tables: &mut Slots<A>,
     by_ids: &mut ByIds<A>,
-    by_serial: &mut BTreeMap<u128, TableKey, A>,
+    by_serial: &mut BySerial<A>,
     key: TableKey,
-    ids: &[Id],
+    ids: Vec<Id, A>,
     cells: &[(Id, usize)],
-) -> Result<Slot<A>, Memory>
-    requires ids { ids.now ≡ map (λ c. c.0) cells.now }
+) -> Result<Box<Slot<A>, A>, Memory>
+    requires ids { ids.items ≡ map (λ c. c.0) cells.now }
     requires small { (j : ℕ) → IfSome (slice_get cells.now j) (λ c. c.1 ≤ 64) }
+    requires fresh { ordered.get nat_cmp by_serial.old key.serial ≡ None }
     ensures tables { tables.new ≡ record tables.old { capacity = tables.new.capacity } }
-    ensures by_ids { IsUnchanged by_ids.old by_ids.new }
-    ensures by_serial { MatchResult result (λ _. ordered.Updates nat_cmp by_serial.old by_serial.new key.serial (Some key)) (λ _. ordered.IsUnchanged by_serial.old by_serial.new) }
+    ensures by_ids { MatchResult result (λ _. SetsIds ids.items (Some key) by_ids.old by_ids.new) (λ _. ordered.IsUnchanged by_ids.old by_ids.new) }
+    ensures by_serial { MatchResult result (λ _. ordered.Updates nat_cmp by_serial.old by_serial.new key.serial (Some key)) (λ _. FindAlike by_serial.old by_serial.new) }
     ensures slot { OnOk result (HasRoomFor tables.new 1) }
-    ensures entry { OnOk result (0 < spare by_ids.new) }
-    ensures serial { IfOk result (λ slot. slot.serial ≡ key.serial) }
-    ensures table { IfOk result (λ slot. slot.table ≡ shaped cells.now) }
-    ensures shape { IfOk result (λ slot. slot.shape.items ≡ cells.now) }
-    ensures more { IfOk result (λ slot. slot.more.entries ≡ []) }
-    ensures less { IfOk result (λ slot. slot.less.entries ≡ []) }
+    ensures serial { IfOk result (λ slot. slot.value.serial ≡ key.serial) }
+    ensures table { IfOk result (λ slot. slot.value.table ≡ shaped cells.now) }
+    ensures sizes { IfOk result (λ slot. slot.value.sizes.items ≡ map (λ c. c.1) cells.now) }
+    ensures more { IfOk result (λ slot. HasNoEdge slot.value.more) }
+    ensures less { IfOk result (λ slot. HasNoEdge slot.value.less) }
 {
-    let slot = new_slot(*by_ids.allocator(), key.serial, ids, cells)?;
-    make_room(tables, by_ids)?;
-    match by_serial.insert(key.serial, key) {
-        Ok(_) => Ok(slot),
-        Err(_) => Err(Memory),
-    }
+    let slot = new_slot(alloc, key.serial, ids.as_slice(), cells)?;
+    tables.reserve(1)?;
+    enter(by_ids, by_serial, ids, key)?;
+    Ok(slot)
 }
 
 // A slot with an empty table.
@@ -290,43 +298,53 @@ fn new_slot<A: Allocator + Copy>(
     serial: u128,
     ids: &[Id],
     cells: &[(Id, usize)],
-) -> Result<Slot<A>, Memory>
+) -> Result<Box<Slot<A>, A>, Memory>
     requires ids { ids.now ≡ map (λ c. c.0) cells.now }
     requires small { (j : ℕ) → IfSome (slice_get cells.now j) (λ c. c.1 ≤ 64) }
-    ensures serial { IfOk result (λ slot. slot.serial ≡ serial) }
-    ensures table { IfOk result (λ slot. slot.table ≡ shaped cells.now) }
-    ensures shape { IfOk result (λ slot. slot.shape.items ≡ cells.now) }
-    ensures more { IfOk result (λ slot. slot.more.entries ≡ []) }
-    ensures less { IfOk result (λ slot. slot.less.entries ≡ []) }
+    ensures serial { IfOk result (λ slot. slot.value.serial ≡ serial) }
+    ensures table { IfOk result (λ slot. slot.value.table ≡ shaped cells.now) }
+    ensures sizes { IfOk result (λ slot. slot.value.sizes.items ≡ map (λ c. c.1) cells.now) }
+    ensures more { IfOk result (λ slot. HasNoEdge slot.value.more) }
+    ensures less { IfOk result (λ slot. HasNoEdge slot.value.less) }
 {
     let sizes = sizes_of(alloc, cells)?;
     let table = Table::new(alloc, ids, sizes.as_slice())?;
-    let shape = Vec::from_slice(alloc, cells)?;
-    Ok(Slot {
+    let slot = Slot {
         serial,
         table,
-        shape,
-        more: IndexMap::new(alloc),
-        less: IndexMap::new(alloc),
-    })
+        sizes,
+        more: Edges::new(alloc),
+        less: Edges::new(alloc),
+    };
+    match Box::new(alloc, slot) {
+        Ok(slot) => Ok(slot),
+        Err(_) => Err(Memory),
+    }
 }
 
-// Room for one more table.
-fn make_room<A: Allocator + Copy>(
-    tables: &mut Slab<Slot<A>, A>,
+// Enters a key into both indexes, or into neither.
+fn enter<A: Allocator + Copy>(
     by_ids: &mut ByIds<A>,
-) -> Result<(), AllocError>
-    ensures tables { tables.new ≡ record tables.old { capacity = tables.new.capacity } }
-    ensures by_ids { IsUnchanged by_ids.old by_ids.new }
-    ensures slot { OnOk result (HasRoomFor tables.new 1) }
-    ensures entry { OnOk result (0 < spare by_ids.new) }
+    by_serial: &mut BySerial<A>,
+    ids: Vec<Id, A>,
+    key: TableKey,
+) -> Result<(), Memory>
+    requires { ordered.get nat_cmp by_serial.old key.serial ≡ None }
+    ensures by_ids { MatchResult result (λ _. SetsIds ids.items (Some key) by_ids.old by_ids.new) (λ _. ordered.IsUnchanged by_ids.old by_ids.new) }
+    ensures by_serial { MatchResult result (λ _. ordered.Updates nat_cmp by_serial.old by_serial.new key.serial (Some key)) (λ _. FindAlike by_serial.old by_serial.new) }
 {
-    tables.reserve(1)?;
-    by_ids.reserve(1)
+    if by_serial.insert(key.serial, key).is_err() {
+        return Err(Memory);
+    }
+    if by_ids.insert(ids, key).is_err() {
+        by_serial.remove(&key.serial);
+        return Err(Memory);
+    }
+    Ok(())
 }
 
 // Whether a table stands under the key.
-fn stands<A: Allocator>(tables: &Slab<Slot<A>, A>, key: TableKey) -> bool
+fn stands<A: Allocator>(tables: &Slots<A>, key: TableKey) -> bool
     ensures { result ≡ is_some (standing (slot_at tables.now key.slot) key.serial) }
 {
     match tables.get(key.slot as usize) {
@@ -337,41 +355,42 @@ fn stands<A: Allocator>(tables: &Slab<Slot<A>, A>, key: TableKey) -> bool
 
 // Where the edge for an id leads, if there is one and the table stands.
 fn followed<A: Allocator>(
-    tables: &Slab<Slot<A>, A>,
+    tables: &Slots<A>,
     slot: &Slot<A>,
     id: Id,
     added: Option<usize>,
 ) -> Option<TableKey>
-    ensures edge { IfSome result (λ to. get id_eq (edges_of slot.now added) id ≡ Some to) }
+    ensures edge { IfSome result (λ to. edge_of (edges_of slot.now added) id ≡ Some to) }
     ensures stands { IfSome result (λ to. IsSome (standing (slot_at tables.now to.slot) to.serial)) }
 {
     let edges = match added {
         Some(_) => &slot.more,
         None => &slot.less,
     };
-    let to = *edges.get(&id)?;
+    let to = edges.get(id)?;
     if stands(tables, to) { Some(to) } else { None }
 }
 
 // Writes an edge, if there is memory for it.
-fn insert_edge<A: Allocator + Copy>(edges: &mut Edges<A>, id: Id, to: TableKey)
-    ensures { IsWritten id to edges.old edges.new }
-{
-    let _ = edges.insert(id, to);
-}
-
 fn write_edge<A: Allocator + Copy>(slot: &mut Slot<A>, id: Id, added: Option<usize>, to: TableKey)
     ensures slot { slot.new ≡ record slot.old { more = slot.new.more; less = slot.new.less } }
     ensures more { (slot.new.more ≡ slot.old.more) ⊎ (IsSome added × IsWritten id to slot.old.more slot.new.more) }
     ensures less { (slot.new.less ≡ slot.old.less) ⊎ (IsNone added × IsWritten id to slot.old.less slot.new.less) }
 {
     match added {
-        Some(_) => insert_edge(&mut slot.more, id, to),
-        None => insert_edge(&mut slot.less, id, to),
+        Some(_) => slot.more.keep(id, to),
+        None => slot.less.keep(id, to),
     }
 }
 
 impl<A: Allocator> TableStore<A> {
+    /// The greatest serial that a table was given, 0 before the first.
+    pub fn last(&self) -> u128
+        ensures { result ≡ self.now.last }
+    {
+        self.last
+    }
+
     /// The table under a key, None once it was released.
     pub fn get(&self, key: TableKey) -> Option<&Table<A>>
         ensures table { MatchOption result (table_at self.now key ≡ None) (λ t. table_at self.now key ≡ Some t.now) }
@@ -455,7 +474,7 @@ impl<A: Allocator> TableStore<A> {
         ensures last { self.new.last ≡ self.old.last }
         ensures whole { IsStored self.new }
     {
-        // Out of its slot and back: two tables of one slab can't be borrowed at once.
+        // Out of its place and back: two slots of one slab can't be borrowed at once.
         let mut source = self.tables.remove(from.slot as usize);
         let target = &mut self.tables[to.slot as usize].table;
         let moved = source.table.move_to(row, target);
@@ -486,7 +505,7 @@ impl<A: Allocator> TableStore<A> {
             return;
         }
         let slot = self.tables.remove(key.slot as usize);
-        self.by_ids.swap_remove(slot.table.ids());
+        self.by_ids.remove(slot.table.ids());
         self.by_serial.remove(&key.serial);
     }
 }

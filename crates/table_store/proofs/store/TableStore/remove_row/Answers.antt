@@ -3,7 +3,7 @@ use Rattle.ecs_table.specs.Archetype.{Archetype, IsSound, without_row}
 use Rattle.ecs_table.proofs.Soundness.{sound_without_row}
 use Rattle.ecs_table.proofs.Rows.{shape_of_removed}
 use Rattle.table_store.specs.Store.{table_at}
-use Rattle.table_store.proofs.Changes.{contains, with_rows, table_here, written, written_row, written_shapes, written_kept, written_stored}
+use Rattle.table_store.proofs.Changes.{contains, with_rows, lent_here, written, written_row, written_shapes, written_kept, written_stored}
 use Rattle.table_store.proofs.RowCalls.{filled_is, removed_is, sound_here}
 use Rattle.table_store.proofs.store.TableStore.remove_row.Goals as goal
 
@@ -12,30 +12,30 @@ index_mut-requires g c = let t = with_rows (table_at c.args.self.now c.args.key)
 
 pub remove_row-requires : goal.remove_row-requires
 remove_row-requires g c = let t = with_rows (table_at c.args.self.now c.args.key) c.args.row c.requires.there in
-    subst (λ (v : Archetype). c.args.row < length v.entities) (sym (table_here c.self.inside.tables c.self.inside.last c.args.self.now c.self.view_is c.args.key t.0 t.1 c.index_mut.result.now c.index_mut.ensures.value)) t.2
+    subst (λ (v : Archetype). c.args.row < length v.entities) (sym (lent_here c.self.inside.tables c.self.inside.last c.args.self.now c.self.view_is c.args.key t.0 t.1 c.index_mut.result.now c.index_mut.ensures.value c.deref_mut.result.now c.deref_mut.ensures.value)) t.2
 
 pub invariant_of-self : goal.invariant_of-self
 invariant_of-self g c = let t = with_rows (table_at c.args.self.now c.args.key) c.args.row c.requires.there in
     let sound = sound_here c.self.inside.tables c.self.inside.last c.args.self.now c.self.view_is c.args.key t.0 t.1 c.index_mut.result.now c.index_mut.ensures.value c.self.inside.by_ids c.self.inside.by_serial c.self.invariant in
-    written_kept c.self.inside.tables c.self.inside.last c.args.self.now c.self.view_is c.args.key t.0 t.1 c.index_mut.result.now c.index_mut.ensures.value c.remove_row.new.self (λ v. without_row v c.args.row) c.remove_row.ensures.row c.self.inside.by_ids c.self.inside.by_serial c.self.invariant (shape_of_removed t.0 c.args.row) (sound_without_row t.0 c.args.row t.2 sound)
+    written_kept c.self.inside.tables c.self.inside.last c.args.self.now c.self.view_is c.args.key t.0 t.1 c.index_mut.result.now c.index_mut.ensures.value c.deref_mut.result.now c.deref_mut.ensures.value c.remove_row.new.self (λ v. without_row v c.args.row) c.remove_row.ensures.row c.self.inside.by_ids c.self.inside.by_serial c.self.invariant (shape_of_removed t.0 c.args.row) (sound_without_row t.0 c.args.row t.2 sound)
 
 pub returns-clause-tables : goal.returns-clause-tables
-returns-clause-tables g c = let t = with_rows (table_at c.args.self.now c.args.key) c.args.row c.requires.there in written c.self.inside.tables c.self.inside.last c.args.self.now c.self.view_is c.args.key t.0 t.1 c.index_mut.result.now c.index_mut.ensures.value c.remove_row.new.self (λ v. without_row v c.args.row) c.remove_row.ensures.row
+returns-clause-tables g c = let t = with_rows (table_at c.args.self.now c.args.key) c.args.row c.requires.there in written c.self.inside.tables c.self.inside.last c.args.self.now c.self.view_is c.args.key t.0 t.1 c.index_mut.result.now c.index_mut.ensures.value c.deref_mut.result.now c.deref_mut.ensures.value c.remove_row.new.self (λ v. without_row v c.args.row) c.remove_row.ensures.row
 
 pub returns-clause-shapes : goal.returns-clause-shapes
-returns-clause-shapes g c = let t = with_rows (table_at c.args.self.now c.args.key) c.args.row c.requires.there in written_shapes c.self.inside.tables c.self.inside.last c.args.self.now c.self.view_is c.args.key t.0 t.1 c.index_mut.result.now c.index_mut.ensures.value c.remove_row.new.self (λ v. without_row v c.args.row) c.remove_row.ensures.row (shape_of_removed t.0 c.args.row)
+returns-clause-shapes g c = let t = with_rows (table_at c.args.self.now c.args.key) c.args.row c.requires.there in written_shapes c.self.inside.tables c.self.inside.last c.args.self.now c.self.view_is c.args.key t.0 t.1 c.index_mut.result.now c.index_mut.ensures.value c.deref_mut.result.now c.deref_mut.ensures.value c.remove_row.new.self (λ v. without_row v c.args.row) c.remove_row.ensures.row (shape_of_removed t.0 c.args.row)
 
 pub returns-clause-rows : goal.returns-clause-rows
 returns-clause-rows g c = let t = with_rows (table_at c.args.self.now c.args.key) c.args.row c.requires.there in
     let sound = sound_here c.self.inside.tables c.self.inside.last c.args.self.now c.self.view_is c.args.key t.0 t.1 c.index_mut.result.now c.index_mut.ensures.value c.self.inside.by_ids c.self.inside.by_serial c.self.invariant in
-    removed_is c.args.self.now c.args.key t.0 t.1 c.args.row t.2 sound _ (written_row c.self.inside.tables c.self.inside.last c.args.self.now c.self.view_is c.args.key t.0 t.1 c.index_mut.result.now c.index_mut.ensures.value c.remove_row.new.self (λ v. without_row v c.args.row) c.remove_row.ensures.row)
+    removed_is c.args.self.now c.args.key t.0 t.1 c.args.row t.2 sound _ (written_row c.self.inside.tables c.self.inside.last c.args.self.now c.self.view_is c.args.key t.0 t.1 c.index_mut.result.now c.index_mut.ensures.value c.deref_mut.result.now c.deref_mut.ensures.value c.remove_row.new.self (λ v. without_row v c.args.row) c.remove_row.ensures.row)
 
 pub returns-clause-filled : goal.returns-clause-filled
 returns-clause-filled g c = let t = with_rows (table_at c.args.self.now c.args.key) c.args.row c.requires.there in
-    c.remove_row.ensures.moved ∙ ap (λ v. Rattle.ecs_table.specs.Archetype.moved_into v c.args.row) (table_here c.self.inside.tables c.self.inside.last c.args.self.now c.self.view_is c.args.key t.0 t.1 c.index_mut.result.now c.index_mut.ensures.value)
+    c.remove_row.ensures.moved ∙ ap (λ v. Rattle.ecs_table.specs.Archetype.moved_into v c.args.row) (lent_here c.self.inside.tables c.self.inside.last c.args.self.now c.self.view_is c.args.key t.0 t.1 c.index_mut.result.now c.index_mut.ensures.value c.deref_mut.result.now c.deref_mut.ensures.value)
     ∙ filled_is c.args.self.now c.args.key t.0 t.1 c.args.row t.2
 
 pub returns-clause-whole : goal.returns-clause-whole
 returns-clause-whole g c = let t = with_rows (table_at c.args.self.now c.args.key) c.args.row c.requires.there in
     let sound = sound_here c.self.inside.tables c.self.inside.last c.args.self.now c.self.view_is c.args.key t.0 t.1 c.index_mut.result.now c.index_mut.ensures.value c.self.inside.by_ids c.self.inside.by_serial c.self.invariant in
-    written_stored c.self.inside.tables c.self.inside.last c.args.self.now c.self.view_is c.args.key t.0 t.1 c.index_mut.result.now c.index_mut.ensures.value c.remove_row.new.self (λ v. without_row v c.args.row) c.remove_row.ensures.row c.self.inside.by_ids c.self.inside.by_serial c.self.invariant (shape_of_removed t.0 c.args.row) (sound_without_row t.0 c.args.row t.2 sound)
+    written_stored c.self.inside.tables c.self.inside.last c.args.self.now c.self.view_is c.args.key t.0 t.1 c.index_mut.result.now c.index_mut.ensures.value c.deref_mut.result.now c.deref_mut.ensures.value c.remove_row.new.self (λ v. without_row v c.args.row) c.remove_row.ensures.row c.self.inside.by_ids c.self.inside.by_serial c.self.invariant (shape_of_removed t.0 c.args.row) (sound_without_row t.0 c.args.row t.2 sound)

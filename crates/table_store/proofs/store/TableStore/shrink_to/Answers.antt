@@ -12,24 +12,24 @@ pub invariant_of-self : goal.invariant_of-self
 invariant_of-self g c = let t = there (table_at c.args.self.now c.args.key) c.requires.stands in
     let x = c.index_mut.result.now in
     let sound = sound_here c.self.inside.tables c.self.inside.last c.args.self.now c.self.view_is c.args.key t.0 t.1 x c.index_mut.ensures.value c.self.inside.by_ids c.self.inside.by_serial c.self.invariant in
-    written_kept c.self.inside.tables c.self.inside.last c.args.self.now c.self.view_is c.args.key t.0 t.1 x c.index_mut.ensures.value c.shrink_to.new.self (λ v. record v { room = min v.room c.args.room })
+    written_kept c.self.inside.tables c.self.inside.last c.args.self.now c.self.view_is c.args.key t.0 t.1 x c.index_mut.ensures.value c.deref_mut.result.now c.deref_mut.ensures.value c.shrink_to.new.self (λ v. record v { room = min v.room c.args.room })
     c.shrink_to.ensures c.self.inside.by_ids c.self.inside.by_serial c.self.invariant refl (sound_with_room t.0 (min t.0.room c.args.room) sound)
 
 pub returns-clause-tables : goal.returns-clause-tables
 returns-clause-tables g c = let t = there (table_at c.args.self.now c.args.key) c.requires.stands in
-    written c.self.inside.tables c.self.inside.last c.args.self.now c.self.view_is c.args.key t.0 t.1 c.index_mut.result.now c.index_mut.ensures.value c.shrink_to.new.self (λ v. record v { room = min v.room c.args.room }) c.shrink_to.ensures
+    written c.self.inside.tables c.self.inside.last c.args.self.now c.self.view_is c.args.key t.0 t.1 c.index_mut.result.now c.index_mut.ensures.value c.deref_mut.result.now c.deref_mut.ensures.value c.shrink_to.new.self (λ v. record v { room = min v.room c.args.room }) c.shrink_to.ensures
 
 pub returns-clause-shapes : goal.returns-clause-shapes
 returns-clause-shapes g c = let t = there (table_at c.args.self.now c.args.key) c.requires.stands in
-    written_shapes c.self.inside.tables c.self.inside.last c.args.self.now c.self.view_is c.args.key t.0 t.1 c.index_mut.result.now c.index_mut.ensures.value c.shrink_to.new.self (λ v. record v { room = min v.room c.args.room }) c.shrink_to.ensures refl
+    written_shapes c.self.inside.tables c.self.inside.last c.args.self.now c.self.view_is c.args.key t.0 t.1 c.index_mut.result.now c.index_mut.ensures.value c.deref_mut.result.now c.deref_mut.ensures.value c.shrink_to.new.self (λ v. record v { room = min v.room c.args.room }) c.shrink_to.ensures refl
 
 pub returns-clause-rows : goal.returns-clause-rows
 returns-clause-rows g c = let t = there (table_at c.args.self.now c.args.key) c.requires.stands in
-    written_same_rows c.self.inside.tables c.self.inside.last c.args.self.now c.self.view_is c.args.key t.0 t.1 c.index_mut.result.now c.index_mut.ensures.value c.shrink_to.new.self (λ v. record v { room = min v.room c.args.room }) c.shrink_to.ensures (λ r. refl)
+    written_same_rows c.self.inside.tables c.self.inside.last c.args.self.now c.self.view_is c.args.key t.0 t.1 c.index_mut.result.now c.index_mut.ensures.value c.deref_mut.result.now c.deref_mut.ensures.value c.shrink_to.new.self (λ v. record v { room = min v.room c.args.room }) c.shrink_to.ensures (λ r. refl)
 
 pub returns-clause-whole : goal.returns-clause-whole
 returns-clause-whole g c = let t = there (table_at c.args.self.now c.args.key) c.requires.stands in
     let x = c.index_mut.result.now in
     let sound = sound_here c.self.inside.tables c.self.inside.last c.args.self.now c.self.view_is c.args.key t.0 t.1 x c.index_mut.ensures.value c.self.inside.by_ids c.self.inside.by_serial c.self.invariant in
-    written_stored c.self.inside.tables c.self.inside.last c.args.self.now c.self.view_is c.args.key t.0 t.1 x c.index_mut.ensures.value c.shrink_to.new.self (λ v. record v { room = min v.room c.args.room })
+    written_stored c.self.inside.tables c.self.inside.last c.args.self.now c.self.view_is c.args.key t.0 t.1 x c.index_mut.ensures.value c.deref_mut.result.now c.deref_mut.ensures.value c.shrink_to.new.self (λ v. record v { room = min v.room c.args.room })
     c.shrink_to.ensures c.self.inside.by_ids c.self.inside.by_serial c.self.invariant refl (sound_with_room t.0 (min t.0.room c.args.room) sound)
