@@ -91,13 +91,18 @@ module _ {Y : Type 0} (tables : Slab (Held Y)) (by_ids : BTreeMap (Vec Id Y) Tab
   standing_there to h = subst (λ z. IsSome (table_at z to)) view (subst IsSome (sym (table_at-slots tables last to)) h)
 
   -- the edge is followed
-  pub is_followed : {E : Type 0} (id : Id) (to : TableKey) (added : Option ℕ) → IfSome added (λ n. HasSize s id n) → edge_of (edges_of x.value added) id ≡ Some to → is_some (standing (slots.get tables to.slot) to.serial) ≡ true
-      → (g : Shape) → shape_at s k ≡ Some g → IsPut {E = E} s (stepped g id added) (Ok to) s
-  is_followed id to added sizes e h g at =
+  leads_there : (id : Id) (to : TableKey) (added : Option ℕ) → IfSome added (λ n. HasSize s id n) → edge_of (edges_of x.value added) id ≡ Some to → is_some (standing (slots.get tables to.slot) to.serial) ≡ true
+      → (g : Shape) → shape_at s k ≡ Some g → IsMade s (stepped g id added) to s
+  leads_there id to added sizes e h g at =
       let t = there (table_at s to) (standing_there to h) in
       let here : shape_at s to ≡ Some (shape_of t.0) = ap (option_map shape_of) t.1 in
       let leads : shape_at s to ≡ Some (stepped f id added) = here ∙ ap Some (edge_leads id to added sizes e (shape_of t.0) here) in
-      record { ok = subst (λ z. IsMade s (stepped z id added) to s) (one_some f g (sym shape_there ∙ at)) (IsMade-found s (stepped f id added) to store_is leads); err = tt; whole = stored tables by_ids by_serial last kept s view }
+      subst (λ z. IsMade s (stepped z id added) to s) (one_some f g (sym shape_there ∙ at)) (IsMade-found s (stepped f id added) to store_is leads)
+
+  pub is_followed : (d : Slot Y) → d ≡ x.value → (id : Id) (added : Option ℕ) → IfSome added (λ n. HasSize s id n) → (o : Option TableKey) → IfSome o (λ to. edge_of (edges_of d added) id ≡ Some to)
+      → IfSome o (λ to. IsSome (standing (slots.get tables to.slot) to.serial)) → IfSome o (λ to. (g : Shape) → shape_at s k ≡ Some g → IsMade s (stepped g id added) to s)
+  is_followed d lent id added sizes None e h = tt
+  is_followed d lent id added sizes (Some to) e h = leads_there id to added sizes (subst (λ (v : Slot Y). edge_of (edges_of v added) id ≡ Some to) lent e) h
 
   pub sorted_next : (id : Id) (added : Option ℕ) → IsTrue (is_sorted id_cmp (stepped f id added))
   sorted_next id None = truly _ (is_sorted-where_key id_cmp (λ j. not (id_eq j id)) f (said _ sorted_there))

@@ -10,7 +10,7 @@ ghost use Rattle.ecs_id.specs.declared.Place.{Place};
 ghost use Rattle.ecs_id.specs.declared.TableKey.{TableKey};
 ghost use Rattle.ecs_table.specs.Archetype.{Archetype, with_row, with_value, without_row};
 ghost use Rattle.table_store.specs.Store.{HasSize, Shape, changed_at, find_in, ids_at, made_at, moved_at, released_at, room_at, shape_at, shaped, shaped_at, table_at, with_id, without_id};
-ghost use Rattle.table_store.specs.Kept.{FindAlike, HasNoEdge, SetsIds, IsPut, IsWritten, edge_of, edges_of, standing, stepped};
+ghost use Rattle.table_store.specs.Kept.{FindAlike, HasNoEdge, SetsIds, IsMade, IsPut, IsWritten, edge_of, edges_of, standing, stepped};
 ghost use Rattle.std.specs.BTreeMap as ordered;
 ghost use Rattle.table_store.specs.Rows.{IsStored, Row, filler, moved_rows, removed_rows, row_at, rows_in, with_cell, with_row_at, zero_cells};
 
@@ -185,10 +185,32 @@ impl<A: Allocator + Copy> TableStore<A> {
         requires sizes { IfSome added (λ n. HasSize self.old id n) }
         ensures { (f : Shape) → shape_at self.old key ≡ Some f → IsPut self.old (stepped f id added) result self.new }
     {
-        let slot = &self.tables[key.slot as usize];
-        if let Some(to) = followed(&self.tables, slot, id, added) {
-            return Ok(to);
+        match self.follow(key, id, added) {
+            Some(to) => Ok(to),
+            None => self.step_anew(key, id, added),
         }
+    }
+
+    // The table to which an edge leads, if there is one and the table stands.
+    fn follow(&self, key: TableKey, id: Id, added: Option<usize>) -> Option<TableKey>
+        requires stands { IsSome (table_at self.now key) }
+        requires sizes { IfSome added (λ n. HasSize self.now id n) }
+        ensures found { IfSome result (λ to. (f : Shape) → shape_at self.now key ≡ Some f → IsMade self.now (stepped f id added) to self.now) }
+        ensures whole { IsStored self.now }
+    {
+        followed(&self.tables, &self.tables[key.slot as usize], id, added)
+    }
+
+    // `step` where no edge leads there yet: the table is found by its ids, or made.
+    #[cold]
+    #[inline(never)]
+    fn step_anew(&mut self, key: TableKey, id: Id, added: Option<usize>) -> Result<TableKey, Memory>
+        requires stands { IsSome (table_at self.old key) }
+        requires small { IfSome added (λ n. n ≤ 64) }
+        requires sizes { IfSome added (λ n. HasSize self.old id n) }
+        ensures { (f : Shape) → shape_at self.old key ≡ Some f → IsPut self.old (stepped f id added) result self.new }
+    {
+        let slot = &self.tables[key.slot as usize];
         let Ok(cells) = next_shape(
             self.alloc,
             slot.table.ids(),
