@@ -19,12 +19,12 @@ use ecs_model::is_name;
 pub use error::BindError;
 use indexmap::IndexMap;
 use std::alloc::{AllocError, Allocator, Global};
-use std::hash::{BuildHasherDefault, FoldHasher};
+use std::hash::RandomState;
 use std::marker::Model;
 
-type ByName<A> = IndexMap<String<A>, EntityId, BuildHasherDefault<FoldHasher>, A>;
+type ByName<A> = IndexMap<String<A>, EntityId, RandomState, A>;
 
-type ByEntity<A> = IndexMap<EntityId, String<A>, BuildHasherDefault<FoldHasher>, A>;
+type ByEntity<A> = IndexMap<EntityId, String<A>, RandomState, A>;
 
 /// Which entity each name names.
 #[derive(Drop)]
@@ -48,14 +48,14 @@ impl<A: Allocator> Model for NameIndex<A> {
 }
 
 impl<A: Allocator + Copy> NameIndex<A> {
-    /// An index without names. It takes no memory before the first name.
-    pub fn new(alloc: A) -> Self
+    /// An index without names, which hashes them with these random keys. It takes no memory before the first name.
+    pub fn new(alloc: A, random: RandomState) -> Self
         ensures empty { result ≡ finite.empty }
         ensures unnamed { (entity : EntityId) → IsUnnamed result entity }
     {
         NameIndex {
-            by_name: IndexMap::new(alloc),
-            by_entity: IndexMap::new(alloc),
+            by_name: IndexMap::with_hasher(alloc, random),
+            by_entity: IndexMap::with_hasher(alloc, random),
         }
     }
 

@@ -1,5 +1,6 @@
 use crate::{BindError, NameIndex};
 use ecs_id::EntityId;
+use std::hash::RandomState;
 use std::test::Fail;
 
 const SUN: EntityId = EntityId {
@@ -13,14 +14,15 @@ const EARTH: EntityId = EntityId {
 };
 
 #[test]
-fn a_word_of_the_language_is_no_name(rt: HostRuntime) {
-    let mut names = NameIndex::new(rt.alloc());
+fn a_word_of_the_language_is_no_name(rt: HostRuntime) -> Result<(), Fail> {
+    let mut names = NameIndex::new(rt.alloc(), RandomState::new(&rt)?);
     assert!(rt; names.bind("self", SUN) == Err(BindError::BadName));
+    Ok(())
 }
 
 #[test]
 fn a_name_names_one_entity(rt: HostRuntime) -> Result<(), Fail> {
-    let mut names = NameIndex::new(rt.alloc());
+    let mut names = NameIndex::new(rt.alloc(), RandomState::new(&rt)?);
     names.bind("Sun", SUN)?;
     assert_eq!(rt; names.find("Sun"), Some(SUN));
     assert_eq!(rt; names.name_of(SUN), Some("Sun"));
