@@ -1,5 +1,5 @@
 -- The entity born is the one that the command makes.
-use Rattle.std.specs.Prelude.{◌≡◌, ℕ, Bool, true, false, not, ◌&&◌, List, [], ◌∷◌, ℤ, Option, Some, None, is_some, option_map, cond}
+use Rattle.std.specs.Prelude.{◌≡◌, ℕ, Bool, true, false, not, ◌&&◌, List, [], ◌∷◌, Option, Some, None, is_some, option_map, cond}
 use Rattle.std.specs.List.{find, list_all}
 use Rattle.std.specs.FinMap.Entries.{by_order}
 use Rattle.std.specs.FinMap.{nat_cmp-IsAntisymmetric}
@@ -90,7 +90,7 @@ component_born w n s None next = none_born w (counted w) refl
 component_born w n s (Some e) next = one_born w (counted (with_component w n s (Some e))) e (next_is_free w e next).fresh refl
 
 -- of the changes that a step tells, too
-pub born_of_effect : (w : WorldState) (c : Command) (written : Map Key (List ℤ)) → (differences w (counted (effect w c)) written).born ≡ made_by w c
+pub born_of_effect : (w : WorldState) (c : Command) (written : List Key) → (differences w (counted (effect w c)) written).born ≡ made_by w c
 unfolding differences effect
 born_of_effect w Fresh written = fresh_born w (next_entity w) refl
 born_of_effect w (Entity n) written = named_born w n (next_entity w) refl

@@ -18,9 +18,9 @@ use Rattle.ecs_model.specs.declared.faults.CommandError.TheVariants.{Refused}
 use Rattle.ecs_model.specs.Map.{value_at}
 use Rattle.ecs_model.specs.Schema.{Schema, fits_kind}
 use Rattle.ecs_model.specs.Refusal.{first_reason}
-use Rattle.ecs_model.specs.World.{WorldState, key_cmp, first_world, type_of_id}
+use Rattle.ecs_model.specs.World.{WorldState, key_cmp, first_world, next_among, type_of_id}
 use Rattle.ecs_model.specs.Changes.{added, facts_after_add, facts_after_remove}
-use Rattle.ecs_model.specs.Command.{Command, Changed, Fresh, Entity, Component, Add, SetValue, Remove, next_entity, with_born, with_component, reasons, effect, differences, step, IsBorn, SaysNothing, AnswersStep}
+use Rattle.ecs_model.specs.Command.{Command, Changed, Fresh, Entity, Component, Add, SetValue, Remove, next_entity, with_born, with_component, reasons, effect, differences, step, AnswersStep}
 use Rattle.ecs_model.specs.Tokens.{tokens_from, tokens_of}
 use Rattle.ecs_model.specs.Query.{Query, least_fault, faults, query_of}
 use Rattle.ecs_model.specs.Meaning.{Shown, rows}
@@ -172,37 +172,37 @@ unfolding id_cmp key_cmp reasons
 a_spent_count_refuses_what_changes_nothing = refl
 
 a_spent_count_refuses_a_new_entity : first_reason (reasons spent_sky Fresh) ≡ Some Full
-unfolding reasons next_entity
+unfolding reasons next_among
 a_spent_count_refuses_a_new_entity = refl
 
 one_command_is_left : first_reason (reasons (record spent_sky { accepted = 2 ^ 64 - 2 }) Fresh) ≡ None
-unfolding reasons next_entity
+unfolding reasons next_among
 one_command_is_left = refl
 
 a_name_is_given_once : refusal_of (Entity (codes "Sun")) ≡ Some NameTaken
-unfolding reasons next_entity
+unfolding reasons next_among
 a_name_is_given_once = refl
 
 a_reserved_word_is_no_name : refusal_of (Component (codes "up") fields) ≡ Some BadName
-unfolding reasons next_entity
+unfolding reasons next_among
 a_reserved_word_is_no_name = refl
 
 -- new entities
 
 the_first_entity_has_index_64 : next_entity first_world ≡ Some (record { index = 64; generation = 0 })
-unfolding first_world next_entity
+unfolding first_world next_among
 the_first_entity_has_index_64 = refl
 
 the_smallest_free_index_comes_next : next_entity (record sky { live = (64, 0) ∷ (66, 0) ∷ (67, 2) ∷ [] }) ≡ Some (record { index = 65; generation = 0 })
-unfolding next_entity
+unfolding next_among
 the_smallest_free_index_comes_next = refl
 
 a_used_index_gets_a_new_generation : next_entity (record sky { live = (64, 0) ∷ (65, 0) ∷ (66, 0) ∷ [] }) ≡ Some (record { index = 67; generation = 2 })
-unfolding next_entity
+unfolding next_among
 a_used_index_gets_a_new_generation = refl
 
 an_index_retires_after_65536_deletions : next_entity (record sky { live = []; deletions = (64, 65536) ∷ (65, 65535) ∷ [] }) ≡ Some (record { index = 65; generation = 65535 })
-unfolding next_entity
+unfolding next_among
 an_index_retires_after_65536_deletions = refl
 
 -- what a step says has changed
@@ -210,10 +210,10 @@ an_index_retires_after_65536_deletions = refl
 abbrev changes_of : Command → Option Changed
 changes_of c = elim (step sky c) [ Ok a ↦ Some a.1 | Err r ↦ None ]
 
-a_fact_that_is_set_comes_with_its_value : changes_of (SetValue sun position (pos 5 ∷ pos 6 ∷ []))
-    ≡ Some (record { born = None; died = []; came = (66, position) ∷ []; went = []; written = ((66, position), pos 5 ∷ pos 6 ∷ []) ∷ [] })
+a_fact_that_is_set_comes_and_is_written : changes_of (SetValue sun position (pos 5 ∷ pos 6 ∷ []))
+    ≡ Some (record { born = None; died = []; came = (66, position) ∷ []; went = []; written = (66, position) ∷ [] })
 unfolding id_cmp key_cmp facts_after_add reasons effect differences step
-a_fact_that_is_set_comes_with_its_value = refl
+a_fact_that_is_set_comes_and_is_written = refl
 
 a_fact_that_was_held_does_not_come : changes_of (Add earth planet) ≡ Some (record { born = None; died = []; came = []; went = []; written = [] })
 unfolding id_cmp key_cmp facts_after_add reasons effect differences step
@@ -221,12 +221,12 @@ a_fact_that_was_held_does_not_come = refl
 
 a_component_is_born_with_its_tag : changes_of (Component (codes "Mass") mass)
     ≡ Some (record { born = Some (record { index = 68; generation = 0 }); died = []; came = (68, plain 3) ∷ []; went = []; written = [] })
-unfolding id_cmp key_cmp next_entity with_component reasons effect differences step
+unfolding id_cmp key_cmp next_among with_component reasons effect differences step
 a_component_is_born_with_its_tag = refl
 
 a_new_entity_is_born_without_facts : changes_of Fresh
     ≡ Some (record { born = Some (record { index = 68; generation = 0 }); died = []; came = []; went = []; written = [] })
-unfolding id_cmp key_cmp next_entity with_born reasons effect differences step
+unfolding id_cmp key_cmp next_among with_born reasons effect differences step
 a_new_entity_is_born_without_facts = refl
 
 a_fact_that_is_removed_goes : changes_of (Remove earth planet)
@@ -239,20 +239,23 @@ a_fact_that_is_removed_goes = refl
 abbrev born_sky : WorldState
 born_sky = record sky { live = (64, 0) ∷ (65, 0) ∷ (66, 0) ∷ (67, 2) ∷ (68, 0) ∷ []; accepted = 7 }
 
-the_entity_born_is_answered : AnswersStep IsBorn (Ok (record { index = 68; generation = 0 })) (step sky Fresh) sky born_sky
-unfolding id_cmp key_cmp next_entity with_born reasons effect differences step
-the_entity_born_is_answered = (refl, refl)
+abbrev tells_born : EntityId → Changed
+tells_born e = record { born = Some e; died = []; came = []; went = []; written = [] }
 
-no_other_entity_is_answered : AnswersStep IsBorn (Ok earth) (step sky Fresh) sky born_sky → ⊥
-unfolding id_cmp key_cmp next_entity with_born reasons effect differences step
-no_other_entity_is_answered h = true≢false (ap (λ o. option_map_or (λ e. e.index == 68) o false) h.1)
+what_has_changed_is_answered : AnswersStep (Ok (tells_born (record { index = 68; generation = 0 }))) (step sky Fresh) sky born_sky
+unfolding id_cmp key_cmp next_among with_born reasons effect differences step
+what_has_changed_is_answered = refl
 
-an_accepted_command_leaves_its_world : AnswersStep SaysNothing (Ok tt) (step sky Fresh) sky sky → ⊥
-unfolding id_cmp key_cmp next_entity with_born reasons effect differences step
-an_accepted_command_leaves_its_world h = true≢false (ap (λ w. w.accepted == 6) h.0)
+no_other_entity_is_answered : AnswersStep (Ok (tells_born earth)) (step sky Fresh) sky born_sky → ⊥
+unfolding id_cmp key_cmp next_among with_born reasons effect differences step
+no_other_entity_is_answered h = true≢false (ap (λ r. elim r [ Ok a ↦ option_map_or (λ e. e.index == 68) (a.1).born false | Err x ↦ false ]) h)
 
-an_accepted_command_is_not_refused : AnswersStep SaysNothing (Err (Refused Full)) (step sky Fresh) sky sky → ⊥
-unfolding id_cmp key_cmp next_entity with_born reasons effect differences step
+an_accepted_command_leaves_its_world : AnswersStep (Ok (tells_born (record { index = 68; generation = 0 }))) (step sky Fresh) sky sky → ⊥
+unfolding id_cmp key_cmp next_among with_born reasons effect differences step
+an_accepted_command_leaves_its_world h = true≢false (ap (λ r. elim r [ Ok a ↦ (a.0).accepted == 7 | Err x ↦ false ]) h)
+
+an_accepted_command_is_not_refused : AnswersStep (Err (Refused Full)) (step sky Fresh) sky sky → ⊥
+unfolding id_cmp key_cmp next_among with_born reasons effect differences step
 an_accepted_command_is_not_refused h = true≢false (ap is_ok h.0)
 
 -- references

@@ -128,7 +128,7 @@ module _ {K : Type 0} (R : K → K → Ordering) (o : IsTotalOrder R) where
             ∙ sym (ap (λ b. if is_some (cond b (Some y.1) (value_at R ys k)) then k ∷ [] else []) (turned false p))
 
 -- a world with other facts alone
-of_facts : (w : WorldState) (facts written : Map Key (List ℤ)) (came went : List Key) → keys (without key_cmp facts (has_key key_cmp w.facts)) ≡ came
+of_facts : (w : WorldState) (facts : Map Key (List ℤ)) (written came went : List Key) → keys (without key_cmp facts (has_key key_cmp w.facts)) ≡ came
     → keys (without key_cmp w.facts (has_key key_cmp facts)) ≡ went
     → differences w (counted (with_facts w facts)) written ≡ record { born = None; died = []; came = came; went = went; written = written }
 unfolding differences
@@ -232,7 +232,7 @@ differences_of_add w e i = by (holds w e.index i) refl
 -- and so does `set`, which writes the value
 pub differences_of_set : (w : WorldState) (e : EntityId) (i : Id) (vs : List ℤ)
     → differences w (counted (effect w (SetValue e i vs))) (written_by (SetValue e i vs))
-    ≡ record { born = None; died = []; came = if holds w e.index i then [] else (e.index, i) ∷ []; went = []; written = ((e.index, i), vs) ∷ [] }
+    ≡ record { born = None; died = []; came = if holds w e.index i then [] else (e.index, i) ∷ []; went = []; written = (e.index, i) ∷ [] }
 unfolding effect facts_after_add
 differences_of_set w e i vs = by (holds w e.index i) refl
   where
@@ -243,15 +243,15 @@ differences_of_set w e i vs = by (holds w e.index i) refl
     more = with_value key_cmp w.facts k (new_value w i)
 
     by : (b : Bool) → holds w e.index i ≡ b
-        → differences w (counted (with_facts w (with_value key_cmp (if b then w.facts else more) k vs))) ((k, vs) ∷ [])
-        ≡ record { born = None; died = []; came = if b then [] else k ∷ []; went = []; written = (k, vs) ∷ [] }
+        → differences w (counted (with_facts w (with_value key_cmp (if b then w.facts else more) k vs))) (k ∷ [])
+        ≡ record { born = None; died = []; came = if b then [] else k ∷ []; went = []; written = k ∷ [] }
     by true held =
-        of_facts w (with_value key_cmp w.facts k vs) ((k, vs) ∷ []) [] []
+        of_facts w (with_value key_cmp w.facts k vs) (k ∷ []) [] []
         (ap keys (without_all key_cmp key_cmp_total (with_value key_cmp w.facts k vs) (has_key key_cmp w.facts) (λ q l. held_before key_cmp key_cmp_total key_cmp_same w.facts k vs q held l)))
         (none_goes w k vs)
     by false held =
-        ap (λ facts. differences w (counted (with_facts w facts)) ((k, vs) ∷ [])) (last_value key_cmp key_cmp_total w.facts k (new_value w i) vs)
-        ∙ of_facts w (with_value key_cmp w.facts k vs) ((k, vs) ∷ []) (k ∷ []) [] (new_fact w k vs held) (none_goes w k vs)
+        ap (λ facts. differences w (counted (with_facts w facts)) (k ∷ [])) (last_value key_cmp key_cmp_total w.facts k (new_value w i) vs)
+        ∙ of_facts w (with_value key_cmp w.facts k vs) (k ∷ []) (k ∷ []) [] (new_fact w k vs held) (none_goes w k vs)
 
 -- `remove` takes the fact, if it is held
 pub differences_of_remove : (w : WorldState) (e : EntityId) (i : Id) → IsWellFormed w

@@ -7,8 +7,8 @@ use Rattle.ecs_id.specs.declared.EntityId.{EntityId}
 use Rattle.ecs_model.specs.declared.faults.Refusal.{Refusal}
 use Rattle.ecs_model.specs.Map.{count_at}
 use Rattle.ecs_model.specs.Refusal.{first_reason}
-use Rattle.ecs_model.specs.World.{WorldState, is_live, first_index, last_index}
-use Rattle.ecs_model.specs.Command.{Command, Changed, reasons, effect, counted, differences, written_by, step, first_passing, is_free, next_entity}
+use Rattle.ecs_model.specs.World.{WorldState, is_live, first_index, last_index, first_passing, is_free, next_among}
+use Rattle.ecs_model.specs.Command.{Command, Changed, reasons, effect, counted, differences, written_by, step, next_entity}
 use Rattle.ecs_model.proofs.Maps.{both_true}
 
 -- an accepted command has no reason against it, its world is that of its effect, counted, and it has changed what differs
@@ -82,17 +82,20 @@ pub record IsFree (w : WorldState) (i g : ℕ) : Type 0 where
   pub few : g < 65536
 
 pub next_is_free : (w : WorldState) (e : EntityId) → next_entity w ≡ Some e → IsFree w e.index e.generation
-unfolding next_entity
-next_is_free w e h = by (first_passing (is_free w) (last_index - first_index + 1) first_index) refl h
+unfolding next_among
+next_is_free w e h = by (first_passing free (last_index - first_index + 1) first_index) refl h
   where
     made : ℕ → EntityId
     made i = record { index = i; generation = count_at w.deletions i }
 
-    by : (o : Option ℕ) → first_passing (is_free w) (last_index - first_index + 1) first_index ≡ o → option_map made o ≡ Some e → IsFree w e.index e.generation
+    free : ℕ → Bool
+    free = is_free w.live w.deletions
+
+    by : (o : Option ℕ) → first_passing free (last_index - first_index + 1) first_index ≡ o → option_map made o ≡ Some e → IsFree w e.index e.generation
     by None p q = cc
     by (Some i) p q =
         let same : made i ≡ e = cc in
-        let found = first_passing_is (is_free w) (last_index - first_index + 1) first_index i p in
+        let found = first_passing_is free (last_index - first_index + 1) first_index i p in
         let parts = both_true (not (is_live w i)) (nat_lt (count_at w.deletions i) 65536) found.0 in
         subst (λ x. IsFree w x.index x.generation) same
         (record {

@@ -1,5 +1,5 @@
 -- One command of a world: its refusal, or the world that it leaves and what has changed.
-use Rattle.std.specs.Prelude.{◌≡◌, ℕ, zero, suc, ◌+◌, ◌-◌, ◌^◌, ◌==◌, Bool, true, false, not, ◌&&◌, ◌||◌, List, [], ◌∷◌, ◌++◌, map, length, ℤ, nat_lt, nat_le, Option, Some, None, is_some, is_none, option_map, Result, Ok, Err, IsOkAnd}
+use Rattle.std.specs.Prelude.{◌≡◌, ℕ, ◌+◌, ◌-◌, ◌^◌, ◌==◌, Bool, true, not, ◌||◌, List, [], ◌∷◌, ◌++◌, map, length, ℤ, nat_lt, nat_le, Option, Some, None, is_some, is_none, Result, Ok, Err}
 use Rattle.std.specs.List.{list_any, list_all, find}
 use Rattle.std.specs.Option.{option_map_or}
 use Rattle.std.specs.Ordering.{nat_cmp}
@@ -9,10 +9,10 @@ use Rattle.ecs_model.specs.declared.faults.Refusal.{Refusal}
 use Rattle.ecs_model.specs.declared.faults.Refusal.TheVariants.{Dead, BadName, NameTaken, BuiltIn, NoData, Count, Range, TooManyIds, Full}
 use Rattle.ecs_model.specs.declared.faults.CommandError.{CommandError}
 use Rattle.ecs_model.specs.declared.faults.CommandError.TheVariants.{Refused, Memory}
-use Rattle.ecs_model.specs.Map.{Map, keys, has_key, with_value, without, count_at}
+use Rattle.ecs_model.specs.Map.{Map, keys, has_key, with_value, without}
 use Rattle.ecs_model.specs.Text.{is_name}
 use Rattle.ecs_model.specs.Schema.{Schema, all_fit, schema_fault}
-use Rattle.ecs_model.specs.World.{WorldState, Key, key_cmp, component, is_live, is_alive, entity_at, entities, ids_of, named, name_of, type_of_id, is_built_in, first_index, last_index}
+use Rattle.ecs_model.specs.World.{WorldState, Key, key_cmp, component, is_live, is_alive, entity_at, entities, ids_of, named, name_of, type_of_id, is_built_in, last_index, most_ids, next_among}
 use Rattle.ecs_model.specs.Changes.{facts_after_add, facts_after_remove}
 use Rattle.ecs_model.specs.Provisional.{is_not_yet_changed}
 use Rattle.ecs_model.specs.Refusal.{first_reason}
@@ -38,21 +38,13 @@ pub record Changed : Type 0 where
   pub died : List (EntityId × Option (List ℕ))
   pub came : List Key
   pub went : List Key
-  pub written : Map Key (List ℤ)
-
--- the first number of the n from i on that passes the test
-abbrev pub first_passing : (ℕ → Bool) → ℕ → ℕ → Option ℕ
-first_passing test zero i = None
-first_passing test (suc n) i = elim (test i) [ true ↦ Some i | false ↦ first_passing test n (i + 1) ]
+  -- each fact whose value was set: the value is that of the fact in the new world
+  pub written : List Key
 
 module _ (w : WorldState) where
-  -- whether an index can be given to a new entity: it is neither live nor deleted 65,536 times
-  abbrev pub is_free : ℕ → Bool
-  is_free i = not (is_live w i) && nat_lt (count_at w.deletions i) 65536
-
-  -- the entity that the next command to make one will make: the smallest free index, and how often it was deleted
-  unfoldable pub next_entity : Option EntityId
-  next_entity = option_map (λ i. record { index = i; generation = count_at w.deletions i }) (first_passing is_free (last_index - first_index + 1) first_index)
+  -- the entity that the next command to make one will make
+  abbrev pub next_entity : Option EntityId
+  next_entity = next_among w.live w.deletions last_index
 
   -- no further command is counted
   abbrev pub is_spent : Bool
@@ -66,9 +58,9 @@ module _ (w : WorldState) where
   abbrev pub changes_built_in : ℕ → Id → Bool
   changes_built_in e i = is_built_in e || is_not_yet_changed i
 
-  -- whether an entity has more than 64 ids
+  -- whether an entity has more ids than it may have
   abbrev pub is_crowded : Bool
-  is_crowded = list_any (λ e. nat_lt 64 (length (ids_of w e))) (entities w)
+  is_crowded = list_any (λ e. nat_lt most_ids (length (ids_of w e))) (entities w)
 
   -- the world with these facts
   abbrev pub with_facts : Map Key (List ℤ) → WorldState
@@ -133,13 +125,13 @@ effect w (Add e i) = with_facts w (facts_after_add w e.index i)
 effect w (SetValue e i vs) = with_facts w (with_value key_cmp (facts_after_add w e.index i) (e.index, i) vs)
 effect w (Remove e i) = with_facts w (facts_after_remove w e.index i)
 
--- the value that a command writes
-abbrev pub written_by : Command → Map Key (List ℤ)
-written_by (SetValue e i vs) = ((e.index, i), vs) ∷ []
+-- the fact whose value a command sets
+abbrev pub written_by : Command → List Key
+written_by (SetValue e i vs) = (e.index, i) ∷ []
 written_by _ = []
 
 -- what differs between two worlds: the entities and the facts that stand in one alone
-unfoldable pub differences : WorldState → WorldState → Map Key (List ℤ) → Changed
+unfoldable pub differences : WorldState → WorldState → List Key → Changed
 differences w v written = record {
   born = option_map_or (entity_at v) (find (λ i. not (is_live w i)) (entities v)) None;
   died = map (λ e. (record { index = e.0; generation = e.1 }, name_of w e.0)) (without nat_cmp w.live (is_live v));
@@ -154,16 +146,8 @@ step w c =
     let v = counted (effect w c) in
     option_map_or Err (first_reason (reasons w c)) (Ok (v, differences w v (written_by c)))
 
--- what an accepted call answers says nothing
-abbrev pub SaysNothing : Unit {0} → Changed → Type 0
-SaysNothing done changed = Unit {0}
-
--- what an accepted call answers is the entity born
-abbrev pub IsBorn : EntityId → Changed → Type 0
-IsBorn e changed = changed.born ≡ Some e
-
--- a call answers as the step does, an accepted one what fits what has changed, and leaves what the step says: a refusal leaves the world as it was, and so does refused memory, which may stand in place of any answer
-abbrev pub AnswersStep : {T : Type 0} → (T → Changed → Type 0) → Result T CommandError → Result (WorldState × Changed) Refusal → WorldState → WorldState → Type 0
-AnswersStep Fits (Ok done) stepped old new = IsOkAnd stepped (λ a. (new ≡ a.0) × Fits done a.1)
-AnswersStep Fits (Err (Refused reason)) stepped old new = (stepped ≡ Err reason) × (new ≡ old)
-AnswersStep Fits (Err Memory) stepped old new = new ≡ old
+-- a call answers as the step does and leaves what the step says: an accepted one answers what has changed, a refusal leaves the world as it was, and so does refused memory, which may stand in place of any answer
+abbrev pub AnswersStep : Result Changed CommandError → Result (WorldState × Changed) Refusal → WorldState → WorldState → Type 0
+AnswersStep (Ok changed) stepped old new = stepped ≡ Ok (new, changed)
+AnswersStep (Err (Refused reason)) stepped old new = (stepped ≡ Err reason) × (new ≡ old)
+AnswersStep (Err Memory) stepped old new = new ≡ old

@@ -7,7 +7,7 @@ use Rattle.ecs_id.specs.Id.{Id, mentioned}
 use Rattle.ecs_model.specs.Map.{IsMap, count_at, value_at}
 use Rattle.ecs_model.specs.Text.{is_name}
 use Rattle.ecs_model.specs.Schema.{all_fit, schema_fault}
-use Rattle.ecs_model.specs.World.{WorldState, key_cmp, first_world, is_live, holds, ids_of, value_of, name_of, new_value, is_built_in, first_index, last_index, type_of_id}
+use Rattle.ecs_model.specs.World.{WorldState, key_cmp, first_world, is_live, holds, ids_of, value_of, name_of, new_value, is_built_in, first_index, last_index, most_ids, type_of_id}
 
 -- each of the maps has its keys in order, once each
 pub record IsInOrder (w : WorldState) : Type 0 where
@@ -49,5 +49,5 @@ pub record IsWellFormed (w : WorldState) : Type 0 where
   pub built_in : KeepsBuiltIn w
   pub live : MentionsLive w
   pub typed : HasTypes w
-  pub few_ids : (e : ℕ) → length (ids_of w e) ≤ 64
+  pub few_ids : (e : ℕ) → length (ids_of w e) ≤ most_ids
   pub counted : w.accepted < 2 ^ 64

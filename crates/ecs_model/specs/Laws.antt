@@ -1,11 +1,15 @@
 -- The laws of these definitions, as statements.
-use Rattle.std.specs.Prelude.{◌≡◌, ◌≢◌, ◌↔◌, ℕ, false, List, [], ◌∷◌, ◌++◌, map, All, AllPairs, Contains, Option, None, IsTrue, Ok, Err}
+use Rattle.std.specs.Prelude.{◌≡◌, ◌≢◌, ◌↔◌, ℕ, ◌≤◌, true, false, List, [], ◌∷◌, ◌++◌, map, All, AllPairs, Contains, Option, Some, None, IsTrue, Ok, Err}
+use Rattle.std.specs.List.Sorted.{IsStrictlySortedBy}
+use Rattle.std.specs.Ordering.{nat_cmp}
 use Rattle.ecs_id.specs.declared.EntityId.{EntityId}
 use Rattle.ecs_id.specs.Id.{Id}
 use Rattle.ecs_model.specs.declared.Span.{Span}
+use Rattle.ecs_model.specs.declared.faults.Refusal.{Refusal}
+use Rattle.ecs_model.specs.Refusal.{first_reason, refusal_number}
 use Rattle.ecs_model.specs.World.{WorldState, first_world, holds}
 use Rattle.ecs_model.specs.Changes.{facts_after_remove}
-use Rattle.ecs_model.specs.Command.{Command, Fresh, Entity, Component, Changed, IsCommand, next_entity, step}
+use Rattle.ecs_model.specs.Command.{Command, Fresh, Entity, Component, Changed, IsCommand, next_entity, reasons, step}
 use Rattle.ecs_model.specs.Keeps.{IsWellFormed}
 use Rattle.ecs_model.specs.Tokens.{Token, token, End, IsSpelledBy, IsLexFault, tokens_of}
 use Rattle.ecs_model.specs.Grammar.{Part, IsQuery, IsSyntaxFault}
@@ -43,6 +47,15 @@ FirstWorldIsWellFormed = IsWellFormed first_world
 -- each accepted command leaves a well-formed world
 abbrev pub StepKeeps : Type 0
 StepKeeps = (w v : WorldState) (c : Command) (changed : Changed) → IsWellFormed w → IsCommand c → step w c ≡ Ok (v, changed) → IsWellFormed v
+
+-- the reasons against a command stand in ascending order of their numbers
+abbrev pub ReasonsAscend : Type 0
+ReasonsAscend = (w : WorldState) (c : Command) → IsStrictlySortedBy nat_cmp (map (λ r. refusal_number r.1) (reasons w c))
+
+-- of the reasons that apply, the first has the least number
+abbrev pub FirstReasonIsLeast : Type 0
+FirstReasonIsLeast =
+    (w : WorldState) (c : Command) (r s : Refusal) → first_reason (reasons w c) ≡ Some r → Contains (reasons w c) (true, s) → refusal_number r ≤ refusal_number s
 
 -- the entity that a command makes, if it makes one: the next
 abbrev pub made_by : WorldState → Command → Option EntityId

@@ -10,6 +10,23 @@ use Rattle.ecs_model.specs.declared.faults.SchemaFault.TheVariants.{TooManyField
 abbrev pub first_reason : List (Bool × Refusal) → Option Refusal
 first_reason reasons = option_map (λ p. p.1) (find (λ p. p.0) reasons)
 
+-- the place of a refusal in the order of refusals
+abbrev pub refusal_number : Refusal → ℕ
+refusal_number Dead = 1
+refusal_number UnknownName = 2
+refusal_number BadName = 3
+refusal_number NameTaken = 4
+refusal_number BuiltIn = 5
+refusal_number NoData = 6
+refusal_number Count = 7
+refusal_number Range = 8
+refusal_number TraitFixed = 9
+refusal_number InUse = 10
+refusal_number Cycle = 11
+refusal_number TooManyIds = 12
+refusal_number Panic = 13
+refusal_number Full = 14
+
 -- the word of a refusal
 abbrev pub refusal_text : Refusal → List ℕ
 refusal_text Dead = codes "Dead"

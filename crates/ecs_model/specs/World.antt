@@ -1,5 +1,5 @@
 -- The state of a world, the first world, and what is read from a world.
-use Rattle.std.specs.Prelude.{ℕ, ◌==◌, Bool, ◌&&◌, List, [], ◌∷◌, map, flat_map, filter_map, nat_le, ℤ, codes, bytes_eq, Option, Some, None, option_map, if◌then◌else◌}
+use Rattle.std.specs.Prelude.{ℕ, zero, suc, ◌+◌, ◌-◌, ◌==◌, Bool, true, false, not, ◌&&◌, List, [], ◌∷◌, map, flat_map, filter_map, nat_le, nat_lt, ℤ, codes, bytes_eq, Option, Some, None, option_map, if◌then◌else◌}
 use Rattle.std.specs.List.{find, enumerate_from}
 use Rattle.std.specs.Option.{option_or, option_eq, option_map_or}
 use Rattle.std.specs.declared.cmp.Ordering.{Ordering}
@@ -7,7 +7,8 @@ use Rattle.std.specs.Ordering.{nat_cmp}
 use Rattle.std.specs.Ordering.{on, then_cmp, eq_by_cmp}
 use Rattle.ecs_id.specs.declared.EntityId.{EntityId}
 use Rattle.ecs_id.specs.Id.{Id, plain, pair, id_cmp}
-use Rattle.ecs_model.specs.Map.{Map, value_at, has_key, keys}
+pub use Rattle.ecs_id.specs.Id.{last_index}
+use Rattle.ecs_model.specs.Map.{Map, value_at, has_key, keys, count_at}
 use Rattle.ecs_model.specs.Schema.{Schema, zeros}
 
 -- a fact without its value: the entity's index, and the id that it holds
@@ -75,15 +76,31 @@ first_world = record {
   accepted = 0;
 }
 
--- the last built-in index, and the first and the last that are given out
+-- the last built-in index, and the first that is given out; the last is the greatest that an id can have
 abbrev pub last_built_in : ℕ
 last_built_in = 22
 
 abbrev pub first_index : ℕ
 first_index = 64
 
-abbrev pub last_index : ℕ
-last_index = 16777215
+-- how many ids an entity holds at most
+abbrev pub most_ids : ℕ
+most_ids = 64
+
+-- the first number of the n from i on that passes the test
+abbrev pub first_passing : (ℕ → Bool) → ℕ → ℕ → Option ℕ
+first_passing test zero i = None
+first_passing test (suc n) i = elim (test i) [ true ↦ Some i | false ↦ first_passing test n (i + 1) ]
+
+-- of the generation of each live entity, and how often an index was deleted
+module _ (live deletions : Map ℕ ℕ) where
+  -- whether an index can be given to a new entity: it is neither live nor deleted 65,536 times
+  abbrev pub is_free : ℕ → Bool
+  is_free i = not (has_key nat_cmp live i) && nat_lt (count_at deletions i) 65536
+
+  -- the next new entity, where this is the last index that is given out: the smallest free index, and how often it was deleted
+  unfoldable pub next_among : ℕ → Option EntityId
+  next_among last = option_map (λ i. record { index = i; generation = count_at deletions i }) (first_passing is_free (last - first_index + 1) first_index)
 
 module _ (w : WorldState) where
   -- whether the index is that of a live entity

@@ -1,6 +1,6 @@
 //! What is proved of the definitions alone: each function's contract is a law, and its body does nothing.
 
-ghost use Rattle.ecs_model.specs.Laws.{BornIsMade, EqualRowsAreOne, FirstWorldIsWellFormed, RefusedLinesChangeNothing, RemovesHeldAlone, RowsAreDistinct, StepKeeps};
+ghost use Rattle.ecs_model.specs.Laws.{BornIsMade, EqualRowsAreOne, FirstReasonIsLeast, FirstWorldIsWellFormed, ReasonsAscend, RefusedLinesChangeNothing, RemovesHeldAlone, RowsAreDistinct, StepKeeps};
 
 /// Law: the world before any command is well formed.
 pub fn first_world_is_well_formed()
@@ -10,6 +10,16 @@ pub fn first_world_is_well_formed()
 /// Law: each accepted command leaves a well-formed world.
 pub fn every_step_keeps_the_world_well_formed()
     ensures { StepKeeps }
+{}
+
+/// Law: the reasons against a command are judged in ascending order of their numbers.
+pub fn the_order_of_refusals_is_their_number()
+    ensures { ReasonsAscend }
+{}
+
+/// Law: of the reasons against a command that apply, the one that is told has the least number.
+pub fn the_least_reason_is_told()
+    ensures { FirstReasonIsLeast }
 {}
 
 /// Law: the entity that an accepted command tells as born is the next entity, of the commands that make one, and else there is none.

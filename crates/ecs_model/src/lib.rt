@@ -10,7 +10,16 @@ pub mod text_laws;
 pub mod values;
 
 pub use names::{is_name, is_name_byte, is_reserved};
-pub use values::{Fact, Value};
+pub use values::Value;
+
+/// The last index of the built-in entities, which each world begins with. Their first is 1.
+pub const LAST_BUILT_IN: u32 = 22;
+
+/// The first index that is given to a new entity.
+pub const FIRST_INDEX: u32 = 64;
+
+/// How many ids an entity holds at most.
+pub const MOST_IDS: usize = 64;
 
 /// A part of a text, in bytes: from `start` up to and without `end`.
 #[derive(Clone, Copy, Debug, PartialEq, Eq)]

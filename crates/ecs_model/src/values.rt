@@ -2,7 +2,6 @@
 
 ghost use Rattle.std.specs.Prelude.{◌≡◌, ◌≤◌, length, replicate, pos};
 
-use ecs_id::{EntityId, Id};
 use std::marker::Model;
 
 /// How many numbers a value has at most.
@@ -84,12 +83,4 @@ impl Eq for Value {
     ghost use Rattle.std.specs.Cmp.Lexicographic.{lists_equiv};
 
     ghost laws = { lists_equiv int_eq_equiv };
-}
-
-/// A fact: an entity holds an id, with a value.
-#[derive(Clone, Copy, Debug, PartialEq, Eq)]
-pub struct Fact {
-    pub entity: EntityId,
-    pub id: Id,
-    pub value: Value,
 }

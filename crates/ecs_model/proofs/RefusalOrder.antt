@@ -1,0 +1,63 @@
+-- The order of refusals is their number.
+use Rattle.std.specs.Prelude.{◌≡◌, ℕ, zero, suc, ◌<◌, ◌≤◌, Bool, true, false, List, [], ◌∷◌, ◌++◌, map, length, slice_index_or, ℤ, Option, Some, None}
+use Rattle.std.specs.List.{AllByRecursion}
+use Rattle.std.specs.List.Sorted.{IsStrictlySortedBy}
+use Rattle.std.specs.Ordering.{nat_cmp}
+use Rattle.std.specs.declared.cmp.Ordering.TheVariants.{Less}
+use Rattle.std.proofs.Common.{rules, sym, ap, subst, arith, true≢false}
+use Rattle.std.proofs.lemmas.Bool.Decides.{nat_tests}
+use Rattle.ecs_id.specs.Id.{Id}
+use Rattle.ecs_model.specs.declared.faults.Refusal.{Refusal}
+use Rattle.ecs_model.specs.Schema.{Schema}
+use Rattle.ecs_model.specs.Refusal.{first_reason, refusal_number}
+use Rattle.ecs_model.specs.World.{WorldState, type_of_id}
+use Rattle.ecs_model.specs.Command.{Fresh, Entity, Component, Add, SetValue, Remove, add_reasons, value_reasons, reasons}
+use Rattle.ecs_model.specs.Laws.{ReasonsAscend, FirstReasonIsLeast}
+
+abbrev numbers : List (Bool × Refusal) → List ℕ
+numbers rs = map (λ r. refusal_number r.1) rs
+
+-- the reasons against `set`, by whether its id has fields
+values_ascend : (o : Option Schema) (vs : List ℤ) (w : WorldState) (e : ℕ) (i : Id)
+    → IsStrictlySortedBy nat_cmp (1 ∷ 5 ∷ numbers (value_reasons o vs ++ add_reasons w e i))
+unfolding IsStrictlySortedBy
+values_ascend None vs w e i = search rules
+values_ascend (Some fs) vs w e i = search rules
+
+pub reasons_ascend : ReasonsAscend
+unfolding reasons IsStrictlySortedBy
+reasons_ascend w Fresh = search rules
+reasons_ascend w (Entity n) = search rules
+reasons_ascend w (Component n s) = search rules
+reasons_ascend w (Add e i) = search rules
+reasons_ascend w (SetValue e i vs) = values_ascend (type_of_id w i) vs w e.index i
+reasons_ascend w (Remove e i) = search rules
+
+-- all numbers behind the first are greater
+behind : (n : ℕ) (rs : List (Bool × Refusal)) (b : Bool) (s : Refusal) (k : ℕ) → AllByRecursion (λ m. nat_cmp n m ≡ Less) (numbers rs) → k < length rs
+    → slice_index_or rs k (b, s) ≡ (b, s) → n ≤ refusal_number s
+behind n [] b s k above within at = absurd (omega arith)
+behind n (x ∷ rs) b s zero above within at =
+    let is : refusal_number x.1 ≡ refusal_number s = ap (λ p. refusal_number p.1) at in
+    let less : n < refusal_number x.1 = grind (arith, nat_tests, above.0) in
+    omega arith
+behind n (x ∷ rs) b s (suc k) above within at = behind n rs b s k above.1 (omega arith) at
+
+least : (rs : List (Bool × Refusal)) → IsStrictlySortedBy nat_cmp (numbers rs) → (r s : Refusal) → first_reason rs ≡ Some r → (k : ℕ) → k < length rs
+    → slice_index_or rs k (true, s) ≡ (true, s) → refusal_number r ≤ refusal_number s
+unfolding IsStrictlySortedBy
+least [] rise r s first k within at = absurd (omega arith)
+least ((true, x) ∷ rs) rise r s first zero within at =
+    let is : refusal_number x ≡ refusal_number s = ap (λ p. refusal_number p.1) at in
+    let same : x ≡ r = cc in
+    let alike : refusal_number x ≡ refusal_number r = ap refusal_number same in
+    omega arith
+least ((true, x) ∷ rs) rise r s first (suc k) within at =
+    let same : x ≡ r = cc in
+    let below : refusal_number x ≤ refusal_number s = behind (refusal_number x) rs true s k rise.0 (omega arith) at in
+    subst (λ q. refusal_number q ≤ refusal_number s) same below
+least ((false, x) ∷ rs) rise r s first zero within at = absurd (true≢false (sym (ap (λ p. p.0) at)))
+least ((false, x) ∷ rs) rise r s first (suc k) within at = least rs rise.1 r s first k (omega arith) at
+
+pub first_reason_is_least : FirstReasonIsLeast
+first_reason_is_least w c r s first (k, within, at) = least (reasons w c) (reasons_ascend w c) r s first k within at
