@@ -16,9 +16,9 @@ IMPORTS = """use Rattle.std.specs.Prelude.{◌≡◌, [], ◌∷◌, ◌++◌, r
 use Rattle.std.specs.Fmt.{digits}
 use Rattle.std.specs.Str.{chars, is_utf8}
 use Rattle.ecs_id.specs.Id.{id_cmp}
-use Rattle.ecs_model.specs.World.{first_world, key_cmp}
+use Rattle.ecs_model.specs.World.{first_world, key_cmp, next_among}
 use Rattle.ecs_model.specs.Changes.{facts_after_add, facts_after_remove}
-use Rattle.ecs_model.specs.Command.{next_entity, with_born, with_named, with_component, reasons, effect, differences, step}
+use Rattle.ecs_model.specs.Command.{with_born, with_named, with_component, reasons, effect, differences, step}
 use Rattle.ecs_model.specs.Meaning.{rows}
 use Rattle.ecs_model.specs.Tokens.{tokens_from, tokens_of}
 use Rattle.ecs_model.specs.Query.{faults, query_of}
@@ -28,7 +28,7 @@ use Rattle.ecs_model.specs.Output.{effect_of, effects_of, output_of}
 use lib.Utf8.{encode}
 """
 UNFOLDING = (
-    "id_cmp key_cmp first_world next_entity facts_after_add facts_after_remove with_born with_named with_component reasons effect differences step rows "
+    "id_cmp key_cmp first_world next_among facts_after_add facts_after_remove with_born with_named with_component reasons effect differences step rows "
     "tokens_from tokens_of faults query_of apply lines_of forms form_among effect_of effects_of digits chars is_utf8 encode"
 )
 
