@@ -1,10 +1,14 @@
 #!/usr/bin/env python3
-"""worked_rows.py: writes crates/worked_rows/proofs/Rows.antt from the folders of tests/rows.
+"""worked_rows.py [--check]: writes crates/worked_rows/proofs/Rows.antt from the folders of tests/rows.
 
 Each row becomes a lemma under the row's name: the definitions of ecs_model, computed by the prover on the row's script, give
-the row's output. A row whose script is too long for the prover's step limit is left out and named in a comment.
+the row's output, the number of its lines, and how many of them are refused, which its exit status tells too. A row whose script
+is too long for the prover's step limit is left out and named in a comment.
+
+With --check it writes nothing, and says which rows the file doesn't have as their folders have them: status 1 if there are any.
 """
 import os
+import sys
 
 TOP = os.path.join(os.path.dirname(os.path.realpath(__file__)), "..")
 ROWS = os.path.join(TOP, "tests", "rows")
@@ -12,20 +16,26 @@ OUT = os.path.join(TOP, "crates", "worked_rows", "proofs", "Rows.antt")
 MOST_BYTES = 9000
 MOST_LINES = 150
 
-IMPORTS = """use Rattle.std.specs.Prelude.{◌≡◌, [], ◌∷◌, ◌++◌, refl, codes}
-use Rattle.std.specs.Fmt.{digits}
-use Rattle.std.specs.Str.{chars, is_utf8}
-use Rattle.ecs_id.specs.Id.{id_cmp}
-use Rattle.ecs_model.specs.World.{first_world, key_cmp, next_among}
-use Rattle.ecs_model.specs.Changes.{facts_after_add, facts_after_remove}
-use Rattle.ecs_model.specs.Command.{with_born, with_named, with_component, reasons, effect, differences, step}
-use Rattle.ecs_model.specs.Meaning.{rows}
-use Rattle.ecs_model.specs.Tokens.{tokens_from, tokens_of}
-use Rattle.ecs_model.specs.Query.{faults, query_of}
-use Rattle.ecs_model.specs.Session.{apply}
-use Rattle.ecs_model.specs.Script.{lines_of, forms, form_among}
-use Rattle.ecs_model.specs.Output.{effect_of, effects_of, output_of}
-use lib.Utf8.{encode}
+HEAD = """-- The worked rows, computed by the definitions. Made by tools/worked_rows.py.
+-- Too long to be computed here, and run by the program alone: {long_rows}.
+use Rattle.std.specs.Prelude.{{◌≡◌, ℕ, List, [], ◌∷◌, ◌++◌, refl, codes}}
+use Rattle.std.specs.Fmt.{{digits}}
+use Rattle.std.specs.Str.{{chars, is_utf8}}
+use Rattle.ecs_id.specs.Id.{{id_cmp}}
+use Rattle.ecs_model.specs.World.{{first_world, key_cmp, next_among}}
+use Rattle.ecs_model.specs.Changes.{{facts_after_add, facts_after_remove}}
+use Rattle.ecs_model.specs.Command.{{with_born, with_named, with_component, reasons, effect, differences, step}}
+use Rattle.ecs_model.specs.Meaning.{{rows}}
+use Rattle.ecs_model.specs.Tokens.{{tokens_from, tokens_of}}
+use Rattle.ecs_model.specs.Query.{{faults, query_of}}
+use Rattle.ecs_model.specs.Session.{{apply}}
+use Rattle.ecs_model.specs.Script.{{lines_of, forms, form_among}}
+use Rattle.ecs_model.specs.Output.{{effect_of, effects_of, output_of, count_of}}
+use lib.Utf8.{{encode}}
+
+-- the script prints this output, and has so many lines, of which so many are refused
+abbrev Gives : List ℕ → List ℕ → ℕ → ℕ → Type 0
+Gives script output lines refused = (output_of script ≡ output) × (count_of script ≡ (lines, refused))
 """
 UNFOLDING = (
     "id_cmp key_cmp first_world next_among facts_after_add facts_after_remove with_born with_named with_component reasons effect differences step rows "
@@ -64,32 +74,95 @@ def run_of(run, plain):
     return f'codes "{word}"'
 
 
-def lemma(name, script, output):
+def lines_of(text):
+    """The lines of a text: behind the last line feed stands one only if it isn't empty."""
+    lines = text.split(b"\n")
+    return lines if lines[-1] else lines[:-1]
+
+
+def refused_in(output):
+    """How many lines were refused: each prints one line that begins with `error `, and no other line does."""
+    return sum(line.startswith(b"error ") for line in lines_of(output))
+
+
+def lemma(row, script, output):
+    name = row.replace("-", "_")
     return (
-        f"{name} : output_of {literal(script)} ≡ {literal(output)}\n"
+        f"{name} : Gives {literal(script)} {literal(output)} {len(lines_of(script))} {refused_in(output)}\n"
         f"unfolding {UNFOLDING}\n"
-        f"{name} = refl\n"
+        f"{name} = (refl, refl)\n"
     )
 
 
-def main():
-    lemmas, long_rows = [], []
+def is_short(row):
+    if not os.path.isfile(os.path.join(ROWS, row, "script")):
+        return False
+    script = read(ROWS, row, "script")
+    return len(script) <= MOST_BYTES and script.count(b"\n") <= MOST_LINES
+
+
+def pieces():
+    """The parts of the file: its head, and the lemma of each row under the row's name."""
+    short, long_rows = [], []
     for row in sorted(os.listdir(ROWS)):
-        if not os.path.isfile(os.path.join(ROWS, row, "script")):
-            long_rows.append(row)
-            continue
-        script, output = read(ROWS, row, "script"), read(ROWS, row, "output")
-        if len(script) > MOST_BYTES or script.count(b"\n") > MOST_LINES:
-            long_rows.append(row)
-            continue
-        lemmas.append(lemma(row.replace("-", "_"), script, output))
-    head = "-- The worked rows, computed by the definitions. Made by tools/worked_rows.py.\n"
-    if long_rows:
-        head += "-- Too long to be computed here, and run by the program alone: " + ", ".join(long_rows) + ".\n"
-    with open(OUT, "w", encoding="utf-8") as file:
-        file.write(head + IMPORTS + "\n" + "\n".join(lemmas))
-    print(f"{len(lemmas)} rows")
+        (short if is_short(row) else long_rows).append(row)
+    parts = {"head": HEAD.format(long_rows=", ".join(long_rows) or "none")}
+    for row in short:
+        parts[row] = lemma(row, read(ROWS, row, "script"), read(ROWS, row, "output"))
+    return parts
+
+
+def pieces_written():
+    """The same parts as they stand in the file; a lemma goes by its name."""
+    parts = {}
+    text = read(OUT).decode()
+    head, *lemmas = text.split("\n\n")
+    if lemmas and lemmas[0].startswith("-- "):
+        head += "\n\n" + lemmas.pop(0)
+    parts["head"] = head + "\n"
+    for part in lemmas:
+        parts[part.split(" ", 1)[0].replace("_", "-")] = part.rstrip("\n") + "\n"
+    return parts
+
+
+def wrong_statuses():
+    """What is wrong with the statuses: 1 where a line is refused, 0 where none is, and greater ones where the run fails."""
+    complaints = []
+    for row in sorted(os.listdir(ROWS)):
+        status, refused = int(read(ROWS, row, "status")), refused_in(read(ROWS, row, "output"))
+        if status < 2 and status != min(refused, 1):
+            complaints.append(f"row {row}: status {status} with {refused} refused lines")
+        if status >= 2 and is_short(row):
+            complaints.append(f"row {row}: status {status}, which no script has that runs to its end")
+    return complaints
+
+
+def differences():
+    wanted, written = pieces(), pieces_written()
+    complaints = [f"row {row}: Rows.antt hasn't it" for row in wanted if row not in written]
+    complaints += [f"row {row}: stands in Rows.antt without a folder" for row in written if row not in wanted]
+    complaints += [f"row {row}: differs from its folder" for row in wanted if row in written and wanted[row] != written[row] and row != "head"]
+    if wanted["head"] != written["head"]:
+        complaints.append("the head of Rows.antt differs")
+    if not complaints and read(OUT).decode() != "\n".join(wanted.values()):
+        complaints.append("Rows.antt differs in the order of its rows, or between them")
+    return complaints
+
+
+def main(arguments):
+    complaints = wrong_statuses()
+    if arguments == ["--check"]:
+        complaints += differences()
+    elif arguments:
+        sys.exit(__doc__)
+    elif not complaints:
+        with open(OUT, "w", encoding="utf-8") as file:
+            file.write("\n".join(pieces().values()))
+    for complaint in complaints:
+        print(f"worked rows: {complaint}")
+    print(f"worked rows: {len(pieces()) - 1} computed, {len(complaints)} wrong")
+    return 1 if complaints else 0
 
 
 if __name__ == "__main__":
-    main()
+    sys.exit(main(sys.argv[1:]))
