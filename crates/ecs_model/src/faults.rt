@@ -13,7 +13,7 @@ pub enum SchemaFault {
     BadField,
 }
 
-/// Why a command of a world is refused. The first that applies is answered, and a refused command changes nothing.
+/// Why a command of a world is refused. Of the refusals that apply, the first in this order is answered, and a refused command changes nothing.
 #[derive(Clone, Copy, Debug, PartialEq, Eq)]
 pub enum Refusal {
     /// An entity handed in is not alive, or an id mentions an index that is not live.
@@ -38,7 +38,7 @@ pub enum Refusal {
     InUse,
     /// An acyclic relationship would get a cycle.
     Cycle,
-    /// An entity would hold more than 64 ids.
+    /// An entity would hold more ids than `MOST_IDS`.
     TooManyIds,
     /// A deletion that a cleanup rule forbids.
     Panic,
