@@ -205,6 +205,14 @@ an_index_retires_after_65536_deletions : next_entity (record sky { live = []; de
 unfolding next_among
 an_index_retires_after_65536_deletions = refl
 
+no_index_behind_the_last_is_given_out : next_among ((64, 0) ∷ (66, 0) ∷ []) ((65, 65536) ∷ []) 66 ≡ None
+unfolding next_among
+no_index_behind_the_last_is_given_out = refl
+
+the_last_index_is_given_out : next_among ((64, 0) ∷ (65, 0) ∷ []) ((66, 1) ∷ []) 66 ≡ Some (record { index = 66; generation = 1 })
+unfolding next_among
+the_last_index_is_given_out = refl
+
 -- what a step says has changed
 
 abbrev changes_of : Command → Option Changed
