@@ -1,10 +1,11 @@
--- The two maps of an index of names, and what the index says of them, before and after a change.
-use Rattle.std.proofs.Common.{◌≡◌, ◌≢◌, ℕ, ◌==◌, ◌&&◌, Bool, true, false, cond, List, [], ◌∷◌, Some, None, Option, is_some, true≢false, map, option_map, bytes_eq, ◌↔◌, refl, sym, ap, subst, ◌∙◌}
+-- What an index of names says of its fields, and what a change does to its names.
+use Rattle.std.proofs.Common.{◌≡◌, ◌≢◌, ℕ, ◌==◌, ◌&&◌, Bool, true, false, cond, List, [], ◌∷◌, Some, None, Option, is_some, true≢false, map, option_map, slice_get, IfSome, bytes_eq, ◌↔◌, refl, sym, ap, subst, ◌∙◌}
 use Rattle.std.specs.declared.string.String.{String}
-use Rattle.std.specs.String.{string_bytes, string_eq}
+use Rattle.std.specs.String.{string_bytes, string_eq, string_eq_equiv}
 use Rattle.std.specs.Ordering.{nat_cmp}
 use Rattle.std.specs.Cmp.Lexicographic.{slice_cmp, nat_list_cmp_total, nat_list_eq_equiv}
-use Rattle.std.specs.HashMap.{HashMap, get, get_by_text, Updates, UpdatesBy}
+use Rattle.std.specs.HashMap.{HashMap, get_by_text, Updates, UpdatesBy}
+use Rattle.std.specs.List.{swap_remove}
 use Rattle.std.specs.Map.{lookup}
 use Rattle.std.specs.FinMap as finite
 use Rattle.std.specs.FinMap.{find, slice_cmp-IsAntisymmetric, nat_cmp-IsAntisymmetric}
@@ -13,7 +14,10 @@ use Rattle.std.proofs.lemmas.Map.Text.{is_eq-slice_cmp, hash_map_updates_text}
 use Rattle.std.proofs.lemmas.Slice.Eq.{bytes_eq-Decides}
 use Rattle.std.proofs.lemmas.Bool.Decides.{Decides-eqb}
 use Rattle.ecs_id.specs.declared.EntityId.{EntityId}
-use Rattle.name_index.specs.Names.{Names, names_in, entity_eq, IsUnnamed, IsOneToOne, OthersKeepTheirs, AreInverse}
+use Rattle.std.proofs.lemmas.Map.Entries.{lookup_from_place, place_from_lookup}
+use Rattle.name_index.specs.declared.positions.Positions.{Positions}
+use Rattle.name_index.specs.Names.{Names, names_in, entity_eq, IsUnnamed, IsOneToOne, OthersKeepTheirs, AreKept, holder_at}
+use Rattle.name_index.specs.Positions.{position_of}
 
 -- the test of entities tells whether they are one
 both : (a b : Bool) → (a && b) ≡ true → (a ≡ true) × (b ≡ true)
@@ -32,6 +36,20 @@ module _ {Y : Type 0} where
   find-named : (es : List (String Y × EntityId)) (q : List ℕ) → find (slice_cmp nat_cmp) q (map (λ p. (string_bytes p.0, p.1)) es) ≡ lookup (λ k. bytes_eq q (string_bytes k)) es
   find-named [] q = refl
   find-named (e ∷ es) q = λ i. cond (is_eq-slice_cmp q (string_bytes e.0) i) (Some e.1) (find-named es q i)
+
+entry_of : {K : Type 0} (o : Option (K × EntityId)) (e : EntityId) → option_map (λ p. p.1) o ≡ Some e → (k : K) × (o ≡ Some (k, e))
+entry_of None e h = let no : None ≡ Some e = h in cc
+entry_of (Some p) e h = (p.0, let same : p.1 ≡ e = cc in ap (λ x. Some (p.0, x)) same)
+
+none_if : {X : Type 0} (o : Option X) → ((x : X) → o ≡ Some x → ⊥) → o ≡ None
+none_if None k = refl
+none_if (Some x) k = absurd (k x refl)
+
+pub none_some : {X : Type 0} (x : X) → None ≡ Some x → ⊥
+none_some x h = cc
+
+pub first_same : {A B : Type 0} (p q : A × B) → Some p ≡ Some q → p.0 ≡ q.0
+first_same p q h = let same : p ≡ q = cc in ap (λ x. x.0) same
 
 module _ {Y S : Type 0} where
   pub get-names_in : (m : HashMap (String Y) EntityId S) (q : List ℕ) → finite.get (names_in m) q ≡ get_by_text m q
@@ -52,73 +70,49 @@ module _ {Y S : Type 0} where
   pub names_in-unchanged : (m n : HashMap (String Y) EntityId S) → n.entries ≡ m.entries → names_in n ≡ names_in m
   names_in-unchanged m n e = ap (λ es. finite.from_entries (map (λ p. (string_bytes p.0, p.1)) es)) e
 
--- what the two maps have at one name and one entity, after both take the pair. b and d say whether the name is q, and the entity f
-pair_in : (b d : Bool) (mq nq : Option EntityId) (je ke : Option (List ℕ)) (bs q : List ℕ) (e f : EntityId) → (b ≡ true → bs ≡ q) → (bs ≡ q → b ≡ true) → (d ≡ true → e ≡ f) → (e ≡ f → d ≡ true)
-    → nq ≡ cond b (Some e) mq → ke ≡ cond d (Some bs) je → (b ≡ true → mq ≡ None) → (d ≡ true → je ≡ None) → (mq ≡ Some f → je ≡ Some q) → (je ≡ Some q → mq ≡ Some f) → (nq ≡ Some f) ↔ (ke ≡ Some q)
-pair_in true true mq nq je ke bs q e f bq qb ef fe n k fm fj to from = (λ h. k ∙ ap Some (bq refl), λ h. n ∙ ap Some (ef refl))
-pair_in true false mq nq je ke bs q e f bq qb ef fe n k fm fj to from = (λ h. let same : e ≡ f = cc in let no : false ≡ true = fe same in cc, λ h. let m : mq ≡ Some f = from (sym k ∙ h) in let none : mq ≡ None = fm refl in cc)
-pair_in false true mq nq je ke bs q e f bq qb ef fe n k fm fj to from = (λ h. let j : je ≡ Some q = to (sym n ∙ h) in let none : je ≡ None = fj refl in cc, λ h. let same : bs ≡ q = cc in let no : false ≡ true = qb same in cc)
-pair_in false false mq nq je ke bs q e f bq qb ef fe n k fm fj to from = (λ h. k ∙ to (sym n ∙ h), λ h. n ∙ from (sym k ∙ h))
-
--- after a pair goes: no other entity has the name, nor the entity another name
-pair_out : (b d : Bool) (mq nq : Option EntityId) (je ke : Option (List ℕ)) (bs q : List ℕ) (e f : EntityId) → (b ≡ true → bs ≡ q) → (bs ≡ q → b ≡ true) → (d ≡ true → e ≡ f) → (e ≡ f → d ≡ true)
-    → nq ≡ cond b None mq → ke ≡ cond d None je → (b ≡ true → mq ≡ Some e) → (d ≡ true → je ≡ Some bs) → (mq ≡ Some f → je ≡ Some q) → (je ≡ Some q → mq ≡ Some f) → (nq ≡ Some f) ↔ (ke ≡ Some q)
-pair_out true true mq nq je ke bs q e f bq qb ef fe n k fm fj to from = (λ h. cc, λ h. cc)
-pair_out true false mq nq je ke bs q e f bq qb ef fe n k fm fj to from = (λ h. cc, λ h. let m : mq ≡ Some f = from (sym k ∙ h) in let was : mq ≡ Some e = fm refl in let same : e ≡ f = cc in let no : false ≡ true = fe same in cc)
-pair_out false true mq nq je ke bs q e f bq qb ef fe n k fm fj to from = (λ h. let j : je ≡ Some q = to (sym n ∙ h) in let was : je ≡ Some bs = fj refl in let same : bs ≡ q = cc in let no : false ≡ true = qb same in cc, λ h. cc)
-pair_out false false mq nq je ke bs q e f bq qb ef fe n k fm fj to from = (λ h. k ∙ to (sym n ∙ h), λ h. n ∙ from (sym k ∙ h))
-
-at : {Y : Type 0} (b : Bool) (w x : Option (String Y)) (k : Option (String Y)) → k ≡ cond b w x → option_map string_bytes k ≡ cond b (option_map string_bytes w) (option_map string_bytes x)
-at true w x k h = ap (option_map string_bytes) h
-at false w x k h = ap (option_map string_bytes) h
-
-module _ {Y S : Type 0} (m n : HashMap (String Y) EntityId S) (i j : HashMap EntityId (String Y) S) (inv : AreInverse m i) where
-  pub AreInverse-insert : (bs : List ℕ) (e : EntityId) (t : String Y) → string_bytes t ≡ bs → get_by_text m bs ≡ None → get entity_eq i e ≡ None
-      → UpdatesBy string_eq (λ k. bytes_eq bs (string_bytes k)) m n (Some e) → Updates entity_eq i j e (Some t) → AreInverse n j
-  AreInverse-insert bs e t is no_name no_entity u v = λ q f.
-      pair_in (bytes_eq bs q) (entity_eq e f) _ _ _ _ bs q e f (bytes_eq-Decides bs q).0 (bytes_eq-Decides bs q).1 (same_entity e f) (entity_eq_true e f)
-      (hash_map_updates_text bs m n (Some e) u q) (at (entity_eq e f) (Some t) (get entity_eq i f) _ (v.0 f) ∙ ap (λ x. cond (entity_eq e f) (Some x) (option_map string_bytes (get entity_eq i f))) is)
-      (λ b. subst (λ x. get_by_text m x ≡ None) ((bytes_eq-Decides bs q).0 b) no_name) (λ d. subst (λ x. option_map string_bytes (get entity_eq i x) ≡ None) (same_entity e f d) (ap (option_map string_bytes) no_entity)) (inv q f).0 (inv q f).1
-
-  pub AreInverse-remove : (e : EntityId) (t : String Y) → get entity_eq i e ≡ Some t
-      → UpdatesBy string_eq (λ k. bytes_eq (string_bytes t) (string_bytes k)) m n None → Updates entity_eq i j e None → AreInverse n j
-  AreInverse-remove e t has u v = λ q f. let bs = string_bytes t in
-      let had : option_map string_bytes (get entity_eq i e) ≡ Some bs = ap (option_map string_bytes) has in
-      pair_out (bytes_eq bs q) (entity_eq e f) _ _ _ _ bs q e f (bytes_eq-Decides bs q).0 (bytes_eq-Decides bs q).1 (same_entity e f) (entity_eq_true e f)
-      (hash_map_updates_text bs m n None u q) (at (entity_eq e f) None (get entity_eq i f) _ (v.0 f))
-      (λ b. subst (λ x. get_by_text m x ≡ Some e) ((bytes_eq-Decides bs q).0 b) ((inv bs e).1 had)) (λ d. subst (λ x. option_map string_bytes (get entity_eq i x) ≡ Some bs) (same_entity e f d) had) (inv q f).0 (inv q f).1
-
--- the same two maps, grown
-pub AreInverse-unchanged : {Y S : Type 0} (m n : HashMap (String Y) EntityId S) (i j : HashMap EntityId (String Y) S) → n.entries ≡ m.entries → j.entries ≡ i.entries → AreInverse m i → AreInverse n j
-AreInverse-unchanged m n i j e f inv = λ q x. rw (e, f) (inv q x)
-
--- what the index says of the two maps
-module _ {Y S : Type 0} (names : Names) (m : HashMap (String Y) EntityId S) (j : HashMap EntityId (String Y) S) (view : names_in m ≡ names) (inv : AreInverse m j) where
+-- what the index says of its fields
+module _ {Y S : Type 0} (names : Names) (m : HashMap (String Y) EntityId S) (positions : Positions Y) (view : names_in m ≡ names) (kept : AreKept m positions) where
   pub found : (q : List ℕ) → finite.get names q ≡ get_by_text m q
   found q = rw (← view) (get-names_in m q)
 
-  -- the name that the map by entity has is the entity's
-  pub named : (e : EntityId) (q : List ℕ) → (option_map string_bytes (get entity_eq j e) ≡ Some q) ↔ (finite.get names q ≡ Some e)
-  named e q = (λ h. found q ∙ (inv q e).1 h, λ h. (inv q e).0 (sym (found q) ∙ h))
+  -- the name at a position is that of its entity
+  pub named_by : (i : ℕ) (k : String Y) (e : EntityId) → slice_get m.entries i ≡ Some (k, e) → finite.get names (string_bytes k) ≡ Some e
+  named_by i k e at = found (string_bytes k) ∙ lookup_from_place string_eq_equiv m.entries i k e kept.unique at
 
-  pub named_by : (e : EntityId) (t : String Y) → get entity_eq j e ≡ Some t → finite.get names (string_bytes t) ≡ Some e
-  named_by e t h = (named e (string_bytes t)).0 (ap (option_map string_bytes) h)
+  -- and each entity with a name is kept with the position of that name
+  pub place_of_name : (q : List ℕ) (e : EntityId) → finite.get names q ≡ Some e → (i : ℕ) × (k : String Y) × (slice_get m.entries i ≡ Some (k, e)) × (string_bytes k ≡ q) × (position_of positions e ≡ Some i)
+  place_of_name q e h =
+      let place = place_from_lookup (λ k. bytes_eq q (string_bytes k)) m.entries e (sym (found q) ∙ h) in
+      (place.0, place.1, place.2, sym ((bytes_eq-Decides q (string_bytes place.1)).0 place.3), (kept.at place.0 e).1 (ap (option_map (λ p. p.1)) place.2))
 
-  pub named_as : (e : EntityId) (t : String Y) → get entity_eq j e ≡ Some t → (q : List ℕ) → finite.get names q ≡ Some e → string_bytes t ≡ q
-  named_as e t h q is = let a : Some (string_bytes t) ≡ Some q = ap (option_map string_bytes) (sym h) ∙ (named e q).1 is in cc
+  pub named_as : (i : ℕ) (k : String Y) (e : EntityId) → slice_get m.entries i ≡ Some (k, e) → (q : List ℕ) → finite.get names q ≡ Some e → string_bytes k ≡ q
+  named_as i k e at q h =
+      let place = place_of_name q e h in
+      let here : position_of positions e ≡ Some i = (kept.at i e).1 (ap (option_map (λ p. p.1)) at) in
+      let same : place.0 ≡ i = (let both : Some place.0 ≡ Some i = sym place.4 ∙ here in cc) in
+      ap string_bytes (first_same (k, e) (place.1, e) (sym at ∙ ap (slice_get m.entries) (sym same) ∙ place.2)) ∙ place.3
+
+  pub unnamed : (e : EntityId) → position_of positions e ≡ None → IsUnnamed names e
+  unnamed e none q h = let place = place_of_name q e h in let no : None ≡ Some place.0 = sym none ∙ place.4 in cc
+
+  -- the name at the position that is kept for an entity
+  pub entry_at : (i : ℕ) (e : EntityId) → position_of positions e ≡ Some i → (k : String Y) × (slice_get m.entries i ≡ Some (k, e))
+  entry_at i e h = entry_of (slice_get m.entries i) e ((kept.at i e).0 h)
+
+  pub no_position : (e : EntityId) → IsUnnamed names e → position_of positions e ≡ None
+  no_position e k = none_if (position_of positions e) (λ i h. let entry = entry_at i e h in k (string_bytes entry.0) (named_by i entry.0 e entry.1))
 
   pub one_to_one : IsOneToOne names
-  one_to_one p q e h k = let a : Some p ≡ Some q = sym ((named e p).1 h) ∙ (named e q).1 k in cc
+  one_to_one p q e h k = let place = place_of_name p e h in sym place.3 ∙ named_as place.0 place.1 e place.2 q k
 
-  unnamed_at : (e : EntityId) (o : Option (String Y)) → get entity_eq j e ≡ o → IsUnnamed names e → o ≡ None
-  unnamed_at e None h k = refl
-  unnamed_at e (Some t) h k = absurd (k (string_bytes t) (named_by e t h))
-
-  pub no_entity : (e : EntityId) → IsUnnamed names e → get entity_eq j e ≡ None
-  no_entity e k = unnamed_at e _ refl k
-
-  pub unnamed : (e : EntityId) → get entity_eq j e ≡ None → IsUnnamed names e
-  unnamed e none q h = let a : None ≡ Some q = ap (option_map string_bytes) (sym none) ∙ (named e q).1 h in cc
+-- what `swap_remove_index` takes out at the position that is kept for an entity
+module _ {Y S : Type 0} (names : Names) (m n : HashMap (String Y) EntityId S) (positions : Positions Y) (view : names_in m ≡ names) (kept : AreKept m positions) (i : ℕ) (e : EntityId) (at : position_of positions e ≡ Some i) where
+  pub taken_out : (result : Option (String Y × EntityId)) → result ≡ slice_get m.entries i → IfSome result (λ p. n.entries ≡ swap_remove m.entries i p) → IfSome result (λ p. Updates string_eq m n p.0 None)
+      → (k : String Y) × (slice_get m.entries i ≡ Some (k, e)) × (n.entries ≡ swap_remove m.entries i (k, e)) × (names_in n ≡ finite.remove names (string_bytes k))
+  taken_out result is entries updates =
+      let entry = entry_at names m positions view kept i e at in
+      let some : result ≡ Some (entry.0, e) = is ∙ entry.1 in
+      (entry.0, entry.1, (rw some at entries), names_in-remove m n (string_bytes entry.0) (rw some at updates) ∙ (λ j. finite.remove (view j) (string_bytes entry.0)))
 
 -- what q names for another entity f, once bs names e where it named nothing, or nothing where it named e. b says whether q is bs
 other_at : (b : Bool) (o new w was : Option EntityId) (e f : EntityId) → new ≡ cond b w o → (b ≡ true → o ≡ was) → (w ≡ Some f → ⊥) → (was ≡ Some f → ⊥) → (new ≡ Some f) ↔ (o ≡ Some f)

@@ -1,13 +1,15 @@
 -- The names of entities: a finite map from the bytes of a name to the entity that has it.
-use Rattle.std.specs.Prelude.{◌≡◌, ◌≢◌, ℕ, ◌==◌, ◌&&◌, Bool, List, ◌↔◌, Some, map, option_map, refl}
+use Rattle.std.specs.Prelude.{◌≡◌, ◌≢◌, ℕ, ◌==◌, ◌&&◌, Bool, List, ◌↔◌, Option, Some, None, cond, map, option_map, slice_get, refl}
 use Rattle.std.specs.Ordering.{nat_cmp}
 use Rattle.std.specs.Cmp.Lexicographic.{slice_cmp}
 use Rattle.std.specs.Coded.{Coded, code_by, coded×, coded_ℕ}
 use Rattle.std.specs.declared.string.String.{String}
-use Rattle.std.specs.String.{string_bytes}
-use Rattle.std.specs.HashMap.{HashMap, get, get_by_text}
+use Rattle.std.specs.String.{string_bytes, string_eq}
+use Rattle.std.specs.HashMap.{HashMap, IsUnique}
 use Rattle.std.specs.FinMap as finite
 use Rattle.ecs_id.specs.declared.EntityId.{EntityId}
+use Rattle.name_index.specs.declared.positions.Positions.{Positions}
+use Rattle.name_index.specs.Positions.{position_of}
 
 abbrev pub Names : Type 0
 Names = finite.FinMap (slice_cmp nat_cmp) EntityId
@@ -38,7 +40,16 @@ OthersKeepTheirs old new entity =
 abbrev pub names_in : {Y S : Type 0} → HashMap (String Y) EntityId S → Names
 names_in by_name = finite.from_entries (map (λ p. (string_bytes p.0, p.1)) by_name.entries)
 
--- one map has an entity for a name exactly where the other has that name for the entity
-abbrev pub AreInverse : {Y S : Type 0} → HashMap (String Y) EntityId S → HashMap EntityId (String Y) S → Type 0
-AreInverse by_name by_entity =
-    (n : List ℕ) (e : EntityId) → (get_by_text by_name n ≡ Some e) ↔ (option_map string_bytes (get entity_eq by_entity e) ≡ Some n)
+-- the entity whose name stands at a position
+abbrev pub holder_at : {K : Type 0} → List (K × EntityId) → ℕ → Option EntityId
+holder_at entries i = option_map (λ p. p.1) (slice_get entries i)
+
+-- each entity that has a name is kept with the position of its name, and no other
+pub record AreKept {Y S : Type 0} (by_name : HashMap (String Y) EntityId S) (positions : Positions Y) : Type 0 where
+  pub unique : IsUnique string_eq by_name
+  pub at : (i : ℕ) (e : EntityId) → (position_of positions e ≡ Some i) ↔ (holder_at by_name.entries i ≡ Some e)
+
+-- the entity whose name came to the position is kept with it, and every other as before
+abbrev pub KeepsAt : {Y : Type 0} → Option EntityId → ℕ → Positions Y → Positions Y → Type 0
+KeepsAt None i old new = (q : EntityId) → position_of new q ≡ position_of old q
+KeepsAt (Some e) i old new = (q : EntityId) → position_of new q ≡ cond (entity_eq e q) (Some i) (position_of old q)

@@ -1,16 +1,16 @@
 //! The names of entities, one to one: no two entities have one name, and no entity has two.
 #![tactic(auto)]
 
-ghost use Rattle.std.specs.Prelude.{◌≡◌, ◌≢◌, ◌↔◌, ◌<◌, ℕ, List, true, false, Some, None, IsSome, IfNone, OnOk, OnErr, IfOk, IsErrOf};
+ghost use Rattle.std.specs.Prelude.{◌≡◌, ◌≢◌, ◌↔◌, ℕ, List, true, false, Some, None, IsSome, IfNone, IfSome, OnOk, OnErr, IsErrOf};
 ghost use Rattle.std.specs.Option.{option_copied};
 ghost use Rattle.std.specs.FinMap as finite;
-ghost use Rattle.std.specs.String.{string_bytes};
-ghost use Rattle.indexmap.specs.IndexMap.{IsUnchanged, spare};
 ghost use Rattle.ecs_id.specs.declared.EntityId.{EntityId};
 ghost use Rattle.ecs_model.specs.Text.{is_name};
-ghost use Rattle.name_index.specs.Names.{IsOneToOne, IsUnnamed, OthersKeepTheirs};
+ghost use Rattle.name_index.specs.Names.{holder_at, IsOneToOne, IsUnnamed, KeepsAt, OthersKeepTheirs};
+ghost use Rattle.name_index.specs.Positions.{position_of};
 
 mod error;
+mod positions;
 #[cfg(test)]
 mod tests;
 
@@ -18,25 +18,27 @@ use ecs_id::EntityId;
 use ecs_model::is_name;
 pub use error::BindError;
 use indexmap::IndexMap;
-use std::alloc::{AllocError, Allocator, Global};
+use crate::positions::Positions;
+use std::alloc::{Allocator, Global};
 use std::hash::RandomState;
 use std::marker::Model;
 
 type ByName<A> = IndexMap<String<A>, EntityId, RandomState, A>;
 
-type ByEntity<A> = IndexMap<EntityId, String<A>, RandomState, A>;
-
 /// Which entity each name names.
+///
+/// Each name is stored once: of an entity its position among the names is known. But for growth, each call takes constant time,
+/// whatever the names are, since nobody who chooses them knows the random keys.
 #[derive(Drop)]
 pub struct NameIndex<A: Allocator = Global> {
     by_name: ByName<A>,
-    by_entity: ByEntity<A>,
+    positions: Positions<A>,
 }
 
 impl<A: Allocator> Model for NameIndex<A> {
     ghost use Rattle.std.specs.Coded.{coded_ℕ, coded_list};
     ghost use Rattle.std.specs.FinMap as finite;
-    ghost use Rattle.name_index.specs.Names.{AreInverse, Names, entity_code, names_in};
+    ghost use Rattle.name_index.specs.Names.{AreKept, Names, entity_code, names_in};
 
     ghost Value = { Names };
 
@@ -44,7 +46,7 @@ impl<A: Allocator> Model for NameIndex<A> {
 
     ghost view = { λ s. names_in s.by_name };
 
-    ghost invariant = { λ s. AreInverse s.by_name s.by_entity };
+    ghost invariant = { λ s. AreKept s.by_name s.positions };
 }
 
 impl<A: Allocator + Copy> NameIndex<A> {
@@ -55,7 +57,7 @@ impl<A: Allocator + Copy> NameIndex<A> {
     {
         NameIndex {
             by_name: IndexMap::with_hasher(alloc, random),
-            by_entity: IndexMap::with_hasher(alloc, random),
+            positions: Positions::new(alloc),
         }
     }
 
@@ -78,9 +80,13 @@ impl<A: Allocator + Copy> NameIndex<A> {
         if let Some(error) = self.refusal(name) {
             return Err(error);
         }
-        let (key, text) = copies(&mut self.by_name, &mut self.by_entity, name)?;
+        let Ok(position) = u32::try_from(self.by_name.len()) else {
+            return Err(BindError::Memory);
+        };
+        let key = String::from_str(*self.by_name.allocator(), name)?;
+        self.by_name.reserve(1)?;
+        self.positions.set(entity, position)?;
         self.by_name.insert(key, entity).unwrap();
-        self.by_entity.insert(entity, text).unwrap();
         Ok(())
     }
 }
@@ -100,7 +106,9 @@ impl<A: Allocator> NameIndex<A> {
             → (option_copied result ≡ Some name) ↔ (finite.get self.now name ≡ Some entity) }
         ensures unnamed { IfNone result (IsUnnamed self.now entity) }
     {
-        Some(self.by_entity.get(&entity)?.as_str())
+        let position = self.positions.get(entity)?;
+        let (name, _) = self.by_name.get_index(position as usize)?;
+        Some(name.as_str())
     }
 
     /// Frees the name of the entity. Of an entity without a name it does nothing.
@@ -111,10 +119,11 @@ impl<A: Allocator> NameIndex<A> {
             → finite.get self.old name ≡ Some entity → self.new ≡ finite.remove self.old name }
         ensures unnamed { IsUnnamed self.old entity → self.new ≡ self.old }
     {
-        let Some(name) = self.by_entity.swap_remove(&entity) else {
+        let Some(position) = self.positions.remove(entity) else {
             return;
         };
-        self.by_name.swap_remove(name.as_str());
+        self.by_name.swap_remove_index(position as usize);
+        keep_at(&self.by_name, &mut self.positions, position);
     }
 
     // Why the text is not to be bound, apart from want of memory.
@@ -135,21 +144,12 @@ impl<A: Allocator> NameIndex<A> {
     }
 }
 
-// Two copies of a name, for two maps with room for one more entry each.
-fn copies<A: Allocator + Copy>(
-    by_name: &mut ByName<A>,
-    by_entity: &mut ByEntity<A>,
-    name: &str,
-) -> Result<(String<A>, String<A>), AllocError>
-    ensures by_name { IsUnchanged by_name.old by_name.new }
-    ensures by_entity { IsUnchanged by_entity.old by_entity.new }
-    ensures room { OnOk result ((0 < spare by_name.new) × (0 < spare by_entity.new)) }
-    ensures texts { IfOk result (λ t. (string_bytes t.0 ≡ name.now) × (string_bytes t.1 ≡ name.now)) }
+// Keeps the position for the entity whose name stands there now, if one does.
+fn keep_at<A: Allocator>(by_name: &ByName<A>, positions: &mut Positions<A>, position: u32)
+    requires { IfSome (holder_at by_name.now.entries position) (λ e. IsSome (position_of positions.old e)) }
+    ensures { KeepsAt (holder_at by_name.now.entries position) position positions.old positions.new }
 {
-    let alloc = *by_name.allocator();
-    let key = String::from_str(alloc, name)?;
-    let text = String::from_str(alloc, name)?;
-    by_name.reserve(1)?;
-    by_entity.reserve(1)?;
-    Ok((key, text))
+    if let Some((_, entity)) = by_name.get_index(position as usize) {
+        positions.replace(*entity, position);
+    }
 }

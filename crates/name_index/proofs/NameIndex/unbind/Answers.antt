@@ -1,42 +1,51 @@
 use Rattle.std.proofs.Common.{◌≡◌, Some, ◌∙◌, rules}
-use Rattle.std.specs.HashMap.{get}
 use Rattle.std.specs.String.{string_bytes}
 use Rattle.std.specs.FinMap as finite
-use Rattle.name_index.specs.Names.{names_in, entity_eq}
-use Rattle.name_index.proofs.NamesLemmas.{named_by, named_as, one_to_one, unnamed, names_in-remove, AreInverse-remove, IsUnnamed-remove, OthersKeepTheirs-remove}
+use Rattle.name_index.proofs.KeptLemmas.{AreKept-remove, moved_is_kept}
+use Rattle.name_index.proofs.NamesLemmas.{named_by, named_as, one_to_one, unnamed, taken_out, IsUnnamed-remove, OthersKeepTheirs-remove}
 use Rattle.name_index.proofs.NameIndex.unbind.Goals as goal
 
 pub returns-in_default-clause-freed : goal.returns-in_default-clause-freed
-returns-in_default-clause-freed g c = rw c.self.view_is (unnamed c.args.self.now c.self.inside.by_name c.self.inside.by_entity c.self.view_is c.self.invariant c.args.entity (search rules))
-
-pub returns-in_default-clause-others : goal.returns-in_default-clause-others
-returns-in_default-clause-others g c = rw c.self.view_is (λ q f differs. (λ h. h, λ h. h))
+returns-in_default-clause-freed g c = rw c.self.view_is (unnamed c.args.self.now c.self.inside.by_name c.self.inside.positions c.self.view_is c.self.invariant c.args.entity (search rules))
 
 pub returns-in_default-clause-named : goal.returns-in_default-clause-named
-returns-in_default-clause-named g c = λ q h. absurd (unnamed c.args.self.now c.self.inside.by_name c.self.inside.by_entity c.self.view_is c.self.invariant c.args.entity (search rules) q h)
+returns-in_default-clause-named g c = λ q h. absurd (unnamed c.args.self.now c.self.inside.by_name c.self.inside.positions c.self.view_is c.self.invariant c.args.entity (search rules) q h)
+
+pub keep_at-requires : goal.keep_at-requires
+keep_at-requires g c =
+    let out = taken_out c.args.self.now c.self.inside.by_name c.swap_remove_index.new.self c.self.inside.positions c.self.view_is c.self.invariant c.in-Some.position c.args.entity (search rules)
+        c.swap_remove_index.result c.swap_remove_index.ensures.entry c.swap_remove_index.ensures.entries c.swap_remove_index.ensures.updates in
+    moved_is_kept c.self.inside.by_name c.swap_remove_index.new.self c.self.inside.positions c.remove.new.self c.self.invariant c.in-Some.position c.args.entity (out.0, c.args.entity) (search rules) out.2 c.remove.ensures.removed
 
 pub invariant_of-self-2 : goal.invariant_of-self-2
-invariant_of-self-2 g c = AreInverse-remove c.self.inside.by_name c.swap_remove-2.new.self c.self.inside.by_entity c.swap_remove.new.self c.self.invariant c.args.entity c.in-Some.name (search rules) (rw c.as_str.ensures.value at c.swap_remove-2.ensures.updates) (search rules)
+invariant_of-self-2 g c =
+    let out = taken_out c.args.self.now c.self.inside.by_name c.swap_remove_index.new.self c.self.inside.positions c.self.view_is c.self.invariant c.in-Some.position c.args.entity (search rules)
+        c.swap_remove_index.result c.swap_remove_index.ensures.entry c.swap_remove_index.ensures.entries c.swap_remove_index.ensures.updates in
+    AreKept-remove c.self.inside.by_name c.swap_remove_index.new.self c.self.inside.positions c.remove.new.self c.self.invariant c.in-Some.position c.args.entity (out.0, c.args.entity) (search rules) out.2 c.remove.ensures.removed
+    c.keep_at.new.positions c.swap_remove_index.ensures.unique c.keep_at.ensures
 
 pub returns-clause-freed : goal.returns-clause-freed
 returns-clause-freed g c =
-    let has : finite.get c.args.self.now (string_bytes c.in-Some.name) ≡ Some c.args.entity = named_by c.args.self.now c.self.inside.by_name c.self.inside.by_entity c.self.view_is c.self.invariant c.args.entity c.in-Some.name (search rules) in
-    let gone : names_in c.swap_remove-2.new.self ≡ finite.remove c.args.self.now (string_bytes c.in-Some.name) =
-    names_in-remove c.self.inside.by_name c.swap_remove-2.new.self (string_bytes c.in-Some.name) (rw c.as_str.ensures.value at c.swap_remove-2.ensures.updates) ∙ (λ i. finite.remove (c.self.view_is i) (string_bytes c.in-Some.name)) in
-    rw gone (IsUnnamed-remove c.args.self.now (string_bytes c.in-Some.name) c.args.entity (one_to_one c.args.self.now c.self.inside.by_name c.self.inside.by_entity c.self.view_is c.self.invariant) has)
+    let out = taken_out c.args.self.now c.self.inside.by_name c.swap_remove_index.new.self c.self.inside.positions c.self.view_is c.self.invariant c.in-Some.position c.args.entity (search rules)
+        c.swap_remove_index.result c.swap_remove_index.ensures.entry c.swap_remove_index.ensures.entries c.swap_remove_index.ensures.updates in
+    rw out.3 (IsUnnamed-remove c.args.self.now (string_bytes out.0) c.args.entity (one_to_one c.args.self.now c.self.inside.by_name c.self.inside.positions c.self.view_is c.self.invariant)
+    (named_by c.args.self.now c.self.inside.by_name c.self.inside.positions c.self.view_is c.self.invariant c.in-Some.position out.0 c.args.entity out.1))
 
 pub returns-clause-others : goal.returns-clause-others
 returns-clause-others g c =
-    let has : finite.get c.args.self.now (string_bytes c.in-Some.name) ≡ Some c.args.entity = named_by c.args.self.now c.self.inside.by_name c.self.inside.by_entity c.self.view_is c.self.invariant c.args.entity c.in-Some.name (search rules) in
-    let gone : names_in c.swap_remove-2.new.self ≡ finite.remove c.args.self.now (string_bytes c.in-Some.name) =
-    names_in-remove c.self.inside.by_name c.swap_remove-2.new.self (string_bytes c.in-Some.name) (rw c.as_str.ensures.value at c.swap_remove-2.ensures.updates) ∙ (λ i. finite.remove (c.self.view_is i) (string_bytes c.in-Some.name)) in
-    rw gone (OthersKeepTheirs-remove c.args.self.now (string_bytes c.in-Some.name) c.args.entity has)
+    let out = taken_out c.args.self.now c.self.inside.by_name c.swap_remove_index.new.self c.self.inside.positions c.self.view_is c.self.invariant c.in-Some.position c.args.entity (search rules)
+        c.swap_remove_index.result c.swap_remove_index.ensures.entry c.swap_remove_index.ensures.entries c.swap_remove_index.ensures.updates in
+    rw out.3 (OthersKeepTheirs-remove c.args.self.now (string_bytes out.0) c.args.entity
+    (named_by c.args.self.now c.self.inside.by_name c.self.inside.positions c.self.view_is c.self.invariant c.in-Some.position out.0 c.args.entity out.1))
 
 pub returns-clause-named : goal.returns-clause-named
 returns-clause-named g c = λ q h.
-    let has : get entity_eq c.self.inside.by_entity c.args.entity ≡ Some c.in-Some.name = search rules in
-    let same : string_bytes c.in-Some.name ≡ q = named_as c.args.self.now c.self.inside.by_name c.self.inside.by_entity c.self.view_is c.self.invariant c.args.entity c.in-Some.name has q h in
-    names_in-remove c.self.inside.by_name c.swap_remove-2.new.self (string_bytes c.in-Some.name) (rw c.as_str.ensures.value at c.swap_remove-2.ensures.updates) ∙ (λ i. finite.remove (c.self.view_is i) (same i))
+    let out = taken_out c.args.self.now c.self.inside.by_name c.swap_remove_index.new.self c.self.inside.positions c.self.view_is c.self.invariant c.in-Some.position c.args.entity (search rules)
+        c.swap_remove_index.result c.swap_remove_index.ensures.entry c.swap_remove_index.ensures.entries c.swap_remove_index.ensures.updates in
+    out.3 ∙ (λ i. finite.remove c.args.self.now (named_as c.args.self.now c.self.inside.by_name c.self.inside.positions c.self.view_is c.self.invariant c.in-Some.position out.0 c.args.entity out.1 q h i))
 
 pub returns-clause-unnamed : goal.returns-clause-unnamed
-returns-clause-unnamed g c = λ k. absurd (k (string_bytes c.in-Some.name) (named_by c.args.self.now c.self.inside.by_name c.self.inside.by_entity c.self.view_is c.self.invariant c.args.entity c.in-Some.name (search rules)))
+returns-clause-unnamed g c = λ k.
+    let out = taken_out c.args.self.now c.self.inside.by_name c.swap_remove_index.new.self c.self.inside.positions c.self.view_is c.self.invariant c.in-Some.position c.args.entity (search rules)
+        c.swap_remove_index.result c.swap_remove_index.ensures.entry c.swap_remove_index.ensures.entries c.swap_remove_index.ensures.updates in
+    absurd (k (string_bytes out.0) (named_by c.args.self.now c.self.inside.by_name c.self.inside.positions c.self.view_is c.self.invariant c.in-Some.position out.0 c.args.entity out.1))
