@@ -1,13 +1,15 @@
-//! Makes a million entities, then deletes and makes entities a million times in a mixed order, and then looks up a million names.
+//! Makes a million entities, then deletes and makes entities a million times in a mixed order, then looks up a million names, and
+//! then the names of a million entities.
 //!
-//! It prints a checksum of all entities that were made, and how many are left, and then a checksum of the entities that were
-//! found by their names, and how many were. Time it from outside.
+//! It prints a checksum of all entities that were made, and how many are left, then a checksum of the entities that were found by
+//! their names, and how many were, and then the bytes of the names that were found by their entities. Time it from outside.
 #![tactic(auto)]
 
 use ecs_id::EntityId;
 use entity_index::{CreateError, EntityIndex};
 use name_index::{BindError, NameIndex};
 use std::alloc::{AllocError, Global};
+use std::hash::RandomState;
 
 const LAST: u32 = 16_777_215;
 
@@ -86,9 +88,9 @@ struct Lookups {
 }
 
 impl Lookups {
-    fn new(alloc: Global) -> Result<Lookups, BindError> {
+    fn new(alloc: Global, random: RandomState) -> Result<Lookups, BindError> {
         let mut lookups = Lookups {
-            index: NameIndex::new(alloc),
+            index: NameIndex::new(alloc, random),
             names: Vec::new(alloc),
         };
         for number in 0..NAMES {
@@ -132,6 +134,22 @@ fn find_all(lookups: &Lookups) -> (u64, u64) {
     (checksum, found)
 }
 
+/// The bytes of the names that the entities have.
+fn name_all(lookups: &Lookups) -> u64 {
+    let mut numbers = Numbers { state: 3 };
+    let mut bytes = 0u64;
+    for _ in 0..STEPS {
+        let entity = EntityId {
+            index: (numbers.next() % u64::from(NAMES)) as u32,
+            generation: 0,
+        };
+        if let Some(name) = lookups.index.name_of(entity) {
+            bytes = bytes.wrapping_add(name.len() as u64);
+        }
+    }
+    bytes
+}
+
 fn main(rt: HostRuntime) -> std::io::Result<()> {
     match run(rt.alloc()) {
         Ok(bench) => {
@@ -141,10 +159,12 @@ fn main(rt: HostRuntime) -> std::io::Result<()> {
         }
         Err(error) => println!(rt; "{error:?}")?,
     }
-    match Lookups::new(rt.alloc()) {
+    match Lookups::new(rt.alloc(), RandomState::new(&rt)?) {
         Ok(lookups) => {
             let (checksum, found) = find_all(&lookups);
             println!(rt; "{checksum} {found}")?;
+            let bytes = name_all(&lookups);
+            println!(rt; "{bytes}")?;
         }
         Err(error) => println!(rt; "{error:?}")?,
     }

@@ -1,4 +1,3 @@
 mod EnteredLemmas
 mod ListedLemmas
 mod Same
-mod SlotLemmas

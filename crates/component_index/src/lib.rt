@@ -10,27 +10,27 @@ ghost use Rattle.component_index.specs.Entered.{table_eq, IsMatched};
 
 mod lists;
 mod pattern;
-#[cfg(test)]
-mod tests;
 
 use crate::lists::{Lists, list_all, unlist_all};
 use ecs_id::{Id, TableKey};
 use indexmap::IndexMap;
 pub use pattern::{Part, Pattern};
 use std::alloc::{AllocError, Allocator, Global};
-use std::hash::{BuildHasherDefault, FoldHasher};
+use std::hash::RandomState;
 use std::marker::Model;
 
-type Entered<A> = IndexMap<TableKey, Vec<Id, A>, BuildHasherDefault<FoldHasher>, A>;
+type Entered<A> = IndexMap<TableKey, Vec<Id, A>, RandomState, A>;
 
 /// For each pattern, the tables that have an id that it matches.
 ///
 /// But for growth, `enter` and `leave` take time in the number of the table's ids, and not in that of the tables; `tables_of` takes
-/// constant time. Only `enter` takes memory.
+/// constant time. So it is whichever ids the tables have, since nobody who chooses them knows the random keys. Only `enter` takes
+/// memory.
 #[derive(Drop)]
 pub struct ComponentIndex<A: Allocator = Global> {
     entered: Entered<A>,
     lists: Lists<A>,
+    random: RandomState,
 }
 
 impl<A: Allocator> Model for ComponentIndex<A> {
@@ -50,13 +50,14 @@ impl<A: Allocator> Model for ComponentIndex<A> {
 }
 
 impl<A: Allocator + Copy> ComponentIndex<A> {
-    /// An index without tables. It takes no memory before the first one.
-    pub fn new(alloc: A) -> Self
+    /// An index without tables, which hashes patterns and tables with these random keys. It takes no memory before the first table.
+    pub fn new(alloc: A, random: RandomState) -> Self
         ensures empty { result ≡ finite.empty }
     {
         ComponentIndex {
-            entered: IndexMap::new(alloc),
-            lists: IndexMap::new(alloc),
+            entered: IndexMap::with_hasher(alloc, random),
+            lists: IndexMap::with_hasher(alloc, random),
+            random,
         }
     }
 
@@ -69,7 +70,7 @@ impl<A: Allocator + Copy> ComponentIndex<A> {
         ensures refused { OnErr result (self.new ≡ self.old) }
     {
         let own = all_ids(&mut self.entered, ids)?;
-        if let Err(error) = list_all(&mut self.lists, ids, key) {
+        if let Err(error) = list_all(&mut self.lists, self.random, ids, key) {
             unlist_all(&mut self.lists, ids, key);
             return Err(error);
         }

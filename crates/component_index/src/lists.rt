@@ -9,16 +9,17 @@ use crate::pattern::{Part, Pattern};
 use ecs_id::{Id, TableKey};
 use indexmap::{IndexMap, IndexSet};
 use std::alloc::{AllocError, Allocator};
-use std::hash::{BuildHasherDefault, FoldHasher};
+use std::hash::RandomState;
 
-pub type List<A> = IndexSet<TableKey, BuildHasherDefault<FoldHasher>, A>;
+pub type List<A> = IndexSet<TableKey, RandomState, A>;
 
 // No list is empty: the entry of a pattern goes with the last table of its list.
-pub type Lists<A> = IndexMap<Pattern, List<A>, BuildHasherDefault<FoldHasher>, A>;
+pub type Lists<A> = IndexMap<Pattern, List<A>, RandomState, A>;
 
 /// Puts the table into the list of the pattern, where it isn't in it.
 fn list<A: Allocator + Copy>(
     lists: &mut Lists<A>,
+    random: RandomState,
     pattern: Pattern,
     key: TableKey,
 ) -> Result<(), AllocError>
@@ -29,7 +30,7 @@ fn list<A: Allocator + Copy>(
         list.insert(key)?;
         return Ok(());
     }
-    let mut list = IndexSet::new(*lists.allocator());
+    let mut list = IndexSet::with_hasher(*lists.allocator(), random);
     list.insert(key)?;
     lists.insert(pattern, list)?;
     Ok(())
@@ -50,6 +51,7 @@ fn unlist<A: Allocator>(lists: &mut Lists<A>, pattern: Pattern, key: TableKey)
 
 fn list_each<A: Allocator + Copy>(
     lists: &mut Lists<A>,
+    random: RandomState,
     patterns: &[Pattern],
     key: TableKey,
 ) -> Result<(), AllocError>
@@ -57,7 +59,7 @@ fn list_each<A: Allocator + Copy>(
     ensures refused { OnErr result (Keeps lists.old lists.new (is_among patterns.now) key) }
 {
     for pattern in patterns {
-        list(lists, *pattern, key)?;
+        list(lists, random, *pattern, key)?;
     }
     Ok(())
 }
@@ -73,6 +75,7 @@ fn unlist_each<A: Allocator>(lists: &mut Lists<A>, patterns: &[Pattern], key: Ta
 /// Puts the table into the lists of the patterns that match the id.
 fn list_id<A: Allocator + Copy>(
     lists: &mut Lists<A>,
+    random: RandomState,
     id: Id,
     key: TableKey,
 ) -> Result<(), AllocError>
@@ -80,8 +83,8 @@ fn list_id<A: Allocator + Copy>(
     ensures refused { OnErr result (Keeps lists.old lists.new (λ pattern. matches pattern id) key) }
 {
     match id.second() {
-        None => list_each(lists, &of_plain(id.first()), key),
-        Some(target) => list_each(lists, &of_pair(id.first(), target), key),
+        None => list_each(lists, random, &of_plain(id.first()), key),
+        Some(target) => list_each(lists, random, &of_pair(id.first(), target), key),
     }
 }
 
@@ -98,6 +101,7 @@ fn unlist_id<A: Allocator>(lists: &mut Lists<A>, id: Id, key: TableKey)
 /// Puts the table into the lists of the patterns that match one of the ids. After an error it is in some of them.
 pub fn list_all<A: Allocator + Copy>(
     lists: &mut Lists<A>,
+    random: RandomState,
     ids: &[Id],
     key: TableKey,
 ) -> Result<(), AllocError>
@@ -105,7 +109,7 @@ pub fn list_all<A: Allocator + Copy>(
     ensures refused { OnErr result (Keeps lists.old lists.new (λ pattern. list_any (matches pattern) ids.now) key) }
 {
     for id in ids {
-        list_id(lists, *id, key)?;
+        list_id(lists, random, *id, key)?;
     }
     Ok(())
 }

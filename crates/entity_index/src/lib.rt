@@ -5,8 +5,6 @@ mod index;
 mod live;
 mod packed;
 mod slot;
-#[cfg(test)]
-mod tests;
 
 pub use index::{CreateError, EntityIndex};
 pub use live::Live;

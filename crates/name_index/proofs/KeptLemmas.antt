@@ -58,12 +58,14 @@ module _ {Y S : Type 0} (m n : HashMap (String Y) EntityId S) (old new : Positio
   pushed : (b c : Bool) (i : ℕ) (q : EntityId) → (b ≡ true → e ≡ q) → (e ≡ q → b ≡ true) → (c ≡ true → i ≡ length m.entries) → (i ≡ length m.entries → c ≡ true) → position_of old e ≡ None
       → position_of new q ≡ cond b (Some (length m.entries)) (position_of old q) → holder_at n.entries i ≡ cond c (Some e) (holder_at m.entries i) → (position_of new q ≡ Some i) ↔ (holder_at n.entries i ≡ Some q)
   pushed true true i q bq qb ci ic none at hold = (λ h. hold ∙ ap Some (bq refl), λ h. at ∙ ap Some (sym (ci refl)))
-  pushed true false i q bq qb ci ic none at hold =
-      (λ h. let here : Some (length m.entries) ≡ Some i = sym at ∙ h in let same : i ≡ length m.entries = cc in absurd (true≢false (sym (ic same))),
-       λ h. let was : position_of old q ≡ Some i = (kept.at i q).1 (sym hold ∙ h) in let none_q : position_of old q ≡ None = ap (position_of old) (sym (bq refl)) ∙ none in cc)
-  pushed false true i q bq qb ci ic none at hold =
-      (λ h. let within : i < length m.entries = holder_at_within m.entries i q ((kept.at i q).0 (sym at ∙ h)) in let last : i ≡ length m.entries = ci refl in absurd (omega arith),
-       λ h. let same : Some e ≡ Some q = sym hold ∙ h in let one : e ≡ q = cc in absurd (true≢false (sym (qb one))))
+  pushed true false i q bq qb ci ic none at hold = (
+    λ h. let here : Some (length m.entries) ≡ Some i = sym at ∙ h in let same : i ≡ length m.entries = cc in absurd (true≢false (sym (ic same))),
+    λ h. let was : position_of old q ≡ Some i = (kept.at i q).1 (sym hold ∙ h) in let none_q : position_of old q ≡ None = ap (position_of old) (sym (bq refl)) ∙ none in cc,
+  )
+  pushed false true i q bq qb ci ic none at hold = (
+    λ h. let within : i < length m.entries = holder_at_within m.entries i q ((kept.at i q).0 (sym at ∙ h)) in let last : i ≡ length m.entries = ci refl in absurd (omega arith),
+    λ h. let same : Some e ≡ Some q = sym hold ∙ h in let one : e ≡ q = cc in absurd (true≢false (sym (qb one))),
+  )
   pushed false false i q bq qb ci ic none at hold = (λ h. hold ∙ (kept.at i q).0 (sym at ∙ h), λ h. at ∙ (kept.at i q).1 (sym hold ∙ h))
 
   pub AreKept-push : n.entries ≡ m.entries ++ (k, e) ∷ [] → IsUnique string_eq n → position_of old e ≡ None
@@ -107,30 +109,34 @@ module _ {Y S : Type 0} (m n : HashMap (String Y) EntityId S) (old new : Positio
     follows : (b d c : Bool) (j : ℕ) (q : EntityId) → (b ≡ true → e ≡ q) → (e ≡ q → b ≡ true) → (d ≡ true → f ≡ q) → (f ≡ q → d ≡ true) → (c ≡ true → j ≡ i) → (j ≡ i → c ≡ true)
         → position_of new q ≡ cond d (Some i) (cond b None (position_of old q)) → (position_of new q ≡ Some j) ↔ (holder_at n.entries j ≡ Some q)
     follows b true true j q bq qb dq qd cj jc at = (λ h. ap (holder_at n.entries) (cj refl) ∙ moved ∙ ap Some (dq refl), λ h. at ∙ ap Some (sym (cj refl)))
-    follows b true false j q bq qb dq qd cj jc at =
-        (λ h. let same : Some i ≡ Some j = sym at ∙ h in let one : j ≡ i = cc in absurd (true≢false (sym (jc one))),
-         λ h. let apart : j ≢ i = λ one. true≢false (sym (jc one)) in
-         let lower : j < length m.entries - 1 = below j q h in
-         let one : j ≡ length m.entries - 1 = same_place q j (length m.entries - 1) (sym (stays j apart lower) ∙ h) (last_at f moved ∙ ap Some (dq refl)) in absurd (omega arith))
-    follows true false c j q bq qb dq qd cj jc at =
-        (λ h. let no : None ≡ Some j = sym at ∙ h in cc,
-         λ h. let lower : j < length m.entries - 1 = below j q h in
-         elim_at c j q bq qb dq qd cj jc h)
+    follows b true false j q bq qb dq qd cj jc at = (
+      λ h. let same : Some i ≡ Some j = sym at ∙ h in let one : j ≡ i = cc in absurd (true≢false (sym (jc one))),
+      λ h. let apart : j ≢ i = λ one. true≢false (sym (jc one)) in
+          let lower : j < length m.entries - 1 = below j q h in
+          let one : j ≡ length m.entries - 1 = same_place q j (length m.entries - 1) (sym (stays j apart lower) ∙ h) (last_at f moved ∙ ap Some (dq refl)) in absurd (omega arith),
+    )
+    follows true false c j q bq qb dq qd cj jc at = (
+      λ h. let no : None ≡ Some j = sym at ∙ h in cc,
+      λ h. let lower : j < length m.entries - 1 = below j q h in
+          elim_at c j q bq qb dq qd cj jc h,
+    )
       where
         elim_at : (c : Bool) (j : ℕ) (q : EntityId) → (true ≡ true → e ≡ q) → (e ≡ q → true ≡ true) → (false ≡ true → f ≡ q) → (f ≡ q → false ≡ true) → (c ≡ true → j ≡ i) → (j ≡ i → c ≡ true) → holder_at n.entries j ≡ Some q → position_of new q ≡ Some j
         elim_at true j q bq qb dq qd cj jc h = let same : Some f ≡ Some q = sym moved ∙ ap (holder_at n.entries) (sym (cj refl)) ∙ h in let one : f ≡ q = cc in absurd (true≢false (sym (qd one)))
         elim_at false j q bq qb dq qd cj jc h = let apart : j ≢ i = λ one. true≢false (sym (jc one)) in
             absurd (apart (same_place q j i (sym (stays j apart (below j q h)) ∙ h) (held ∙ ap Some (bq refl))))
-    follows false false true j q bq qb dq qd cj jc at =
-        (λ h. let same : e ≡ q = same_holder i e q held (ap (holder_at m.entries) (sym (cj refl)) ∙ (kept.at j q).0 (sym at ∙ h)) in absurd (true≢false (sym (qb same))),
-         λ h. let same : Some f ≡ Some q = sym moved ∙ ap (holder_at n.entries) (sym (cj refl)) ∙ h in let one : f ≡ q = cc in absurd (true≢false (sym (qd one))))
+    follows false false true j q bq qb dq qd cj jc at = (
+      λ h. let same : e ≡ q = same_holder i e q held (ap (holder_at m.entries) (sym (cj refl)) ∙ (kept.at j q).0 (sym at ∙ h)) in absurd (true≢false (sym (qb same))),
+      λ h. let same : Some f ≡ Some q = sym moved ∙ ap (holder_at n.entries) (sym (cj refl)) ∙ h in let one : f ≡ q = cc in absurd (true≢false (sym (qd one))),
+    )
     follows false false false j q bq qb dq qd cj jc at =
-        let apart : j ≢ i = λ one. true≢false (sym (jc one)) in
-        (λ h. let was : holder_at m.entries j ≡ Some q = (kept.at j q).0 (sym at ∙ h) in
-         let inside : j < length m.entries = holder_at_within m.entries j q was in
-         let not_last : j ≢ length m.entries - 1 = λ one. true≢false (sym (qd (same_holder (length m.entries - 1) f q (last_at f moved) (ap (holder_at m.entries) (sym one) ∙ was)))) in
-         stays j apart (omega (arith, not_last)) ∙ was,
-         λ h. at ∙ (kept.at j q).1 (sym (stays j apart (below j q h)) ∙ h))
+        let apart : j ≢ i = λ one. true≢false (sym (jc one)) in (
+          λ h. let was : holder_at m.entries j ≡ Some q = (kept.at j q).0 (sym at ∙ h) in
+              let inside : j < length m.entries = holder_at_within m.entries j q was in
+              let not_last : j ≢ length m.entries - 1 = λ one. true≢false (sym (qd (same_holder (length m.entries - 1) f q (last_at f moved) (ap (holder_at m.entries) (sym one) ∙ was)))) in
+              stays j apart (omega (arith, not_last)) ∙ was,
+          λ h. at ∙ (kept.at j q).1 (sym (stays j apart (below j q h)) ∙ h),
+        )
 
     pub AreKept-move : IsUnique string_eq n → ((q : EntityId) → position_of new q ≡ cond (entity_eq f q) (Some i) (cond (entity_eq e q) None (position_of old q))) → AreKept n new
     AreKept-move unique at = record {
@@ -148,25 +154,27 @@ module _ {Y S : Type 0} (m n : HashMap (String Y) EntityId S) (old new : Positio
     was_last = at_end (nat_lt i (length m.entries - 1)) refl
 
     goes : (b : Bool) (j : ℕ) (q : EntityId) → (b ≡ true → e ≡ q) → (e ≡ q → b ≡ true) → position_of new q ≡ cond b None (position_of old q) → (position_of new q ≡ Some j) ↔ (holder_at n.entries j ≡ Some q)
-    goes true j q bq qb at =
-        (λ h. let no : None ≡ Some j = sym at ∙ h in cc,
-         λ h. let lower : j < length m.entries - 1 = below j q h in
-         let end : i ≡ length m.entries - 1 = was_last in
-         let apart : j ≢ i = λ one. absurd (omega arith) in
-         absurd (apart (same_place q j i (sym (stays j apart lower) ∙ h) (held ∙ ap Some (bq refl)))))
-    goes false j q bq qb at =
-        (λ h. let was : holder_at m.entries j ≡ Some q = (kept.at j q).0 (sym at ∙ h) in
-         let inside : j < length m.entries = holder_at_within m.entries j q was in
-         let end : i ≡ length m.entries - 1 = was_last in
-         let apart : j ≢ i = λ one. true≢false (sym (qb (same_holder i e q held (ap (holder_at m.entries) (sym one) ∙ was)))) in
-         stays j apart (omega (arith, apart)) ∙ was,
-         λ h. let lower : j < length m.entries - 1 = below j q h in
-         let end : i ≡ length m.entries - 1 = was_last in
-         let apart : j ≢ i = λ one. absurd (omega arith) in
-         at ∙ (kept.at j q).1 (sym (stays j apart lower) ∙ h))
+    goes true j q bq qb at = (
+      λ h. let no : None ≡ Some j = sym at ∙ h in cc,
+      λ h. let lower : j < length m.entries - 1 = below j q h in
+          let end : i ≡ length m.entries - 1 = was_last in
+          let apart : j ≢ i = λ one. absurd (omega arith) in
+          absurd (apart (same_place q j i (sym (stays j apart lower) ∙ h) (held ∙ ap Some (bq refl)))),
+    )
+    goes false j q bq qb at = (
+      λ h. let was : holder_at m.entries j ≡ Some q = (kept.at j q).0 (sym at ∙ h) in
+          let inside : j < length m.entries = holder_at_within m.entries j q was in
+          let end : i ≡ length m.entries - 1 = was_last in
+          let apart : j ≢ i = λ one. true≢false (sym (qb (same_holder i e q held (ap (holder_at m.entries) (sym one) ∙ was)))) in
+          stays j apart (omega (arith, apart)) ∙ was,
+      λ h. let lower : j < length m.entries - 1 = below j q h in
+          let end : i ≡ length m.entries - 1 = was_last in
+          let apart : j ≢ i = λ one. absurd (omega arith) in
+          at ∙ (kept.at j q).1 (sym (stays j apart lower) ∙ h),
+    )
 
     pub AreKept-pop : IsUnique string_eq n → ((q : EntityId) → position_of new q ≡ cond (entity_eq e q) None (position_of old q)) → AreKept n new
-    AreKept-pop unique at = record { unique = unique; at = λ j q. goes (entity_eq e q) j q (same_entity e q) (entity_eq_true e q) (at q); }
+    AreKept-pop unique at = record { unique = unique; at = λ j q. goes (entity_eq e q) j q (same_entity e q) (entity_eq_true e q) (at q) }
 
 -- the same, in two steps: the entity is no longer kept, and then the entity whose name moved is kept with the place
 module _ {Y S : Type 0} (m n : HashMap (String Y) EntityId S) (old mid : Positions Y) (kept : AreKept m old) (i : ℕ) (e : EntityId) (p : String Y × EntityId) (had : position_of old e ≡ Some i) (entries : n.entries ≡ swap_remove m.entries i p)

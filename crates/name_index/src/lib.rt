@@ -11,14 +11,12 @@ ghost use Rattle.name_index.specs.Positions.{position_of};
 
 mod error;
 mod positions;
-#[cfg(test)]
-mod tests;
 
+use crate::positions::Positions;
 use ecs_id::EntityId;
 use ecs_model::is_name;
 pub use error::BindError;
 use indexmap::IndexMap;
-use crate::positions::Positions;
 use std::alloc::{Allocator, Global};
 use std::hash::RandomState;
 use std::marker::Model;

@@ -120,10 +120,7 @@ fn holds_another(by_index: &[Option<Held>], entity: EntityId) -> bool
 }
 
 // Makes the list long enough for the index.
-fn reach<A: Allocator>(
-    by_index: &mut Vec<Option<Held>, A>,
-    index: u32,
-) -> Result<(), AllocError>
+fn reach<A: Allocator>(by_index: &mut Vec<Option<Held>, A>, index: u32) -> Result<(), AllocError>
     ensures within { OnOk result (index < length by_index.new.items) }
     ensures same { (i : ℕ) → slice_index_or by_index.new.items i None ≡ slice_index_or by_index.old.items i None }
 {

@@ -29,6 +29,7 @@ pub returns-clause-named : goal.returns-clause-named
 returns-clause-named g c = λ q.
     let entry = entry_at c.args.self.now c.self.inside.by_name c.self.inside.positions c.self.view_is c.self.invariant c.in_ok-position.position c.args.entity (search rules) in
     let there : slice_get c.self.inside.by_name.entries c.in_ok-position.position ≡ Some (c.in_ok-name.name.now, c.in_ok-name.field-0-1.now) = search rules in
-    let text : c.as_str.result.now ≡ string_bytes entry.0 = c.as_str.ensures.value ∙ ap string_bytes (sym (first_same (entry.0, c.args.entity) (c.in_ok-name.name.now, c.in_ok-name.field-0-1.now) (sym entry.1 ∙ there))) in
-    (λ h. let same : c.as_str.result.now ≡ q = cc in ap (finite.get c.args.self.now) (sym same ∙ text) ∙ named_by c.args.self.now c.self.inside.by_name c.self.inside.positions c.self.view_is c.self.invariant c.in_ok-position.position entry.0 c.args.entity entry.1,
-     λ h. ap Some (text ∙ named_as c.args.self.now c.self.inside.by_name c.self.inside.positions c.self.view_is c.self.invariant c.in_ok-position.position entry.0 c.args.entity entry.1 q h))
+    let text : c.as_str.result.now ≡ string_bytes entry.0 = c.as_str.ensures.value ∙ ap string_bytes (sym (first_same (entry.0, c.args.entity) (c.in_ok-name.name.now, c.in_ok-name.field-0-1.now) (sym entry.1 ∙ there))) in (
+      λ h. let same : c.as_str.result.now ≡ q = cc in ap (finite.get c.args.self.now) (sym same ∙ text) ∙ named_by c.args.self.now c.self.inside.by_name c.self.inside.positions c.self.view_is c.self.invariant c.in_ok-position.position entry.0 c.args.entity entry.1,
+      λ h. ap Some (text ∙ named_as c.args.self.now c.self.inside.by_name c.self.inside.positions c.self.view_is c.self.invariant c.in_ok-position.position entry.0 c.args.entity entry.1 q h),
+    )
