@@ -11,7 +11,8 @@ use Rattle.std.specs.declared.cmp.Reverse.{Reverse}
 use Rattle.ecs_id.specs.declared.EntityId.{EntityId}
 use Rattle.ecs_id.specs.declared.Place.{Place}
 use Rattle.entity_index.specs.declared.slot.Slot.{Slot}
-use Rattle.entity_index.specs.Entities.{Entities, first_index, is_alive, is_built_in, is_deletable, without_entity, IsWellFormed}
+use Rattle.ecs_model.specs.World.{first_index, is_built_in}
+use Rattle.entity_index.specs.Entities.{Entities, is_alive, is_deletable, without_entity, IsWellFormed}
 use Rattle.entity_index.specs.Slots.{unused, generations, slot_at, meaning, IsSound}
 use Rattle.entity_index.proofs.EntryLists.{Changes-set}
 use Rattle.entity_index.proofs.Meanings.{meaning-deleted}

@@ -8,7 +8,7 @@ use Rattle.std.specs.Ordering.{nat_cmp, eq_by_cmp, is_lt}
 use Rattle.std.specs.Cmp.{nat_cmp_total}
 use Rattle.std.specs.FinMap.{find, put, is_sorted, nat_cmp-IsAntisymmetric}
 use Rattle.std.specs.FinMap.Entries.{below_all, is_sorted-put, is_sorted-where_key, find-put, find-where_key, same_entries}
-use Rattle.entity_index.specs.Entities.{without_index}
+use Rattle.ecs_model.specs.Map.{without}
 use Rattle.entity_index.specs.Slots.{with_entry, entries_from}
 
 lt_true : (x n : ℕ) (b : Bool) → x < n → b ≡ true → (is_lt (nat_cmp x n) && b) ≡ true
@@ -22,9 +22,6 @@ eqb-apart x y ne = grind (arith, nat_tests)
 
 pub eqb-same : (x y : ℕ) → x ≡ y → eqb x y ≡ true
 eqb-same x y e = grind (arith, nat_tests)
-
-eqb_sym : (x y : ℕ) → eqb x y ≡ eqb y x
-eqb_sym x y = grind (arith, nat_tests)
 
 -- a list, with its default, after one place has changed
 pub record Changes {S : Type 0} (d : S) (old new : List S) (i : ℕ) (s : S) : Type 0 where
@@ -104,11 +101,11 @@ module _ {S X : Type 0} (f : S → Option X) where
           ∙ ap (λ b. cond b (Some x) (find nat_cmp q (entries_from f 0 old))) (sym (eq_by_cmp-eqb q i)) ∙ sym (find-put nat_cmp nat_cmp_total q i x (entries_from f 0 old)))
 
       -- where it has none, the map is without the index
-      pub entries-without : f s ≡ None → entries_from f 0 new ≡ without_index i (entries_from f 0 old)
+      pub entries-without : f s ≡ None → entries_from f 0 new ≡ without nat_cmp (entries_from f 0 old) (λ k. eqb k i)
       entries-without e =
-          let other : ℕ → Bool = λ k. not (eqb i k) in
+          let other : ℕ → Bool = λ k. not (eqb k i) in
           let up = passes _ (is_sorted-entries 0 old) in
-          entries_are new (without_index i (entries_from f 0 old)) (is_sorted-where_key nat_cmp other _ up)
+          entries_are new (without nat_cmp (entries_from f 0 old) (λ k. eqb k i)) (is_sorted-where_key nat_cmp other _ up)
           (λ q. at_change q ∙ (λ k. cond (eqb q i) (e k) (sym (find-entries old q) k))
           ∙ turned q (find nat_cmp q (entries_from f 0 old)) ∙ sym (find-where_key nat_cmp other q (λ x t. ap other (sym (nat_cmp-IsAntisymmetric q x t))) (entries_from f 0 old)))
         where
@@ -116,8 +113,8 @@ module _ {S X : Type 0} (f : S → Option X) where
           turned_at true o = refl
           turned_at false o = refl
 
-          turned : (q : ℕ) (o : Option X) → cond (eqb q i) None o ≡ cond (not (eqb i q)) o None
-          turned q o = ap (λ b. cond b None o) (eqb_sym q i) ∙ turned_at (eqb i q) o
+          turned : (q : ℕ) (o : Option X) → cond (eqb q i) None o ≡ cond (not (eqb q i)) o None
+          turned q o = turned_at (eqb q i) o
 
       -- where its entry stays, the map stays
       pub entries-same : f s ≡ f (get_or old i d) → entries_from f 0 new ≡ entries_from f 0 old

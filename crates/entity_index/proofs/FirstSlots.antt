@@ -11,7 +11,8 @@ use Rattle.std.specs.declared.collections.binary_heap.BinaryHeap.{BinaryHeap}
 use Rattle.std.specs.declared.cmp.Reverse.{Reverse}
 use Rattle.ecs_id.specs.declared.Place.{Place}
 use Rattle.entity_index.specs.declared.slot.Slot.{Slot}
-use Rattle.entity_index.specs.Entities.{first_index, built_in_entities}
+use Rattle.ecs_model.specs.World.{first_index}
+use Rattle.entity_index.specs.Entities.{built_in_entities}
 use Rattle.entity_index.specs.Slots.{unused, slot_at, place_at, first_slot, is_free_slot, meaning, IsSlot, IsSound}
 use Rattle.entity_index.proofs.Waiting.{count_in}
 

@@ -13,7 +13,9 @@ use Rattle.std.specs.BinaryHeap.{IsUpperBound}
 use Rattle.std.specs.declared.cmp.Reverse.{Reverse}
 use Rattle.ecs_id.specs.declared.Place.{Place}
 use Rattle.entity_index.specs.declared.slot.Slot.{Slot}
-use Rattle.entity_index.specs.Entities.{Entities, first_index, first_passing, is_free, count_at, next_entity}
+use Rattle.ecs_model.specs.Map.{count_at}
+use Rattle.ecs_model.specs.World.{first_index, first_passing, is_free, next_among}
+use Rattle.entity_index.specs.Entities.{Entities, next_entity}
 use Rattle.entity_index.specs.Slots.{unused, slot_at, is_free_slot, is_waiting, meaning}
 use Rattle.entity_index.proofs.Readings.{free_found, count_found}
 use Rattle.entity_index.proofs.Waiting.{count_in, HasWaiting, waiting_parts, is_waiting-free}
@@ -47,32 +49,32 @@ module _ (slots : List Slot) (places : List (Option Place)) (last : ℕ) (least_
 
   -- the least index that waits
   pub next-least : (i : ℕ) (s : Slot) → slot_at slots i ≡ s → is_waiting slots i ≡ true → ((q : ℕ) → q < i → is_waiting slots q ≡ false) → next_entity world ≡ Some (record { index = i; generation = s.deletions })
-  unfolding next_entity
+  unfolding next_among
   next-least i s at waits least =
       let parts = waiting_parts slots i waits in
-      let found : first_passing (is_free world) (last - first_index + 1) first_index ≡ Some i =
-      first_passing-at (is_free world) first_index (last - first_index + 1) i parts.0 (omega (arith, parts.1)) (free_found slots places last i ∙ parts.2)
+      let found : first_passing (is_free world.live world.deletions) (last - first_index + 1) first_index ≡ Some i =
+      first_passing-at (is_free world.live world.deletions) first_index (last - first_index + 1) i parts.0 (omega (arith, parts.1)) (free_found slots places last i ∙ parts.2)
       (λ q l r. free_found slots places last q ∙ not_free_here slots q l (omega (arith, parts.1)) (least q r)) in
       ap (option_map (λ j. record { index = j; generation = count_at world.deletions j })) found ∙ ap (λ d. Some (record { index = i; generation = d })) (count_found slots places last i ∙ ap (λ t. t.deletions) at)
 
   module _ (none : (q : ℕ) → is_waiting slots q ≡ false) where
     -- no index waits: the next fresh one
     pub next-fresh : length slots ≤ last → next_entity world ≡ Some (record { index = length slots; generation = 0 })
-    unfolding next_entity
+    unfolding next_among
     next-fresh room =
         let past : slot_at slots (length slots) ≡ unused = get_or_past slots (length slots) unused (omega arith) in
-        let found : first_passing (is_free world) (last - first_index + 1) first_index ≡ Some (length slots) =
-        first_passing-at (is_free world) first_index (last - first_index + 1) (length slots) given (omega arith) (free_found slots places last (length slots) ∙ ap is_free_slot past)
+        let found : first_passing (is_free world.live world.deletions) (last - first_index + 1) first_index ≡ Some (length slots) =
+        first_passing-at (is_free world.live world.deletions) first_index (last - first_index + 1) (length slots) given (omega arith) (free_found slots places last (length slots) ∙ ap is_free_slot past)
         (λ q l r. free_found slots places last q ∙ not_free_here slots q l r (none q)) in
         ap (option_map (λ j. record { index = j; generation = count_at world.deletions j })) found
         ∙ ap (λ d. Some (record { index = length slots; generation = d })) (count_found slots places last (length slots) ∙ ap (λ t. t.deletions) past)
 
     -- no index waits, and all are used
     pub next-none : last < length slots → next_entity world ≡ None
-    unfolding next_entity
+    unfolding next_among
     next-none full =
         ap (option_map (λ j. record { index = j; generation = count_at world.deletions j }))
-        (first_passing-none (is_free world) first_index (last - first_index + 1) (λ q l r. free_found slots places last q ∙ not_free_here slots q l (omega arith) (none q)))
+        (first_passing-none (is_free world.live world.deletions) first_index (last - first_index + 1) (λ q l r. free_found slots places last q ∙ not_free_here slots q l (omega arith) (none q)))
 
 count_in-cons : (y : Reverse ℕ) (ys : List (Reverse ℕ)) (q : ℕ) → count_in (y ∷ ys) q ≡ cond (eqb y.0 q) 1 0 + count_in ys q
 count_in-cons y ys q = sum_by-cons (λ r. cond (eqb r.0 q) 1 0) y ys

@@ -7,7 +7,9 @@ use Rattle.std.specs.Ordering.{nat_cmp}
 use Rattle.std.specs.FinMap.{find}
 use Rattle.ecs_id.specs.declared.EntityId.{EntityId}
 use Rattle.ecs_id.specs.declared.Place.{Place}
-use Rattle.entity_index.specs.Entities.{Entities, first_index, first_passing, is_free, is_live, is_alive, place_of, with_entity, count_at, next_entity, IsNext, IsFull, IsWellFormed}
+use Rattle.ecs_model.specs.Map.{count_at}
+use Rattle.ecs_model.specs.World.{first_index, first_passing, is_free, next_among}
+use Rattle.entity_index.specs.Entities.{Entities, is_live, is_alive, place_of, with_entity, next_entity, IsNext, IsFull, IsWellFormed}
 use Rattle.entity_index.proofs.NextEntity.{step}
 
 abbrev NonePasses : (ℕ → Bool) → ℕ → ℕ → Type 0
@@ -32,14 +34,14 @@ module _ (w : Entities) (least : first_index ≤ w.last) where
   abbrev entity_of : Option ℕ → Option EntityId
   entity_of = option_map (λ i. record { index = i; generation = count_at w.deletions i })
 
-  of_index : (o : Option ℕ) → MatchOption o (NonePasses (is_free w) first_index (w.last - first_index + 1)) (PassesFirst (is_free w) first_index (w.last - first_index + 1)) → MatchOption (entity_of o) (IsFull w) (IsNext w)
+  of_index : (o : Option ℕ) → MatchOption o (NonePasses (is_free w.live w.deletions) first_index (w.last - first_index + 1)) (PassesFirst (is_free w.live w.deletions) first_index (w.last - first_index + 1)) → MatchOption (entity_of o) (IsFull w) (IsNext w)
   of_index None none = λ i l r. none i l (omega arith)
   of_index (Some i) is = record { given_out = (is.0, omega (arith, is.1)); free = is.2; smallest = λ q l r. is.3 q l r; generation = refl }
 
   -- the next entity has the smallest free index, and where there is none no index is free
   pub next_entity-tells : MatchOption (next_entity w) (IsFull w) (IsNext w)
-  unfolding next_entity
-  next_entity-tells = of_index (first_passing (is_free w) (w.last - first_index + 1) first_index) (first_passing-tells (is_free w) (w.last - first_index + 1) first_index)
+  unfolding next_among
+  next_entity-tells = of_index (first_passing (is_free w.live w.deletions) (w.last - first_index + 1) first_index) (first_passing-tells (is_free w.live w.deletions) (w.last - first_index + 1) first_index)
 
   pub IsNext-from_next : (e : EntityId) → next_entity w ≡ Some e → IsNext w e
   IsNext-from_next e is = MatchOption-at_some (IsFull w) (IsNext w) e is next_entity-tells

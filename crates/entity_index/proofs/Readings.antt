@@ -9,7 +9,9 @@ use Rattle.std.specs.FinMap.{find}
 use Rattle.ecs_id.specs.declared.EntityId.{EntityId}
 use Rattle.ecs_id.specs.declared.Place.{Place}
 use Rattle.entity_index.specs.declared.slot.Slot.{Slot}
-use Rattle.entity_index.specs.Entities.{count_at, is_live, is_alive, entity_at, place_of, is_free}
+use Rattle.ecs_model.specs.Map.{count_at}
+use Rattle.ecs_model.specs.World.{is_free}
+use Rattle.entity_index.specs.Entities.{is_live, is_alive, entity_at, place_of}
 use Rattle.entity_index.specs.Slots.{unused, slot_at, generation_of, deletions_of, is_free_slot, generations, place_at, meaning}
 use Rattle.entity_index.proofs.EntryLists.{find-entries}
 
@@ -54,7 +56,7 @@ module _ (slots : List Slot) (places : List (Option Place)) (last : ℕ) where
   pub alive_found : (e : EntityId) → is_alive (meaning slots places last) e ≡ ((slot_at slots e.index).live && eqb (slot_at slots e.index).deletions e.generation)
   alive_found e = let s = slot_at slots e.index in ap (λ o. option_eq eqb o (Some e.generation)) (generation_found e.index) ∙ alive_at s.live s.deletions e.generation
 
-  pub free_found : (i : ℕ) → is_free (meaning slots places last) i ≡ is_free_slot (slot_at slots i)
+  pub free_found : (i : ℕ) → is_free (meaning slots places last).live (meaning slots places last).deletions i ≡ is_free_slot (slot_at slots i)
   free_found i = λ k. not (live_found i k) && ltb (count_found i k) generations
 
   abbrev entity_of : ℕ → Option ℕ → Option EntityId

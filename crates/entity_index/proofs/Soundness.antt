@@ -12,7 +12,9 @@ use Rattle.std.specs.declared.collections.binary_heap.BinaryHeap.{BinaryHeap}
 use Rattle.std.specs.declared.cmp.Reverse.{Reverse}
 use Rattle.ecs_id.specs.declared.Place.{Place}
 use Rattle.entity_index.specs.declared.slot.Slot.{Slot}
-use Rattle.entity_index.specs.Entities.{IsWellFormed, first_index, is_built_in, count_at, is_live}
+use Rattle.ecs_model.specs.Map.{count_at}
+use Rattle.ecs_model.specs.World.{first_index, is_built_in}
+use Rattle.entity_index.specs.Entities.{IsWellFormed, is_live}
 use Rattle.entity_index.specs.Slots.{unused, slot_at, place_at, generations, generation_of, deletions_of, is_free_slot, is_waiting, meaning, IsSlot, IsSound}
 use Rattle.entity_index.proofs.EntryLists.{Changes, Changes-set, Changes-push, is_sorted-entries}
 use Rattle.entity_index.proofs.Readings.{generation_found, place_found, count_found, live_found}

@@ -9,7 +9,7 @@ use Rattle.std.specs.List.{count_by}
 use Rattle.std.specs.List.Sorted.{IsPermutation}
 use Rattle.std.specs.declared.cmp.Reverse.{Reverse}
 use Rattle.entity_index.specs.declared.slot.Slot.{Slot}
-use Rattle.entity_index.specs.Entities.{first_index}
+use Rattle.ecs_model.specs.World.{first_index}
 use Rattle.entity_index.specs.Slots.{unused, slot_at, generations, is_free_slot, is_waiting}
 use Rattle.entity_index.proofs.EntryLists.{Changes, Changes-push, eqb-same, eqb-apart}
 

@@ -7,7 +7,8 @@ use Rattle.std.specs.declared.cmp.Reverse.{Reverse}
 use Rattle.ecs_id.specs.declared.EntityId.{EntityId}
 use Rattle.ecs_id.specs.declared.Place.{Place}
 use Rattle.entity_index.specs.declared.slot.Slot.{Slot}
-use Rattle.entity_index.specs.Entities.{Entities, first_index, is_built_in}
+use Rattle.ecs_model.specs.World.{first_index, is_built_in}
+use Rattle.entity_index.specs.Entities.{Entities}
 
 -- how many generations an index has
 abbrev pub generations : ℕ

@@ -5,8 +5,9 @@ ghost use Rattle.entity_index.specs.Entities.{built_in_entities, entity_at, is_a
 
 use crate::live::Live;
 use crate::packed::{PackedPlace, unpacked};
-use crate::slot::{FIRST_INDEX, Slot, first_places, first_slots};
-use ecs_id::{EntityId, Place};
+use crate::slot::{Slot, first_places, first_slots};
+use ecs_id::{EntityId, LAST_INDEX, Place};
+use ecs_model::FIRST_INDEX;
 use std::alloc::{AllocError, Allocator, Global};
 use std::cmp::Reverse;
 use std::collections::BinaryHeap;
@@ -68,8 +69,8 @@ impl<A: Allocator> Model for EntityIndex<A> {
 impl<A: Allocator + Copy> EntityIndex<A> {
     /// An index of the built-in entities alone, which gives out indexes from 64 to `last`.
     pub fn new(alloc: A, last: u32) -> Result<Self, AllocError>
-        requires least { 64 ≤ last }
-        requires greatest { last < 2 ^ 24 }
+        requires least { FIRST_INDEX ≤ last }
+        requires greatest { last ≤ LAST_INDEX }
         ensures built_in { IfOk result (λ index. index ≡ built_in_entities last) }
         ensures well_formed { IfOk result (λ index. IsWellFormed index) }
     {

@@ -4,13 +4,8 @@ ghost use Rattle.std.specs.List.{range_with_len};
 ghost use Rattle.entity_index.specs.Slots.{first_slot};
 
 use crate::packed::PackedPlace;
+use ecs_model::{FIRST_INDEX, LAST_BUILT_IN};
 use std::alloc::{AllocError, Allocator};
-
-/// The last of the built-in entities, which have the indexes from 1 on.
-pub const LAST_BUILT_IN: u32 = 22;
-
-/// The first index that is given out.
-pub const FIRST_INDEX: u32 = 64;
 
 /// The state of an index: how often it was deleted, and whether an entity lives there now.
 ///
@@ -33,14 +28,14 @@ fn first_slot_of(index: u32) -> Slot
 
 /// The slots of the indexes that are not given out: those of the built-in entities live.
 pub fn first_slots<A: Allocator>(alloc: A) -> Result<Vec<Slot, A>, AllocError>
-    ensures { IfOk result (λ slots. slots.items ≡ map first_slot (range_with_len 0 64)) }
+    ensures { IfOk result (λ slots. slots.items ≡ map first_slot (range_with_len 0 FIRST_INDEX)) }
 {
     (0..FIRST_INDEX).map(first_slot_of).collect(alloc)
 }
 
 /// The places beside these slots: none stands there.
 pub fn first_places<A: Allocator>(alloc: A) -> Result<Vec<Option<PackedPlace>, A>, AllocError>
-    ensures { IfOk result (λ places. places.items ≡ map (λ _. None) (range_with_len 0 64)) }
+    ensures { IfOk result (λ places. places.items ≡ map (λ _. None) (range_with_len 0 FIRST_INDEX)) }
 {
     (0..FIRST_INDEX).map(|_| None).collect(alloc)
 }

@@ -3,7 +3,8 @@ use Rattle.std.proofs.Common.{refl, sym, ◌∙◌, ap, arith, subst, ◌≡◌,
 use Rattle.std.proofs.lemmas.List.{get_or_default}
 use Rattle.entity_index.specs.Slots.{unused, slot_at, is_free_slot}
 use Rattle.std.specs.Option.{MatchOption}
-use Rattle.entity_index.specs.Entities.{IsFull, IsNext, first_index}
+use Rattle.ecs_model.specs.World.{first_index}
+use Rattle.entity_index.specs.Entities.{IsFull, IsNext}
 use Rattle.entity_index.proofs.NextLaws.{next_entity-tells}
 use Rattle.entity_index.proofs.NextEntity.{next-least, next-fresh, next-none, top_waits, none_waits, none_waits_below, length_of_none}
 use Rattle.ecs_id.specs.declared.EntityId.{EntityId}
