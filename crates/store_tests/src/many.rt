@@ -1,0 +1,87 @@
+use crate::sized::Sized;
+use ecs_id::{Id, TableKey};
+use std::alloc::Global;
+use std::process::Abort;
+use std::test::Fail;
+
+const COUNT: u32 = 2_000;
+
+/// Makes a table for each tag along an edge, from which another leads back.
+fn make_each(
+    rt: &impl Abort,
+    tables: &mut Sized<Global>,
+    root: TableKey,
+    made: &mut Vec<(Id, TableKey)>,
+) -> Result<(), Fail> {
+    for k in 0..COUNT {
+        let tag = Id::plain(100 + k);
+        let key = tables.with(root, tag)?;
+        assert_eq!(rt; tables.without(key, tag)?, root);
+        assert_eq!(rt; tables.with(root, tag)?, key);
+        made.push((tag, key))?;
+    }
+    Ok(())
+}
+
+/// Releases every second table, whose keys are gone then.
+fn release_half(rt: &impl Abort, tables: &mut Sized<Global>, made: &[(Id, TableKey)]) {
+    let mut goes = false;
+    for (_, key) in made {
+        if goes {
+            tables.release(*key);
+        }
+        assert_eq!(rt; tables.has(*key), !goes);
+        goes = !goes;
+    }
+}
+
+/// Finds each table again, or makes it anew in a slot that was another's. Answers how many are new.
+fn find_each(
+    rt: &impl Abort,
+    tables: &mut Sized<Global>,
+    root: TableKey,
+    made: &[(Id, TableKey)],
+) -> Result<usize, Fail> {
+    let mut anew = 0usize;
+    for (tag, key) in made {
+        let stood = tables.has(*key);
+        let again = tables.with(root, *tag)?;
+        assert_eq!(rt; again == *key, stood);
+        assert_eq!(rt; tables.has(*key), stood);
+        assert!(rt; again.slot <= COUNT);
+        if !stood {
+            anew = anew.wrapping_add(1);
+        }
+    }
+    Ok(anew)
+}
+
+/// How many tables came after a serial, which must come by rising serial.
+fn count_since(rt: &impl Abort, tables: &Sized<Global>, serial: u128) -> usize {
+    let mut count = 0usize;
+    let mut before = serial;
+    for (at, key) in tables.store.since(serial) {
+        assert!(rt; before < *at && key.serial == *at);
+        before = *at;
+        count = count.wrapping_add(1);
+    }
+    count
+}
+
+#[test]
+fn two_thousand_tables(rt: HostRuntime) -> Result<(), Fail> {
+    let mut tables = Sized::new(rt.alloc());
+    let mut made = Vec::new(rt.alloc());
+    let root = tables.root()?;
+    make_each(&rt, &mut tables, root, &mut made)?;
+    let last = tables.store.last();
+    assert_eq!(rt; last, 2_001);
+    assert_eq!(rt; count_since(&rt, &tables, root.serial), 2_000);
+    release_half(&rt, &mut tables, made.as_slice());
+    assert_eq!(rt; count_since(&rt, &tables, root.serial), 1_000);
+    assert_eq!(rt; count_since(&rt, &tables, last), 0);
+    assert_eq!(rt; find_each(&rt, &mut tables, root, made.as_slice())?, 1_000);
+    assert_eq!(rt; count_since(&rt, &tables, last), 1_000);
+    assert_eq!(rt; tables.store.last(), 3_001);
+    Ok(())
+}

@@ -1,0 +1,83 @@
+//! A store whose ids keep their sizes, so that the tests can ask it for any table.
+ghost use Rattle.std.specs.Prelude.{◌≡◌, ◌≤◌};
+ghost use Rattle.store_tests.specs.Sizes.{IsSized, bytes_of};
+
+use ecs_id::{Id, TableKey};
+use raw_column::Memory;
+use std::alloc::Allocator;
+use table_store::TableStore;
+
+/// A store in which values of the plain id 64 have 4 bytes, and all other ids are tags.
+#[derive(Drop)]
+pub struct Sized<A: Allocator> {
+    pub store: TableStore<A>,
+    ghost sized: { IsSized store },
+}
+
+fn bytes(id: Id) -> usize
+    ensures value { result ≡ bytes_of id }
+    ensures small { result ≤ 64 }
+{
+    match id.packed() {
+        64 => 4,
+        _ => 0,
+    }
+}
+
+impl<A: Allocator + Copy> Sized<A> {
+    pub fn new(alloc: A) -> Sized<A> {
+        Sized {
+            store: TableStore::new(alloc),
+        }
+    }
+
+    /// The table without ids.
+    pub fn root(&mut self) -> Result<TableKey, Memory> {
+        self.store.find_or_make(&[])
+    }
+
+    /// The table of two ids, by their list.
+    pub fn pair(&mut self) -> Result<TableKey, Memory> {
+        let (position, tag) = (Id::plain(64), Id::plain(100));
+        self.store.find_or_make(&[(position, 4), (tag, 0)])
+    }
+
+    /// The table with an id more. Of a key that is gone it answers Memory, which no test expects there.
+    pub fn with(&mut self, key: TableKey, id: Id) -> Result<TableKey, Memory> {
+        if self.store.get(key).is_none() {
+            return Err(Memory);
+        }
+        self.store.with(key, id, bytes(id))
+    }
+
+    /// The table with an id less, likewise.
+    pub fn without(&mut self, key: TableKey, id: Id) -> Result<TableKey, Memory> {
+        if self.store.get(key).is_none() {
+            return Err(Memory);
+        }
+        self.store.without(key, id)
+    }
+
+    /// Room for a row, likewise.
+    pub fn reserve(&mut self, key: TableKey) -> Result<(), Memory> {
+        if self.store.get(key).is_none() {
+            return Err(Memory);
+        }
+        self.store.reserve(key, 1)
+    }
+
+    /// Releases a table, if it has no row.
+    pub fn release(&mut self, key: TableKey) {
+        if let Some(table) = self.store.get(key)
+            && !table.rows().is_empty()
+        {
+            return;
+        }
+        self.store.release(key);
+    }
+
+    /// Whether a table stands under the key.
+    pub fn has(&self, key: TableKey) -> bool {
+        self.store.get(key).is_some()
+    }
+}
