@@ -1,167 +1,185 @@
--- The elements of a column, read from its bytes and written to them.
-use Rattle.std.proofs.Common.{◌≡◌, ℕ, zero, suc, ◌+◌, ◌-◌, ◌*◌, ◌^◌, ◌≤◌, ◌<◌, List, [], ◌∷◌, ◌++◌, take, drop, take-append-drop, length, length-append, length-take-le, length-drop, replicate, refl, sym, ap, ap₂, subst, ◌∙◌, arith}
-use Rattle.std.proofs.lemmas.List.{append_assoc, take-append-le, drop-append-le, set-get_or, take-replicate, drop-replicate, replicate-append-replicate}
-use Rattle.std.proofs.Math.Seq.{take-append_seam, drop-append_seam, take-append-add, drop-append-add}
-use native.Mathlib.Nat.{zero-mul, suc-mul, add-mul, mul-le-mul_right}
-use Rattle.std.proofs.lemmas.Nat.{le-div}
+-- The rows of a block: the first values of each column, and zeros after them.
+use Rattle.std.proofs.Common.{◌≡◌, ℕ, zero, suc, ◌+◌, ◌-◌, ◌*◌, ◌≤◌, ◌<◌, List, [], ◌∷◌, ◌++◌, map, max, ◌^◌, take, drop, length, length-take-le, slice_get, slice_index_or, Some, replicate, refl, sym, ap, ap₂, subst, ◌∙◌, arith}
+use Rattle.std.proofs.lemmas.List.{drop-append-le, drop-set, drop-set-lt, drop_more, get_or-map, get_or-take, get_or_default, length-map, length-replicate, length-set, map-set, take-append-le, take-set, take-take, take_more}
+use Rattle.std.proofs.lemmas.List.Elements.{All-map, All-set}
+use Rattle.std.proofs.Math.Seq.{drop-append_seam}
+use Rattle.std.specs.List.{All, fold, sum, swap_remove}
+use Rattle.std.proofs.lemmas.Option.{slice_get-get_or}
+use native.Mathlib.Nat.{div-mul-le_self, mul-le-mul_left, mul-le-mul_right}
 use lib.ListN.{set, get_or}
-use lib.Seq.{drop-drop}
-use Rattle.raw_column.specs.Contents.{Contents, rows, most_of}
+use Rattle.raw_column.specs.Contents.{Contents, HasZeros, IsLaidOut, column_at, first_of, most_rows, no_values, with_copied, with_item, with_zero, with_zeros, without_item}
+use Rattle.raw_column.specs.Places.{Values, columns_in, gap_filled, place_of, resized}
+use Rattle.raw_column.proofs.PlaceLemmas.{columns_get, columns_resized, length_at, length_columns, resized_all, resized_in, size_at, sizes_of_columns}
 
--- a write keeps the length
-pub length_written : (bs ws : List ℕ) (k : ℕ) → k + length ws ≤ length bs → length (take k bs ++ ws ++ drop (k + length ws) bs) ≡ length bs
-length_written bs ws k le =
-    omega (arith, le, length-append (take k bs ++ ws) (drop (k + length ws) bs), length-append (take k bs) ws, length-take-le k bs (omega arith), length-drop (k + length ws) bs)
+abbrev pub contents : ℕ → ℕ → List Values → Contents
+contents n r cs = record { len = n; room = r; columns = cs }
 
-abbrev pub contents : ℕ → ℕ → List (List ℕ) → Contents
-contents s r xs = record { size = s; room = r; items = xs }
+abbrev pub values : ℕ → List (List ℕ) → Values
+values s xs = record { size = s; items = xs }
 
--- as many elements as one block can have
-pub le_most : (s n : ℕ) → 0 < s → n * s < 2 ^ 63 → n ≤ most_of s
-le_most s n positive small = le-div n (2 ^ 63 - 1) s positive (omega (arith, small))
+-- ---- lists
+take_set : {X : Type 0} (n : ℕ) (xs : List X) (i : ℕ) (y : X) → take n (set xs i y) ≡ set (take n xs) i y
+take_set zero xs i y = refl
+take_set (suc n) [] i y = refl
+take_set (suc n) (x ∷ xs) zero y = refl
+take_set (suc n) (x ∷ xs) (suc i) y = ap (λ l. x ∷ l) (take_set n xs i y)
 
--- the zeros after a growth from c to k elements, of which n are there
-pub grown : (s n c k : ℕ) → n ≤ c → c ≤ k → (c - n) * s + (k * s - c * s) ≡ (k - n) * s
-grown s n c k le ge =
-    let r : ℕ = c - n in let e : ℕ = k - c in
-    let e1 : c ≡ n + r = omega arith in let e2 : k ≡ n + r + e = omega arith in let e3 : k - n ≡ r + e = omega arith in
-    let all : r * s + ((n + r + e) * s - (n + r) * s) ≡ (r + e) * s = omega (arith, add-mul (n + r) e s, add-mul r e s) in
-    ap₂ (λ i j. r * s + (i * s - j * s)) e2 e1 ∙ all ∙ ap (λ i. i * s) (sym e3)
+map_all : {X Y : Type 0} (f g : X → Y) (xs : List X) → ((k : ℕ) (d : X) → k < length xs → f (get_or xs k d) ≡ g (get_or xs k d)) → map f xs ≡ map g xs
+map_all f g [] same = refl
+map_all f g (x ∷ xs) same = ap₂ (λ a b. a ∷ b) (same 0 x (omega arith)) (map_all f g xs (λ k d lt. same (suc k) d (omega arith)))
 
-module _ (s : ℕ) where
-  pub length_rows : (n : ℕ) (bs : List ℕ) → length (rows s n bs) ≡ n
-  length_rows zero bs = refl
-  length_rows (suc n) bs = ap suc (length_rows n (drop s bs))
+map_twice : {X Y Z : Type 0} (f : Y → Z) (g : X → Y) (xs : List X) → map f (map g xs) ≡ map (λ x. f (g x)) xs
+map_twice f g [] = refl
+map_twice f g (x ∷ xs) = ap (λ l. f (g x) ∷ l) (map_twice f g xs)
 
-  take_first : (h ys : List ℕ) → length h ≡ s → take s (h ++ ys) ≡ h
-  take_first h ys e = subst (λ k. take k (h ++ ys) ≡ h) e (take-append_seam h ys)
+head_same : {X : Type 0} (x y : X) (xs ys : List X) → x ∷ xs ≡ y ∷ ys → x ≡ y
+head_same x y xs ys e = cc
 
-  drop_first : (h ys : List ℕ) → length h ≡ s → drop s (h ++ ys) ≡ ys
-  drop_first h ys e = subst (λ k. drop k (h ++ ys) ≡ ys) e (drop-append_seam h ys)
+tail_same : {X : Type 0} (x y : X) (xs ys : List X) → x ∷ xs ≡ y ∷ ys → xs ≡ ys
+tail_same x y xs ys e = cc
 
-  rows_cons : (n : ℕ) (h ys : List ℕ) → length h ≡ s → rows s (suc n) (h ++ ys) ≡ h ∷ rows s n ys
-  rows_cons n h ys e = ap₂ (λ x zs. x ∷ rows s n zs) (take_first h ys e) (drop_first h ys e)
+module _ (c n : ℕ) (le : n ≤ c) (ss bs : List ℕ) where
+  abbrev cols : List Values
+  cols = columns_in c ss bs
 
-  pub rows_get : (n : ℕ) (bs : List ℕ) (i : ℕ) (d : List ℕ) → i < n → get_or (rows s n bs) i d ≡ take s (drop (i * s) bs)
-  rows_get zero bs i d lt = absurd (omega arith)
-  rows_get (suc n) bs zero d lt = let none : 0 ≡ 0 * s = sym (zero-mul s) in ap (λ k. take s (drop k bs)) none
-  rows_get (suc n) bs (suc i) d lt =
-      let e : s + i * s ≡ suc i * s = omega (arith, suc-mul i s) in
-      rows_get n (drop s bs) i d (omega arith) ∙ ap (take s) (drop-drop (i * s) s bs ∙ ap (λ k. drop k bs) e)
+  long_at : (k : ℕ) (d : Values) → k < length cols → length (get_or cols k d).items ≡ c
+  long_at k d lt = length_at c ss bs k d (subst (λ m. k < m) (length_columns c ss bs) lt)
 
-  -- the bytes with ws in the place of the i-th element
-  abbrev pub written : ℕ → List ℕ → List ℕ → List ℕ
-  written i bs ws = take (i * s) bs ++ ws ++ drop (i * s + s) bs
+  module _ (zeros : All (HasZeros c n) cols) where
+    -- ---- one more row of zeros
+    pushed_at : n < c → (k : ℕ) (d : Values) → k < length cols → (let xs = (get_or cols k d).items in let z : List ℕ = replicate (get_or cols k d).size 0 in (get_or xs n z ≡ z) × (drop (n + 1) xs ≡ replicate (c - (n + 1)) z))
+    pushed_at free k d lt =
+        let v = get_or cols k d in let xs = v.items in let z : List ℕ = replicate v.size 0 in let m : ℕ = c - (n + 1) in let more : c - n ≡ suc m = omega arith in
+        let lt2 : n < length xs = subst (λ j. n < j) (sym (long_at k d lt)) free in
+        let both : get_or xs n z ∷ drop (n + 1) xs ≡ z ∷ replicate m z = sym (drop_more xs n z lt2) ∙ zeros k d lt ∙ ap (λ j. replicate j z) more in
+        (head_same (get_or xs n z) z (drop (n + 1) xs) (replicate m z) both, tail_same (get_or xs n z) z (drop (n + 1) xs) (replicate m z) both)
 
-  written_zero : (bs ws : List ℕ) → written 0 bs ws ≡ ws ++ drop s bs
-  written_zero bs ws =
-      let none : 0 * s ≡ 0 = zero-mul s in let all : 0 * s + s ≡ s = omega (arith, none) in
-      ap₂ (λ i j. take i bs ++ ws ++ drop j bs) none all
+    pub rows_pushed : n < c → map (first_of (n + 1)) cols ≡ map with_zero (map (first_of n) cols)
+    rows_pushed free = map_all (first_of (n + 1)) (λ v. with_zero (first_of n v)) cols (λ k d lt.
+        let v = get_or cols k d in let z : List ℕ = replicate v.size 0 in let lt2 : n < length v.items = subst (λ j. n < j) (sym (long_at k d lt)) free in
+        ap (values v.size) (take_more v.items n z lt2 ∙ ap (λ x. take n v.items ++ x ∷ []) (pushed_at free k d lt).0)) ∙ sym (map_twice with_zero (first_of n) cols)
 
-  written_suc : (i : ℕ) (h ys ws : List ℕ) → length h ≡ s → written (suc i) (h ++ ys) ws ≡ h ++ written i ys ws
-  written_suc i h ys ws e =
-      let e1 : suc i * s ≡ length h + i * s = omega (arith, suc-mul i s, e) in
-      let e2 : suc i * s + s ≡ length h + (i * s + s) = omega (arith, suc-mul i s, e) in
-      let t = take (i * s) ys in let d = drop (i * s + s) ys in
-      ap₂ (λ a b. a ++ ws ++ b) (ap (λ k. take k (h ++ ys)) e1 ∙ take-append-add h ys (i * s)) (ap (λ k. drop k (h ++ ys)) e2 ∙ drop-append-add h ys (i * s + s))
-      ∙ ap (λ a. a ++ d) (append_assoc h t ws) ∙ append_assoc h (t ++ ws) d
+    pub zeros_pushed : n < c → All (HasZeros c (n + 1)) cols
+    zeros_pushed free = λ k d lt. (pushed_at free k d lt).1
 
-  pub rows_write : (n : ℕ) (bs : List ℕ) (i : ℕ) (ws : List ℕ) → i < n → length ws ≡ s → n * s ≤ length bs → rows s n (written i bs ws) ≡ set (rows s n bs) i ws
-  rows_write zero bs i ws lt e le = absurd (omega arith)
-  rows_write (suc n) bs zero ws lt e le = ap (rows s (suc n)) (written_zero bs ws) ∙ rows_cons n ws (drop s bs) e
-  rows_write (suc n) bs (suc i) ws lt e le =
-      let h = take s bs in let ys = drop s bs in let first : length h ≡ s = length-take-le s bs (omega (arith, suc-mul n s, le)) in
-      ap (λ l. rows s (suc n) (written (suc i) l ws)) (sym (take-append-drop s bs)) ∙ ap (rows s (suc n)) (written_suc i h ys ws first) ∙ rows_cons n h (written i ys ws) first
-      ∙ ap (λ t. h ∷ t) (rows_write n ys i ws (omega arith) e (omega (arith, suc-mul n s, le, length-drop s bs)))
+    -- ---- another value
+    pub rows_set : (k row : ℕ) (ws : List ℕ) (d : Values) → k < length cols → map (first_of n) (set cols k (with_item (get_or cols k d) row ws)) ≡ set (map (first_of n) cols) k (with_item (get_or (map (first_of n) cols) k (no_values 0)) row ws)
+    rows_set k row ws d lt =
+        let v = get_or cols k d in
+        map-set (first_of n) cols k (with_item v row ws) ∙ ap (λ l. set (map (first_of n) cols) k (values v.size l)) (take_set n v.items row ws)
+        ∙ ap (λ (x : Values). set (map (first_of n) cols) k (with_item x row ws)) (sym (get_or-map (first_of n) cols k d (no_values 0) lt))
 
-  pub rows_prefix : (n : ℕ) (bs cs : List ℕ) → n * s ≤ length bs → rows s n (bs ++ cs) ≡ rows s n bs
-  rows_prefix zero bs cs le = refl
-  rows_prefix (suc n) bs cs le =
-      let fits : s ≤ length bs = omega (arith, suc-mul n s, le) in
-      ap₂ (λ h t. h ∷ t) (take-append-le s bs cs fits) (ap (rows s n) (drop-append-le s bs cs fits) ∙ rows_prefix n (drop s bs) cs (omega (arith, suc-mul n s, le, length-drop s bs)))
+    pub zeros_set : (k row : ℕ) (ws : List ℕ) (d : Values) → k < length cols → row < n → All (HasZeros c n) (set cols k (with_item (get_or cols k d) row ws))
+    zeros_set k row ws d lt below = All-set (HasZeros c n) cols k (with_item (get_or cols k d) row ws) (drop-set-lt n (get_or cols k d).items row ws below ∙ zeros k d lt) zeros
 
-  pub rows_take : (m n : ℕ) (bs : List ℕ) → m ≤ n → rows s m bs ≡ take m (rows s n bs)
-  rows_take zero n bs le = refl
-  rows_take (suc m) zero bs le = absurd (omega arith)
-  rows_take (suc m) (suc n) bs le = ap (λ t. take s bs ∷ t) (rows_take m n (drop s bs) (omega arith))
+    -- ---- a row less
+    removed_at : (row last : ℕ) → row ≤ last → last + 1 ≡ n → (k : ℕ) (d : Values) → k < length cols → first_of last (gap_filled row last (get_or cols k d)) ≡ without_item row (first_of n (get_or cols k d))
+    removed_at row last below one k d lt =
+        let v = get_or cols k d in let xs = v.items in let z : List ℕ = replicate v.size 0 in let w = get_or xs last [] in let ys = take n xs in
+        let long : length ys ≡ n = length-take-le n xs (omega (arith, long_at k d lt)) in let final : length ys - 1 ≡ last = omega arith in
+        let item : w ≡ get_or ys last [] = sym (get_or-take n xs last [] (omega arith)) in
+        let less : last ≤ n = omega arith in
+        ap (values v.size) (take-set (set xs row w) last z ∙ sym (take-take last n (set xs row w) less) ∙ ap (take last) (take_set n xs row w)
+        ∙ ap₂ (λ m x. take m (set ys row x)) (sym final) (item ∙ ap (λ m. get_or ys m []) (sym final)))
 
-  rows_snoc : (n : ℕ) (bs : List ℕ) → rows s (suc n) bs ≡ rows s n bs ++ take s (drop (n * s) bs) ∷ []
-  rows_snoc zero bs = let none : 0 ≡ 0 * s = sym (zero-mul s) in ap (λ k. take s (drop k bs) ∷ []) none
-  rows_snoc (suc n) bs =
-      let e : s + n * s ≡ suc n * s = omega (arith, suc-mul n s) in
-      ap (λ t. take s bs ∷ t) (rows_snoc n (drop s bs) ∙ ap (λ l. rows s n (drop s bs) ++ take s l ∷ []) (drop-drop (n * s) s bs ∙ ap (λ k. drop k bs) e))
+    pub rows_removed : (row last : ℕ) → row ≤ last → last + 1 ≡ n → map (first_of last) (map (gap_filled row last) cols) ≡ map (without_item row) (map (first_of n) cols)
+    rows_removed row last below one =
+        map_twice (first_of last) (gap_filled row last) cols ∙ map_all (λ v. first_of last (gap_filled row last v)) (λ v. without_item row (first_of n v)) cols (removed_at row last below one)
+        ∙ sym (map_twice (without_item row) (first_of n) cols)
 
-  -- a write after the first n elements leaves them
-  pub rows_before : (n : ℕ) (bs ws : List ℕ) → n * s ≤ length bs → rows s n (written n bs ws) ≡ rows s n bs
-  rows_before n bs ws le =
-      let t = take (n * s) bs in let d = drop (n * s + s) bs in
-      let front : length t ≡ n * s = length-take-le (n * s) bs le in
-      ap (rows s n) (append_assoc t ws d) ∙ rows_prefix n t (ws ++ d) (omega arith) ∙ sym (rows_prefix n t (drop (n * s) bs) (omega arith)) ∙ ap (rows s n) (take-append-drop (n * s) bs)
+    pub zeros_removed : (row last : ℕ) → row ≤ last → last + 1 ≡ n → All (HasZeros c last) (map (gap_filled row last) cols)
+    zeros_removed row last below one = All-map (HasZeros c last) (gap_filled row last) cols (λ k d lt.
+        let v = get_or cols k d in let xs = v.items in let z : List ℕ = replicate v.size 0 in let w = get_or xs last [] in let ys = set xs row w in
+        let lt2 : last < length ys = omega (arith, length-set xs row w, long_at k d lt) in let next : last + 1 ≡ n = one in let more : c - last ≡ suc (c - n) = omega arith in
+        let below2 : row < n = omega arith in
+        drop-set ys last z lt2 ∙ ap (λ j. z ∷ drop j ys) next ∙ ap (λ l. z ∷ l) (drop-set-lt n xs row w below2 ∙ zeros k d lt) ∙ ap (λ j. replicate j z) (sym more))
 
-  -- one more element, right after the first n
-  pub rows_push : (n : ℕ) (bs ws : List ℕ) → length ws ≡ s → n * s + s ≤ length bs → rows s (suc n) (written n bs ws) ≡ rows s n bs ++ ws ∷ []
-  rows_push n bs ws e le =
-      let t = take (n * s) bs in let d = drop (n * s + s) bs in
-      let front : length t ≡ n * s = length-take-le (n * s) bs (omega arith) in
-      let last : take s (drop (n * s) (written n bs ws)) ≡ ws =
-      ap (λ l. take s (drop (n * s) l)) (append_assoc t ws d) ∙ ap (take s) (subst (λ k. drop k (t ++ (ws ++ d)) ≡ ws ++ d) front (drop-append_seam t (ws ++ d))) ∙ take_first ws d e in
-      rows_snoc n (written n bs ws) ∙ ap₂ (λ xs x. xs ++ x ∷ []) (rows_before n bs ws (omega arith)) last
+  -- ---- another number of places
+  pub rows_resized : (d : ℕ) → map (first_of n) (map (resized_in n d) cols) ≡ map (first_of n) cols
+  rows_resized d = map_twice (first_of n) (resized_in n d) cols ∙ map_all (λ v. first_of n (resized_in n d v)) (first_of n) cols (λ k e lt.
+      let v = get_or cols k e in let z : List (List ℕ) = replicate (d - n) (replicate v.size 0) in
+      let long : length (take n v.items) ≡ n = length-take-le n v.items (omega (arith, long_at k e lt)) in let fits : n ≤ length (take n v.items) = omega arith in
+      let self : n ≤ n = omega arith in
+      ap (values v.size) (take-append-le n (take n v.items) z fits ∙ take-take n n v.items self))
 
-  -- the last element, copied over the i-th
-  pub rows_fill : (m : ℕ) (bs : List ℕ) (i : ℕ) → i < m → suc m * s ≤ length bs
-      → (let xs = rows s (suc m) bs in rows s (suc m) (written i bs (take s (drop (m * s) bs))) ≡ set xs i (get_or xs (length xs - 1) []))
-  rows_fill m bs i lt le =
-      let xs = rows s (suc m) bs in let w = take s (drop (m * s) bs) in let long : m ≡ length xs - 1 = omega (arith, length_rows (suc m) bs) in
-      let width : length w ≡ s = length-take-le s (drop (m * s) bs) (omega (arith, suc-mul m s, le, length-drop (m * s) bs)) in
-      let last : w ≡ get_or xs (length xs - 1) [] = sym (rows_get (suc m) bs m [] (omega arith)) ∙ ap (λ k. get_or xs k []) long in
-      rows_write (suc m) bs i w (omega arith) width le ∙ ap (set xs i) last
+  pub zeros_resized : (d : ℕ) → All (HasZeros d n) (map (resized_in n d) cols)
+  zeros_resized d = All-map (HasZeros d n) (resized_in n d) cols (λ k e lt.
+      let v = get_or cols k e in let z : List (List ℕ) = replicate (d - n) (replicate v.size 0) in
+      let long : length (take n v.items) ≡ n = length-take-le n v.items (omega (arith, long_at k e lt)) in
+      subst (λ j. drop j (take n v.items ++ z) ≡ z) long (drop-append_seam (take n v.items) z))
 
-  pub rows_fill_last : (m : ℕ) (bs : List ℕ) → (let xs = rows s (suc m) bs in xs ≡ set xs m (get_or xs (length xs - 1) []))
-  rows_fill_last m bs =
-      let xs = rows s (suc m) bs in let long : m ≡ length xs - 1 = omega (arith, length_rows (suc m) bs) in
-      sym (set-get_or xs m []) ∙ ap (λ k. set xs m (get_or xs k [])) long
+-- ---- what is seen
+pub fits_most : (n w : ℕ) → n ≤ most_rows w → n * w < 2 ^ 63
+fits_most n w le =
+    let m : ℕ = max w 1 in let more : w ≤ m = omega arith in
+    omega (arith, mul-le-mul_left n more, mul-le-mul_right m le, div-mul-le_self (2 ^ 63 - 1) m)
 
-  -- all but the last
-  pub rows_pop : (m : ℕ) (bs : List ℕ) → (let xs = rows s (suc m) bs in rows s m bs ≡ take (length xs - 1) xs)
-  rows_pop m bs =
-      let xs = rows s (suc m) bs in let long : m ≡ length xs - 1 = omega (arith, length_rows (suc m) bs) in
-      rows_take m (suc m) bs (omega arith) ∙ ap (λ k. take k xs) long
+module _ (c n : ℕ) (ss bs : List ℕ) where
+  abbrev shown : List Values
+  shown = map (first_of n) (columns_in c ss bs)
 
-  -- zeros after the first n elements: the next element is there already
-  pub rows_zero : (n k : ℕ) (bs : List ℕ) → drop (n * s) bs ≡ replicate (suc k * s) 0 → rows s (suc n) bs ≡ rows s n bs ++ replicate s 0 ∷ []
-  rows_zero n k bs tail =
-      let fits : s ≤ suc k * s = omega (arith, suc-mul k s) in
-      rows_snoc n bs ∙ ap (λ x. rows s n bs ++ x ∷ []) (ap (take s) tail ∙ take-replicate s (suc k * s) 0 fits)
+  pub length_shown : length shown ≡ length ss
+  length_shown = length-map (columns_in c ss bs) (first_of n) ∙ length_columns c ss bs
 
-  pub tail_push : (n k : ℕ) (bs : List ℕ) → drop (n * s) bs ≡ replicate (suc k * s) 0 → drop (suc n * s) bs ≡ replicate (k * s) 0
-  tail_push n k bs tail =
-      let next : suc n * s ≡ n * s + s = omega (arith, suc-mul n s) in let rest : suc k * s - s ≡ k * s = omega (arith, suc-mul k s) in
-      ap (λ i. drop i bs) next ∙ sym (drop-drop s (n * s) bs) ∙ ap (drop s) tail ∙ drop-replicate s (suc k * s) 0 ∙ ap (λ i. replicate i 0) rest
+  pub sizes_shown : map (λ v. v.size) shown ≡ ss
+  sizes_shown = map_twice (λ (v : Values). v.size) (first_of n) (columns_in c ss bs) ∙ sizes_of_columns c ss bs
 
-  -- a write among the first n elements leaves what comes after them
-  pub tail_write : (n : ℕ) (bs : List ℕ) (i : ℕ) (ws : List ℕ) → i < n → length ws ≡ s → n * s ≤ length bs → drop (n * s) (written i bs ws) ≡ drop (n * s) bs
-  tail_write n bs i ws lt e le =
-      let t = take (i * s) bs ++ ws in let d = drop (i * s + s) bs in let upto : suc i * s ≤ n * s = mul-le-mul_right s lt in
-      let fits : i * s + s ≤ n * s = omega (arith, suc-mul i s, upto) in let j : ℕ = n * s - (i * s + s) in
-      let long : length t ≡ i * s + s = omega (arith, length-append (take (i * s) bs) ws, length-take-le (i * s) bs (omega arith), e) in
-      let here : n * s ≡ length t + j = omega (arith, long, fits) in let there : (i * s + s) + j ≡ n * s = omega (arith, fits) in
-      ap (λ k. drop k (t ++ d)) here ∙ drop-append-add t d j ∙ drop-drop j (i * s + s) bs ∙ ap (λ k. drop k bs) there
+  column_shown : (k : ℕ) → k < length ss → get_or shown k (no_values 0) ≡ first_of n (get_or (columns_in c ss bs) k (no_values 0))
+  column_shown k lt = get_or-map (first_of n) (columns_in c ss bs) k (no_values 0) (no_values 0) (subst (λ m. k < m) (sym (length_columns c ss bs)) lt)
 
-  -- zeros over the last element lengthen the zeros after it
-  pub tail_zero : (m k : ℕ) (bs : List ℕ) → suc m * s ≤ length bs → drop (suc m * s) bs ≡ replicate (k * s) 0 → drop (m * s) (written m bs (replicate s 0)) ≡ replicate (suc k * s) 0
-  tail_zero m k bs le tail =
-      let t = take (m * s) bs in let zs : List ℕ = replicate s 0 in let d = drop (m * s + s) bs in
-      let front : length t ≡ m * s = length-take-le (m * s) bs (omega (arith, suc-mul m s, le)) in
-      let next : m * s + s ≡ suc m * s = omega (arith, suc-mul m s) in let both : s + k * s ≡ suc k * s = omega (arith, suc-mul k s) in
-      ap (drop (m * s)) (append_assoc t zs d) ∙ subst (λ i. drop i (t ++ (zs ++ d)) ≡ zs ++ d) front (drop-append_seam t (zs ++ d))
-      ∙ ap (λ l. zs ++ l) (ap (λ i. drop i bs) next ∙ tail) ∙ replicate-append-replicate s (k * s) 0 ∙ ap (λ i. replicate i 0) both
+  pub size_shown : (k : ℕ) → k < length ss → (get_or shown k (no_values 0)).size ≡ get_or ss k 0
+  size_shown k lt = ap (λ (v : Values). v.size) (column_shown k lt) ∙ size_at c ss bs k (no_values 0) lt
 
-  -- zeros at the end lengthen the zeros after the first n elements
-  pub tail_grow : (n k j : ℕ) (bs : List ℕ) → n * s ≤ length bs → drop (n * s) bs ≡ replicate (k * s) 0 → drop (n * s) (bs ++ replicate j 0) ≡ replicate (k * s + j) 0
-  tail_grow n k j bs le tail = drop-append-le (n * s) bs (replicate j 0) le ∙ ap (λ l. l ++ replicate j 0) tail ∙ replicate-append-replicate (k * s) j 0
+  pub value_shown : (k row : ℕ) → k < length ss → row < n → n ≤ c → slice_get (get_or shown k (no_values 0)).items row ≡ Some (take (get_or ss k 0) (drop (place_of c ss k row) bs))
+  value_shown k row lt below le =
+      let v = get_or (columns_in c ss bs) k (no_values 0) in
+      let long : length (take n v.items) ≡ n = length-take-le n v.items (omega (arith, length_at c ss bs k (no_values 0) lt)) in let within : row < length (take n v.items) = omega arith in
+      ap (λ (x : Values). slice_get x.items row) (column_shown k lt) ∙ slice_get-get_or (take n v.items) row [] within
+      ∙ ap Some (get_or-take n v.items row [] below ∙ columns_get c ss bs k row (no_values 0) [] lt (omega arith))
 
-  -- fewer bytes that hold the first n elements hold the same ones
-  pub rows_front : (n j : ℕ) (bs : List ℕ) → n * s ≤ j → j ≤ length bs → rows s n (take j bs) ≡ rows s n bs
-  rows_front n j bs le fits =
-      let front : length (take j bs) ≡ j = length-take-le j bs fits in
-      sym (rows_prefix n (take j bs) (drop j bs) (omega arith)) ∙ ap (rows s n) (take-append-drop j bs)
+-- no rows yet
+pub shown_none : (ss bs : List ℕ) → map (first_of 0) (columns_in 0 ss bs) ≡ map no_values ss
+shown_none [] bs = refl
+shown_none (s ∷ ss) bs = ap (λ l. no_values s ∷ l) (shown_none ss (drop (0 * s) bs))
+
+pub zeros_none : (ss bs : List ℕ) → All (HasZeros 0 0) (columns_in 0 ss bs)
+zeros_none ss bs = λ k d lt. none (get_or (columns_in 0 ss bs) k d).items (length_at 0 ss bs k d (subst (λ m. k < m) (length_columns 0 ss bs) lt))
+  where
+    none : (xs : List (List ℕ)) → length xs ≡ 0 → xs ≡ []
+    none [] e = refl
+    none (x ∷ xs) e = absurd (omega arith)
+
+-- ---- copies between blocks
+sizes_set : (cs : List Values) (k : ℕ) (xs : List (List ℕ)) (d : Values) → map (λ v. v.size) (set cs k (record (get_or cs k d) { items = xs })) ≡ map (λ v. v.size) cs
+sizes_set [] k xs d = refl
+sizes_set (c ∷ cs) zero xs d = refl
+sizes_set (c ∷ cs) (suc k) xs d = ap (λ l. c.size ∷ l) (sizes_set cs k xs d)
+
+pub copied_shape : (s : Contents) (row : ℕ) (t : Contents) (ps : List (ℕ × ℕ)) → (let u = fold (with_copied s row) t ps in (u.len ≡ t.len) × (map (λ v. v.size) u.columns ≡ map (λ v. v.size) t.columns))
+copied_shape s row t [] = (refl, refl)
+copied_shape s row t (p ∷ ps) =
+    let u = with_copied s row t p in let rest = copied_shape s row u ps in
+    let w = with_item (column_at t p.1) (t.len - 1) (slice_index_or (column_at s p.0).items row []) in
+    (rest.0, rest.1 ∙ sizes_set t.columns p.1 w.items (no_values 0))
+
+pub zeros_shape : (t : Contents) → map (λ v. v.size) (with_zeros t).columns ≡ map (λ v. v.size) t.columns
+zeros_shape t = map_twice (λ (v : Values). v.size) with_zero t.columns
+
+-- columns of the same sizes
+pub same_size : (cs ds : List Values) (k : ℕ) → map (λ v. v.size) cs ≡ map (λ v. v.size) ds → k < length ds → (k < length cs) × ((get_or cs k (no_values 0)).size ≡ (get_or ds k (no_values 0)).size)
+same_size cs ds k e lt =
+    let long : length cs ≡ length ds = sym (length-map cs (λ (v : Values). v.size)) ∙ ap length e ∙ length-map ds (λ (v : Values). v.size) in let within : k < length cs = omega arith in
+    (within, sym (get_or-map (λ (v : Values). v.size) cs k (no_values 0) 0 within) ∙ ap (λ l. get_or l k 0) e ∙ get_or-map (λ (v : Values). v.size) ds k (no_values 0) 0 lt)
+
+-- ---- a block with another number of places
+pub shown_resized : (ss : List ℕ) (c n d : ℕ) (bs new : List ℕ) → IsLaidOut ss c n bs → n ≤ d → new ≡ resized n c d ss bs → map (first_of n) (columns_in d ss new) ≡ map (first_of n) (columns_in c ss bs)
+shown_resized ss c n d bs new h le e = ap (map (first_of n)) (ap (columns_in d ss) e ∙ columns_resized n c d h.within le ss bs h.all) ∙ rows_resized c n h.within ss bs d
+
+pub laid_resized : (ss : List ℕ) (c n d : ℕ) (bs new : List ℕ) → IsLaidOut ss c n bs → n ≤ d → d ≤ most_rows (sum ss) → new ≡ resized n c d ss bs → IsLaidOut ss d n new
+laid_resized ss c n d bs new h le fits e = record {
+  sized = h.sized;
+  all = ap length e ∙ resized_all n c d h.within le ss bs h.all;
+  within = le;
+  in_block = fits;
+  zeros = subst (All (HasZeros d n)) (sym (ap (columns_in d ss) e ∙ columns_resized n c d h.within le ss bs h.all)) (zeros_resized c n h.within ss bs d);
+}

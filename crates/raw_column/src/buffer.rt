@@ -1,9 +1,13 @@
 //! A run of bytes in a block from an allocator, or none. A clause sees it as its bytes.
-ghost use Rattle.std.specs.Prelude.{◌≡◌, ◌+◌, ◌-◌, ◌^◌, ◌<◌, ◌≤◌, [], ◌++◌, length, take, drop, replicate, OnOk, OnErr, IsOk, Some};
+ghost use Rattle.std.specs.Prelude.{◌≡◌, ℕ, ◌+◌, ◌*◌, ◌^◌, ◌<◌, ◌≤◌, [], ◌++◌, length, map, take, drop, slice_index, OnOk, OnErr, IsOk, Some};
+ghost use Rattle.std.specs.List.{sum};
 ghost use Rattle.raw_column.specs.Buffer.{IsPlaced};
+ghost use Rattle.raw_column.specs.Places.{columns_in, gap_filled, resized};
 
-use crate::element::{clear, copy};
+use crate::element::copy;
 use crate::memory::{Base, Bytes, Deed, allocate, deallocate};
+use crate::places::{filled, remove_each};
+use crate::sizes::Sizes;
 use std::alloc::{AllocError, Allocator};
 use std::marker::Model;
 use std::mem;
@@ -68,75 +72,60 @@ impl<A: Allocator> Buffer<A> {
         }
     }
 
+    /// Removes a row of the columns that lie in these bytes, with places for `capacity` rows. The row `last` fills the gap and becomes
+    /// zeros.
     #[inline(always)]
-    pub(crate) fn write_zeros(&mut self, from: usize, len: usize)
-        requires { from + len ≤ length self.old }
-        ensures { self.new ≡ take from self.old ++ replicate len 0 ++ drop (from + len) self.old }
-    {
-        if let Some(held) = &mut self.allocation {
-            let base = held.base;
-            clear(held.bytes.slice_mut(base, from, len));
-        }
-    }
-
-    /// Copies `len` bytes to a lower place.
-    #[inline(always)]
-    pub(crate) fn copy_down(&mut self, from: usize, to: usize, len: usize)
-        requires { (to + len ≤ from) × (from + len ≤ length self.old) }
-        ensures { self.new ≡ take to self.old ++ take len (drop from self.old) ++ drop (to + len) self.old }
+    pub(crate) fn remove_row<B: Allocator>(
+        &mut self,
+        sizes: &Sizes<B>,
+        capacity: usize,
+        row: usize,
+        last: usize,
+    )
+        requires sized { (k : ℕ) → k < length sizes.now → 0 < slice_index sizes.now k }
+        requires row { (row ≤ last) × (last < capacity) }
+        requires all { (length self.old ≡ capacity * sum sizes.now) × (capacity * sum sizes.now < 2 ^ 63) }
+        ensures columns { columns_in capacity sizes.now self.new ≡ map (gap_filled row last) (columns_in capacity sizes.now self.old) }
+        ensures len { length self.new ≡ length self.old }
     {
         if let Some(held) = &mut self.allocation {
             let (base, end) = (held.base, held.len);
-            let (front, back) = held.bytes.slice_mut(base, 0, end).split_at_mut(from);
-            copy(&mut front[to..to + len], &back[..len]);
+            let bytes = held.bytes.slice_mut(base, 0, end);
+            remove_each(bytes, sizes, capacity, row, last);
         }
     }
 
-    /// Moves to a block of `len` bytes, of which the new ones are zero.
-    pub(crate) fn grow(&mut self, len: usize) -> Result<(), AllocError>
-        requires { (length self.old ≤ len) × (len < 2 ^ 63) }
-        ensures ok { OnOk result (self.new ≡ self.old ++ replicate (len - length self.old) 0) }
+    /// Moves to a block with places for `to` rows in each column, where there were places for `from`. The first `len` rows stay, and
+    /// zeros come after them. No bytes take no memory.
+    pub(crate) fn resize<B: Allocator>(
+        &mut self,
+        sizes: &Sizes<B>,
+        len: usize,
+        from: usize,
+        to: usize,
+    ) -> Result<(), AllocError>
+        requires rows { (len ≤ from) × (len ≤ to) }
+        requires old { (length self.old ≡ from * sum sizes.now) × (from * sum sizes.now < 2 ^ 63) }
+        requires new { to * sum sizes.now < 2 ^ 63 }
+        ensures ok { OnOk result (self.new ≡ resized len from to sizes.now self.old) }
         ensures err { OnErr result (self.new ≡ self.old) }
+        ensures free { to * sum sizes.now ≡ 0 → IsOk result }
     {
-        let (base, filling, deed) = allocate(&self.alloc, len)?;
-        let bytes = match &self.allocation {
-            Some(old) => {
-                let kept = old.bytes.slice(old.base, 0, old.len);
-                filling.append(base, 0, kept).zeroed(base, old.len, len)
-            }
-            None => filling.zeroed(base, 0, len),
-        };
+        let size = to * sizes.width();
+        if size == 0 {
+            replace(&mut self.allocation, None, &self.alloc);
+            return Ok(());
+        }
+        let (base, filling, deed) = allocate(&self.alloc, size)?;
+        let old = self.read(0, from * sizes.width());
+        let bytes = filled(filling, base, sizes, old, len, from, to);
         let new = Allocation {
             base,
-            len,
+            len: size,
             bytes,
             deed,
         };
         replace(&mut self.allocation, Some(new), &self.alloc);
-        Ok(())
-    }
-
-    /// Moves to a block of `len` bytes, the first of those that are there. No bytes take no memory.
-    pub(crate) fn shrink(&mut self, len: usize) -> Result<(), AllocError>
-        requires { len ≤ length self.old }
-        ensures ok { OnOk result (self.new ≡ take len self.old) }
-        ensures err { OnErr result (self.new ≡ self.old) }
-        ensures frees { len ≡ 0 → IsOk result }
-    {
-        if len == 0 {
-            replace(&mut self.allocation, None, &self.alloc);
-        } else if let Some(old) = &self.allocation {
-            let (base, filling, deed) = allocate(&self.alloc, len)?;
-            let kept = old.bytes.slice(old.base, 0, len);
-            let bytes = filling.append(base, 0, kept).whole();
-            let new = Allocation {
-                base,
-                len,
-                bytes,
-                deed,
-            };
-            replace(&mut self.allocation, Some(new), &self.alloc);
-        }
         Ok(())
     }
 }

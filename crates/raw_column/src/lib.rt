@@ -1,9 +1,11 @@
-//! A column: elements of one size, side by side in raw memory. The type of an element is its size alone.
+//! The columns of a table: values of fixed sizes in raw memory, column behind column in one block. The type of a value is its size alone.
 #![tactic(auto)]
 
+mod block;
 mod buffer;
-mod column;
 mod element;
 mod memory;
+mod places;
+mod sizes;
 
-pub use column::{Column, Memory};
+pub use block::{Block, Memory};

@@ -1,5 +1,5 @@
 //! The raw layer: a block of bytes from an allocator, reached by a pointer. Every raw pointer of the crate is here.
-ghost use Rattle.std.specs.Prelude.{◌≡◌, ℕ, ◌+◌, ◌^◌, ◌<◌, ◌≤◌, List, [], ◌∷◌, ◌++◌, ◌-◌, length, take, drop, replicate, IfOk};
+ghost use Rattle.std.specs.Prelude.{◌≡◌, ℕ, ◌+◌, ◌^◌, ◌<◌, ◌≤◌, List, [], ◌∷◌, ◌++◌, length, take, drop, replicate, IfOk};
 ghost use Rattle.std.specs.Borrow.{sem};
 ghost use base.Fml.{ftrue};
 ghost use denote.RawPtr.{Ptr};
@@ -125,17 +125,17 @@ impl Filling {
         filling
     }
 
-    /// Writes zeros into the places from `filled` to `len`, which are all that hold no value yet.
-    pub(crate) fn zeroed(self, base: Base, filled: usize, len: usize) -> Bytes
+    /// Writes `count` zeros, after the `filled` bytes that are written.
+    pub(crate) fn zeros(self, base: Base, filled: usize, count: usize) -> Filling
         requires place { (base.ptr ≡ self.at) × (filled ≡ length self.items) }
-        requires rest { (filled + self.spare ≡ len) × (len < 2 ^ 63) }
-        ensures { (result.at ≡ self.at) × (result.items ≡ self.items ++ replicate (len - filled) 0) }
+        requires room { (count ≤ self.spare) × (filled + count < 2 ^ 63) }
+        ensures { (result.at ≡ self.at) × (result.items ≡ self.items ++ replicate count 0) × (result.spare + count ≡ self.spare) }
     {
         let mut filling = self;
-        for i in filled..len {
-            filling = filling.push(base, i, 0);
+        for i in 0..count {
+            filling = filling.push(base, filled + i, 0);
         }
-        filling.whole()
+        filling
     }
 
     /// The same block, once each of its places holds a value.
