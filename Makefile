@@ -2,6 +2,7 @@
 
 SCRIPT ?= examples/solar_system.flecsq
 PROGRAM := crates/flecsq/out/flecsq
+BENCHMARKS := crates/bench_indexes/out/bench_indexes crates/bench_world/out/bench_world
 SOURCES := crates.txt $(shell find crates -name out -prune -o -path '*/must-fail/*' -prune -o -type f \( -name '*.rt' -o -name '*.antt' \) -print)
 
 .PHONY: run test edits bench check clean
@@ -26,8 +27,13 @@ edits:
 	@python3 tools/edits.py $(if $(SINCE),--since "$(SINCE)") $(if $(CRATES),--crates "$(CRATES)") $(if $(TIER),--tier "$(TIER)")
 
 # Workloads through the program, and the benchmarks among the crates. WORKLOADS=".." names some of them.
-bench: $(PROGRAM)
+bench: $(PROGRAM) $(BENCHMARKS)
 	@python3 bench/bench.py $(WORKLOADS)
+
+$(BENCHMARKS): $(SOURCES)
+	@echo "Proving and building $(@F)." >&2
+	@cd $(@D)/.. && rt run >&2
+	@touch $@
 
 # Every crate, over what earlier runs kept.
 check:

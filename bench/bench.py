@@ -1,0 +1,110 @@
+#!/usr/bin/env python3
+"""bench.py [WORKLOAD ..]: a table of the workloads, or those named, and of the benchmarks among the crates.
+
+seconds       the least of three runs
+instructions  counted by valgrind, where that is installed: they don't vary with the load of the machine
+sqlite3       seconds of the sqlite3 shell, where that is installed, on the same workload as SQL: in memory, and in one transaction
+same          whether both wrote the same lines
+
+The status is 1 where a program fails or what they wrote differs.
+"""
+import os
+import re
+import shutil
+import subprocess
+import sys
+import tempfile
+import time
+
+import workloads
+
+TOP = os.path.realpath(os.path.join(os.path.dirname(os.path.realpath(__file__)), ".."))
+PROGRAMS = [("bench_indexes", []), ("bench_world", ["10000"]), ("bench_world", ["100000"])]
+RUNS = 3
+
+
+def program(crate):
+    return os.path.join(TOP, "crates", crate, "out", crate)
+
+
+def timed(words, script):
+    """The least seconds of a few runs, and what the last of them wrote; None where one fails."""
+    least, wrote = None, b""
+    for _ in range(RUNS):
+        with open(script, "rb") as given:
+            begun = time.perf_counter()
+            ran = subprocess.run(words, stdin=given, stdout=subprocess.PIPE, check=False)
+            took = time.perf_counter() - begun
+        if ran.returncode:
+            return None, b""
+        least, wrote = took if least is None else min(least, took), ran.stdout
+    return least, wrote
+
+
+def counted(words, script):
+    """The instructions of a run; None without valgrind."""
+    if not shutil.which("valgrind"):
+        return None
+    with tempfile.NamedTemporaryFile("r") as told, open(script, "rb") as given:
+        call = ["valgrind", "--tool=callgrind", "--callgrind-out-file=/dev/null", f"--log-file={told.name}", *words]
+        subprocess.run(call, stdin=given, stdout=subprocess.DEVNULL, check=False)
+        found = re.search(r"Collected : (\d+)", told.read())
+    return int(found[1]) if found else None
+
+
+def row(name, size, seconds, count, other=None, same=None):
+    cells = [f"{name:<14}{size:>9}"]
+    cells.append(f"{seconds:>10.3f}" if seconds is not None else f"{'FAILED':>10}")
+    cells.append(f"{count:>16,}" if count is not None else f"{'-':>16}")
+    cells.append(f"{other:>10.3f}" if other is not None else f"{'-':>10}")
+    cells.append(f"{'-' if same is None else 'yes' if same else 'NO':>6}")
+    print("".join(cells), flush=True)
+
+
+def without_counts(wrote):
+    """(the counts are lines that SQL leaves out)"""
+    return [line for line in wrote.splitlines() if not line.startswith(b"rows ")]
+
+
+def run_workload(name, size, room):
+    """One row of the table, and whether all went well."""
+    script, sql = os.path.join(room, "script"), os.path.join(room, "sql")
+    for file, text in ((script, workloads.script(name, size)), (sql, workloads.sql(name, size))):
+        with open(file, "w", encoding="ascii") as it:
+            it.write(text)
+    seconds, wrote = timed([program("flecsq")], script)
+    count = counted([program("flecsq")], script)
+    if not shutil.which("sqlite3"):
+        row(name, f"{size:,}", seconds, count)
+        return seconds is not None
+    other, answered = timed(["sqlite3", "-batch", "-bail", "-init", os.devnull, ":memory:"], sql)
+    same = without_counts(wrote) == answered.splitlines()
+    row(name, f"{size:,}", seconds, count, other, same)
+    return seconds is not None and same
+
+
+def run_program(crate, words):
+    if not os.path.isfile(program(crate)):
+        print(f"{crate} is not built: make bench builds it")
+        return False
+    seconds, _ = timed([program(crate), *words], os.devnull)
+    row(crate, "".join(f"{int(it):,}" for it in words), seconds, counted([program(crate), *words], os.devnull))
+    return seconds is not None
+
+
+def main():
+    known = [*workloads.WORKLOADS, *dict(PROGRAMS)]
+    chosen = sys.argv[1:] or known
+    unknown = [it for it in chosen if it not in known]
+    if unknown:
+        print(f"bench.py: no workload is named {' '.join(unknown)}: there are {' '.join(known)}", file=sys.stderr)
+        return 2
+    print(f"{'workload':<14}{'size':>9}{'seconds':>10}{'instructions':>16}{'sqlite3':>10}{'same':>6}")
+    with tempfile.TemporaryDirectory() as room:
+        well = [run_workload(name, workloads.SIZES[name], room) for name in workloads.WORKLOADS if name in chosen]
+    well += [run_program(crate, words) for crate, words in PROGRAMS if crate in chosen]
+    return 0 if all(well) else 1
+
+
+if __name__ == "__main__":
+    sys.exit(main())
