@@ -1,11 +1,12 @@
 #!/usr/bin/env python3
 """run.py [--no-gate]: the gate, then the script rows and the program from outside, with one count over all of them.
 
-Without the gate, the rows and the program's own tests run against the program that was built last. Before the last line stands
-where the minutes went.
+Without the gate, the rows and the program's own tests run against the program that was built last. Behind the gate, where its
+minutes went stands before the last line.
 """
 import os
 import re
+import shutil
 import subprocess
 import sys
 
@@ -21,6 +22,9 @@ COUNTS = re.compile(r"(\d+) passed, (\d+) failed")
 def run_gate(spent):
     """Runs `rt ci`, shows what it prints, and returns how much passed and failed."""
     counts = None
+    if not shutil.which("rt"):
+        print("there is no rt on the path")
+        return 0, 1
     with subprocess.Popen(["rt", "ci"], cwd=TOP, stdin=subprocess.DEVNULL, stdout=subprocess.PIPE, text=True, errors="replace") as gate:
         spent.start_gate(gate.pid)
         for line in gate.stdout:
@@ -54,13 +58,21 @@ def run_program():
     return sum(passed for passed, _ in counts), sum(failed for _, failed in counts)
 
 
+def tell_minutes(spent):
+    """Prints where the minutes went. Whatever happens here, the counts stand."""
+    try:
+        print("\n".join(spent.table(minutes.lines_of_code(TOP))))
+    except Exception as error:
+        print(f"minutes: {error!r}")
+
+
 def main():
     spent = minutes.Minutes()
     counts = [] if "--no-gate" in sys.argv[1:] else [run_gate(spent)]
     counts += [check_worked_rows(), run_program()]
     passed, failed = (sum(it) for it in zip(*counts))
-    for line in spent.table(minutes.lines_of_code(TOP)):
-        print(line)
+    if "--no-gate" not in sys.argv[1:]:
+        tell_minutes(spent)
     print(f"{passed} passed, {failed} failed")
     return 1 if failed or not passed else 0
 

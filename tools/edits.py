@@ -92,9 +92,9 @@ def edits_of(crate, tier):
     return found
 
 
-def read_edit(edit, crate):
-    """The texts of the files that the edit changes, by their path in the crate."""
-    folder, path, old, texts = os.path.join(TOP, "crates", crate), "", None, {}
+def read_edit(edit, folder):
+    """The texts of the files of the crate in that folder which the edit changes, by their path in the crate."""
+    path, old, texts = "", None, {}
     with open(edit, encoding="utf-8") as it:
         lines = it.read().split("\n")
     for line in lines:
@@ -128,10 +128,8 @@ class Room:
         """Copies the crate and the libraries below it, with what earlier checks kept of them."""
         needed = closure(crate, self.uses)
         for name in needed:
-            to = os.path.join(self.folder, "crates", name)
-            if not os.path.isdir(to):
-                self.copy_crate(os.path.join(TOP, "crates", name), to)
-        kept = "crates/{}/out/incremental".format(crate)
+            self.copy_crate(os.path.join(TOP, "crates", name), self.folder_of(name))
+        kept = f"crates/{crate}/out/incremental"
         if os.path.isdir(os.path.join(TOP, kept)) and not os.path.isdir(os.path.join(self.folder, kept)):
             shutil.copytree(os.path.join(TOP, kept), os.path.join(self.folder, kept))
         if os.path.isfile(os.path.join(TOP, "HANDLES")):
@@ -150,21 +148,20 @@ class Room:
         if os.path.isdir(os.path.join(crate, "out/incremental")) and is_newer_than_built(crate):
             shutil.copytree(os.path.join(crate, "out/incremental"), os.path.join(to, "out/incremental"))
 
-    def leave(self, crate):
-        shutil.rmtree(os.path.join(self.folder, "crates", crate, "out/incremental"), ignore_errors=True)
+    def folder_of(self, crate):
+        return os.path.join(self.folder, "crates", crate)
 
-    def check(self, crate, texts, jobs):
+    def check(self, crate, texts):
         """What `rt check` prints, with these texts in place of the crate's own, and its status."""
-        folder = os.path.join(self.folder, "crates", crate)
+        folder = self.folder_of(crate)
         for path, text in texts.items():
+            os.rename(os.path.join(folder, path), os.path.join(self.folder, path.replace("/", "+")))
             with open(os.path.join(folder, path), "w", encoding="utf-8") as it:
                 it.write(text)
-        try:
-            how = {"cwd": folder, "stdin": subprocess.DEVNULL, "stdout": subprocess.PIPE, "stderr": subprocess.STDOUT}
-            ran = subprocess.run(["rt", "check", "--jobs", str(jobs)], text=True, errors="replace", check=False, **how)
-        finally:
-            for path in texts:
-                shutil.copy2(os.path.join(TOP, "crates", crate, path), os.path.join(folder, path))
+        how = {"cwd": folder, "stdin": subprocess.DEVNULL, "stdout": subprocess.PIPE, "stderr": subprocess.STDOUT}
+        ran = subprocess.run(["rt", "check", "--jobs", "1"], text=True, errors="replace", check=False, **how)
+        for path in texts:
+            os.replace(os.path.join(self.folder, path.replace("/", "+")), os.path.join(folder, path))
         return ran.stdout, ran.returncode
 
 
@@ -270,12 +267,12 @@ class Run:
                 with open(os.path.join(self.asked.keep, f"{crate}.{name}.log"), "w", encoding="utf-8") as it:
                     it.write(said)
 
-    def try_all(self, crate, edits, jobs):
+    def try_all(self, crate, edits):
         """Tries edits of one crate, in turn, in a copy of their own."""
         with tempfile.TemporaryDirectory(prefix="edits-") as folder:
             room = Room(folder, self.uses)
             room.take(crate)
-            said, status = room.check(crate, {}, jobs)
+            said, status = room.check(crate, {})
             known = functions_of(said, crate)
             for edit in edits:
                 name = os.path.basename(edit)[: -len(".edit")]
@@ -283,11 +280,11 @@ class Run:
                     self.tell(crate, name, False, "NOT TRIED: the crate as it stands is not proved", said)
                     continue
                 try:
-                    texts = read_edit(edit, crate)
+                    texts = read_edit(edit, room.folder_of(crate))
                 except (BadEdit, OSError, UnicodeDecodeError) as why:
                     self.tell(crate, name, False, f"BAD EDIT: {why}")
                     continue
-                answer = room.check(crate, texts, jobs)
+                answer = room.check(crate, texts)
                 self.tell(crate, name, *judged(*answer, crate, known), answer[0])
 
 
@@ -331,7 +328,7 @@ def main():
     tasks = [(crate, found[at::parts]) for crate, found in edits.items() for at in range(parts) if found[at::parts]]
     tasks.sort(key=lambda it: -len(it[1]))
     with ThreadPoolExecutor(lanes) as pool:
-        for it in [pool.submit(run.try_all, crate, found, 1) for crate, found in tasks]:
+        for it in [pool.submit(run.try_all, crate, found) for crate, found in tasks]:
             it.result()
     print(f"{run.told} edits say something of a contract, {run.silent} do not")
     return 1 if run.silent else 0
