@@ -1,15 +1,20 @@
 # flecsq: `make run` runs a script, `make test` runs the whole gate. README.md says more.
 
 SCRIPT ?= examples/solar_system.flecsq
+PREFIX ?= $(HOME)/.local
 PROGRAM := crates/flecsq/out/flecsq
 BENCHMARKS := crates/bench_indexes/out/bench_indexes crates/bench_world/out/bench_world
 SOURCES := crates.txt $(shell find crates -name out -prune -o -path '*/must-fail/*' -prune -o -type f \( -name '*.rt' -o -name '*.antt' \) -print)
 
-.PHONY: run test edits bench check clean
+.PHONY: run install test edits bench check clean
 
 # (status 1 says that lines of the script were refused, which its output shows: that is no failure of make)
 run: $(PROGRAM)
 	@$(PROGRAM) "$(SCRIPT)" || { status=$$?; [ $$status -eq 1 ] || exit $$status; }
+
+# The program as PREFIX/bin/flecsq: it needs nothing else of this repository.
+install: $(PROGRAM)
+	@install -D -m 755 $(PROGRAM) "$(DESTDIR)$(PREFIX)/bin/flecsq"
 
 # Every function is proved before the program is built. rt tells of each one as it goes.
 $(PROGRAM): $(SOURCES)
