@@ -1,12 +1,14 @@
 //! The index of entities.
-ghost use Rattle.std.specs.Prelude.{◌≡◌, ◌↔◌, ◌≤◌, ◌<◌, ◌^◌, None, Some, IfOk, OnErr, IsErrOf, IsTrue, MatchOption};
+ghost use Rattle.std.specs.Prelude.{◌≡◌, ◌↔◌, ◌≤◌, None, Some, IfOk, OnErr, IsErrOf, IsTrue, MatchOption};
 ghost use Rattle.std.specs.Bool.{OnTrue, OnFalse};
+ghost use Rattle.ecs_id.specs.Id.{last_index};
+ghost use Rattle.ecs_model.specs.World.{first_index};
 ghost use Rattle.entity_index.specs.Entities.{built_in_entities, entity_at, is_alive, is_deletable, live_entities, next_entity, place_of, with_entity, with_place, without_entity, IsFull, IsNext, IsWellFormed};
 
 use crate::live::Live;
 use crate::packed::{PackedPlace, unpacked};
 use crate::slot::{Slot, first_places, first_slots};
-use ecs_id::{EntityId, LAST_INDEX, Place};
+use ecs_id::{EntityId, Place};
 use ecs_model::FIRST_INDEX;
 use std::alloc::{AllocError, Allocator, Global};
 use std::cmp::Reverse;
@@ -67,10 +69,10 @@ impl<A: Allocator> Model for EntityIndex<A> {
 }
 
 impl<A: Allocator + Copy> EntityIndex<A> {
-    /// An index of the built-in entities alone, which gives out indexes from 64 to `last`.
+    /// An index of the built-in entities alone, which gives out indexes from 64 to `last`, which is at most 16,777,215.
     pub fn new(alloc: A, last: u32) -> Result<Self, AllocError>
-        requires least { FIRST_INDEX ≤ last }
-        requires greatest { last ≤ LAST_INDEX }
+        requires least { first_index ≤ last }
+        requires greatest { last ≤ last_index }
         ensures built_in { IfOk result (λ index. index ≡ built_in_entities last) }
         ensures well_formed { IfOk result (λ index. IsWellFormed index) }
     {

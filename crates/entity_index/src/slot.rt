@@ -1,6 +1,7 @@
 //! What is known of one index.
 ghost use Rattle.std.specs.Prelude.{◌≡◌, IfOk, None, map};
 ghost use Rattle.std.specs.List.{range_with_len};
+ghost use Rattle.ecs_model.specs.World.{first_index};
 ghost use Rattle.entity_index.specs.Slots.{first_slot};
 
 use crate::packed::PackedPlace;
@@ -28,14 +29,14 @@ fn first_slot_of(index: u32) -> Slot
 
 /// The slots of the indexes that are not given out: those of the built-in entities live.
 pub fn first_slots<A: Allocator>(alloc: A) -> Result<Vec<Slot, A>, AllocError>
-    ensures { IfOk result (λ slots. slots.items ≡ map first_slot (range_with_len 0 FIRST_INDEX)) }
+    ensures { IfOk result (λ slots. slots.items ≡ map first_slot (range_with_len 0 first_index)) }
 {
     (0..FIRST_INDEX).map(first_slot_of).collect(alloc)
 }
 
 /// The places beside these slots: none stands there.
 pub fn first_places<A: Allocator>(alloc: A) -> Result<Vec<Option<PackedPlace>, A>, AllocError>
-    ensures { IfOk result (λ places. places.items ≡ map (λ _. None) (range_with_len 0 FIRST_INDEX)) }
+    ensures { IfOk result (λ places. places.items ≡ map (λ _. None) (range_with_len 0 first_index)) }
 {
     (0..FIRST_INDEX).map(|_| None).collect(alloc)
 }

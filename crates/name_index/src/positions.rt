@@ -15,6 +15,8 @@ struct Held {
     position: u32,
 }
 
+const _: () = prove!(size_of::<Option<Held>>() == 12);
+
 impl Held {
     fn new(entity: EntityId, position: u32) -> Held
         ensures { result ≡ record { generation = entity.generation; position = position } }
