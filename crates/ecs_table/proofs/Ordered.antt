@@ -11,7 +11,7 @@ use Rattle.std.specs.FinMap.Entries.{below_all, by_order}
 use Rattle.std.specs.List.{filter, zip, list_any, position_or_len}
 use Rattle.ecs_id.specs.Id.{Id, id_cmp, id_cmp_total, id_cmp_same, id_eq, id_eq_itself, id_eq_same, id_eq_turned}
 use Rattle.ecs_table.proofs.Rows.{IsListed, map_listed, size_by_place, size_kept}
-use Rattle.ecs_table.specs.Archetype.{Archetype, Cells, IsSound, Shape, byte_size, cells_of, empty_table, index_in, no_values, shape_of, size_of, value_of, with_cell}
+use Rattle.ecs_table.specs.Archetype.{Archetype, Cells, IsSound, Shape, byte_size, cells_of, empty_table, index_in, shape_of, size_of, value_of, with_cell, no_values}
 
 both_first : (a b : Bool) → (a && b) ≡ true → a ≡ true
 both_first true b h = refl

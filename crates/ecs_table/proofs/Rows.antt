@@ -16,7 +16,9 @@ use Rattle.ecs_table.proofs.ColumnLemmas.{fitting_same}
 use Rattle.ecs_table.proofs.Places.{get_pushed, get_set, get_swap_removed}
 use Rattle.ecs_table.proofs.Soundness.{columns_paired, sizes_each, sizes_paired, sizes_set, sound_with_item}
 use Rattle.ecs_table.proofs.Stored.{size_found, value_found}
-use Rattle.ecs_table.specs.Archetype.{Archetype, Cells, HaveEqualSizes, HaveOneSize, IsSound, Values, byte_size, carried, cells_of, empty_table, entity_at, fitting, ids_with_data, index_in, moved_into, no_entity, no_values, row_of, shape_of, size_of, value_of, values_at, with_cell, with_item, with_item_in, with_last, with_moved, with_row, with_value, with_zero, without_item, without_row, zero_cells}
+use Rattle.raw_column.specs.Contents.{with_item, with_zero, without_item}
+use Rattle.raw_column.specs.Places.{Values}
+use Rattle.ecs_table.specs.Archetype.{Archetype, Cells, HaveEqualSizes, HaveOneSize, IsSound, byte_size, carried, cells_of, empty_table, entity_at, fitting, ids_with_data, index_in, moved_into, no_entity, row_of, shape_of, size_of, value_of, values_at, with_cell, with_item_in, with_last, with_moved, with_row, with_value, without_row, zero_cells, no_values}
 
 -- where an id stands among others
 pub index_says : (ids : List Id) (i : Id) (k : ℕ) (d : Id) → index_in ids i ≡ Some k → (k < length ids) × (get_or ids k d ≡ i)

@@ -11,7 +11,9 @@ use Rattle.std.specs.Option.{is_some}
 use Rattle.ecs_id.specs.Id.{Id}
 use Rattle.ecs_id.specs.declared.EntityId.{EntityId}
 use Rattle.ecs_table.proofs.ColumnLemmas.{paired}
-use Rattle.ecs_table.specs.Archetype.{Archetype, Values, IsShaped, IsSound, empty_table, entity_at, fitting, moved_into, no_entity, no_values, value_of, values_at, with_item, with_last, with_moved, with_row, with_zero, without_item, without_row}
+use Rattle.raw_column.specs.Contents.{with_item, with_zero, without_item}
+use Rattle.raw_column.specs.Places.{Values}
+use Rattle.ecs_table.specs.Archetype.{Archetype, IsShaped, IsSound, empty_table, entity_at, fitting, moved_into, no_entity, value_of, values_at, with_last, with_moved, with_row, without_row, no_values}
 
 -- each id with data has a column
 pub columns_paired : (t : Archetype) → IsSound t → length t.data_ids ≡ length t.columns

@@ -6,12 +6,9 @@ use Rattle.std.specs.Prelude.{vec_len, vec_capacity}
 use Rattle.std.specs.declared.vec.Vec.{Vec}
 use Rattle.ecs_id.specs.Id.{Id, id_cmp, id_eq}
 use Rattle.ecs_id.specs.declared.EntityId.{EntityId}
-use Rattle.raw_column.specs.Contents.{Contents}
-
--- the values of one id: how many bytes each has, and the bytes by row
-pub record Values : Type 0 where
-  pub size : ℕ
-  pub items : List (List ℕ)
+pub use Rattle.raw_column.specs.Contents.{no_values}
+use Rattle.raw_column.specs.Contents.{Contents, with_item, with_zero, without_item}
+use Rattle.raw_column.specs.Places.{Values}
 
 -- a table: its ids, those with data, the values of each of these, the entities by row, and how many more rows fit
 pub record Archetype : Type 0 where
@@ -25,12 +22,6 @@ pub record Archetype : Type 0 where
 abbrev pub ids_with_data : List Id → List ℕ → List Id
 ids_with_data ids sizes = map (λ p. p.0) (filter (λ p. nat_lt 0 p.1) (zip ids sizes))
 
-abbrev pub no_values : ℕ → Values
-no_values s = record { size = s; items = [] }
-
-abbrev pub no_contents : ℕ → Contents
-no_contents s = record { size = s; room = 0; items = [] }
-
 -- the table of these ids with no row
 abbrev pub empty_table : List Id → List ℕ → Archetype
 empty_table ids sizes = record {
@@ -40,10 +31,6 @@ empty_table ids sizes = record {
   entities = [];
   room = 0;
 }
-
--- the values with one of zeros at the end
-abbrev pub with_zero : Values → Values
-with_zero v = record v { items = v.items ++ replicate v.size 0 ∷ [] }
 
 -- the table with a row of zeros at the end
 abbrev pub with_row : Archetype → EntityId → Archetype
@@ -64,10 +51,6 @@ value_of t row i = elim (index_in t.data_ids i) [ None ↦ None | Some k ↦ sli
 abbrev pub size_of : Archetype → Id → Option ℕ
 size_of t i = elim (index_in t.data_ids i) [ None ↦ None | Some k ↦ Some (values_at t.columns k).size ]
 
--- the values with another one at a row
-abbrev pub with_item : Values → ℕ → List ℕ → Values
-with_item v row bytes = record v { items = slice_set v.items row bytes }
-
 -- the columns with another value in one of them
 abbrev pub with_item_in : Option ℕ → List Values → ℕ → List ℕ → List Values
 with_item_in None columns row bytes = columns
@@ -76,10 +59,6 @@ with_item_in (Some k) columns row bytes = slice_set columns k (with_item (values
 -- the table with another value of an id at a row
 abbrev pub with_value : Archetype → ℕ → Id → List ℕ → Archetype
 with_value t row i bytes = record t { columns = with_item_in (index_in t.data_ids i) t.columns row bytes }
-
--- the values without those of a row, whose place the last ones take
-abbrev pub without_item : ℕ → Values → Values
-without_item row v = record v { items = swap_remove v.items row [] }
 
 -- stands for an entity where a list has none
 abbrev pub no_entity : EntityId
@@ -167,32 +146,18 @@ pub record IsSound (t : Archetype) : Type 0 where
   pub sized : map (λ v. v.size) t.columns ≡ filter (λ s. nat_lt 0 s) sizes
   pub shaped : (k : ℕ) (d : Values) → k < length t.columns → IsShaped (length t.entities) (slice_index_or t.columns k d)
 
--- what is seen of a column in a table
-abbrev pub values_of : Contents → Values
-values_of c = record { size = c.size; items = c.items }
-
 -- what is seen of a table
-abbrev pub seen : List Id → List Id → List Contents → List EntityId → ℕ → Archetype
-seen ids data_ids columns entities room = record { ids = ids; data_ids = data_ids; columns = map values_of columns; entities = entities; room = room }
+abbrev pub seen : List Id → List Id → Contents → List EntityId → ℕ → Archetype
+seen ids data_ids block entities room = record { ids = ids; data_ids = data_ids; columns = block.columns; entities = entities; room = room }
 
--- each column has so much room
-abbrev pub HaveRoom : ℕ → List Contents → Type 0
-HaveRoom more cs = (k : ℕ) (d : Contents) → k < length cs → more ≤ (slice_index_or cs k d).room
-
--- a column with an element of zeros at the end
-abbrev pub pushed : Contents → Contents
-pushed c = record c { room = c.room - 1; items = c.items ++ replicate c.size 0 ∷ [] }
-
--- a column with an element at the end
-abbrev pub pushed_value : Option (List ℕ) → Contents → Contents
-pushed_value bytes c = record c { room = c.room - 1; items = c.items ++ fitting c.size bytes ∷ [] }
-
--- a column without an element, whose place the last one takes
-abbrev pub removed : ℕ → Contents → Contents
-removed row c = record c { room = c.room + 1; items = swap_remove c.items row [] }
+-- the values with this one, if there is one of their size, in the place of that at a row
+abbrev pub replaced : ℕ → Option (List ℕ) → Values → Values
+replaced row None v = v
+replaced row (Some bytes) v = if length bytes == v.size then with_item v row bytes else v
 
 -- how a table's lists stand beside each other
-pub record IsStored {Z : Type 0} (ids data_ids : List Id) (columns : List Contents) (entities : Vec EntityId Z) (more : ℕ) : Type 0 where
-  pub sound : IsSound (seen ids data_ids columns entities.items more)
-  pub each_room : HaveRoom more columns
+pub record IsStored {Z : Type 0} (ids data_ids : List Id) (block : Contents) (entities : Vec EntityId Z) (more : ℕ) : Type 0 where
+  pub sound : IsSound (seen ids data_ids block entities.items more)
+  pub rows : block.len ≡ length entities.items
+  pub places : more ≤ block.room
   pub room : vec_len entities + more ≤ vec_capacity entities

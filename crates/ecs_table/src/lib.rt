@@ -3,7 +3,5 @@
 
 mod columns;
 mod table;
-#[cfg(test)]
-mod tests;
 
 pub use table::Table;

@@ -1,16 +1,13 @@
 //! The table.
-ghost use Rattle.std.specs.Prelude.{◌≡◌, ℕ, ◌<◌, ◌≤◌, max, min, IfOk, IfSome, OnOk, OnErr, IsOk, MatchOption, length, List, map, None, option_map, replicate, Some, slice_index, slice_index_or};
+ghost use Rattle.std.specs.Prelude.{◌≡◌, ℕ, ◌-◌, ◌<◌, ◌≤◌, max, min, IfOk, IfSome, OnOk, OnErr, IsOk, MatchOption, length, List, map, None, option_map, replicate, Some, option_copied, slice_get, slice_index, slice_index_or, slice_set};
 ghost use Rattle.std.specs.List.{zip};
-ghost use Rattle.raw_column.specs.Contents.{Contents};
+ghost use Rattle.raw_column.specs.Contents.{column_at};
 ghost use Rattle.ecs_id.specs.Id.{Id};
-ghost use Rattle.ecs_table.specs.Archetype.{empty_table, moved_into, pushed_value, size_of, value_of, with_moved, with_row, with_value, without_row, HaveEqualSizes, IsSound};
+ghost use Rattle.ecs_table.specs.Archetype.{empty_table, moved_into, replaced, size_of, value_of, values_at, with_moved, with_row, with_value, without_row, HaveEqualSizes, IsSound};
 
-use crate::columns::{
-    all_ids, empty_columns, ids_with_data, index_of, push_value, push_zeros, remove_each,
-    reserve_each, shrink_each,
-};
+use crate::columns::{ids_with_data, index_of, sizes_with_data};
 use ecs_id::{EntityId, Id};
-use raw_column::{Column, Memory};
+use raw_column::{Block, Memory};
 use std::alloc::{Allocator, Global};
 use std::marker::Model;
 
@@ -24,10 +21,10 @@ const SMALL: usize = 64;
 pub struct Table<A: Allocator = Global> {
     ids: Vec<Id, A>,
     data_ids: Vec<Id, A>,
-    // beside the ids with data
-    columns: Vec<Column<A>, A>,
+    // a column for each id with data
+    columns: Block<A>,
     entities: Vec<EntityId, A>,
-    // how many more rows fit in each of these lists
+    // how many more rows fit in both
     room: usize,
 }
 
@@ -36,9 +33,9 @@ impl<A: Allocator> Model for Table<A> {
 
     ghost Value = { Archetype };
 
-    ghost view = { λ t. seen t.ids.items t.data_ids.items t.columns.items t.entities.items t.room };
+    ghost view = { λ t. seen t.ids.items t.data_ids.items t.columns t.entities.items t.room };
 
-    ghost invariant = { λ t. IsStored t.ids.items t.data_ids.items t.columns.items t.entities t.room };
+    ghost invariant = { λ t. IsStored t.ids.items t.data_ids.items t.columns t.entities t.room };
 }
 
 impl<A: Allocator + Copy> Table<A> {
@@ -48,12 +45,11 @@ impl<A: Allocator + Copy> Table<A> {
         requires small { (k : ℕ) → k < length sizes.now → slice_index sizes.now k ≤ 64 }
         ensures { IfOk result (λ table. table ≡ empty_table ids.now sizes.now) }
     {
-        let all = all_ids(alloc, ids)?;
-        let data_ids = ids_with_data(alloc, ids, sizes)?;
-        let columns = empty_columns(alloc, sizes)?;
+        let sized = sizes_with_data(alloc, sizes)?;
+        let columns = Block::new(alloc, sized.as_slice())?;
         Ok(Table {
-            ids: all,
-            data_ids,
+            ids: Vec::from_slice(alloc, ids)?,
+            data_ids: ids_with_data(alloc, ids, sizes)?,
             columns,
             entities: Vec::new(alloc),
             room: 0,
@@ -70,7 +66,7 @@ impl<A: Allocator + Copy> Table<A> {
             return Ok(());
         }
         self.entities.reserve(additional)?;
-        reserve_each(self.columns.as_mut_slice(), additional)?;
+        self.columns.reserve(additional)?;
         self.room = additional;
         Ok(())
     }
@@ -91,7 +87,7 @@ impl<A: Allocator + Copy> Table<A> {
         // Places for half as many rows again stay, so that giving back and growing again are a constant for a row.
         let kept = (rows + rows / 2).max(rows + self.room).max(SMALL / 2);
         self.entities.shrink_to(kept);
-        shrink_each(self.columns.as_mut_slice(), kept);
+        self.columns.shrink_to(kept);
     }
 }
 
@@ -126,7 +122,7 @@ impl<A: Allocator> Table<A> {
         ensures { self.new ≡ with_row self.old entity }
     {
         self.entities.push(entity).unwrap();
-        push_zeros(self.columns.as_mut_slice());
+        self.columns.push_zero();
         self.room -= 1;
     }
 
@@ -138,8 +134,18 @@ impl<A: Allocator> Table<A> {
     {
         match index_of(self.data_ids.as_slice(), id) {
             None => None,
-            Some(index) => Some(self.columns[index].get(row)),
+            Some(column) => Some(self.value_in(column, row)),
         }
+    }
+
+    /// The bytes of the value in a column at a row.
+    fn value_in(&self, column: usize, row: usize) -> &[u8]
+        requires column { column < length self.now.columns }
+        requires row { row < length self.now.entities }
+        ensures value { slice_get (values_at self.now.columns column).items row ≡ Some result.now }
+        ensures size { length result.now ≡ (values_at self.now.columns column).size }
+    {
+        self.columns.get(column, row)
     }
 
     /// Overwrites the value of an id with data at a row, with as many bytes.
@@ -148,9 +154,8 @@ impl<A: Allocator> Table<A> {
         requires size { size_of self.old id ≡ Some (length value.now) }
         ensures { self.new ≡ with_value self.old row id value.now }
     {
-        if let Some(index) = index_of(self.data_ids.as_slice(), id) {
-            let column = &mut self.columns[index];
-            column.set(row, value);
+        if let Some(column) = index_of(self.data_ids.as_slice(), id) {
+            self.columns.set(column, row, value);
         }
     }
 
@@ -161,7 +166,7 @@ impl<A: Allocator> Table<A> {
         ensures moved { result ≡ moved_into self.old row }
     {
         self.entities.swap_remove(row);
-        remove_each(self.columns.as_mut_slice(), row);
+        self.columns.swap_remove(row);
         self.room += 1;
         self.entities.get(row).copied()
     }
@@ -197,25 +202,39 @@ impl<A: Allocator> Table<A> {
         ensures zeros { (i : Id) → value_of source.now row i ≡ None → value_of self.new (length self.old.entities) i ≡ option_map (λ n. replicate n 0) (size_of self.old i) }
     {
         self.entities.push(source.entities[row]).unwrap();
-        push_values(
-            self.columns.as_mut_slice(),
-            self.data_ids.as_slice(),
-            source,
-            row,
-        );
+        self.columns.push_zero();
+        copy_values(&mut self.columns, self.data_ids.as_slice(), source, row);
         self.room -= 1;
     }
 }
 
-/// An element at the end of each column: the value of its id in a row of a table, or zeros where the id has no data there.
-fn push_values<A: Allocator>(columns: &mut [Column<A>], ids: &[Id], source: &Table<A>, row: usize)
+/// Copies the values of a row of a table over those in the last row of these columns, where the table has data of a column's id.
+fn copy_values<A: Allocator>(columns: &mut Block<A>, ids: &[Id], source: &Table<A>, row: usize)
     requires row { row < length source.now.entities }
-    requires paired { length ids.now ≡ length columns.old }
-    requires room { (k : ℕ) (d : Contents) → k < length columns.old → 0 < (slice_index_or columns.old k d).room }
-    ensures { columns.new ≡ map (λ p. pushed_value (value_of source.now row p.0) p.1) (zip ids.now columns.old) }
+    requires last { 0 < columns.old.len }
+    requires paired { length ids.now ≡ length columns.old.columns }
+    ensures { columns.new ≡ record columns.old { columns = map (λ p. replaced (columns.old.len - 1) (value_of source.now row p.0) p.1) (zip ids.now columns.old.columns) } }
 {
-    for k in 0..columns.len() {
-        let column = &mut columns[k];
-        push_value(column, source.value(row, ids[k]));
+    let last = columns.len() - 1;
+    for k in 0..ids.len() {
+        copy_value(columns, k, last, source.value(row, ids[k]));
+    }
+}
+
+/// Overwrites a value, if there is one of its size to take its place.
+fn copy_value<A: Allocator>(
+    columns: &mut Block<A>,
+    column: usize,
+    row: usize,
+    value: Option<&[u8]>,
+)
+    requires column { column < length columns.old.columns }
+    requires row { row < columns.old.len }
+    ensures { columns.new ≡ record columns.old { columns = slice_set columns.old.columns column (replaced row (option_copied value.entry) (column_at columns.old column)) } }
+{
+    if let Some(bytes) = value
+        && bytes.len() == columns.size(column)
+    {
+        columns.set(column, row, bytes);
     }
 }

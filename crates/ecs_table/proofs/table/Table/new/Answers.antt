@@ -1,12 +1,20 @@
+use Rattle.std.proofs.Common.{◌≡◌, ℕ, ◌<◌, ◌≤◌, List, length, map, nat_lt, slice_index, ap, sym, subst, ◌∙◌}
+use Rattle.std.specs.List.{filter}
+use Rattle.raw_column.specs.Contents.{empty_contents}
+use Rattle.ecs_table.proofs.ColumnLemmas.{sized_small}
 use Rattle.ecs_table.proofs.Stored.{seen_new, stored_new}
 use Rattle.ecs_table.proofs.table.Table.new.Goals as goal
 
+pub new-requires : goal.new-requires
+new-requires g c =
+    subst (λ (l : List ℕ). (k : ℕ) → k < length l → (0 < slice_index l k) × (slice_index l k ≤ 64)) (sym (c.as_slice.ensures.value ∙ c.in_ok-sized.ensures)) (sized_small c.args.sizes.now c.requires.small)
+
 pub invariant_of-result : goal.invariant_of-result
 invariant_of-result g c =
-    stored_new c.args.ids.now c.in_ok-all.all.items c.in_ok-data_ids.data_ids.items c.args.sizes.now c.in_ok-columns.columns.items c.new.result c.requires.paired c.requires.small
-    c.in_ok-all.ensures c.in_ok-data_ids.ensures c.in_ok-columns.ensures c.new.ensures.items c.new.ensures.len
+    stored_new c.args.ids.now c.in_ok-from_slice.field-0.items c.in_ok-ids_with_data.field-0.items c.args.sizes.now c.in_ok-columns.columns c.new-2.result c.requires.paired c.requires.small
+    c.in_ok-from_slice.ensures.items c.in_ok-ids_with_data.ensures (c.in_ok-columns.ensures ∙ ap empty_contents (c.as_slice.ensures.value ∙ c.in_ok-sized.ensures)) c.new-2.ensures.items c.new-2.ensures.len
 
 pub returns : goal.returns
 returns g c =
-    seen_new c.args.ids.now c.in_ok-all.all.items c.in_ok-data_ids.data_ids.items c.args.sizes.now c.in_ok-columns.columns.items c.new.result.items
-    c.in_ok-all.ensures c.in_ok-data_ids.ensures c.in_ok-columns.ensures c.new.ensures.items
+    seen_new c.args.ids.now c.in_ok-from_slice.field-0.items c.in_ok-ids_with_data.field-0.items c.args.sizes.now c.in_ok-columns.columns c.new-2.result.items
+    c.in_ok-from_slice.ensures.items c.in_ok-ids_with_data.ensures (c.in_ok-columns.ensures ∙ ap empty_contents (c.as_slice.ensures.value ∙ c.in_ok-sized.ensures)) c.new-2.ensures.items
