@@ -10,7 +10,7 @@ An edit is a file edits/CRATE/NAME.edit, or crates/CRATE/must-fail/NAME.edit for
           origin/main where that is an earlier commit, else since the commit before the last
 --crates  these crates, in one word as "ecs_id raw_column", or all
 --tier    edits (without it), must-fail, or both
---at-once how many checks run side by side: one a processor, where it is left out
+--at-once how many checks run side by side (without it one a processor, as memory allows)
 --keep    a folder for what the check printed under each edit
 
 All work is done on copies in a temporary folder. An edit says something of a contract where a goal about values fails.
@@ -19,6 +19,7 @@ and where it is refused only because a proof file names what the edit took away:
 status is 0 where each edit says something, else 1; 2 for a wrong use.
 """
 import argparse
+import glob
 import os
 import re
 import shutil
@@ -298,8 +299,15 @@ def asked():
     return parser.parse_args()
 
 
-def processors():
-    return len(os.sched_getaffinity(0)) if hasattr(os, "sched_getaffinity") else os.cpu_count() or 1
+def lanes_here():
+    """How many checks to run side by side: one a processor, and one for each 3 GB of free memory."""
+    processors = len(os.sched_getaffinity(0)) if hasattr(os, "sched_getaffinity") else os.cpu_count() or 1
+    try:
+        with open("/proc/meminfo", encoding="ascii") as it:
+            free = int(re.search(r"MemAvailable:\s+(\d+)", it.read())[1])
+    except (OSError, TypeError):
+        return processors
+    return max(1, min(processors, free // 3_000_000))
 
 
 def main():
@@ -319,10 +327,9 @@ def main():
     edits = {it: edits_of(it, given.tier) for it in uses if it in chosen}
     edits = {crate: found for crate, found in edits.items() if found}
     run = Run(given, uses)
-    for crate in sorted(os.listdir(os.path.join(TOP, "edits"))) if os.path.isdir(os.path.join(TOP, "edits")) else []:
-        if crate not in uses:
-            run.tell("edits", crate, False, "BAD EDIT: crates.txt names no such crate")
-    lanes = given.at_once or processors()
+    for lost in sorted({os.path.basename(os.path.dirname(it)) for it in glob.glob(os.path.join(TOP, "edits", "*", ""))} - set(uses)):
+        run.tell("edits", lost, False, "BAD EDIT: crates.txt names no such crate")
+    lanes = given.at_once or lanes_here()
     # (where there are fewer crates than processors, the edits of each are dealt out)
     parts = max(1, lanes // max(len(edits), 1))
     tasks = [(crate, found[at::parts]) for crate, found in edits.items() for at in range(parts) if found[at::parts]]
