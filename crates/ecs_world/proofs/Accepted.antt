@@ -21,7 +21,7 @@ use Rattle.ecs_model.proofs.Maps.{of_some}
 use Rattle.ecs_model.proofs.Removals.{removes_held_alone}
 use Rattle.name_index.specs.Names.{IsUnnamed, Names}
 use Rattle.ecs_world.specs.Holdings.{AreHoldings, HoldAlike, Holdings, KeepsSizes, Sizes, agrees, cells_at, held_at, holds_id, lives, next_entity, with_cells, with_entity}
-use Rattle.ecs_world.specs.State.{IsWorld, byte_count, is_known_rightly, state_of, type_of, value_in}
+use Rattle.ecs_world.specs.State.{IsWorld, Parts, parts_of, byte_count, is_known_rightly, state_of, type_of, value_in}
 use Rattle.ecs_world.proofs.Births.{birth_left, component_known, effect-component, effect-entity, effect-fresh, none_live, other_schemas, state_component, state_fresh, state_named, tags_empty, tags_tagged}
 use Rattle.ecs_world.proofs.Judged.{CanBear, CanChange, judged-add, judged-remove}
 use Rattle.ecs_world.proofs.Left.{cells_left, effect-remove, facts_new, held_world, recounted, state_gone, state_put, tags_gone, tags_put, there}
@@ -54,9 +54,21 @@ counts w v is room = omega (arith, not_spent w.accepted (ap is_spent is ∙ room
 pub sound_after : (v u : WorldState) (c : Command) → IsWellFormed v → IsCommand c → first_reason (reasons v c) ≡ None → u ≡ counted (effect v c) → IsWellFormed u
 sound_after v u c sound command none is = subst IsWellFormed (sym is) (effect_well_formed v c sound command none)
 
-module _ (h : Holdings) (names : Names) (schemas : Map ℕ Schema) (accepted : ℕ) (world : IsWorld h names schemas accepted) (v : WorldState) (is : state_of h names schemas accepted ≡ v) where
+module _ {parts : Parts} (world : IsWorld parts) {v : WorldState} (is : state_of parts ≡ v) where
+  abbrev h : Holdings
+  h = parts.holdings
+
+  abbrev names : Names
+  names = parts.names
+
+  abbrev schemas : Map ℕ Schema
+  schemas = parts.schemas
+
+  abbrev accepted : ℕ
+  accepted = parts.accepted
+
   abbrev w : WorldState
-  w = state_of h names schemas accepted
+  w = state_of parts
 
   sound_v : IsWellFormed v
   sound_v = subst IsWellFormed is world.sound
@@ -64,21 +76,21 @@ module _ (h : Holdings) (names : Names) (schemas : Map ℕ Schema) (accepted : �
   -- the size of an id's type passes
   size_known : (i : Id) (size : ℕ) → size ≡ byte_count (type_of_id v i) → list_all (has_key nat_cmp h.live) (mentioned i) ≡ true → list_all (is_known_rightly h schemas) ((i, size) ∷ []) ≡ true
   size_known i size at live =
-      let same : size ≡ byte_count (type_of h schemas i) = at ∙ ap (λ u. byte_count (type_of_id u i)) (sym is) ∙ ap byte_count (type_is h names schemas accepted world i) in
+      let same : size ≡ byte_count (type_of h schemas i) = at ∙ ap (λ u. byte_count (type_of_id u i)) (sym is) ∙ ap byte_count (type_is world i) in
       λ k. ((Decides-eqb size (byte_count (type_of h schemas i))).1 same k && live k) && true
 
   -- the names and the schemas are as they were
-  pub kept : (h' : Holdings) (names' : Names) (schemas' : Map ℕ Schema) → IsWorld h' names schemas accepted × (state_of h' names schemas accepted ≡ v) → names' ≡ names → schemas' ≡ schemas
-      → IsWorld h' names' schemas' accepted × (state_of h' names' schemas' accepted ≡ v)
+  pub kept : (h' : Holdings) (names' : Names) (schemas' : Map ℕ Schema) → IsWorld (parts_of h' names schemas accepted) × (state_of (parts_of h' names schemas accepted) ≡ v) → names' ≡ names → schemas' ≡ schemas
+      → IsWorld (parts_of h' names' schemas' accepted) × (state_of (parts_of h' names' schemas' accepted) ≡ v)
   kept h' names' schemas' left same_names same_schemas =
-      subst (λ ns. IsWorld h' ns schemas' accepted × (state_of h' ns schemas' accepted ≡ v)) (sym same_names) (subst (λ ss. IsWorld h' names ss accepted × (state_of h' names ss accepted ≡ v)) (sym same_schemas) left)
+      subst (λ ns. IsWorld (parts_of h' ns schemas' accepted) × (state_of (parts_of h' ns schemas' accepted) ≡ v)) (sym same_names) (subst (λ ss. IsWorld (parts_of h' names ss accepted) × (state_of (parts_of h' names ss accepted) ≡ v)) (sym same_schemas) left)
 
-  pub unchanged : IsWorld h names schemas accepted × (state_of h names schemas accepted ≡ v)
+  pub unchanged : IsWorld parts × (state_of parts ≡ v)
   unchanged = (world, is)
 
   -- a refusal of memory leaves the world as it was
   pub failed : (added : Sizes) → list_all (is_known_rightly h schemas) added ≡ true → (h' : Holdings) → AreHoldings h' → HoldAlike h' h → KeepsSizes h.known added h'.known
-      → IsWorld h' names schemas accepted × (state_of h' names schemas accepted ≡ v)
+      → IsWorld (parts_of h' names schemas accepted) × (state_of (parts_of h' names schemas accepted) ≡ v)
   failed added fits h' whole' alike keeps = (world_alike h' h names schemas accepted added world whole' alike keeps fits, state_alike h' h names schemas accepted alike ∙ is)
 
   module _ (e : EntityId) (i : Id) where
@@ -87,13 +99,13 @@ module _ (h : Holdings) (names : Names) (schemas : Map ℕ Schema) (accepted : �
       can = subst (λ u. CanChange u e i) (sym is) can'
 
       pub alive_there : IsTrue (lives h e) × IsTrue (is_some (cells_at h e.index))
-      alive_there = (can.alive, ap is_some (there h names schemas accepted world e i can).1)
+      alive_there = (can.alive, ap is_some (there world e i can).1)
 
       pub held_there : (b : Bool) → holds v e.index i ≡ b → holds_id h e.index i ≡ b
-      held_there b held = sym (holds_is h names schemas accepted world e.index i) ∙ ap (λ u. holds u e.index i) is ∙ held
+      held_there b held = sym (holds_is world e.index i) ∙ ap (λ u. holds u e.index i) is ∙ held
 
       pub size_there : (size : ℕ) → size ≡ byte_count (type_of_id v i) → agrees h.known i size ≡ true
-      size_there size at = size_agrees h names schemas accepted world i size (at ∙ ap (λ u. byte_count (type_of_id u i)) (sym is) ∙ ap byte_count (type_is h names schemas accepted world i))
+      size_there size at = size_agrees world i size (at ∙ ap (λ u. byte_count (type_of_id u i)) (sym is) ∙ ap byte_count (type_is world i))
 
       pub fits_there : (size : ℕ) → size ≡ byte_count (type_of_id v i) → list_all (is_known_rightly h schemas) ((i, size) ∷ []) ≡ true
       fits_there size at = size_known i size at can.mentions
@@ -101,13 +113,13 @@ module _ (h : Holdings) (names : Names) (schemas : Map ℕ Schema) (accepted : �
       -- a value is written to a fact that is held
       pub written_left : (h' : Holdings) (bytes : List ℕ) (vs : List ℤ) → AreHoldings h' → HoldAlike h' (with_cells h e.index (with_value id_cmp (held_at h e.index) i bytes)) → KeepsSizes h.known [] h'.known
           → value_in (type_of_id v i) bytes ≡ vs → (accepted' : ℕ) (u : WorldState) → record v { facts = with_value key_cmp v.facts (e.index, i) vs; accepted = accepted' } ≡ u → IsWellFormed u
-          → IsWorld h' names schemas accepted' × (state_of h' names schemas accepted' ≡ u)
+          → IsWorld (parts_of h' names schemas accepted') × (state_of (parts_of h' names schemas accepted') ≡ u)
       written_left h' bytes vs whole' alike keeps value accepted' u to sound =
-          let state : state_of h' names schemas accepted' ≡ u =
-          state_put h names schemas accepted world e i can h' whole' bytes alike accepted'
-          ∙ (λ k. record (is k) { facts = with_value key_cmp (is k).facts (e.index, i) ((ap (λ t. value_in t bytes) (sym (type_is h names schemas accepted world i) ∙ ap (λ x. type_of_id x i) is) ∙ value) k); accepted = accepted' })
+          let state : state_of (parts_of h' names schemas accepted') ≡ u =
+          state_put world e i can h' whole' bytes alike accepted'
+          ∙ (λ k. record (is k) { facts = with_value key_cmp (is k).facts (e.index, i) ((ap (λ t. value_in t bytes) (sym (type_is world i) ∙ ap (λ x. type_of_id x i) is) ∙ value) k); accepted = accepted' })
           ∙ to in (
-            cells_left h names schemas accepted world e i can h' whole' (with_value id_cmp (held_at h e.index) i bytes) alike [] keeps refl (tags_put h names schemas accepted world e i can h' whole' bytes alike) accepted' (subst IsWellFormed (sym state) sound),
+            cells_left world e i can h' whole' (with_value id_cmp (held_at h e.index) i bytes) alike [] keeps refl (tags_put world e i can h' whole' bytes alike) accepted' (subst IsWellFormed (sym state) sound),
             state,
           )
 
@@ -115,43 +127,43 @@ module _ (h : Holdings) (names : Names) (schemas : Map ℕ Schema) (accepted : �
     module _ (none : first_reason (reasons v (Add e i)) ≡ None) where
       pub come : (h' : Holdings) (size : ℕ) → AreHoldings h' → size ≡ byte_count (type_of_id v i) → holds v e.index i ≡ false
           → HoldAlike h' (with_cells h e.index (with_value id_cmp (held_at h e.index) i (replicate size 0))) → KeepsSizes h.known ((i, size) ∷ []) h'.known
-          → IsWorld h' names schemas accepted × (state_of h' names schemas accepted ≡ with_facts v (facts_after_add v e.index i))
+          → IsWorld (parts_of h' names schemas accepted) × (state_of (parts_of h' names schemas accepted) ≡ with_facts v (facts_after_add v e.index i))
       come h' size whole' at absent alike keeps =
           let can' = judged-add v e i none in
           let value : value_in (type_of h schemas i) (replicate size 0) ≡ new_value v i =
-          ap (λ n. value_in (type_of h schemas i) (replicate n 0)) (at ∙ ap (λ u. byte_count (type_of_id u i)) (sym is) ∙ ap byte_count (type_is h names schemas accepted world i))
-          ∙ zeros_are_new (type_of h schemas i) ∙ ap (λ o. option_map_or zeros o []) (sym (type_is h names schemas accepted world i) ∙ ap (λ x. type_of_id x i) is) in
-          let state : state_of h' names schemas accepted ≡ with_facts v (facts_after_add v e.index i) =
-          state_put h names schemas accepted world e i (can can') h' whole' (replicate size 0) alike accepted
+          ap (λ n. value_in (type_of h schemas i) (replicate n 0)) (at ∙ ap (λ u. byte_count (type_of_id u i)) (sym is) ∙ ap byte_count (type_is world i))
+          ∙ zeros_are_new (type_of h schemas i) ∙ ap (λ o. option_map_or zeros o []) (sym (type_is world i) ∙ ap (λ x. type_of_id x i) is) in
+          let state : state_of (parts_of h' names schemas accepted) ≡ with_facts v (facts_after_add v e.index i) =
+          state_put world e i (can can') h' whole' (replicate size 0) alike accepted
           ∙ (λ k. record (is k) { facts = with_value key_cmp (is k).facts (e.index, i) (value k) })
           ∙ ap (with_facts v) (sym (facts_new v e.index i absent)) in (
-            cells_left h names schemas accepted world e i (can can') h' whole' (with_value id_cmp (held_at h e.index) i (replicate size 0)) alike ((i, size) ∷ []) keeps (fits_there can' size at)
-                (tags_put h names schemas accepted world e i (can can') h' whole' (replicate size 0) alike) accepted (subst IsWellFormed (sym state) (held_world v e i sound_v none)),
+            cells_left world e i (can can') h' whole' (with_value id_cmp (held_at h e.index) i (replicate size 0)) alike ((i, size) ∷ []) keeps (fits_there can' size at)
+                (tags_put world e i (can can') h' whole' (replicate size 0) alike) accepted (subst IsWellFormed (sym state) (held_world v e i sound_v none)),
             state,
           )
 
     -- a fact goes
     module _ (none : first_reason (reasons v (Remove e i)) ≡ None) where
       pub go : (h' : Holdings) → AreHoldings h' → HoldAlike h' (with_cells h e.index (without id_cmp (held_at h e.index) (λ k. id_eq k i))) → KeepsSizes h.known [] h'.known
-          → IsWorld h' names schemas (accepted + 1) × (state_of h' names schemas (accepted + 1) ≡ counted (effect v (Remove e i)))
+          → IsWorld (parts_of h' names schemas (accepted + 1)) × (state_of (parts_of h' names schemas (accepted + 1)) ≡ counted (effect v (Remove e i)))
       go h' whole' alike keeps =
           let can' = judged-remove v e i none in
-          let state : state_of h' names schemas (accepted + 1) ≡ counted (effect v (Remove e i)) =
-          state_gone h names schemas accepted world e i (can can') h' whole' alike (accepted + 1)
+          let state : state_of (parts_of h' names schemas (accepted + 1)) ≡ counted (effect v (Remove e i)) =
+          state_gone world e i (can can') h' whole' alike (accepted + 1)
           ∙ (λ k. record (is k) { facts = facts_after_remove (is k) e.index i; accepted = (is k).accepted + 1 })
           ∙ ap counted (sym (effect-remove v e i)) in (
-            cells_left h names schemas accepted world e i (can can') h' whole' (without id_cmp (held_at h e.index) (λ k. id_eq k i)) alike [] keeps refl (tags_gone h names schemas accepted world e i (can can') h' whole' alike)
-                (accepted + 1) (sound_after v (state_of h' names schemas (accepted + 1)) (Remove e i) sound_v tt none state),
+            cells_left world e i (can can') h' whole' (without id_cmp (held_at h e.index) (λ k. id_eq k i)) alike [] keeps refl (tags_gone world e i (can can') h' whole' alike)
+                (accepted + 1) (sound_after v (state_of (parts_of h' names schemas (accepted + 1))) (Remove e i) sound_v tt none state),
             state,
           )
 
   -- the command is counted, and nothing else changes
-  pub counted_left : (c : Command) → IsCommand c → first_reason (reasons v c) ≡ None → effect v c ≡ v → IsWorld h names schemas (accepted + 1) × (state_of h names schemas (accepted + 1) ≡ counted (effect v c))
+  pub counted_left : (c : Command) → IsCommand c → first_reason (reasons v c) ≡ None → effect v c ≡ v → IsWorld (parts_of h names schemas (accepted + 1)) × (state_of (parts_of h names schemas (accepted + 1)) ≡ counted (effect v c))
   counted_left c command none same =
-      let state : state_of h names schemas (accepted + 1) ≡ counted (effect v c) = ap counted is ∙ ap counted (sym same) in (
+      let state : state_of (parts_of h names schemas (accepted + 1)) ≡ counted (effect v c) = ap counted is ∙ ap counted (sym same) in (
         record {
           whole = world.whole;
-          sound = sound_after v (state_of h names schemas (accepted + 1)) c sound_v command none state;
+          sound = sound_after v (state_of (parts_of h names schemas (accepted + 1))) c sound_v command none state;
           settled = world.settled;
           known = world.known;
           named = world.named;
@@ -161,9 +173,9 @@ module _ (h : Holdings) (names : Names) (schemas : Map ℕ Schema) (accepted : �
       )
 
   -- where the world is that of a command's effect, it is counted
-  pub counted_from : (u : WorldState) (c : Command) → effect u c ≡ v → is_spent v ≡ false → IsWorld h names schemas (accepted + 1) × (state_of h names schemas (accepted + 1) ≡ counted (effect u c))
+  pub counted_from : (u : WorldState) (c : Command) → effect u c ≡ v → is_spent v ≡ false → IsWorld (parts_of h names schemas (accepted + 1)) × (state_of (parts_of h names schemas (accepted + 1)) ≡ counted (effect u c))
   counted_from u c same room =
-      let state : state_of h names schemas (accepted + 1) ≡ counted (effect u c) = ap counted is ∙ ap counted (sym same) in (
+      let state : state_of (parts_of h names schemas (accepted + 1)) ≡ counted (effect u c) = ap counted is ∙ ap counted (sym same) in (
         record {
           whole = world.whole;
           sound = recounted w world.sound (ap is_spent is ∙ room);
@@ -185,23 +197,23 @@ module _ (h : Holdings) (names : Names) (schemas : Map ℕ Schema) (accepted : �
   pub component_agrees : list_all (λ (c : Id × ℕ). agrees h.known c.0 c.1) ((plain component, 0) ∷ []) ≡ true
   component_agrees =
       let none : value_at nat_cmp schemas component ≡ None = ((world.sound).built_in).schemas component refl in
-      λ k. size_agrees h names schemas accepted world (plain component) 0 (sym (ap byte_count none)) k && true
+      λ k. size_agrees world (plain component) 0 (sym (ap byte_count none)) k && true
 
   pub next_of : (e : EntityId) → next_entity h ≡ Some e → model.next_entity v ≡ Some e
-  next_of e next = ap model.next_entity (sym is) ∙ sym (next_same h names schemas accepted) ∙ next
+  next_of e next = ap model.next_entity (sym is) ∙ sym (next_same parts) ∙ next
 
   pub next_some : CanBear v → IsTrue (is_some (next_entity h))
-  next_some can = ap is_some (next_same h names schemas accepted ∙ ap model.next_entity is ∙ (can.next).1)
+  next_some can = ap is_some (next_same parts ∙ ap model.next_entity is ∙ (can.next).1)
 
   module _ (e : EntityId) (next : model.next_entity v ≡ Some e) where
     abbrev next_w : model.next_entity w ≡ Some e
     next_w = ap model.next_entity is ∙ next
 
     pub next_there : next_entity h ≡ Some e
-    next_there = next_same h names schemas accepted ∙ next_w
+    next_there = next_same parts ∙ next_w
 
     pub next_unnamed : IsUnnamed names e
-    next_unnamed = unnamed names h.live (AreNamed-world h names schemas accepted world) e (none_live h names schemas accepted world e next_w)
+    next_unnamed = unnamed names h.live (AreNamed-world world) e (none_live world e next_w)
 
     -- it has no schema
     pub next_plain : value_at nat_cmp schemas e.index ≡ None
@@ -210,33 +222,33 @@ module _ (h : Holdings) (names : Names) (schemas : Map ℕ Schema) (accepted : �
         by : (o : Option Schema) → value_at nat_cmp schemas e.index ≡ o → o ≡ None
         by None p = refl
         by (Some fs) p = absurd (true≢false (sym (of_some (λ x. (has_key nat_cmp h.live e.index ≡ true) × (schema_fault x ≡ None)) (value_at nat_cmp schemas e.index) (((world.sound).live).schemas e.index) fs p).0
-            ∙ ap is_some (none_live h names schemas accepted world e next_w)))
+            ∙ ap is_some (none_live world e next_w)))
 
     -- an entity without a name
     pub fresh_left : first_reason (reasons v Fresh) ≡ None → (h' : Holdings) → AreHoldings h' → HoldAlike h' (with_cells (with_entity h e) e.index []) → KeepsSizes h.known [] h'.known
-        → IsWorld h' names schemas (accepted + 1) × (state_of h' names schemas (accepted + 1) ≡ counted (effect v Fresh))
+        → IsWorld (parts_of h' names schemas (accepted + 1)) × (state_of (parts_of h' names schemas (accepted + 1)) ≡ counted (effect v Fresh))
     fresh_left none h' whole' alike keeps =
-        let state : state_of h' names schemas (accepted + 1) ≡ counted (effect v Fresh) =
-        state_fresh h names schemas accepted world e next_w h' whole' alike (accepted + 1)
+        let state : state_of (parts_of h' names schemas (accepted + 1)) ≡ counted (effect v Fresh) =
+        state_fresh world e next_w h' whole' alike (accepted + 1)
         ∙ (λ k. record (is k) { live = with_value nat_cmp (is k).live e.index e.generation; accepted = (is k).accepted + 1 }) ∙ ap counted (sym (effect-fresh v e next)) in (
-          birth_left h names schemas accepted world e next_w h' whole' [] alike schemas (λ j d. refl) (tags_empty h names schemas accepted world e next_w h' whole' alike) names
-              (AreNamed-same names h.live (AreNamed-world h names schemas accepted world) e (none_live h names schemas accepted world e next_w)) [] keeps refl (accepted + 1)
-              (sound_after v (state_of h' names schemas (accepted + 1)) Fresh sound_v tt none state),
+          birth_left world e next_w h' whole' [] alike schemas (λ j d. refl) (tags_empty world e next_w h' whole' alike) names
+              (AreNamed-same names h.live (AreNamed-world world) e (none_live world e next_w)) [] keeps refl (accepted + 1)
+              (sound_after v (state_of (parts_of h' names schemas (accepted + 1))) Fresh sound_v tt none state),
           state,
         )
 
     -- an entity with a name
     pub named_left : (n : List ℕ) → first_reason (reasons v (Entity n)) ≡ None → finite.get names n ≡ None → (names' : Names) → names' ≡ finite.insert names n e
         → (h' : Holdings) → AreHoldings h' → HoldAlike h' (with_cells (with_entity h e) e.index []) → KeepsSizes h.known [] h'.known
-        → IsWorld h' names' schemas (accepted + 1) × (state_of h' names' schemas (accepted + 1) ≡ counted (effect v (Entity n)))
+        → IsWorld (parts_of h' names' schemas (accepted + 1)) × (state_of (parts_of h' names' schemas (accepted + 1)) ≡ counted (effect v (Entity n)))
     named_left n none free names' bound h' whole' alike keeps =
-        subst (λ ns. IsWorld h' ns schemas (accepted + 1) × (state_of h' ns schemas (accepted + 1) ≡ counted (effect v (Entity n)))) (sym bound)
-        (let state : state_of h' (finite.insert names n e) schemas (accepted + 1) ≡ counted (effect v (Entity n)) =
-        state_named h names schemas accepted world e next_w h' whole' alike n free (accepted + 1)
+        subst (λ ns. IsWorld (parts_of h' ns schemas (accepted + 1)) × (state_of (parts_of h' ns schemas (accepted + 1)) ≡ counted (effect v (Entity n)))) (sym bound)
+        (let state : state_of (parts_of h' (finite.insert names n e) schemas (accepted + 1)) ≡ counted (effect v (Entity n)) =
+        state_named world e next_w h' whole' alike n free (accepted + 1)
         ∙ (λ k. record (is k) { live = with_value nat_cmp (is k).live e.index e.generation; names = with_value nat_cmp (is k).names e.index n; accepted = (is k).accepted + 1 }) ∙ ap counted (sym (effect-entity v n e next)) in (
-          birth_left h names schemas accepted world e next_w h' whole' [] alike schemas (λ j d. refl) (tags_empty h names schemas accepted world e next_w h' whole' alike) (finite.insert names n e)
-              (AreNamed-bound names h.live (AreNamed-world h names schemas accepted world) e (none_live h names schemas accepted world e next_w) n free) [] keeps refl (accepted + 1)
-              (sound_after v (state_of h' (finite.insert names n e) schemas (accepted + 1)) (Entity n) sound_v tt none state),
+          birth_left world e next_w h' whole' [] alike schemas (λ j d. refl) (tags_empty world e next_w h' whole' alike) (finite.insert names n e)
+              (AreNamed-bound names h.live (AreNamed-world world) e (none_live world e next_w) n free) [] keeps refl (accepted + 1)
+              (sound_after v (state_of (parts_of h' (finite.insert names n e) schemas (accepted + 1))) (Entity n) sound_v tt none state),
           state,
         ))
 
@@ -244,12 +256,12 @@ module _ (h : Holdings) (names : Names) (schemas : Map ℕ Schema) (accepted : �
     pub component_left : (n : List ℕ) (s : Schema) → schema_fault s ≡ None → first_reason (reasons v (Component n s)) ≡ None → finite.get names n ≡ None → (names' : Names) → names' ≡ finite.insert names n e
         → (schemas' : Map ℕ Schema) → schemas' ≡ with_value nat_cmp schemas e.index s
         → (h' : Holdings) → AreHoldings h' → HoldAlike h' (with_cells (with_entity h e) e.index ((plain component, []) ∷ [])) → KeepsSizes h.known ((plain component, 0) ∷ []) h'.known
-        → IsWorld h' names' schemas' (accepted + 1) × (state_of h' names' schemas' (accepted + 1) ≡ counted (effect v (Component n s)))
+        → IsWorld (parts_of h' names' schemas' (accepted + 1)) × (state_of (parts_of h' names' schemas' (accepted + 1)) ≡ counted (effect v (Component n s)))
     component_left n s proper none free names' bound schemas' typed h' whole' alike keeps =
-        subst (λ ns. IsWorld h' ns schemas' (accepted + 1) × (state_of h' ns schemas' (accepted + 1) ≡ counted (effect v (Component n s)))) (sym bound)
-        (subst (λ ss. IsWorld h' (finite.insert names n e) ss (accepted + 1) × (state_of h' (finite.insert names n e) ss (accepted + 1) ≡ counted (effect v (Component n s)))) (sym typed)
-        (let state : state_of h' (finite.insert names n e) (with_value nat_cmp schemas e.index s) (accepted + 1) ≡ counted (effect v (Component n s)) =
-        state_component h names schemas accepted world e next_w h' whole' alike s n free (accepted + 1)
+        subst (λ ns. IsWorld (parts_of h' ns schemas' (accepted + 1)) × (state_of (parts_of h' ns schemas' (accepted + 1)) ≡ counted (effect v (Component n s)))) (sym bound)
+        (subst (λ ss. IsWorld (parts_of h' (finite.insert names n e) ss (accepted + 1)) × (state_of (parts_of h' (finite.insert names n e) ss (accepted + 1)) ≡ counted (effect v (Component n s)))) (sym typed)
+        (let state : state_of (parts_of h' (finite.insert names n e) (with_value nat_cmp schemas e.index s) (accepted + 1)) ≡ counted (effect v (Component n s)) =
+        state_component world e next_w h' whole' alike s n free (accepted + 1)
         ∙ (λ k. record (is k) {
           live = with_value nat_cmp (is k).live e.index e.generation;
           names = with_value nat_cmp (is k).names e.index n;
@@ -257,11 +269,11 @@ module _ (h : Holdings) (names : Names) (schemas : Map ℕ Schema) (accepted : �
           facts = with_value key_cmp (is k).facts (e.index, plain component) [];
           accepted = (is k).accepted + 1;
         }) ∙ ap counted (sym (effect-component v n s e next)) in (
-          birth_left h names schemas accepted world e next_w h' whole' ((plain component, []) ∷ []) alike (with_value nat_cmp schemas e.index s) (other_schemas h names schemas accepted world e next_w h' whole' alike s)
-              (tags_tagged h names schemas accepted world e next_w h' whole' alike s) (finite.insert names n e)
-              (AreNamed-bound names h.live (AreNamed-world h names schemas accepted world) e (none_live h names schemas accepted world e next_w) n free) ((plain component, 0) ∷ []) keeps
-              (component_known h names schemas accepted world e next_w h' whole' alike s) (accepted + 1)
-              (sound_after v (state_of h' (finite.insert names n e) (with_value nat_cmp schemas e.index s) (accepted + 1)) (Component n s) sound_v proper none state),
+          birth_left world e next_w h' whole' ((plain component, []) ∷ []) alike (with_value nat_cmp schemas e.index s) (other_schemas world e next_w h' whole' alike s)
+              (tags_tagged world e next_w h' whole' alike s) (finite.insert names n e)
+              (AreNamed-bound names h.live (AreNamed-world world) e (none_live world e next_w) n free) ((plain component, 0) ∷ []) keeps
+              (component_known world e next_w h' whole' alike s) (accepted + 1)
+              (sound_after v (state_of (parts_of h' (finite.insert names n e) (with_value nat_cmp schemas e.index s) (accepted + 1))) (Component n s) sound_v proper none state),
           state,
         )))
 

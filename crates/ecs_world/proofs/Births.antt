@@ -20,7 +20,7 @@ use Rattle.ecs_model.proofs.Maps.{both_true, key_cmp_same, nat_value_at}
 use Rattle.ecs_model.proofs.Reasons.{next_is_free}
 use Rattle.name_index.specs.Names.{Names}
 use Rattle.ecs_world.specs.Holdings.{AreHoldings, Cells, HoldAlike, Holdings, KeepsSizes, Sizes, cells_at, holds_id, with_cells, with_entity}
-use Rattle.ecs_world.specs.State.{IsWorld, all_facts, byte_count, is_known_rightly, names_of, state_of, type_of, value_in}
+use Rattle.ecs_world.specs.State.{IsWorld, Parts, parts_of, all_facts, byte_count, is_known_rightly, names_of, state_of, type_of, value_in}
 use Rattle.ecs_world.proofs.Entities.{alive_of}
 use Rattle.ecs_world.proofs.Facts.{bytes_in}
 use Rattle.ecs_world.proofs.FactChanges.{bytes_empty, bytes_first, facts_put, facts_same}
@@ -60,9 +60,21 @@ no_tag e r = by (eq_by_cmp key_cmp (r, plain pair_is_tag) (e, plain component)) 
     by true p = absurd (true≢false (ap (λ k. first_of k.1 == pair_is_tag) (key_cmp_same (r, plain pair_is_tag) (e, plain component) ((Equal-is (key_cmp (r, plain pair_is_tag) (e, plain component))).0 p))))
     by false p = refl
 
-module _ (h : Holdings) (names : Names) (schemas : Map ℕ Schema) (accepted : ℕ) (world : IsWorld h names schemas accepted) (e : EntityId) (next : model.next_entity (state_of h names schemas accepted) ≡ Some e) where
+module _ {parts : Parts} (world : IsWorld parts) (e : EntityId) (next : model.next_entity (state_of parts) ≡ Some e) where
+  abbrev h : Holdings
+  h = parts.holdings
+
+  abbrev names : Names
+  names = parts.names
+
+  abbrev schemas : Map ℕ Schema
+  schemas = parts.schemas
+
+  abbrev accepted : ℕ
+  accepted = parts.accepted
+
   abbrev w : WorldState
-  w = state_of h names schemas accepted
+  w = state_of parts
 
   fresh : has_key nat_cmp h.live e.index ≡ false
   fresh = (next_is_free w e next).fresh
@@ -71,7 +83,7 @@ module _ (h : Holdings) (names : Names) (schemas : Map ℕ Schema) (accepted : �
   none_live = none_of (value_at nat_cmp h.live e.index) fresh
 
   pub none_settled : cells_at h e.index ≡ None
-  none_settled = unsettled_at h names schemas accepted world e.index fresh
+  none_settled = unsettled_at world e.index fresh
 
   abbrev born : Map ℕ ℕ
   born = with_value nat_cmp h.live e.index e.generation
@@ -88,7 +100,7 @@ module _ (h : Holdings) (names : Names) (schemas : Map ℕ Schema) (accepted : �
     types_born j live = type_in-same schemas schemas' (λ r. holds_id h r (plain pair_is_tag)) (λ r. holds_id h' r (plain pair_is_tag)) (has_key nat_cmp h.live) j live (λ k l. same k (other k l)) tags
 
     pub types_held : (d : ℕ) (j : Id) (bs : List ℕ) → bytes_in h.cells d j ≡ Some bs → type_of h' schemas' j ≡ type_of h schemas j
-    types_held d j bs found = types_born j (known_held h names schemas accepted world d j bs found).1
+    types_held d j bs found = types_born j (known_held world d j bs found).1
 
     known_born : (c : Id × ℕ) → is_known_rightly h schemas c ≡ true → is_known_rightly h' schemas' c ≡ true
     known_born c k =
@@ -98,7 +110,7 @@ module _ (h : Holdings) (names : Names) (schemas : Map ℕ Schema) (accepted : �
         λ i. size i && live i
 
     pub birth_left : (names' : Names) → AreNamed names' born → (added : Sizes) → KeepsSizes h.known added h'.known → list_all (is_known_rightly h' schemas') added ≡ true
-        → (accepted' : ℕ) → IsWellFormed (state_of h' names' schemas' accepted') → IsWorld h' names' schemas' accepted'
+        → (accepted' : ℕ) → IsWellFormed (state_of (parts_of h' names' schemas' accepted')) → IsWorld (parts_of h' names' schemas' accepted')
     birth_left names' named' added keeps fits accepted' sound = record {
       whole = whole';
       sound = sound;
@@ -117,14 +129,14 @@ module _ (h : Holdings) (names : Names) (schemas : Map ℕ Schema) (accepted : �
     tags_empty r = ap is_some (now_empty r (plain pair_is_tag))
 
     facts_empty : all_facts (type_of h' schemas) h'.cells ≡ w.facts
-    facts_empty = facts_same (type_of h schemas) (type_of h' schemas) h.cells h'.cells (AreCells-world h names schemas accepted world) (AreCells-whole h' whole')
+    facts_empty = facts_same (type_of h schemas) (type_of h' schemas) h.cells h'.cells (AreCells-world world) (AreCells-whole h' whole')
         (types_held h' whole' [] alike schemas (λ j d. refl) tags_empty) now_empty
 
-    pub state_fresh : (accepted' : ℕ) → state_of h' names schemas accepted' ≡ record w { live = born; accepted = accepted' }
+    pub state_fresh : (accepted' : ℕ) → state_of (parts_of h' names schemas accepted') ≡ record w { live = born; accepted = accepted' }
     state_fresh accepted' = λ k. record {
       live = alike.live k;
       facts = facts_empty k;
-      names = (ap (names_of names) alike.live ∙ names_same names h.live (AreNamed-world h names schemas accepted world) e none_live) k;
+      names = (ap (names_of names) alike.live ∙ names_same names h.live (AreNamed-world world) e none_live) k;
       schemas = schemas;
       deletions = alike.deletions k;
       pins = [];
@@ -132,11 +144,11 @@ module _ (h : Holdings) (names : Names) (schemas : Map ℕ Schema) (accepted : �
     }
 
     pub state_named : (n : List ℕ) (free : finite.get names n ≡ None) (accepted' : ℕ)
-        → state_of h' (finite.insert names n e) schemas accepted' ≡ record w { live = born; names = with_value nat_cmp w.names e.index n; accepted = accepted' }
+        → state_of (parts_of h' (finite.insert names n e) schemas accepted') ≡ record w { live = born; names = with_value nat_cmp w.names e.index n; accepted = accepted' }
     state_named n free accepted' = λ k. record {
       live = alike.live k;
       facts = facts_empty k;
-      names = (ap (names_of (finite.insert names n e)) alike.live ∙ names_bound names h.live (AreNamed-world h names schemas accepted world) e none_live n free) k;
+      names = (ap (names_of (finite.insert names n e)) alike.live ∙ names_bound names h.live (AreNamed-world world) e none_live n free) k;
       schemas = schemas;
       deletions = alike.deletions k;
       pins = [];
@@ -164,7 +176,7 @@ module _ (h : Holdings) (names : Names) (schemas : Map ℕ Schema) (accepted : �
     no_fields = other_schemas component (other component live_component) ∙ ((world.sound).built_in).schemas component refl
 
     facts_tagged : all_facts (type_of h' typed) h'.cells ≡ with_value key_cmp w.facts (e.index, plain component) []
-    facts_tagged = facts_put (type_of h schemas) (type_of h' typed) h.cells h'.cells (AreCells-world h names schemas accepted world) (AreCells-whole h' whole')
+    facts_tagged = facts_put (type_of h schemas) (type_of h' typed) h.cells h'.cells (AreCells-world world) (AreCells-whole h' whole')
         (types_held h' whole' ((plain component, []) ∷ []) alike typed other_schemas tags_tagged) e.index (plain component) [] now_tagged
         ∙ ap (λ o. with_value key_cmp w.facts (e.index, plain component) (value_in o [])) no_fields
 
@@ -174,12 +186,12 @@ module _ (h : Holdings) (names : Names) (schemas : Map ℕ Schema) (accepted : �
         λ i. ((0 == byte_count (no_fields i)) && (live i && true)) && true
 
     pub state_component : (n : List ℕ) (free : finite.get names n ≡ None) (accepted' : ℕ)
-        → state_of h' (finite.insert names n e) typed accepted'
+        → state_of (parts_of h' (finite.insert names n e) typed accepted')
         ≡ record w { live = born; names = with_value nat_cmp w.names e.index n; schemas = typed; facts = with_value key_cmp w.facts (e.index, plain component) []; accepted = accepted' }
     state_component n free accepted' = λ k. record {
       live = alike.live k;
       facts = facts_tagged k;
-      names = (ap (names_of (finite.insert names n e)) alike.live ∙ names_bound names h.live (AreNamed-world h names schemas accepted world) e none_live n free) k;
+      names = (ap (names_of (finite.insert names n e)) alike.live ∙ names_bound names h.live (AreNamed-world world) e none_live n free) k;
       schemas = typed;
       deletions = alike.deletions k;
       pins = [];

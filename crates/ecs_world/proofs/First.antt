@@ -19,7 +19,7 @@ use Rattle.ecs_model.proofs.FirstWorld.{first_world_is_sound}
 use Rattle.ecs_model.proofs.Maps.{both_true}
 use Rattle.name_index.specs.Names.{IsUnnamed, Names}
 use Rattle.ecs_world.specs.Holdings.{AreHoldings, HoldAlike, Holdings, KeepsSizes, Sizes, agrees, cells_at, first_holdings, holds_id, lives, with_cells, zero_cells}
-use Rattle.ecs_world.specs.State.{IsWorld, all_facts, byte_count, is_known_rightly, names_of, state_of, type_in, type_of}
+use Rattle.ecs_world.specs.State.{IsWorld, Parts, parts_of, all_facts, byte_count, is_known_rightly, names_of, state_of, type_in, type_of}
 use Rattle.ecs_world.specs.BuiltIn.{AreFirstNames, IsSettled, first_cells, first_live, is_first_tag, settled_to, tags_of}
 use Rattle.ecs_world.proofs.NameLists.{AreNamed, AreNamed-bound, names_bound, unnamed}
 use Rattle.ecs_world.proofs.States.{all_implied, state_alike}
@@ -199,11 +199,11 @@ computed : record { live = first_live 22; facts = all_facts (type_of (settled_to
 unfolding first_world id_cmp key_cmp
 computed = refl
 
-first_is : (names : Names) → names_of names (first_live 22) ≡ enumerate_from 1 built_in_names → state_of (settled_to 22) names [] 0 ≡ first_world
+first_is : (names : Names) → names_of names (first_live 22) ≡ enumerate_from 1 built_in_names → state_of (parts_of (settled_to 22) names [] 0) ≡ first_world
 unfolding first_world
-first_is names told = (λ k. record (state_of (settled_to 22) names [] 0) { names = told k }) ∙ computed
+first_is names told = (λ k. record (state_of (parts_of (settled_to 22) names [] 0)) { names = told k }) ∙ computed
 
-pub first_state : (h : Holdings) (names : Names) → IsSettled h 22 → AreFirstNames names 22 → state_of h names [] 0 ≡ first_world
+pub first_state : (h : Holdings) (names : Names) → IsSettled h 22 → AreFirstNames names 22 → state_of (parts_of h names [] 0) ≡ first_world
 first_state h names settled first = state_alike h (settled_to 22) names [] 0 settled.alike ∙ first_is names first.told
 
 built_in_live : (i : ℕ) → is_built_in i ≡ true → has_key nat_cmp (first_live 22) i ≡ true
@@ -215,7 +215,7 @@ built_in_live i h = ap is_some (row_at (λ i. 0) 1 22 i (low i h) (high i h))
     high : (i : ℕ) → is_built_in i ≡ true → i < 23
     high i h = grind (arith, nat_tests)
 
-pub first_is_world : (h : Holdings) (names : Names) → IsSettled h 22 → AreFirstNames names 22 → IsWorld h names [] 0
+pub first_is_world : (h : Holdings) (names : Names) → IsSettled h 22 → AreFirstNames names 22 → IsWorld (parts_of h names [] 0)
 first_is_world h names settled first = record {
   whole = settled.whole;
   sound = subst IsWellFormed (sym (first_state h names settled first)) first_world_is_sound;

@@ -20,7 +20,7 @@ use Rattle.ecs_model.proofs.Answering.{effect_well_formed}
 use Rattle.ecs_model.proofs.Typing.{same_type}
 use Rattle.name_index.specs.Names.{Names}
 use Rattle.ecs_world.specs.Holdings.{AreHoldings, Cells, HoldAlike, Holdings, KeepsSizes, Sizes, cells_at, held_at, holds_id, with_cells}
-use Rattle.ecs_world.specs.State.{IsWorld, all_facts, byte_count, is_known_rightly, names_of, state_of, type_of, value_in}
+use Rattle.ecs_world.specs.State.{IsWorld, Parts, parts_of, all_facts, byte_count, is_known_rightly, names_of, state_of, type_of, value_in}
 use Rattle.ecs_world.proofs.Entities.{generation_of}
 use Rattle.ecs_world.proofs.Facts.{bytes_in}
 use Rattle.ecs_world.proofs.FactChanges.{bytes_put, bytes_gone, facts_put, facts_gone}
@@ -99,19 +99,31 @@ no_tag_key e r i h = by (eq_by_cmp key_cmp (r, plain pair_is_tag) (e, i)) refl
         absurd (true≢false (ap (λ k. is_not_yet_changed k.1) same ∙ h))
     by false p = refl
 
-module _ (h : Holdings) (names : Names) (schemas : Map ℕ Schema) (accepted : ℕ) (world : IsWorld h names schemas accepted) (e : EntityId) (i : Id) (can : CanChange (state_of h names schemas accepted) e i) where
+module _ {parts : Parts} (world : IsWorld parts) (e : EntityId) (i : Id) (can : CanChange (state_of parts) e i) where
+  abbrev h : Holdings
+  h = parts.holdings
+
+  abbrev names : Names
+  names = parts.names
+
+  abbrev schemas : Map ℕ Schema
+  schemas = parts.schemas
+
+  abbrev accepted : ℕ
+  accepted = parts.accepted
+
   abbrev w : WorldState
-  w = state_of h names schemas accepted
+  w = state_of parts
 
   pub there : (cs : Cells) × (cells_at h e.index ≡ Some cs)
-  there = settled_at h names schemas accepted world e.index (ap is_some (generation_of (value_at nat_cmp h.live e.index) e.generation can.alive))
+  there = settled_at world e.index (ap is_some (generation_of (value_at nat_cmp h.live e.index) e.generation can.alive))
 
   module _ (h' : Holdings) (whole' : AreHoldings h') (cs' : Cells) (alike : HoldAlike h' (with_cells h e.index cs')) (added : Sizes) (keeps : KeepsSizes h.known added h'.known)
       (fits : list_all (is_known_rightly h schemas) added ≡ true) (tags : (r : ℕ) → holds_id h' r (plain pair_is_tag) ≡ holds_id h r (plain pair_is_tag)) where
     pub types_left : (j : Id) → type_of h' schemas j ≡ type_of h schemas j
     types_left j = type_in-same schemas schemas (λ r. holds_id h r (plain pair_is_tag)) (λ r. holds_id h' r (plain pair_is_tag)) (λ x. true) j (all_true (mentioned j)) (λ k t. refl) tags
 
-    pub cells_left : (accepted' : ℕ) → IsWellFormed (state_of h' names schemas accepted') → IsWorld h' names schemas accepted'
+    pub cells_left : (accepted' : ℕ) → IsWellFormed (state_of (parts_of h' names schemas accepted')) → IsWorld (parts_of h' names schemas accepted')
     cells_left accepted' sound = record {
       whole = whole';
       sound = sound;
@@ -133,10 +145,10 @@ module _ (h : Holdings) (names : Names) (schemas : Map ℕ Schema) (accepted : �
     types_put j = type_in-same schemas schemas (λ r. holds_id h r (plain pair_is_tag)) (λ r. holds_id h' r (plain pair_is_tag)) (λ x. true) j (all_true (mentioned j)) (λ k t. refl) tags_put
 
     facts_left : all_facts (type_of h' schemas) h'.cells ≡ with_value key_cmp w.facts (e.index, i) (value_in (type_of h schemas i) bytes)
-    facts_left = facts_put (type_of h schemas) (type_of h' schemas) h.cells h'.cells (AreCells-world h names schemas accepted world) (AreCells-whole h' whole') (λ d j bs p. types_put j) e.index i bytes now_put
+    facts_left = facts_put (type_of h schemas) (type_of h' schemas) h.cells h'.cells (AreCells-world world) (AreCells-whole h' whole') (λ d j bs p. types_put j) e.index i bytes now_put
         ∙ ap (λ t. with_value key_cmp w.facts (e.index, i) (value_in t bytes)) (types_put i)
 
-    pub state_put : (accepted' : ℕ) → state_of h' names schemas accepted' ≡ record w { facts = with_value key_cmp w.facts (e.index, i) (value_in (type_of h schemas i) bytes); accepted = accepted' }
+    pub state_put : (accepted' : ℕ) → state_of (parts_of h' names schemas accepted') ≡ record w { facts = with_value key_cmp w.facts (e.index, i) (value_in (type_of h schemas i) bytes); accepted = accepted' }
     state_put accepted' = λ k. record {
       live = alike.live k;
       facts = facts_left k;
@@ -160,9 +172,9 @@ module _ (h : Holdings) (names : Names) (schemas : Map ℕ Schema) (accepted : �
 
     gone_left : all_facts (type_of h' schemas) h'.cells ≡ facts_after_remove w e.index i
     unfolding facts_after_remove
-    gone_left = facts_gone (type_of h schemas) (type_of h' schemas) h.cells h'.cells (AreCells-world h names schemas accepted world) (AreCells-whole h' whole') (λ d j bs p. types_gone j) e.index i now_gone
+    gone_left = facts_gone (type_of h schemas) (type_of h' schemas) h.cells h'.cells (AreCells-world world) (AreCells-whole h' whole') (λ d j bs p. types_gone j) e.index i now_gone
 
-    pub state_gone : (accepted' : ℕ) → state_of h' names schemas accepted' ≡ record w { facts = facts_after_remove w e.index i; accepted = accepted' }
+    pub state_gone : (accepted' : ℕ) → state_of (parts_of h' names schemas accepted') ≡ record w { facts = facts_after_remove w e.index i; accepted = accepted' }
     state_gone accepted' = λ k. record {
       live = alike.live k;
       facts = gone_left k;

@@ -17,7 +17,7 @@ use Rattle.ecs_model.specs.Command as model
 use Rattle.ecs_schema.proofs.Meaning.{values_in-zeros}
 use Rattle.name_index.specs.Names.{Names}
 use Rattle.ecs_world.specs.Holdings.{AreHoldings, Cells, HoldAlike, Holdings, KeepsSizes, Sizes, agrees, bytes_at, cells_at, entity_at, held_at, holds_id, lives, next_entity, sizes_of}
-use Rattle.ecs_world.specs.State.{IsWorld, byte_count, is_known_rightly, name_in, state_of, type_in, type_of, value_in}
+use Rattle.ecs_world.specs.State.{IsWorld, Parts, parts_of, byte_count, is_known_rightly, name_in, state_of, type_in, type_of, value_in}
 use Rattle.ecs_world.proofs.Entities.{generation_of}
 use Rattle.ecs_world.proofs.Facts.{find-facts, ids-facts}
 use Rattle.ecs_world.proofs.FactChanges.{AreCells}
@@ -76,9 +76,21 @@ pub zeros_are_new : (o : Option Schema) → value_in o (replicate (byte_count o)
 zeros_are_new None = refl
 zeros_are_new (Some fs) = values_in-zeros fs
 
-module _ (h : Holdings) (names : Names) (schemas : Map ℕ Schema) (accepted : ℕ) (world : IsWorld h names schemas accepted) where
+module _ {parts : Parts} (world : IsWorld parts) where
+  abbrev h : Holdings
+  h = parts.holdings
+
+  abbrev names : Names
+  names = parts.names
+
+  abbrev schemas : Map ℕ Schema
+  schemas = parts.schemas
+
+  abbrev accepted : ℕ
+  accepted = parts.accepted
+
   abbrev w : WorldState
-  w = state_of h names schemas accepted
+  w = state_of parts
 
   pub AreCells-world : AreCells h.cells
   AreCells-world = AreCells-whole h world.whole
@@ -168,12 +180,12 @@ module _ (h : Holdings) (names : Names) (schemas : Map ℕ Schema) (accepted : �
       by (Some g) p = let same : e ≡ record { index = i; generation = g } = cc in is ∙ ap (name_in names) same
 
 -- the same in other tables is one state
-pub state_alike : (g h : Holdings) (names : Names) (schemas : Map ℕ Schema) (accepted : ℕ) → HoldAlike g h → state_of g names schemas accepted ≡ state_of h names schemas accepted
-state_alike g h names schemas accepted alike = λ k. state_of (record { live = alike.live k; deletions = alike.deletions k; cells = alike.cells k; known = [] }) names schemas accepted
+pub state_alike : (g h : Holdings) (names : Names) (schemas : Map ℕ Schema) (accepted : ℕ) → HoldAlike g h → state_of (parts_of g names schemas accepted) ≡ state_of (parts_of h names schemas accepted)
+state_alike g h names schemas accepted alike = λ k. state_of (parts_of (record { live = alike.live k; deletions = alike.deletions k; cells = alike.cells k; known = [] }) names schemas accepted)
 
 -- a world whose entities hold the same in other tables
-pub world_alike : (g h : Holdings) (names : Names) (schemas : Map ℕ Schema) (accepted : ℕ) (added : Sizes) → IsWorld h names schemas accepted → AreHoldings g → HoldAlike g h
-    → KeepsSizes h.known added g.known → list_all (is_known_rightly h schemas) added ≡ true → IsWorld g names schemas accepted
+pub world_alike : (g h : Holdings) (names : Names) (schemas : Map ℕ Schema) (accepted : ℕ) (added : Sizes) → IsWorld (parts_of h names schemas accepted) → AreHoldings g → HoldAlike g h
+    → KeepsSizes h.known added g.known → list_all (is_known_rightly h schemas) added ≡ true → IsWorld (parts_of g names schemas accepted)
 world_alike g h names schemas accepted added world whole alike keeps fits = record {
   whole = whole;
   sound = subst IsWellFormed (sym (state_alike g h names schemas accepted alike)) world.sound;
@@ -189,6 +201,6 @@ pub copied : {B C : Type 0} (f : B → C) (o : Option B) → is_some (option_map
 copied f None = refl
 copied f (Some b) = refl
 
-pub next_same : (h : Holdings) (names : Names) (schemas : Map ℕ Schema) (accepted : ℕ) → next_entity h ≡ model.next_entity (state_of h names schemas accepted)
+pub next_same : (parts : Parts) → next_entity parts.holdings ≡ model.next_entity (state_of parts)
 unfolding next_entity model.next_entity
-next_same h names schemas accepted = refl
+next_same parts = refl

@@ -48,16 +48,26 @@ name_in names e = option_map (λ p. p.0) (find (λ p. entity_eq p.1 e) (finite.e
 abbrev pub names_of : Names → Map ℕ ℕ → Map ℕ (List ℕ)
 names_of names live = filter_map (λ e. option_map (λ n. (e.0, n)) (name_in names (record { index = e.0; generation = e.1 }))) live
 
+-- the parts of a world: who holds what, the names, the fields of components, and how many commands were accepted
+pub record Parts : Type 0 where
+  pub holdings : Holdings
+  pub names : Names
+  pub schemas : Map ℕ Schema
+  pub accepted : ℕ
+
+abbrev pub parts_of : Holdings → Names → Map ℕ Schema → ℕ → Parts
+parts_of h names schemas accepted = record { holdings = h; names = names; schemas = schemas; accepted = accepted }
+
 -- the state of a world of these parts
-abbrev pub state_of : Holdings → Names → Map ℕ Schema → ℕ → WorldState
-state_of h names schemas accepted = record {
-  live = h.live;
-  facts = all_facts (type_of h schemas) h.cells;
-  names = names_of names h.live;
-  schemas = schemas;
-  deletions = h.deletions;
+abbrev pub state_of : Parts → WorldState
+state_of p = record {
+  live = (p.holdings).live;
+  facts = all_facts (type_of p.holdings p.schemas) (p.holdings).cells;
+  names = names_of p.names (p.holdings).live;
+  schemas = p.schemas;
+  deletions = (p.holdings).deletions;
   pins = [];
-  accepted = accepted;
+  accepted = p.accepted;
 }
 
 -- whether an id has the size of its type, and mentions live entities
@@ -65,16 +75,16 @@ abbrev pub is_known_rightly : Holdings → Map ℕ Schema → Id × ℕ → Bool
 is_known_rightly h schemas c = (c.1 == byte_count (type_of h schemas c.0)) && list_all (has_key nat_cmp h.live) (mentioned c.0)
 
 -- what the parts of a world have
-pub record IsWorld (h : Holdings) (names : Names) (schemas : Map ℕ Schema) (accepted : ℕ) : Type 0 where
-  pub whole : AreHoldings h
-  pub sound : IsWellFormed (state_of h names schemas accepted)
+pub record IsWorld (p : Parts) : Type 0 where
+  pub whole : AreHoldings p.holdings
+  pub sound : IsWellFormed (state_of p)
   -- every live entity is settled
-  pub settled : keys h.cells ≡ keys h.live
+  pub settled : keys (p.holdings).cells ≡ keys (p.holdings).live
   -- every table is of ids of live entities, with the sizes of their types
-  pub known : IsTrue (list_all (is_known_rightly h schemas) h.known)
+  pub known : IsTrue (list_all (is_known_rightly p.holdings p.schemas) (p.holdings).known)
   -- names are of live entities
-  pub named : (n : List ℕ) (e : EntityId) → finite.get names n ≡ Some e → IsTrue (lives h e)
-  pub one_to_one : IsOneToOne names
+  pub named : (n : List ℕ) (e : EntityId) → finite.get p.names n ≡ Some e → IsTrue (lives p.holdings e)
+  pub one_to_one : IsOneToOne p.names
 
 -- a call answers exactly what has changed
 abbrev pub IsTold : Changed → Changed → Type 0

@@ -41,13 +41,13 @@ pub struct World<A: Allocator = Global> {
 
 impl<A: Allocator> Model for World<A> {
     ghost use Rattle.ecs_model.specs.World.{WorldState};
-    ghost use Rattle.ecs_world.specs.State.{IsWorld, state_of};
+    ghost use Rattle.ecs_world.specs.State.{IsWorld, parts_of, state_of};
 
     ghost Value = { WorldState };
 
-    ghost view = { λ w. state_of w.archetypes w.names w.schemas.entries w.accepted };
+    ghost view = { λ w. state_of (parts_of w.archetypes w.names w.schemas.entries w.accepted) };
 
-    ghost invariant = { λ w. IsWorld w.archetypes w.names w.schemas.entries w.accepted };
+    ghost invariant = { λ w. IsWorld (parts_of w.archetypes w.names w.schemas.entries w.accepted) };
 }
 
 impl<A: Allocator + Copy> World<A> {

@@ -21,13 +21,11 @@ overflow_add-self g c =
 
 pub invariant_of-self : goal.invariant_of-self
 invariant_of-self g c =
-    let w = c.self.inside in
     let can = can_still c.args.self.now c.hold.new.self c.args.entity c.args.id c.in-Ok.ensures.holds (judged-add c.args.self.now c.args.entity c.args.id c.requires) in
-    (counted_from w.archetypes w.names w.schemas.entries w.accepted c.self.invariant c.hold.new.self c.self.view_is c.args.self.now (Add c.args.entity c.args.id) (effect-add c.args.self.now c.args.entity c.args.id ∙ sym c.in-Ok.ensures.holds) can.room).0
+    (counted_from c.self.invariant c.self.view_is c.args.self.now (Add c.args.entity c.args.id) (effect-add c.args.self.now c.args.entity c.args.id ∙ sym c.in-Ok.ensures.holds) can.room).0
 
 pub returns : goal.returns
 returns g c =
-    let w = c.self.inside in
     let can = can_still c.args.self.now c.hold.new.self c.args.entity c.args.id c.in-Ok.ensures.holds (judged-add c.args.self.now c.args.entity c.args.id c.requires) in
     told_add c.args.self.now _ c.in-Ok.changes c.args.entity c.args.id c.requires
-    (counted_from w.archetypes w.names w.schemas.entries w.accepted c.self.invariant c.hold.new.self c.self.view_is c.args.self.now (Add c.args.entity c.args.id) (effect-add c.args.self.now c.args.entity c.args.id ∙ sym c.in-Ok.ensures.holds) can.room).1 c.in-Ok.ensures.came
+    (counted_from c.self.invariant c.self.view_is c.args.self.now (Add c.args.entity c.args.id) (effect-add c.args.self.now c.args.entity c.args.id ∙ sym c.in-Ok.ensures.holds) can.room).1 c.in-Ok.ensures.came

@@ -6,4 +6,4 @@ use Rattle.ecs_world.proofs.World.find.Goals as goal
 pub returns-clause-index : goal.returns-clause-index
 returns-clause-index g c =
     let w = c.self.inside in
-    rw (← c.self.view_is) (ap (option_map (λ e. e.index)) c.find.ensures.value ∙ named_got w.names (w.archetypes).live (AreNamed-world w.archetypes w.names w.schemas.entries w.accepted c.self.invariant) c.args.name.now)
+    rw (← c.self.view_is) (ap (option_map (λ e. e.index)) c.find.ensures.value ∙ named_got w.names (w.archetypes).live (AreNamed-world c.self.invariant) c.args.name.now)

@@ -4,5 +4,4 @@ use Rattle.ecs_world.proofs.World.has.Goals as goal
 
 pub returns : goal.returns
 returns g c =
-    let w = c.self.inside in
-    rw (← c.self.view_is) (has_told w.archetypes w.names w.schemas.entries w.accepted c.self.invariant c.bytes.result c.args.index c.args.id c.is_some.result (sym (copied _ c.bytes.result) ∙ ap is_some c.bytes.ensures) c.is_some.ensures)
+    rw (← c.self.view_is) (has_told c.self.invariant c.bytes.result c.args.index c.args.id c.is_some.result (sym (copied _ c.bytes.result) ∙ ap is_some c.bytes.ensures) c.is_some.ensures)

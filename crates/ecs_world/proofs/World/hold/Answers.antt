@@ -18,32 +18,27 @@ returns-then-has-clause-came g c = c.none.ensures ∙ ap (λ b. record no_change
 
 pub add-requires-clause-there : goal.add-requires-clause-there
 add-requires-clause-there g c =
-    let w = c.self.inside in
-    alive_there w.archetypes w.names w.schemas.entries w.accepted c.self.invariant c.args.self.now c.self.view_is c.args.entity c.args.id (judged-add c.args.self.now c.args.entity c.args.id c.requires)
+    alive_there c.self.invariant c.self.view_is c.args.entity c.args.id (judged-add c.args.self.now c.args.entity c.args.id c.requires)
 
 pub add-requires-clause-not_held : goal.add-requires-clause-not_held
 add-requires-clause-not_held g c =
-    let w = c.self.inside in
-    held_there w.archetypes w.names w.schemas.entries w.accepted c.self.invariant c.args.self.now c.self.view_is c.args.entity c.args.id (judged-add c.args.self.now c.args.entity c.args.id c.requires) false (sym c.if-has.ensures)
+    held_there c.self.invariant c.self.view_is c.args.entity c.args.id (judged-add c.args.self.now c.args.entity c.args.id c.requires) false (sym c.if-has.ensures)
 
 pub add-requires-clause-small : goal.add-requires-clause-small
 add-requires-clause-small g c = c.size_of-size.ensures.small
 
 pub add-requires-clause-agree : goal.add-requires-clause-agree
 add-requires-clause-agree g c =
-    let w = c.self.inside in
-    size_there w.archetypes w.names w.schemas.entries w.accepted c.self.invariant c.args.self.now c.self.view_is c.args.entity c.args.id (judged-add c.args.self.now c.args.entity c.args.id c.requires) c.size_of-size.result c.size_of-size.ensures.value
+    size_there c.self.invariant c.self.view_is c.args.entity c.args.id (judged-add c.args.self.now c.args.entity c.args.id c.requires) c.size_of-size.result c.size_of-size.ensures.value
 
 pub invariant_of-self : goal.invariant_of-self
 invariant_of-self g c =
-    let w = c.self.inside in
-    (failed w.archetypes w.names w.schemas.entries w.accepted c.self.invariant c.args.self.now c.self.view_is ((c.args.id, c.size_of-size.result) ∷ []) (fits_there w.archetypes w.names w.schemas.entries w.accepted c.self.invariant c.args.self.now c.self.view_is c.args.entity c.args.id (judged-add c.args.self.now c.args.entity c.args.id c.requires) c.size_of-size.result c.size_of-size.ensures.value)
+    (failed c.self.invariant c.self.view_is ((c.args.id, c.size_of-size.result) ∷ []) (fits_there c.self.invariant c.self.view_is c.args.entity c.args.id (judged-add c.args.self.now c.args.entity c.args.id c.requires) c.size_of-size.result c.size_of-size.ensures.value)
     c.add.new.self c.add.ensures.whole (on_err c.add.result c.add.ensures.err (sym c.is_err.ensures.value ∙ c.if-is_err.true)) c.add.ensures.sizes).0
 
 pub returns-then-is_err-clause-err : goal.returns-then-is_err-clause-err
 returns-then-is_err-clause-err g c =
-    let w = c.self.inside in
-    (failed w.archetypes w.names w.schemas.entries w.accepted c.self.invariant c.args.self.now c.self.view_is ((c.args.id, c.size_of-size.result) ∷ []) (fits_there w.archetypes w.names w.schemas.entries w.accepted c.self.invariant c.args.self.now c.self.view_is c.args.entity c.args.id (judged-add c.args.self.now c.args.entity c.args.id c.requires) c.size_of-size.result c.size_of-size.ensures.value)
+    (failed c.self.invariant c.self.view_is ((c.args.id, c.size_of-size.result) ∷ []) (fits_there c.self.invariant c.self.view_is c.args.entity c.args.id (judged-add c.args.self.now c.args.entity c.args.id c.requires) c.size_of-size.result c.size_of-size.ensures.value)
     c.add.new.self c.add.ensures.whole (on_err c.add.result c.add.ensures.err (sym c.is_err.ensures.value ∙ c.if-is_err.true)) c.add.ensures.sizes).1
 
 pub returns-then-is_err-clause-sound : goal.returns-then-is_err-clause-sound
@@ -51,14 +46,12 @@ returns-then-is_err-clause-sound g c = subst IsWellFormed c.self.view_is c.self.
 
 pub invariant_of-self-2 : goal.invariant_of-self-2
 invariant_of-self-2 g c =
-    let w = c.self.inside in
-    (come w.archetypes w.names w.schemas.entries w.accepted c.self.invariant c.args.self.now c.self.view_is c.args.entity c.args.id c.requires c.add.new.self c.size_of-size.result c.add.ensures.whole c.size_of-size.ensures.value (sym c.if-has.ensures)
+    (come c.self.invariant c.self.view_is c.args.entity c.args.id c.requires c.add.new.self c.size_of-size.result c.add.ensures.whole c.size_of-size.ensures.value (sym c.if-has.ensures)
     (on_ok c.add.result c.add.ensures.added (sym c.is_err.ensures.value ∙ c.if-is_err.false)) c.add.ensures.sizes).0
 
 pub returns-clause-holds : goal.returns-clause-holds
 returns-clause-holds g c =
-    let w = c.self.inside in
-    (come w.archetypes w.names w.schemas.entries w.accepted c.self.invariant c.args.self.now c.self.view_is c.args.entity c.args.id c.requires c.add.new.self c.size_of-size.result c.add.ensures.whole c.size_of-size.ensures.value (sym c.if-has.ensures)
+    (come c.self.invariant c.self.view_is c.args.entity c.args.id c.requires c.add.new.self c.size_of-size.result c.add.ensures.whole c.size_of-size.ensures.value (sym c.if-has.ensures)
     (on_ok c.add.result c.add.ensures.added (sym c.is_err.ensures.value ∙ c.if-is_err.false)) c.add.ensures.sizes).1
 
 pub returns-clause-came : goal.returns-clause-came

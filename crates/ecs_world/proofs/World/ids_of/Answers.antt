@@ -4,5 +4,4 @@ use Rattle.ecs_world.proofs.World.ids_of.Goals as goal
 
 pub returns : goal.returns
 returns g c =
-    let w = c.self.inside in
-    rw (← c.self.view_is) (c.ids_of.ensures ∙ ids_told w.archetypes w.names w.schemas.entries w.accepted c.self.invariant c.args.entity)
+    rw (← c.self.view_is) (c.ids_of.ensures ∙ ids_told c.self.invariant c.args.entity)

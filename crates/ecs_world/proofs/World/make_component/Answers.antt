@@ -13,24 +13,22 @@ use Rattle.ecs_world.proofs.World.make_component.Goals as goal
 
 pub unwrap-entity-requires : goal.unwrap-entity-requires
 unwrap-entity-requires g c =
-    let w = c.self.inside in
-    ap is_some c.upcoming.ensures ∙ next_some w.archetypes w.names w.schemas.entries w.accepted c.self.invariant c.args.self.now c.self.view_is (bears-component c.args.self.now c.args.name.now c.args.schema c.requires)
+    ap is_some c.upcoming.ensures ∙ next_some c.self.invariant c.self.view_is (bears-component c.args.self.now c.args.name.now c.args.schema c.requires)
 
 pub bind-requires : goal.bind-requires
 bind-requires g c =
-    let w = c.self.inside in
-    let next = next_of w.archetypes w.names w.schemas.entries w.accepted c.self.invariant c.args.self.now c.self.view_is c.unwrap-entity.result (sym c.upcoming.ensures ∙ c.unwrap-entity.ensures) in
-    next_unnamed w.archetypes w.names w.schemas.entries w.accepted c.self.invariant c.args.self.now c.self.view_is c.unwrap-entity.result next
+    let next = next_of c.self.invariant c.self.view_is c.unwrap-entity.result (sym c.upcoming.ensures ∙ c.unwrap-entity.ensures) in
+    next_unnamed c.self.invariant c.self.view_is c.unwrap-entity.result next
 
 pub invariant_of-self : goal.invariant_of-self
 invariant_of-self g c =
     let w = c.self.inside in
-    (kept w.archetypes w.names w.schemas.entries w.accepted c.self.invariant c.args.self.now c.self.view_is w.archetypes c.bind.new.self w.schemas.entries (unchanged w.archetypes w.names w.schemas.entries w.accepted c.self.invariant c.args.self.now c.self.view_is) (on_err c.bind.result c.bind.ensures.refused (sym c.is_err.ensures.value ∙ c.if-is_err.true)) refl).0
+    (kept c.self.invariant c.self.view_is w.archetypes c.bind.new.self w.schemas.entries (unchanged c.self.invariant c.self.view_is) (on_err c.bind.result c.bind.ensures.refused (sym c.is_err.ensures.value ∙ c.if-is_err.true)) refl).0
 
 pub returns-then-is_err : goal.returns-then-is_err
 returns-then-is_err g c =
     let w = c.self.inside in
-    (kept w.archetypes w.names w.schemas.entries w.accepted c.self.invariant c.args.self.now c.self.view_is w.archetypes c.bind.new.self w.schemas.entries (unchanged w.archetypes w.names w.schemas.entries w.accepted c.self.invariant c.args.self.now c.self.view_is) (on_err c.bind.result c.bind.ensures.refused (sym c.is_err.ensures.value ∙ c.if-is_err.true)) refl).1
+    (kept c.self.invariant c.self.view_is w.archetypes c.bind.new.self w.schemas.entries (unchanged c.self.invariant c.self.view_is) (on_err c.bind.result c.bind.ensures.refused (sym c.is_err.ensures.value ∙ c.if-is_err.true)) refl).1
 
 pub same-schema : goal.same-schema
 same-schema g c = refl
@@ -40,7 +38,7 @@ invariant_of-self-then-is_err-2 g c =
     let w = c.self.inside in
     let bound = on_ok c.bind.result c.bind.ensures.bound (sym c.is_err.ensures.value ∙ c.if-is_err.false) in
     let free = (on_ok c.bind.result c.bind.ensures.free (sym c.is_err.ensures.value ∙ c.if-is_err.false)).1 in
-    (kept w.archetypes w.names w.schemas.entries w.accepted c.self.invariant c.args.self.now c.self.view_is w.archetypes c.unbind.new.self c.insert.new.self.entries (unchanged w.archetypes w.names w.schemas.entries w.accepted c.self.invariant c.args.self.now c.self.view_is)
+    (kept c.self.invariant c.self.view_is w.archetypes c.unbind.new.self c.insert.new.self.entries (unchanged c.self.invariant c.self.view_is)
     (freed w.names c.bind.new.self c.unbind.new.self c.args.name.now c.unwrap-entity.result free bound c.unbind.ensures.named)
     (on_err c.insert.result c.insert.ensures.err (sym c.is_err-2.ensures.value ∙ c.if-is_err-2.true))).0
 
@@ -49,7 +47,7 @@ returns-then-is_err-2 g c =
     let w = c.self.inside in
     let bound = on_ok c.bind.result c.bind.ensures.bound (sym c.is_err.ensures.value ∙ c.if-is_err.false) in
     let free = (on_ok c.bind.result c.bind.ensures.free (sym c.is_err.ensures.value ∙ c.if-is_err.false)).1 in
-    (kept w.archetypes w.names w.schemas.entries w.accepted c.self.invariant c.args.self.now c.self.view_is w.archetypes c.unbind.new.self c.insert.new.self.entries (unchanged w.archetypes w.names w.schemas.entries w.accepted c.self.invariant c.args.self.now c.self.view_is)
+    (kept c.self.invariant c.self.view_is w.archetypes c.unbind.new.self c.insert.new.self.entries (unchanged c.self.invariant c.self.view_is)
     (freed w.names c.bind.new.self c.unbind.new.self c.args.name.now c.unwrap-entity.result free bound c.unbind.ensures.named)
     (on_err c.insert.result c.insert.ensures.err (sym c.is_err-2.ensures.value ∙ c.if-is_err-2.true))).1
 
@@ -61,8 +59,7 @@ shared_whole_as_slice-create g c = omega arith
 
 pub create-requires-clause-left : goal.create-requires-clause-left
 create-requires-clause-left g c =
-    let w = c.self.inside in
-    next_some w.archetypes w.names w.schemas.entries w.accepted c.self.invariant c.args.self.now c.self.view_is (bears-component c.args.self.now c.args.name.now c.args.schema c.requires)
+    next_some c.self.invariant c.self.view_is (bears-component c.args.self.now c.args.name.now c.args.schema c.requires)
 
 pub create-requires-clause-ascend : goal.create-requires-clause-ascend
 create-requires-clause-ascend g c = refl
@@ -72,32 +69,31 @@ create-requires-clause-small g c = refl
 
 pub create-requires-clause-agree : goal.create-requires-clause-agree
 create-requires-clause-agree g c =
-    let w = c.self.inside in
-    rw (c.plain-component.ensures) (component_agrees w.archetypes w.names w.schemas.entries w.accepted c.self.invariant c.args.self.now c.self.view_is)
+    rw (c.plain-component.ensures) (component_agrees c.self.invariant c.self.view_is)
 
 pub invariant_of-self-then-is_err-3 : goal.invariant_of-self-then-is_err-3
 invariant_of-self-then-is_err-3 g c =
     let w = c.self.inside in
-    let next = next_of w.archetypes w.names w.schemas.entries w.accepted c.self.invariant c.args.self.now c.self.view_is c.unwrap-entity.result (sym c.upcoming.ensures ∙ c.unwrap-entity.ensures) in
+    let next = next_of c.self.invariant c.self.view_is c.unwrap-entity.result (sym c.upcoming.ensures ∙ c.unwrap-entity.ensures) in
     let bound = on_ok c.bind.result c.bind.ensures.bound (sym c.is_err.ensures.value ∙ c.if-is_err.false) in
     let free = (on_ok c.bind.result c.bind.ensures.free (sym c.is_err.ensures.value ∙ c.if-is_err.false)).1 in
     let inserted = on_ok c.insert.result c.insert.ensures.entries (sym c.is_err-2.ensures.value ∙ c.if-is_err-2.false) in
-    (kept w.archetypes w.names w.schemas.entries w.accepted c.self.invariant c.args.self.now c.self.view_is c.create.new.self c.unbind-then-is_err-3.new.self c.remove.new.self.entries
-    (failed w.archetypes w.names w.schemas.entries w.accepted c.self.invariant c.args.self.now c.self.view_is ((plain component, 0) ∷ []) (component_fits w.archetypes w.names w.schemas.entries w.accepted c.self.invariant c.args.self.now c.self.view_is) c.create.new.self c.create.ensures.whole (on_err c.create.result c.create.ensures.err (sym c.is_err-3.ensures.value ∙ c.if-is_err-3.true)) (rw (c.plain-component.ensures) at c.create.ensures.sizes))
+    (kept c.self.invariant c.self.view_is c.create.new.self c.unbind-then-is_err-3.new.self c.remove.new.self.entries
+    (failed c.self.invariant c.self.view_is ((plain component, 0) ∷ []) (component_fits c.self.invariant c.self.view_is) c.create.new.self c.create.ensures.whole (on_err c.create.result c.create.ensures.err (sym c.is_err-3.ensures.value ∙ c.if-is_err-3.true)) (rw (c.plain-component.ensures) at c.create.ensures.sizes))
     (freed w.names c.bind.new.self c.unbind-then-is_err-3.new.self c.args.name.now c.unwrap-entity.result free bound c.unbind-then-is_err-3.ensures.named)
-    (rw (c.remove.ensures.entries, inserted) (removed_again w.schemas.entries c.unwrap-entity.result.index c.args.schema (next_plain w.archetypes w.names w.schemas.entries w.accepted c.self.invariant c.args.self.now c.self.view_is c.unwrap-entity.result next)))).0
+    (rw (c.remove.ensures.entries, inserted) (removed_again w.schemas.entries c.unwrap-entity.result.index c.args.schema (next_plain c.self.invariant c.self.view_is c.unwrap-entity.result next)))).0
 
 pub returns-then-is_err-3 : goal.returns-then-is_err-3
 returns-then-is_err-3 g c =
     let w = c.self.inside in
-    let next = next_of w.archetypes w.names w.schemas.entries w.accepted c.self.invariant c.args.self.now c.self.view_is c.unwrap-entity.result (sym c.upcoming.ensures ∙ c.unwrap-entity.ensures) in
+    let next = next_of c.self.invariant c.self.view_is c.unwrap-entity.result (sym c.upcoming.ensures ∙ c.unwrap-entity.ensures) in
     let bound = on_ok c.bind.result c.bind.ensures.bound (sym c.is_err.ensures.value ∙ c.if-is_err.false) in
     let free = (on_ok c.bind.result c.bind.ensures.free (sym c.is_err.ensures.value ∙ c.if-is_err.false)).1 in
     let inserted = on_ok c.insert.result c.insert.ensures.entries (sym c.is_err-2.ensures.value ∙ c.if-is_err-2.false) in
-    (kept w.archetypes w.names w.schemas.entries w.accepted c.self.invariant c.args.self.now c.self.view_is c.create.new.self c.unbind-then-is_err-3.new.self c.remove.new.self.entries
-    (failed w.archetypes w.names w.schemas.entries w.accepted c.self.invariant c.args.self.now c.self.view_is ((plain component, 0) ∷ []) (component_fits w.archetypes w.names w.schemas.entries w.accepted c.self.invariant c.args.self.now c.self.view_is) c.create.new.self c.create.ensures.whole (on_err c.create.result c.create.ensures.err (sym c.is_err-3.ensures.value ∙ c.if-is_err-3.true)) (rw (c.plain-component.ensures) at c.create.ensures.sizes))
+    (kept c.self.invariant c.self.view_is c.create.new.self c.unbind-then-is_err-3.new.self c.remove.new.self.entries
+    (failed c.self.invariant c.self.view_is ((plain component, 0) ∷ []) (component_fits c.self.invariant c.self.view_is) c.create.new.self c.create.ensures.whole (on_err c.create.result c.create.ensures.err (sym c.is_err-3.ensures.value ∙ c.if-is_err-3.true)) (rw (c.plain-component.ensures) at c.create.ensures.sizes))
     (freed w.names c.bind.new.self c.unbind-then-is_err-3.new.self c.args.name.now c.unwrap-entity.result free bound c.unbind-then-is_err-3.ensures.named)
-    (rw (c.remove.ensures.entries, inserted) (removed_again w.schemas.entries c.unwrap-entity.result.index c.args.schema (next_plain w.archetypes w.names w.schemas.entries w.accepted c.self.invariant c.args.self.now c.self.view_is c.unwrap-entity.result next)))).1
+    (rw (c.remove.ensures.entries, inserted) (removed_again w.schemas.entries c.unwrap-entity.result.index c.args.schema (next_plain c.self.invariant c.self.view_is c.unwrap-entity.result next)))).1
 
 pub overflow_add-self : goal.overflow_add-self
 overflow_add-self g c =
@@ -107,24 +103,24 @@ overflow_add-self g c =
 pub invariant_of-self-2 : goal.invariant_of-self-2
 invariant_of-self-2 g c =
     let w = c.self.inside in
-    let next = next_of w.archetypes w.names w.schemas.entries w.accepted c.self.invariant c.args.self.now c.self.view_is c.unwrap-entity.result (sym c.upcoming.ensures ∙ c.unwrap-entity.ensures) in
+    let next = next_of c.self.invariant c.self.view_is c.unwrap-entity.result (sym c.upcoming.ensures ∙ c.unwrap-entity.ensures) in
     let bound = on_ok c.bind.result c.bind.ensures.bound (sym c.is_err.ensures.value ∙ c.if-is_err.false) in
     let free = (on_ok c.bind.result c.bind.ensures.free (sym c.is_err.ensures.value ∙ c.if-is_err.false)).1 in
     let inserted = on_ok c.insert.result c.insert.ensures.entries (sym c.is_err-2.ensures.value ∙ c.if-is_err-2.false) in
     let born = made_is (next_entity w.archetypes) (λ f. HoldAlike c.create.new.self (with_cells (with_entity w.archetypes f) f.index ((plain component, []) ∷ []))) c.create.result c.unwrap-entity.result c.create.ensures.next (rw (c.plain-component.ensures) at c.create.ensures.born) (sym c.is_err-3.ensures.value ∙ c.if-is_err-3.false) (sym c.upcoming.ensures ∙ c.unwrap-entity.ensures) in
-    (component_left w.archetypes w.names w.schemas.entries w.accepted c.self.invariant c.args.self.now c.self.view_is c.unwrap-entity.result next c.args.name.now c.args.schema c.fields.ensures.sound c.requires free c.bind.new.self bound c.insert.new.self.entries (inserted ∙ insert_put w.schemas.entries c.unwrap-entity.result.index c.args.schema)
+    (component_left c.self.invariant c.self.view_is c.unwrap-entity.result next c.args.name.now c.args.schema c.fields.ensures.sound c.requires free c.bind.new.self bound c.insert.new.self.entries (inserted ∙ insert_put w.schemas.entries c.unwrap-entity.result.index c.args.schema)
     c.create.new.self c.create.ensures.whole born (rw (c.plain-component.ensures) at c.create.ensures.sizes)).0
 
 pub returns : goal.returns
 returns g c =
     let w = c.self.inside in
-    let next = next_of w.archetypes w.names w.schemas.entries w.accepted c.self.invariant c.args.self.now c.self.view_is c.unwrap-entity.result (sym c.upcoming.ensures ∙ c.unwrap-entity.ensures) in
+    let next = next_of c.self.invariant c.self.view_is c.unwrap-entity.result (sym c.upcoming.ensures ∙ c.unwrap-entity.ensures) in
     let bound = on_ok c.bind.result c.bind.ensures.bound (sym c.is_err.ensures.value ∙ c.if-is_err.false) in
     let free = (on_ok c.bind.result c.bind.ensures.free (sym c.is_err.ensures.value ∙ c.if-is_err.false)).1 in
     let inserted = on_ok c.insert.result c.insert.ensures.entries (sym c.is_err-2.ensures.value ∙ c.if-is_err-2.false) in
     let born = made_is (next_entity w.archetypes) (λ f. HoldAlike c.create.new.self (with_cells (with_entity w.archetypes f) f.index ((plain component, []) ∷ []))) c.create.result c.unwrap-entity.result c.create.ensures.next (rw (c.plain-component.ensures) at c.create.ensures.born) (sym c.is_err-3.ensures.value ∙ c.if-is_err-3.false) (sym c.upcoming.ensures ∙ c.unwrap-entity.ensures) in
     let sound : IsWellFormed c.args.self.now = subst IsWellFormed c.self.view_is c.self.invariant.sound in
     told_component c.args.self.now _ c.with_came.result c.args.name.now c.args.schema c.unwrap-entity.result sound next c.requires
-    (component_left w.archetypes w.names w.schemas.entries w.accepted c.self.invariant c.args.self.now c.self.view_is c.unwrap-entity.result next c.args.name.now c.args.schema c.fields.ensures.sound c.requires free c.bind.new.self bound c.insert.new.self.entries (inserted ∙ insert_put w.schemas.entries c.unwrap-entity.result.index c.args.schema)
+    (component_left c.self.invariant c.self.view_is c.unwrap-entity.result next c.args.name.now c.args.schema c.fields.ensures.sound c.requires free c.bind.new.self bound c.insert.new.self.entries (inserted ∙ insert_put w.schemas.entries c.unwrap-entity.result.index c.args.schema)
     c.create.new.self c.create.ensures.whole born (rw (c.plain-component.ensures) at c.create.ensures.sizes)).1
     (c.with_came.ensures ∙ (λ k. record (c.with_born.ensures k) { came = c.new-key.ensures k ∷ [] }) ∙ (λ k. record (c.none.ensures k) { born = Some c.unwrap-entity.result; came = (c.unwrap-entity.result.index, c.plain-component.ensures k) ∷ [] }))

@@ -9,32 +9,29 @@ use Rattle.ecs_world.proofs.World.make_entity.Goals as goal
 
 pub unwrap-entity-requires : goal.unwrap-entity-requires
 unwrap-entity-requires g c =
-    let w = c.self.inside in
-    ap is_some c.upcoming.ensures ∙ next_some w.archetypes w.names w.schemas.entries w.accepted c.self.invariant c.args.self.now c.self.view_is (bears-entity c.args.self.now c.args.name.now c.requires)
+    ap is_some c.upcoming.ensures ∙ next_some c.self.invariant c.self.view_is (bears-entity c.args.self.now c.args.name.now c.requires)
 
 pub bind-requires : goal.bind-requires
 bind-requires g c =
-    let w = c.self.inside in
-    let next = next_of w.archetypes w.names w.schemas.entries w.accepted c.self.invariant c.args.self.now c.self.view_is c.unwrap-entity.result (sym c.upcoming.ensures ∙ c.unwrap-entity.ensures) in
-    next_unnamed w.archetypes w.names w.schemas.entries w.accepted c.self.invariant c.args.self.now c.self.view_is c.unwrap-entity.result next
+    let next = next_of c.self.invariant c.self.view_is c.unwrap-entity.result (sym c.upcoming.ensures ∙ c.unwrap-entity.ensures) in
+    next_unnamed c.self.invariant c.self.view_is c.unwrap-entity.result next
 
 pub invariant_of-self : goal.invariant_of-self
 invariant_of-self g c =
     let w = c.self.inside in
-    (kept w.archetypes w.names w.schemas.entries w.accepted c.self.invariant c.args.self.now c.self.view_is w.archetypes c.bind.new.self w.schemas.entries (unchanged w.archetypes w.names w.schemas.entries w.accepted c.self.invariant c.args.self.now c.self.view_is) (on_err c.bind.result c.bind.ensures.refused (sym c.is_err.ensures.value ∙ c.if-is_err.true)) refl).0
+    (kept c.self.invariant c.self.view_is w.archetypes c.bind.new.self w.schemas.entries (unchanged c.self.invariant c.self.view_is) (on_err c.bind.result c.bind.ensures.refused (sym c.is_err.ensures.value ∙ c.if-is_err.true)) refl).0
 
 pub returns-then-is_err : goal.returns-then-is_err
 returns-then-is_err g c =
     let w = c.self.inside in
-    (kept w.archetypes w.names w.schemas.entries w.accepted c.self.invariant c.args.self.now c.self.view_is w.archetypes c.bind.new.self w.schemas.entries (unchanged w.archetypes w.names w.schemas.entries w.accepted c.self.invariant c.args.self.now c.self.view_is) (on_err c.bind.result c.bind.ensures.refused (sym c.is_err.ensures.value ∙ c.if-is_err.true)) refl).1
+    (kept c.self.invariant c.self.view_is w.archetypes c.bind.new.self w.schemas.entries (unchanged c.self.invariant c.self.view_is) (on_err c.bind.result c.bind.ensures.refused (sym c.is_err.ensures.value ∙ c.if-is_err.true)) refl).1
 
 pub slice_bounds-create-end : goal.slice_bounds-create-end
 slice_bounds-create-end g c = refl
 
 pub create-requires-clause-left : goal.create-requires-clause-left
 create-requires-clause-left g c =
-    let w = c.self.inside in
-    next_some w.archetypes w.names w.schemas.entries w.accepted c.self.invariant c.args.self.now c.self.view_is (bears-entity c.args.self.now c.args.name.now c.requires)
+    next_some c.self.invariant c.self.view_is (bears-entity c.args.self.now c.args.name.now c.requires)
 
 pub create-requires-clause-ascend : goal.create-requires-clause-ascend
 create-requires-clause-ascend g c = refl
@@ -50,8 +47,8 @@ invariant_of-self-then-is_err-2 g c =
     let w = c.self.inside in
     let bound = on_ok c.bind.result c.bind.ensures.bound (sym c.is_err.ensures.value ∙ c.if-is_err.false) in
     let free = (on_ok c.bind.result c.bind.ensures.free (sym c.is_err.ensures.value ∙ c.if-is_err.false)).1 in
-    (kept w.archetypes w.names w.schemas.entries w.accepted c.self.invariant c.args.self.now c.self.view_is c.create.new.self c.unbind.new.self w.schemas.entries
-    (failed w.archetypes w.names w.schemas.entries w.accepted c.self.invariant c.args.self.now c.self.view_is [] refl c.create.new.self c.create.ensures.whole (on_err c.create.result c.create.ensures.err (sym c.is_err-2.ensures.value ∙ c.if-is_err-2.true)) c.create.ensures.sizes)
+    (kept c.self.invariant c.self.view_is c.create.new.self c.unbind.new.self w.schemas.entries
+    (failed c.self.invariant c.self.view_is [] refl c.create.new.self c.create.ensures.whole (on_err c.create.result c.create.ensures.err (sym c.is_err-2.ensures.value ∙ c.if-is_err-2.true)) c.create.ensures.sizes)
     (freed w.names c.bind.new.self c.unbind.new.self c.args.name.now c.unwrap-entity.result free bound c.unbind.ensures.named) refl).0
 
 pub returns-then-is_err-2 : goal.returns-then-is_err-2
@@ -59,8 +56,8 @@ returns-then-is_err-2 g c =
     let w = c.self.inside in
     let bound = on_ok c.bind.result c.bind.ensures.bound (sym c.is_err.ensures.value ∙ c.if-is_err.false) in
     let free = (on_ok c.bind.result c.bind.ensures.free (sym c.is_err.ensures.value ∙ c.if-is_err.false)).1 in
-    (kept w.archetypes w.names w.schemas.entries w.accepted c.self.invariant c.args.self.now c.self.view_is c.create.new.self c.unbind.new.self w.schemas.entries
-    (failed w.archetypes w.names w.schemas.entries w.accepted c.self.invariant c.args.self.now c.self.view_is [] refl c.create.new.self c.create.ensures.whole (on_err c.create.result c.create.ensures.err (sym c.is_err-2.ensures.value ∙ c.if-is_err-2.true)) c.create.ensures.sizes)
+    (kept c.self.invariant c.self.view_is c.create.new.self c.unbind.new.self w.schemas.entries
+    (failed c.self.invariant c.self.view_is [] refl c.create.new.self c.create.ensures.whole (on_err c.create.result c.create.ensures.err (sym c.is_err-2.ensures.value ∙ c.if-is_err-2.true)) c.create.ensures.sizes)
     (freed w.names c.bind.new.self c.unbind.new.self c.args.name.now c.unwrap-entity.result free bound c.unbind.ensures.named) refl).1
 
 pub overflow_add-self : goal.overflow_add-self
@@ -71,19 +68,19 @@ overflow_add-self g c =
 pub invariant_of-self-2 : goal.invariant_of-self-2
 invariant_of-self-2 g c =
     let w = c.self.inside in
-    let next = next_of w.archetypes w.names w.schemas.entries w.accepted c.self.invariant c.args.self.now c.self.view_is c.unwrap-entity.result (sym c.upcoming.ensures ∙ c.unwrap-entity.ensures) in
+    let next = next_of c.self.invariant c.self.view_is c.unwrap-entity.result (sym c.upcoming.ensures ∙ c.unwrap-entity.ensures) in
     let bound = on_ok c.bind.result c.bind.ensures.bound (sym c.is_err.ensures.value ∙ c.if-is_err.false) in
     let free = (on_ok c.bind.result c.bind.ensures.free (sym c.is_err.ensures.value ∙ c.if-is_err.false)).1 in
     let born = made_is (next_entity w.archetypes) (λ f. HoldAlike c.create.new.self (with_cells (with_entity w.archetypes f) f.index [])) c.create.result c.unwrap-entity.result c.create.ensures.next c.create.ensures.born (sym c.is_err-2.ensures.value ∙ c.if-is_err-2.false) (sym c.upcoming.ensures ∙ c.unwrap-entity.ensures) in
-    (named_left w.archetypes w.names w.schemas.entries w.accepted c.self.invariant c.args.self.now c.self.view_is c.unwrap-entity.result next c.args.name.now c.requires free c.bind.new.self bound c.create.new.self c.create.ensures.whole born c.create.ensures.sizes).0
+    (named_left c.self.invariant c.self.view_is c.unwrap-entity.result next c.args.name.now c.requires free c.bind.new.self bound c.create.new.self c.create.ensures.whole born c.create.ensures.sizes).0
 
 pub returns : goal.returns
 returns g c =
     let w = c.self.inside in
-    let next = next_of w.archetypes w.names w.schemas.entries w.accepted c.self.invariant c.args.self.now c.self.view_is c.unwrap-entity.result (sym c.upcoming.ensures ∙ c.unwrap-entity.ensures) in
+    let next = next_of c.self.invariant c.self.view_is c.unwrap-entity.result (sym c.upcoming.ensures ∙ c.unwrap-entity.ensures) in
     let bound = on_ok c.bind.result c.bind.ensures.bound (sym c.is_err.ensures.value ∙ c.if-is_err.false) in
     let free = (on_ok c.bind.result c.bind.ensures.free (sym c.is_err.ensures.value ∙ c.if-is_err.false)).1 in
     let born = made_is (next_entity w.archetypes) (λ f. HoldAlike c.create.new.self (with_cells (with_entity w.archetypes f) f.index [])) c.create.result c.unwrap-entity.result c.create.ensures.next c.create.ensures.born (sym c.is_err-2.ensures.value ∙ c.if-is_err-2.false) (sym c.upcoming.ensures ∙ c.unwrap-entity.ensures) in
     told_entity c.args.self.now _ c.with_born.result c.args.name.now c.unwrap-entity.result next c.requires
-    (named_left w.archetypes w.names w.schemas.entries w.accepted c.self.invariant c.args.self.now c.self.view_is c.unwrap-entity.result next c.args.name.now c.requires free c.bind.new.self bound c.create.new.self c.create.ensures.whole born c.create.ensures.sizes).1
+    (named_left c.self.invariant c.self.view_is c.unwrap-entity.result next c.args.name.now c.requires free c.bind.new.self bound c.create.new.self c.create.ensures.whole born c.create.ensures.sizes).1
     (c.with_born.ensures ∙ (λ k. record (c.none.ensures k) { born = Some c.unwrap-entity.result }))

@@ -10,8 +10,7 @@ slice_bounds-create-end g c = refl
 
 pub create-requires-clause-left : goal.create-requires-clause-left
 create-requires-clause-left g c =
-    let w = c.self.inside in
-    next_some w.archetypes w.names w.schemas.entries w.accepted c.self.invariant c.args.self.now c.self.view_is (bears-fresh c.args.self.now c.requires)
+    next_some c.self.invariant c.self.view_is (bears-fresh c.args.self.now c.requires)
 
 pub create-requires-clause-ascend : goal.create-requires-clause-ascend
 create-requires-clause-ascend g c = refl
@@ -24,13 +23,11 @@ create-requires-clause-agree g c = refl
 
 pub invariant_of-self : goal.invariant_of-self
 invariant_of-self g c =
-    let w = c.self.inside in
-    (failed w.archetypes w.names w.schemas.entries w.accepted c.self.invariant c.args.self.now c.self.view_is [] refl c.create.new.self c.create.ensures.whole c.in_default.ensures.err c.create.ensures.sizes).0
+    (failed c.self.invariant c.self.view_is [] refl c.create.new.self c.create.ensures.whole c.in_default.ensures.err c.create.ensures.sizes).0
 
 pub returns-in_default : goal.returns-in_default
 returns-in_default g c =
-    let w = c.self.inside in
-    (failed w.archetypes w.names w.schemas.entries w.accepted c.self.invariant c.args.self.now c.self.view_is [] refl c.create.new.self c.create.ensures.whole c.in_default.ensures.err c.create.ensures.sizes).1
+    (failed c.self.invariant c.self.view_is [] refl c.create.new.self c.create.ensures.whole c.in_default.ensures.err c.create.ensures.sizes).1
 
 pub overflow_add-self : goal.overflow_add-self
 overflow_add-self g c =
@@ -39,13 +36,11 @@ overflow_add-self g c =
 
 pub invariant_of-self-2 : goal.invariant_of-self-2
 invariant_of-self-2 g c =
-    let w = c.self.inside in
-    (fresh_left w.archetypes w.names w.schemas.entries w.accepted c.self.invariant c.args.self.now c.self.view_is c.in-Ok.entity (next_of w.archetypes w.names w.schemas.entries w.accepted c.self.invariant c.args.self.now c.self.view_is c.in-Ok.entity c.in-Ok.ensures.next) c.requires c.create.new.self c.create.ensures.whole c.in-Ok.ensures.born c.create.ensures.sizes).0
+    (fresh_left c.self.invariant c.self.view_is c.in-Ok.entity (next_of c.self.invariant c.self.view_is c.in-Ok.entity c.in-Ok.ensures.next) c.requires c.create.new.self c.create.ensures.whole c.in-Ok.ensures.born c.create.ensures.sizes).0
 
 pub returns : goal.returns
 returns g c =
-    let w = c.self.inside in
-    let next = next_of w.archetypes w.names w.schemas.entries w.accepted c.self.invariant c.args.self.now c.self.view_is c.in-Ok.entity c.in-Ok.ensures.next in
+    let next = next_of c.self.invariant c.self.view_is c.in-Ok.entity c.in-Ok.ensures.next in
     told_fresh c.args.self.now _ c.with_born.result c.in-Ok.entity next c.requires
-    (fresh_left w.archetypes w.names w.schemas.entries w.accepted c.self.invariant c.args.self.now c.self.view_is c.in-Ok.entity next c.requires c.create.new.self c.create.ensures.whole c.in-Ok.ensures.born c.create.ensures.sizes).1
+    (fresh_left c.self.invariant c.self.view_is c.in-Ok.entity next c.requires c.create.new.self c.create.ensures.whole c.in-Ok.ensures.born c.create.ensures.sizes).1
     (c.with_born.ensures ∙ (λ k. record (c.none.ensures k) { born = Some c.in-Ok.entity }))

@@ -14,36 +14,30 @@ overflow_add-self g c =
 
 pub invariant_of-self : goal.invariant_of-self
 invariant_of-self g c =
-    let w = c.self.inside in
-    (counted_left w.archetypes w.names w.schemas.entries w.accepted c.self.invariant c.args.self.now c.self.view_is (Remove c.args.entity c.args.id) tt c.requires (effect-remove-none c.args.self.now c.args.entity c.args.id (sym c.has.ensures ∙ c.if-not-has.true))).0
+    (counted_left c.self.invariant c.self.view_is (Remove c.args.entity c.args.id) tt c.requires (effect-remove-none c.args.self.now c.args.entity c.args.id (sym c.has.ensures ∙ c.if-not-has.true))).0
 
 pub returns-then-not-has : goal.returns-then-not-has
 returns-then-not-has g c =
-    let w = c.self.inside in
     let sound : IsWellFormed c.args.self.now = subst IsWellFormed c.self.view_is c.self.invariant.sound in
     let absent = sym c.has.ensures ∙ c.if-not-has.true in
     told_remove c.args.self.now _ c.none.result c.args.entity c.args.id false sound absent c.requires
-    (counted_left w.archetypes w.names w.schemas.entries w.accepted c.self.invariant c.args.self.now c.self.view_is (Remove c.args.entity c.args.id) tt c.requires (effect-remove-none c.args.self.now c.args.entity c.args.id absent)).1 c.none.ensures
+    (counted_left c.self.invariant c.self.view_is (Remove c.args.entity c.args.id) tt c.requires (effect-remove-none c.args.self.now c.args.entity c.args.id absent)).1 c.none.ensures
 
 pub remove-requires-clause-there : goal.remove-requires-clause-there
 remove-requires-clause-there g c =
-    let w = c.self.inside in
-    (alive_there w.archetypes w.names w.schemas.entries w.accepted c.self.invariant c.args.self.now c.self.view_is c.args.entity c.args.id (judged-remove c.args.self.now c.args.entity c.args.id c.requires)).0
+    (alive_there c.self.invariant c.self.view_is c.args.entity c.args.id (judged-remove c.args.self.now c.args.entity c.args.id c.requires)).0
 
 pub remove-requires-clause-held : goal.remove-requires-clause-held
 remove-requires-clause-held g c =
-    let w = c.self.inside in
-    held_there w.archetypes w.names w.schemas.entries w.accepted c.self.invariant c.args.self.now c.self.view_is c.args.entity c.args.id (judged-remove c.args.self.now c.args.entity c.args.id c.requires) true (sym c.has.ensures ∙ c.if-not-has.false)
+    held_there c.self.invariant c.self.view_is c.args.entity c.args.id (judged-remove c.args.self.now c.args.entity c.args.id c.requires) true (sym c.has.ensures ∙ c.if-not-has.false)
 
 pub invariant_of-self-then-is_err : goal.invariant_of-self-then-is_err
 invariant_of-self-then-is_err g c =
-    let w = c.self.inside in
-    (failed w.archetypes w.names w.schemas.entries w.accepted c.self.invariant c.args.self.now c.self.view_is [] refl c.remove.new.self c.remove.ensures.whole (on_err c.remove.result c.remove.ensures.err (sym c.is_err.ensures.value ∙ c.if-is_err.true)) c.remove.ensures.sizes).0
+    (failed c.self.invariant c.self.view_is [] refl c.remove.new.self c.remove.ensures.whole (on_err c.remove.result c.remove.ensures.err (sym c.is_err.ensures.value ∙ c.if-is_err.true)) c.remove.ensures.sizes).0
 
 pub returns-then-is_err : goal.returns-then-is_err
 returns-then-is_err g c =
-    let w = c.self.inside in
-    (failed w.archetypes w.names w.schemas.entries w.accepted c.self.invariant c.args.self.now c.self.view_is [] refl c.remove.new.self c.remove.ensures.whole (on_err c.remove.result c.remove.ensures.err (sym c.is_err.ensures.value ∙ c.if-is_err.true)) c.remove.ensures.sizes).1
+    (failed c.self.invariant c.self.view_is [] refl c.remove.new.self c.remove.ensures.whole (on_err c.remove.result c.remove.ensures.err (sym c.is_err.ensures.value ∙ c.if-is_err.true)) c.remove.ensures.sizes).1
 
 pub overflow_add-self-2 : goal.overflow_add-self-2
 overflow_add-self-2 g c =
@@ -52,13 +46,11 @@ overflow_add-self-2 g c =
 
 pub invariant_of-self-2 : goal.invariant_of-self-2
 invariant_of-self-2 g c =
-    let w = c.self.inside in
-    (go w.archetypes w.names w.schemas.entries w.accepted c.self.invariant c.args.self.now c.self.view_is c.args.entity c.args.id c.requires c.remove.new.self c.remove.ensures.whole (on_ok c.remove.result c.remove.ensures.removed (sym c.is_err.ensures.value ∙ c.if-is_err.false)) c.remove.ensures.sizes).0
+    (go c.self.invariant c.self.view_is c.args.entity c.args.id c.requires c.remove.new.self c.remove.ensures.whole (on_ok c.remove.result c.remove.ensures.removed (sym c.is_err.ensures.value ∙ c.if-is_err.false)) c.remove.ensures.sizes).0
 
 pub returns : goal.returns
 returns g c =
-    let w = c.self.inside in
     let sound : IsWellFormed c.args.self.now = subst IsWellFormed c.self.view_is c.self.invariant.sound in
     told_remove c.args.self.now _ c.with_went.result c.args.entity c.args.id true sound (sym c.has.ensures ∙ c.if-not-has.false) c.requires
-    (go w.archetypes w.names w.schemas.entries w.accepted c.self.invariant c.args.self.now c.self.view_is c.args.entity c.args.id c.requires c.remove.new.self c.remove.ensures.whole (on_ok c.remove.result c.remove.ensures.removed (sym c.is_err.ensures.value ∙ c.if-is_err.false)) c.remove.ensures.sizes).1
+    (go c.self.invariant c.self.view_is c.args.entity c.args.id c.requires c.remove.new.self c.remove.ensures.whole (on_ok c.remove.result c.remove.ensures.removed (sym c.is_err.ensures.value ∙ c.if-is_err.false)) c.remove.ensures.sizes).1
     (c.with_went.ensures ∙ (λ k. record (c.none-2.ensures k) { went = c.new-key.ensures k ∷ [] }))

@@ -33,19 +33,17 @@ slice_bounds-set_value-end g c =
 
 pub set_value-requires-clause-there : goal.set_value-requires-clause-there
 set_value-requires-clause-there g c =
-    let w = c.self.inside in
     let set = add_of_set c.args.self.now c.args.entity c.args.id c.args.values.now c.requires in
     let was = judged-add c.args.self.now c.args.entity c.args.id set.1 in
     let can = can_still c.args.self.now c.hold.new.self c.args.entity c.args.id c.in-Ok.ensures.holds was in
-    (alive_there w.archetypes w.names w.schemas.entries w.accepted c.self.invariant c.hold.new.self c.self.view_is c.args.entity c.args.id can).0
+    (alive_there c.self.invariant c.self.view_is c.args.entity c.args.id can).0
 
 pub set_value-requires-clause-held : goal.set_value-requires-clause-held
 set_value-requires-clause-held g c =
-    let w = c.self.inside in
     let set = add_of_set c.args.self.now c.args.entity c.args.id c.args.values.now c.requires in
     let was = judged-add c.args.self.now c.args.entity c.args.id set.1 in
     let can = can_still c.args.self.now c.hold.new.self c.args.entity c.args.id c.in-Ok.ensures.holds was in
-    held_there w.archetypes w.names w.schemas.entries w.accepted c.self.invariant c.hold.new.self c.self.view_is c.args.entity c.args.id can true (ap (λ x. holds x c.args.entity.index c.args.id) c.in-Ok.ensures.holds ∙ held_after_add c.args.self.now c.args.entity.index c.args.id)
+    held_there c.self.invariant c.self.view_is c.args.entity c.args.id can true (ap (λ x. holds x c.args.entity.index c.args.id) c.in-Ok.ensures.holds ∙ held_after_add c.args.self.now c.args.entity.index c.args.id)
 
 pub set_value-requires-clause-data : goal.set_value-requires-clause-data
 set_value-requires-clause-data g c =
@@ -54,13 +52,12 @@ set_value-requires-clause-data g c =
 
 pub set_value-requires-clause-size : goal.set_value-requires-clause-size
 set_value-requires-clause-size g c =
-    let w = c.self.inside in
     let set = add_of_set c.args.self.now c.args.entity c.args.id c.args.values.now c.requires in
     let was = judged-add c.args.self.now c.args.entity c.args.id set.1 in
     let can = can_still c.args.self.now c.hold.new.self c.args.entity c.args.id c.in-Ok.ensures.holds was in
     let same = ap (λ u. type_of_id u c.args.id) c.in-Ok.ensures.holds ∙ types_after_add c.args.self.now c.args.entity c.args.id c.args.id c.hold.ensures.sound was.no_trait in
     let long = length-take-le c.encode-size.result c.encode-size.new.buffer (omega (arith, c.encode-size.ensures.few, c.encode-size.array_long)) in
-    size_there w.archetypes w.names w.schemas.entries w.accepted c.self.invariant c.hold.new.self c.self.view_is c.args.entity c.args.id can (length (take c.encode-size.result c.encode-size.new.buffer)) (long ∙ c.encode-size.ensures.size ∙ ap byte_count (sym same))
+    size_there c.self.invariant c.self.view_is c.args.entity c.args.id can (length (take c.encode-size.result c.encode-size.new.buffer)) (long ∙ c.encode-size.ensures.size ∙ ap byte_count (sym same))
 
 pub overflow_add-self : goal.overflow_add-self
 overflow_add-self g c =
@@ -84,7 +81,7 @@ invariant_of-self g c =
     let to = (λ k. record (c.in-Ok.ensures.holds k) { facts = with_value key_cmp (c.in-Ok.ensures.holds k).facts (c.args.entity.index, c.args.id) c.args.values.now; accepted = w.accepted + 1 })
     ∙ (λ k. record (with_facts c.args.self.now (with_value key_cmp (facts_after_add c.args.self.now c.args.entity.index c.args.id) (c.args.entity.index, c.args.id) c.args.values.now)) { accepted = counts_alike k + 1 })
     ∙ ap counted (sym (effect-set c.args.self.now c.args.entity c.args.id c.args.values.now)) in
-    (written_left w.archetypes w.names w.schemas.entries w.accepted c.self.invariant c.hold.new.self c.self.view_is c.args.entity c.args.id can c.set_value.new.self (take c.encode-size.result c.encode-size.new.buffer) c.args.values.now c.set_value.ensures.whole c.set_value.ensures.written c.set_value.ensures.sizes
+    (written_left c.self.invariant c.self.view_is c.args.entity c.args.id can c.set_value.new.self (take c.encode-size.result c.encode-size.new.buffer) c.args.values.now c.set_value.ensures.whole c.set_value.ensures.written c.set_value.ensures.sizes
     (ap (λ t. value_in t (take c.encode-size.result c.encode-size.new.buffer)) same ∙ c.encode-size.ensures.written) (w.accepted + 1) (counted (effect c.args.self.now (SetValue c.args.entity c.args.id c.args.values.now))) to
     (effect_well_formed c.args.self.now (SetValue c.args.entity c.args.id c.args.values.now) c.hold.ensures.sound tt c.requires)).0
 
@@ -99,7 +96,7 @@ returns g c =
     let to = (λ k. record (c.in-Ok.ensures.holds k) { facts = with_value key_cmp (c.in-Ok.ensures.holds k).facts (c.args.entity.index, c.args.id) c.args.values.now; accepted = w.accepted + 1 })
     ∙ (λ k. record (with_facts c.args.self.now (with_value key_cmp (facts_after_add c.args.self.now c.args.entity.index c.args.id) (c.args.entity.index, c.args.id) c.args.values.now)) { accepted = counts_alike k + 1 })
     ∙ ap counted (sym (effect-set c.args.self.now c.args.entity c.args.id c.args.values.now)) in
-    told_set c.args.self.now _ c.with_written.result c.args.entity c.args.id c.args.values.now c.requires (written_left w.archetypes w.names w.schemas.entries w.accepted c.self.invariant c.hold.new.self c.self.view_is c.args.entity c.args.id can c.set_value.new.self (take c.encode-size.result c.encode-size.new.buffer) c.args.values.now c.set_value.ensures.whole c.set_value.ensures.written c.set_value.ensures.sizes
+    told_set c.args.self.now _ c.with_written.result c.args.entity c.args.id c.args.values.now c.requires (written_left c.self.invariant c.self.view_is c.args.entity c.args.id can c.set_value.new.self (take c.encode-size.result c.encode-size.new.buffer) c.args.values.now c.set_value.ensures.whole c.set_value.ensures.written c.set_value.ensures.sizes
     (ap (λ t. value_in t (take c.encode-size.result c.encode-size.new.buffer)) same ∙ c.encode-size.ensures.written) (w.accepted + 1) (counted (effect c.args.self.now (SetValue c.args.entity c.args.id c.args.values.now))) to
     (effect_well_formed c.args.self.now (SetValue c.args.entity c.args.id c.args.values.now) c.hold.ensures.sound tt c.requires)).1
     (c.with_written.ensures ∙ (λ k. record (c.in-Ok.ensures.came k) { written = c.new-2.ensures k ∷ [] }) ∙ (λ k. record (coming c.args.self.now c.args.entity.index c.args.id) { written = (c.new-key.ensures k, c.new.ensures k) ∷ [] }))
