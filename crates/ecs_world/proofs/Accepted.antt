@@ -20,13 +20,13 @@ use Rattle.ecs_model.proofs.Answering.{effect_well_formed}
 use Rattle.ecs_model.proofs.Maps.{of_some}
 use Rattle.ecs_model.proofs.Removals.{removes_held_alone}
 use Rattle.name_index.specs.Names.{IsUnnamed, Names}
-use Rattle.ecs_world.specs.Holdings.{AreHoldings, HoldAlike, Holdings, KeepsSizes, Sizes, agrees, cells_at, held_at, holds_id, lives, next_entity, with_cells, with_entity}
+use Rattle.ecs_world.specs.Holdings.{AreHoldings, HoldAlike, Holdings, KeepsSizes, Sizes, agrees, cells_at, held_at, holds_id, lives, upcoming, with_cells, with_entity}
 use Rattle.ecs_world.specs.State.{IsWorld, Parts, parts_of, byte_count, is_known_rightly, state_of, type_of, value_in}
 use Rattle.ecs_world.proofs.Births.{birth_left, component_known, effect-component, effect-entity, effect-fresh, none_live, other_schemas, state_component, state_fresh, state_named, tags_empty, tags_tagged}
 use Rattle.ecs_world.proofs.Judged.{CanBear, CanChange, judged-add, judged-remove}
 use Rattle.ecs_world.proofs.Left.{cells_left, effect-remove, facts_new, held_world, recounted, state_gone, state_put, tags_gone, tags_put, there}
 use Rattle.ecs_world.proofs.NameLists.{AreNamed-bound, AreNamed-same, unnamed}
-use Rattle.ecs_world.proofs.States.{AreNamed-world, holds_is, next_same, size_agrees, state_alike, type_is, world_alike, zeros_are_new}
+use Rattle.ecs_world.proofs.States.{AreNamed-world, holds_is, size_agrees, state_alike, type_is, world_alike, zeros_are_new}
 
 pub on_ok : {T E : Type 0} {P : Type 0} (r : Result T E) → OnOk r P → is_err r ≡ false → P
 on_ok (Ok t) p h = p
@@ -199,18 +199,18 @@ module _ {parts : Parts} (world : IsWorld parts) {v : WorldState} (is : state_of
       let none : value_at nat_cmp schemas component ≡ None = ((world.sound).built_in).schemas component refl in
       λ k. size_agrees world (plain component) 0 (sym (ap byte_count none)) k && true
 
-  pub next_of : (e : EntityId) → next_entity h ≡ Some e → model.next_entity v ≡ Some e
-  next_of e next = ap model.next_entity (sym is) ∙ sym (next_same parts) ∙ next
+  pub next_of : (e : EntityId) → upcoming h ≡ Some e → model.next_entity v ≡ Some e
+  next_of e next = ap model.next_entity (sym is) ∙ next
 
-  pub next_some : CanBear v → IsTrue (is_some (next_entity h))
-  next_some can = ap is_some (next_same parts ∙ ap model.next_entity is ∙ (can.next).1)
+  pub next_some : CanBear v → IsTrue (is_some (upcoming h))
+  next_some can = ap is_some (ap model.next_entity is ∙ (can.next).1)
 
   module _ (e : EntityId) (next : model.next_entity v ≡ Some e) where
     abbrev next_w : model.next_entity w ≡ Some e
     next_w = ap model.next_entity is ∙ next
 
-    pub next_there : next_entity h ≡ Some e
-    next_there = next_same parts ∙ next_w
+    pub next_there : upcoming h ≡ Some e
+    next_there = next_w
 
     pub next_unnamed : IsUnnamed names e
     next_unnamed = unnamed names h.live (AreNamed-world world) e (none_live world e next_w)

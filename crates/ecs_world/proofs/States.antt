@@ -16,7 +16,7 @@ use Rattle.ecs_model.proofs.Maps.{of_some, some_of, both_true}
 use Rattle.ecs_model.specs.Command as model
 use Rattle.ecs_schema.proofs.Meaning.{values_in-zeros}
 use Rattle.name_index.specs.Names.{Names}
-use Rattle.ecs_world.specs.Holdings.{AreHoldings, Cells, HoldAlike, Holdings, KeepsSizes, Sizes, agrees, bytes_at, cells_at, entity_at, held_at, holds_id, lives, next_entity, sizes_of}
+use Rattle.ecs_world.specs.Holdings.{AreHoldings, Cells, HoldAlike, Holdings, KeepsSizes, Sizes, agrees, bytes_at, cells_at, entity_at, held_at, holds_id, lives, sizes_of}
 use Rattle.ecs_world.specs.State.{IsWorld, Parts, parts_of, byte_count, is_known_rightly, name_in, state_of, type_in, type_of, value_in}
 use Rattle.ecs_world.proofs.Entities.{generation_of}
 use Rattle.ecs_world.proofs.Facts.{find-facts, ids-facts}
@@ -171,6 +171,13 @@ module _ {parts : Parts} (world : IsWorld parts) where
   pub size_told : (e : ℕ) (i : Id) (bytes : List ℕ) (fs : Schema) → Some bytes ≡ bytes_at h e i → Some fs ≡ type_of_id w i → length bytes ≡ size_of fs
   size_told e i bytes fs is some = (known_held e i bytes (sym is)).0 ∙ ap byte_count (sym (some ∙ type_is i))
 
+  pub bytes_told : (e : ℕ) (i : Id) (o : Option (List ℕ)) → o ≡ bytes_at h e i → (option_map (value_in (type_of_id w i)) o ≡ value_of w e i) × IfSome o (λ bytes. length bytes ≡ byte_count (type_of_id w i))
+  bytes_told e i o is = (ap (λ t. option_map (value_in t) o) (type_is i) ∙ ap (option_map (value_in (type_of h schemas i))) is ∙ sym (value_is e i), sized o is)
+    where
+      sized : (p : Option (List ℕ)) → p ≡ bytes_at h e i → IfSome p (λ bytes. length bytes ≡ byte_count (type_of_id w i))
+      sized None q = tt
+      sized (Some bytes) q = (known_held e i bytes (sym q)).0 ∙ ap byte_count (sym (type_is i))
+
   -- the name of the entity at an index
   pub name_told : (e : EntityId) (i : ℕ) (o : Option (List ℕ)) → Some e ≡ entity_at h i → o ≡ name_in names e → o ≡ name_of w i
   name_told e i o at is = by (value_at nat_cmp h.live i) at ∙ sym (names_at names h.live i (world.whole).live)
@@ -201,6 +208,7 @@ pub copied : {B C : Type 0} (f : B → C) (o : Option B) → is_some (option_map
 copied f None = refl
 copied f (Some b) = refl
 
-pub next_same : (parts : Parts) → next_entity parts.holdings ≡ model.next_entity (state_of parts)
-unfolding next_entity model.next_entity
-next_same parts = refl
+-- what is said of a copy is said of what was copied
+pub of_copied : {B C : Type 0} (f : B → C) (P : C → Type 0) (o : Option B) → IfSome (option_map f o) P → IfSome o (λ b. P (f b))
+of_copied f P None h = tt
+of_copied f P (Some b) h = h

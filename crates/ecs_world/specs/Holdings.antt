@@ -6,8 +6,7 @@ use Rattle.std.specs.Ordering.{nat_cmp}
 use Rattle.ecs_id.specs.declared.EntityId.{EntityId}
 use Rattle.ecs_id.specs.Id.{Id, id_cmp, id_eq}
 use Rattle.ecs_model.specs.Map.{Map, IsMap, count_at, has_key, value_at, with_value}
-use Rattle.ecs_model.specs.World.{first_index, last_index, last_built_in}
-use Rattle.ecs_model.specs.Command.{first_passing}
+use Rattle.ecs_model.specs.World.{last_built_in, last_index, next_among}
 
 -- ids with the bytes of their values, none for a tag
 abbrev pub Cells : Type 0
@@ -69,13 +68,9 @@ module _ (h : Holdings) where
   abbrev pub live_entities : List EntityId
   live_entities = map (λ e. record { index = e.0; generation = e.1 }) h.live
 
-  -- whether an index can be given to a new entity: it is neither live nor deleted 65,536 times
-  abbrev pub is_free : ℕ → Bool
-  is_free i = not (has_key nat_cmp h.live i) && nat_lt (count_at h.deletions i) 65536
-
-  -- the next new entity: the smallest free index, and how often it was deleted
-  unfoldable pub next_entity : Option EntityId
-  next_entity = option_map (λ i. record { index = i; generation = count_at h.deletions i }) (first_passing is_free (last_index - first_index + 1) first_index)
+  -- the entity that the next birth makes
+  abbrev pub upcoming : Option EntityId
+  upcoming = next_among h.live h.deletions last_index
 
   -- with a new entity
   abbrev pub with_entity : EntityId → Holdings

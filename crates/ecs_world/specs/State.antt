@@ -86,10 +86,6 @@ pub record IsWorld (p : Parts) : Type 0 where
   pub named : (n : List ℕ) (e : EntityId) → finite.get p.names n ≡ Some e → IsTrue (lives p.holdings e)
   pub one_to_one : IsOneToOne p.names
 
--- a call answers exactly what has changed
-abbrev pub IsTold : Changed → Changed → Type 0
-IsTold told changed = told ≡ changed
-
 -- what changes where nothing does
 abbrev pub no_change : Changed
 no_change = record { born = None; died = []; came = []; went = []; written = [] }

@@ -5,18 +5,15 @@ ghost use Rattle.std.specs.List.{list_all};
 ghost use Rattle.std.specs.Option.{option_copied};
 ghost use Rattle.ecs_id.specs.Id.{id_cmp, id_eq};
 ghost use Rattle.ecs_model.specs.Map.{IsMap, keys, with_value, without};
-ghost use Rattle.ecs_world.specs.Holdings.{AreHoldings, HoldAlike, KeepsSizes, agrees, bytes_at, cells_at, entity_at, first_holdings, held_at, holds_id, live_entities, lives, next_entity, with_cells, with_entity, zero_cells};
+ghost use Rattle.ecs_world.specs.Holdings.{AreHoldings, HoldAlike, KeepsSizes, agrees, bytes_at, cells_at, entity_at, first_holdings, held_at, holds_id, live_entities, lives, upcoming, with_cells, with_entity, zero_cells};
 
 use crate::rows::{carry, enter, narrower, table_for, value_in, wider};
-use ecs_id::{EntityId, Id};
+use ecs_id::{EntityId, Id, LAST_INDEX};
 use entity_index::{EntityIndex, Live};
 use raw_column::Memory;
 use std::alloc::{Allocator, Global};
 use std::marker::Model;
 use table_store::TableStore;
-
-/// The greatest index that is given out.
-const LAST_INDEX: u32 = 16_777_215;
 
 /// The entities in their archetype tables.
 ///
@@ -70,11 +67,11 @@ impl<A: Allocator + Copy> Archetypes<A> {
 
     /// Makes an entity in the table of these ids, with zeros as their values. The caller has seen that an index is left.
     pub fn create(&mut self, ids: &[(Id, usize)]) -> Result<EntityId, Memory>
-        requires left { IsSome (next_entity self.old) }
+        requires left { IsSome (upcoming self.old) }
         requires ascend { IsMap id_cmp ids.now }
         requires small { IsTrue (list_all (λ c. nat_le c.1 64) ids.now) }
         requires agree { IsTrue (list_all (λ c. agrees self.old.known c.0 c.1) ids.now) }
-        ensures next { IfOk result (λ e. next_entity self.old ≡ Some e) }
+        ensures next { IfOk result (λ e. upcoming self.old ≡ Some e) }
         ensures born { IfOk result (λ e. HoldAlike self.new (with_cells (with_entity self.old e) e.index (zero_cells ids.now))) }
         ensures err { OnErr result (HoldAlike self.new self.old) }
         ensures sizes { KeepsSizes self.old.known ids.now self.new.known }
@@ -172,7 +169,7 @@ impl<A: Allocator> Archetypes<A> {
 
     /// The entity that `create` would make, None where no index is left.
     pub fn upcoming(&self) -> Option<EntityId>
-        ensures { result ≡ next_entity self.now }
+        ensures { result ≡ upcoming self.now }
     {
         self.entities.upcoming()
     }

@@ -9,9 +9,11 @@ ghost use Rattle.ecs_world.specs.BuiltIn.{AreFirstNames, IsSettled, is_first_tag
 
 use crate::archetypes::Archetypes;
 use ecs_id::{EntityId, Id};
+use ecs_model::LAST_BUILT_IN;
 use name_index::NameIndex;
 use raw_column::Memory;
 use std::alloc::Allocator;
+use std::hash::RandomState;
 
 /// In order of index, from 1 on.
 const NAMES: [&str; 22] = [
@@ -67,15 +69,12 @@ const DELETE: u32 = 17;
 
 const ON_INSTANTIATE: u32 = 19;
 
-/// The last built-in index.
-pub(crate) const LAST: u32 = 22;
-
 /// The built-in entities, each in its table.
 pub(crate) fn archetypes<A: Allocator + Copy>(alloc: A) -> Result<Archetypes<A>, Memory>
     ensures { IfOk result (λ a. IsSettled a 22) }
 {
     let mut archetypes = Archetypes::new(alloc)?;
-    for settled in 0..LAST {
+    for settled in 0..LAST_BUILT_IN {
         settle(&mut archetypes, settled)?;
     }
     Ok(archetypes)
@@ -140,18 +139,22 @@ fn put<A: Allocator + Copy>(
 }
 
 /// The names of the built-in entities.
-pub(crate) fn names<A: Allocator + Copy>(alloc: A) -> Result<NameIndex<A>, Memory>
+pub(crate) fn names<A: Allocator + Copy>(alloc: A, random: RandomState) -> Result<NameIndex<A>, Memory>
     ensures { IfOk result (λ n. AreFirstNames n 22) }
 {
-    bound(alloc, &NAMES)
+    bound(alloc, random, &NAMES)
 }
 
 /// These names, bound to the entities from index 1 on.
-fn bound<A: Allocator + Copy>(alloc: A, list: &[&str]) -> Result<NameIndex<A>, Memory>
+fn bound<A: Allocator + Copy>(
+    alloc: A,
+    random: RandomState,
+    list: &[&str],
+) -> Result<NameIndex<A>, Memory>
     requires { map (λ t. t.now) list.now ≡ built_in_names }
     ensures { IfOk result (λ n. AreFirstNames n 22) }
 {
-    let mut names = NameIndex::new(alloc);
+    let mut names = NameIndex::new(alloc, random);
     let mut count = 0;
     for name in list {
         count += 1;

@@ -1,12 +1,9 @@
 //! What an accepted command has changed.
 
-ghost use Rattle.std.specs.Prelude.{◌≡◌, [], ◌∷◌, None, Some, option_map};
-ghost use Rattle.std.specs.Option.{option_copied};
-ghost use Rattle.ecs_world.specs.State.{listed, no_change};
+ghost use Rattle.std.specs.Prelude.{◌≡◌, [], ◌∷◌, Some};
+ghost use Rattle.ecs_world.specs.State.{birth, no_change};
 
 use ecs_id::{EntityId, Id};
-use ecs_model::Value;
-use std::alloc::{Allocator, Global};
 use std::marker::Model;
 
 /// A fact without its value: an entity, by its index, and the id that it holds.
@@ -48,76 +45,19 @@ impl FactKey {
     }
 }
 
-/// A fact with the value that was set.
-#[derive(Clone, Copy)]
-pub struct Written {
-    key: FactKey,
-    value: Value,
-}
-
-impl Model for Written {
-    ghost use Rattle.std.specs.Prelude.{List, ℤ};
-    ghost use Rattle.ecs_model.specs.World.{Key};
-
-    ghost Value = { Key × List ℤ };
-
-    ghost view = { λ w. (w.key, w.value) };
-
-    ghost inverse = { λ w. record { key = w.0; value = w.1 } };
-}
-
-impl Written {
-    pub(crate) fn new(key: FactKey, value: Value) -> Written
-        ensures { result ≡ (key, value) }
-    {
-        Written { key, value }
-    }
-
-    /// The fact without its value.
-    pub fn key(&self) -> FactKey
-        ensures { result ≡ self.now.0 }
-    {
-        self.key
-    }
-
-    /// The value.
-    pub fn value(&self) -> &Value
-        ensures { result.now ≡ self.now.1 }
-    {
-        &self.value
-    }
-}
-
-/// An entity that died, with the name that it had.
-#[derive(Drop)]
-pub struct Died<A: Allocator = Global> {
-    entity: EntityId,
-    name: Option<String<A>>,
-}
-
-impl<A: Allocator> Model for Died<A> {
-    ghost use Rattle.std.specs.Prelude.{ℕ, List, Option, option_map};
-    ghost use Rattle.std.specs.String.{string_bytes};
-    ghost use Rattle.ecs_id.specs.declared.EntityId.{EntityId};
-
-    ghost Value = { EntityId × Option (List ℕ) };
-
-    ghost view = { λ d. (d.entity, option_map string_bytes d.name) };
-}
-
-/// What an accepted command has changed. It takes memory only where an entity died.
+/// What an accepted command has changed.
 ///
-/// No command brings or takes more than one fact yet.
-#[derive(Drop)]
-pub struct Changes<A: Allocator = Global> {
+/// No command brings, takes or sets more than one fact yet, and none lets an entity die.
+#[derive(Clone, Copy)]
+pub struct Changes {
     born: Option<EntityId>,
-    died: Vec<Died<A>, A>,
     came: Option<FactKey>,
     went: Option<FactKey>,
-    written: Option<Written>,
+    written: Option<FactKey>,
 }
 
-impl<A: Allocator> Model for Changes<A> {
+impl Model for Changes {
+    ghost use Rattle.std.specs.Prelude.{[], slice_get};
     ghost use Rattle.ecs_model.specs.Command.{Changed};
     ghost use Rattle.ecs_world.specs.State.{listed};
 
@@ -125,26 +65,26 @@ impl<A: Allocator> Model for Changes<A> {
 
     ghost view = { λ c. record {
       born = c.born;
-      died = c.died.items;
+      died = [];
       came = listed c.came;
       went = listed c.went;
       written = listed c.written;
     } };
+
+    ghost inverse = { λ c. record {
+      born = c.born;
+      came = slice_get c.came 0;
+      went = slice_get c.went 0;
+      written = slice_get c.written 0;
+    } };
 }
 
-impl<A: Allocator> Changes<A> {
+impl Changes {
     /// The entity that was made.
     pub fn born(&self) -> Option<EntityId>
         ensures { result ≡ self.now.born }
     {
         self.born
-    }
-
-    /// The entities that died, each with the name that it had.
-    pub fn died(&self) -> &[Died<A>]
-        ensures { result.now ≡ self.now.died }
-    {
-        self.died.as_slice()
     }
 
     /// The facts that came, in order.
@@ -161,37 +101,34 @@ impl<A: Allocator> Changes<A> {
         self.went.as_slice()
     }
 
-    /// The fact whose value was set.
-    pub fn written(&self) -> Option<Written>
-        ensures { listed result ≡ self.now.written }
+    /// The facts whose values were set, in order. The values are those in the world now.
+    pub fn written(&self) -> &[FactKey]
+        ensures { result.now ≡ self.now.written }
     {
-        self.written
+        self.written.as_slice()
     }
-}
 
-impl<A: Allocator + Copy> Changes<A> {
-    pub(crate) fn none(alloc: A) -> Changes<A>
+    pub(crate) fn none() -> Changes
         ensures { result ≡ no_change }
     {
         Changes {
             born: None,
-            died: Vec::new(alloc),
             came: None,
             went: None,
             written: None,
         }
     }
 
-    pub(crate) fn with_born(self, entity: EntityId) -> Changes<A>
-        ensures { result ≡ record self { born = Some entity } }
+    pub(crate) fn of_birth(entity: EntityId) -> Changes
+        ensures { result ≡ birth entity }
     {
         Changes {
             born: Some(entity),
-            ..self
+            ..Changes::none()
         }
     }
 
-    pub(crate) fn with_came(self, key: FactKey) -> Changes<A>
+    pub(crate) fn with_came(self, key: FactKey) -> Changes
         ensures { result ≡ record self { came = key ∷ [] } }
     {
         Changes {
@@ -200,7 +137,7 @@ impl<A: Allocator + Copy> Changes<A> {
         }
     }
 
-    pub(crate) fn with_went(self, key: FactKey) -> Changes<A>
+    pub(crate) fn with_went(self, key: FactKey) -> Changes
         ensures { result ≡ record self { went = key ∷ [] } }
     {
         Changes {
@@ -209,11 +146,11 @@ impl<A: Allocator + Copy> Changes<A> {
         }
     }
 
-    pub(crate) fn with_written(self, written: Written) -> Changes<A>
-        ensures { result ≡ record self { written = written ∷ [] } }
+    pub(crate) fn with_written(self, key: FactKey) -> Changes
+        ensures { result ≡ record self { written = key ∷ [] } }
     {
         Changes {
-            written: Some(written),
+            written: Some(key),
             ..self
         }
     }

@@ -6,31 +6,30 @@ ghost use Rattle.ecs_model.specs.Command.{Add, AnswersStep, Component, Entity, F
 ghost use Rattle.ecs_model.specs.Keeps.{IsWellFormed};
 ghost use Rattle.ecs_model.specs.Refusal.{first_reason};
 ghost use Rattle.ecs_model.specs.World.{type_of_id};
-ghost use Rattle.ecs_world.specs.State.{IsTold, byte_count, coming, value_in};
+ghost use Rattle.ecs_world.specs.State.{byte_count, coming, value_in};
 
 use crate::built_in::COMPONENT;
-use crate::{Changes, FactKey, World, Written};
+use crate::{Changes, FactKey, World};
 use ecs_id::{EntityId, Id};
-use ecs_model::Value;
 use ecs_model::faults::CommandError;
 use ecs_schema::Schema;
 use std::alloc::Allocator;
 
 impl<A: Allocator + Copy> World<A> {
-    pub(crate) fn make_fresh(&mut self) -> Result<Changes<A>, CommandError>
+    pub(crate) fn make_fresh(&mut self) -> Result<Changes, CommandError>
         requires { first_reason (reasons self.old Fresh) ≡ None }
-        ensures { AnswersStep IsTold result (step self.old Fresh) self.old self.new }
+        ensures { AnswersStep result (step self.old Fresh) self.old self.new }
     {
         let Ok(entity) = self.archetypes.create(&[]) else {
             return Err(CommandError::Memory);
         };
         self.accepted += 1;
-        Ok(Changes::none(self.alloc).with_born(entity))
+        Ok(Changes::of_birth(entity))
     }
 
-    pub(crate) fn make_entity(&mut self, name: &str) -> Result<Changes<A>, CommandError>
+    pub(crate) fn make_entity(&mut self, name: &str) -> Result<Changes, CommandError>
         requires { first_reason (reasons self.old (Entity name.now)) ≡ None }
-        ensures { AnswersStep IsTold result (step self.old (Entity name.now)) self.old self.new }
+        ensures { AnswersStep result (step self.old (Entity name.now)) self.old self.new }
     {
         let entity = self.archetypes.upcoming().unwrap();
         if self.names.bind(name, entity).is_err() {
@@ -41,16 +40,16 @@ impl<A: Allocator + Copy> World<A> {
             return Err(CommandError::Memory);
         }
         self.accepted += 1;
-        Ok(Changes::none(self.alloc).with_born(entity))
+        Ok(Changes::of_birth(entity))
     }
 
     pub(crate) fn make_component(
         &mut self,
         name: &str,
         schema: Schema<A>,
-    ) -> Result<Changes<A>, CommandError>
+    ) -> Result<Changes, CommandError>
         requires { first_reason (reasons self.old (Component name.now schema)) ≡ None }
-        ensures { AnswersStep IsTold result (step self.old (Component name.now schema)) self.old self.new }
+        ensures { AnswersStep result (step self.old (Component name.now schema)) self.old self.new }
     {
         let entity = self.archetypes.upcoming().unwrap();
         // What is known of it: it has no fault.
@@ -70,12 +69,12 @@ impl<A: Allocator + Copy> World<A> {
         }
         self.accepted += 1;
         let key = FactKey::new(entity.index, component);
-        Ok(Changes::none(self.alloc).with_born(entity).with_came(key))
+        Ok(Changes::of_birth(entity).with_came(key))
     }
 
-    pub(crate) fn add_fact(&mut self, entity: EntityId, id: Id) -> Result<Changes<A>, CommandError>
+    pub(crate) fn add_fact(&mut self, entity: EntityId, id: Id) -> Result<Changes, CommandError>
         requires { first_reason (reasons self.old (Add entity id)) ≡ None }
-        ensures { AnswersStep IsTold result (step self.old (Add entity id)) self.old self.new }
+        ensures { AnswersStep result (step self.old (Add entity id)) self.old self.new }
     {
         let Ok(changes) = self.hold(entity, id) else {
             return Err(CommandError::Memory);
@@ -89,9 +88,9 @@ impl<A: Allocator + Copy> World<A> {
         entity: EntityId,
         id: Id,
         values: &[i128],
-    ) -> Result<Changes<A>, CommandError>
+    ) -> Result<Changes, CommandError>
         requires { first_reason (reasons self.old (SetValue entity id values.now)) ≡ None }
-        ensures { AnswersStep IsTold result (step self.old (SetValue entity id values.now)) self.old self.new }
+        ensures { AnswersStep result (step self.old (SetValue entity id values.now)) self.old self.new }
     {
         let mut buffer = [0; 64];
         let size = self.encode(id, values, &mut buffer);
@@ -101,31 +100,31 @@ impl<A: Allocator + Copy> World<A> {
         self.archetypes.set_value(entity, id, &buffer[..size]);
         self.accepted += 1;
         let key = FactKey::new(entity.index, id);
-        Ok(changes.with_written(Written::new(key, Value::new(values))))
+        Ok(changes.with_written(key))
     }
 
     pub(crate) fn remove_fact(
         &mut self,
         entity: EntityId,
         id: Id,
-    ) -> Result<Changes<A>, CommandError>
+    ) -> Result<Changes, CommandError>
         requires { first_reason (reasons self.old (Remove entity id)) ≡ None }
-        ensures { AnswersStep IsTold result (step self.old (Remove entity id)) self.old self.new }
+        ensures { AnswersStep result (step self.old (Remove entity id)) self.old self.new }
     {
         if !self.has(entity.index, id) {
             self.accepted += 1;
-            return Ok(Changes::none(self.alloc));
+            return Ok(Changes::none());
         }
         if self.archetypes.remove(entity, id).is_err() {
             return Err(CommandError::Memory);
         }
         self.accepted += 1;
         let key = FactKey::new(entity.index, id);
-        Ok(Changes::none(self.alloc).with_went(key))
+        Ok(Changes::none().with_went(key))
     }
 
     /// Lets an entity hold an id, where it doesn't yet, and tells whether the fact came. The command isn't counted yet.
-    fn hold(&mut self, entity: EntityId, id: Id) -> Result<Changes<A>, CommandError>
+    fn hold(&mut self, entity: EntityId, id: Id) -> Result<Changes, CommandError>
         requires { first_reason (reasons self.old (Add entity id)) ≡ None }
         ensures holds { OnOk result (self.new ≡ with_facts self.old (facts_after_add self.old entity.index id)) }
         ensures came { IfOk result (λ c. c ≡ coming self.old entity.index id) }
@@ -133,14 +132,14 @@ impl<A: Allocator + Copy> World<A> {
         ensures sound { IsWellFormed self.old }
     {
         if self.has(entity.index, id) {
-            return Ok(Changes::none(self.alloc));
+            return Ok(Changes::none());
         }
         let size = self.size_of(id);
         if self.archetypes.add(entity, id, size).is_err() {
             return Err(CommandError::Memory);
         }
         let key = FactKey::new(entity.index, id);
-        Ok(Changes::none(self.alloc).with_came(key))
+        Ok(Changes::none().with_came(key))
     }
     /// Writes the bytes of a value to the front of the buffer, and tells how many they are.
     fn encode(&self, id: Id, values: &[i128], buffer: &mut [u8; 64]) -> usize

@@ -6,7 +6,6 @@
 ghost use Rattle.std.specs.Prelude.{◌≡◌, IfOk};
 ghost use Rattle.ecs_model.specs.World.{first_world};
 ghost use Rattle.ecs_model.specs.Command.{AnswersStep, Add, Component, Entity, Fresh, Remove, SetValue, step};
-ghost use Rattle.ecs_world.specs.State.{IsTold};
 
 mod archetypes;
 mod built_in;
@@ -17,7 +16,7 @@ mod refusals;
 mod rows;
 
 use archetypes::Archetypes;
-pub use changes::{Changes, Died, FactKey, Written};
+pub use changes::{Changes, FactKey};
 use ecs_id::{EntityId, Id};
 use ecs_model::faults::CommandError;
 use ecs_schema::Schema;
@@ -25,6 +24,7 @@ use name_index::NameIndex;
 pub use raw_column::Memory;
 use std::alloc::{Allocator, Global};
 use std::collections::BTreeMap;
+use std::hash::RandomState;
 use std::marker::Model;
 
 /// A world: its live entities in their tables, their names, and the fields of its components.
@@ -36,7 +36,6 @@ pub struct World<A: Allocator = Global> {
     schemas: BTreeMap<u32, Schema<A>, A>,
     /// How many commands were accepted.
     accepted: u64,
-    alloc: A,
 }
 
 impl<A: Allocator> Model for World<A> {
@@ -52,21 +51,22 @@ impl<A: Allocator> Model for World<A> {
 
 impl<A: Allocator + Copy> World<A> {
     /// The world before any command: the built-in entities and their facts.
-    pub fn new(alloc: A) -> Result<Self, Memory>
+    ///
+    /// The names are hashed with these random keys, so that nobody can choose names that make look-ups slow.
+    pub fn new(alloc: A, random: RandomState) -> Result<Self, Memory>
         ensures { IfOk result (λ w. w ≡ first_world) }
     {
         Ok(World {
             archetypes: built_in::archetypes(alloc)?,
-            names: built_in::names(alloc)?,
+            names: built_in::names(alloc, random)?,
             schemas: BTreeMap::new(alloc),
             accepted: 0,
-            alloc,
         })
     }
 
     /// Makes an entity without a name and without facts.
-    pub fn fresh(&mut self) -> Result<Changes<A>, CommandError>
-        ensures { AnswersStep IsTold result (step self.old Fresh) self.old self.new }
+    pub fn fresh(&mut self) -> Result<Changes, CommandError>
+        ensures { AnswersStep result (step self.old Fresh) self.old self.new }
     {
         match self.birth_refusal() {
             Some(refusal) => Err(CommandError::Refused(refusal)),
@@ -75,8 +75,8 @@ impl<A: Allocator + Copy> World<A> {
     }
 
     /// Makes an entity with a name and without facts.
-    pub fn entity(&mut self, name: &str) -> Result<Changes<A>, CommandError>
-        ensures { AnswersStep IsTold result (step self.old (Entity name.now)) self.old self.new }
+    pub fn entity(&mut self, name: &str) -> Result<Changes, CommandError>
+        ensures { AnswersStep result (step self.old (Entity name.now)) self.old self.new }
     {
         match self.name_refusal(name) {
             Some(refusal) => Err(CommandError::Refused(refusal)),
@@ -85,8 +85,8 @@ impl<A: Allocator + Copy> World<A> {
     }
 
     /// Makes an entity with a name and fields, which holds the tag `Component`.
-    pub fn component(&mut self, name: &str, schema: Schema<A>) -> Result<Changes<A>, CommandError>
-        ensures { AnswersStep IsTold result (step self.old (Component name.now schema)) self.old self.new }
+    pub fn component(&mut self, name: &str, schema: Schema<A>) -> Result<Changes, CommandError>
+        ensures { AnswersStep result (step self.old (Component name.now schema)) self.old self.new }
     {
         match self.name_refusal(name) {
             Some(refusal) => Err(CommandError::Refused(refusal)),
@@ -95,8 +95,8 @@ impl<A: Allocator + Copy> World<A> {
     }
 
     /// Adds an id to an entity, with zeros as its value. A fact that is there already keeps its value.
-    pub fn add(&mut self, entity: EntityId, id: Id) -> Result<Changes<A>, CommandError>
-        ensures { AnswersStep IsTold result (step self.old (Add entity id)) self.old self.new }
+    pub fn add(&mut self, entity: EntityId, id: Id) -> Result<Changes, CommandError>
+        ensures { AnswersStep result (step self.old (Add entity id)) self.old self.new }
     {
         match self.add_refusal(entity, id) {
             Some(refusal) => Err(CommandError::Refused(refusal)),
@@ -110,8 +110,8 @@ impl<A: Allocator + Copy> World<A> {
         entity: EntityId,
         id: Id,
         values: &[i128],
-    ) -> Result<Changes<A>, CommandError>
-        ensures { AnswersStep IsTold result (step self.old (SetValue entity id values.now)) self.old self.new }
+    ) -> Result<Changes, CommandError>
+        ensures { AnswersStep result (step self.old (SetValue entity id values.now)) self.old self.new }
     {
         match self.set_refusal(entity, id, values) {
             Some(refusal) => Err(CommandError::Refused(refusal)),
@@ -120,8 +120,8 @@ impl<A: Allocator + Copy> World<A> {
     }
 
     /// Takes an id from an entity. Where the entity doesn't hold it, nothing changes but the count of commands.
-    pub fn remove(&mut self, entity: EntityId, id: Id) -> Result<Changes<A>, CommandError>
-        ensures { AnswersStep IsTold result (step self.old (Remove entity id)) self.old self.new }
+    pub fn remove(&mut self, entity: EntityId, id: Id) -> Result<Changes, CommandError>
+        ensures { AnswersStep result (step self.old (Remove entity id)) self.old self.new }
     {
         match self.remove_refusal(entity, id) {
             Some(refusal) => Err(CommandError::Refused(refusal)),

@@ -4,9 +4,10 @@ ghost use Rattle.std.specs.Prelude.{◌≡◌, ◌<◌, ◌≤◌, IfSome, IsTru
 ghost use Rattle.std.specs.Option.{option_copied};
 ghost use Rattle.std.specs.Ordering.{nat_cmp};
 ghost use Rattle.ecs_model.specs.Bytes.{size_of, values_in};
+ghost use Rattle.ecs_model.specs.Keeps.{IsWellFormed};
 ghost use Rattle.ecs_model.specs.Map.{value_at};
 ghost use Rattle.ecs_model.specs.World.{entity_at, holds, ids_of, is_alive, is_live, name_of, named, type_of_id, value_of};
-ghost use Rattle.ecs_world.specs.State.{byte_count};
+ghost use Rattle.ecs_world.specs.State.{byte_count, value_in};
 
 use crate::World;
 use crate::built_in::PAIR_IS_TAG;
@@ -17,6 +18,13 @@ use entity_index::Live;
 use std::alloc::Allocator;
 
 impl<A: Allocator> World<A> {
+    /// Law: what every world has. The call does nothing.
+    pub fn keeps(&self)
+        ensures { IsWellFormed self.now }
+    {
+        let _ = &self.accepted;
+    }
+
     /// Whether this very entity is alive.
     pub fn is_alive(&self, entity: EntityId) -> bool
         ensures { result ≡ is_alive self.now entity }
@@ -81,6 +89,14 @@ impl<A: Allocator> World<A> {
             None => Some(Value::zeros(0)),
             Some(schema) => Some(decoded(schema, bytes)),
         }
+    }
+
+    /// The bytes of a fact's value, as `type_of` says what they mean: none where the id has no fields.
+    pub fn bytes(&self, index: u32, id: Id) -> Option<&[u8]>
+        ensures value { option_map (value_in (type_of_id self.now id)) (option_copied result) ≡ value_of self.now index id }
+        ensures size { IfSome result (λ bytes. length bytes.now ≡ byte_count (type_of_id self.now id)) }
+    {
+        self.archetypes.bytes(index, id)
     }
 
     /// The ids of a live entity, in order, and None of one that is not alive.

@@ -7,15 +7,12 @@ ghost use Rattle.ecs_model.specs.Provisional.{is_not_yet_changed};
 ghost use Rattle.ecs_model.specs.Refusal.{first_reason};
 ghost use Rattle.ecs_model.specs.World.{is_alive, is_built_in, type_of_id};
 
-use crate::{World, built_in};
+use crate::World;
 use ecs_id::{EntityId, Id};
 use ecs_model::faults::Refusal;
-use ecs_model::is_name;
+use ecs_model::{LAST_BUILT_IN, MOST_IDS, is_name};
 use ecs_schema::ValueFault;
 use std::alloc::Allocator;
-
-/// How many ids an entity holds at most.
-const MOST_IDS: usize = 64;
 
 impl<A: Allocator> World<A> {
     /// Why no entity is made.
@@ -162,5 +159,5 @@ fn changes_built_in(entity: EntityId, id: Id) -> bool
 fn is_built_in(index: u32) -> bool
     ensures { result ≡ is_built_in index }
 {
-    1 <= index && index <= built_in::LAST
+    1 <= index && index <= LAST_BUILT_IN
 }

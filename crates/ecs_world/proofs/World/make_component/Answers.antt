@@ -3,7 +3,8 @@ use Rattle.ecs_id.specs.Id.{plain}
 use Rattle.ecs_model.specs.Keeps.{IsWellFormed}
 use Rattle.ecs_model.specs.World.{component}
 use Rattle.ecs_model.proofs.Additions.{not_spent}
-use Rattle.ecs_world.specs.Holdings.{HoldAlike, next_entity, with_cells, with_entity}
+use Rattle.ecs_world.specs.Holdings.{HoldAlike, upcoming, with_cells, with_entity}
+use Rattle.ecs_world.specs.State.{birth}
 use Rattle.ecs_world.proofs.Accepted.{component_agrees, component_fits, component_left, failed, kept, made_is, next_of, next_plain, next_some, next_unnamed, on_err, on_ok, unchanged}
 use Rattle.ecs_world.proofs.Judged.{bears-component}
 use Rattle.ecs_world.proofs.NameLists.{freed}
@@ -107,7 +108,7 @@ invariant_of-self-2 g c =
     let bound = on_ok c.bind.result c.bind.ensures.bound (sym c.is_err.ensures.value ∙ c.if-is_err.false) in
     let free = (on_ok c.bind.result c.bind.ensures.free (sym c.is_err.ensures.value ∙ c.if-is_err.false)).1 in
     let inserted = on_ok c.insert.result c.insert.ensures.entries (sym c.is_err-2.ensures.value ∙ c.if-is_err-2.false) in
-    let born = made_is (next_entity w.archetypes) (λ f. HoldAlike c.create.new.self (with_cells (with_entity w.archetypes f) f.index ((plain component, []) ∷ []))) c.create.result c.unwrap-entity.result c.create.ensures.next (rw (c.plain-component.ensures) at c.create.ensures.born) (sym c.is_err-3.ensures.value ∙ c.if-is_err-3.false) (sym c.upcoming.ensures ∙ c.unwrap-entity.ensures) in
+    let born = made_is (upcoming w.archetypes) (λ f. HoldAlike c.create.new.self (with_cells (with_entity w.archetypes f) f.index ((plain component, []) ∷ []))) c.create.result c.unwrap-entity.result c.create.ensures.next (rw (c.plain-component.ensures) at c.create.ensures.born) (sym c.is_err-3.ensures.value ∙ c.if-is_err-3.false) (sym c.upcoming.ensures ∙ c.unwrap-entity.ensures) in
     (component_left c.self.invariant c.self.view_is c.unwrap-entity.result next c.args.name.now c.args.schema c.fields.ensures.sound c.requires free c.bind.new.self bound c.insert.new.self.entries (inserted ∙ insert_put w.schemas.entries c.unwrap-entity.result.index c.args.schema)
     c.create.new.self c.create.ensures.whole born (rw (c.plain-component.ensures) at c.create.ensures.sizes)).0
 
@@ -118,9 +119,9 @@ returns g c =
     let bound = on_ok c.bind.result c.bind.ensures.bound (sym c.is_err.ensures.value ∙ c.if-is_err.false) in
     let free = (on_ok c.bind.result c.bind.ensures.free (sym c.is_err.ensures.value ∙ c.if-is_err.false)).1 in
     let inserted = on_ok c.insert.result c.insert.ensures.entries (sym c.is_err-2.ensures.value ∙ c.if-is_err-2.false) in
-    let born = made_is (next_entity w.archetypes) (λ f. HoldAlike c.create.new.self (with_cells (with_entity w.archetypes f) f.index ((plain component, []) ∷ []))) c.create.result c.unwrap-entity.result c.create.ensures.next (rw (c.plain-component.ensures) at c.create.ensures.born) (sym c.is_err-3.ensures.value ∙ c.if-is_err-3.false) (sym c.upcoming.ensures ∙ c.unwrap-entity.ensures) in
+    let born = made_is (upcoming w.archetypes) (λ f. HoldAlike c.create.new.self (with_cells (with_entity w.archetypes f) f.index ((plain component, []) ∷ []))) c.create.result c.unwrap-entity.result c.create.ensures.next (rw (c.plain-component.ensures) at c.create.ensures.born) (sym c.is_err-3.ensures.value ∙ c.if-is_err-3.false) (sym c.upcoming.ensures ∙ c.unwrap-entity.ensures) in
     let sound : IsWellFormed c.args.self.now = subst IsWellFormed c.self.view_is c.self.invariant.sound in
     told_component c.args.self.now _ c.with_came.result c.args.name.now c.args.schema c.unwrap-entity.result sound next c.requires
     (component_left c.self.invariant c.self.view_is c.unwrap-entity.result next c.args.name.now c.args.schema c.fields.ensures.sound c.requires free c.bind.new.self bound c.insert.new.self.entries (inserted ∙ insert_put w.schemas.entries c.unwrap-entity.result.index c.args.schema)
     c.create.new.self c.create.ensures.whole born (rw (c.plain-component.ensures) at c.create.ensures.sizes)).1
-    (c.with_came.ensures ∙ (λ k. record (c.with_born.ensures k) { came = c.new-key.ensures k ∷ [] }) ∙ (λ k. record (c.none.ensures k) { born = Some c.unwrap-entity.result; came = (c.unwrap-entity.result.index, c.plain-component.ensures k) ∷ [] }))
+    (c.with_came.ensures ∙ (λ k. record (c.of_birth.ensures k) { came = c.new-key.ensures k ∷ [] }) ∙ (λ k. record (birth c.unwrap-entity.result) { came = (c.unwrap-entity.result.index, c.plain-component.ensures k) ∷ [] }))

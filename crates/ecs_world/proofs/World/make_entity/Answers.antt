@@ -1,6 +1,6 @@
 use Rattle.std.proofs.Common.{[], Some, is_some, refl, sym, ap, ◌∙◌, arith}
 use Rattle.ecs_model.proofs.Additions.{not_spent}
-use Rattle.ecs_world.specs.Holdings.{HoldAlike, next_entity, with_cells, with_entity}
+use Rattle.ecs_world.specs.Holdings.{HoldAlike, upcoming, with_cells, with_entity}
 use Rattle.ecs_world.proofs.Accepted.{failed, kept, made_is, named_left, next_of, next_some, next_unnamed, on_err, on_ok, unchanged}
 use Rattle.ecs_world.proofs.Judged.{bears-entity}
 use Rattle.ecs_world.proofs.NameLists.{freed}
@@ -71,7 +71,7 @@ invariant_of-self-2 g c =
     let next = next_of c.self.invariant c.self.view_is c.unwrap-entity.result (sym c.upcoming.ensures ∙ c.unwrap-entity.ensures) in
     let bound = on_ok c.bind.result c.bind.ensures.bound (sym c.is_err.ensures.value ∙ c.if-is_err.false) in
     let free = (on_ok c.bind.result c.bind.ensures.free (sym c.is_err.ensures.value ∙ c.if-is_err.false)).1 in
-    let born = made_is (next_entity w.archetypes) (λ f. HoldAlike c.create.new.self (with_cells (with_entity w.archetypes f) f.index [])) c.create.result c.unwrap-entity.result c.create.ensures.next c.create.ensures.born (sym c.is_err-2.ensures.value ∙ c.if-is_err-2.false) (sym c.upcoming.ensures ∙ c.unwrap-entity.ensures) in
+    let born = made_is (upcoming w.archetypes) (λ f. HoldAlike c.create.new.self (with_cells (with_entity w.archetypes f) f.index [])) c.create.result c.unwrap-entity.result c.create.ensures.next c.create.ensures.born (sym c.is_err-2.ensures.value ∙ c.if-is_err-2.false) (sym c.upcoming.ensures ∙ c.unwrap-entity.ensures) in
     (named_left c.self.invariant c.self.view_is c.unwrap-entity.result next c.args.name.now c.requires free c.bind.new.self bound c.create.new.self c.create.ensures.whole born c.create.ensures.sizes).0
 
 pub returns : goal.returns
@@ -80,7 +80,7 @@ returns g c =
     let next = next_of c.self.invariant c.self.view_is c.unwrap-entity.result (sym c.upcoming.ensures ∙ c.unwrap-entity.ensures) in
     let bound = on_ok c.bind.result c.bind.ensures.bound (sym c.is_err.ensures.value ∙ c.if-is_err.false) in
     let free = (on_ok c.bind.result c.bind.ensures.free (sym c.is_err.ensures.value ∙ c.if-is_err.false)).1 in
-    let born = made_is (next_entity w.archetypes) (λ f. HoldAlike c.create.new.self (with_cells (with_entity w.archetypes f) f.index [])) c.create.result c.unwrap-entity.result c.create.ensures.next c.create.ensures.born (sym c.is_err-2.ensures.value ∙ c.if-is_err-2.false) (sym c.upcoming.ensures ∙ c.unwrap-entity.ensures) in
-    told_entity c.args.self.now _ c.with_born.result c.args.name.now c.unwrap-entity.result next c.requires
+    let born = made_is (upcoming w.archetypes) (λ f. HoldAlike c.create.new.self (with_cells (with_entity w.archetypes f) f.index [])) c.create.result c.unwrap-entity.result c.create.ensures.next c.create.ensures.born (sym c.is_err-2.ensures.value ∙ c.if-is_err-2.false) (sym c.upcoming.ensures ∙ c.unwrap-entity.ensures) in
+    told_entity c.args.self.now _ c.of_birth.result c.args.name.now c.unwrap-entity.result next c.requires
     (named_left c.self.invariant c.self.view_is c.unwrap-entity.result next c.args.name.now c.requires free c.bind.new.self bound c.create.new.self c.create.ensures.whole born c.create.ensures.sizes).1
-    (c.with_born.ensures ∙ (λ k. record (c.none.ensures k) { born = Some c.unwrap-entity.result }))
+    c.of_birth.ensures

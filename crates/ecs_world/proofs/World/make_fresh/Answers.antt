@@ -41,6 +41,6 @@ invariant_of-self-2 g c =
 pub returns : goal.returns
 returns g c =
     let next = next_of c.self.invariant c.self.view_is c.in-Ok.entity c.in-Ok.ensures.next in
-    told_fresh c.args.self.now _ c.with_born.result c.in-Ok.entity next c.requires
+    told_fresh c.args.self.now _ c.of_birth.result c.in-Ok.entity next c.requires
     (fresh_left c.self.invariant c.self.view_is c.in-Ok.entity next c.requires c.create.new.self c.create.ensures.whole c.in-Ok.ensures.born c.create.ensures.sizes).1
-    (c.with_born.ensures ∙ (λ k. record (c.none.ensures k) { born = Some c.in-Ok.entity }))
+    c.of_birth.ensures

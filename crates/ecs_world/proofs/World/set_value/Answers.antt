@@ -11,7 +11,6 @@ use Rattle.ecs_world.proofs.Accepted.{alive_there, can_still, held_there, size_t
 use Rattle.ecs_world.proofs.Judged.{add_of_set, judged-add}
 use Rattle.ecs_world.proofs.Left.{effect-set, types_after_add}
 use Rattle.ecs_world.proofs.Told.{told_set}
-use Rattle.ecs_world.proofs.Valued.{few_values}
 use Rattle.ecs_world.proofs.World.set_value.Goals as goal
 
 pub encode-size-requires : goal.encode-size-requires
@@ -67,9 +66,6 @@ overflow_add-self g c =
     let spent = rw (← c.self.view_is) at (can.room) in
     omega (arith, not_spent c.self.inside.accepted spent)
 
-pub new-requires : goal.new-requires
-new-requires g c = few_values c.args.self.now c.args.id c.args.values.now c.hold.ensures.sound (add_of_set c.args.self.now c.args.entity c.args.id c.args.values.now c.requires).0
-
 pub invariant_of-self : goal.invariant_of-self
 invariant_of-self g c =
     let w = c.self.inside in
@@ -99,4 +95,4 @@ returns g c =
     told_set c.args.self.now _ c.with_written.result c.args.entity c.args.id c.args.values.now c.requires (written_left c.self.invariant c.self.view_is c.args.entity c.args.id can c.set_value.new.self (take c.encode-size.result c.encode-size.new.buffer) c.args.values.now c.set_value.ensures.whole c.set_value.ensures.written c.set_value.ensures.sizes
     (ap (λ t. value_in t (take c.encode-size.result c.encode-size.new.buffer)) same ∙ c.encode-size.ensures.written) (w.accepted + 1) (counted (effect c.args.self.now (SetValue c.args.entity c.args.id c.args.values.now))) to
     (effect_well_formed c.args.self.now (SetValue c.args.entity c.args.id c.args.values.now) c.hold.ensures.sound tt c.requires)).1
-    (c.with_written.ensures ∙ (λ k. record (c.in-Ok.ensures.came k) { written = c.new-2.ensures k ∷ [] }) ∙ (λ k. record (coming c.args.self.now c.args.entity.index c.args.id) { written = (c.new-key.ensures k, c.new.ensures k) ∷ [] }))
+    (c.with_written.ensures ∙ (λ k. record (c.in-Ok.ensures.came k) { written = c.new-key.ensures k ∷ [] }))

@@ -1,7 +1,7 @@
 -- The new entity enters the table that is found or made.
 use Rattle.std.proofs.Common.{◌∙◌, ap, subst, sym}
 use Rattle.ecs_world.specs.Archetypes.{IsSound}
-use Rattle.ecs_world.specs.Holdings.{next_entity}
+use Rattle.ecs_world.specs.Holdings.{upcoming}
 use Rattle.ecs_world.proofs.FirstHoldings.{same_next}
 use Rattle.ecs_world.proofs.Soundness.{holdings, sound_same}
 use Rattle.ecs_world.proofs.ArchetypeCalls.{alike_born, born_alive, sound_born}
@@ -25,7 +25,7 @@ enter-requires-clause-alive g c =
 
 pub returns-clause-next : goal.returns-clause-next
 returns-clause-next g c =
-    sym (same_next c.self.inside.entities c.self.inside.tables c.self.invariant.last ∙ ap next_entity c.self.view_is) ∙ c.in-Ok.ensures.next
+    sym (same_next c.self.inside.entities c.self.inside.tables c.self.invariant.last ∙ ap upcoming c.self.view_is) ∙ c.in-Ok.ensures.next
 
 pub returns-clause-born : goal.returns-clause-born
 returns-clause-born g c =

@@ -1,0 +1,6 @@
+use Rattle.std.proofs.Common.{subst}
+use Rattle.ecs_model.specs.Keeps.{IsWellFormed}
+use Rattle.ecs_world.proofs.World.keeps.Goals as goal
+
+pub returns : goal.returns
+returns g c = subst IsWellFormed c.self.view_is c.self.invariant.sound
