@@ -1,32 +1,40 @@
 -- What the calls need that carry out accepted commands, and what they leave.
-use Rattle.std.proofs.Common.{◌≡◌, ℕ, ◌+◌, ◌≤◌, ◌==◌, Bool, true, false, ◌&&◌, List, [], ◌∷◌, replicate, ℤ, Option, Some, None, is_some, IsTrue, Result, Ok, Err, is_err, IfOk, OnOk, OnErr, refl, sym, ap, subst, ◌∙◌, arith, true≢false}
+use Rattle.std.proofs.Common.{◌≡◌, ℕ, ◌+◌, ◌≤◌, ◌==◌, Bool, true, false, not, ◌&&◌, List, [], ◌∷◌, length, replicate, ℤ, Option, Some, None, is_some, IsTrue, Result, Ok, Err, is_err, IfOk, OnOk, OnErr, refl, sym, ap, subst, ◌∙◌, arith, true≢false}
 use Rattle.std.proofs.lemmas.Bool.Decides.{Decides-eqb}
+use Rattle.std.proofs.lemmas.List.{length-map}
 use Rattle.std.specs.FinMap as finite
 use Rattle.std.specs.List.{list_all}
 use Rattle.std.specs.Option.{option_map_or}
 use Rattle.std.specs.Ordering.{nat_cmp}
 use Rattle.ecs_id.specs.declared.EntityId.{EntityId}
+use Rattle.ecs_id.specs.declared.Place.{Place}
 use Rattle.ecs_id.specs.Id.{Id, plain, mentioned, id_cmp, id_eq}
 use Rattle.ecs_model.specs.Map.{Map, value_at, has_key, with_value, without}
 use Rattle.ecs_model.specs.Schema.{Schema, schema_fault, zeros}
 use Rattle.ecs_model.specs.Keeps.{IsWellFormed}
 use Rattle.ecs_model.specs.Refusal.{first_reason}
 use Rattle.ecs_model.specs.Changes.{facts_after_add, facts_after_remove}
-use Rattle.ecs_model.specs.World.{WorldState, key_cmp, component, holds, type_of_id, new_value}
+use Rattle.ecs_model.specs.World.{WorldState, key_cmp, component, holds, ids_of, is_alive, type_of_id, new_value}
 use Rattle.ecs_model.specs.Command.{Command, IsCommand, Fresh, Entity, Component, Add, SetValue, Remove, reasons, effect, counted, is_spent, with_facts}
 use Rattle.ecs_model.specs.Command as model
 use Rattle.ecs_model.proofs.Additions.{not_spent}
 use Rattle.ecs_model.proofs.Answering.{effect_well_formed}
-use Rattle.ecs_model.proofs.Maps.{of_some}
+use Rattle.ecs_model.proofs.Differences.{last_value}
+use Rattle.ecs_model.proofs.Maps.{key_cmp_total, of_some}
 use Rattle.ecs_model.proofs.Removals.{removes_held_alone}
 use Rattle.name_index.specs.Names.{IsUnnamed, Names}
-use Rattle.ecs_world.specs.Holdings.{AreHoldings, HoldAlike, Holdings, KeepsSizes, Sizes, agrees, cells_at, held_at, holds_id, lives, upcoming, with_cells, with_entity}
+use Rattle.ecs_world.specs.Holdings.{AreHoldings, HoldAlike, Holdings, KeepsSizes, Sizes, agrees, cells_at, held_at, holds_id, lives, place_in, upcoming, with_cells, with_entity}
 use Rattle.ecs_world.specs.State.{IsWorld, Parts, parts_of, byte_count, is_known_rightly, state_of, type_of, value_in}
+use Rattle.ecs_world.proofs.ArchetypeCalls.{placed_lives}
 use Rattle.ecs_world.proofs.Births.{birth_left, component_known, effect-component, effect-entity, effect-fresh, none_live, other_schemas, state_component, state_fresh, state_named, tags_empty, tags_tagged}
-use Rattle.ecs_world.proofs.Judged.{CanBear, CanChange, judged-add, judged-remove}
-use Rattle.ecs_world.proofs.Left.{cells_left, effect-remove, facts_new, held_world, recounted, state_gone, state_put, tags_gone, tags_put, there}
+use Rattle.ecs_world.proofs.Judged.{CanBear, CanChange, add_of_set, judged-add, judged-remove}
+use Rattle.ecs_world.proofs.Left.{cells_left, effect-add, effect-remove, effect-set, facts_held, facts_new, held_world, recounted, state_gone, state_put, tags_gone, tags_put, there}
 use Rattle.ecs_world.proofs.NameLists.{AreNamed-bound, AreNamed-same, unnamed}
-use Rattle.ecs_world.proofs.States.{AreNamed-world, holds_is, size_agrees, state_alike, type_is, world_alike, zeros_are_new}
+use Rattle.ecs_world.proofs.States.{AreNamed-world, holds_is, ids_is, nowhere_dead, size_agrees, state_alike, type_is, world_alike, zeros_are_new}
+
+pub refuted : (b : Bool) → not b ≡ true → b ≡ false
+refuted true h = absurd (true≢false (sym h))
+refuted false h = refl
 
 pub on_ok : {T E : Type 0} {P : Type 0} (r : Result T E) → OnOk r P → is_err r ≡ false → P
 on_ok (Ok t) p h = p
@@ -93,6 +101,20 @@ module _ {parts : Parts} (world : IsWorld parts) {v : WorldState} (is : state_of
       → IsWorld (parts_of h' names schemas accepted) × (state_of (parts_of h' names schemas accepted) ≡ v)
   failed added fits h' whole' alike keeps = (world_alike h' h names schemas accepted added world whole' alike keeps fits, state_alike h' h names schemas accepted alike ∙ is)
 
+  -- what was found of an entity
+  module _ (e : EntityId) where
+    pub found_alive : (p : Place) → place_in h e ≡ Some p → is_alive v e ≡ true
+    found_alive p at = ap (λ u. is_alive u e) (sym is) ∙ placed_lives h e p at
+
+    pub found_dead : place_in h e ≡ None → is_alive v e ≡ false
+    found_dead none = ap (λ u. is_alive u e) (sym is) ∙ nowhere_dead world e none
+
+    pub found_held : (i : Id) (b : Bool) → b ≡ holds_id h e.index i → b ≡ holds v e.index i
+    found_held i b held = held ∙ sym (holds_is world e.index i) ∙ ap (λ u. holds u e.index i) is
+
+    pub found_count : (n : ℕ) → n ≡ length (held_at h e.index) → n ≡ length (ids_of v e.index)
+    found_count n counted = counted ∙ sym (length-map (held_at h e.index) (λ c. c.0)) ∙ ap (λ z. length z) (sym (ids_is world e.index)) ∙ ap (λ u. length (ids_of u e.index)) is
+
   module _ (e : EntityId) (i : Id) where
     module _ (can' : CanChange v e i) where
       abbrev can : CanChange w e i
@@ -110,16 +132,16 @@ module _ {parts : Parts} (world : IsWorld parts) {v : WorldState} (is : state_of
       pub fits_there : (size : ℕ) → size ≡ byte_count (type_of_id v i) → list_all (is_known_rightly h schemas) ((i, size) ∷ []) ≡ true
       fits_there size at = size_known i size at can.mentions
 
-      -- a value is written to a fact that is held
-      pub written_left : (h' : Holdings) (bytes : List ℕ) (vs : List ℤ) → AreHoldings h' → HoldAlike h' (with_cells h e.index (with_value id_cmp (held_at h e.index) i bytes)) → KeepsSizes h.known [] h'.known
-          → value_in (type_of_id v i) bytes ≡ vs → (accepted' : ℕ) (u : WorldState) → record v { facts = with_value key_cmp v.facts (e.index, i) vs; accepted = accepted' } ≡ u → IsWellFormed u
+      -- a value is written
+      pub written_left : (h' : Holdings) (bytes : List ℕ) (vs : List ℤ) → AreHoldings h' → HoldAlike h' (with_cells h e.index (with_value id_cmp (held_at h e.index) i bytes))
+          → (added : Sizes) → KeepsSizes h.known added h'.known → list_all (is_known_rightly h schemas) added ≡ true → value_in (type_of_id v i) bytes ≡ vs → (accepted' : ℕ) (u : WorldState) → record v { facts = with_value key_cmp v.facts (e.index, i) vs; accepted = accepted' } ≡ u → IsWellFormed u
           → IsWorld (parts_of h' names schemas accepted') × (state_of (parts_of h' names schemas accepted') ≡ u)
-      written_left h' bytes vs whole' alike keeps value accepted' u to sound =
+      written_left h' bytes vs whole' alike added keeps fits value accepted' u to sound =
           let state : state_of (parts_of h' names schemas accepted') ≡ u =
           state_put world e i can h' whole' bytes alike accepted'
           ∙ (λ k. record (is k) { facts = with_value key_cmp (is k).facts (e.index, i) ((ap (λ t. value_in t bytes) (sym (type_is world i) ∙ ap (λ x. type_of_id x i) is) ∙ value) k); accepted = accepted' })
           ∙ to in (
-            cells_left world e i can h' whole' (with_value id_cmp (held_at h e.index) i bytes) alike [] keeps refl (tags_put world e i can h' whole' bytes alike) accepted' (subst IsWellFormed (sym state) sound),
+            cells_left world e i can h' whole' (with_value id_cmp (held_at h e.index) i bytes) alike added keeps fits (tags_put world e i can h' whole' bytes alike) accepted' (subst IsWellFormed (sym state) sound),
             state,
           )
 
@@ -280,6 +302,27 @@ module _ {parts : Parts} (world : IsWorld parts) {v : WorldState} (is : state_of
 pub effect-remove-none : (v : WorldState) (e : EntityId) (i : Id) → holds v e.index i ≡ false → effect v (Remove e i) ≡ v
 effect-remove-none v e i absent = effect-remove v e i ∙ ap (with_facts v) (removes_held_alone v e.index i absent)
 
--- what holds before a fact comes, holds after
-pub can_still : (u v : WorldState) (e : EntityId) (i : Id) → v ≡ with_facts u (facts_after_add u e.index i) → CanChange u e i → CanChange v e i
-can_still u v e i is can = subst (λ x. CanChange x e i) (sym is) (record { alive = can.alive; mentions = can.mentions; no_trait = can.no_trait; room = can.room })
+-- the facts with a value, whether it came now or was there
+last_set : (w : WorldState) (e : ℕ) (i : Id) (vs : List ℤ) (b : Bool) → holds w e i ≡ b → with_value key_cmp w.facts (e, i) vs ≡ with_value key_cmp (facts_after_add w e i) (e, i) vs
+last_set w e i vs true held = ap (λ m. with_value key_cmp m (e, i) vs) (sym (facts_held w e i held))
+last_set w e i vs false held = sym (last_value key_cmp key_cmp_total w.facts (e, i) (new_value w i) vs) ∙ ap (λ m. with_value key_cmp m (e, i) vs) (sym (facts_new w e i held))
+
+module _ {parts : Parts} (world : IsWorld parts) {v : WorldState} (is : state_of parts ≡ v) (e : EntityId) (i : Id) where
+  -- an id comes, and the command is counted
+  pub added_left : first_reason (reasons v (Add e i)) ≡ None → (h' : Holdings) (size : ℕ) → AreHoldings h' → size ≡ byte_count (type_of_id v i) → holds v e.index i ≡ false
+      → HoldAlike h' (with_cells parts.holdings e.index (with_value id_cmp (held_at parts.holdings e.index) i (replicate size 0))) → KeepsSizes (parts.holdings).known ((i, size) ∷ []) h'.known
+      → IsWorld (parts_of h' parts.names parts.schemas (parts.accepted + 1)) × (state_of (parts_of h' parts.names parts.schemas (parts.accepted + 1)) ≡ counted (effect v (Add e i)))
+  added_left none h' size whole' at absent alike keeps =
+      let left = come world is e i none h' size whole' at absent alike keeps in
+      counted_from left.0 left.1 v (Add e i) (effect-add v e i) (judged-add v e i none).room
+
+  -- a value is set, and the command is counted
+  pub set_left : (vs : List ℤ) → first_reason (reasons v (SetValue e i vs)) ≡ None → (h' : Holdings) (bytes : List ℕ) → AreHoldings h' → length bytes ≡ byte_count (type_of_id v i)
+      → HoldAlike h' (with_cells parts.holdings e.index (with_value id_cmp (held_at parts.holdings e.index) i bytes)) → KeepsSizes (parts.holdings).known ((i, length bytes) ∷ []) h'.known → value_in (type_of_id v i) bytes ≡ vs
+      → IsWorld (parts_of h' parts.names parts.schemas (parts.accepted + 1)) × (state_of (parts_of h' parts.names parts.schemas (parts.accepted + 1)) ≡ counted (effect v (SetValue e i vs)))
+  set_left vs none h' bytes whole' at alike keeps value =
+      let can = judged-add v e i (add_of_set v e i vs none).1 in
+      let to : record v { facts = with_value key_cmp v.facts (e.index, i) vs; accepted = parts.accepted + 1 } ≡ counted (effect v (SetValue e i vs)) =
+      (λ k. record v { facts = last_set v e.index i vs (holds v e.index i) refl k; accepted = (is k).accepted + 1 }) ∙ ap counted (sym (effect-set v e i vs)) in
+      written_left world is e i can h' bytes vs whole' alike ((i, length bytes) ∷ []) keeps (fits_there world is e i can (length bytes) at) value (parts.accepted + 1) (counted (effect v (SetValue e i vs))) to
+      (effect_well_formed v (SetValue e i vs) (subst IsWellFormed is world.sound) tt none)

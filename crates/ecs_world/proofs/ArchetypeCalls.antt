@@ -1,5 +1,5 @@
 -- What each call asks of the index and the store, and what it tells of the holdings.
-use Rattle.std.proofs.Common.{◌≡◌, ◌≢◌, ℕ, Bool, true, false, cond, not, ◌==◌, [], length, replicate, Option, Some, None, option_map, unwrap_or, is_some, refl, sym, ap, subst, ◌∙◌, true≢false}
+use Rattle.std.proofs.Common.{◌≡◌, ◌≢◌, ℕ, Bool, true, false, cond, not, ◌==◌, [], length, List, replicate, Option, Some, None, option_map, unwrap_or, is_some, if◌then◌else◌, refl, sym, ap, subst, ◌∙◌, true≢false}
 use Rattle.std.specs.List.{filter}
 use Rattle.std.specs.Option.{IsSome, option_eq}
 use Rattle.std.specs.Ordering.{nat_cmp, eq_by_cmp}
@@ -9,12 +9,14 @@ use Rattle.std.proofs.lemmas.Bool.Decides.{Decides-eqb}
 use Rattle.ecs_id.specs.declared.EntityId.{EntityId}
 use Rattle.ecs_id.specs.declared.Place.{Place}
 use Rattle.ecs_id.specs.declared.TableKey.{TableKey}
-use Rattle.ecs_id.specs.Id.{Id, id_cmp, id_eq}
-use Rattle.ecs_model.proofs.Maps.{both_true, of_some, some_of}
+use Rattle.ecs_id.specs.Id.{Id, id_cmp, id_cmp_total, id_eq}
+use Rattle.ecs_model.specs.Map.{Map}
+use Rattle.ecs_model.proofs.Differences.{last_value}
+use Rattle.ecs_model.proofs.Maps.{both_true, eq_itself, of_some, some_of}
 use Rattle.entity_index.specs.Entities.{Entities, IsWellFormed, IsNext, is_alive, is_live, place_of, count_at}
 use Rattle.entity_index.specs.Entities as index
 use Rattle.ecs_world.specs.Archetypes.{IsSound, meaning}
-use Rattle.ecs_world.specs.Holdings.{HoldAlike, Holdings, agrees, cells_at, held_at, holds_id, lives, with_cells, with_entity}
+use Rattle.ecs_world.specs.Holdings.{HoldAlike, Holdings, agrees, cells_at, held_at, holds_id, lives, place_in, with_cells, with_entity}
 use Rattle.table_store.specs.Rows.{Cells, IsStored, carried, row_at, shape_of_cells}
 use Rattle.table_store.specs.Store.{Store, Shape, find_in, shape_at, with_id, without_id}
 use Rattle.ecs_world.proofs.Carried.{carried_with, carried_without, find_shape, narrower_other, wider_other}
@@ -38,6 +40,17 @@ no_value f (Some x) h = cc
 some_value : {A B : Type 0} (f : A → B) (o : Option A) → IsSome (option_map f o) → IsSome o
 some_value f None h = h
 some_value f (Some x) h = refl
+
+-- where a live entity stands
+pub placed_lives : (h : Holdings) (e : EntityId) (p : Place) → place_in h e ≡ Some p → lives h e ≡ true
+placed_lives h e p at = by (lives h e) at
+  where
+    by : (b : Bool) → (if b then find nat_cmp e.index h.places else None) ≡ Some p → b ≡ true
+    by true k = refl
+    by false k = cc
+
+pub place_there : (w : Entities) (s : Store) (h : Holdings) (view : meaning w s ≡ h) (e : EntityId) (p : Place) → place_in h e ≡ Some p → place_of w e ≡ Some p
+place_there w s h view e p at = ap (λ z. place_in z e) view ∙ at
 
 module _ (w : Entities) (s : Store) (sound : IsSound w s) (h : Holdings) (view : meaning w s ≡ h) (e : EntityId) (alive : lives h e ≡ true) where
   pub alive_there : is_alive w e ≡ true
@@ -65,6 +78,29 @@ module _ (w : Entities) (s : Store) (sound : IsSound w s) (h : Holdings) (view :
     pub row_here : (cs : Cells) × (row_at s p ≡ Some (e, cs)) × (held_at h e.index ≡ cs)
     row_here = let r = own_row w s sound e p at in
         (r.0, r.1, ap (λ o. unwrap_or o []) (cells_view ∙ ap (content (row_at s)) at ∙ ap (option_map (λ r. r.1)) r.1))
+
+put_here : {X : Type 0} (i : ℕ) (v : X) (m : Map ℕ X) → find nat_cmp i (put nat_cmp i v m) ≡ Some v
+put_here i v m = find-put nat_cmp nat_cmp_total i i v m ∙ ap (λ b. cond b (Some v) (find nat_cmp i m)) (eq_itself nat_cmp nat_cmp_total i)
+
+id_here : {X : Type 0} (i : Id) (v : X) (m : Map Id X) → find id_cmp i (put id_cmp i v m) ≡ Some v
+id_here i v m = find-put id_cmp id_cmp_total i i v m ∙ ap (λ b. cond b (Some v) (find id_cmp i m)) (eq_itself id_cmp id_cmp_total i)
+
+-- an id that came, and its value once it is written
+module _ (m h : Holdings) (e : ℕ) (i : Id) (z : List ℕ) (came : HoldAlike m (with_cells h e (put id_cmp i z (held_at h e)))) where
+  held_now : held_at m e ≡ put id_cmp i z (held_at h e)
+  held_now = ap (λ c. unwrap_or (find nat_cmp e c) []) came.cells ∙ ap (λ o. unwrap_or o []) (put_here e (put id_cmp i z (held_at h e)) h.cells)
+
+  pub held_after : holds_id m e i ≡ true
+  held_after = ap (λ c. is_some (find id_cmp i c)) held_now ∙ ap is_some (id_here i z (held_at h e))
+
+  pub put_after : (a : Holdings) (bytes : List ℕ) → HoldAlike a (with_cells m e (put id_cmp i bytes (held_at m e))) → HoldAlike a (with_cells h e (put id_cmp i bytes (held_at h e)))
+  put_after a bytes written = record {
+    live = written.live ∙ came.live;
+    deletions = written.deletions ∙ came.deletions;
+    cells = written.cells ∙ (λ k. put nat_cmp e (put id_cmp i bytes (held_now k)) (came.cells k))
+        ∙ last_value nat_cmp nat_cmp_total h.cells e (put id_cmp i z (held_at h e)) (put id_cmp i bytes (put id_cmp i z (held_at h e)))
+        ∙ ap (λ c. put nat_cmp e c h.cells) (last_value id_cmp id_cmp_total (held_at h e) i z bytes);
+  }
 
 held_settled : (h : Holdings) (e : ℕ) (i : Id) → holds_id h e i ≡ true → IsSome (cells_at h e)
 held_settled h e i k = by (cells_at h e) k

@@ -1,5 +1,5 @@
 -- How many ids an entity has after `add`.
-use Rattle.std.proofs.Common.{◌≡◌, ℕ, suc, ◌<◌, ◌≤◌, Bool, true, false, cond, ◌||◌, nat_lt, nat_le, ◌==◌, ℤ, List, [], ◌∷◌, filter_map, length, Option, Some, None, is_some, if◌then◌else◌, refl, sym, ap, ◌∙◌, subst, arith, true≢false}
+use Rattle.std.proofs.Common.{◌≡◌, ℕ, suc, ◌<◌, ◌≤◌, Bool, true, false, cond, not, ◌&&◌, ◌||◌, nat_lt, nat_le, ◌==◌, ℤ, List, [], ◌∷◌, filter_map, length, Option, Some, None, is_some, if◌then◌else◌, refl, sym, ap, ◌∙◌, subst, arith, true≢false}
 use Rattle.std.proofs.lemmas.Bool.Decides.{nat_tests}
 use Rattle.std.specs.declared.cmp.Ordering.{Ordering}
 use Rattle.std.specs.declared.cmp.Ordering.TheVariants.{Less, Equal, Greater}
@@ -103,3 +103,8 @@ module _ (w : WorldState) (e : ℕ) (i : Id) (h : IsWellFormed w) where
       by : (b : Bool) → nat_le 64 n ≡ b → b ≡ is_crowded (with_facts w (facts_after_add w e i))
       by true p = sym (crowded alive absent (rw (← counted) (grind (arith, nat_tests))))
       by false p = sym (not_crowded absent (rw (← counted) (grind (arith, nat_tests))))
+
+  -- the test on what was found
+  pub crowds : (b : Bool) (n : ℕ) → is_live w e ≡ true → b ≡ holds w e i → n ≡ length (ids_of w e) → (not b && nat_le 64 n) ≡ is_crowded (with_facts w (facts_after_add w e i))
+  crowds true n alive held counted = sym (not_crowded_held (sym held))
+  crowds false n alive held counted = full_by_count n alive (sym held) counted

@@ -49,4 +49,4 @@ sound_first w s e wf none stored = record {
 }
 
 pub meaning_first : (w : Entities) (s : Store) → w ≡ built_in_entities last_index → s.tables ≡ [] → meaning w s ≡ first_holdings
-meaning_first w s e none = ap (λ u. meaning u s) e ∙ ap (λ ts. record { live = first_holdings.live; deletions = []; cells = []; known = flat_map (λ e. shape_of e.1) ts }) none
+meaning_first w s e none = ap (λ u. meaning u s) e ∙ ap (λ ts. record { live = first_holdings.live; deletions = []; cells = []; places = []; known = flat_map (λ e. shape_of e.1) ts }) none

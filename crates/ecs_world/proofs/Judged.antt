@@ -89,7 +89,8 @@ there : (o : Option EntityId) → is_none o ≡ false → (e : EntityId) × (o �
 there None h = absurd (true≢false h)
 there (Some e) h = (e, refl)
 
-births : (w : WorldState) → first_reason (birth_reasons w) ≡ None → CanBear w
+-- where there is no reason against a birth, there is room
+pub births : (w : WorldState) → first_reason (birth_reasons w) ≡ None → CanBear w
 births w none =
     let parts = neither (is_none (next_entity w)) (is_spent w) (passed (is_none (next_entity w) || is_spent w) Full [] none).0 in
     record { next = there (next_entity w) parts.0; room = parts.1 }

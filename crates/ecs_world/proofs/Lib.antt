@@ -11,6 +11,7 @@ pub mod Births
 pub mod First
 pub mod Accepted
 pub mod Told
+pub mod Bound
 pub mod Ordered
 pub mod Valued
 pub mod Placings

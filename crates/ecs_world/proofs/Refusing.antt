@@ -1,12 +1,20 @@
 -- The first reason that applies, one after another.
-use Rattle.std.proofs.Common.{◌≡◌, ◌≢◌, ℤ, Bool, true, false, List, [], ◌∷◌, ◌++◌, Option, Some, None, sym, ap, ◌∙◌, refl}
+use Rattle.std.proofs.Common.{◌≡◌, ◌≢◌, ℤ, Bool, true, false, not, ◌||◌, is_some, length, List, [], ◌∷◌, ◌++◌, Option, Some, None, sym, ap, ◌∙◌, refl}
 use Rattle.ecs_model.specs.declared.faults.Refusal.{Refusal}
-use Rattle.ecs_model.specs.declared.faults.Refusal.TheVariants.{Dead, BuiltIn}
+use Rattle.ecs_model.specs.declared.faults.Refusal.TheVariants.{Dead, BuiltIn, TooManyIds, Full}
 use Rattle.ecs_id.specs.declared.EntityId.{EntityId}
-use Rattle.ecs_id.specs.Id.{Id}
+use Rattle.ecs_id.specs.Id.{Id, mentioned}
+use Rattle.std.specs.List.{list_all}
+use Rattle.std.specs.Ordering.{nat_cmp}
 use Rattle.ecs_model.specs.Refusal.{first_reason}
-use Rattle.ecs_model.specs.World.{WorldState, type_of_id}
-use Rattle.ecs_model.specs.Command.{Add, SetValue, reasons, is_dead, changes_built_in, add_reasons, value_reasons}
+use Rattle.ecs_model.specs.Keeps.{IsWellFormed}
+use Rattle.ecs_model.specs.Map.{value_at}
+use Rattle.ecs_model.specs.World.{WorldState, holds, ids_of, is_alive, is_live, type_of_id}
+use Rattle.ecs_model.specs.Command.{Add, SetValue, reasons, is_dead, is_spent, changes_built_in, add_reasons, value_reasons}
+use Rattle.ecs_world.specs.declared.archetypes.Found.{Found}
+use Rattle.ecs_world.specs.State.{growth_reasons}
+use Rattle.ecs_world.proofs.Crowding.{crowds}
+use Rattle.ecs_world.proofs.Entities.{generation_of}
 
 pub told : (b : Bool) (r : Refusal) (rs : List (Bool × Refusal)) → b ≡ true → Some r ≡ first_reason ((b, r) ∷ rs)
 told b r rs h = ap (λ b. first_reason ((b, r) ∷ rs)) (sym h)
@@ -26,7 +34,26 @@ none_first [] ss h = refl
 none_first ((true, q) ∷ rs) ss h = absurd (cc)
 none_first ((false, q) ∷ rs) ss h = none_first rs ss h
 
+or_true : (b : Bool) → (b || true) ≡ true
+or_true true = refl
+or_true false = refl
+
 module _ (w : WorldState) (e : EntityId) (i : Id) where
+  pub entity_dead : is_alive w e ≡ false → is_dead w e i ≡ true
+  entity_dead h = ap (λ b. not b || not (list_all (is_live w) (mentioned i))) h
+
+  pub mention_dead : list_all (is_live w) (mentioned i) ≡ false → is_dead w e i ≡ true
+  mention_dead h = ap (λ b. not (is_alive w e) || not b) h ∙ or_true (not (is_alive w e))
+
+  pub not_dead : is_alive w e ≡ true → list_all (is_live w) (mentioned i) ≡ true → is_dead w e i ≡ false
+  not_dead alive mentions = λ k. not (alive k) || not (mentions k)
+
+  -- of an entity of which this was found
+  pub growth_told : (found : Found) → IsWellFormed w → is_alive w e ≡ true → found.is_held ≡ holds w e.index i → found.count ≡ length (ids_of w e.index)
+      → first_reason (growth_reasons found (is_spent w)) ≡ first_reason (add_reasons w e.index i)
+  growth_told found sound alive held counted = ap (λ b. first_reason ((b, TooManyIds) ∷ (is_spent w, Full) ∷ []))
+      (crowds w e.index i sound found.is_held found.count (ap is_some (generation_of (value_at nat_cmp w.live e.index) e.generation alive)) held counted)
+
   pub add_dead : is_dead w e i ≡ true → Some Dead ≡ first_reason (reasons w (Add e i))
   unfolding reasons
   add_dead d = told (is_dead w e i) Dead ((changes_built_in w e.index i, BuiltIn) ∷ add_reasons w e.index i) d

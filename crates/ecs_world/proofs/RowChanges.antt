@@ -8,7 +8,7 @@ use Rattle.ecs_world.specs.Holdings.{HoldAlike, held_at, with_cells}
 use Rattle.ecs_world.specs.Placings.{AreInverse}
 use Rattle.table_store.specs.Rows.{Cells, IsStored, Row, carried, filler, last_place, moved_rows, row_at, same_place, with_row_at}
 use Rattle.table_store.specs.Store.{Store, Shape}
-use Rattle.ecs_world.proofs.Placings.{AreInverse-enter, AreInverse-write, content, content-enter, content-write, moved, refilled, same_entity, same_place-tells}
+use Rattle.ecs_world.proofs.Placings.{AreInverse-enter, AreInverse-write, content, content-enter, content-write, moved, refilled, same_entity, same_entity-tells, same_place-tells}
 use Rattle.ecs_world.proofs.Soundness.{alike_after, cells_alive, own_row, place_after, placed_alive}
 
 -- an entity without a place enters a vacant row
@@ -73,6 +73,29 @@ module _ (w w' : Entities) (s s' : Store) (sound : IsSound w s) (e : EntityId) (
   pub alike_carried : HoldAlike (meaning w' s') (with_cells (meaning w s) e.index (carried f (held_at (meaning w s) e.index)))
   alike_carried = subst (λ c. HoldAlike (meaning w' s') (with_cells (meaning w s) e.index (carried f c))) (sym old_held)
       (alike_after w w' s s' sound sound_carried live e (placed_alive w e p at) (carried f old_cells) all_moved.1 deletions)
+
+  owner_apart : (v : Row) → filler s p ≡ Some v → same_entity e v.0 ≡ false
+  owner_apart v h = by (same_entity e v.0) refl
+    where
+      by : (b : Bool) → same_entity e v.0 ≡ b → b ≡ false
+      by true k =
+          let l = filler_last s p v h in
+          let same : e ≡ v.0 = (same_entity-tells e v.0).0 k in
+          let there : place_of w e ≡ Some (last_place s p.table) = ap (place_of w) same ∙ (sound.placed v.0 (last_place s p.table)).1 (ap (option_map (λ r. r.0)) l.0) in
+          let two : Some (last_place s p.table) ≡ Some p = sym there ∙ at in
+          absurd (l.1 cc)
+      by false k = refl
+
+  -- the entity stands in the row to which it moved
+  pub placed_carried : place_of w' e ≡ Some q
+  placed_carried = places e ∙ by (filler s p) refl
+    where
+      own : cond (same_entity e e) (Some q) (place_of w e) ≡ Some q
+      own = ap (λ b. cond b (Some q) (place_of w e)) ((same_entity-tells e e).1 refl)
+
+      by : (o : Option Row) → filler s p ≡ o → refilled (λ z. cond (same_entity z e) (Some q) (place_of w z)) p (option_map (λ r. r.0) o) e ≡ Some q
+      by None h = own
+      by (Some v) h = ap (λ b. cond b (Some p) (cond (same_entity e e) (Some q) (place_of w e))) (owner_apart v h) ∙ own
 
 -- what the index says after both places were told
 module _ (w : Entities) (e : EntityId) (p q : Place) (alive : is_alive w e ≡ true) where

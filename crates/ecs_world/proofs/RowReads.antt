@@ -1,5 +1,6 @@
 -- What is read of an entity's row.
-use Rattle.std.proofs.Common.{◌≡◌, ◌<◌, ℕ, Bool, true, false, cond, ◌||◌, List, [], ◌∷◌, map, length, Option, Some, None, option_map, unwrap_or, refl, sym, ap, subst, ◌∙◌}
+use Rattle.std.proofs.Common.{◌≡◌, ◌<◌, ℕ, Bool, true, false, cond, ◌||◌, List, [], ◌∷◌, map, length, Option, Some, None, option_map, unwrap_or, is_some, refl, sym, ap, subst, ◌∙◌}
+use Rattle.std.proofs.lemmas.List.{length-map}
 use Rattle.std.proofs.lemmas.Option.{slice_get_within}
 use Rattle.std.specs.List.{list_any}
 use Rattle.std.specs.Ordering.{nat_cmp}
@@ -12,7 +13,7 @@ use Rattle.ecs_table.specs.Archetype.{Archetype, value_of}
 use Rattle.entity_index.specs.Entities.{Entities, is_alive, place_of}
 use Rattle.entity_index.specs.Entities as index
 use Rattle.ecs_world.specs.Archetypes.{IsSound, cells_there, meaning}
-use Rattle.ecs_world.specs.Holdings.{Holdings, bytes_at, cells_at, lives}
+use Rattle.ecs_world.specs.Holdings.{Holdings, bytes_at, cells_at, held_at, holds_id, lives}
 use Rattle.table_store.specs.Rows.{Row, cells_of, row_at}
 use Rattle.table_store.specs.Store.{Store, table_at}
 use Rattle.ecs_world.proofs.Placings.{content}
@@ -45,6 +46,10 @@ module _ (t : Archetype) (r : ℕ) (i : Id) (ids : List Id) (same : ids ≡ t.id
 
   pub value_listed : b ≡ true → (o : Option (List ℕ)) → value_of t r i ≡ o → Some (unwrap_or o []) ≡ find id_cmp i (cells_of t r)
   value_listed within o e = sym (found_by ∙ ap (λ z. cond z (Some (unwrap_or (value_of t r i) [])) None) within ∙ ap (λ z. Some (unwrap_or z [])) e)
+
+some_of_cond : {X : Type 0} (b : Bool) (x : X) → is_some (cond b (Some x) None) ≡ b
+some_of_cond true x = refl
+some_of_cond false x = refl
 
 -- the entity that is found at an index is alive there
 pub entity_found : (w : Entities) (i : ℕ) (e : EntityId) → index.entity_at w i ≡ Some e → (is_alive w e ≡ true) × (e.index ≡ i)
@@ -101,6 +106,15 @@ module _ (w : Entities) (s : Store) (sound : IsSound w s) (h : Holdings) (view :
 
       pub ids_read : Some t.ids ≡ cond (lives h e) (option_map (λ c. keys c) (cells_at h e.index)) None
       ids_read = sym (ap (λ b. cond b (option_map (λ c. keys c) (cells_at h e.index)) None) (lives_there e (placed_alive w e p at)) ∙ ap (option_map (λ c. keys c)) cells_read ∙ ap Some (keys_cells t p.row))
+
+      held_cells : held_at h e.index ≡ cells_of t p.row
+      held_cells = ap (λ o. unwrap_or o []) cells_read
+
+      pub held_read : (id : Id) (b : Bool) → b ≡ list_any (λ k. id_eq k id) t.ids → b ≡ holds_id h e.index id
+      held_read id b answer = sym (some_of_cond b (unwrap_or (value_of t p.row id) [])) ∙ ap is_some (sym (ap (find id_cmp id) held_cells ∙ found_by t p.row id t.ids refl b answer))
+
+      pub count_read : length t.ids ≡ length (held_at h e.index)
+      count_read = ap (λ z. length z) (sym (keys_cells t p.row)) ∙ length-map (cells_of t p.row) (λ c. c.0) ∙ ap (λ z. length z) (sym held_cells)
 
   pub no_ids : (e : EntityId) → place_of w e ≡ None → None ≡ cond (lives h e) (option_map (λ c. keys c) (cells_at h e.index)) None
   no_ids e none = by (lives h e) refl

@@ -1,5 +1,5 @@
 -- What an entity's place and its row say of each other, and what is held by index.
-use Rattle.std.proofs.Common.{◌≡◌, ◌<◌, ℕ, Bool, true, false, cond, ◌&&◌, ◌==◌, [], map, length, Option, Some, None, option_map, unwrap_or, is_some, refl, sym, ap, subst, ◌∙◌, true≢false}
+use Rattle.std.proofs.Common.{◌≡◌, ◌<◌, ℕ, Bool, true, false, cond, ◌&&◌, ◌==◌, [], ◌∷◌, map, length, Option, Some, None, option_map, unwrap_or, is_some, refl, sym, ap, subst, ◌∙◌, true≢false}
 use Rattle.std.proofs.lemmas.Bool.Decides.{Decides-eqb}
 use Rattle.std.proofs.lemmas.Option.{slice_get_within}
 use Rattle.std.specs.List.{list_all, slice_get}
@@ -12,6 +12,7 @@ use Rattle.ecs_id.specs.declared.EntityId.{EntityId}
 use Rattle.ecs_id.specs.declared.Place.{Place}
 use Rattle.ecs_id.specs.Id.{Id, id_cmp, id_cmp_same, id_cmp_total}
 use Rattle.ecs_table.specs.Archetype.{Archetype}
+use Rattle.ecs_model.specs.Map.{Map, keys}
 use Rattle.ecs_model.proofs.Maps.{to_T, of_some, if_some, some_of}
 use Rattle.entity_index.specs.Entities.{Entities, IsWellFormed, is_alive, is_live, place_of, with_place}
 use Rattle.ecs_world.specs.Archetypes.{IsSound, all_cells, cells_there, known_in, meaning}
@@ -89,6 +90,10 @@ module _ (w : Entities) (e : EntityId) (q : Place) (alive : is_alive w e ≡ tru
   pub place_after : (y : EntityId) → place_of (with_place w e.index q) y ≡ cond (same_entity y e) (Some q) (place_of w y)
   place_after y = placed_by y (is_alive w y) refl
 
+same_keys : {X Y : Type 0} (g : X → Y) (es : Map ℕ X) → keys es ≡ keys (map (λ e. (e.0, g e.1)) es)
+same_keys g [] = refl
+same_keys g (e ∷ es) = λ k. e.0 ∷ same_keys g es k
+
 row_by : (e : EntityId) (o : Option Row) → option_map (λ r. r.0) o ≡ Some e → (cs : Cells) × (o ≡ Some (e, cs))
 row_by e None h = cc
 row_by e (Some r) h = (r.1, let a : Some r.0 ≡ Some e = h in let d : r.0 ≡ e = cc in λ k. Some (d k, r.1))
@@ -148,6 +153,7 @@ module _ (w : Entities) (s : Store) (sound : IsSound w s) where
         (λ c h test old. let r = held_row i c h in of_shape s test (r.1).table (shape_of_cells c) (row_shape r.1 (r.0, c) r.3) old);
     settled = λ i. if_some (λ _. is_some (find nat_cmp i w.live) ≡ true) (cells_at (meaning w s) i)
         (λ c h. let r = held_row i c h in ap (λ n. is_some (find nat_cmp n w.live)) (sym r.4) ∙ ap is_some (alive_found w r.0 (placed_alive w r.0 r.1 r.2)));
+    placed = same_keys (cells_there s) w.places;
   }
 
 -- two sound worlds of the same entities, where one entity has other cells

@@ -23,7 +23,7 @@ known_in s = flat_map (λ e. shape_of e.1) s.tables
 
 -- the holdings of entities whose rows stand in these tables
 abbrev pub meaning : Entities → Store → Holdings
-meaning w s = record { live = w.live; deletions = w.deletions; cells = all_cells w.places s; known = known_in s }
+meaning w s = record { live = w.live; deletions = w.deletions; cells = all_cells w.places s; places = w.places; known = known_in s }
 
 -- each entity with a place has its row there, and each row is of an entity that has its place there
 pub record IsSound (w : Entities) (s : Store) : Type 0 where

@@ -1,11 +1,12 @@
 -- Which entities live, and what each of them holds: ids with the bytes of their values.
-use Rattle.std.specs.Prelude.{◌≡◌, ℕ, ◌+◌, ◌-◌, nat_lt, ◌==◌, Bool, not, ◌&&◌, ◌||◌, List, [], map, length, replicate, Option, Some, is_some, unwrap_or, option_map, IsTrue, IfSome}
+use Rattle.std.specs.Prelude.{◌≡◌, ℕ, ◌==◌, Bool, not, ◌||◌, List, [], map, length, replicate, Option, Some, is_some, unwrap_or, option_map, None, if◌then◌else◌, IsTrue, IfSome}
 use Rattle.std.specs.List.{list_all, range_with_len}
 use Rattle.std.specs.Option.{option_eq}
 use Rattle.std.specs.Ordering.{nat_cmp}
 use Rattle.ecs_id.specs.declared.EntityId.{EntityId}
+use Rattle.ecs_id.specs.declared.Place.{Place}
 use Rattle.ecs_id.specs.Id.{Id, id_cmp, id_eq}
-use Rattle.ecs_model.specs.Map.{Map, IsMap, count_at, has_key, value_at, with_value}
+use Rattle.ecs_model.specs.Map.{Map, IsMap, has_key, keys, value_at, with_value}
 use Rattle.ecs_model.specs.World.{last_built_in, last_index, next_among}
 
 -- ids with the bytes of their values, none for a tag
@@ -24,6 +25,8 @@ pub record Holdings : Type 0 where
   pub deletions : Map ℕ ℕ
   -- what each settled entity holds
   pub cells : Map ℕ Cells
+  -- where its row stands
+  pub places : Map ℕ Place
   -- the ids of all tables, each with the size of its values there
   pub known : Sizes
 
@@ -43,6 +46,10 @@ module _ (h : Holdings) where
   -- whether this very entity is alive
   abbrev pub lives : EntityId → Bool
   lives e = option_eq ◌==◌ (value_at nat_cmp h.live e.index) (Some e.generation)
+
+  -- where the row of a live entity stands, if it is settled
+  abbrev pub place_in : EntityId → Option Place
+  place_in e = if lives e then value_at nat_cmp h.places e.index else None
 
   -- what the entity at an index holds, if it is settled
   abbrev pub cells_at : ℕ → Option Cells
@@ -82,7 +89,7 @@ module _ (h : Holdings) where
 
 -- the built-in entities, none of them settled
 abbrev pub first_holdings : Holdings
-first_holdings = record { live = map (λ i. (i, 0)) (range_with_len 1 last_built_in); deletions = []; cells = []; known = [] }
+first_holdings = record { live = map (λ i. (i, 0)) (range_with_len 1 last_built_in); deletions = []; cells = []; places = []; known = [] }
 
 -- the same entities hold the same, in whatever tables
 pub record HoldAlike (g h : Holdings) : Type 0 where
@@ -105,3 +112,5 @@ pub record AreHoldings (h : Holdings) : Type 0 where
   pub sized : (e : ℕ) → IfSome (cells_at h e) (λ c. (test : Id × ℕ → Bool) → IsTrue (list_all test h.known) → IsTrue (list_all test (sizes_of c)))
   -- only a live entity is settled
   pub settled : (e : ℕ) → IfSome (cells_at h e) (λ _. IsTrue (has_key nat_cmp h.live e))
+  -- what is settled has a place
+  pub placed : keys h.places ≡ keys h.cells

@@ -1,5 +1,5 @@
 -- What the parts of a world mean: its state.
-use Rattle.std.specs.Prelude.{◌≡◌, ℕ, ◌==◌, Bool, ◌&&◌, List, [], ◌∷◌, map, flat_map, filter_map, ℤ, Option, Some, None, option_map, if◌then◌else◌, IsTrue}
+use Rattle.std.specs.Prelude.{◌≡◌, ℕ, ◌≤◌, nat_le, ◌==◌, Bool, not, ◌&&◌, take, List, [], ◌∷◌, map, flat_map, filter_map, ℤ, Option, Some, None, option_map, is_some, if◌then◌else◌, IsTrue}
 use Rattle.std.specs.List.{find, list_all}
 use Rattle.std.specs.Option.{option_map_or, option_or}
 use Rattle.std.specs.Ordering.{nat_cmp}
@@ -10,9 +10,16 @@ use Rattle.ecs_model.specs.Map.{Map, has_key, keys, value_at}
 use Rattle.ecs_model.specs.Schema.{Schema}
 use Rattle.ecs_model.specs.Bytes.{size_of, values_in}
 use Rattle.ecs_model.specs.Keeps.{IsWellFormed}
-use Rattle.ecs_model.specs.World.{WorldState, Key, holds, pair_is_tag}
+use Rattle.ecs_model.specs.Refusal.{first_reason}
+use Rattle.ecs_model.specs.Text.{is_name}
+use Rattle.ecs_model.specs.declared.faults.Refusal.{Refusal}
+use Rattle.ecs_model.specs.declared.faults.Refusal.TheVariants.{BadName, NameTaken, TooManyIds, Full}
+use Rattle.ecs_model.specs.declared.faults.CommandError.{CommandError}
+use Rattle.ecs_model.specs.declared.faults.CommandError.TheVariants.{Refused, Memory}
+use Rattle.ecs_model.specs.World.{WorldState, Key, holds, most_ids, pair_is_tag}
 use Rattle.ecs_model.specs.Command.{Changed}
 use Rattle.name_index.specs.Names.{Names, IsOneToOne, entity_eq}
+use Rattle.ecs_world.specs.declared.archetypes.Found.{Found}
 use Rattle.ecs_world.specs.Holdings.{AreHoldings, Cells, Holdings, holds_id, lives}
 
 -- the fields of an id's values, by the components' fields and by whether a relationship keeps its pairs without data
@@ -85,6 +92,22 @@ pub record IsWorld (p : Parts) : Type 0 where
   -- names are of live entities
   pub named : (n : List ℕ) (e : EntityId) → finite.get p.names n ≡ Some e → IsTrue (lives p.holdings e)
   pub one_to_one : IsOneToOne p.names
+
+-- the front of a buffer has the bytes of a value
+pub record IsEncoded (type : Option Schema) (vs : List ℤ) (size : ℕ) (buffer : List ℕ) : Type 0 where
+  pub sized : size ≡ byte_count type
+  pub some : 1 ≤ size
+  pub few : size ≤ 64
+  pub value : value_in type (take size buffer) ≡ vs
+
+-- the reasons against one id more for an entity of which this was found
+abbrev pub growth_reasons : Found → Bool → List (Bool × Refusal)
+growth_reasons found is_spent = (not found.is_held && nat_le most_ids found.count, TooManyIds) ∷ (is_spent, Full) ∷ []
+
+-- why a name is not bound: it is none, an entity has it, or memory was refused
+abbrev pub IsUnbound : Names → List ℕ → CommandError → Type 0
+IsUnbound names n (Refused reason) = first_reason ((not (is_name n), BadName) ∷ (is_some (finite.get names n), NameTaken) ∷ []) ≡ Some reason
+IsUnbound names n Memory = Unit {0}
 
 -- what changes where nothing does
 abbrev pub no_change : Changed

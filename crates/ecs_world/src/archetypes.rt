@@ -1,25 +1,33 @@
 //! The entities in their archetype tables: which live, where each stands, and what it holds.
-ghost use Rattle.std.specs.Prelude.{◌≡◌, ◌≢◌, ◌<◌, ◌≤◌, [], ◌∷◌, None, Some, IfOk, OnOk, OnErr, IsSome, IsTrue, length, option_map, replicate, false, true, if◌then◌else◌};
+ghost use Rattle.std.specs.Prelude.{◌≡◌, ◌≢◌, ◌<◌, ◌≤◌, [], ◌∷◌, None, Some, IfOk, IfSome, OnOk, OnErr, IsSome, IsTrue, length, option_map, replicate, false, true, if◌then◌else◌};
 ghost use Rattle.std.specs.Prelude.{nat_le};
 ghost use Rattle.std.specs.List.{list_all};
 ghost use Rattle.std.specs.Option.{option_copied};
 ghost use Rattle.ecs_id.specs.Id.{id_cmp, id_eq};
 ghost use Rattle.ecs_model.specs.Map.{IsMap, keys, with_value, without};
-ghost use Rattle.ecs_world.specs.Holdings.{AreHoldings, HoldAlike, KeepsSizes, agrees, bytes_at, cells_at, entity_at, first_holdings, held_at, holds_id, live_entities, lives, upcoming, with_cells, with_entity, zero_cells};
+ghost use Rattle.ecs_world.specs.Holdings.{AreHoldings, HoldAlike, KeepsSizes, agrees, bytes_at, cells_at, entity_at, first_holdings, held_at, holds_id, live_entities, lives, place_in, upcoming, with_cells, with_entity, zero_cells};
 
 use crate::rows::{carry, enter, narrower, table_for, value_in, wider};
-use ecs_id::{EntityId, Id, LAST_INDEX};
+use ecs_id::{EntityId, Id, LAST_INDEX, Place};
 use entity_index::{EntityIndex, Live};
 use raw_column::Memory;
 use std::alloc::{Allocator, Global};
 use std::marker::Model;
 use table_store::TableStore;
 
+/// Where the row of an entity stands, whether the entity holds an id that was looked for, and how many ids it holds.
+#[derive(Clone, Copy)]
+pub struct Found {
+    pub place: Place,
+    pub is_held: bool,
+    pub count: usize,
+}
+
 /// The entities in their archetype tables.
 ///
 /// An entity is settled once it stands in a table. A call that fails for want of memory leaves what each entity holds as it was.
 /// `settle`, `create`, `add` and `remove` touch one row and the last of its table. A table that lost most of its rows to `add` or `remove`
-/// gives memory back. `set_value`, `ids_of` and `bytes` take no memory, and look at no more than the ids of one table.
+/// gives memory back. `set_value`, `find`, `ids_of` and `bytes` take no memory, and look at no more than the ids of one table.
 #[derive(Drop)]
 pub struct Archetypes<A: Allocator = Global> {
     entities: EntityIndex<A>,
@@ -85,33 +93,66 @@ impl<A: Allocator + Copy> Archetypes<A> {
         Ok(entity)
     }
 
-    /// Gives an entity an id that it doesn't hold, with zeros as its value: its row moves to the table with the id.
-    pub fn add(&mut self, entity: EntityId, id: Id, size: usize) -> Result<(), Memory>
-        requires there { IsTrue (lives self.old entity) × IsSome (cells_at self.old entity.index) }
+    /// Gives an entity an id that it doesn't hold, with zeros as its value: its row moves to the table with the id. Answers where it stands
+    /// then.
+    pub fn add(
+        &mut self,
+        entity: EntityId,
+        place: Place,
+        id: Id,
+        size: usize,
+    ) -> Result<Place, Memory>
+        requires there { place_in self.old entity ≡ Some place }
         requires not_held { holds_id self.old entity.index id ≡ false }
         requires small { size ≤ 64 }
         requires agree { IsTrue (agrees self.old.known id size) }
+        ensures placed { IfOk result (λ now. place_in self.new entity ≡ Some now) }
         ensures added { OnOk result (HoldAlike self.new (with_cells self.old entity.index (with_value id_cmp (held_at self.old entity.index) id (replicate size 0)))) }
         ensures err { OnErr result (HoldAlike self.new self.old) }
         ensures sizes { KeepsSizes self.old.known ((id, size) ∷ []) self.new.known }
         ensures whole { AreHoldings self.new }
     {
-        let place = self.entities.place(entity).unwrap();
         let to = wider(&mut self.tables, place.table, id, size)?;
-        carry(&mut self.entities, &mut self.tables, entity, place, to);
+        let now = carry(&mut self.entities, &mut self.tables, entity, place, to);
+        Ok(now)
+    }
+
+    /// Gives an entity a value of an id with data, and the id where it doesn't hold it.
+    pub fn put(
+        &mut self,
+        entity: EntityId,
+        found: &Found,
+        id: Id,
+        bytes: &[u8],
+    ) -> Result<(), Memory>
+        requires there { place_in self.old entity ≡ Some (found.now).place }
+        requires held { (found.now).is_held ≡ holds_id self.old entity.index id }
+        requires data { 0 < length bytes.now }
+        requires small { length bytes.now ≤ 64 }
+        requires agree { IsTrue (agrees self.old.known id (length bytes.now)) }
+        ensures put { OnOk result (HoldAlike self.new (with_cells self.old entity.index (with_value id_cmp (held_at self.old entity.index) id bytes.now))) }
+        ensures err { OnErr result (HoldAlike self.new self.old) }
+        ensures sizes { KeepsSizes self.old.known ((id, length bytes.now) ∷ []) self.new.known }
+        ensures whole { AreHoldings self.new }
+    {
+        if found.is_held {
+            self.set_value(entity, found.place, id, bytes);
+            return Ok(());
+        }
+        let now = self.add(entity, found.place, id, bytes.len())?;
+        self.set_value(entity, now, id, bytes);
         Ok(())
     }
 
     /// Takes an id from an entity that holds it: its row moves to the table without the id.
-    pub fn remove(&mut self, entity: EntityId, id: Id) -> Result<(), Memory>
-        requires there { IsTrue (lives self.old entity) }
+    pub fn remove(&mut self, entity: EntityId, place: Place, id: Id) -> Result<(), Memory>
+        requires there { place_in self.old entity ≡ Some place }
         requires held { holds_id self.old entity.index id ≡ true }
         ensures removed { OnOk result (HoldAlike self.new (with_cells self.old entity.index (without id_cmp (held_at self.old entity.index) (λ i. id_eq i id)))) }
         ensures err { OnErr result (HoldAlike self.new self.old) }
         ensures sizes { KeepsSizes self.old.known [] self.new.known }
         ensures whole { AreHoldings self.new }
     {
-        let place = self.entities.place(entity).unwrap();
         let to = narrower(&mut self.tables, place.table, id)?;
         carry(&mut self.entities, &mut self.tables, entity, place, to);
         Ok(())
@@ -120,8 +161,8 @@ impl<A: Allocator + Copy> Archetypes<A> {
 
 impl<A: Allocator> Archetypes<A> {
     /// Overwrites the value of an id with data that the entity holds, with as many bytes.
-    pub fn set_value(&mut self, entity: EntityId, id: Id, bytes: &[u8])
-        requires there { IsTrue (lives self.old entity) }
+    pub fn set_value(&mut self, entity: EntityId, place: Place, id: Id, bytes: &[u8])
+        requires there { place_in self.old entity ≡ Some place }
         requires held { holds_id self.old entity.index id ≡ true }
         requires data { 0 < length bytes.now }
         requires size { IsTrue (agrees self.old.known id (length bytes.now)) }
@@ -129,8 +170,23 @@ impl<A: Allocator> Archetypes<A> {
         ensures sizes { KeepsSizes self.old.known [] self.new.known }
         ensures whole { AreHoldings self.new }
     {
-        let place = self.entities.place(entity).unwrap();
+        let _ = entity;
         self.tables.set_value(place.table, place.row, id, bytes);
+    }
+
+    /// Finds the row of a settled entity, and looks there for an id.
+    pub fn find(&self, entity: EntityId, id: Id) -> Option<Found>
+        ensures place { option_map (λ f. f.place) result ≡ place_in self.now entity }
+        ensures held { IfSome result (λ f. f.is_held ≡ holds_id self.now entity.index id) }
+        ensures count { IfSome result (λ f. f.count ≡ length (held_at self.now entity.index)) }
+    {
+        let place = self.entities.place(entity)?;
+        let ids = self.tables.get(place.table)?.ids();
+        Some(Found {
+            place,
+            is_held: ids.contains(&id),
+            count: ids.len(),
+        })
     }
 
     /// The ids of a settled entity, in order.

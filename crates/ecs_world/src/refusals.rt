@@ -1,13 +1,16 @@
 //! Why commands are refused. All is judged before anything is changed.
 
-ghost use Rattle.std.specs.Prelude.{◌≡◌, ◌++◌, ◌||◌, IsTrue};
-ghost use Rattle.ecs_model.specs.Changes.{facts_after_add};
-ghost use Rattle.ecs_model.specs.Command.{Add, Remove, SetValue, add_reasons, birth_reasons, is_crowded, is_dead, is_spent, name_reasons, next_entity, reasons, value_reasons, with_facts};
+ghost use Rattle.std.specs.Prelude.{◌≡◌, ◌++◌, ◌||◌, IfErr, IfOk, IsTrue, None, OnOk, Some, length};
+ghost use Rattle.std.specs.List.{list_all};
+ghost use Rattle.ecs_id.specs.Id.{mentioned};
+ghost use Rattle.ecs_model.specs.Command.{Add, Remove, SetValue, birth_reasons, is_spent, name_reasons, next_entity, reasons, value_reasons};
 ghost use Rattle.ecs_model.specs.Provisional.{is_not_yet_changed};
 ghost use Rattle.ecs_model.specs.Refusal.{first_reason};
-ghost use Rattle.ecs_model.specs.World.{is_alive, is_built_in, type_of_id};
+ghost use Rattle.ecs_model.specs.World.{holds, ids_of, is_alive, is_built_in, is_live, type_of_id};
+ghost use Rattle.ecs_world.specs.State.{IsEncoded, growth_reasons};
 
 use crate::World;
+use crate::archetypes::Found;
 use ecs_id::{EntityId, Id};
 use ecs_model::faults::Refusal;
 use ecs_model::{LAST_BUILT_IN, MOST_IDS, is_name};
@@ -26,53 +29,73 @@ impl<A: Allocator> World<A> {
         }
     }
 
-    /// Why no entity is made with this name.
-    pub(crate) fn name_refusal(&self, name: &str) -> Option<Refusal>
-        ensures { result ≡ first_reason (name_reasons self.now name.now ++ birth_reasons self.now) }
+    /// Why no entity is made with this name, where none is made with any.
+    pub(crate) fn refusal_of(&self, name: &str, full: Refusal) -> Refusal
+        requires { first_reason (birth_reasons self.now) ≡ Some full }
+        ensures { Some result ≡ first_reason (name_reasons self.now name.now ++ birth_reasons self.now) }
     {
         if !is_name(name.as_bytes()) {
-            Some(Refusal::BadName)
+            Refusal::BadName
         } else if self.find(name).is_some() {
-            Some(Refusal::NameTaken)
+            Refusal::NameTaken
         } else {
-            self.birth_refusal()
+            full
         }
     }
 
-    /// Why an id is not added.
-    pub(crate) fn add_refusal(&self, entity: EntityId, id: Id) -> Option<Refusal>
+    /// Why an id is not added to a live entity.
+    pub(crate) fn add_refusal(&self, entity: EntityId, id: Id, found: &Found) -> Option<Refusal>
+        requires alive { IsTrue (is_alive self.now entity) }
+        requires held { (found.now).is_held ≡ holds self.now entity.index id }
+        requires count { (found.now).count ≡ length (ids_of self.now entity.index) }
         ensures { result ≡ first_reason (reasons self.now (Add entity id)) }
     {
-        if self.is_dead(entity, id) {
+        self.keeps();
+        if !self.mentions_live(id) {
             Some(Refusal::Dead)
         } else if changes_built_in(entity, id) {
             Some(Refusal::BuiltIn)
         } else {
-            self.growth_refusal(entity, id)
+            self.growth_refusal(found)
         }
     }
 
-    /// Why a value is not set.
-    pub(crate) fn set_refusal(&self, entity: EntityId, id: Id, values: &[i128]) -> Option<Refusal>
-        ensures { result ≡ first_reason (reasons self.now (SetValue entity id values.now)) }
+    /// Writes the bytes of a value for a live entity to the front of the buffer, and tells how many they are, or why it is not set.
+    pub(crate) fn judge_set(
+        &self,
+        entity: EntityId,
+        id: Id,
+        values: &[i128],
+        found: &Found,
+        buffer: &mut [u8; 64],
+    ) -> Result<usize, Refusal>
+        requires alive { IsTrue (is_alive self.now entity) }
+        requires held { (found.now).is_held ≡ holds self.now entity.index id }
+        requires count { (found.now).count ≡ length (ids_of self.now entity.index) }
+        ensures judged { OnOk result (first_reason (reasons self.now (SetValue entity id values.now)) ≡ None) }
+        ensures encoded { IfOk result (λ size. IsEncoded (type_of_id self.now id) values.now size buffer.new) }
+        ensures refused { IfErr result (λ refusal. first_reason (reasons self.now (SetValue entity id values.now)) ≡ Some refusal) }
     {
-        if self.is_dead(entity, id) {
-            Some(Refusal::Dead)
-        } else if changes_built_in(entity, id) {
-            Some(Refusal::BuiltIn)
-        } else {
-            match self.value_refusal(id, values) {
-                None => self.growth_refusal(entity, id),
-                refusal => refusal,
-            }
+        self.keeps();
+        if !self.mentions_live(id) {
+            return Err(Refusal::Dead);
+        }
+        if changes_built_in(entity, id) {
+            return Err(Refusal::BuiltIn);
+        }
+        let size = self.encode(id, values, buffer)?;
+        match self.growth_refusal(found) {
+            None => Ok(size),
+            Some(refusal) => Err(refusal),
         }
     }
 
-    /// Why an id is not taken.
+    /// Why an id is not taken from a live entity.
     pub(crate) fn remove_refusal(&self, entity: EntityId, id: Id) -> Option<Refusal>
+        requires { IsTrue (is_alive self.now entity) }
         ensures { result ≡ first_reason (reasons self.now (Remove entity id)) }
     {
-        if self.is_dead(entity, id) {
+        if !self.mentions_live(id) {
             Some(Refusal::Dead)
         } else if changes_built_in(entity, id) {
             Some(Refusal::BuiltIn)
@@ -83,26 +106,28 @@ impl<A: Allocator> World<A> {
         }
     }
 
-    /// Why these numbers are no value of an id.
-    fn value_refusal(&self, id: Id, values: &[i128]) -> Option<Refusal>
-        ensures { result ≡ first_reason (value_reasons (type_of_id self.now id) values.now) }
+    /// Writes the bytes of a value to the front of the buffer, and tells how many they are, or why the numbers are no value of the id.
+    fn encode(&self, id: Id, values: &[i128], buffer: &mut [u8; 64]) -> Result<usize, Refusal>
+        ensures judged { OnOk result (first_reason (value_reasons (type_of_id self.now id) values.now) ≡ None) }
+        ensures encoded { IfOk result (λ size. IsEncoded (type_of_id self.now id) values.now size buffer.new) }
+        ensures refused { IfErr result (λ refusal. first_reason (value_reasons (type_of_id self.now id) values.now) ≡ Some refusal) }
     {
-        match self.type_of(id) {
-            None => Some(Refusal::NoData),
-            Some(schema) => match schema.check(values) {
-                Ok(()) => None,
-                Err(ValueFault::Count) => Some(Refusal::Count),
-                Err(ValueFault::Range) => Some(Refusal::Range),
-            },
+        let Some(schema) = self.type_of(id) else {
+            return Err(Refusal::NoData);
+        };
+        let size = schema.size();
+        match schema.encode(values, &mut buffer[..size]) {
+            Ok(()) => Ok(size),
+            Err(ValueFault::Count) => Err(Refusal::Count),
+            Err(ValueFault::Range) => Err(Refusal::Range),
         }
     }
 
-    /// Why a live entity does not get this id.
-    fn growth_refusal(&self, entity: EntityId, id: Id) -> Option<Refusal>
-        requires { IsTrue (is_alive self.now entity) }
-        ensures { result ≡ first_reason (add_reasons self.now entity.index id) }
+    /// Why an entity does not get one id more, if it gets one.
+    fn growth_refusal(&self, found: &Found) -> Option<Refusal>
+        ensures { result ≡ first_reason (growth_reasons found.now (is_spent self.now)) }
     {
-        if self.is_full_for(entity, id) {
+        if !found.is_held && found.count >= MOST_IDS {
             Some(Refusal::TooManyIds)
         } else if self.is_spent() {
             Some(Refusal::Full)
@@ -111,27 +136,11 @@ impl<A: Allocator> World<A> {
         }
     }
 
-    /// Whether a live entity would hold more than 64 ids with this one.
-    fn is_full_for(&self, entity: EntityId, id: Id) -> bool
-        requires { IsTrue (is_alive self.now entity) }
-        ensures { result ≡ is_crowded (with_facts self.now (facts_after_add self.now entity.index id)) }
+    /// Whether all that an id mentions is live.
+    fn mentions_live(&self, id: Id) -> bool
+        ensures { result ≡ list_all (is_live self.now) (mentioned id) }
     {
-        let _ = &self.names;
-        if self.has(entity.index, id) {
-            return false;
-        }
-        match self.ids_of(entity) {
-            Some(ids) => ids.len() >= MOST_IDS,
-            None => false,
-        }
-    }
-
-    fn is_dead(&self, entity: EntityId, id: Id) -> bool
-        ensures { result ≡ is_dead self.now entity id }
-    {
-        let ids_live = self.is_live(id.first())
-            && id.second().is_none_or(|target| self.is_live(target));
-        !self.is_alive(entity) || !ids_live
+        self.is_live(id.first()) && id.second().is_none_or(|target| self.is_live(target))
     }
 
     /// No further command is counted.

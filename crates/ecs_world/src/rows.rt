@@ -99,24 +99,26 @@ pub fn enter<A: Allocator>(
 
 /// Moves the row of an entity to another table. The entity whose row fills the gap stands there from then on.
 ///
-/// The table that loses the row gives back the memory that its rows left behind.
+/// The table that loses the row gives back the memory that its rows left behind. Answers where the row stands then.
 pub fn carry<A: Allocator + Copy>(
     entities: &mut EntityIndex<A>,
     tables: &mut TableStore<A>,
     entity: EntityId,
     place: Place,
     to: TableKey,
-)
+) -> Place
     requires sound { IsSound entities.old tables.old }
     requires there { place_of entities.old entity ≡ Some place }
     requires apart { place.table ≢ to }
     requires room { 0 < room_at tables.old to }
     ensures sound { IsSound entities.new tables.new }
+    ensures placed { place_of entities.new entity ≡ Some result }
     ensures held { (f : Shape) → shape_at tables.old to ≡ Some f → HoldAlike (meaning entities.new tables.new) (with_cells (meaning entities.old tables.old) entity.index (carried f (held_at (meaning entities.old tables.old) entity.index))) }
     ensures sizes { KeepsSizes (known_in tables.old) [] (known_in tables.new) }
 {
-    carry_row(entities, tables, entity, place, to);
+    let now = carry_row(entities, tables, entity, place, to);
     tables.shrink_to(place.table, 0);
+    now
 }
 
 // `carry`, with the memory kept.
@@ -126,20 +128,23 @@ fn carry_row<A: Allocator>(
     entity: EntityId,
     place: Place,
     to: TableKey,
-)
+) -> Place
     requires sound { IsSound entities.old tables.old }
     requires there { place_of entities.old entity ≡ Some place }
     requires apart { place.table ≢ to }
     requires room { 0 < room_at tables.old to }
     ensures sound { IsSound entities.new tables.new }
+    ensures placed { place_of entities.new entity ≡ Some result }
     ensures held { (f : Shape) → shape_at tables.old to ≡ Some f → HoldAlike (meaning entities.new tables.new) (with_cells (meaning entities.old tables.old) entity.index (carried f (held_at (meaning entities.old tables.old) entity.index))) }
     ensures shapes { (q : TableKey) → shape_at tables.new q ≡ shape_at tables.old q }
 {
     let (row, filled) = tables.move_row(place.table, place.row, to);
-    entities.set_place(entity, Place { table: to, row });
+    let now = Place { table: to, row };
+    entities.set_place(entity, now);
     if let Some(other) = filled {
         entities.set_place(other, place);
     }
+    now
 }
 
 /// The bytes of an id's value at a row of a table: none for a tag.

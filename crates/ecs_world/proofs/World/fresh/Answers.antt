@@ -8,4 +8,4 @@ pub returns-in-Some : goal.returns-in-Some
 returns-in-Some g c = (step-refused c.args.self.now Fresh c.in-Some.refusal (sym (c.in-Some.ensures ∙ fresh_refusal c.args.self.now)), refl)
 
 pub make_fresh-requires : goal.make_fresh-requires
-make_fresh-requires g c = sym (c.in-None.ensures ∙ fresh_refusal c.args.self.now)
+make_fresh-requires g c = sym c.in-None.ensures

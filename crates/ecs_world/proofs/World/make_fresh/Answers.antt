@@ -1,7 +1,7 @@
-use Rattle.std.proofs.Common.{[], Some, refl, ◌∙◌, arith}
+use Rattle.std.proofs.Common.{[], Some, refl, sym, ◌∙◌, arith}
 use Rattle.ecs_model.proofs.Additions.{not_spent}
 use Rattle.ecs_world.proofs.Accepted.{failed, fresh_left, next_of, next_some}
-use Rattle.ecs_world.proofs.Judged.{bears-fresh}
+use Rattle.ecs_world.proofs.Judged.{births, fresh_refusal}
 use Rattle.ecs_world.proofs.Told.{told_fresh}
 use Rattle.ecs_world.proofs.World.make_fresh.Goals as goal
 
@@ -10,7 +10,7 @@ slice_bounds-create-end g c = refl
 
 pub create-requires-clause-left : goal.create-requires-clause-left
 create-requires-clause-left g c =
-    next_some c.self.invariant c.self.view_is (bears-fresh c.args.self.now c.requires)
+    next_some c.self.invariant c.self.view_is (births c.args.self.now c.requires)
 
 pub create-requires-clause-ascend : goal.create-requires-clause-ascend
 create-requires-clause-ascend g c = refl
@@ -31,16 +31,16 @@ returns-in_default g c =
 
 pub overflow_add-self : goal.overflow_add-self
 overflow_add-self g c =
-    let spent = rw (← c.self.view_is) at ((bears-fresh c.args.self.now c.requires).room) in
+    let spent = rw (← c.self.view_is) at ((births c.args.self.now c.requires).room) in
     omega (arith, not_spent c.self.inside.accepted spent)
 
 pub invariant_of-self-2 : goal.invariant_of-self-2
 invariant_of-self-2 g c =
-    (fresh_left c.self.invariant c.self.view_is c.in-Ok.entity (next_of c.self.invariant c.self.view_is c.in-Ok.entity c.in-Ok.ensures.next) c.requires c.create.new.self c.create.ensures.whole c.in-Ok.ensures.born c.create.ensures.sizes).0
+    (fresh_left c.self.invariant c.self.view_is c.in-Ok.entity (next_of c.self.invariant c.self.view_is c.in-Ok.entity c.in-Ok.ensures.next) (sym (fresh_refusal c.args.self.now) ∙ c.requires) c.create.new.self c.create.ensures.whole c.in-Ok.ensures.born c.create.ensures.sizes).0
 
 pub returns : goal.returns
 returns g c =
     let next = next_of c.self.invariant c.self.view_is c.in-Ok.entity c.in-Ok.ensures.next in
-    told_fresh c.args.self.now _ c.of_birth.result c.in-Ok.entity next c.requires
-    (fresh_left c.self.invariant c.self.view_is c.in-Ok.entity next c.requires c.create.new.self c.create.ensures.whole c.in-Ok.ensures.born c.create.ensures.sizes).1
+    told_fresh c.args.self.now _ c.of_birth.result c.in-Ok.entity next (sym (fresh_refusal c.args.self.now) ∙ c.requires)
+    (fresh_left c.self.invariant c.self.view_is c.in-Ok.entity next (sym (fresh_refusal c.args.self.now) ∙ c.requires) c.create.new.self c.create.ensures.whole c.in-Ok.ensures.born c.create.ensures.sizes).1
     c.of_birth.ensures

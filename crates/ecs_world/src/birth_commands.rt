@@ -1,0 +1,121 @@
+//! Commands that make an entity. Where memory is refused, what was done before is undone.
+
+ghost use Rattle.std.specs.Prelude.{◌≡◌, IfErr, None, OnErr, OnOk, true};
+ghost use Rattle.std.specs.FinMap as finite;
+ghost use Rattle.ecs_model.specs.Command.{AnswersStep, Component, Entity, Fresh, birth_reasons, step};
+ghost use Rattle.ecs_model.specs.Refusal.{first_reason};
+ghost use Rattle.ecs_model.specs.Text.{is_name};
+ghost use Rattle.name_index.specs.Names.{IsUnnamed};
+ghost use Rattle.ecs_world.specs.State.{IsUnbound};
+
+use crate::built_in::COMPONENT;
+use crate::{Changes, FactKey, World};
+use ecs_id::{EntityId, Id};
+use ecs_model::faults::{CommandError, Refusal};
+use ecs_schema::Schema;
+use name_index::{BindError, NameIndex};
+use std::alloc::Allocator;
+
+impl<A: Allocator + Copy> World<A> {
+    /// Makes an entity without a name and without facts.
+    pub fn fresh(&mut self) -> Result<Changes, CommandError>
+        ensures { AnswersStep result (step self.old Fresh) self.old self.new }
+    {
+        match self.birth_refusal() {
+            None => self.make_fresh(),
+            Some(refusal) => Err(CommandError::Refused(refusal)),
+        }
+    }
+
+    /// Makes an entity with a name and without facts.
+    pub fn entity(&mut self, name: &str) -> Result<Changes, CommandError>
+        ensures { AnswersStep result (step self.old (Entity name.now)) self.old self.new }
+    {
+        match self.birth_refusal() {
+            None => self.make_entity(name),
+            Some(full) => Err(CommandError::Refused(self.refusal_of(name, full))),
+        }
+    }
+
+    /// Makes an entity with a name and fields, which holds the tag `Component`.
+    pub fn component(&mut self, name: &str, schema: Schema<A>) -> Result<Changes, CommandError>
+        ensures { AnswersStep result (step self.old (Component name.now schema)) self.old self.new }
+    {
+        match self.birth_refusal() {
+            None => self.make_component(name, schema),
+            Some(full) => Err(CommandError::Refused(self.refusal_of(name, full))),
+        }
+    }
+
+    fn make_fresh(&mut self) -> Result<Changes, CommandError>
+        requires { first_reason (birth_reasons self.old) ≡ None }
+        ensures { AnswersStep result (step self.old Fresh) self.old self.new }
+    {
+        let Ok(entity) = self.archetypes.create(&[]) else {
+            return Err(CommandError::Memory);
+        };
+        self.accepted += 1;
+        Ok(Changes::of_birth(entity))
+    }
+
+    fn make_entity(&mut self, name: &str) -> Result<Changes, CommandError>
+        requires { first_reason (birth_reasons self.old) ≡ None }
+        ensures { AnswersStep result (step self.old (Entity name.now)) self.old self.new }
+    {
+        let entity = self.archetypes.upcoming().unwrap();
+        bind(&mut self.names, name, entity)?;
+        if self.archetypes.create(&[]).is_err() {
+            self.names.unbind(entity);
+            return Err(CommandError::Memory);
+        }
+        self.accepted += 1;
+        Ok(Changes::of_birth(entity))
+    }
+
+    fn make_component(
+        &mut self,
+        name: &str,
+        schema: Schema<A>,
+    ) -> Result<Changes, CommandError>
+        requires { first_reason (birth_reasons self.old) ≡ None }
+        ensures { AnswersStep result (step self.old (Component name.now schema)) self.old self.new }
+    {
+        let entity = self.archetypes.upcoming().unwrap();
+        // What is known of it: it has no fault.
+        let _ = schema.fields();
+        bind(&mut self.names, name, entity)?;
+        if self.schemas.insert(entity.index, schema).is_err() {
+            self.names.unbind(entity);
+            return Err(CommandError::Memory);
+        }
+        let component = Id::plain(COMPONENT);
+        if self.archetypes.create(&[(component, 0)]).is_err() {
+            self.schemas.remove(&entity.index);
+            self.names.unbind(entity);
+            return Err(CommandError::Memory);
+        }
+        self.accepted += 1;
+        let key = FactKey::new(entity.index, component);
+        Ok(Changes::of_birth(entity).with_came(key))
+    }
+}
+
+/// Binds the name of a new entity.
+fn bind<A: Allocator + Copy>(
+    names: &mut NameIndex<A>,
+    name: &str,
+    entity: EntityId,
+) -> Result<(), CommandError>
+    requires { IsUnnamed names.old entity }
+    ensures bound { OnOk result (names.new ≡ finite.insert names.old name.now entity) }
+    ensures free { OnOk result ((is_name name.now ≡ true) × (finite.get names.old name.now ≡ None)) }
+    ensures refused { IfErr result (IsUnbound names.old name.now) }
+    ensures err { OnErr result (names.new ≡ names.old) }
+{
+    match names.bind(name, entity) {
+        Ok(()) => Ok(()),
+        Err(BindError::BadName) => Err(CommandError::Refused(Refusal::BadName)),
+        Err(BindError::NameTaken) => Err(CommandError::Refused(Refusal::NameTaken)),
+        Err(BindError::Memory) => Err(CommandError::Memory),
+    }
+}
