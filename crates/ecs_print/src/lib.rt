@@ -1,0 +1,12 @@
+//! How entities, ids and the values of facts print: as the definitions of `ecs_model::Print` say.
+//!
+//! Each function writes behind what was written, and fails where memory is refused.
+#![tactic(auto)]
+
+mod digits;
+mod facts;
+mod references;
+
+pub use digits::write_number;
+pub use facts::{write_fact, write_fields, write_value};
+pub use references::{write_entity, write_handle, write_id, write_index};
