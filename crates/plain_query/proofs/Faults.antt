@@ -28,23 +28,10 @@ front_empty : {X : Type 0} (xs ys : List X) → xs ++ ys ≡ [] → xs ≡ []
 front_empty [] ys e = refl
 front_empty (x ∷ xs) ys e = absurd (cc)
 
-none_of : {X : Type 0} (f : X → List Fault) (xs : List X) (i : ℕ) (d : X) → flat_map f xs ≡ [] → i < length xs → f (get_or xs i d) ≡ []
-none_of f [] i d e h = absurd (omega arith)
-none_of f (x ∷ xs) zero d e h = front_empty (f x) (flat_map f xs) e
-none_of f (x ∷ xs) (suc i) d e h = none_of f xs i d (rest (f x) (flat_map f xs) e) (omega arith)
-  where
-    rest : (ys zs : List Fault) → ys ++ zs ≡ [] → zs ≡ []
-    rest [] zs p = p
-    rest (y ∷ ys) zs p = absurd (cc)
-
 -- without a least fault each word names an entity
-pub all_known : {X : Type 0} (w : WorldState) (view : X → Part) (xs : List X) (i : ℕ) (d : X) → least_fault (faults w (map view xs)) ≡ None → i < length xs
-    → unknown_word w (view (get_or xs i d)) ≡ []
+pub none_unknown : (w : WorldState) (ps : List Part) → least_fault (faults w ps) ≡ None → flat_map (unknown_word w) ps ≡ []
 unfolding faults
-all_known w view xs i d e h =
-    let each : unknown_word w (get_or (map view xs) i (view d)) ≡ [] =
-    none_of (unknown_word w) (map view xs) i (view d) (front_empty (flat_map (unknown_word w) (map view xs)) (map too_many (take 1 (drop 32 (map view xs)))) (none_least _ e)) (rw (length-map xs view) h) in
-    ap (unknown_word w) (sym (get_or-map view xs i d (view d) h)) ∙ each
+none_unknown w ps e = front_empty (flat_map (unknown_word w) ps) (map too_many (take 1 (drop 32 ps))) (none_least _ e)
 
 -- few terms have none too many
 pub few_terms : {X : Type 0} (view : X → Part) (xs : List X) → length xs ≤ 32 → [] ≡ map too_many (take 1 (drop 32 (map view xs)))
@@ -63,10 +50,3 @@ unfolding faults
 all_judged w ps found more e m =
     ap (λ o. fold judged o more) e ∙ ap (fold judged (least_fault (flat_map (unknown_word w) ps))) m
     ∙ sym (fold-append judged None (flat_map (unknown_word w) ps) (map too_many (take 1 (drop 32 ps))))
-
--- the ids with one more
-pub one_more_id : {X : Type 0} (w : WorldState) (view : X → Part) (xs : List X) (i : ℕ) (d : X) → i < length xs
-    → map (id_of_term w) (map view (take i xs)) ++ id_of_term w (view (get_or xs i d)) ∷ [] ≡ map (id_of_term w) (map view (take (i + 1) xs))
-one_more_id w view xs i d h =
-    let front = ap (λ n. take n xs) (add-one i) ∙ take-suc xs i d h in
-    sym (ap (λ ys. map (id_of_term w) (map view ys)) front ∙ ap (map (id_of_term w)) (map-append view (take i xs) (get_or xs i d ∷ [])) ∙ map-append (id_of_term w) (map view (take i xs)) (view (get_or xs i d) ∷ []))

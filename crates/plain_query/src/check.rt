@@ -1,27 +1,27 @@
 //! The check of a query's syntax in a world: the ids that its words name, or the first fault.
 
-ghost use Rattle.std.specs.Prelude.{◌≡◌, [], ◌∷◌, drop, fold, map, take, option_to_list, IfOk, None, Some};
-ghost use Rattle.ecs_model.specs.Query.{faults, id_of_term, is_before, kind_number, least_fault, too_many, unknown_word};
+ghost use Rattle.std.specs.Prelude.{◌≡◌, drop, fold, map, take, option_to_list, Some};
+ghost use Rattle.ecs_model.specs.Query.{is_before, kind_number, too_many};
 ghost use Rattle.query_parser.specs.Parsed.{seen_part};
-ghost use Rattle.plain_query.specs.Check.{AnswersCheck, AnswersIds, lesser};
+ghost use Rattle.plain_query.specs.Check.{AnswersCheck, AnswersIds, NamesId, lesser, unnamed};
 
-use crate::Readable;
 use ecs_id::Id;
+use ecs_world::World;
 use ecs_model::faults::{Fault, FaultKind, QueryFault};
 use query_lexer::lex;
 use query_parser::{Part, parse};
-use std::alloc::{AllocError, Allocator};
+use std::alloc::Allocator;
 
 /// How many terms a query may have.
 const MOST_TERMS: usize = 32;
 
 /// The ids of the query that a text asks, one a term, or the first fault of the text. Or memory is refused.
-pub(crate) fn ids_of_query<A: Allocator + Copy, W: Readable>(
+pub(crate) fn ids_of_query<A: Allocator + Copy>(
     alloc: A,
-    world: &W,
+    world: &World<A>,
     text: &str,
 ) -> Result<Vec<Id, A>, QueryFault>
-    ensures { AnswersIds (λ ids. ids.items) (W.state world.now) text.now result }
+    ensures { AnswersIds (λ ids. ids.items) (world.now) text.now result }
 {
     let tokens = match lex(alloc, text) {
         Ok(tokens) => tokens,
@@ -38,54 +38,35 @@ pub(crate) fn ids_of_query<A: Allocator + Copy, W: Readable>(
 ///
 /// Fails with the fault that starts first, and of two at one place with the one told first: a word that names no entity, or the
 /// 33rd term. Or memory is refused.
-fn check<A: Allocator, W: Readable>(
+fn check<A: Allocator>(
     alloc: A,
-    world: &W,
+    world: &World<A>,
     parts: &[Part<'_>],
 ) -> Result<Vec<Id, A>, QueryFault>
-    ensures { AnswersCheck (λ ids. ids.items) (W.state world.now) (map seen_part parts.now) result }
-{
-    if let Some(fault) = least_fault(world, parts) {
-        return Err(QueryFault::Fault(fault));
-    }
-    ids_of(alloc, world, parts).map_err(|_| QueryFault::Memory)
-}
-
-/// The ids that words name which all name entities.
-fn ids_of<A: Allocator, W: Readable>(
-    alloc: A,
-    world: &W,
-    parts: &[Part<'_>],
-) -> Result<Vec<Id, A>, AllocError>
-    requires { least_fault (faults (W.state world.now) (map seen_part parts.now)) ≡ None }
-    ensures { IfOk result (λ ids. ids.items ≡ map (id_of_term (W.state world.now)) (map seen_part parts.now)) }
+    ensures { AnswersCheck (λ ids. ids.items) world.now (map seen_part parts.now) result }
 {
     let mut ids = Vec::new(alloc);
-    for part in parts {
-        ids.push(id_of(world, part))?;
-    }
-    Ok(ids)
-}
-
-/// The id of the entity that a term's word names, and 1 where there is none.
-fn id_of<W: Readable>(world: &W, part: &Part<'_>) -> Id
-    ensures { unknown_word (W.state world.now) (seen_part part.now) ≡ [] → result ≡ id_of_term (W.state world.now) (seen_part part.now) }
-{
-    let Part::Term(reference) = part;
-    world
-        .find(reference.word)
-        .map_or(Id::plain(1), |entity| Id::plain(entity.index))
-}
-
-/// The least fault of a query's terms.
-fn least_fault<W: Readable>(world: &W, parts: &[Part<'_>]) -> Option<Fault>
-    ensures { result ≡ least_fault (faults (W.state world.now) (map seen_part parts.now)) }
-{
     let mut least = None;
     for part in parts {
-        least = with_fault(least, unknown_word(world, part));
+        match id_of(world, part) {
+            Some(id) => ids.push(id).map_err(|_| QueryFault::Memory)?,
+            None => least = with_fault(least, Some(unknown_word(part))),
+        }
     }
-    with_fault(least, one_too_many(parts))
+    match with_fault(least, one_too_many(parts)) {
+        None => Ok(ids),
+        Some(fault) => Err(QueryFault::Fault(fault)),
+    }
+}
+
+/// The id of the entity that a term's word names.
+fn id_of<A: Allocator>(world: &World<A>, part: &Part<'_>) -> Option<Id>
+    ensures { NamesId world.now (seen_part part.now) result }
+{
+    world.keeps();
+    let Part::Term(reference) = part;
+    let entity = world.find(reference.word)?;
+    Some(Id::plain(entity.index))
 }
 
 /// The lesser of the fault that was found and another, if there is another.
@@ -117,17 +98,14 @@ fn number_of(kind: FaultKind) -> u8
 }
 
 /// The fault of a word that names no entity.
-fn unknown_word<W: Readable>(world: &W, part: &Part<'_>) -> Option<Fault>
-    ensures { option_to_list result ≡ unknown_word (W.state world.now) (seen_part part.now) }
+fn unknown_word(part: &Part<'_>) -> Fault
+    ensures { result ≡ unnamed (seen_part part.now) }
 {
     let Part::Term(reference) = part;
-    if world.find(reference.word).is_some() {
-        return None;
-    }
-    Some(Fault {
+    Fault {
         kind: FaultKind::UnknownName,
         span: reference.span,
-    })
+    }
 }
 
 /// The fault of the first term that is one too many.
