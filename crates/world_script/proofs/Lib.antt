@@ -3,4 +3,3 @@ pub mod FirstLine
 pub mod SoFar
 pub mod Outcome
 pub mod Orders
-pub mod Kept

@@ -14,7 +14,7 @@ use Rattle.ecs_model.specs.Schema.{Schema, schema_fault}
 use Rattle.ecs_model.specs.Refusal.{refusal_text, schema_fault_text}
 use Rattle.ecs_model.specs.Print.{fault_text}
 use Rattle.ecs_model.specs.World.{WorldState}
-use Rattle.ecs_model.specs.Command.{Command, Changed, Fresh, Entity, Component, Add, SetValue, Remove, step, SaysNothing, IsBorn, AnswersStep}
+use Rattle.ecs_model.specs.Command.{Command, Changed, Fresh, Entity, Component, Add, SetValue, Remove, step, AnswersStep}
 use Rattle.ecs_model.specs.Query.{Query, query_of}
 use Rattle.ecs_model.specs.Session.{SessionState, EntityRef, IdRef, Order, MakeFresh, MakeEntity, MakeComponent, AddTo, SetIn, RemoveFrom, entity_found, with_both, session_answer, world_order, apply}
 use Rattle.ecs_model.specs.Script.{Form, Nothing, LongLine, BadLine, Obey, Define, Show, Ask, form_of}
@@ -36,33 +36,32 @@ IsSilent order = (born : Option EntityId) → own_text order born ≡ []
 
 module _ (w v : WorldState) (n : ℕ) (before after : List ℕ) (refused : Bool) where
   -- a command that the world has answered
-  IsDone-stepped : (order : Order) → IsSilent order → (answer : Result (Unit {0}) CommandError) (stepped : Result (WorldState × Changed) Refusal)
-      → AnswersStep SaysNothing answer stepped w v → TellsAnswer answer n before after refused
+  IsDone-stepped : (order : Order) → IsSilent order → (answer : Result Changed CommandError) (stepped : Result (WorldState × Changed) Refusal)
+      → AnswersStep answer stepped w v → TellsAnswer answer n before after refused
       → IsDone (order_effect (session_of w) n order (session_answer stepped)) (session_of v) before after refused
-  IsDone-stepped order silent (Ok done) (Ok a) answered told =
-      record { session_left = ap session_of answered.0; printed = told.0 ∙ sym (append-nil before) ∙ ap (λ l. before ++ l) (sym (silent (a.1).born)); answered = told.1 }
-  IsDone-stepped order silent (Ok done) (Err r) answered told = absurd answered
+  IsDone-stepped order silent (Ok changed) stepped answered told =
+      let P : Result (WorldState × Changed) Refusal → Type 0 = λ st. IsDone (order_effect (session_of w) n order (session_answer st)) (session_of v) before after refused in
+      subst P (sym answered) (record { session_left = refl; printed = told.0 ∙ sym (append-nil before) ∙ ap (λ l. before ++ l) (sym (silent changed.born)); answered = told.1 })
   IsDone-stepped order silent (Err (Refused reason)) stepped answered told =
       let P : Result (WorldState × Changed) Refusal → Type 0 = λ st. IsDone (order_effect (session_of w) n order (session_answer st)) (session_of v) before after refused in
       subst P (sym answered.0) (record { session_left = ap session_of answered.1; printed = told.0; answered = told.1 })
   IsDone-stepped order silent (Err Memory) stepped answered told = absurd told
 
   -- a new entity without a name
-  IsDone-born : (answer : Result EntityId CommandError) (stepped : Result (WorldState × Changed) Refusal)
-      → AnswersStep IsBorn answer stepped w v → TellsBorn answer n before after refused
+  IsDone-born : (answer : Result Changed CommandError) (stepped : Result (WorldState × Changed) Refusal)
+      → AnswersStep answer stepped w v → TellsBorn answer n before after refused
       → IsDone (order_effect (session_of w) n MakeFresh (session_answer stepped)) (session_of v) before after refused
-  IsDone-born (Ok e) (Ok a) answered told =
-      let P : Option EntityId → Type 0 = λ b. after ≡ before ++ own_text MakeFresh b in
-      record { session_left = ap session_of answered.0; printed = subst P (sym answered.1) told.0; answered = told.1 }
-  IsDone-born (Ok e) (Err r) answered told = absurd answered
+  IsDone-born (Ok changed) stepped answered told =
+      let P : Result (WorldState × Changed) Refusal → Type 0 = λ st. IsDone (order_effect (session_of w) n MakeFresh (session_answer st)) (session_of v) before after refused in
+      subst P (sym answered) (record { session_left = refl; printed = told.0; answered = told.1 })
   IsDone-born (Err (Refused reason)) stepped answered told =
       let P : Result (WorldState × Changed) Refusal → Type 0 = λ st. IsDone (order_effect (session_of w) n MakeFresh (session_answer st)) (session_of v) before after refused in
       subst P (sym answered.0) (record { session_left = ap session_of answered.1; printed = told.0; answered = told.1 })
   IsDone-born (Err Memory) stepped answered told = absurd told
 
   -- a command of a session that is one of the world
-  IsDone-order : (order : Order) → IsSilent order → (answer : Result (Unit {0}) CommandError) (asked : Result Command Refusal) (c : Command) → asked ≡ Ok c
-      → AnswersStep SaysNothing answer (step w c) w v → TellsAnswer answer n before after refused
+  IsDone-order : (order : Order) → IsSilent order → (answer : Result Changed CommandError) (asked : Result Command Refusal) (c : Command) → asked ≡ Ok c
+      → AnswersStep answer (step w c) w v → TellsAnswer answer n before after refused
       → IsDone (order_effect (session_of w) n order (world_order (session_of w) asked)) (session_of v) before after refused
   IsDone-order order silent answer asked c e answered told =
       let P : Result Command Refusal → Type 0 = λ o. IsDone (order_effect (session_of w) n order (world_order (session_of w) o)) (session_of v) before after refused in
@@ -111,37 +110,37 @@ IsDone-fault text f w n before same after refused e kept told =
 
 -- the same, where memory may be refused instead
 module _ (r : Result Bool AllocError) (w v : WorldState) (n : ℕ) (before after : List ℕ) where
-  pub IfOk-new : (answer : Result EntityId CommandError) → AnswersStep IsBorn answer (step w Fresh) w v → IfOk r (TellsBorn answer n before after)
+  pub IfOk-new : (answer : Result Changed CommandError) → AnswersStep answer (step w Fresh) w v → IfOk r (TellsBorn answer n before after)
       → IfOk r (IsDone (effect_of (session_of w) n (Obey MakeFresh)) (session_of v) before after)
   unfolding effect_of apply
   IfOk-new answer answered = IfOk-weaker r _ _ (λ refused told. IsDone-born w v n before after refused answer (step w Fresh) answered told)
 
-  pub IfOk-entity : (answer : Result (Unit {0}) CommandError) (name : List ℕ) → AnswersStep SaysNothing answer (step w (Entity name)) w v → IfOk r (TellsAnswer answer n before after)
+  pub IfOk-entity : (answer : Result Changed CommandError) (name : List ℕ) → AnswersStep answer (step w (Entity name)) w v → IfOk r (TellsAnswer answer n before after)
       → IfOk r (IsDone (effect_of (session_of w) n (Obey (MakeEntity name))) (session_of v) before after)
   unfolding effect_of apply
   IfOk-entity answer name answered = IfOk-weaker r _ _ (λ refused told. IsDone-stepped w v n before after refused (MakeEntity name) (λ _. refl) answer (step w (Entity name)) answered told)
 
   -- a command of an entity and an id
-  IfOk-fact : (order : Order) → IsSilent order → (f : EntityId → Id → Command) (answer : Result (Unit {0}) CommandError) (entity : EntityRef) (id : IdRef) (both : EntityId × Id)
-      → FindsBoth w entity id (Ok both) → AnswersStep SaysNothing answer (step w (f both.0 both.1)) w v → IfOk r (TellsAnswer answer n before after)
+  IfOk-fact : (order : Order) → IsSilent order → (f : EntityId → Id → Command) (answer : Result Changed CommandError) (entity : EntityRef) (id : IdRef) (both : EntityId × Id)
+      → FindsBoth w entity id (Ok both) → AnswersStep answer (step w (f both.0 both.1)) w v → IfOk r (TellsAnswer answer n before after)
       → IfOk r (IsDone (order_effect (session_of w) n order (world_order (session_of w) (with_both w f entity id))) (session_of v) before after)
   IfOk-fact order silent f answer entity id both finds answered =
       IfOk-weaker r _ _ (λ refused told. IsDone-order w v n before after refused order silent answer _ (f both.0 both.1) (finds f) answered told)
 
-  pub IfOk-add : (answer : Result (Unit {0}) CommandError) (entity : EntityRef) (id : IdRef) (both : EntityId × Id) → FindsBoth w entity id (Ok both)
-      → AnswersStep SaysNothing answer (step w (Add both.0 both.1)) w v → IfOk r (TellsAnswer answer n before after)
+  pub IfOk-add : (answer : Result Changed CommandError) (entity : EntityRef) (id : IdRef) (both : EntityId × Id) → FindsBoth w entity id (Ok both)
+      → AnswersStep answer (step w (Add both.0 both.1)) w v → IfOk r (TellsAnswer answer n before after)
       → IfOk r (IsDone (effect_of (session_of w) n (Obey (AddTo entity id))) (session_of v) before after)
   unfolding effect_of apply
   IfOk-add answer entity id both = IfOk-fact (AddTo entity id) (λ _. refl) Add answer entity id both
 
-  pub IfOk-set : (answer : Result (Unit {0}) CommandError) (entity : EntityRef) (id : IdRef) (values : List ℤ) (both : EntityId × Id) → FindsBoth w entity id (Ok both)
-      → AnswersStep SaysNothing answer (step w (SetValue both.0 both.1 values)) w v → IfOk r (TellsAnswer answer n before after)
+  pub IfOk-set : (answer : Result Changed CommandError) (entity : EntityRef) (id : IdRef) (values : List ℤ) (both : EntityId × Id) → FindsBoth w entity id (Ok both)
+      → AnswersStep answer (step w (SetValue both.0 both.1 values)) w v → IfOk r (TellsAnswer answer n before after)
       → IfOk r (IsDone (effect_of (session_of w) n (Obey (SetIn entity id values))) (session_of v) before after)
   unfolding effect_of apply
   IfOk-set answer entity id values both = IfOk-fact (SetIn entity id values) (λ _. refl) (λ e i. SetValue e i values) answer entity id both
 
-  pub IfOk-remove : (answer : Result (Unit {0}) CommandError) (entity : EntityRef) (id : IdRef) (both : EntityId × Id) → FindsBoth w entity id (Ok both)
-      → AnswersStep SaysNothing answer (step w (Remove both.0 both.1)) w v → IfOk r (TellsAnswer answer n before after)
+  pub IfOk-remove : (answer : Result Changed CommandError) (entity : EntityRef) (id : IdRef) (both : EntityId × Id) → FindsBoth w entity id (Ok both)
+      → AnswersStep answer (step w (Remove both.0 both.1)) w v → IfOk r (TellsAnswer answer n before after)
       → IfOk r (IsDone (effect_of (session_of w) n (Obey (RemoveFrom entity id))) (session_of v) before after)
   unfolding effect_of apply
   IfOk-remove answer entity id both = IfOk-fact (RemoveFrom entity id) (λ _. refl) Remove answer entity id both
@@ -177,7 +176,7 @@ IfOk-fault r w n before after text f same e kept = IfOk-weaker r _ _ (λ refused
 
 module _ (r : Result Bool AllocError) (w v : WorldState) (n : ℕ) (before after name : List ℕ) (fields : Schema) where
   -- a component whose fields make a schema
-  pub IfOk-component : (answer : Result (Unit {0}) CommandError) → (schema_fault fields ≡ None) × AnswersStep SaysNothing answer (step w (Component name fields)) w v
+  pub IfOk-component : (answer : Result Changed CommandError) → (schema_fault fields ≡ None) × AnswersStep answer (step w (Component name fields)) w v
       → IfOk r (TellsAnswer answer n before after) → IfOk r (IsDone (effect_of (session_of w) n (Define name fields)) (session_of v) before after)
   unfolding effect_of apply
   IfOk-component answer answered told =

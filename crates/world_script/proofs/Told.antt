@@ -1,9 +1,13 @@
 -- What is told of bytes, over more than one call.
-use Rattle.std.proofs.Common.{◌≡◌, ℕ, ◌+◌, ◌<◌, ◌≤◌, List, [], ◌++◌, length, take, drop, Option, None, Some, sym, ap, subst, arith, append-nil, length-append, ◌-◌}
+use Rattle.std.proofs.Common.{◌≡◌, ℕ, ◌+◌, ◌<◌, ◌≤◌, List, [], ◌++◌, length, take, drop, Option, None, Some, Ok, inl, inr, sym, ap, subst, arith, append-nil, length-append, ◌-◌}
 use Rattle.std.proofs.lemmas.List.{length-take-le, take_rest}
+use Rattle.std.proofs.lemmas.Bool.Decides.{nat_tests}
+use Rattle.std.proofs.lemmas.Grind.{common_steps}
 use Rattle.std.proofs.Math.Seq.{take-add}
 use Rattle.std.proofs.KnownBytes.{Consumes-trans, Appends-trans}
 use Rattle.std.specs.Io.KnownBytes.{Consumes, Appends}
+use Rattle.world_script.specs.declared.streams.Calls.{Calls}
+use Rattle.world_script.specs.Streams.{IsStopped, StopsBetween, after_write}
 use Rattle.world_script.specs.Whole.{most_bytes, IsTooLong}
 
 -- a call that gave nothing
@@ -30,3 +34,18 @@ Appends-more a b c bytes at n first second =
     let P : List ℕ → Type 0 = λ l. Appends a c l in
     let Q : List ℕ → Type 0 = λ l. Appends b c (take n l) in
     subst P (sym (take-add at n bytes)) (Appends-trans a b c (take at bytes) (take n (drop at bytes)) first (subst Q (take_rest bytes at) second))
+
+-- where no call has failed yet
+pub calm_at : (a : Calls) → ¬ StopsBetween a a
+calm_at a = λ h. h.0 h.1
+
+-- and none fails later
+pub calm_on : (a b c : Calls) → ¬ StopsBetween a b → ¬ StopsBetween b c → ¬ StopsBetween a c
+calm_on a b c first second = λ h. second (λ stopped. first (h.0, stopped), h.1)
+
+-- a write that took some bytes has not failed
+pub calm_write : (a b : Calls) (bytes : List ℕ) (n : ℕ) → ¬ (n ≡ 0) → b ≡ after_write (Ok n) bytes a → ¬ StopsBetween a b
+calm_write a b bytes n some e = λ h. elim (subst IsStopped e h.1) [
+  | inl failed ↦ h.0 (inl (grind (arith, common_steps, nat_tests)))
+  | inr interrupted ↦ omega arith
+]

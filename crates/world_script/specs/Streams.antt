@@ -27,3 +27,7 @@ after_write (Err Failed) bytes c = answered true c
 -- a call has failed, or the last one was interrupted
 abbrev pub IsStopped : Calls → Type 0
 IsStopped c = (c.has_failed ≡ true) ⊎ (0 < c.interruptions)
+
+-- a call between the two has failed or was interrupted, and none before
+abbrev pub StopsBetween : Calls → Calls → Type 0
+StopsBetween old new = ¬ IsStopped old × IsStopped new

@@ -1,18 +1,15 @@
 -- What is told of a line that a world has answered.
-use Rattle.std.specs.Prelude.{◌≡◌, ℕ, Bool, true, false, List, ◌++◌, codes, decimal, Some, None, Result, Ok, Err}
-use Rattle.ecs_schema.specs.declared.errors.SchemaError.{SchemaError}
-use Rattle.ecs_schema.specs.declared.errors.SchemaError.TheVariants as schema
+use Rattle.std.specs.Prelude.{◌≡◌, ℕ, Bool, true, false, List, ◌++◌, codes, decimal, Result, Ok, Err}
 use Rattle.ecs_id.specs.declared.EntityId.{EntityId}
 use Rattle.ecs_id.specs.Id.{Id}
 use Rattle.ecs_model.specs.declared.faults.CommandError.{CommandError}
 use Rattle.ecs_model.specs.declared.faults.CommandError.TheVariants.{Refused, Memory}
 use Rattle.ecs_model.specs.declared.faults.Refusal.{Refusal}
 use Rattle.ecs_model.specs.Refusal.{refusal_text}
-use Rattle.ecs_model.specs.Print.{handle_text}
 use Rattle.ecs_model.specs.World.{WorldState}
-use Rattle.ecs_model.specs.Schema.{Schema, schema_fault}
-use Rattle.ecs_model.specs.Command.{Command, Component, SaysNothing, AnswersStep, step}
-use Rattle.ecs_model.specs.Session.{SessionState, EntityRef, IdRef, with_both}
+use Rattle.ecs_model.specs.Command.{Command, Changed}
+use Rattle.ecs_model.specs.Session.{SessionState, EntityRef, IdRef, MakeFresh, with_both}
+use Rattle.ecs_model.specs.Output.{own_text}
 
 -- the session of a world
 abbrev pub session_of : WorldState → SessionState
@@ -30,29 +27,18 @@ TellsRefusal n kind before after refused = (after ≡ before ++ refused_text n k
 abbrev pub TellsNothing : List ℕ → List ℕ → Bool → Type 0
 TellsNothing before after refused = (after ≡ before) × (refused ≡ false)
 
--- the answer to a command that says nothing was told: nothing, or its refusal
-abbrev pub TellsAnswer : Result (Unit {0}) CommandError → ℕ → List ℕ → List ℕ → Bool → Type 0
-TellsAnswer (Ok done) n before after refused = TellsNothing before after refused
+-- the answer to a command was told: nothing where it was accepted, or its refusal
+abbrev pub TellsAnswer : Result Changed CommandError → ℕ → List ℕ → List ℕ → Bool → Type 0
+TellsAnswer (Ok changed) n before after refused = TellsNothing before after refused
 TellsAnswer (Err (Refused reason)) n before after refused = TellsRefusal n (refusal_text reason) before after refused
 TellsAnswer (Err Memory) n before after refused = ⊥
 
--- a handle and a line feed
-abbrev pub born_text : EntityId → List ℕ
-born_text e = handle_text e ++ codes "\n"
-
 -- the answer to `new` was told: the handle of the entity born, or its refusal
-abbrev pub TellsBorn : Result EntityId CommandError → ℕ → List ℕ → List ℕ → Bool → Type 0
-TellsBorn (Ok e) n before after refused = (after ≡ before ++ born_text e) × (refused ≡ false)
-TellsBorn (Err (Refused reason)) n before after refused = TellsRefusal n (refusal_text reason) before after refused
-TellsBorn (Err Memory) n before after refused = ⊥
+abbrev pub TellsBorn : Result Changed CommandError → ℕ → List ℕ → List ℕ → Bool → Type 0
+TellsBorn (Ok changed) n before after refused = (after ≡ before ++ own_text MakeFresh changed.born) × (refused ≡ false)
+TellsBorn (Err e) n before after refused = TellsAnswer (Err e) n before after refused
 
 -- the entity and the id of references were found, or the line is refused: so for each command of an entity and an id
 abbrev pub FindsBoth : WorldState → EntityRef → IdRef → Result (EntityId × Id) Refusal → Type 0
 FindsBoth w entity id (Err reason) = (f : EntityId → Id → Command) → with_both w f entity id ≡ Err reason
 FindsBoth w entity id (Ok both) = (f : EntityId → Id → Command) → with_both w f entity id ≡ Ok (f both.0 both.1)
-
--- a component was asked for: its fields make a schema, and the command is answered as the step says, or they make none; refused memory may stand in place of either
-abbrev pub AnswersComponent : List ℕ → Schema → Result (Result (Unit {0}) CommandError) SchemaError → WorldState → WorldState → Type 0
-AnswersComponent name fields (Ok answer) old new = (schema_fault fields ≡ None) × AnswersStep SaysNothing answer (step old (Component name fields)) old new
-AnswersComponent name fields (Err (schema.Fault fault)) old new = (schema_fault fields ≡ Some fault) × (new ≡ old)
-AnswersComponent name fields (Err schema.Memory) old new = new ≡ old

@@ -24,6 +24,10 @@ AppendsFront old new bytes = (n : ℕ) × (n ≤ length bytes) × Appends old ne
 abbrev pub IsOutput : Option (List ℕ) → Option (List ℕ) → Option (List ℕ) → Type 0
 IsOutput told old new = IfSome told (λ script. Appends old new (output_of script))
 
+-- what the writer holds grew by a front of the output of the script
+abbrev pub IsFrontOfOutput : Option (List ℕ) → Option (List ℕ) → Option (List ℕ) → Type 0
+IsFrontOfOutput told old new = IfSome told (λ script. AppendsFront old new (output_of script))
+
 -- the lines of the script, and those of them that are refused, are counted
 abbrev pub IsCount : Option (List ℕ) → Summary → Type 0
 IsCount told summary = IfSome told (λ script. (summary.lines, summary.refused) ≡ count_of script)

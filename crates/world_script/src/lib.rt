@@ -3,19 +3,15 @@
 
 mod errors;
 mod lines;
-mod printing;
+mod lookup;
 mod reading;
-mod references;
 mod runs;
-mod script_world;
 mod sessions;
 mod showing;
 mod std_streams;
 mod streams;
 mod tapes;
-#[cfg(test)]
-mod tests;
-mod worlds;
+mod telling;
 mod writing;
 
 pub use errors::RunError;

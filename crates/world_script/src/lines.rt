@@ -2,7 +2,10 @@
 ghost use Rattle.std.specs.Prelude.{◌≡◌, ◌<◌, ◌≤◌, ◌∷◌, ◌++◌, length, IfOk, OnOk};
 ghost use Rattle.ecs_model.specs.Script.{lines_of};
 ghost use Rattle.world_script.specs.Run.{effects_from, printed_by, refused_among};
+ghost use Rattle.world_script.specs.Told.{session_of};
 
+use crate::sessions::run_line;
+use ecs_world::World;
 use memchr::memchr;
 use std::alloc::{AllocError, Allocator};
 
@@ -15,34 +18,17 @@ pub struct Summary {
     pub refused: usize,
 }
 
-/// A session that does what lines say.
-pub(crate) trait RunLine<A: Allocator> {
-    ghost use Rattle.ecs_model.specs.Session.{SessionState};
-    ghost use Rattle.world_script.specs.Run.{line_effect, IsDone};
-
-    // What is known of the session.
-    ghost state: { Self → SessionState };
-
-    /// Does what a line says, adds what it prints to the output, and answers whether it was refused.
-    fn run_line(
-        &mut self,
-        number: usize,
-        line: &[u8],
-        output: &mut Vec<u8, A>,
-    ) -> Result<bool, AllocError>
-        ensures { IfOk result (IsDone (line_effect (state self.old) number line.now) (state self.new) output.old.items output.new.items) };
-}
-
-/// Runs the lines of a script in a session, and adds what they print to the output.
-pub(crate) fn run_lines<A: Allocator, S: RunLine<A>>(
-    session: &mut S,
+/// Runs the lines of a script in a world, and adds what they print to the output.
+pub(crate) fn run_lines<A: Allocator + Copy>(
+    alloc: A,
+    world: &mut World<A>,
     script: &[u8],
     output: &mut Vec<u8, A>,
 ) -> Result<Summary, AllocError>
     ensures printed { OnOk result
-        (output.new.items ≡ output.old.items ++ printed_by (effects_from (S.state session.old) 1 script.now)) }
-    ensures lines { IfOk result (λ summary. summary.lines ≡ length (effects_from (S.state session.old) 1 script.now)) }
-    ensures refused { IfOk result (λ summary. summary.refused ≡ refused_among (effects_from (S.state session.old) 1 script.now)) }
+        (output.new.items ≡ output.old.items ++ printed_by (effects_from (session_of world.old) 1 script.now)) }
+    ensures lines { IfOk result (λ summary. summary.lines ≡ length (effects_from (session_of world.old) 1 script.now)) }
+    ensures refused { IfOk result (λ summary. summary.refused ≡ refused_among (effects_from (session_of world.old) 1 script.now)) }
 {
     let mut summary = Summary {
         lines: 0,
@@ -52,7 +38,7 @@ pub(crate) fn run_lines<A: Allocator, S: RunLine<A>>(
     while !rest.is_empty() {
         let (line, later) = first_line(rest);
         summary.lines += 1;
-        let is_refused = session.run_line(summary.lines, line, output)?;
+        let is_refused = run_line(alloc, world, summary.lines, line, output)?;
         if is_refused {
             summary.refused += 1;
         }

@@ -1,7 +1,7 @@
 //! Reading a whole script.
 ghost use Rattle.std.specs.Prelude.{◌≡◌, ℕ, ◌<◌, ◌≤◌, ◌++◌, take, length, vec_len, Ok, IfOk, OnOk, IfErr, Err};
 ghost use Rattle.std.specs.Io.KnownBytes.{Consumes, Keeps, IsAtEnd};
-ghost use Rattle.world_script.specs.Streams.{IsStopped};
+ghost use Rattle.world_script.specs.Streams.{IsStopped, StopsBetween};
 ghost use Rattle.world_script.specs.Whole.{most_bytes, IsTooLong};
 
 use crate::errors::RunError;
@@ -25,6 +25,7 @@ pub(crate) fn read_script<A: Allocator + Copy, R: Source>(
     ensures read { result ≡ Err RunError.Read → IsStopped (R.calls reader.new) }
     ensures too_long { result ≡ Err RunError.TooLong → IsTooLong (R.remaining reader.old) }
     ensures no_write { result ≡ Err RunError.Write → ⊥ }
+    ensures read_fault { StopsBetween (R.calls reader.old) (R.calls reader.new) → result ≡ Err RunError.Read }
 {
     let mut piece = Vec::from_elem(alloc, 0u8, PIECE)?;
     let mut script = Vec::new(alloc);
@@ -47,6 +48,7 @@ fn read_piece<R: Source>(reader: &mut R, piece: &mut [u8]) -> Result<usize, RunE
     ensures bytes { IfOk result (λ count. Consumes (R.remaining reader.old) (R.remaining reader.new) (take count piece.new)) }
     ensures end { IfOk result (λ count. count ≡ 0 → IsAtEnd (R.remaining reader.new)) }
     ensures err { IfErr result (λ error. (error ≡ RunError.Read) × IsStopped (R.calls reader.new)) }
+    ensures calm { OnOk result (¬ StopsBetween (R.calls reader.old) (R.calls reader.new)) }
 {
     match reader.read(piece) {
         Ok(count) => Ok(count),

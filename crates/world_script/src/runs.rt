@@ -1,26 +1,29 @@
 //! A script from its bytes to the bytes of its output.
 ghost use Rattle.std.specs.Prelude.{◌≡◌, IfOk, OnOk, Err};
 ghost use Rattle.std.specs.Io.KnownBytes.{IsAtEnd};
-ghost use Rattle.ecs_model.specs.Session.{first_session};
-ghost use Rattle.world_script.specs.Streams.{IsStopped};
-ghost use Rattle.world_script.specs.Whole.{FitsScript, IsTooLong, IsOutput, IsCount};
+ghost use Rattle.ecs_model.specs.World.{first_world};
+ghost use Rattle.world_script.specs.Streams.{IsStopped, StopsBetween};
+ghost use Rattle.world_script.specs.Whole.{FitsScript, IsTooLong, IsOutput, IsFrontOfOutput, IsCount};
 
 use crate::errors::RunError;
-use crate::lines::{RunLine, Summary, run_lines};
+use crate::lines::{Summary, run_lines};
 use crate::reading::read_script;
-use crate::sessions::Session;
 use crate::streams::{Sink, Source};
-use crate::worlds::TableScriptWorld;
 use crate::writing::write_all;
+use ecs_world::World;
 use std::alloc::Allocator;
+use std::hash::RandomState;
 
-/// Runs a script: reads it to its end, runs its lines in a new session, and then writes all that they print.
+/// Runs a script: reads it to its end, runs its lines in a new world, and then writes all that they print.
+///
+/// Names are hashed with these random keys, so that no script can choose names that make it slow.
 ///
 /// Fails without a byte written where a read fails or is interrupted, where the script has more than 16,777,216 bytes, or where
 /// memory is refused before the end of the last line. Fails where a write fails, is interrupted or takes no byte; a front of the
 /// output may then be written.
 pub fn run<A: Allocator + Copy, R: Source, W: Sink>(
     alloc: A,
+    random: RandomState,
     reader: &mut R,
     writer: &mut W,
 ) -> Result<Summary, RunError>
@@ -31,21 +34,26 @@ pub fn run<A: Allocator + Copy, R: Source, W: Sink>(
 
     ensures too_long { result ≡ Err RunError.TooLong → IsTooLong (R.remaining reader.old) × (writer.new ≡ writer.old) }
     ensures read { result ≡ Err RunError.Read → IsStopped (R.calls reader.new) × (writer.new ≡ writer.old) }
-    ensures write { result ≡ Err RunError.Write → IsStopped (W.calls writer.new) }
+    ensures memory { result ≡ Err RunError.Memory → writer.new ≡ writer.old }
+    ensures write { result ≡ Err RunError.Write → IsStopped (W.calls writer.new) × FitsScript (R.remaining reader.old) }
+    ensures front { result ≡ Err RunError.Write
+        → IsFrontOfOutput (R.remaining reader.old) (W.contents writer.old) (W.contents writer.new) }
+
+    ensures read_fault { StopsBetween (R.calls reader.old) (R.calls reader.new) → result ≡ Err RunError.Read }
+    ensures write_fault { StopsBetween (W.calls writer.old) (W.calls writer.new) → result ≡ Err RunError.Write }
 {
-    let world = TableScriptWorld::new(alloc).map_err(|_| RunError::Memory)?;
-    let mut session = Session { alloc, world };
-    run_in(alloc, &mut session, reader, writer)
+    let mut world = World::new(alloc, random)?;
+    run_in(alloc, &mut world, reader, writer)
 }
 
-/// Runs a script in a session that has just begun.
-fn run_in<A: Allocator + Copy, S: RunLine<A>, R: Source, W: Sink>(
+/// Runs a script in a world that was just made.
+fn run_in<A: Allocator + Copy, R: Source, W: Sink>(
     alloc: A,
-    session: &mut S,
+    world: &mut World<A>,
     reader: &mut R,
     writer: &mut W,
 ) -> Result<Summary, RunError>
-    requires { S.state session.old ≡ first_session }
+    requires { world.old ≡ first_world }
     ensures output { OnOk result (IsOutput (R.remaining reader.old) (W.contents writer.old) (W.contents writer.new)) }
     ensures count { IfOk result (IsCount (R.remaining reader.old)) }
     ensures fits { OnOk result (FitsScript (R.remaining reader.old)) }
@@ -53,11 +61,17 @@ fn run_in<A: Allocator + Copy, S: RunLine<A>, R: Source, W: Sink>(
 
     ensures too_long { result ≡ Err RunError.TooLong → IsTooLong (R.remaining reader.old) × (writer.new ≡ writer.old) }
     ensures read { result ≡ Err RunError.Read → IsStopped (R.calls reader.new) × (writer.new ≡ writer.old) }
-    ensures write { result ≡ Err RunError.Write → IsStopped (W.calls writer.new) }
+    ensures memory { result ≡ Err RunError.Memory → writer.new ≡ writer.old }
+    ensures write { result ≡ Err RunError.Write → IsStopped (W.calls writer.new) × FitsScript (R.remaining reader.old) }
+    ensures front { result ≡ Err RunError.Write
+        → IsFrontOfOutput (R.remaining reader.old) (W.contents writer.old) (W.contents writer.new) }
+
+    ensures read_fault { StopsBetween (R.calls reader.old) (R.calls reader.new) → result ≡ Err RunError.Read }
+    ensures write_fault { StopsBetween (W.calls writer.old) (W.calls writer.new) → result ≡ Err RunError.Write }
 {
     let script = read_script(alloc, reader)?;
     let mut output = Vec::new(alloc);
-    let summary = run_lines(session, script.as_slice(), &mut output)?;
+    let summary = run_lines(alloc, world, script.as_slice(), &mut output)?;
     write_all(writer, output.as_slice())?;
     Ok(summary)
 }

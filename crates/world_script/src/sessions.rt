@@ -4,118 +4,110 @@ ghost use Rattle.ecs_model.specs.Script.{Obey, Define, Show, Ask};
 ghost use Rattle.ecs_model.specs.Session.{MakeFresh, MakeEntity, AddTo, SetIn, RemoveFrom};
 ghost use Rattle.ecs_model.specs.Output.{effect_of};
 ghost use Rattle.script_line.specs.Line.{seen_field, seen_id, seen_reference};
-ghost use Rattle.world_script.specs.Run.{IsDone};
+ghost use Rattle.world_script.specs.Run.{IsDone, line_effect};
 ghost use Rattle.world_script.specs.Told.{session_of};
 
-use crate::lines::RunLine;
-use crate::printing::{
+use crate::lookup::{find_both, find_entity};
+use crate::showing::show_entity;
+use crate::telling::{
     refuse, refuse_command, refuse_query, schema_fault_word, tell_answer, tell_born,
 };
-use crate::references::{find_both, find_entity};
-use crate::script_world::ScriptWorld;
-use crate::showing::show_entity;
 use ecs_model::Kind;
 use ecs_model::faults::QueryFault;
-use ecs_schema::SchemaError;
+use ecs_schema::{Schema, SchemaError};
+use ecs_world::World;
 use plain_query::ask;
 use script_line::{IdReference, Line, Reference, read_line};
 use std::alloc::{AllocError, Allocator};
 
-/// A session: a world, to which lines of a script speak.
-#[derive(Drop)]
-pub(crate) struct Session<A: Allocator, W> {
-    pub(crate) alloc: A,
-    pub(crate) world: W,
-}
-
-impl<A: Allocator + Copy, W: ScriptWorld<A>> RunLine<A> for Session<A, W> {
-    ghost use Rattle.world_script.specs.Told.{session_of};
-
-    ghost state = { λ s. session_of (W.state s.world) };
-
-    fn run_line(
-        &mut self,
-        number: usize,
-        line: &[u8],
-        output: &mut Vec<u8, A>,
-    ) -> Result<bool, AllocError> {
-        let world = &mut self.world;
-        match read_line(self.alloc, line)? {
-            Line::Nothing => Ok(false),
-            Line::TooLong => refuse(number, "LineTooLong", output),
-            Line::Bad => refuse(number, "BadLine", output),
-            Line::New => run_new(world, number, output),
-            Line::Entity { name } => run_entity(world, number, name, output),
-            Line::Component { name, fields } => {
-                run_component(self.alloc, world, number, name, fields.as_slice(), output)
-            }
-            Line::Add { entity, id } => run_add(world, number, entity, id, output),
-            Line::Set { entity, id, values } => {
-                run_set(world, number, entity, id, values.as_slice(), output)
-            }
-            Line::Remove { entity, id } => run_remove(world, number, entity, id, output),
-            Line::Show { entity } => run_show(self.alloc, world, number, entity, output),
-            Line::Query { text } => run_query(self.alloc, world, number, text, output),
+/// Does what a line says, adds what it prints to the output, and answers whether it was refused.
+pub(crate) fn run_line<A: Allocator + Copy>(
+    alloc: A,
+    world: &mut World<A>,
+    number: usize,
+    line: &[u8],
+    output: &mut Vec<u8, A>,
+) -> Result<bool, AllocError>
+    ensures { IfOk result (IsDone (line_effect (session_of world.old) number line.now) (session_of world.new) output.old.items output.new.items) }
+{
+    match read_line(alloc, line)? {
+        Line::Nothing => Ok(false),
+        Line::TooLong => refuse(number, "LineTooLong", output),
+        Line::Bad => refuse(number, "BadLine", output),
+        Line::New => run_new(world, number, output),
+        Line::Entity { name } => run_entity(world, number, name, output),
+        Line::Component { name, fields } => {
+            run_component(alloc, world, number, name, fields.as_slice(), output)
         }
+        Line::Add { entity, id } => run_add(world, number, entity, id, output),
+        Line::Set { entity, id, values } => {
+            run_set(world, number, entity, id, values.as_slice(), output)
+        }
+        Line::Remove { entity, id } => run_remove(world, number, entity, id, output),
+        Line::Show { entity } => run_show(world, number, entity, output),
+        Line::Query { text } => run_query(alloc, world, number, text, output),
     }
 }
 
 /// `new`
-fn run_new<A: Allocator, W: ScriptWorld<A>>(
-    world: &mut W,
+fn run_new<A: Allocator + Copy>(
+    world: &mut World<A>,
     number: usize,
     output: &mut Vec<u8, A>,
 ) -> Result<bool, AllocError>
-    ensures { IfOk result (IsDone (effect_of (session_of (W.state world.old)) number (Obey MakeFresh))
-        (session_of (W.state world.new)) output.old.items output.new.items) }
+    ensures { IfOk result (IsDone (effect_of (session_of world.old) number (Obey MakeFresh))
+        (session_of world.new) output.old.items output.new.items) }
 {
     let answer = world.fresh();
     tell_born(number, answer, output)
 }
 
 /// `entity N`
-fn run_entity<A: Allocator, W: ScriptWorld<A>>(
-    world: &mut W,
+fn run_entity<A: Allocator + Copy>(
+    world: &mut World<A>,
     number: usize,
     name: &str,
     output: &mut Vec<u8, A>,
 ) -> Result<bool, AllocError>
-    ensures { IfOk result (IsDone (effect_of (session_of (W.state world.old)) number (Obey (MakeEntity name.now)))
-        (session_of (W.state world.new)) output.old.items output.new.items) }
+    ensures { IfOk result (IsDone (effect_of (session_of world.old) number (Obey (MakeEntity name.now)))
+        (session_of world.new) output.old.items output.new.items) }
 {
     let answer = world.entity(name);
     tell_answer(number, answer, output)
 }
 
 /// `component N f:kind ..`
-fn run_component<A: Allocator + Copy, W: ScriptWorld<A>>(
+fn run_component<A: Allocator + Copy>(
     alloc: A,
-    world: &mut W,
+    world: &mut World<A>,
     number: usize,
     name: &str,
     fields: &[(&str, Kind)],
     output: &mut Vec<u8, A>,
 ) -> Result<bool, AllocError>
-    ensures { IfOk result (IsDone (effect_of (session_of (W.state world.old)) number (Define name.now (map seen_field fields.now)))
-        (session_of (W.state world.new)) output.old.items output.new.items) }
+    ensures { IfOk result (IsDone (effect_of (session_of world.old) number (Define name.now (map seen_field fields.now)))
+        (session_of world.new) output.old.items output.new.items) }
 {
-    match world.component(alloc, name, fields) {
-        Ok(answer) => tell_answer(number, answer, output),
+    match Schema::new(alloc, fields) {
+        Ok(schema) => {
+            let answer = world.component(name, schema);
+            tell_answer(number, answer, output)
+        }
         Err(SchemaError::Fault(fault)) => refuse(number, schema_fault_word(fault), output),
         Err(SchemaError::Memory) => Err(AllocError),
     }
 }
 
 /// `add E ID`
-fn run_add<A: Allocator, W: ScriptWorld<A>>(
-    world: &mut W,
+fn run_add<A: Allocator + Copy>(
+    world: &mut World<A>,
     number: usize,
     entity: Reference<'_>,
     id: IdReference<'_>,
     output: &mut Vec<u8, A>,
 ) -> Result<bool, AllocError>
-    ensures { IfOk result (IsDone (effect_of (session_of (W.state world.old)) number (Obey (AddTo (seen_reference entity.entry) (seen_id id.entry))))
-        (session_of (W.state world.new)) output.old.items output.new.items) }
+    ensures { IfOk result (IsDone (effect_of (session_of world.old) number (Obey (AddTo (seen_reference entity.entry) (seen_id id.entry))))
+        (session_of world.new) output.old.items output.new.items) }
 {
     match find_both(world, entity, id) {
         Err(refusal) => refuse_command(number, refusal, output),
@@ -127,16 +119,16 @@ fn run_add<A: Allocator, W: ScriptWorld<A>>(
 }
 
 /// `set E ID v ..`
-fn run_set<A: Allocator, W: ScriptWorld<A>>(
-    world: &mut W,
+fn run_set<A: Allocator + Copy>(
+    world: &mut World<A>,
     number: usize,
     entity: Reference<'_>,
     id: IdReference<'_>,
     values: &[i128],
     output: &mut Vec<u8, A>,
 ) -> Result<bool, AllocError>
-    ensures { IfOk result (IsDone (effect_of (session_of (W.state world.old)) number (Obey (SetIn (seen_reference entity.entry) (seen_id id.entry) values.now)))
-        (session_of (W.state world.new)) output.old.items output.new.items) }
+    ensures { IfOk result (IsDone (effect_of (session_of world.old) number (Obey (SetIn (seen_reference entity.entry) (seen_id id.entry) values.now)))
+        (session_of world.new) output.old.items output.new.items) }
 {
     match find_both(world, entity, id) {
         Err(refusal) => refuse_command(number, refusal, output),
@@ -148,15 +140,15 @@ fn run_set<A: Allocator, W: ScriptWorld<A>>(
 }
 
 /// `remove E ID`
-fn run_remove<A: Allocator, W: ScriptWorld<A>>(
-    world: &mut W,
+fn run_remove<A: Allocator + Copy>(
+    world: &mut World<A>,
     number: usize,
     entity: Reference<'_>,
     id: IdReference<'_>,
     output: &mut Vec<u8, A>,
 ) -> Result<bool, AllocError>
-    ensures { IfOk result (IsDone (effect_of (session_of (W.state world.old)) number (Obey (RemoveFrom (seen_reference entity.entry) (seen_id id.entry))))
-        (session_of (W.state world.new)) output.old.items output.new.items) }
+    ensures { IfOk result (IsDone (effect_of (session_of world.old) number (Obey (RemoveFrom (seen_reference entity.entry) (seen_id id.entry))))
+        (session_of world.new) output.old.items output.new.items) }
 {
     match find_both(world, entity, id) {
         Err(refusal) => refuse_command(number, refusal, output),
@@ -168,35 +160,34 @@ fn run_remove<A: Allocator, W: ScriptWorld<A>>(
 }
 
 /// `show E`
-fn run_show<A: Allocator + Copy, W: ScriptWorld<A>>(
-    alloc: A,
-    world: &W,
+fn run_show<A: Allocator + Copy>(
+    world: &World<A>,
     number: usize,
     entity: Reference<'_>,
     output: &mut Vec<u8, A>,
 ) -> Result<bool, AllocError>
-    ensures { IfOk result (IsDone (effect_of (session_of (W.state world.now)) number (Show (seen_reference entity.entry)))
-        (session_of (W.state world.now)) output.old.items output.new.items) }
+    ensures { IfOk result (IsDone (effect_of (session_of world.now) number (Show (seen_reference entity.entry)))
+        (session_of world.now) output.old.items output.new.items) }
 {
     match find_entity(world, entity) {
         Err(refusal) => refuse_command(number, refusal, output),
         Ok(found) => {
-            show_entity(alloc, world, found, output)?;
+            show_entity(world, found, output)?;
             Ok(false)
         }
     }
 }
 
 /// `query TEXT`
-fn run_query<A: Allocator + Copy, W: ScriptWorld<A>>(
+fn run_query<A: Allocator + Copy>(
     alloc: A,
-    world: &W,
+    world: &World<A>,
     number: usize,
     text: &str,
     output: &mut Vec<u8, A>,
 ) -> Result<bool, AllocError>
-    ensures { IfOk result (IsDone (effect_of (session_of (W.state world.now)) number (Ask text.now))
-        (session_of (W.state world.now)) output.old.items output.new.items) }
+    ensures { IfOk result (IsDone (effect_of (session_of world.now) number (Ask text.now))
+        (session_of world.now) output.old.items output.new.items) }
 {
     match ask(alloc, world, text, output) {
         Ok(()) => Ok(false),

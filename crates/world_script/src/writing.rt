@@ -1,7 +1,7 @@
 //! Writing a whole output.
 ghost use Rattle.std.specs.Prelude.{◌≡◌, length, take, OnOk, OnErr, IfErr};
 ghost use Rattle.std.specs.Io.KnownBytes.{Appends};
-ghost use Rattle.world_script.specs.Streams.{IsStopped};
+ghost use Rattle.world_script.specs.Streams.{IsStopped, StopsBetween};
 ghost use Rattle.world_script.specs.Whole.{AppendsFront};
 
 use crate::errors::RunError;
@@ -12,13 +12,17 @@ pub(crate) fn write_all<W: Sink>(writer: &mut W, bytes: &[u8]) -> Result<(), Run
     ensures ok { OnOk result (Appends (W.contents writer.old) (W.contents writer.new) bytes.now) }
     ensures front { OnErr result (AppendsFront (W.contents writer.old) (W.contents writer.new) bytes.now) }
     ensures err { IfErr result (λ error. (error ≡ RunError.Write) × IsStopped (W.calls writer.new)) }
+    ensures write_fault { OnOk result (¬ StopsBetween (W.calls writer.old) (W.calls writer.new)) }
 {
     let mut at = 0;
     while at < bytes.len() {
-        match writer.write(&bytes[at..]) {
-            Ok(0) | Err(_) => return Err(RunError::Write),
-            Ok(count) => at += count,
+        let Ok(count) = writer.write(&bytes[at..]) else {
+            return Err(RunError::Write);
+        };
+        if count == 0 {
+            return Err(RunError::Write);
         }
+        at += count;
     }
     Ok(())
 }

@@ -1,5 +1,6 @@
 use Rattle.std.proofs.Common.{◌+◌, ◌-◌, ◌<◌, ◌≤◌, vec_len}
 use Rattle.std.specs.Io.KnownBytes.{Consumes}
+use Rattle.world_script.specs.Streams.{StopsBetween}
 use Rattle.world_script.specs.Whole.{most_bytes}
 use Rattle.world_script.proofs.reading.read_script.Given as goal
 
@@ -8,6 +9,7 @@ invariant-loop-script g l = record {
   read : Consumes (g.R.Source.remaining l.initial.reader) (g.R.Source.remaining l.reader) l.script.items;
   fits : vec_len l.script ≤ most_bytes;
   room : 0 < vec_len l.piece;
+  calm : ¬ StopsBetween (g.R.Source.calls l.initial.reader) (g.R.Source.calls l.reader);
 }
 
 abbrev pub decreases-loop-script : goal.decreases-loop-script

@@ -3,5 +3,5 @@ use Rattle.world_script.proofs.sessions.run_entity.Goals as goal
 
 pub returns : goal.returns
 returns g c =
-    IfOk-entity c.tell_answer.result (g.W.Readable.state c.args.world.now) (g.W.Readable.state c.entity-answer.new.self) c.args.number c.args.output.now.items c.tell_answer.new.output.items
+    IfOk-entity c.tell_answer.result c.args.world.now c.entity-answer.new.self c.args.number c.args.output.now.items c.tell_answer.new.output.items
     c.entity-answer.result c.args.name.now c.entity-answer.ensures c.tell_answer.ensures

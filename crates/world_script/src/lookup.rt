@@ -7,19 +7,19 @@ ghost use Rattle.ecs_model.specs.Session.{entity_found, found, id_found, is_dead
 ghost use Rattle.script_line.specs.Line.{seen_id, seen_reference};
 ghost use Rattle.world_script.specs.Told.{FindsBoth};
 
-use crate::script_world::ScriptWorld;
 use ecs_id::{EntityId, Id};
 use ecs_model::faults::Refusal;
+use ecs_world::World;
 use script_line::{IdReference, Reference};
 use std::alloc::Allocator;
 
 /// The entity of a reference.
-pub(crate) fn find_entity<A: Allocator, W: ScriptWorld<A>>(
-    world: &W,
+pub(crate) fn find_entity<A: Allocator>(
+    world: &World<A>,
     entity: Reference<'_>,
 ) -> Result<EntityId, Refusal>
-    ensures value { result ≡ entity_found (W.state world.now) (seen_reference entity.entry) }
-    ensures alive { IfOk result (λ e. IsTrue (is_alive (W.state world.now) e)) }
+    ensures value { result ≡ entity_found world.now (seen_reference entity.entry) }
+    ensures alive { IfOk result (λ e. IsTrue (is_alive world.now e)) }
 {
     if is_dead_handle(world, entity) {
         return Err(Refusal::Dead);
@@ -31,12 +31,12 @@ pub(crate) fn find_entity<A: Allocator, W: ScriptWorld<A>>(
 }
 
 /// The entity of a reference and the id of others.
-pub(crate) fn find_both<A: Allocator, W: ScriptWorld<A>>(
-    world: &W,
+pub(crate) fn find_both<A: Allocator>(
+    world: &World<A>,
     entity: Reference<'_>,
     id: IdReference<'_>,
 ) -> Result<(EntityId, Id), Refusal>
-    ensures { FindsBoth (W.state world.now) (seen_reference entity.entry) (seen_id id.entry) result }
+    ensures { FindsBoth world.now (seen_reference entity.entry) (seen_id id.entry) result }
 {
     if is_dead_handle(world, entity) || names_dead_handle(world, id) {
         return Err(Refusal::Dead);
@@ -51,8 +51,8 @@ pub(crate) fn find_both<A: Allocator, W: ScriptWorld<A>>(
 }
 
 /// Whether a reference is the handle of no live entity.
-fn is_dead_handle<A: Allocator, W: ScriptWorld<A>>(world: &W, reference: Reference<'_>) -> bool
-    ensures { result ≡ is_dead_handle (W.state world.now) (seen_reference reference.entry) }
+fn is_dead_handle<A: Allocator>(world: &World<A>, reference: Reference<'_>) -> bool
+    ensures { result ≡ is_dead_handle world.now (seen_reference reference.entry) }
 {
     match reference {
         Reference::Name(_) => false,
@@ -61,8 +61,8 @@ fn is_dead_handle<A: Allocator, W: ScriptWorld<A>>(world: &W, reference: Referen
 }
 
 /// Whether some reference of an id is the handle of no live entity.
-fn names_dead_handle<A: Allocator, W: ScriptWorld<A>>(world: &W, id: IdReference<'_>) -> bool
-    ensures { result ≡ list_any (is_dead_handle (W.state world.now)) (refs_of_id (seen_id id.entry)) }
+fn names_dead_handle<A: Allocator>(world: &World<A>, id: IdReference<'_>) -> bool
+    ensures { result ≡ list_any (is_dead_handle world.now) (refs_of_id (seen_id id.entry)) }
 {
     match id {
         IdReference::Plain(reference) => is_dead_handle(world, reference),
@@ -74,13 +74,14 @@ fn names_dead_handle<A: Allocator, W: ScriptWorld<A>>(world: &W, id: IdReference
 }
 
 /// The live entity of a reference.
-fn live_entity<A: Allocator, W: ScriptWorld<A>>(
-    world: &W,
+fn live_entity<A: Allocator>(
+    world: &World<A>,
     reference: Reference<'_>,
 ) -> Option<EntityId>
-    ensures value { result ≡ found (W.state world.now) (seen_reference reference.entry) }
+    ensures value { result ≡ found world.now (seen_reference reference.entry) }
     ensures index { IfSome result (λ e. IsIndex e.index) }
 {
+    world.keeps();
     match reference {
         Reference::Name(name) => world.find(name),
         Reference::Handle(entity) => {
@@ -94,8 +95,8 @@ fn live_entity<A: Allocator, W: ScriptWorld<A>>(
 }
 
 /// The id of references, where each is that of a live entity.
-fn live_id<A: Allocator, W: ScriptWorld<A>>(world: &W, id: IdReference<'_>) -> Option<Id>
-    ensures { result ≡ id_found (W.state world.now) (seen_id id.entry) }
+fn live_id<A: Allocator>(world: &World<A>, id: IdReference<'_>) -> Option<Id>
+    ensures { result ≡ id_found world.now (seen_id id.entry) }
 {
     match id {
         IdReference::Plain(reference) => {

@@ -4,10 +4,9 @@ ghost use Rattle.ecs_model.specs.Print.{fault_text, fault_word};
 ghost use Rattle.ecs_model.specs.Refusal.{refusal_text, schema_fault_text};
 ghost use Rattle.world_script.specs.Told.{refused_text, TellsRefusal, TellsAnswer, TellsBorn};
 
-use ecs_id::EntityId;
 use ecs_model::faults::{CommandError, Fault, FaultKind, Refusal, SchemaFault};
-use itoa::Buffer;
-use plain_query::write_handle;
+use ecs_print::{write_handle, write_number};
+use ecs_world::Changes;
 use std::alloc::{AllocError, Allocator};
 
 /// Tells that a line is refused.
@@ -49,38 +48,38 @@ pub(crate) fn refuse_query<A: Allocator>(
     Ok(true)
 }
 
-/// Tells what a world answered to a command that says nothing.
+/// Tells what a world answered to a command: nothing where it was accepted.
 pub(crate) fn tell_answer<A: Allocator>(
     number: usize,
-    answer: Result<(), CommandError>,
+    answer: Result<Changes, CommandError>,
     output: &mut Vec<u8, A>,
 ) -> Result<bool, AllocError>
     ensures { IfOk result (TellsAnswer answer number output.old.items output.new.items) }
 {
     match answer {
-        Ok(()) => Ok(false),
+        Ok(_) => Ok(false),
         Err(CommandError::Refused(refusal)) => refuse_command(number, refusal, output),
         Err(CommandError::Memory) => Err(AllocError),
     }
 }
 
-/// Tells the entity that a world made.
+/// Tells what a world answered to `new`: the entity that it made.
 pub(crate) fn tell_born<A: Allocator>(
     number: usize,
-    answer: Result<EntityId, CommandError>,
+    answer: Result<Changes, CommandError>,
     output: &mut Vec<u8, A>,
 ) -> Result<bool, AllocError>
     ensures { IfOk result (TellsBorn answer number output.old.items output.new.items) }
 {
-    match answer {
-        Ok(entity) => {
-            write_handle(entity, output)?;
-            output.extend_from_slice(b"\n")?;
-            Ok(false)
-        }
-        Err(CommandError::Refused(refusal)) => refuse_command(number, refusal, output),
-        Err(CommandError::Memory) => Err(AllocError),
+    let changes = match answer {
+        Ok(changes) => changes,
+        Err(_) => return tell_answer(number, answer, output),
+    };
+    if let Some(entity) = changes.born() {
+        write_handle(entity, output)?;
+        output.extend_from_slice(b"\n")?;
     }
+    Ok(false)
 }
 
 /// Prints `error LINE `.
@@ -88,7 +87,7 @@ fn print_error<A: Allocator>(number: usize, output: &mut Vec<u8, A>) -> Result<(
     ensures { OnOk result (output.new.items ≡ output.old.items ++ codes "error " ++ decimal number ++ codes " ") }
 {
     output.extend_from_slice(b"error ")?;
-    print_number(number, output)?;
+    write_number(number, output)?;
     output.extend_from_slice(b" ")
 }
 
@@ -98,17 +97,9 @@ fn print_fault<A: Allocator>(fault: Fault, output: &mut Vec<u8, A>) -> Result<()
 {
     output.extend_from_slice(fault_word(fault.kind).as_bytes())?;
     output.extend_from_slice(b" ")?;
-    print_number(fault.span.start, output)?;
+    write_number(fault.span.start, output)?;
     output.extend_from_slice(b"..")?;
-    print_number(fault.span.end, output)
-}
-
-/// Prints a number in decimal.
-fn print_number<A: Allocator>(number: usize, output: &mut Vec<u8, A>) -> Result<(), AllocError>
-    ensures { OnOk result (output.new.items ≡ output.old.items ++ decimal number) }
-{
-    let mut digits = Buffer::new();
-    output.extend_from_slice(digits.format(number).as_bytes())
+    write_number(fault.span.end, output)
 }
 
 /// The word of a refusal.
