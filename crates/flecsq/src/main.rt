@@ -6,6 +6,7 @@ use clap::{Arg, Command, Error};
 use std::alloc::{AllocError, Global};
 use std::env;
 use std::fs::File;
+use std::hash::RandomState;
 use std::io::{self, BufReader, BufWriter, Read, Write};
 use std::process::ExitCode;
 use world_script::{FromRead, RunError, Summary, ToWrite, run};
@@ -89,8 +90,10 @@ fn run_buffered<R: Read + Drop>(rt: &HostRuntime, reader: R) -> Result<Summary, 
     let alloc = rt.alloc();
     let reader = BufReader::new(alloc, reader).map_err(|_| Fault::Memory)?;
     let mut writer = BufWriter::new(alloc, io::writer(rt)).map_err(|_| Fault::Memory)?;
+    let random = RandomState::new(rt).map_err(|_| Fault::Read)?;
     let summary = run(
         alloc,
+        random,
         &mut FromRead::new(reader),
         &mut ToWrite::new(&mut writer),
     )?;
