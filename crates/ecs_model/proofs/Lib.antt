@@ -15,3 +15,10 @@ pub mod DistinctRows
 mod Computed
 pub mod SpellingLemmas
 pub mod SyntaxLemmas
+pub mod Members
+pub mod Linked
+pub mod ShortLines
+pub mod LeastSets
+pub mod Reaching
+pub mod Closing
+pub mod Decided

@@ -19,3 +19,11 @@ pub mod Session
 pub mod Script
 pub mod Output
 pub mod Laws
+pub mod BuiltIns
+pub mod Reach
+pub mod Sets
+pub mod Line
+pub mod Links
+pub mod Cycles
+pub mod Falls
+pub mod ReachLaws

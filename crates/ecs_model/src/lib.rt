@@ -3,9 +3,11 @@
 //! The definitions are what every contract of the engine cites. `laws` has what is proved of them alone.
 #![tactic(auto)]
 
+pub mod built_ins;
 pub mod faults;
 pub mod laws;
 pub mod names;
+pub mod reach_laws;
 pub mod text_laws;
 pub mod values;
 

@@ -1,0 +1,5 @@
+use Rattle.ecs_model.proofs.Reaching.{reaches_compose}
+use Rattle.ecs_model.proofs.reach_laws.reach_composes.Goals as goal
+
+pub returns : goal.returns
+returns c = reaches_compose
