@@ -13,6 +13,14 @@ module _ {A : Type 0} where
         | inr c ↦ inr (c.0, c.1, onward c.2 n)
       ]
 
+  -- what a chain leads to is reached
+  pub chain_reached : (next : A → List A) (x y : A) → HasChain next x y → Reached next x y
+  chain_reached next x y c = go c.2
+    where
+      go : {z : A} → Reached next c.0 z → Reached next x z
+      go itself = onward itself c.1
+      go (onward r h) = onward (go r) h
+
   -- along a chain, and then along another one
   chains_compose : (next : A → List A) (x y z : A) → HasChain next x y → HasChain next y z → HasChain next x z
   chains_compose next x y z c d = (c.0, c.1, go (onward c.2 d.1) d.2)

@@ -1,0 +1,5 @@
+pub mod Finds
+pub mod Growing
+pub mod Trail
+pub mod Holders
+pub mod Lists

@@ -1,0 +1,127 @@
+//! What a search has found.
+ghost use Rattle.std.specs.Prelude.{◌≡◌, ◌==◌, ◌≤◌, ◌<◌, [], length, max, slice_index, OnOk, OnErr};
+ghost use Rattle.std.specs.List.{IsDistinct};
+ghost use Rattle.rel_travel.specs.Finds.{is_among, none_found, with_find};
+
+use std::alloc::{AllocError, Allocator, Global};
+use std::marker::Model;
+
+/// The entities that a search has found, by index: each once, in the order in which they were found.
+///
+/// Room for all indexes below a number is made by `reserve`; the other calls take no memory. `add` and `is_found` take constant time, and
+/// `clear` takes time in what was found.
+#[derive(Drop)]
+pub struct Found<A: Allocator = Global> {
+    /// Whether an entity was found, by its index.
+    marks: Vec<bool, A>,
+    /// As many places as marks or more, of which the first `count` are used.
+    order: Vec<u32, A>,
+    count: usize,
+}
+
+impl<A: Allocator> Model for Found<A> {
+    ghost use Rattle.std.specs.Prelude.{length, take};
+    ghost use Rattle.rel_travel.specs.Finds.{AreMarked, Finds};
+
+    ghost Value = { Finds };
+
+    ghost view = { λ f. record { size = length f.marks.items; items = take f.count f.order.items } };
+
+    ghost invariant = { λ f. AreMarked f.marks.items f.order.items f.count };
+}
+
+impl<A: Allocator + Copy> Found<A> {
+    /// Nothing found, and room for nothing.
+    pub fn new(alloc: A) -> Self
+        ensures { result ≡ none_found 0 }
+    {
+        Found {
+            marks: Vec::new(alloc),
+            order: Vec::new(alloc),
+            count: 0,
+        }
+    }
+
+    /// Makes room for all indexes below a number, where there is less. Where memory is refused, the room that was there stays.
+    pub fn reserve(&mut self, size: u32) -> Result<(), AllocError>
+        ensures items { self.new.items ≡ self.old.items }
+        ensures ok { OnOk result (self.new.size ≡ max self.old.size size) }
+        ensures err { OnErr result (self.new.size ≡ self.old.size) }
+    {
+        let size = size as usize;
+        if self.order.len() < size {
+            self.order.resize(size, 0)?;
+        }
+        if self.marks.len() < size {
+            self.marks.resize(size, false)?;
+        }
+        Ok(())
+    }
+}
+
+impl<A: Allocator> Found<A> {
+    /// Whether an entity was found.
+    pub fn is_found(&self, index: u32) -> bool
+        requires { index < self.now.size }
+        ensures { result ≡ is_among self.now.items index }
+    {
+        self.marks[index as usize]
+    }
+
+    /// How many entities were found.
+    pub fn len(&self) -> usize
+        ensures count { result ≡ length self.now.items }
+        ensures fits { result ≤ self.now.size }
+        ensures once { IsDistinct ◌==◌ self.now.items }
+    {
+        self.count
+    }
+
+    /// Every index below it fits.
+    pub fn size(&self) -> usize
+        ensures { result ≡ self.now.size }
+    {
+        self.marks.len()
+    }
+
+    /// The entities that were found.
+    pub fn as_slice(&self) -> &[u32]
+        ensures items { result.now ≡ self.now.items }
+        ensures once { IsDistinct ◌==◌ self.now.items }
+    {
+        &self.order[..self.count]
+    }
+
+    /// The entity that was found as one of the first, counted from 0.
+    pub fn at(&self, place: usize) -> u32
+        requires { place < length self.now.items }
+        ensures { result ≡ slice_index self.now.items place }
+    {
+        self.order[place]
+    }
+
+    /// Adds an entity at the end, if it wasn't found yet.
+    pub fn add(&mut self, index: u32)
+        requires { index < self.old.size }
+        ensures size { self.new.size ≡ self.old.size }
+        ensures items { self.new.items ≡ with_find self.old.items index }
+        ensures fits { length self.new.items ≤ self.new.size }
+    {
+        if !self.marks[index as usize] {
+            self.marks[index as usize] = true;
+            self.order[self.count] = index;
+            self.count += 1;
+        }
+    }
+
+    /// Forgets what was found.
+    pub fn clear(&mut self)
+        ensures { self.new ≡ none_found self.old.size }
+    {
+        while self.count > 0 {
+            self.count -= 1;
+            let last = self.order[self.count];
+            self.marks[last as usize] = false;
+        }
+    }
+}

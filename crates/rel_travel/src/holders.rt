@@ -1,0 +1,66 @@
+//! Who holds an id that a pattern matches.
+ghost use Rattle.std.specs.Prelude.{◌≡◌, ◌<◌, ◌↔◌, ℕ, All, Contains, flat_map, map};
+ghost use Rattle.rel_travel.specs.Holders.{holders, holders_of_pair};
+ghost use Rattle.rel_travel.specs.Growing.{IsGrownBy};
+
+use crate::found::Found;
+use crate::graph::Graph;
+use crate::work_list::Rule;
+use component_index::{Part, Pattern};
+use ecs_id::{EntityId, TableKey};
+use std::alloc::Allocator;
+
+/// A view of the tables of a world, by what their entities hold.
+pub trait Holders: Graph {
+    ghost use Rattle.std.specs.Prelude.{List, ℕ};
+    ghost use Rattle.ecs_id.specs.declared.TableKey.{TableKey as Key};
+
+    /// The indexes of the entities in a table.
+    ghost rows: { Self → Key → List ℕ };
+
+    fn rows(&self, table: TableKey) -> &[EntityId]
+        ensures { map (λ e. e.index) result.now ≡ rows self.now table };
+
+    /// The tables whose entities hold an id that the pattern matches.
+    fn tables_of(&self, pattern: Pattern) -> &[TableKey]
+        ensures { (y : ℕ) → Contains (flat_map (rows self.now) result.now) y ↔ Contains (holders (Self.entities self.now) (Self.ids self.now) pattern) y };
+}
+
+/// From an entity to those that hold a pair of a relationship with it as the target.
+#[derive(Drop)]
+pub struct Downward<'a, G> {
+    pub graph: &'a G,
+    pub relationship: u32,
+}
+
+impl<G: Holders> Rule for Downward<'_, G> {
+    ghost next = { λ d x. holders_of_pair (G.entities d.graph.now) (G.ids d.graph.now) x d.relationship };
+
+    fn follow<A: Allocator>(&self, index: u32, found: &mut Found<A>) {
+        let first = Part::Is(self.relationship);
+        let second = Some(Part::Is(index));
+        add_holders(self.graph, Pattern { first, second }, found);
+    }
+}
+
+/// Adds the entities that hold an id which the pattern matches.
+pub fn add_holders<G: Holders, A: Allocator>(graph: &G, pattern: Pattern, found: &mut Found<A>)
+    requires { All (λ y. y < found.old.size) (holders (G.entities graph.now) (G.ids graph.now) pattern) }
+    ensures size { found.new.size ≡ found.old.size }
+    ensures grown { IsGrownBy (holders (G.entities graph.now) (G.ids graph.now) pattern) found.old.items found.new.items }
+{
+    for table in graph.tables_of(pattern) {
+        add_rows(graph.rows(*table), found);
+    }
+}
+
+/// Adds the entities of a table.
+fn add_rows<A: Allocator>(rows: &[EntityId], found: &mut Found<A>)
+    requires { All (λ e. e.index < found.old.size) rows.now }
+    ensures size { found.new.size ≡ found.old.size }
+    ensures grown { IsGrownBy (map (λ e. e.index) rows.now) found.old.items found.new.items }
+{
+    for entity in rows {
+        found.add(entity.index);
+    }
+}

@@ -1,0 +1,21 @@
+//! Searches along the relationships of a world, in room that is made once.
+#![tactic(auto)]
+
+mod chains;
+mod falls;
+mod found;
+mod graph;
+mod holders;
+mod line;
+mod path;
+mod scratch;
+mod work_list;
+
+pub use falls::Falling;
+pub use found::Found;
+pub use graph::{Graph, Upward};
+pub use holders::{Downward, Holders, add_holders};
+pub use scratch::{
+    Scratch, above, below, deleted, first_up, pull, reaches, would_cycle,
+};
+pub use work_list::{Rule, gather};

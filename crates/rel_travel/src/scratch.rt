@@ -1,0 +1,289 @@
+//! The searches of a graph, in room that is made once.
+ghost use Rattle.std.specs.Prelude.{◌≡◌, ◌↔◌, ◌+◌, ◌≤◌, ◌<◌, ℕ, [], length, max, find, Contains, IsTrue, OnOk, OnErr};
+ghost use Rattle.std.specs.List.{list_any, IsDistinct};
+ghost use Rattle.std.specs.Prelude.{◌==◌};
+ghost use Rattle.component_index.specs.Patterns.{matches};
+ghost use Rattle.ecs_model.specs.Falls.{falling};
+ghost use Rattle.ecs_model.specs.Links.{IsAcyclic, IsReached, line, reaches as reaches_in, upward};
+ghost use Rattle.ecs_model.specs.Reach.{Reached};
+ghost use Rattle.rel_travel.specs.Lists.{GivesOne, IsListing, IsToCome, given_by, steps};
+ghost use Rattle.rel_travel.specs.Growing.{IsGrownBy};
+
+use crate::chains::{Reach, begin, leads, leads_back, reach_of};
+use crate::falls::find_falling;
+use crate::found::Found;
+use crate::graph::{Graph, Upward};
+use crate::holders::{Downward, Holders};
+use crate::line::first_hit;
+use crate::path::Path;
+use crate::work_list::Rule;
+use component_index::Pattern;
+use std::alloc::{AllocError, Allocator, Global};
+use std::marker::Model;
+
+/// The list that was begun last.
+#[derive(Clone, Copy)]
+struct Listing {
+    relationship: u32,
+    /// Whether it goes from sources to targets, and not from targets to sources.
+    is_upward: bool,
+    /// Whether it goes on from each entity that it gives.
+    goes_on: bool,
+    /// How many of the found entities it has given.
+    given: usize,
+}
+
+/// Room for the searches of a graph.
+///
+/// Room is made by `reserve` alone: the searches take no memory and can't fail. Each forgets what the one before it found, in time
+/// in what that was; the size of the graph costs no search anything.
+#[derive(Drop)]
+pub struct Scratch<A: Allocator = Global> {
+    found: Found<A>,
+    path: Path<A>,
+    list: Listing,
+}
+
+impl<A: Allocator> Model for Scratch<A> {
+    ghost use Rattle.std.specs.Prelude.{◌-◌, ◌≤◌};
+    ghost use Rattle.rel_travel.specs.Lists.{Work};
+
+    ghost Value = { Work };
+
+    ghost view = { λ s. record { size = s.found.size; found = s.found.items; relationship = s.list.relationship; is_upward = s.list.is_upward; goes_on = s.list.goes_on; given = s.list.given } };
+
+    ghost invariant = { λ s. s.found.size ≤ s.path.room - 1 };
+}
+
+impl<A: Allocator + Copy> Scratch<A> {
+    /// A scratch that covers graphs of size 0 alone. It takes no memory.
+    pub fn new(alloc: A) -> Self
+        ensures size { result.size ≡ 0 }
+        ensures found { result.found ≡ [] }
+    {
+        Scratch {
+            found: Found::new(alloc),
+            path: Path::new(alloc),
+            list: Listing {
+                relationship: 0,
+                is_upward: true,
+                goes_on: false,
+                given: 0,
+            },
+        }
+    }
+
+    /// Makes room for graphs of this size, where there is less. A list that was begun goes on.
+    ///
+    /// Where memory is refused, the scratch covers what it covered before.
+    pub fn reserve(&mut self, size: u32) -> Result<(), AllocError>
+        ensures ok { OnOk result (self.new ≡ record self.old { size = max self.old.size size }) }
+        ensures refused { OnErr result (self.new ≡ self.old) }
+    {
+        self.path.reserve(size as usize + 1)?;
+        self.found.reserve(size)
+    }
+}
+
+impl<A: Allocator> Scratch<A> {
+    /// Whether there is room for the searches of a graph.
+    pub fn covers<G: Graph>(&self, graph: &G) -> bool
+        ensures { IsTrue result ↔ (G.size graph.now ≤ self.now.size) }
+    {
+        graph.size() as usize <= self.found.size()
+    }
+
+    /// What the last search found, each entity once, by index.
+    pub fn found(&self) -> &[u32]
+        ensures found { result.now ≡ self.now.found }
+        ensures once { IsDistinct ◌==◌ result.now }
+    {
+        self.found.as_slice()
+    }
+}
+
+/// Begins the list of all entities that a relationship leads to from an entity; `pull` gives them.
+///
+/// It goes through the ids of one entity.
+pub fn above<G: Graph, A: Allocator>(
+    graph: &G,
+    index: u32,
+    relationship: u32,
+    scratch: &mut Scratch<A>,
+)
+    requires covered { G.size graph.now ≤ scratch.old.size }
+    requires inside { index < scratch.old.size }
+    ensures size { scratch.new.size ≡ scratch.old.size }
+    ensures begun { IsListing (G.entities graph.now) (G.ids graph.now) scratch.new }
+    ensures none_given { given_by scratch.new ≡ [] }
+    ensures reached { (y : ℕ) → IsToCome (G.entities graph.now) (G.ids graph.now) scratch.new y ↔ IsReached (G.ids graph.now) relationship index y }
+{
+    let _ = graph.size();
+    let reach = reach_of(graph, relationship);
+    let rule = Upward {
+        graph,
+        relationship,
+    };
+    begin(&rule, index, reach, &mut scratch.found);
+    scratch.list = Listing {
+        relationship,
+        is_upward: true,
+        goes_on: reach.is_transitive,
+        given: 0,
+    };
+}
+
+/// Begins the list of all entities from which a relationship leads to an entity; `pull` gives them.
+///
+/// It goes through the sources of the pairs with this one target.
+pub fn below<G: Holders, A: Allocator>(
+    graph: &G,
+    index: u32,
+    relationship: u32,
+    scratch: &mut Scratch<A>,
+)
+    requires covered { G.size graph.now ≤ scratch.old.size }
+    requires inside { index < scratch.old.size }
+    ensures size { scratch.new.size ≡ scratch.old.size }
+    ensures begun { IsListing (G.entities graph.now) (G.ids graph.now) scratch.new }
+    ensures none_given { given_by scratch.new ≡ [] }
+    ensures reached { (y : ℕ) → IsToCome (G.entities graph.now) (G.ids graph.now) scratch.new y ↔ IsReached (G.ids graph.now) relationship y index }
+{
+    let _ = graph.size();
+    let reach = reach_of(graph, relationship);
+    let rule = Downward {
+        graph,
+        relationship,
+    };
+    begin(&rule, index, reach, &mut scratch.found);
+    scratch.list = Listing {
+        relationship,
+        is_upward: false,
+        goes_on: reach.is_transitive,
+        given: 0,
+    };
+}
+
+/// Gives the next entity of the list that was begun last, each once and in no order that is told, or None where all are given.
+///
+/// It goes through the ids, or the sources, of the entity that it gives.
+pub fn pull<G: Holders, A: Allocator>(graph: &G, scratch: &mut Scratch<A>) -> Option<u32>
+    requires covered { G.size graph.now ≤ scratch.old.size }
+    requires begun { IsListing (G.entities graph.now) (G.ids graph.now) scratch.old }
+    ensures size { scratch.new.size ≡ scratch.old.size }
+    ensures begun { IsListing (G.entities graph.now) (G.ids graph.now) scratch.new }
+    ensures given { GivesOne (G.entities graph.now) (G.ids graph.now) scratch.old result scratch.new }
+    ensures fits { length (given_by scratch.new) ≤ scratch.new.size }
+{
+    let _ = graph.size();
+    let list = scratch.list;
+    if scratch.found.len() <= list.given {
+        return None;
+    }
+    let entity = scratch.found.at(list.given);
+    scratch.list.given += 1;
+    if list.goes_on {
+        follow(graph, list, entity, &mut scratch.found);
+    }
+    Some(entity)
+}
+
+/// Adds what an entity brings to a list.
+fn follow<G: Holders, A: Allocator>(graph: &G, list: Listing, entity: u32, found: &mut Found<A>)
+    requires covered { G.size graph.now ≤ found.old.size }
+    ensures size { found.new.size ≡ found.old.size }
+    ensures grown { IsGrownBy (steps (G.entities graph.now) (G.ids graph.now) list.is_upward list.relationship entity) found.old.items found.new.items }
+{
+    let _ = graph.size();
+    let relationship = list.relationship;
+    if list.is_upward {
+        let rule = Upward {
+            graph,
+            relationship,
+        };
+        rule.follow(entity, found);
+    } else {
+        let rule = Downward {
+            graph,
+            relationship,
+        };
+        rule.follow(entity, found);
+    }
+}
+
+/// Whether a relationship leads from one entity to another.
+///
+/// It goes through the ids of the entities that are reached, each once.
+pub fn reaches<G: Graph, A: Allocator>(
+    graph: &G,
+    relationship: u32,
+    source: u32,
+    target: u32,
+    scratch: &mut Scratch<A>,
+) -> bool
+    requires covered { G.size graph.now ≤ scratch.old.size }
+    requires source { source < scratch.old.size }
+    requires target { target < scratch.old.size }
+    ensures size { scratch.new.size ≡ scratch.old.size }
+    ensures answer { result ≡ reaches_in (G.ids graph.now) (G.entities graph.now) relationship source target }
+{
+    leads(graph, relationship, source, target, &mut scratch.found)
+}
+
+/// Whether a pair of the relationship, from the source to the target, would close a chain: a chain of pairs leads from the target
+/// to the source, or they are one.
+///
+/// It goes through the ids of the target and of its ancestors, each once.
+pub fn would_cycle<G: Graph, A: Allocator>(
+    graph: &G,
+    relationship: u32,
+    source: u32,
+    target: u32,
+    scratch: &mut Scratch<A>,
+) -> bool
+    requires covered { G.size graph.now ≤ scratch.old.size }
+    requires source { source < scratch.old.size }
+    requires target { target < scratch.old.size }
+    ensures size { scratch.new.size ≡ scratch.old.size }
+    ensures answer { IsTrue result ↔ Reached (upward (G.ids graph.now) relationship) target source }
+{
+    leads_back(graph, relationship, source, target, &mut scratch.found)
+}
+
+/// The first entity in the line upward from an entity that holds an id which the pattern matches. The entity itself isn't in the line.
+///
+/// It goes through the ids of each entity once, though it may stand in the line more often.
+pub fn first_up<G: Graph, A: Allocator>(
+    graph: &G,
+    index: u32,
+    relationship: u32,
+    pattern: Pattern,
+    scratch: &mut Scratch<A>,
+) -> Option<u32>
+    requires covered { G.size graph.now ≤ scratch.old.size }
+    requires inside { index < scratch.old.size }
+    requires acyclic { IsAcyclic (G.ids graph.now) relationship }
+    ensures size { scratch.new.size ≡ scratch.old.size }
+    ensures first { result ≡ find (λ t. list_any (matches pattern) (G.ids graph.now t)) (line (G.ids graph.now) (G.entities graph.now) relationship index) }
+{
+    first_hit(
+        graph,
+        index,
+        relationship,
+        pattern,
+        &mut scratch.found,
+        &mut scratch.path,
+    )
+}
+
+/// Finds the entity, and all entities that fall with it when it is deleted.
+///
+/// It goes through what mentions each of them.
+pub fn deleted<G: Holders, A: Allocator>(graph: &G, index: u32, scratch: &mut Scratch<A>)
+    requires covered { G.size graph.now ≤ scratch.old.size }
+    requires inside { index < scratch.old.size }
+    ensures size { scratch.new.size ≡ scratch.old.size }
+    ensures least { (y : ℕ) → Contains scratch.new.found y ↔ Reached (falling (G.ids graph.now) (G.entities graph.now)) index y }
+{
+    find_falling(graph, index, &mut scratch.found);
+}

@@ -1,0 +1,35 @@
+//! The least set that holds what it begins with, and all that its members bring.
+ghost use Rattle.std.specs.Prelude.{◌≡◌, ◌<◌, ℕ, All};
+ghost use Rattle.rel_travel.specs.Growing.{IsGrownBy};
+ghost use Rattle.ecs_model.specs.Reach.{IsLeast};
+
+use crate::found::Found;
+use std::alloc::Allocator;
+
+/// What an entity brings.
+pub trait Rule {
+    ghost use Rattle.std.specs.Prelude.{List, ℕ};
+
+    ghost next: { Self → ℕ → List ℕ };
+
+    /// Adds what the entity brings, in any order, each once, but for what was found before.
+    fn follow<A: Allocator>(&self, index: u32, found: &mut Found<A>)
+        requires { All (λ y. y < found.old.size) (next self.now index) }
+        ensures size { found.new.size ≡ found.old.size }
+        ensures grown { IsGrownBy (next self.now index) found.old.items found.new.items };
+}
+
+/// Adds all that the found entities bring, and what that brings, and so on.
+///
+/// Each entity is followed once. It takes no memory.
+pub fn gather<R: Rule, A: Allocator>(rule: &R, found: &mut Found<A>)
+    requires { (x : ℕ) → All (λ y. y < found.old.size) (R.next rule.now x) }
+    ensures size { found.new.size ≡ found.old.size }
+    ensures least { IsLeast (R.next rule.now) found.old.items found.new.items }
+{
+    let mut done = 0;
+    while done < found.len() {
+        rule.follow(found.at(done), found);
+        done += 1;
+    }
+}
