@@ -4,7 +4,7 @@ use Rattle.ecs_id.specs.Id.{id_cmp}
 use Rattle.table_store.specs.Store.{Shape, shape_of, table_at}
 use Rattle.table_store.specs.Kept.{IsPut, edge_of, edges_of, stepped}
 use Rattle.table_store.specs.declared.store.Slot.{Slot}
-use Rattle.raw_column.specs.declared.column.Memory.{Memory}
+use Rattle.raw_column.specs.declared.block.Memory.{Memory}
 use Rattle.table_store.proofs.Slots.{one_some}
 use Rattle.table_store.proofs.Shapes.{HaveSizes}
 use Rattle.table_store.proofs.Changes.{there, contains}
