@@ -16,7 +16,7 @@ use Rattle.std.proofs.lemmas.Bool.Decides.{Decides-eqb}
 use Rattle.ecs_id.specs.declared.EntityId.{EntityId}
 use Rattle.std.proofs.lemmas.Map.Entries.{lookup_from_place, place_from_lookup}
 use Rattle.name_index.specs.declared.positions.Positions.{Positions}
-use Rattle.name_index.specs.Names.{Names, names_in, entity_eq, IsUnnamed, IsOneToOne, OthersKeepTheirs, AreKept, holder_at}
+use Rattle.name_index.specs.Names.{Names, names_in, entity_eq, IsUnnamed, IsOneToOne, OthersKeepTheirs, AreKept}
 use Rattle.name_index.specs.Positions.{position_of}
 
 -- the test of entities tells whether they are one

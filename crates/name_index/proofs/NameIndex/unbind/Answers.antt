@@ -1,4 +1,4 @@
-use Rattle.std.proofs.Common.{◌≡◌, Some, ◌∙◌, rules}
+use Rattle.std.proofs.Common.{◌∙◌, rules}
 use Rattle.std.specs.String.{string_bytes}
 use Rattle.std.specs.FinMap as finite
 use Rattle.name_index.proofs.KeptLemmas.{AreKept-remove, moved_is_kept}
