@@ -6,12 +6,11 @@ use Rattle.ecs_id.specs.declared.TableKey.{TableKey}
 use Rattle.std.specs.FinMap.{is_sorted}
 use Rattle.ecs_id.specs.Id.{Id, id_cmp, id_eq, packed, plain}
 use Rattle.ecs_id.specs.declared.EntityId.{EntityId}
-use Rattle.ecs_table.specs.Archetype.{Archetype, IsSound, size_of}
-use Rattle.ecs_table.proofs.Rows.{data_says, found_in_shape, index_cases, size_absent}
-use Rattle.table_store.specs.Store.{HasSize, Shape, Store, find_in, key_eq, released_at, room_at, shape_at, shape_of, shaped_at, table_at, with_id, without_id}
+use Rattle.ecs_table.specs.Archetype.{Archetype}
+use Rattle.table_store.specs.Store.{HasSize, Shape, Store, find_in, key_eq, released_at, shape_at, shape_of, shaped_at, table_at, with_id, without_id}
 use Rattle.table_store.specs.Rows.{rows_in}
 use Rattle.store_tests.specs.Sizes.{IsOfSizes, IsSized, bytes_of}
-use Rattle.table_store.proofs.Changes.{room_here, rows_here}
+use Rattle.table_store.proofs.Changes.{rows_here}
 use Rattle.table_store.proofs.Making.{some_of}
 use Rattle.table_store.proofs.Shapes.{both, found_get, get_filtered, get_put}
 use Rattle.table_store.proofs.Slots.{none_is_some, one_some}

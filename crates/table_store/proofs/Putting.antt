@@ -1,7 +1,7 @@
 -- A table is found or made.
 use Rattle.std.proofs.Common.{◌≡◌, ◌≢◌, ◌↔◌, ℕ, suc, ◌+◌, ◌-◌, ◌^◌, ◌<◌, ◌≤◌, Bool, true, false, if◌then◌else◌, List, ◌∷◌, Option, Some, None, IsSome, IsNone, IfSome, IfOk, OnOk, IsOk, IsTrue, Result, Ok, Err, map, max, option_map, unwrap_or, slice_index_or, slice_get, length, [], refl, sym, ap, subst, ◌∙◌, true≢false, arith, rules}
 use Rattle.std.specs.FinMap.{is_sorted}
-use Rattle.std.specs.Ordering.{nat_cmp, is_eq}
+use Rattle.std.specs.Ordering.{nat_cmp}
 use Rattle.std.specs.Map.{lookup}
 use Rattle.slab.specs.Slab as slots
 use Rattle.slab.specs.Slab.{Slab, Updates}

@@ -1,5 +1,5 @@
 -- Edges between tables, and the shapes to which they lead.
-use Rattle.std.proofs.Common.{◌≡◌, ◌⊎◌, ℕ, ◌≤◌, ◌==◌, Bool, true, false, cond, List, Option, Some, None, IsSome, IsNone, IfSome, IsTrue, Ok, Err, is_some, option_map, slice_get, unwrap_or, if◌then◌else◌, nat_le, not, refl, sym, ap, subst, ◌∙◌, true≢false, inl, inr}
+use Rattle.std.proofs.Common.{◌≡◌, ◌⊎◌, ℕ, ◌≤◌, ◌==◌, Bool, true, false, cond, List, Option, Some, None, IsSome, IsNone, IfSome, IsTrue, Err, is_some, option_map, slice_get, unwrap_or, if◌then◌else◌, nat_le, not, refl, sym, ap, subst, ◌∙◌, true≢false, inl, inr}
 use Rattle.std.proofs.lemmas.Bool.Decides.{Decides-eqb}
 use Rattle.std.specs.List.{list_all, zip}
 use Rattle.std.specs.FinMap.{is_sorted}
@@ -19,7 +19,6 @@ use Rattle.table_store.specs.declared.store.Slot.{Slot}
 use Rattle.table_store.specs.Store.{Store, Shape, IsStore, HasSize, table_at, ids_at, shape_at, shape_of, shaped, key_eq, find_in, with_id, without_id}
 use Rattle.table_store.specs.Kept.{Held, store_of, standing, stepped, edge_of, edges_of, key_of, IsKept, IsSlot, IsMore, IsLess, IsPut, IsMade, IsWritten}
 use Rattle.table_store.proofs.Slots.{key_eq_true, table_at-slots, same_seen, one_some}
-use Rattle.table_store.proofs.StoreLemmas.{stored}
 use Rattle.table_store.proofs.Shapes.{HaveSizes, get_put, get_filtered, small_at, size_of_stored}
 use Rattle.table_store.proofs.Changes.{there, table_here}
 use Rattle.table_store.proofs.Making.{sized_shape, stands_of_shape, some_of}

@@ -1,5 +1,5 @@
 -- The fields of a store: slots of tables, the key of the table of each list of ids, and the keys by serial.
-use Rattle.std.specs.Prelude.{◌≡◌, ◌↔◌, ℕ, suc, ◌≤◌, ◌==◌, cond, if◌then◌else◌, List, [], ◌∷◌, map, Option, Some, None, IsSome, IsNone, IfSome, ◌⊎◌, IfOk, OnErr, Result, max, ◌<◌}
+use Rattle.std.specs.Prelude.{◌≡◌, ◌↔◌, ℕ, suc, ◌≤◌, ◌==◌, cond, if◌then◌else◌, List, [], ◌∷◌, Option, Some, None, IsSome, IsNone, IfSome, ◌⊎◌, IfOk, OnErr, Result, max, ◌<◌}
 use Rattle.std.specs.List.{zip}
 use Rattle.std.specs.Ordering.{nat_cmp}
 use Rattle.std.specs.declared.vec.Vec.{Vec}

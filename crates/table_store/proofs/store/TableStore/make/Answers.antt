@@ -1,4 +1,4 @@
-use Rattle.std.proofs.Common.{refl, sym, ap, subst, ◌∙◌, rules}
+use Rattle.std.proofs.Common.{refl, sym, ap, subst, ◌∙◌}
 use Rattle.std.proofs.Common.{List, Some}
 use Rattle.slab.specs.Slab.{Slab}
 use Rattle.ecs_id.specs.Id.{Id}

@@ -1,9 +1,8 @@
-use Rattle.std.proofs.Common.{◌≡◌, Some, ℕ, ◌≤◌, IfSome, IsTrue, Ok, slice_get, refl, sym, ap, subst, ◌∙◌}
+use Rattle.std.proofs.Common.{ℕ, ◌≤◌, IfSome, IsTrue, Ok, slice_get, refl, sym, ap, subst, ◌∙◌}
 use Rattle.std.specs.FinMap.{is_sorted}
 use Rattle.ecs_id.specs.Id.{id_cmp}
 use Rattle.table_store.specs.Store.{Shape, shape_of, table_at}
-use Rattle.table_store.specs.Kept.{IsPut, edge_of, edges_of, stepped}
-use Rattle.table_store.specs.declared.store.Slot.{Slot}
+use Rattle.table_store.specs.Kept.{IsPut, stepped}
 use Rattle.raw_column.specs.declared.block.Memory.{Memory}
 use Rattle.table_store.proofs.Slots.{one_some}
 use Rattle.table_store.proofs.Shapes.{HaveSizes}
