@@ -10,7 +10,7 @@ use Rattle.std.specs.Ordering.{nat_cmp, is_eq}
 use Rattle.std.specs.declared.vec.Vec.{Vec}
 use Rattle.ecs_id.specs.Id.{Id, id_cmp, id_eq, id_decides, id_eq_equiv}
 use Rattle.ecs_id.specs.declared.TableKey.{TableKey}
-use Rattle.table_store.specs.Kept.{FindAlike, SetsIds, key_of}
+use Rattle.table_store.specs.Kept.{SetsIds, key_of}
 
 -- whether two lists of ids are one, as the index finds it
 abbrev pub ids_eq : List Id → List Id → Bool
@@ -57,10 +57,3 @@ get_serial m n k w u q = by (q == k) refl
     by : (b : Bool) → (q == k) ≡ b → ((q ≡ k) × (ordered.get nat_cmp n q ≡ w)) ⊎ ((q ≢ k) × (ordered.get nat_cmp n q ≡ ordered.get nat_cmp m q))
     by true e = let same = (Decides-eqb q k).0 e in inl (same, ap (ordered.get nat_cmp n) same ∙ u.1)
     by false e = let apart : q ≢ k = λ h. true≢false (sym ((Decides-eqb q k).1 h) ∙ e) in inr (apart, u.2 q (unequal k q (λ h. apart (sym h))))
-
--- a serial that was entered and taken out again, where none stood
-pub entered_and_out : (m n o : BTreeMap ℕ TableKey) (k : ℕ) (w : TableKey) → ordered.get nat_cmp m k ≡ None → ordered.Updates nat_cmp m n k (Some w) → ordered.UpdatesBy nat_cmp (nat_cmp k) n o None → FindAlike m o
-entered_and_out m n o k w absent u v q = elim (get_serial n o k None v q) [
-  | inl a ↦ a.1 ∙ sym absent ∙ ap (ordered.get nat_cmp m) (sym a.0)
-  | inr a ↦ a.1 ∙ elim (get_serial m n k (Some w) u q) [ inl b ↦ absurd (a.0 b.0) | inr b ↦ b.1 ]
-]

@@ -41,9 +41,6 @@ module _ (s : Store) where
       by None h = absurd (none_is_some g h)
       by (Some t) h = refl
 
-  pub ids_of_shape_at : (q : TableKey) (g : Shape) → shape_at s q ≡ Some g → ids_at s q ≡ Some (ids_of g)
-  ids_of_shape_at q g e = ids_in_shape (table_at s q) ∙ ap (option_map ids_of) e
-
 zip_parts : (f : Shape) → ◌≡◌ {A = Shape} (zip (ids_of f) (map (λ c. c.1) f)) f
 zip_parts [] = refl
 zip_parts (c ∷ f) = ap (λ l. c ∷ l) (zip_parts f)
