@@ -23,6 +23,7 @@ import glob
 import os
 import re
 import shutil
+import signal
 import subprocess
 import sys
 import tempfile
@@ -259,6 +260,7 @@ class Run:
     def __init__(self, asked, uses):
         self.asked, self.uses, self.printing = asked, uses, threading.Lock()
         self.told = self.silent = 0
+        self.is_stopped = False
 
     def tell(self, crate, name, is_telling, words, said=""):
         with self.printing:
@@ -270,12 +272,16 @@ class Run:
 
     def try_all(self, crate, edits):
         """Tries edits of one crate, in turn, in a copy of their own."""
+        if self.is_stopped:
+            return
         with tempfile.TemporaryDirectory(prefix="edits-") as folder:
             room = Room(folder, self.uses)
             room.take(crate)
             said, status = room.check(crate, {})
             known = functions_of(said, crate)
             for edit in edits:
+                if self.is_stopped:
+                    return
                 name = os.path.basename(edit)[: -len(".edit")]
                 if status:
                     self.tell(crate, name, False, "NOT TRIED: the crate as it stands is not proved", said)
@@ -334,12 +340,21 @@ def main():
     parts = max(1, lanes // max(len(edits), 1))
     tasks = [(crate, found[at::parts]) for crate, found in edits.items() for at in range(parts) if found[at::parts]]
     tasks.sort(key=lambda it: -len(it[1]))
+    # (a run that is stopped ends once the checks that it has begun do, and leaves no copies behind)
+    signal.signal(signal.SIGTERM, signal.default_int_handler)
     with ThreadPoolExecutor(lanes) as pool:
-        for it in [pool.submit(run.try_all, crate, found) for crate, found in tasks]:
-            it.result()
+        try:
+            for it in [pool.submit(run.try_all, crate, found) for crate, found in tasks]:
+                it.result()
+        except BaseException:
+            run.is_stopped = True
+            raise
     print(f"{run.told} edits say something of a contract, {run.silent} do not")
     return 1 if run.silent else 0
 
 
 if __name__ == "__main__":
-    sys.exit(main())
+    try:
+        sys.exit(main())
+    except KeyboardInterrupt:
+        sys.exit(130)
