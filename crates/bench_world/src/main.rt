@@ -10,6 +10,7 @@ use ecs_schema::{Kind, Schema, SchemaError};
 use ecs_world::World;
 use std::alloc::Global;
 use std::env;
+use std::hash::RandomState;
 
 /// How many entities are made where no argument says it.
 const COUNT: u32 = 10_000;
@@ -68,8 +69,8 @@ fn tag(world: &mut World, name: &str) -> Result<Id, Fault> {
 }
 
 impl Bench {
-    fn new(alloc: Global, count: u32) -> Result<Bench, Fault> {
-        let mut world = World::new(alloc).or(Err(Fault::World))?;
+    fn new(alloc: Global, random: RandomState, count: u32) -> Result<Bench, Fault> {
+        let mut world = World::new(alloc, random).or(Err(Fault::World))?;
         let plane = [("x", Kind::I32), ("y", Kind::I32)];
         let position = component(alloc, &mut world, "Position", &plane)?;
         let velocity = component(alloc, &mut world, "Velocity", &plane)?;
@@ -143,8 +144,8 @@ impl Bench {
     }
 }
 
-fn run(alloc: Global, count: u32) -> Result<(i128, u64), Fault> {
-    let mut bench = Bench::new(alloc, count)?;
+fn run(alloc: Global, random: RandomState, count: u32) -> Result<(i128, u64), Fault> {
+    let mut bench = Bench::new(alloc, random, count)?;
     for number in 0..count {
         bench.make(number)?;
     }
@@ -157,7 +158,7 @@ fn main(rt: HostRuntime) -> std::io::Result<()> {
         Some(word) => word.parse().unwrap_or(COUNT),
         None => COUNT,
     };
-    match run(rt.alloc(), count) {
+    match run(rt.alloc(), RandomState::new(&rt)?, count) {
         Ok((sum, ids)) => println!(rt; "{sum} {ids}")?,
         Err(fault) => println!(rt; "{fault:?}")?,
     }

@@ -13,7 +13,7 @@ use Rattle.ecs_id.specs.Id.{Id, id_cmp, id_cmp_total, id_eq}
 use Rattle.ecs_model.specs.Map.{Map}
 use Rattle.ecs_model.proofs.Differences.{last_value}
 use Rattle.ecs_model.proofs.Maps.{both_true, eq_itself, of_some, some_of}
-use Rattle.entity_index.specs.Entities.{Entities, IsWellFormed, IsNext, is_alive, is_live, place_of, count_at}
+use Rattle.entity_index.specs.Entities.{Entities, IsWellFormed, IsNext, is_alive, is_live, place_of}
 use Rattle.entity_index.specs.Entities as index
 use Rattle.ecs_world.specs.Archetypes.{IsSound, meaning}
 use Rattle.ecs_world.specs.Holdings.{HoldAlike, Holdings, agrees, cells_at, held_at, holds_id, lives, place_in, with_cells, with_entity}

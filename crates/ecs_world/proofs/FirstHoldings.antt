@@ -1,10 +1,9 @@
 -- The first holdings, and the next entity.
-use Rattle.std.proofs.Common.{◌≡◌, ℕ, suc, zero, ◌↔◌, ◌+◌, ◌-◌, Bool, true, false, cond, [], Option, Some, None, option_map, refl, sym, ap, ◌∙◌}
+use Rattle.std.proofs.Common.{◌≡◌, ◌↔◌, Bool, true, false, cond, [], Option, Some, None, option_map, refl, sym, ap, ◌∙◌}
 use Rattle.ecs_id.specs.declared.EntityId.{EntityId}
 use Rattle.ecs_id.specs.declared.Place.{Place}
-use Rattle.ecs_model.specs.World as model
-use Rattle.ecs_model.specs.World.{last_index}
-use Rattle.entity_index.specs.Entities.{Entities, IsWellFormed, is_alive, built_in_entities, first_passing, first_index, place_of, count_at}
+use Rattle.ecs_model.specs.World.{last_index, next_among}
+use Rattle.entity_index.specs.Entities.{Entities, IsWellFormed, is_alive, built_in_entities, place_of}
 use Rattle.entity_index.specs.Entities as index
 use Rattle.ecs_world.specs.Archetypes.{IsSound, meaning}
 use Rattle.ecs_world.specs.Holdings.{first_holdings, upcoming}
@@ -13,17 +12,9 @@ use Rattle.table_store.specs.Store.{Store, key_eq, shape_of, table_at}
 use Rattle.std.specs.Option.{option_and_then}
 use Rattle.std.specs.List.{find, flat_map}
 
-same_passing : (test : ℕ → Bool) (n i : ℕ) → first_passing test n i ≡ model.first_passing test n i
-same_passing test zero i = refl
-same_passing test (suc n) i = ap (λ o. elim (test i) as (λ _. Option ℕ) [ true ↦ Some i | false ↦ o ]) (same_passing test n (i + 1))
-
-next_by : (w : Entities) → index.next_entity w ≡ model.next_among w.live w.deletions w.last
-unfolding index.next_entity model.next_among
-next_by w = ap (option_map (λ i. record { index = i; generation = count_at w.deletions i })) (same_passing (index.is_free w) (w.last - first_index + 1) first_index)
-
 -- the index and the holdings agree on which entity comes next
 pub same_next : (w : Entities) (s : Store) → w.last ≡ last_index → index.next_entity w ≡ upcoming (meaning w s)
-same_next w s last = next_by w ∙ ap (model.next_among w.live w.deletions) last
+same_next w s last = ap (next_among w.live w.deletions) last
 
 no_row : (s : Store) → s.tables ≡ [] → (p : Place) → row_at s p ≡ None
 unfolding row_at table_at
