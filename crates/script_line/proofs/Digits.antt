@@ -19,3 +19,7 @@ below_power n i k h le =
 -- before the last of 38 digits
 pub below_37 : (n i : ℕ) → n < 10 ^ i → i < 38 → n < 10 ^ 37
 below_37 n i h lt = below_power n i 37 h (omega arith)
+
+-- before the last of 19 digits
+pub below_18 : (n i : ℕ) → n < 10 ^ i → i < 19 → n < 10 ^ 18
+below_18 n i h lt = below_power n i 18 h (omega arith)

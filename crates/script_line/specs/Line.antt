@@ -1,5 +1,5 @@
 -- What a line that was read asks, as a form.
-use Rattle.std.specs.Prelude.{ℕ, List, map}
+use Rattle.std.specs.Prelude.{ℕ, ℤ, List, map}
 use denote.Ref.{Bor}
 use Rattle.ecs_id.specs.declared.EntityId.{EntityId}
 use Rattle.ecs_model.specs.declared.Kind.{Kind}
@@ -36,19 +36,19 @@ seen_id (Pair r t) = pair_of (seen_reference r) (seen_reference t)
 abbrev pub seen_id_and_rest : IdReference × Bor (List ℕ) → IdRef × List ℕ
 seen_id_and_rest p = (seen_id p.0, (p.1).now)
 
--- the form of a line that was read
-abbrev pub seen : {A : Type 0} → Line A → Form
-seen Nothing = Script.Nothing
-seen TooLong = LongLine
-seen Bad = BadLine
-seen New = Obey MakeFresh
-seen (Entity name) = Obey (MakeEntity name.now)
-seen (Component name fields) = Define name.now (map seen_field fields.items)
-seen (Add entity id) = Obey (AddTo (seen_reference entity) (seen_id id))
-seen (Set entity id values) = Obey (SetIn (seen_reference entity) (seen_id id) values.items)
-seen (Remove entity id) = Obey (RemoveFrom (seen_reference entity) (seen_id id))
-seen (Show entity) = Script.Show (seen_reference entity)
-seen (Query text) = Ask text.now
+-- the form of a line that was read with these values
+abbrev pub seen : {A : Type 0} → List ℤ → Line A → Form
+seen values Nothing = Script.Nothing
+seen values TooLong = LongLine
+seen values Bad = BadLine
+seen values New = Obey MakeFresh
+seen values (Entity name) = Obey (MakeEntity name.now)
+seen values (Component name fields) = Define name.now (map seen_field fields.items)
+seen values (Add entity id) = Obey (AddTo (seen_reference entity) (seen_id id))
+seen values (Set entity id) = Obey (SetIn (seen_reference entity) (seen_id id) values)
+seen values (Remove entity id) = Obey (RemoveFrom (seen_reference entity) (seen_id id))
+seen values (Show entity) = Script.Show (seen_reference entity)
+seen values (Query text) = Ask text.now
 
 -- what a line of text asks by its first word, if it says anything
 abbrev pub by_first_word : List ℕ → Form

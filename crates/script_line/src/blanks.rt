@@ -8,7 +8,7 @@ ghost use Rattle.ecs_model.specs.Script.{word_and_rest};
 pub(crate) fn is_blank(byte: u8) -> bool
     ensures { result ≡ is_blank byte }
 {
-    byte == b' ' || byte == b'\t' || byte == b'\r'
+    byte <= b' ' && (byte == b' ' || byte == b'\t' || byte == b'\r')
 }
 
 /// How many blanks stand at the front.

@@ -8,11 +8,9 @@ ghost use Rattle.ecs_model.specs.Script.{form_of};
 ghost use Rattle.script_line.specs.Line.{seen};
 
 mod blanks;
+mod decimals;
 mod line_forms;
-mod numbers;
 mod references;
-#[cfg(test)]
-mod tests;
 mod words;
 
 use ecs_model::Kind;
@@ -49,11 +47,10 @@ pub enum Line<'a, A: Allocator = Global> {
         entity: Reference<'a>,
         id: IdReference<'a>,
     },
-    /// `set E ID v ..`: a fact of an entity gets these values, of which there is at least one.
+    /// `set E ID v ..`: a fact of an entity gets the values that were read, of which there is at least one.
     Set {
         entity: Reference<'a>,
         id: IdReference<'a>,
-        values: Vec<i128, A>,
     },
     /// `remove E ID`: a fact of an entity goes.
     Remove {
@@ -72,13 +69,16 @@ pub enum Line<'a, A: Allocator = Global> {
 
 /// Reads a line, which is given without its line feed.
 ///
+/// The values of a `set` come into `values`, in place of what stood there, so that one list serves all lines of a script.
+///
 /// A line of more than 4,096 bytes is too long whatever it holds, and a comment may hold any bytes. The only error is that
 /// memory for fields or values was refused.
 pub fn read_line<'a, A: Allocator + Copy>(
     alloc: A,
     line: &'a [u8],
+    values: &mut Vec<i128, A>,
 ) -> Result<Line<'a, A>, AllocError>
-    ensures { IfOk result (λ l. seen l ≡ form_of line.now) }
+    ensures { IfOk result (λ l. seen values.new.items l ≡ form_of line.now) }
 {
     if line.len() > MAX_LINE {
         return Ok(Line::TooLong);
@@ -89,5 +89,5 @@ pub fn read_line<'a, A: Allocator + Copy>(
     let Ok(text) = str::from_utf8(line) else {
         return Ok(Line::Bad);
     };
-    line_forms::read_form(alloc, text)
+    line_forms::read_form(alloc, text, values)
 }

@@ -1,5 +1,5 @@
 //! The forms of lines.
-ghost use Rattle.std.specs.Prelude.{◌≡◌, ℕ, List, map, IfOk, option_map};
+ghost use Rattle.std.specs.Prelude.{◌≡◌, ℕ, ℤ, List, map, IfOk, None, Some, option_map, if◌then◌else◌};
 ghost use Rattle.ecs_model.specs.Text.{trim_front, words};
 ghost use Rattle.ecs_model.specs.Script.{Form, Obey, Show, all_of, component_line, entity_line, fact_line, field_of_word, form_or_bad, nothing_more, one_word, says_nothing, set_line, value_of_word};
 ghost use Rattle.ecs_model.specs.Session.{EntityRef, IdRef, AddTo, MakeEntity, MakeFresh, RemoveFrom};
@@ -35,8 +35,9 @@ pub(crate) fn says_nothing(line: &[u8]) -> bool
 pub(crate) fn read_form<'a, A: Allocator + Copy>(
     alloc: A,
     line: &'a str,
+    values: &mut Vec<i128, A>,
 ) -> Result<Line<'a, A>, AllocError>
-    ensures { IfOk result (λ l. seen l ≡ by_first_word line.now) }
+    ensures { IfOk result (λ l. seen values.new.items l ≡ by_first_word line.now) }
 {
     let (word, rest) = word_and_rest(line);
     match word {
@@ -44,7 +45,7 @@ pub(crate) fn read_form<'a, A: Allocator + Copy>(
         "entity" => Ok(entity_line(rest)),
         "component" => component_line(alloc, rest),
         "add" => Ok(add_line(rest)),
-        "set" => set_line(alloc, rest),
+        "set" => set_line(rest, values),
         "remove" => Ok(remove_line(rest)),
         "show" => Ok(show_line(rest)),
         "query" => Ok(Line::Query {
@@ -56,7 +57,7 @@ pub(crate) fn read_form<'a, A: Allocator + Copy>(
 
 /// Reads what stands behind `new`: nothing.
 fn new_line<'a, A: Allocator>(rest: &'a str) -> Line<'a, A>
-    ensures { seen result ≡ nothing_more (Obey MakeFresh) (words rest.now) }
+    ensures { (values : List ℤ) → seen values result ≡ nothing_more (Obey MakeFresh) (words rest.now) }
 {
     match next_word(rest) {
         None => Line::New,
@@ -66,7 +67,7 @@ fn new_line<'a, A: Allocator>(rest: &'a str) -> Line<'a, A>
 
 /// Reads what stands behind `entity`: one word.
 fn entity_line<'a, A: Allocator>(rest: &'a str) -> Line<'a, A>
-    ensures { seen result ≡ one_word (λ n. Obey (MakeEntity n)) (words rest.now) }
+    ensures { (values : List ℤ) → seen values result ≡ one_word (λ n. Obey (MakeEntity n)) (words rest.now) }
 {
     match only_word(rest) {
         Some(name) => Line::Entity { name },
@@ -76,7 +77,7 @@ fn entity_line<'a, A: Allocator>(rest: &'a str) -> Line<'a, A>
 
 /// Reads what stands behind `show`: an entity.
 fn show_line<'a, A: Allocator>(rest: &'a str) -> Line<'a, A>
-    ensures { seen result ≡ entity_line Show rest.now }
+    ensures { (values : List ℤ) → seen values result ≡ entity_line Show rest.now }
 {
     match only_word(rest).and_then(|word| reference_of(word)) {
         Some(entity) => Line::Show { entity },
@@ -99,7 +100,7 @@ fn component_line<'a, A: Allocator + Copy>(
     alloc: A,
     rest: &'a str,
 ) -> Result<Line<'a, A>, AllocError>
-    ensures { IfOk result (λ l. seen l ≡ component_line (words rest.now)) }
+    ensures { IfOk result (λ l. (values : List ℤ) → seen values l ≡ component_line (words rest.now)) }
 {
     let Some((name, behind)) = next_word(rest) else {
         return Ok(Line::Bad);
@@ -152,7 +153,7 @@ fn bare_fact(text: &str) -> Option<Fact<'_>>
 
 /// Reads what stands behind `add`: an entity and an id.
 fn add_line<'a, A: Allocator>(rest: &'a str) -> Line<'a, A>
-    ensures { seen result ≡ fact_line (λ r i. nothing_more (Obey (AddTo r i))) rest.now }
+    ensures { (values : List ℤ) → seen values result ≡ fact_line (λ r i. nothing_more (Obey (AddTo r i))) rest.now }
 {
     match bare_fact(rest) {
         Some(fact) => Line::Add {
@@ -165,7 +166,7 @@ fn add_line<'a, A: Allocator>(rest: &'a str) -> Line<'a, A>
 
 /// Reads what stands behind `remove`: an entity and an id.
 fn remove_line<'a, A: Allocator>(rest: &'a str) -> Line<'a, A>
-    ensures { seen result ≡ fact_line (λ r i. nothing_more (Obey (RemoveFrom r i))) rest.now }
+    ensures { (values : List ℤ) → seen values result ≡ fact_line (λ r i. nothing_more (Obey (RemoveFrom r i))) rest.now }
 {
     match bare_fact(rest) {
         Some(fact) => Line::Remove {
@@ -177,31 +178,36 @@ fn remove_line<'a, A: Allocator>(rest: &'a str) -> Line<'a, A>
 }
 
 /// Reads what stands behind `set`: an entity, an id and one or more values.
-fn set_line<'a, A: Allocator + Copy>(alloc: A, rest: &'a str) -> Result<Line<'a, A>, AllocError>
-    ensures { IfOk result (λ l. seen l ≡ fact_line set_line rest.now) }
+fn set_line<'a, A: Allocator>(
+    rest: &'a str,
+    values: &mut Vec<i128, A>,
+) -> Result<Line<'a, A>, AllocError>
+    ensures { IfOk result (λ l. seen values.new.items l ≡ fact_line set_line rest.now) }
 {
     let Some(Fact { entity, id, behind }) = fact_of(rest) else {
         return Ok(Line::Bad);
     };
-    match values_of(alloc, behind)? {
-        Some(values) if !values.is_empty() => Ok(Line::Set { entity, id, values }),
-        _ => Ok(Line::Bad),
+    let are_values = read_values(behind, values)?;
+    if are_values && !values.is_empty() {
+        Ok(Line::Set { entity, id })
+    } else {
+        Ok(Line::Bad)
     }
 }
 
-/// Reads the words of a text as values, if each is one.
-fn values_of<A: Allocator>(alloc: A, text: &str) -> Result<Option<Vec<i128, A>>, AllocError>
-    ensures { IfOk result (λ o. option_map (λ v. v.items) o
-        ≡ all_of value_of_word (words text.now)) }
+/// Reads the words of a text as values, and answers whether each is one.
+fn read_values<A: Allocator>(text: &str, values: &mut Vec<i128, A>) -> Result<bool, AllocError>
+    ensures { IfOk result (λ are_values. all_of value_of_word (words text.now)
+        ≡ (if are_values then Some values.new.items else None)) }
 {
-    let mut values = Vec::new(alloc);
+    values.clear();
     let mut rest = text;
     while let Some((word, behind)) = next_word(rest) {
         let Some(value) = value_of_word(word) else {
-            return Ok(None);
+            return Ok(false);
         };
         values.push(value)?;
         rest = behind;
     }
-    Ok(Some(values))
+    Ok(true)
 }

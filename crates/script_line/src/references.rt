@@ -7,7 +7,7 @@ ghost use Rattle.ecs_model.specs.Session.{plain_of};
 ghost use Rattle.script_line.specs.Line.{seen_handle, seen_id, seen_id_and_rest, seen_reference};
 
 use crate::blanks::{is_blank, trimmed, word_and_rest};
-use crate::numbers::number_within;
+use crate::decimals::number_within;
 use ecs_id::EntityId;
 
 /// How many digits the index of a handle may have.
@@ -61,7 +61,7 @@ fn ends_within(bytes: &[u8]) -> bool
 fn ends_reference(byte: u8) -> bool
     ensures { result ≡ (is_blank byte || byte == 40 || byte == 41 || byte == 44) }
 {
-    is_blank(byte) || byte == b'(' || byte == b')' || byte == b','
+    byte <= b',' && (is_blank(byte) || byte == b'(' || byte == b')' || byte == b',')
 }
 
 /// Reads a handle behind its `#`: an index of 1 to 9 digits, one `.`, and a generation of 1 to 5 digits, at most 65,535.

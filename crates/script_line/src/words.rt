@@ -4,7 +4,7 @@ ghost use Rattle.ecs_model.specs.Text.{is_number, number_of};
 ghost use Rattle.ecs_model.specs.Script.{field_of_word, kind_words, looked_up, value_of_word};
 ghost use Rattle.script_line.specs.Line.{seen_field};
 
-use crate::numbers::number_within;
+use crate::decimals::number_within;
 use ecs_model::Kind;
 
 /// The greatest number of digits of a value.

@@ -34,11 +34,12 @@ pub(crate) fn run_lines<A: Allocator + Copy>(
         lines: 0,
         refused: 0,
     };
+    let mut values = Vec::new(alloc);
     let mut rest = script;
     while !rest.is_empty() {
         let (line, later) = first_line(rest);
         summary.lines += 1;
-        let is_refused = run_line(alloc, world, summary.lines, line, output)?;
+        let is_refused = run_line(alloc, world, summary.lines, line, &mut values, output)?;
         if is_refused {
             summary.refused += 1;
         }

@@ -20,17 +20,18 @@ use plain_query::ask;
 use script_line::{IdReference, Line, Reference, read_line};
 use std::alloc::{AllocError, Allocator};
 
-/// Does what a line says, adds what it prints to the output, and answers whether it was refused.
+/// Does what a line says, adds what it prints to the output, and answers whether it was refused. What stands in `values` is lost.
 pub(crate) fn run_line<A: Allocator + Copy>(
     alloc: A,
     world: &mut World<A>,
     number: usize,
     line: &[u8],
+    values: &mut Vec<i128, A>,
     output: &mut Vec<u8, A>,
 ) -> Result<bool, AllocError>
     ensures { IfOk result (IsDone (line_effect (session_of world.old) number line.now) (session_of world.new) output.old.items output.new.items) }
 {
-    match read_line(alloc, line)? {
+    match read_line(alloc, line, values)? {
         Line::Nothing => Ok(false),
         Line::TooLong => refuse(number, "LineTooLong", output),
         Line::Bad => refuse(number, "BadLine", output),
@@ -40,7 +41,7 @@ pub(crate) fn run_line<A: Allocator + Copy>(
             run_component(alloc, world, number, name, fields.as_slice(), output)
         }
         Line::Add { entity, id } => run_add(world, number, entity, id, output),
-        Line::Set { entity, id, values } => {
+        Line::Set { entity, id } => {
             run_set(world, number, entity, id, values.as_slice(), output)
         }
         Line::Remove { entity, id } => run_remove(world, number, entity, id, output),

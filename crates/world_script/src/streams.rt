@@ -68,8 +68,9 @@ impl Calls {
 
 /// Gives bytes.
 pub trait Source {
-    ghost use Rattle.std.specs.Prelude.{ℕ, List, Option, None};
+    ghost use Rattle.std.specs.Prelude.{⊤, ℕ, List, Option, None, Result, length};
     ghost use Rattle.world_script.specs.declared.streams.Calls.{Calls};
+    ghost use Rattle.world_script.specs.declared.streams.Stop.{Stop};
     ghost use Rattle.world_script.specs.Streams.{after_read};
 
     // The bytes that reads will give from here on, where they are told.
@@ -78,17 +79,22 @@ pub trait Source {
     // What is told of the reads so far.
     ghost calls: { Self → Calls };
 
+    // What a read does, where more is told than by its bytes: before it, the buffer's length, its answer, and after it.
+    ghost reads: { Self → ℕ → Result ℕ Stop → Self → Type 0 } = { λ _ _ _ _. ⊤ };
+
     /// Puts bytes at the buffer's front, and answers how many: none only at the end, or where there is no room.
     fn read(&mut self, buffer: &mut [u8]) -> Result<usize, Stop>
         ensures bound { ReadsAtMost result buffer.new }
         ensures bytes { ReadConsumes (remaining self.old) (remaining self.new) result buffer.new }
-        ensures told { calls self.new ≡ after_read result (calls self.old) };
+        ensures told { calls self.new ≡ after_read result (calls self.old) }
+        ensures does { reads self.old (length buffer.old) result self.new };
 }
 
 /// Takes bytes.
 pub trait Sink {
-    ghost use Rattle.std.specs.Prelude.{ℕ, List, Option, None};
+    ghost use Rattle.std.specs.Prelude.{⊤, ℕ, List, Option, None, Result, length};
     ghost use Rattle.world_script.specs.declared.streams.Calls.{Calls};
+    ghost use Rattle.world_script.specs.declared.streams.Stop.{Stop};
     ghost use Rattle.world_script.specs.Streams.{after_write};
 
     // The bytes taken so far, where they are told.
@@ -97,9 +103,13 @@ pub trait Sink {
     // What is told of the writes so far.
     ghost calls: { Self → Calls };
 
+    // What a write does, where more is told than by its bytes: before it, how many bytes it is given, its answer, and after it.
+    ghost writes: { Self → ℕ → Result ℕ Stop → Self → Type 0 } = { λ _ _ _ _. ⊤ };
+
     /// Takes the first of the bytes, and answers how many.
     fn write(&mut self, bytes: &[u8]) -> Result<usize, Stop>
         ensures bound { WritesAtMost result bytes.now }
         ensures bytes { WriteAppends (contents self.old) (contents self.new) result bytes.now }
-        ensures told { calls self.new ≡ after_write result bytes.now (calls self.old) };
+        ensures told { calls self.new ≡ after_write result bytes.now (calls self.old) }
+        ensures does { writes self.old (length bytes.now) result self.new };
 }

@@ -1,5 +1,6 @@
 //! A reader and a writer for tests, which does as it is told.
-ghost use Rattle.std.specs.Prelude.{◌≡◌, ◌+◌, ◌<◌, ◌≤◌, Some, IfOk, length, take, drop, vec_len};
+ghost use Rattle.std.specs.Prelude.{◌≡◌, ◌+◌, ◌-◌, ◌<◌, ◌≤◌, Some, IfOk, false, length, take, drop, vec_len};
+ghost use Rattle.world_script.specs.Turns.{next_turn, passed};
 
 use crate::streams::{Calls, Sink, Source, Stop};
 use std::alloc::{AllocError, Allocator, Global};
@@ -19,23 +20,26 @@ pub enum Turn {
 #[derive(Drop)]
 pub struct Tape<'a, A: Allocator = Global> {
     bytes: Vec<u8, A>,
-    // so many of the bytes have been read
+    /// So many of the bytes have been read.
     given: usize,
-    turns: Turns<'a>,
+    turns: &'a [Turn],
     calls: Calls,
     ghost inside: { given ≤ vec_len bytes },
 }
 
 impl<'a, A: Allocator> Tape<'a, A> {
-    /// A tape with these bytes on it.
+    /// A tape with these bytes on it, and with these turns to come.
     pub fn new(alloc: A, bytes: &[u8], turns: &'a [Turn]) -> Result<Self, AllocError>
         ensures to_read { IfOk result (λ tape. ⟦<Tape<'a, A> as Source>⟧.remaining tape ≡ Some bytes.now) }
         ensures written { IfOk result (λ tape. ⟦<Tape<'a, A> as Sink>⟧.contents tape ≡ Some bytes.now) }
+        ensures turns { IfOk result (λ tape. tape.turns.now ≡ turns.now) }
+        ensures reads { IfOk result (λ tape. ⟦<Tape<'a, A> as Source>⟧.calls tape ≡ record { interruptions = 0; has_failed = false }) }
+        ensures writes { IfOk result (λ tape. ⟦<Tape<'a, A> as Sink>⟧.calls tape ≡ record { interruptions = 0; has_failed = false }) }
     {
         Ok(Tape {
             bytes: Vec::from_slice(alloc, bytes)?,
             given: 0,
-            turns: Turns(turns),
+            turns,
             calls: Calls::NONE,
         })
     }
@@ -46,21 +50,26 @@ impl<'a, A: Allocator> Tape<'a, A> {
     {
         self.bytes.as_slice()
     }
+
+    /// The turns to come.
+    pub fn turns(&self) -> &[Turn]
+        ensures { result.now ≡ self.now.turns.now }
+    {
+        self.turns
+    }
 }
 
-/// The turns to come.
-#[derive(Drop)]
-struct Turns<'a>(&'a [Turn]);
-
-impl Turns<'_> {
-    fn next(&mut self) -> Turn {
-        match self.0.split_first() {
-            Some((turn, later)) => {
-                self.0 = later;
-                *turn
-            }
-            None => Turn::Pass(usize::MAX),
+/// Takes the next turn. Behind the last all bytes pass.
+fn take_turn(turns: &mut &[Turn]) -> Turn
+    ensures turn { result ≡ next_turn turns.old.now }
+    ensures later { turns.new.now ≡ drop 1 turns.old.now }
+{
+    match turns.split_first() {
+        Some((turn, later)) => {
+            *turns = later;
+            *turn
         }
+        None => Turn::Pass(usize::MAX),
     }
 }
 
@@ -71,6 +80,7 @@ fn give(bytes: &[u8], given: usize, most: usize, buffer: &mut [u8]) -> usize
     ensures within { given + result ≤ length bytes.now }
     ensures piece { take result buffer.new ≡ take result (drop given bytes.now) }
     ensures end { result ≡ 0 → 0 < length buffer.new → given ≡ length bytes.now }
+    ensures count { result ≡ passed most (length buffer.new) (length bytes.now - given) }
 {
     let count = most.max(1).min(buffer.len()).min(bytes.len() - given);
     buffer[..count].copy_from_slice(&bytes[given..given + count]);
@@ -78,14 +88,17 @@ fn give(bytes: &[u8], given: usize, most: usize, buffer: &mut [u8]) -> usize
 }
 
 impl<A: Allocator> Source for Tape<'_, A> {
-    ghost use Rattle.std.specs.Prelude.{Some, drop};
+    ghost use Rattle.std.specs.Prelude.{◌-◌, Some, drop, vec_len};
+    ghost use Rattle.world_script.specs.Turns.{ReadsInTurn};
 
     ghost remaining = { λ s. Some (drop s.given s.bytes.items) };
 
     ghost calls = { λ s. s.calls };
 
+    ghost reads = { λ s room answer t. ReadsInTurn s.turns.now room (vec_len s.bytes - s.given) answer t.turns.now };
+
     fn read(&mut self, buffer: &mut [u8]) -> Result<usize, Stop> {
-        let answer = match self.turns.next() {
+        let answer = match take_turn(&mut self.turns) {
             Turn::Stop(stop) => Err(stop),
             Turn::Pass(most) => {
                 let count = give(self.bytes.as_slice(), self.given, most, buffer);
@@ -100,14 +113,17 @@ impl<A: Allocator> Source for Tape<'_, A> {
 
 impl<A: Allocator> Sink for Tape<'_, A> {
     ghost use Rattle.std.specs.Prelude.{Some};
+    ghost use Rattle.world_script.specs.Turns.{WritesInTurn};
 
     ghost contents = { λ s. Some s.bytes.items };
 
     ghost calls = { λ s. s.calls };
 
+    ghost writes = { λ s count answer t. WritesInTurn s.turns.now count answer t.turns.now };
+
     /// Memory that is refused is a failure.
     fn write(&mut self, bytes: &[u8]) -> Result<usize, Stop> {
-        let answer = match self.turns.next() {
+        let answer = match take_turn(&mut self.turns) {
             Turn::Stop(stop) => Err(stop),
             Turn::Pass(most) => {
                 let count = most.min(bytes.len());

@@ -22,5 +22,5 @@ returns g c =
     let text = c.in-Ok.ensures.cases in
     let silent : says_nothing (trim_front line) ≡ false = sym c.says_nothing.ensures ∙ c.if-says_nothing.false in
     let form : by_first_word c.in-Ok.text.now ≡ form_of line = ap by_first_word text.0 ∙ form_text line c.if-line-gt-MAX_LINE.false silent text.1 in
-    let P : Form → Type 0 = λ f. IfOk c.read_form.result (λ l. seen l ≡ f) in
+    let P : Form → Type 0 = λ f. IfOk c.read_form.result (λ l. seen c.read_form.new.values.items l ≡ f) in
     subst P form c.read_form.ensures

@@ -3,6 +3,9 @@ ghost use Rattle.std.specs.Prelude.{◌≡◌, ◌^◌, ◌<◌, ◌≤◌, IfSo
 ghost use Rattle.std.specs.List.{list_all};
 ghost use Rattle.ecs_model.specs.Text.{is_digit, is_number, number_of};
 
+/// So many digits spell a number of 64 bits.
+const SHORT: usize = 19;
+
 /// Reads a number of 1 to `most` digits.
 pub(crate) fn number_within(digits: &[u8], most: usize) -> Option<u128>
     requires { most ≤ 38 }
@@ -44,9 +47,26 @@ fn number_of(digits: &[u8]) -> u128
     ensures value { result ≡ number_of digits.now }
     ensures bound { result < 10 ^ length digits.now }
 {
+    if digits.len() <= SHORT {
+        return u128::from(short_number_of(digits));
+    }
     let mut number = 0;
     for digit in digits {
         number = number * 10 + u128::from(*digit - b'0');
+    }
+    number
+}
+
+/// The number that a few digits spell, in one machine word.
+fn short_number_of(digits: &[u8]) -> u64
+    requires digits { IsTrue (list_all is_digit digits.now) }
+    requires length { length digits.now ≤ 19 }
+    ensures value { result ≡ number_of digits.now }
+    ensures bound { result < 10 ^ length digits.now }
+{
+    let mut number = 0;
+    for digit in digits {
+        number = number * 10 + u64::from(*digit - b'0');
     }
     number
 }

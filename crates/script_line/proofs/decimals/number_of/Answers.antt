@@ -1,6 +1,6 @@
 use Rattle.std.proofs.Common.{arith}
 use Rattle.script_line.proofs.Digits.{below_37}
-use Rattle.script_line.proofs.numbers.number_of.Goals as goal
+use Rattle.script_line.proofs.decimals.number_of.Goals as goal
 
 pub overflow_mul-number : goal.overflow_mul-number
 overflow_mul-number c =

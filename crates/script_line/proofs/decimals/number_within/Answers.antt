@@ -1,6 +1,6 @@
 use Rattle.std.proofs.Common.{sym, ◌∙◌, length}
 use Rattle.script_line.proofs.Digits.{below_power, length-number}
-use Rattle.script_line.proofs.numbers.number_within.Goals as goal
+use Rattle.script_line.proofs.decimals.number_within.Goals as goal
 
 pub returns-then-is_number-clause-bound : goal.returns-then-is_number-clause-bound
 returns-then-is_number-clause-bound c =

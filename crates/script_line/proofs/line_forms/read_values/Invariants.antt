@@ -5,7 +5,7 @@ use denote.Shadow.{shadow}
 use Rattle.ecs_model.specs.Text.{words}
 use Rattle.ecs_model.specs.Script.{value_of_word}
 use Rattle.script_line.proofs.Readings.{IsReadSoFar}
-use Rattle.script_line.proofs.line_forms.values_of.Given as goal
+use Rattle.script_line.proofs.line_forms.read_values.Given as goal
 
 abbrev pub invariant-loop-word : goal.invariant-loop-word
 invariant-loop-word g l = shadow (Utf8 l.rest) × IsReadSoFar value_of_word (words l.fn.text) l.values.items (words l.rest)
