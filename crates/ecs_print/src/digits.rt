@@ -26,10 +26,7 @@ pub(crate) fn write_integer<A: Allocator>(
 }
 
 /// Writes a comma and a number.
-pub(crate) fn write_next<A: Allocator>(
-    number: i128,
-    out: &mut Vec<u8, A>,
-) -> Result<(), AllocError>
+pub(crate) fn write_next<A: Allocator>(number: i128, out: &mut Vec<u8, A>) -> Result<(), AllocError>
     ensures { OnOk result (out.new.items ≡ out.old.items ++ behind_comma number) }
 {
     out.extend_from_slice(b",")?;

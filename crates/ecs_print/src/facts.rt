@@ -7,7 +7,7 @@ ghost use Rattle.ecs_model.specs.World.{value_of};
 ghost use Rattle.ecs_print.specs.Values.{behind_comma};
 
 use crate::digits::{write_integer, write_next};
-use crate::references::write_id;
+use crate::entities::write_id;
 use ecs_id::Id;
 use ecs_schema::Schema;
 use ecs_world::World;

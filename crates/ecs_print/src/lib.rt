@@ -4,9 +4,9 @@
 #![tactic(auto)]
 
 mod digits;
+mod entities;
 mod facts;
-mod references;
 
 pub use digits::write_number;
+pub use entities::{write_entity, write_handle, write_id, write_index};
 pub use facts::{write_fact, write_fields, write_value};
-pub use references::{write_entity, write_handle, write_id, write_index};

@@ -12,8 +12,6 @@ mod fields;
 mod given;
 pub mod laws;
 mod numbers;
-#[cfg(test)]
-mod tests;
 mod values;
 
 pub use ecs_model::Kind;

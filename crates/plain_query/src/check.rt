@@ -6,8 +6,8 @@ ghost use Rattle.query_parser.specs.Parsed.{seen_part};
 ghost use Rattle.plain_query.specs.Check.{AnswersCheck, AnswersIds, NamesId, lesser, unnamed};
 
 use ecs_id::Id;
-use ecs_world::World;
 use ecs_model::faults::{Fault, FaultKind, QueryFault};
+use ecs_world::World;
 use query_lexer::lex;
 use query_parser::{Part, parse};
 use std::alloc::Allocator;

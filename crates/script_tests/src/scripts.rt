@@ -1,8 +1,9 @@
 //! Scripts run over tapes.
 
-use crate::{RunError, Stop, Summary, Tape, Turn, run};
+use std::hash::RandomState;
 use std::process::Abort;
 use std::test::Fail;
+use world_script::{RunError, Stop, Summary, Tape, Turn, run};
 
 /// A component, entities, facts and a query, and what they print.
 const SCRIPT: &[u8] =
@@ -25,6 +26,7 @@ const STALLED: [Turn; 2] = [Turn::Pass(10), Turn::Pass(0)];
 /// Runs a script from a tape onto a tape, and compares what was answered and what was written.
 fn expect(
     rt: &(impl Abort + AllocGlobal),
+    random: RandomState,
     script: &[u8],
     reads: &[Turn],
     writes: &[Turn],
@@ -33,7 +35,7 @@ fn expect(
 ) -> Result<(), Fail> {
     let mut reader = Tape::new(rt.alloc(), script, reads)?;
     let mut writer = Tape::new(rt.alloc(), b"", writes)?;
-    let answered = run(rt.alloc(), &mut reader, &mut writer);
+    let answered = run(rt.alloc(), random, &mut reader, &mut writer);
     assert_eq!(rt; answered, answer);
     assert_eq!(rt; writer.bytes(), written);
     Ok(())
@@ -41,10 +43,12 @@ fn expect(
 
 #[test]
 fn a_script_is_read_and_its_output_written_in_any_pieces(rt: HostRuntime) -> Result<(), Fail> {
-    expect(&rt, SCRIPT, &[], &[], Ok(SUMMARY), OUTPUT)?;
+    let random = RandomState::new(&rt)?;
+    expect(&rt, random, SCRIPT, &[], &[], Ok(SUMMARY), OUTPUT)?;
     let bytes = Vec::from_elem(rt.alloc(), Turn::Pass(1), SCRIPT.len())?;
     expect(
         &rt,
+        random,
         SCRIPT,
         bytes.as_slice(),
         bytes.as_slice(),
@@ -52,15 +56,25 @@ fn a_script_is_read_and_its_output_written_in_any_pieces(rt: HostRuntime) -> Res
         OUTPUT,
     )?;
     let unended = &SCRIPT[..SCRIPT.len() - 1];
-    expect(&rt, unended, &[], &[], Ok(SUMMARY), OUTPUT)
+    expect(&rt, random, unended, &[], &[], Ok(SUMMARY), OUTPUT)
 }
 
 #[test]
 fn faults_of_reads_and_writes_are_answered(rt: HostRuntime) -> Result<(), Fail> {
-    expect(&rt, SCRIPT, &INTERRUPTED, &[], Err(RunError::Read), b"")?;
-    expect(&rt, SCRIPT, &FAILED, &[], Err(RunError::Read), b"")?;
+    let random = RandomState::new(&rt)?;
     expect(
         &rt,
+        random,
+        SCRIPT,
+        &INTERRUPTED,
+        &[],
+        Err(RunError::Read),
+        b"",
+    )?;
+    expect(&rt, random, SCRIPT, &FAILED, &[], Err(RunError::Read), b"")?;
+    expect(
+        &rt,
+        random,
         SCRIPT,
         &[],
         &FAILED,
@@ -69,6 +83,7 @@ fn faults_of_reads_and_writes_are_answered(rt: HostRuntime) -> Result<(), Fail> 
     )?;
     expect(
         &rt,
+        random,
         SCRIPT,
         &[],
         &STALLED,
@@ -79,6 +94,7 @@ fn faults_of_reads_and_writes_are_answered(rt: HostRuntime) -> Result<(), Fail> 
 
 #[test]
 fn refused_lines_are_told_and_counted(rt: HostRuntime) -> Result<(), Fail> {
+    let random = RandomState::new(&rt)?;
     let summary = Summary {
         lines: 3,
         refused: 2,
@@ -86,6 +102,7 @@ fn refused_lines_are_told_and_counted(rt: HostRuntime) -> Result<(), Fail> {
     let script = b"entity Sun\nentity Sun\nfly";
     expect(
         &rt,
+        random,
         script,
         &[],
         &[],
@@ -96,6 +113,7 @@ fn refused_lines_are_told_and_counted(rt: HostRuntime) -> Result<(), Fail> {
 
 #[test]
 fn pairs_are_shown_in_order_and_a_new_entity_is_told(rt: HostRuntime) -> Result<(), Fail> {
+    let random = RandomState::new(&rt)?;
     let summary = Summary {
         lines: 7,
         refused: 0,
@@ -104,6 +122,7 @@ fn pairs_are_shown_in_order_and_a_new_entity_is_told(rt: HostRuntime) -> Result<
         b"component Weight kg:u8\nentity Holds\nentity Box\nset Box (Holds,Weight) 7\nset Box (Weight,Holds) 9\nshow Box\nnew\n";
     expect(
         &rt,
+        random,
         script,
         &[],
         &[],
@@ -114,6 +133,7 @@ fn pairs_are_shown_in_order_and_a_new_entity_is_told(rt: HostRuntime) -> Result<
 
 #[test]
 fn a_dead_handle_comes_before_an_unknown_name(rt: HostRuntime) -> Result<(), Fail> {
+    let random = RandomState::new(&rt)?;
     let summary = Summary {
         lines: 7,
         refused: 3,
@@ -122,6 +142,7 @@ fn a_dead_handle_comes_before_an_unknown_name(rt: HostRuntime) -> Result<(), Fai
         b"entity Box\nadd Nobody #99.0\nadd Nobody Box\nadd #64.0 Box\nremove #64.0 Box\nshow #64.0\nshow #64.1\n";
     expect(
         &rt,
+        random,
         script,
         &[],
         &[],

@@ -1,11 +1,12 @@
 //! Each form, and what is near to it.
-use crate::read_line;
+use script_line::read_line;
 use std::alloc::{AllocError, Global};
 use std::test::Fail;
 
 /// What a line asks, as text.
 fn told(alloc: Global, line: &[u8]) -> Result<String, AllocError> {
-    let line = read_line(alloc, line)?;
+    let mut values = Vec::new(alloc);
+    let line = read_line(alloc, line, &mut values)?;
     format!(in alloc; "{line:?}")
 }
 
@@ -52,14 +53,14 @@ fn lines_have_their_forms(rt: HostRuntime) -> Result<(), Fail> {
         ("show E F", "Bad"),
         (
             "set E P 1 -2",
-            "Set { entity: Name(\"E\"), id: Plain(Name(\"P\")), values: [1, -2] }",
+            "Set { entity: Name(\"E\"), id: Plain(Name(\"P\")) }",
         ),
         ("set E P", "Bad"),
         ("set E P -", "Bad"),
         ("set E P +1", "Bad"),
         (
             "set E P -99999999999999999999999999999999999999",
-            "Set { entity: Name(\"E\"), id: Plain(Name(\"P\")), values: [-99999999999999999999999999999999999999] }",
+            "Set { entity: Name(\"E\"), id: Plain(Name(\"P\")) }",
         ),
         ("set E P 000000000000000000000000000000000000007", "Bad"),
         ("query \t a, b \r", "Query { text: \"a, b\" }"),
@@ -111,7 +112,7 @@ fn ids_may_be_pairs(rt: HostRuntime) -> Result<(), Fail> {
         ("add E  ( R\t,  T )\r", pair),
         (
             "set #1.0 (#2.0,T) -3",
-            "Set { entity: Handle(EntityId { index: 1, generation: 0 }), id: Pair { relationship: Handle(EntityId { index: 2, generation: 0 }), target: Name(\"T\") }, values: [-3] }",
+            "Set { entity: Handle(EntityId { index: 1, generation: 0 }), id: Pair { relationship: Handle(EntityId { index: 2, generation: 0 }), target: Name(\"T\") } }",
         ),
         ("set E (R,T)3", "Bad"),
         ("add E (R,T", "Bad"),
@@ -127,6 +128,19 @@ fn ids_may_be_pairs(rt: HostRuntime) -> Result<(), Fail> {
         let told = told(rt.alloc(), line.as_bytes())?;
         assert_eq!(rt; told.as_str(), form, "of {line:?}");
     }
+    Ok(())
+}
+
+#[test]
+fn values_of_a_line_replace_those_before(rt: HostRuntime) -> Result<(), Fail> {
+    let mut values = Vec::new(rt.alloc());
+    read_line(rt.alloc(), b"set E P 1 2 3 4 5 6 7 8 9", &mut values)?;
+    assert_eq!(rt; values.as_slice(), [1, 2, 3, 4, 5, 6, 7, 8, 9].as_slice());
+    read_line(rt.alloc(), b"set E P -18446744073709551616 -0", &mut values)?;
+    assert_eq!(rt;
+        values.as_slice(),
+        [-18_446_744_073_709_551_616, 0].as_slice()
+    );
     Ok(())
 }
 

@@ -1,76 +1,56 @@
-//! What is printed of an entity without a name.
-use crate::{Readable, write_entity, write_handle, write_id, write_value};
-use ecs_id::{EntityId, Id};
-use ecs_model::Value;
-use std::alloc::{AllocError, Allocator};
+//! What is printed of a world, and what a query of plain names prints.
+use ecs_id::Id;
+use ecs_model::Span;
+use ecs_model::faults::{Fault, FaultKind, QueryFault};
+use ecs_print::{write_entity, write_fact, write_handle, write_id, write_index, write_number};
+use ecs_schema::{Kind, Schema};
+use ecs_world::World;
+use plain_query::ask;
+use std::hash::RandomState;
 use std::test::Fail;
 
-/// A world of one entity, which has no name and holds nothing.
-#[derive(Clone, Copy)]
-struct Nameless {
-    entity: EntityId,
-}
-
-impl Readable for Nameless {
-    ghost use Rattle.std.specs.Prelude.{[], ◌∷◌};
-
-    ghost state = { λ w. record { live = (w.entity.index, w.entity.generation) ∷ []; facts = []; names = []; schemas = []; deletions = []; pins = []; accepted = 0 } };
-
-    fn find(&self, _name: &str) -> Option<EntityId> {
-        None
+#[test]
+fn entities_print_by_name_or_by_handle(rt: HostRuntime) -> Result<(), Fail> {
+    let mut world = World::new(rt.alloc(), RandomState::new(&rt)?)?;
+    let schema = Schema::new(rt.alloc(), &[("x", Kind::I32), ("y", Kind::U8)])?;
+    world.component("Position", schema)?;
+    let mut out = Vec::new(rt.alloc());
+    if let Some(entity) = world.fresh()?.born() {
+        world.set(entity, Id::plain(64), &[-3, 200])?;
+        write_entity(&world, entity, &mut out)?;
+        write_fact(&world, 65, Id::plain(64), &mut out)?;
+        out.push(b' ')?;
+        write_id(&world, Id::pair(65, 64), &mut out)?;
+        write_handle(entity, &mut out)?;
     }
-
-    fn has(&self, _entity: u32, _id: Id) -> bool {
-        false
-    }
-
-    fn value(&self, _entity: u32, _id: Id) -> Option<Value> {
-        None
-    }
-
-    fn has_type(&self, id: Id) -> bool {
-        match id.second() {
-            None => false,
-            Some(_) => false,
-        }
-    }
-
-    fn name_of(&self, _index: u32) -> Option<&str> {
-        None
-    }
-
-    fn at(&self, index: u32) -> Option<EntityId> {
-        if index == self.entity.index {
-            Some(self.entity)
-        } else {
-            None
-        }
-    }
-
-    fn live<A: Allocator + Copy>(&self, alloc: A) -> Result<Vec<EntityId, A>, AllocError> {
-        let mut live = Vec::new(alloc);
-        live.push(self.entity)?;
-        Ok(live)
-    }
+    write_index(&world, 1, &mut out)?;
+    write_number(7, &mut out)?;
+    assert_eq!(rt;
+        out.as_slice(),
+        b"#65.0 [Position=-3,200] (#65.0,Position)#65.0ChildOf7".as_slice()
+    );
+    Ok(())
 }
 
 #[test]
-fn unnamed_entities_print_as_handles(rt: HostRuntime) -> Result<(), Fail> {
-    let entity = EntityId {
-        index: 7,
-        generation: 1,
-    };
-    let world = Nameless { entity };
+fn a_query_prints_its_rows_or_its_first_fault(rt: HostRuntime) -> Result<(), Fail> {
+    let mut world = World::new(rt.alloc(), RandomState::new(&rt)?)?;
+    let schema = Schema::new(rt.alloc(), &[("x", Kind::I32)])?;
+    world.component("Position", schema)?;
     let mut out = Vec::new(rt.alloc());
-    write_entity(&world, entity, &mut out)?;
-    out.push(b' ')?;
-    write_id(&world, Id::pair(7, 7), &mut out)?;
-    write_value(Some(Value::new(&[1, -2])), &mut out)?;
-    write_value(None, &mut out)?;
-    out.push(b' ')?;
-    write_handle(entity, &mut out)?;
-    assert_eq!(rt; out.as_slice(), b"#7.1 (#7.1,#7.1)=1,-2 #7.1".as_slice());
-    let live = world.live(rt.alloc())?;
-    assert_eq!(rt; live.as_slice(), [entity].as_slice());
+    if let Some(sun) = world.entity("Sun")?.born() {
+        world.set(sun, Id::plain(64), &[7])?;
+    }
+    ask(rt.alloc(), &world, "Position, Position", &mut out)?;
+    assert_eq!(rt;
+        out.as_slice(),
+        b"row $this=Sun [Position@Sun=7] [Position@Sun=7]\nrows 1\n".as_slice()
+    );
+    let unknown = Fault {
+        kind: FaultKind::UnknownName,
+        span: Span { start: 10, end: 14 },
+    };
+    let answer = ask(rt.alloc(), &world, "Position, Moon", &mut out);
+    assert_eq!(rt; answer, Err(QueryFault::Fault(unknown)));
     Ok(())
 }

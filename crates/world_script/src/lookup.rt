@@ -74,10 +74,7 @@ fn names_dead_handle<A: Allocator>(world: &World<A>, id: IdReference<'_>) -> boo
 }
 
 /// The live entity of a reference.
-fn live_entity<A: Allocator>(
-    world: &World<A>,
-    reference: Reference<'_>,
-) -> Option<EntityId>
+fn live_entity<A: Allocator>(world: &World<A>, reference: Reference<'_>) -> Option<EntityId>
     ensures value { result ≡ found world.now (seen_reference reference.entry) }
     ensures index { IfSome result (λ e. IsIndex e.index) }
 {

@@ -1,5 +1,6 @@
-use crate::{Kind, Schema, SchemaError, ValueFault};
+//! Which fields make a schema, and what its values are.
 use ecs_model::faults::SchemaFault;
+use ecs_schema::{Kind, Schema, SchemaError, ValueFault};
 use std::test::Fail;
 
 #[test]
@@ -9,7 +10,7 @@ fn faulty_fields_are_refused(rt: HostRuntime) -> Result<(), Fail> {
     assert!(rt; nine.err() == Some(SchemaError::Fault(SchemaFault::TooManyFields)));
     let none = Schema::new(rt.alloc(), &[]);
     assert!(rt; none.err() == Some(SchemaError::Fault(SchemaFault::NoFields)));
-    let twice = Schema::new(rt.alloc(), &[x, ("y", Kind::I8), x]);
+    let twice = Schema::new(rt.alloc(), &[x, x]);
     assert!(rt; twice.err() == Some(SchemaError::Fault(SchemaFault::BadField)));
     let digit = Schema::new(rt.alloc(), &[("9a", Kind::U8)]);
     assert!(rt; digit.err() == Some(SchemaError::Fault(SchemaFault::BadField)));

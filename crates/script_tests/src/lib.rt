@@ -1,0 +1,5 @@
+//! Whole scripts over tapes.
+#![tactic(auto)]
+
+#[cfg(test)]
+mod scripts;
