@@ -13,6 +13,7 @@ pub mod Differences
 pub mod FirstWorld
 pub mod DistinctRows
 mod Computed
+mod ReachComputed
 pub mod SpellingLemmas
 pub mod SyntaxLemmas
 pub mod Members

@@ -1,11 +1,11 @@
 -- Who falls with an entity is found through those who hold its pairs, and through its users.
-use Rattle.std.proofs.Common.{◌≡◌, ℕ, ◌<◌, ◌≤◌, ◌==◌, ◌⊎◌, ◌↔◌, Bool, true, false, cond, ◌&&◌, ◌||◌, List, [], ◌∷◌, ◌++◌, length, get_or, Some, None, refl, sym, ap, ◌∙◌, inl, inr, arith, true≢false, IsTrue}
+use Rattle.std.proofs.Common.{◌≡◌, ℕ, ◌<◌, ◌≤◌, ◌==◌, ◌⊎◌, ◌↔◌, true, false, ◌&&◌, List, [], ◌∷◌, ◌++◌, length, get_or, Some, None, refl, sym, ap, ◌∙◌, inl, inr, arith, true≢false, IsTrue}
 use Rattle.std.specs.Prelude.{map}
-use Rattle.std.specs.List.{All, Contains, filter, flat_map, list_any}
+use Rattle.std.specs.List.{All, Contains, flat_map, list_any}
 use Rattle.std.proofs.lemmas.Bool.Decides.{nat_tests}
 use Rattle.std.proofs.lemmas.Grind.{flat_map-append}
 use Rattle.std.proofs.lemmas.List.Folds.{flat_map-map}
-use Rattle.std.proofs.lemmas.List.Elements.{All-contains, Contains-append_right, Contains-get_or}
+use Rattle.std.proofs.lemmas.List.Elements.{All-contains, Contains-get_or}
 use Rattle.component_index.specs.declared.pattern.Part.TheVariants.{Is, Any}
 use Rattle.component_index.specs.declared.pattern.Pattern.{Pattern}
 use Rattle.component_index.specs.Patterns.{matches}
@@ -13,9 +13,9 @@ use Rattle.ecs_id.specs.Id.{Id, plain, pair, id_cmp, id_eq, id_eq_itself, id_eq_
 use Rattle.ecs_model.specs.Falls.{deletes_sources, deletes_users, falling, falls_by}
 use Rattle.rel_travel.specs.Holders.{holders, holders_of_pair, sources_falling}
 use Rattle.ecs_model.specs.Links.{AreLinks, target_under, upward}
-use Rattle.ecs_model.proofs.Members.{and_true, any_passes, both, eq_itself, eq_same, filtered, from_filter_map, from_or, or_left, or_right, passing}
+use Rattle.ecs_model.proofs.Members.{and_true, any_passes, both, eq_itself, filtered, from_filter_map, from_or, or_left, or_right, passing}
 use Rattle.ecs_model.proofs.Linked.{of_pair, pair_of, target_there}
-use Rattle.ecs_model.proofs.Members.{from_flat_map, head_or_tail, in_flat_map}
+use Rattle.ecs_model.proofs.Members.{from_flat_map, in_flat_map}
 
 -- what holds of all pieces holds of one
 pub All-piece : {A B : Type 0} (P : B → Type 0) (f : A → List B) (xs : List A) (k : ℕ) (d : A) → k < length xs → All P (flat_map f xs) → All P (f (get_or xs k d))

@@ -1,17 +1,15 @@
 -- A list that grows by what it doesn't have of others, one after another.
-use Rattle.std.proofs.Common.{◌≡◌, ℕ, suc, ◌+◌, ◌<◌, ◌≤◌, ◌==◌, ◌⊎◌, ◌↔◌, IsTrue, Bool, true, false, ◌||◌, true≢false, cond, List, [], ◌∷◌, ◌++◌, length, get_or, take, drop, drop-cons, Option, Some, None, refl, sym, ◌∙◌, inl, inr, arith}
+use Rattle.std.proofs.Common.{◌≡◌, ℕ, ◌+◌, ◌<◌, ◌⊎◌, ◌↔◌, IsTrue, Bool, true, false, List, [], ◌∷◌, ◌++◌, length, get_or, take, Some, None, refl, ◌∙◌, inl, inr, arith}
 use Rattle.std.specs.Cmp.{nat_eq_equiv}
-use Rattle.std.specs.List.{All, Contains, filter_map, list_any, cons_option}
+use Rattle.std.specs.List.{Contains}
 use Rattle.std.proofs.lemmas.Bool.Decides.{Decides-eqb}
-use Rattle.std.proofs.lemmas.List.{append-nil, get_or_append_left, length-append, take-append-drop, take_more}
-use Rattle.std.proofs.lemmas.List.Elements.{All-contains, Contains-append_cases, Contains-append_left, Contains-append_right, Contains-get_or, Contains-push, Contains-push_cases, filter_map-append}
-use Rattle.std.proofs.lemmas.List.Folds.{list_any_at}
+use Rattle.std.proofs.lemmas.List.{append-nil, get_or_append_left, length-append, take_more}
+use Rattle.std.proofs.lemmas.List.Elements.{Contains-append_cases, Contains-append_left, Contains-append_right, Contains-push, Contains-push_cases, filter_map-append}
 use Rattle.std.proofs.lemmas.Map.Views.{Contains-from_any, list_any-from_Contains}
-use Rattle.ecs_id.specs.Id.{Id, plain, pair, mentioned}
+use Rattle.ecs_id.specs.Id.{Id}
 use Rattle.rel_travel.specs.Finds.{is_among, with_find}
 use Rattle.rel_travel.specs.Growing.{IsGrownBy, IsGrownWhere}
-use Rattle.ecs_model.specs.Links.{AreLinks, target_under, targets_in, upward}
-use Rattle.ecs_model.proofs.Members.{head_or_tail}
+use Rattle.ecs_model.specs.Links.{target_under, targets_in}
 
 module _ {A : Type 0} where
   pub IsGrownBy-none : (xs : List A) → IsGrownBy [] xs xs
@@ -103,4 +101,3 @@ grown_by_target ids r k i d y old new l e t g = rw (targets_more ids r k i d l e
 pub grown_by_none : (ids : List Id) (r k : ℕ) (i d : Id) (old new : List ℕ) → k < length ids → i ≡ get_or ids k d → target_under r i ≡ None
     → IsGrownBy (targets_in (take k ids) r) old new → IsGrownBy (targets_in (take (k + 1) ids) r) old new
 grown_by_none ids r k i d old new l e t g = rw (targets_more ids r k i d l e, t, append-nil (targets_in (take k ids) r)) g
-

@@ -1,4 +1,4 @@
-use Rattle.std.proofs.Common.{◌≡◌, [], ◌∷◌, true, false}
+use Rattle.std.proofs.Common.{◌≡◌, [], ◌∷◌}
 use Rattle.rel_travel.proofs.Begun.{begun, begun_alone, begun_by_step}
 use Rattle.rel_travel.proofs.chains.begin.Goals as goal
 use Rattle.rel_travel.proofs.chains.begin.Goals.{then-reach+else-reach-2, else-reach}

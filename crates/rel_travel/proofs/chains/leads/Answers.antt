@@ -1,4 +1,4 @@
-use Rattle.std.proofs.Common.{◌≡◌, ◌↔◌, ℕ, ◌∙◌, sym}
+use Rattle.std.proofs.Common.{◌↔◌, ℕ, ◌∙◌, sym}
 use Rattle.std.specs.List.{Contains}
 use Rattle.ecs_model.specs.Links.{IsReached, reaches, upward}
 use Rattle.ecs_model.proofs.Decided.{reaches_tells}

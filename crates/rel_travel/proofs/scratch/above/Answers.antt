@@ -1,4 +1,4 @@
-use Rattle.std.proofs.Common.{◌≡◌, ◌≤◌, ap}
+use Rattle.std.proofs.Common.{◌≤◌, ap}
 use Rattle.ecs_model.proofs.Linked.{upward_below}
 use Rattle.rel_travel.proofs.scratch.above.Goals as goal
 

@@ -1,10 +1,8 @@
-use Rattle.std.proofs.Common.{◌≡◌, ◌↔◌, ◌≤◌, ℕ, ap, arith, [], false}
-use Rattle.std.specs.List.{Contains}
+use Rattle.std.proofs.Common.{◌↔◌, ◌≤◌, ℕ, ap, arith}
 use Rattle.ecs_model.specs.Links.{IsReached, upward}
 use Rattle.ecs_model.specs.Reach.{Reaches}
 use Rattle.ecs_model.proofs.Reaching.{turned_reach}
 use Rattle.rel_travel.specs.Holders.{holders_of_pair}
-use Rattle.rel_travel.specs.Lists.{IsListed}
 use Rattle.rel_travel.proofs.Cleanup.{holds_upward, pairs_below, upward_holds}
 use Rattle.rel_travel.proofs.scratch.below.Goals as goal
 

@@ -1,5 +1,4 @@
-use Rattle.std.proofs.Common.{◌≡◌, ◌<◌, ◌≤◌, ◌==◌, length, refl, sym, subst, ap, arith}
-use Rattle.std.specs.List.{IsDistinct}
+use Rattle.std.proofs.Common.{◌≤◌, length, refl, sym, subst, arith}
 use Rattle.rel_travel.specs.Lists.{IsListing, Work, steps}
 use Rattle.rel_travel.proofs.Pulls.{IsTurn, is_given, is_listing, none_to_come}
 use Rattle.rel_travel.proofs.scratch.pull.Goals as goal
