@@ -1,5 +1,5 @@
 -- A table is found or made.
-use Rattle.std.proofs.Common.{◌≡◌, ◌≢◌, ◌↔◌, ℕ, suc, ◌+◌, ◌-◌, ◌^◌, ◌<◌, ◌≤◌, Bool, true, false, if◌then◌else◌, List, ◌∷◌, Option, Some, None, IsSome, IsNone, IfSome, IfOk, OnOk, IsOk, IsTrue, Result, Ok, Err, map, max, option_map, unwrap_or, slice_index_or, slice_get, length, [], refl, sym, ap, subst, ◌∙◌, true≢false, arith, rules}
+use Rattle.std.proofs.Common.{◌≡◌, ◌≢◌, ◌↔◌, ℕ, suc, ◌+◌, ◌-◌, ◌^◌, ◌<◌, ◌≤◌, Bool, true, false, if◌then◌else◌, List, ◌∷◌, Option, Some, None, IsSome, IsNone, IfSome, IfOk, IsTrue, Result, Ok, Err, map, max, option_map, unwrap_or, slice_index_or, slice_get, length, [], refl, sym, ap, subst, ◌∙◌, true≢false, arith, rules}
 use Rattle.std.specs.FinMap.{is_sorted}
 use Rattle.std.specs.Ordering.{nat_cmp}
 use Rattle.std.specs.Map.{lookup}
@@ -175,10 +175,6 @@ is_found tables by_ids by_serial last s view kept f key sizes e =
 pub not_there : {Y : Type 0} (tables : Slab (Held Y)) (by_ids : BTreeMap (Vec Id Y) TableKey) (by_serial : BTreeMap ℕ TableKey) (last : ℕ) (s : Store) → store_of tables last ≡ s → IsKept tables by_ids by_serial last
     → (ids : List Id) → key_of by_ids ids ≡ None → (q : TableKey) → ids_at s q ≢ Some ids
 not_there tables by_ids by_serial last s view kept ids none q h = none_is_some q (sym none ∙ (kept.index ids q).1 (subst (λ z. ids_at z q ≡ Some ids) (sym view) h))
-
-pub on_ok : {T E : Type 0} (r : Result T E) (P : Type 0) → IsOk r → OnOk r P → P
-on_ok (Ok x) P h p = p
-on_ok (Err x) P h p = absurd (true≢false (sym h))
 
 pub if_ok : {T E : Type 0} (P Q : T → Type 0) (r : Result T E) → ((x : T) → P x → Q x) → IfOk r P → IfOk r Q
 if_ok P Q (Ok x) f h = f x h
