@@ -11,8 +11,11 @@ use raw_column::{Block, Memory};
 use std::alloc::{Allocator, Global};
 use std::marker::Model;
 
-// A table with places for so many rows keeps them: a few rows that come and go aren't worth a new block.
-const SMALL: usize = 64;
+// Places of so many bytes are kept: a few rows that come and go aren't worth a new block.
+const FEW_BYTES: usize = 512;
+
+// The bytes of an entity in the list of rows.
+const ENTITY_BYTES: usize = 8;
 
 /// The rows of the entities that have exactly the same ids.
 ///
@@ -73,19 +76,23 @@ impl<A: Allocator + Copy> Table<A> {
 
     /// Keeps room for `room` more rows at most, and gives memory back where the rows fill less than half of it.
     ///
-    /// A small table keeps its memory. A smaller block that is refused is no error. Where `room` is at most half of the rows, the cost
-    /// is a constant for each row that came or went.
+    /// Without rows no more than a few hundred bytes stay. A smaller block that is refused is no error. Where `room` is at most half of
+    /// the rows, the cost is a constant for each row that came or went.
     pub fn shrink_to(&mut self, room: usize)
         ensures { self.new ≡ record self.old { room = min self.old.room room } }
     {
         self.room = self.room.min(room);
         let rows = self.entities.len();
-        let capacity = self.entities.capacity();
-        if capacity <= SMALL || rows >= capacity / 2 {
+        let capacity = rows + self.columns.room();
+        if 0 < rows && capacity / 2 <= rows {
+            return;
+        }
+        let few = FEW_BYTES / (self.columns.row_size() + ENTITY_BYTES);
+        if capacity <= few {
             return;
         }
         // Places for half as many rows again stay, so that giving back and growing again are a constant for a row.
-        let kept = (rows + rows / 2).max(rows + self.room).max(SMALL / 2);
+        let kept = (rows + rows / 2).max(rows + self.room).max(few);
         self.entities.shrink_to(kept);
         self.columns.shrink_to(kept);
     }

@@ -114,6 +114,11 @@ fits_most n w le =
     let m : ℕ = max w 1 in let more : w ≤ m = omega arith in
     omega (arith, mul-le-mul_left n more, mul-le-mul_right m le, div-mul-le_self (2 ^ 63 - 1) m)
 
+pub few_rows : (n w : ℕ) → n ≤ most_rows w → n < 2 ^ 63
+few_rows n w le =
+    let m : ℕ = max w 1 in let more : 1 ≤ m = omega arith in let one : n * 1 ≡ n = omega arith in
+    omega (arith, mul-le-mul_left n more, mul-le-mul_right m le, div-mul-le_self (2 ^ 63 - 1) m)
+
 module _ (c n : ℕ) (ss bs : List ℕ) where
   abbrev shown : List Values
   shown = map (first_of n) (columns_in c ss bs)

@@ -1,5 +1,5 @@
 //! The columns of a table in one block.
-ghost use Rattle.std.specs.Prelude.{◌≡◌, ℕ, ◌+◌, ◌-◌, ◌*◌, ◌<◌, ◌≤◌, length, map, min, slice_get, slice_index, slice_index_or, IfOk, Some, OnOk, OnErr, IsOk, IsErr};
+ghost use Rattle.std.specs.Prelude.{◌≡◌, ℕ, ◌+◌, ◌-◌, ◌*◌, ◌^◌, ◌<◌, ◌≤◌, length, map, min, slice_get, slice_index, slice_index_or, IfOk, Some, OnOk, OnErr, IsOk, IsErr};
 ghost use Rattle.std.specs.List.{fold, sum};
 ghost use Rattle.raw_column.specs.Contents.{HaveOneSize, capacity_of, column_at, empty_contents, most_of, row_bytes, with_copied, with_item_in, with_zeros, without_row};
 
@@ -84,7 +84,8 @@ impl<A: Allocator> Block<A> {
 
     /// The bytes of a row in all columns.
     pub fn row_size(&self) -> usize
-        ensures { result ≡ row_bytes self.now }
+        ensures value { result ≡ row_bytes self.now }
+        ensures small { result < 2 ^ 32 }
     {
         self.sizes.width()
     }
@@ -98,7 +99,8 @@ impl<A: Allocator> Block<A> {
 
     /// How many more rows fit before memory is asked for.
     pub fn room(&self) -> usize
-        ensures { result ≡ self.now.room }
+        ensures value { result ≡ self.now.room }
+        ensures within { self.now.len + result < 2 ^ 63 }
     {
         self.capacity - self.len
     }

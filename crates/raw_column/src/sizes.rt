@@ -64,7 +64,8 @@ impl<A: Allocator> Sizes<A> {
     /// The bytes of a row in all columns.
     #[inline(always)]
     pub(crate) fn width(&self) -> usize
-        ensures { result ≡ sum self.now }
+        ensures sum { result ≡ sum self.now }
+        ensures small { result < 2 ^ 32 }
     {
         self.width as usize
     }

@@ -1,0 +1,92 @@
+use raw_column::{Block, Memory};
+use refusing_alloc::Refusing;
+use std::alloc::Allocator;
+use std::process::Abort;
+use std::test::Fail;
+
+const TEXT: &[u8; 8] = b"abcdefgh";
+
+/// One row, and the room that there was.
+fn expect_unchanged<A: Allocator>(rt: &impl Abort, block: &Block<A>, room: usize) {
+    assert_eq!(rt; block.len(), 1);
+    assert_eq!(rt; block.columns(), 2);
+    assert_eq!(rt; block.room(), room);
+    assert!(rt; block.get(0, 0) == [5u8].as_slice());
+    assert!(rt; block.get(1, 0) == TEXT.as_slice());
+}
+
+/// A growth is refused, and then it is not. Room that is there is not refused meanwhile.
+fn refuse_once<A: Allocator, B: Allocator>(
+    rt: &impl Abort,
+    heap: &Refusing<B>,
+    block: &mut Block<A>,
+    wanted: usize,
+) -> Result<(), Memory> {
+    let room = block.room();
+    heap.refuse_after(0);
+    assert!(rt; block.reserve(wanted) == Err(Memory));
+    expect_unchanged(rt, block, room);
+    assert!(rt; block.reserve(room) == Ok(()));
+    expect_unchanged(rt, block, room);
+    heap.refuse_after(1);
+    block.reserve(wanted)?;
+    assert!(rt; wanted <= block.room());
+    Ok(())
+}
+
+#[test]
+fn a_refused_growth_leaves_the_rows(rt: HostRuntime) -> Result<(), Fail> {
+    let heap = Refusing::new(rt.alloc());
+    let mut block = Block::new(&heap, &[1, 8])?;
+    heap.refuse_after(0);
+    assert!(rt; Block::new(&heap, &[1, 8]).is_err());
+    assert_eq!(rt; block.reserve(1), Err(Memory));
+    assert_eq!(rt; block.len(), 0);
+    assert_eq!(rt; block.room(), 0);
+    heap.refuse_none();
+    block.reserve(1)?;
+    block.push_zero();
+    block.set(0, 0, &[5]);
+    block.set(1, 0, TEXT);
+    for wanted in [8usize, 16, 100, 1000] {
+        refuse_once(&rt, &heap, &mut block, wanted)?;
+    }
+    Ok(())
+}
+
+#[test]
+fn a_block_too_large_is_refused_unasked(rt: HostRuntime) -> Result<(), Fail> {
+    let heap = Refusing::new(rt.alloc());
+    let mut block = Block::new(&heap, &[64, 64])?;
+    heap.refuse_after(5);
+    assert_eq!(rt; block.reserve(usize::MAX), Err(Memory));
+    assert_eq!(rt; block.reserve(isize::MAX as usize / 128 + 1), Err(Memory));
+    assert_eq!(rt; heap.left(), 5);
+    Ok(())
+}
+
+#[test]
+fn rows_without_columns_take_no_memory(rt: HostRuntime) -> Result<(), Fail> {
+    let heap = Refusing::new(rt.alloc());
+    heap.refuse_after(0);
+    let mut block = Block::new(&heap, &[])?;
+    block.reserve(1000)?;
+    block.push_zero();
+    assert_eq!(rt; block.len(), 1);
+    Ok(())
+}
+
+/// A growth of two columns is one request, and at least doubles what fits.
+#[test]
+fn one_by_one_grows_seldom(rt: HostRuntime) -> Result<(), Fail> {
+    let heap = Refusing::new(rt.alloc());
+    let mut block = Block::new(&heap, &[4, 8])?;
+    heap.refuse_after(13);
+    for _ in 0..5_000 {
+        block.reserve(1)?;
+        block.push_zero();
+    }
+    assert_eq!(rt; block.len(), 5_000);
+    assert_eq!(rt; heap.left(), 0);
+    Ok(())
+}
