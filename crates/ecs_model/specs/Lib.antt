@@ -26,4 +26,5 @@ pub mod Line
 pub mod Links
 pub mod Cycles
 pub mod Falls
+pub mod Added
 pub mod ReachLaws

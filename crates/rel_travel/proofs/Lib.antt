@@ -1,5 +1,5 @@
 pub mod Growth
-mod Begun
+pub mod Begun
 mod Cleanup
 mod LineSearch
 mod Marks

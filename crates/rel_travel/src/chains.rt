@@ -6,7 +6,7 @@ ghost use Rattle.rel_travel.specs.Lists.{IsListed};
 
 use crate::found::Found;
 use crate::graph::{Graph, Upward};
-use crate::work_list::{Rule, gather};
+use crate::work_list::{Rule, gather_found};
 use ecs_id::Id;
 use ecs_model::built_ins::{REFLEXIVE, TRANSITIVE};
 use std::alloc::Allocator;
@@ -69,7 +69,7 @@ pub fn leads<G: Graph, A: Allocator>(
     };
     begin(&rule, source, reach, found);
     if reach.is_transitive {
-        gather(&rule, found);
+        gather_found(&rule, found);
     }
     found.is_found(target)
 }
@@ -91,7 +91,7 @@ pub fn leads_back<G: Graph, A: Allocator>(
     let _ = graph.size();
     found.clear();
     found.add(target);
-    gather(
+    gather_found(
         &Upward {
             graph,
             relationship,

@@ -7,7 +7,7 @@ ghost use Rattle.ecs_model.specs.Reach.{Reached};
 
 use crate::found::Found;
 use crate::holders::{Holders, add_holders};
-use crate::work_list::{Rule, gather};
+use crate::work_list::{Rule, gather_found};
 use component_index::{Part, Pattern};
 use ecs_id::{EntityId, Id};
 use ecs_model::built_ins::{DELETE, ON_DELETE, ON_DELETE_TARGET};
@@ -23,7 +23,7 @@ pub fn find_falling<G: Holders, A: Allocator>(graph: &G, index: u32, found: &mut
     let _ = graph.size();
     found.clear();
     found.add(index);
-    gather(&Falling { graph }, found);
+    gather_found(&Falling { graph }, found);
 }
 
 /// From an entity to those that fall with it.

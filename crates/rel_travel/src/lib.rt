@@ -13,7 +13,9 @@ mod work_list;
 
 pub use falls::Falling;
 pub use found::Found;
-pub use graph::{Graph, Upward};
+pub use graph::{Graph, Upward, target_under};
 pub use holders::{Downward, Holders, add_holders};
-pub use scratch::{Scratch, above, below, deleted, first_up, pull, reaches, would_cycle};
-pub use work_list::{Rule, gather};
+pub use scratch::{
+    Scratch, above, below, deleted, first_up, gather, pull, reaches, would_cycle,
+};
+pub use work_list::Rule;

@@ -1,13 +1,13 @@
 //! The searches of a graph, in room that is made once.
-ghost use Rattle.std.specs.Prelude.{◌≡◌, ◌↔◌, ◌+◌, ◌≤◌, ◌<◌, ℕ, [], length, max, find, Contains, IsTrue, OnOk, OnErr};
+ghost use Rattle.std.specs.Prelude.{◌≡◌, ◌==◌, ◌↔◌, ◌+◌, ◌≤◌, ◌<◌, ℕ, [], length, max, find, All, Contains, IsTrue, OnOk, OnErr};
 ghost use Rattle.std.specs.List.{list_any, IsDistinct};
-ghost use Rattle.std.specs.Prelude.{◌==◌};
 ghost use Rattle.component_index.specs.Patterns.{matches};
 ghost use Rattle.ecs_model.specs.Falls.{falling};
 ghost use Rattle.ecs_model.specs.Links.{IsAcyclic, IsReached, line, reaches as reaches_in, upward};
-ghost use Rattle.ecs_model.specs.Reach.{Reached};
+ghost use Rattle.ecs_model.specs.Reach.{IsLeast, Reached};
 ghost use Rattle.rel_travel.specs.Lists.{GivesOne, IsListing, IsToCome, given_by, steps};
 ghost use Rattle.rel_travel.specs.Growing.{IsGrownBy};
+ghost use Rattle.rel_travel.specs.Finds.{with_find};
 
 use crate::chains::{Reach, begin, leads, leads_back, reach_of};
 use crate::falls::find_falling;
@@ -16,7 +16,7 @@ use crate::graph::{Graph, Upward};
 use crate::holders::{Downward, Holders};
 use crate::line::first_hit;
 use crate::path::Path;
-use crate::work_list::Rule;
+use crate::work_list::{Rule, gather_found};
 use component_index::Pattern;
 use std::alloc::{AllocError, Allocator, Global};
 use std::marker::Model;
@@ -100,6 +100,34 @@ impl<A: Allocator> Scratch<A> {
     {
         self.found.as_slice()
     }
+
+    /// Forgets what the last search found.
+    pub fn clear(&mut self)
+        ensures size { self.new.size ≡ self.old.size }
+        ensures found { self.new.found ≡ [] }
+    {
+        self.found.clear();
+    }
+
+    /// Adds an entity to what is found, if it isn't there.
+    pub fn add(&mut self, index: u32)
+        requires { index < self.old.size }
+        ensures size { self.new.size ≡ self.old.size }
+        ensures found { self.new.found ≡ with_find self.old.found index }
+    {
+        self.found.add(index);
+    }
+}
+
+/// Adds all that a rule brings from the found entities, and what it brings from there, and so on.
+///
+/// It follows the rule from each entity once.
+pub fn gather<R: Rule, A: Allocator>(rule: &R, scratch: &mut Scratch<A>)
+    requires { (x : ℕ) → All (λ y. y < scratch.old.size) (R.next rule.now x) }
+    ensures size { scratch.new.size ≡ scratch.old.size }
+    ensures least { IsLeast (R.next rule.now) scratch.old.found scratch.new.found }
+{
+    gather_found(rule, &mut scratch.found);
 }
 
 /// Begins the list of all entities that a relationship leads to from an entity; `pull` gives them.

@@ -22,7 +22,7 @@ pub trait Rule {
 /// Adds all that the found entities bring, and what that brings, and so on.
 ///
 /// Each entity is followed once. It takes no memory.
-pub fn gather<R: Rule, A: Allocator>(rule: &R, found: &mut Found<A>)
+pub fn gather_found<R: Rule, A: Allocator>(rule: &R, found: &mut Found<A>)
     requires { (x : ℕ) → All (λ y. y < found.old.size) (R.next rule.now x) }
     ensures size { found.new.size ≡ found.old.size }
     ensures least { IsLeast (R.next rule.now) found.old.items found.new.items }

@@ -13,8 +13,8 @@ use Rattle.rel_travel.proofs.chains.leads.Goals.{then-reach, else-reach}
 pub begin-requires-clause-covered : goal.begin-requires-clause-covered
 begin-requires-clause-covered g c = upward_below c.size.ensures.links c.args.relationship c.args.found.now.size c.requires.covered
 
-pub gather-requires : goal.gather-requires
-gather-requires g c = rw c.begin.ensures.size (upward_below c.size.ensures.links c.args.relationship c.args.found.now.size c.requires.covered)
+pub gather_found-requires : goal.gather_found-requires
+gather_found-requires g c = rw c.begin.ensures.size (upward_below c.size.ensures.links c.args.relationship c.args.found.now.size c.requires.covered)
 
 pub returns-clause-answer : goal.returns-clause-answer
 returns-clause-answer g c =
@@ -23,7 +23,7 @@ returns-clause-answer g c =
     let begun : (y : ℕ) → IsListed c.reach_of-reach.result.is_transitive (upward ids r) c.begin.new.found.items y ↔ IsReached ids r c.args.source y = rw (← c.reach_of-reach.ensures.transitive, ← c.reach_of-reach.ensures.reflexive) c.begin.ensures.begun in
     let there : Contains c.if-reach.found.items c.args.target ↔ IsReached ids r c.args.source c.args.target =
     elim c.if-reach.branch [
-      | then-reach w ↦ rw w.found-is (gathered (upward ids r) c.begin.new.found.items w.gather.new.found.items c.args.target w.gather.ensures.least (rw w.if-reach.true at begun))
+      | then-reach w ↦ rw w.found-is (gathered (upward ids r) c.begin.new.found.items w.gather_found.new.found.items c.args.target w.gather_found.ensures.least (rw w.if-reach.true at begun))
       | else-reach w ↦ rw w.found-is ((rw w.if-reach.false at begun) c.args.target)
     ] in
     let tells = is_among_tells c.if-reach.found.items c.args.target in
