@@ -17,9 +17,10 @@ struct Listed {
 /// The bytes of a row in a column, where the plain list has `seed`.
 fn bytes_of(seed: u32, column: usize) -> [u8; 64] {
     let word = seed.to_le_bytes();
+    let mark = (column % 256) as u8;
     let mut bytes = [0; 64];
     for i in 0..64 {
-        bytes[i] = word[i % 4] ^ i as u8 ^ column as u8;
+        bytes[i] = word[i % 4] ^ i as u8 ^ mark;
     }
     bytes
 }

@@ -74,25 +74,25 @@ impl<A: Allocator + Copy> Table<A> {
         Ok(())
     }
 
-    /// Keeps room for `room` more rows at most, and gives memory back where the rows fill less than half of it.
+    /// Keeps room for `room` more rows at most, and gives memory back where the rows fill less than three quarters of it.
     ///
-    /// Without rows no more than a few hundred bytes stay. A smaller block that is refused is no error. Where `room` is at most half of
-    /// the rows, the cost is a constant for each row that came or went.
+    /// Without rows no more than a few hundred bytes stay. A smaller block that is refused is no error. Where `room` is at most an eighth
+    /// of the rows, the cost is a constant for each row that came or went.
     pub fn shrink_to(&mut self, room: usize)
         ensures { self.new ≡ record self.old { room = min self.old.room room } }
     {
         self.room = self.room.min(room);
         let rows = self.entities.len();
         let capacity = rows + self.columns.room();
-        if 0 < rows && capacity / 2 <= rows {
+        if 0 < rows && capacity - capacity / 4 <= rows {
             return;
         }
         let few = FEW_BYTES / (self.columns.row_size() + ENTITY_BYTES);
         if capacity <= few {
             return;
         }
-        // Places for half as many rows again stay, so that giving back and growing again are a constant for a row.
-        let kept = (rows + rows / 2).max(rows + self.room).max(few);
+        // Places for an eighth more rows stay, so that giving back and growing again are a constant for a row.
+        let kept = (rows + rows / 8).max(rows + self.room).max(few);
         self.entities.shrink_to(kept);
         self.columns.shrink_to(kept);
     }
