@@ -1,6 +1,29 @@
 //! A world of entities in archetype tables: what each holds, their names, and the fields of components.
 //!
-//! A command takes time logarithmic in the entities, and moves at most one row.
+//! ```text
+//! let mut world = World::new(rt.alloc(), RandomState::new(&rt)?)?;
+//!
+//! // a component with fields and a tag: the first two indexes that are given out
+//! let fields = Schema::new(rt.alloc(), &[("x", Kind::I32), ("y", Kind::I32)])?;
+//! world.component("Position", fields)?;
+//! world.entity("Frozen")?;
+//! let (position, frozen) = (Id::plain(64), Id::plain(65));
+//!
+//! // an entity with a value and a tag; each command tells what it has changed
+//! if let Some(earth) = world.entity("Earth")?.born() {
+//!     world.set(earth, position, &[150, -3])?;
+//!     assert!(rt; world.add(earth, frozen)?.came().len() == 1);
+//!     assert!(rt; world.ids_of(earth) == Some([position, frozen].as_slice()));
+//!     assert!(rt; world.value(earth.index, position) == Some(Value::new(&[150, -3])));
+//! }
+//!
+//! // a command against which there is a reason changes nothing
+//! let taken = world.entity("Earth").map(|changes| changes.born());
+//! assert!(rt; taken == Err(CommandError::Refused(Refusal::NameTaken)));
+//! ```
+//!
+//! Each command is judged as a whole before anything is changed. Where memory is refused it answers `Memory`, and the world is as it was.
+//! A command takes time logarithmic in the entities, and moves at most one row. Readers take no memory.
 #![tactic(auto, using(ecs_id::specs::Id::id_tests))]
 
 ghost use Rattle.std.specs.Prelude.{◌≡◌, IfOk};

@@ -1,13 +1,7 @@
-//! The world on tables against the world kept as lists, and each of its calls on its happy path.
+//! A world at work: each call that takes memory where there is some, each reader once, and each growth refused in turn.
 #![tactic(auto)]
 
 #[cfg(test)]
-mod happy_paths;
+mod calls;
 #[cfg(test)]
-mod numbers;
-#[cfg(test)]
-mod readers;
-#[cfg(test)]
-mod side_by_side;
-#[cfg(test)]
-mod worlds;
+mod growths;

@@ -1,0 +1,70 @@
+use ecs_id::{EntityId, Id};
+use ecs_model::Value;
+use ecs_model::faults::{CommandError, Refusal};
+use ecs_schema::{Kind, Schema};
+use ecs_world::{FactKey, World};
+use std::hash::RandomState;
+use std::process::Abort;
+use std::test::Fail;
+
+/// The first index that a new entity gets.
+const SUN: EntityId = EntityId {
+    index: 64,
+    generation: 0,
+};
+
+/// Whether one fact stands here, that of the sun and this id.
+fn is_of_sun(keys: &[FactKey], id: Id) -> bool {
+    match keys {
+        [key] => key.entity() == SUN.index && key.id() == id,
+        _ => false,
+    }
+}
+
+/// The sun holds a position, and each reader tells it.
+fn expect_sun(rt: &impl Abort, world: &World, position: Id) {
+    assert!(rt; world.is_alive(SUN));
+    assert!(rt; world.at(64) == Some(SUN));
+    assert!(rt; world.live().count() == 25);
+    assert!(rt; world.find("Sun") == Some(SUN));
+    assert!(rt; world.name_of(64) == Some("Sun"));
+    assert!(rt; world.ids_of(SUN) == Some([position].as_slice()));
+    assert!(rt; world.has(64, position));
+    assert!(rt; world.type_of(position).is_some());
+    assert!(rt; world.bytes(64, position) == Some([253, 255, 255, 255, 200].as_slice()));
+    assert!(rt; world.value(64, position) == Some(Value::new(&[-3, 200])));
+}
+
+/// Gives the sun a position and a tag, and takes the tag away again.
+fn move_sun(rt: &impl Abort, world: &mut World, position: Id, tag: Id) -> Result<(), CommandError> {
+    let placed = world.set(SUN, position, &[-3, 200])?;
+    assert!(rt; is_of_sun(placed.came(), position) && is_of_sun(placed.written(), position));
+    let tagged = world.add(SUN, tag)?;
+    assert!(rt; is_of_sun(tagged.came(), tag) && tagged.written().is_empty());
+    let freed = world.remove(SUN, tag)?;
+    assert!(rt; is_of_sun(freed.went(), tag) && freed.born().is_none());
+    Ok(())
+}
+
+#[test]
+fn each_call_has_memory_and_each_reader_answers(rt: HostRuntime) -> Result<(), Fail> {
+    let mut world = World::new(rt.alloc(), RandomState::new(&rt)?)?;
+    let fields = Schema::new(rt.alloc(), &[("x", Kind::I32), ("y", Kind::U8)])?;
+    assert!(rt; world.entity("Sun")?.born() == Some(SUN));
+    let position = Id::plain(65);
+    assert!(rt; world.component("Position", fields)?.born() == world.at(65));
+    assert!(rt; world.fresh()?.born() == world.at(66));
+    move_sun(&rt, &mut world, position, Id::plain(66))?;
+    expect_sun(&rt, &world, position);
+    Ok(())
+}
+
+#[test]
+fn a_taken_name_is_refused(rt: HostRuntime) -> Result<(), Fail> {
+    let mut world = World::new(rt.alloc(), RandomState::new(&rt)?)?;
+    let fields = Schema::new(rt.alloc(), &[("x", Kind::I32), ("y", Kind::U8)])?;
+    world.entity("Sun")?;
+    let taken = world.component("Sun", fields).map(|changes| changes.born());
+    assert!(rt; taken == Err(CommandError::Refused(Refusal::NameTaken)));
+    Ok(())
+}
