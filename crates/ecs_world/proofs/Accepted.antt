@@ -1,5 +1,5 @@
 -- What the calls need that carry out accepted commands, and what they leave.
-use Rattle.std.proofs.Common.{◌≡◌, ℕ, ◌+◌, ◌≤◌, ◌==◌, Bool, true, false, not, ◌&&◌, List, [], ◌∷◌, length, replicate, ℤ, Option, Some, None, is_some, IsTrue, Result, Ok, Err, is_err, IfOk, OnOk, OnErr, refl, sym, ap, subst, ◌∙◌, arith, true≢false}
+use Rattle.std.proofs.Common.{◌≡◌, ℕ, ◌+◌, ◌==◌, Bool, true, false, not, ◌&&◌, List, [], ◌∷◌, length, replicate, ℤ, Option, Some, None, is_some, IsTrue, Result, Ok, Err, is_err, IfOk, OnOk, OnErr, refl, sym, ap, subst, ◌∙◌, true≢false}
 use Rattle.std.proofs.lemmas.Bool.Decides.{Decides-eqb}
 use Rattle.std.proofs.lemmas.List.{length-map}
 use Rattle.std.specs.FinMap as finite
@@ -17,7 +17,6 @@ use Rattle.ecs_model.specs.Changes.{facts_after_add, facts_after_remove}
 use Rattle.ecs_model.specs.World.{WorldState, key_cmp, component, holds, ids_of, is_alive, type_of_id, new_value}
 use Rattle.ecs_model.specs.Command.{Command, IsCommand, Fresh, Entity, Component, Add, SetValue, Remove, reasons, effect, counted, is_spent, with_facts}
 use Rattle.ecs_model.specs.Command as model
-use Rattle.ecs_model.proofs.Additions.{not_spent}
 use Rattle.ecs_model.proofs.Answering.{effect_well_formed}
 use Rattle.ecs_model.proofs.Differences.{last_value}
 use Rattle.ecs_model.proofs.Maps.{key_cmp_total, of_some}
@@ -54,10 +53,6 @@ made_is o B (Ok f) e next born h at =
     let found : Some f ≡ Some e = sym next ∙ at in
     let same : f ≡ e = cc in subst B same born
 made_is o B (Err x) e next born h at = absurd (true≢false h)
-
--- a command that is accepted is counted
-pub counts : (w v : WorldState) → w ≡ v → is_spent v ≡ false → w.accepted + 1 ≤ 18446744073709551615
-counts w v is room = omega (arith, not_spent w.accepted (ap is_spent is ∙ room))
 
 pub sound_after : (v u : WorldState) (c : Command) → IsWellFormed v → IsCommand c → first_reason (reasons v c) ≡ None → u ≡ counted (effect v c) → IsWellFormed u
 sound_after v u c sound command none is = subst IsWellFormed (sym is) (effect_well_formed v c sound command none)
@@ -230,9 +225,6 @@ module _ {parts : Parts} (world : IsWorld parts) {v : WorldState} (is : state_of
   module _ (e : EntityId) (next : model.next_entity v ≡ Some e) where
     abbrev next_w : model.next_entity w ≡ Some e
     next_w = ap model.next_entity is ∙ next
-
-    pub next_there : upcoming h ≡ Some e
-    next_there = next_w
 
     pub next_unnamed : IsUnnamed names e
     next_unnamed = unnamed names h.live (AreNamed-world world) e (none_live world e next_w)

@@ -1,5 +1,5 @@
 -- What the index of names tells of a new name is what the reasons against it say.
-use Rattle.std.proofs.Common.{◌≡◌, ℕ, Bool, true, false, not, List, [], ◌∷◌, ◌++◌, Some, None, Err, is_some, option_map, refl, sym, ap, ◌∙◌}
+use Rattle.std.proofs.Common.{◌≡◌, ℕ, true, not, List, [], ◌∷◌, ◌++◌, Some, None, Err, is_some, sym, ap, ◌∙◌}
 use Rattle.std.specs.FinMap as finite
 use Rattle.ecs_id.specs.declared.EntityId.{EntityId}
 use Rattle.ecs_model.specs.declared.faults.CommandError.{CommandError}

@@ -95,21 +95,6 @@ births w none =
     let parts = neither (is_none (next_entity w)) (is_spent w) (passed (is_none (next_entity w) || is_spent w) Full [] none).0 in
     record { next = there (next_entity w) parts.0; room = parts.1 }
 
-named_births : (w : WorldState) (n : List ℕ) → first_reason (name_reasons w n ++ birth_reasons w) ≡ None → CanBear w
-named_births w n none = births w (none_of_both (name_reasons w n) (birth_reasons w) none).1
-
-pub bears-fresh : (w : WorldState) → first_reason (reasons w Fresh) ≡ None → CanBear w
-unfolding reasons
-bears-fresh w none = births w none
-
-pub bears-entity : (w : WorldState) (n : List ℕ) → first_reason (reasons w (Entity n)) ≡ None → CanBear w
-unfolding reasons
-bears-entity w n none = named_births w n none
-
-pub bears-component : (w : WorldState) (n : List ℕ) (fs : Schema) → first_reason (reasons w (Component n fs)) ≡ None → CanBear w
-unfolding reasons
-bears-component w n fs none = named_births w n none
-
 pub fresh_refusal : (w : WorldState) → first_reason (birth_reasons w) ≡ first_reason (reasons w Fresh)
 unfolding reasons
 fresh_refusal w = refl

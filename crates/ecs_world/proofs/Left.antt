@@ -1,5 +1,5 @@
 -- What commands on facts leave.
-use Rattle.std.proofs.Common.{◌≡◌, ℕ, ◌==◌, Bool, true, false, cond, ◌&&◌, List, [], length, ℤ, Some, None, is_some, if◌then◌else◌, IsTrue, IfSome, refl, sym, ap, subst, ◌∙◌, inl, inr, arith, true≢false}
+use Rattle.std.proofs.Common.{◌≡◌, ℕ, ◌==◌, Bool, true, false, cond, ◌&&◌, List, [], length, ℤ, Some, None, is_some, if◌then◌else◌, IsTrue, IfSome, refl, sym, ap, subst, ◌∙◌, arith, true≢false}
 use Rattle.std.specs.Cmp.{nat_cmp_total, Equal-is}
 use Rattle.std.specs.List.{list_all}
 use Rattle.std.specs.Option.{option_eq, option_map_or}
@@ -15,9 +15,8 @@ use Rattle.ecs_model.specs.Changes.{facts_after_add, facts_after_remove}
 use Rattle.ecs_model.specs.World.{WorldState, Key, key_cmp, pair_is_tag, holds, type_of_id, new_value, value_of}
 use Rattle.ecs_model.specs.Command.{Add, SetValue, Remove, reasons, effect, counted, is_spent, with_facts}
 use Rattle.ecs_model.proofs.Maps.{key_cmp_same, keys-with_value}
-use Rattle.ecs_model.proofs.Additions.{add_is_addition, not_spent}
+use Rattle.ecs_model.proofs.Additions.{not_spent}
 use Rattle.ecs_model.proofs.Answering.{effect_well_formed}
-use Rattle.ecs_model.proofs.Typing.{same_type}
 use Rattle.name_index.specs.Names.{Names}
 use Rattle.ecs_world.specs.Holdings.{AreHoldings, Cells, HoldAlike, Holdings, KeepsSizes, Sizes, cells_at, held_at, holds_id, with_cells}
 use Rattle.ecs_world.specs.State.{IsWorld, Parts, parts_of, all_facts, byte_count, is_known_rightly, names_of, state_of, type_of, value_in}
@@ -210,13 +209,3 @@ effect-remove w e i = refl
 -- the world with the fact, not yet counted
 pub held_world : (w : WorldState) (e : EntityId) (i : Id) → IsWellFormed w → first_reason (reasons w (Add e i)) ≡ None → IsWellFormed (with_facts w (facts_after_add w e.index i))
 held_world w e i sound none = uncounted (with_facts w (facts_after_add w e.index i)) (subst (λ v. IsWellFormed (counted v)) (effect-add w e i) (effect_well_formed w (Add e i) sound tt none))
-
--- after `add` an id has the type that it had
-pub types_after_add : (w : WorldState) (e : EntityId) (i j : Id) → IsWellFormed w → is_not_yet_changed i ≡ false → type_of_id (with_facts w (facts_after_add w e.index i)) j ≡ type_of_id w j
-types_after_add w e i j sound no_trait = same_type w (with_facts w (facts_after_add w e.index i)) (λ x. true) j (all_true (mentioned j)) (λ k t. refl) tags
-  where
-    tags : (r : ℕ) → has_key key_cmp (facts_after_add w e.index i) (r, plain pair_is_tag) ≡ holds w r (plain pair_is_tag)
-    tags r = elim ((add_is_addition w e.index i sound).others (r, plain pair_is_tag)) [
-      | inl p ↦ absurd (true≢false (ap (λ q. is_not_yet_changed q.1) p ∙ no_trait))
-      | inr p ↦ ap is_some p
-    ]

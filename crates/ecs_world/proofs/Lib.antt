@@ -13,7 +13,6 @@ pub mod Accepted
 pub mod Told
 pub mod Bound
 pub mod Ordered
-pub mod Valued
 pub mod Placings
 pub mod MapLists
 pub mod Known

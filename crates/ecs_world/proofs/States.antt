@@ -13,7 +13,6 @@ use Rattle.ecs_model.specs.Bytes.{size_of, values_in}
 use Rattle.ecs_model.specs.Keeps.{IsWellFormed}
 use Rattle.ecs_model.specs.World.{WorldState, pair_is_tag, holds, value_of, ids_of, is_alive, type_of_id, name_of}
 use Rattle.ecs_model.proofs.Maps.{of_some, some_of, both_true}
-use Rattle.ecs_model.specs.Command as model
 use Rattle.ecs_schema.proofs.Meaning.{values_in-zeros}
 use Rattle.name_index.specs.Names.{Names}
 use Rattle.ecs_world.specs.Holdings.{AreHoldings, Cells, HoldAlike, Holdings, KeepsSizes, Sizes, agrees, bytes_at, cells_at, entity_at, held_at, holds_id, lives, place_in, sizes_of}

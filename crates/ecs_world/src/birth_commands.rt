@@ -72,11 +72,7 @@ impl<A: Allocator + Copy> World<A> {
         Ok(Changes::of_birth(entity))
     }
 
-    fn make_component(
-        &mut self,
-        name: &str,
-        schema: Schema<A>,
-    ) -> Result<Changes, CommandError>
+    fn make_component(&mut self, name: &str, schema: Schema<A>) -> Result<Changes, CommandError>
         requires { first_reason (birth_reasons self.old) ≡ None }
         ensures { AnswersStep result (step self.old (Component name.now schema)) self.old self.new }
     {

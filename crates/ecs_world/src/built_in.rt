@@ -139,7 +139,10 @@ fn put<A: Allocator + Copy>(
 }
 
 /// The names of the built-in entities.
-pub(crate) fn names<A: Allocator + Copy>(alloc: A, random: RandomState) -> Result<NameIndex<A>, Memory>
+pub(crate) fn names<A: Allocator + Copy>(
+    alloc: A,
+    random: RandomState,
+) -> Result<NameIndex<A>, Memory>
     ensures { IfOk result (λ n. AreFirstNames n 22) }
 {
     bound(alloc, random, &NAMES)

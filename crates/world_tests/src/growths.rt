@@ -29,7 +29,10 @@ fn fields<A: Allocator + Copy>(alloc: A) -> Result<Schema<A>, SchemaError> {
 }
 
 /// Makes a component, a tag, and an entity with both.
-fn fill<A: Allocator + Copy>(world: &mut World<A>, position: Schema<A>) -> Result<(), CommandError> {
+fn fill<A: Allocator + Copy>(
+    world: &mut World<A>,
+    position: Schema<A>,
+) -> Result<(), CommandError> {
     world.component("Position", position)?;
     world.entity("Tag")?;
     world.entity("Ship")?;
@@ -56,7 +59,10 @@ fn carry_out<A: Allocator + Copy>(
 
 /// The entities that live, and the ids of the one with facts.
 fn seen<A: Allocator>(world: &World<A>) -> (usize, usize) {
-    (world.live().count(), world.ids_of(SHIP).unwrap_or(&[]).len())
+    (
+        world.live().count(),
+        world.ids_of(SHIP).unwrap_or(&[]).len(),
+    )
 }
 
 /// Gives out so many blocks and no more, and tells whether the call was refused. If so, all is as before, and the next try is accepted.

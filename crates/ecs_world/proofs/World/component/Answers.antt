@@ -11,5 +11,8 @@ pub refusal_of-requires : goal.refusal_of-requires
 refusal_of-requires g c = sym c.in-Some.ensures
 
 pub returns-in-Some : goal.returns-in-Some
-returns-in-Some g c = (step-refused c.args.self.now (Component c.args.name.now c.args.schema) c.refusal_of.result
-    (sym (c.refusal_of.ensures ∙ component_refusal c.args.self.now c.args.name.now c.args.schema)), refl)
+returns-in-Some g c = (
+  step-refused c.args.self.now (Component c.args.name.now c.args.schema) c.refusal_of.result
+      (sym (c.refusal_of.ensures ∙ component_refusal c.args.self.now c.args.name.now c.args.schema)),
+  refl,
+)

@@ -10,7 +10,7 @@ pub returns-then-changes_built_in-clause-refused : goal.returns-then-changes_bui
 returns-then-changes_built_in-clause-refused g c = sym (set_built_in c.args.self.now c.args.entity c.args.id c.args.values.now (not_dead c.args.self.now c.args.entity c.args.id c.requires.alive (sym c.mentions_live.ensures ∙ c.if-not-mentions_live.false)) (sym c.changes_built_in.ensures ∙ c.if-changes_built_in.true))
 
 pub returns-in_err-size-clause-refused : goal.returns-in_err-size-clause-refused
-returns-in_err-size-clause-refused g c = 
+returns-in_err-size-clause-refused g c =
     let p = err_from_is_err_and c.from_residual.result c.from_residual.ensures.1 in
     rw (p.1, p.2) (sym (set_valued c.args.self.now c.args.entity c.args.id c.args.values.now (Some c.in_err-size.field-0.0) (not_dead c.args.self.now c.args.entity c.args.id c.requires.alive (sym c.mentions_live.ensures ∙ c.if-not-mentions_live.false))
     (sym c.changes_built_in.ensures ∙ c.if-changes_built_in.false) (λ none. cc) (sym c.in_err-size.ensures.refused)))

@@ -1,8 +1,8 @@
-use Rattle.std.proofs.Common.{[], Some, is_some, refl, sym, ap, ◌∙◌, arith}
+use Rattle.std.proofs.Common.{[], is_some, refl, sym, ap, ◌∙◌, arith}
 use Rattle.std.proofs.lemmas.Result.{err_from_is_err_and}
 use Rattle.ecs_model.proofs.Additions.{not_spent}
 use Rattle.ecs_world.specs.Holdings.{HoldAlike, upcoming, with_cells, with_entity}
-use Rattle.ecs_world.proofs.Accepted.{failed, kept, made_is, named_left, next_of, next_some, next_unnamed, on_err, on_ok, unchanged}
+use Rattle.ecs_world.proofs.Accepted.{failed, kept, made_is, named_left, next_of, next_some, next_unnamed, on_err, unchanged}
 use Rattle.ecs_world.proofs.Bound.{none_entity, unbound_entity}
 use Rattle.ecs_world.proofs.Judged.{births}
 use Rattle.ecs_world.proofs.NameLists.{freed}

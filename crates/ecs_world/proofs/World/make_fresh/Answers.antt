@@ -1,4 +1,4 @@
-use Rattle.std.proofs.Common.{[], Some, refl, sym, ◌∙◌, arith}
+use Rattle.std.proofs.Common.{[], refl, sym, ◌∙◌, arith}
 use Rattle.ecs_model.proofs.Additions.{not_spent}
 use Rattle.ecs_world.proofs.Accepted.{failed, fresh_left, next_of, next_some}
 use Rattle.ecs_world.proofs.Judged.{births, fresh_refusal}

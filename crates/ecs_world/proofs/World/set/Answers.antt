@@ -50,7 +50,7 @@ returns g c =
     (on_ok c.put.result c.put.ensures.put (sym c.is_err.ensures.value ∙ c.if-is_err.false)) c.put.ensures.sizes c.in-Ok.ensures.encoded.value).1 in
     elim c.if-found.branch [
       | then-found w ↦ rw w.result-is (told_set c.args.self.now _ c.with_written-changes.result c.args.entity c.args.id c.args.values.now c.in-Ok.ensures.judged left
-      (c.with_written-changes.ensures ∙ (λ k. record (c.none.ensures k) { written = c.new-key.ensures k ∷ [] }) ∙ ap (λ b. record no_change { came = if b then [] else (c.args.entity.index, c.args.id) ∷ []; written = (c.args.entity.index, c.args.id) ∷ [] }) (sym (sym (found_held c.self.invariant c.self.view_is c.args.entity c.args.id c.in-Some.found.is_held c.in-Some.ensures.held) ∙ w.if-found.true))))
+          (c.with_written-changes.ensures ∙ (λ k. record (c.none.ensures k) { written = c.new-key.ensures k ∷ [] }) ∙ ap (λ b. record no_change { came = if b then [] else (c.args.entity.index, c.args.id) ∷ []; written = (c.args.entity.index, c.args.id) ∷ [] }) (sym (sym (found_held c.self.invariant c.self.view_is c.args.entity c.args.id c.in-Some.found.is_held c.in-Some.ensures.held) ∙ w.if-found.true))))
       | else-found w ↦ rw w.result-is (told_set c.args.self.now _ w.with_came.result c.args.entity c.args.id c.args.values.now c.in-Ok.ensures.judged left
-      (w.with_came.ensures ∙ (λ k. record (c.with_written-changes.ensures k) { came = c.new-key.ensures k ∷ [] }) ∙ (λ k. record (c.none.ensures k) { came = (c.args.entity.index, c.args.id) ∷ []; written = c.new-key.ensures k ∷ [] }) ∙ ap (λ b. record no_change { came = if b then [] else (c.args.entity.index, c.args.id) ∷ []; written = (c.args.entity.index, c.args.id) ∷ [] }) (sym (sym (found_held c.self.invariant c.self.view_is c.args.entity c.args.id c.in-Some.found.is_held c.in-Some.ensures.held) ∙ w.if-found.false))))
+          (w.with_came.ensures ∙ (λ k. record (c.with_written-changes.ensures k) { came = c.new-key.ensures k ∷ [] }) ∙ (λ k. record (c.none.ensures k) { came = (c.args.entity.index, c.args.id) ∷ []; written = c.new-key.ensures k ∷ [] }) ∙ ap (λ b. record no_change { came = if b then [] else (c.args.entity.index, c.args.id) ∷ []; written = (c.args.entity.index, c.args.id) ∷ [] }) (sym (sym (found_held c.self.invariant c.self.view_is c.args.entity c.args.id c.in-Some.found.is_held c.in-Some.ensures.held) ∙ w.if-found.false))))
     ]

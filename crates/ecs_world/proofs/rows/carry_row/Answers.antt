@@ -1,6 +1,5 @@
 -- The row moves, the last row fills its gap, and the index is told of both.
 use Rattle.std.proofs.Common.{◌≡◌, ◌∙◌, None, ap, option_map, rules, sym, true}
-use Rattle.ecs_id.specs.declared.Place.{Place}
 use Rattle.entity_index.specs.Entities.{is_alive}
 use Rattle.table_store.specs.Rows.{filler}
 use Rattle.ecs_world.proofs.RowChanges.{alike_carried, filler_alive, places_alone, places_both, placed_carried, sound_carried}

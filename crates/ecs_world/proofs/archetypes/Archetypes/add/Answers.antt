@@ -1,5 +1,4 @@
 -- The row moves to the table with the id.
-use Rattle.std.proofs.Common.{◌∙◌, subst, sym}
 use Rattle.ecs_world.proofs.Soundness.{holdings, own_row, row_stands, sound_same}
 use Rattle.ecs_world.proofs.ArchetypeCalls.{alike_wider, apart_wider, place_there, placed_lives}
 use Rattle.ecs_world.proofs.archetypes.Archetypes.add.Goals as goal

@@ -1,5 +1,5 @@
 -- The entity's row is found, and its table has the ids.
-use Rattle.std.proofs.Common.{Some, length, ◌∙◌, ap, option_map, sym}
+use Rattle.std.proofs.Common.{length, ◌∙◌, ap, option_map, sym}
 use Rattle.std.specs.List.{list_any}
 use Rattle.ecs_id.specs.Id.{id_eq}
 use Rattle.ecs_world.specs.Holdings.{place_in}
