@@ -1,0 +1,2 @@
+pub mod TraitBits
+pub mod After
