@@ -3,4 +3,5 @@ pub mod Soundness
 pub mod Stored
 pub mod Places
 pub mod Rows
+pub mod Order
 pub mod Ordered

@@ -1,6 +1,7 @@
 -- What a contract sees of a `Table`: its ids, and for each one with data the value of each row.
 use Rattle.std.specs.Prelude.{◌≡◌, ℕ, ◌+◌, ◌-◌, ◌<◌, ◌≤◌, List, [], ◌∷◌, ◌++◌, map, length, replicate, nat_lt, slice_get, slice_set, slice_index, slice_index_or, Option, Some, None, option_map, unwrap_or, if◌then◌else◌, ◌==◌}
 use Rattle.std.specs.List.{filter, zip, position, swap_remove}
+use Rattle.std.specs.declared.cmp.Ordering.TheVariants.{Less}
 use Rattle.std.specs.FinMap.{find}
 use Rattle.std.specs.Prelude.{vec_len, vec_capacity}
 use Rattle.std.specs.declared.vec.Vec.{Vec}
@@ -154,6 +155,10 @@ seen ids data_ids block entities room = record { ids = ids; data_ids = data_ids;
 abbrev pub replaced : ℕ → Option (List ℕ) → Values → Values
 replaced row None v = v
 replaced row (Some bytes) v = if length bytes == v.size then with_item v row bytes else v
+
+-- each id comes before all later ones
+abbrev pub Ascend : List Id → Type 0
+Ascend ids = (j k : ℕ) (d : Id) → j < k → k < length ids → id_cmp (slice_index_or ids j d) (slice_index_or ids k d) ≡ Less
 
 -- how a table's lists stand beside each other
 pub record IsStored {Z : Type 0} (ids data_ids : List Id) (block : Contents) (entities : Vec EntityId Z) (more : ℕ) : Type 0 where

@@ -1,7 +1,7 @@
 //! What a table's columns are made from.
-ghost use Rattle.std.specs.Prelude.{◌≡◌, ◌<◌, IfOk, IfSome, length, nat_lt};
+ghost use Rattle.std.specs.Prelude.{◌≡◌, IfOk, nat_lt};
 ghost use Rattle.std.specs.List.{filter};
-ghost use Rattle.ecs_table.specs.Archetype.{ids_with_data, index_in};
+ghost use Rattle.ecs_table.specs.Archetype.{ids_with_data};
 
 use ecs_id::Id;
 use std::alloc::{AllocError, Allocator};
@@ -33,13 +33,4 @@ pub fn sizes_with_data<A: Allocator>(
         .copied()
         .filter(|size| *size > 0)
         .collect(alloc)
-}
-
-/// Where an id stands among these.
-#[tactic(auto, unfolding(crate::specs::Archetype::index_in))]
-pub fn index_of(ids: &[Id], id: Id) -> Option<usize>
-    ensures index { result ≡ index_in ids.now id }
-    ensures within { IfSome result (λ index. index < length ids.now) }
-{
-    ids.iter().position(|known| *known == id)
 }

@@ -2,6 +2,7 @@
 #![tactic(auto)]
 
 mod columns;
+mod data_ids;
 mod table;
 
 pub use table::Table;

@@ -5,7 +5,8 @@ ghost use Rattle.raw_column.specs.Contents.{column_at};
 ghost use Rattle.ecs_id.specs.Id.{Id};
 ghost use Rattle.ecs_table.specs.Archetype.{empty_table, moved_into, replaced, size_of, value_of, values_at, with_moved, with_row, with_value, without_row, HaveEqualSizes, IsSound};
 
-use crate::columns::{ids_with_data, index_of, sizes_with_data};
+use crate::columns::{ids_with_data, sizes_with_data};
+use crate::data_ids::DataIds;
 use ecs_id::{EntityId, Id};
 use raw_column::{Block, Memory};
 use std::alloc::{Allocator, Global};
@@ -23,7 +24,7 @@ const ENTITY_BYTES: usize = 8;
 #[derive(Drop)]
 pub struct Table<A: Allocator = Global> {
     ids: Vec<Id, A>,
-    data_ids: Vec<Id, A>,
+    data_ids: DataIds<A>,
     // a column for each id with data
     columns: Block<A>,
     entities: Vec<EntityId, A>,
@@ -36,9 +37,9 @@ impl<A: Allocator> Model for Table<A> {
 
     ghost Value = { Archetype };
 
-    ghost view = { λ t. seen t.ids.items t.data_ids.items t.columns t.entities.items t.room };
+    ghost view = { λ t. seen t.ids.items t.data_ids t.columns t.entities.items t.room };
 
-    ghost invariant = { λ t. IsStored t.ids.items t.data_ids.items t.columns t.entities t.room };
+    ghost invariant = { λ t. IsStored t.ids.items t.data_ids t.columns t.entities t.room };
 }
 
 impl<A: Allocator + Copy> Table<A> {
@@ -52,7 +53,7 @@ impl<A: Allocator + Copy> Table<A> {
         let columns = Block::new(alloc, sized.as_slice())?;
         Ok(Table {
             ids: Vec::from_slice(alloc, ids)?,
-            data_ids: ids_with_data(alloc, ids, sizes)?,
+            data_ids: DataIds::new(ids_with_data(alloc, ids, sizes)?),
             columns,
             entities: Vec::new(alloc),
             room: 0,
@@ -139,7 +140,7 @@ impl<A: Allocator> Table<A> {
         ensures value { MatchOption result (value_of self.now row id ≡ None) (λ bytes. value_of self.now row id ≡ Some bytes.now) }
         ensures size { IfSome result (λ bytes. size_of self.now id ≡ Some (length bytes.now)) }
     {
-        match index_of(self.data_ids.as_slice(), id) {
+        match self.data_ids.find(id) {
             None => None,
             Some(column) => Some(self.value_in(column, row)),
         }
@@ -161,7 +162,7 @@ impl<A: Allocator> Table<A> {
         requires size { size_of self.old id ≡ Some (length value.now) }
         ensures { self.new ≡ with_value self.old row id value.now }
     {
-        if let Some(column) = index_of(self.data_ids.as_slice(), id) {
+        if let Some(column) = self.data_ids.find(id) {
             self.columns.set(column, row, value);
         }
     }

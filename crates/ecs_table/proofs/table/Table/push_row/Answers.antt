@@ -14,17 +14,17 @@ use Rattle.ecs_table.proofs.table.Table.push_row.Goals as goal
 pub copy_values-requires-clause-paired : goal.copy_values-requires-clause-paired
 copy_values-requires-clause-paired g c =
     let a = c.self.inside in
-    ap length c.as_slice.ensures.value ∙ stored_paired a.ids.items a.data_ids.items a.columns a.entities a.room c.self.invariant ∙ sym (ap (λ (v : Contents). length v.columns) c.push_zero.ensures ∙ length-map a.columns.columns with_zero)
+    ap length c.as_slice.ensures ∙ stored_paired a.ids.items a.data_ids a.columns a.entities a.room c.self.invariant ∙ sym (ap (λ (v : Contents). length v.columns) c.push_zero.ensures ∙ length-map a.columns.columns with_zero)
 
 pub invariant_of-self : goal.invariant_of-self
 invariant_of-self g c =
-    let a = c.self.inside in let old : Contents = a.columns in let s = c.args.source.now in let row = c.args.row in let ds = a.data_ids.items in let h = c.self.invariant in
+    let a = c.self.inside in let old : Contents = a.columns in let s = c.args.source.now in let row = c.args.row in let ds = a.data_ids in let h = c.self.invariant in
     let zeros : c.push_zero.new.self ≡ with_zeros old = c.push_zero.ensures in
     let last : c.push_zero.new.self.len - 1 ≡ old.len = let e : c.push_zero.new.self.len ≡ old.len + 1 = ap (λ (v : Contents). v.len) zeros in omega arith in
     let long : (k : ℕ) (d : Values) → k < length old.columns → length (slice_index_or old.columns k d).items ≡ old.len = λ k d lt. (h.sound.shaped k d lt).rows ∙ sym h.rows in
     let columns : c.copy_values.new.columns.columns ≡ map (λ p. with_last (value_of s row p.0) p.1) (zip ds old.columns) =
     ap (λ (v : Contents). v.columns) c.copy_values.ensures
-    ∙ (λ j. map (λ p. replaced (last j) (value_of s row p.0) p.1) (zip (c.as_slice.ensures.value j) (zeros j).columns))
+    ∙ (λ j. map (λ p. replaced (last j) (value_of s row p.0) p.1) (zip (c.as_slice.ensures j) (zeros j).columns))
     ∙ replaced_zeros (value_of s row) old.len ds old.columns long in
     let len : c.copy_values.new.columns.len ≡ old.len + 1 = ap (λ (v : Contents). v.len) (c.copy_values.ensures) ∙ ap (λ (v : Contents). v.len) zeros in
     let room : c.copy_values.new.columns.room ≡ old.room - 1 = ap (λ (v : Contents). v.room) (c.copy_values.ensures) ∙ ap (λ (v : Contents). v.room) zeros in
@@ -39,13 +39,13 @@ invariant_of-self g c =
 
 pub returns-clause-came : goal.returns-clause-came
 returns-clause-came g c =
-    let a = c.self.inside in let old : Contents = a.columns in let s = c.args.source.now in let row = c.args.row in let ds = a.data_ids.items in let h = c.self.invariant in
+    let a = c.self.inside in let old : Contents = a.columns in let s = c.args.source.now in let row = c.args.row in let ds = a.data_ids in let h = c.self.invariant in
     let zeros : c.push_zero.new.self ≡ with_zeros old = c.push_zero.ensures in
     let last : c.push_zero.new.self.len - 1 ≡ old.len = let e : c.push_zero.new.self.len ≡ old.len + 1 = ap (λ (v : Contents). v.len) zeros in omega arith in
     let long : (k : ℕ) (d : Values) → k < length old.columns → length (slice_index_or old.columns k d).items ≡ old.len = λ k d lt. (h.sound.shaped k d lt).rows ∙ sym h.rows in
     let columns : c.copy_values.new.columns.columns ≡ map (λ p. with_last (value_of s row p.0) p.1) (zip ds old.columns) =
     ap (λ (v : Contents). v.columns) c.copy_values.ensures
-    ∙ (λ j. map (λ p. replaced (last j) (value_of s row p.0) p.1) (zip (c.as_slice.ensures.value j) (zeros j).columns))
+    ∙ (λ j. map (λ p. replaced (last j) (value_of s row p.0) p.1) (zip (c.as_slice.ensures j) (zeros j).columns))
     ∙ replaced_zeros (value_of s row) old.len ds old.columns long in
     let source = c.source.inside.entities.items in let entity : EntityId = c.index.result.now in
     let lt : row < length source = subst (λ (t : Archetype). row < length t.entities) (sym c.source.view_is) c.requires.row in

@@ -7,16 +7,16 @@ use Rattle.ecs_table.proofs.table.Table.value.Goals as goal
 pub value_in-requires-clause-column : goal.value_in-requires-clause-column
 value_in-requires-clause-column g c =
     let a = c.self.inside in
-    subst (λ n. c.in-Some.column < n) (ap length c.as_slice.ensures.value ∙ stored_paired a.ids.items a.data_ids.items a.columns a.entities a.room c.self.invariant ∙ ap (λ (t : Archetype). length t.columns) c.self.view_is) c.in-Some.ensures.within
+    subst (λ n. c.in-Some.column < n) (stored_paired a.ids.items a.data_ids a.columns a.entities a.room c.self.invariant ∙ ap (λ (t : Archetype). length t.columns) c.self.view_is) c.in-Some.ensures.within
 
 pub returns-in-Some-clause-value : goal.returns-in-Some-clause-value
 returns-in-Some-clause-value g c =
     let t : Archetype = c.args.self.now in let k = c.in-Some.column in
-    let found : index_in t.data_ids c.args.id ≡ Some k = ap (λ (u : Archetype). index_in u.data_ids c.args.id) (sym c.self.view_is) ∙ sym (ap (λ l. index_in l c.args.id) c.as_slice.ensures.value) ∙ sym c.index_of.ensures.index ∙ c.in-Some.is in
+    let found : index_in t.data_ids c.args.id ≡ Some k = ap (λ (u : Archetype). index_in u.data_ids c.args.id) (sym c.self.view_is) ∙ sym c.find.ensures.index ∙ c.in-Some.is in
     value_found t c.args.row k c.args.id found ∙ c.value_in.ensures.value
 
 pub returns-in-Some-clause-size : goal.returns-in-Some-clause-size
 returns-in-Some-clause-size g c =
     let t : Archetype = c.args.self.now in let k = c.in-Some.column in
-    let found : index_in t.data_ids c.args.id ≡ Some k = ap (λ (u : Archetype). index_in u.data_ids c.args.id) (sym c.self.view_is) ∙ sym (ap (λ l. index_in l c.args.id) c.as_slice.ensures.value) ∙ sym c.index_of.ensures.index ∙ c.in-Some.is in
+    let found : index_in t.data_ids c.args.id ≡ Some k = ap (λ (u : Archetype). index_in u.data_ids c.args.id) (sym c.self.view_is) ∙ sym c.find.ensures.index ∙ c.in-Some.is in
     size_found t k c.args.id found ∙ ap Some (sym c.value_in.ensures.size)
