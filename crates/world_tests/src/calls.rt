@@ -25,7 +25,7 @@ fn is_of_sun(keys: &[FactKey], id: Id) -> bool {
 fn expect_sun(rt: &impl Abort, world: &World, position: Id) {
     assert!(rt; world.is_alive(SUN));
     assert!(rt; world.at(64) == Some(SUN));
-    assert!(rt; world.live().count() == 25);
+    assert!(rt; world.live().next() == world.at(1));
     assert!(rt; world.find("Sun") == Some(SUN));
     assert!(rt; world.name_of(64) == Some("Sun"));
     assert!(rt; world.ids_of(SUN) == Some([position].as_slice()));
