@@ -98,10 +98,6 @@ module _ (ids : ℕ → List Id) (r : ℕ) (hit : ℕ → Bool) (line : ℕ → 
       passed_back : (t : ℕ) → Contains (targets_in (take (f.place + 1) (ids f.index)) r) t → Contains (targets_in (take f.place (ids f.index)) r) t
       passed_back t h = rw (targets_more (ids f.index) r f.place i i l e, is, append-nil (targets_in (take f.place (ids f.index)) r)) at h
 
-  -- nothing was hit before the end
-  pub IsSearched-end : (start : ℕ) (items : List ℕ) → IsSearched start [] items → find hit (line start) ≡ None
-  IsSearched-end start items s = s.same
-
   -- the next target is hit
   pub IsSearched-hit : (start : ℕ) (f : Step) (fs : List Step) (items : List ℕ) (i : Id) (t : ℕ) → f.place < length (ids f.index) → i ≡ get_or (ids f.index) f.place i → target_under r i ≡ Some t
       → hit t ≡ true → IsSearched start (f ∷ fs) items → find hit (line start) ≡ Some t
