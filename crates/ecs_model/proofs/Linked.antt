@@ -1,5 +1,5 @@
 -- Who lives, and to whom the pairs of a relationship lead.
-use Rattle.std.proofs.Common.{◌≡◌, ℕ, suc, ◌<◌, ◌≤◌, ◌==◌, IsTrue, Bool, true, false, cond, List, ◌∷◌, ◌++◌, length, get_or, take, drop, drop-cons, Some, None, refl, sym, arith}
+use Rattle.std.proofs.Common.{◌≡◌, ℕ, suc, ◌<◌, ◌≤◌, ◌==◌, IsTrue, Bool, true, false, cond, List, ◌∷◌, length, get_or, take, drop, drop-cons, Some, None, refl, sym, arith}
 use Rattle.std.specs.List.{All, Contains}
 use Rattle.std.proofs.lemmas.List.{take-append-drop}
 use Rattle.std.proofs.lemmas.List.Elements.{All-contains, Contains-append_right, Contains-get_or, filter_map-append}
