@@ -10,8 +10,10 @@ ghost use Rattle.name_index.specs.Names.{holder_at, IsOneToOne, IsUnnamed, Keeps
 ghost use Rattle.name_index.specs.Positions.{position_of};
 
 mod error;
+mod keyed;
 mod positions;
 
+use crate::keyed::Keyed;
 use crate::positions::Positions;
 use ecs_id::EntityId;
 use ecs_model::is_name;
@@ -21,7 +23,7 @@ use std::alloc::{Allocator, Global};
 use std::hash::RandomState;
 use std::marker::Model;
 
-type ByName<A> = IndexMap<String<A>, EntityId, RandomState, A>;
+type ByName<A> = IndexMap<String<A>, EntityId, Keyed, A>;
 
 /// Which entity each name names.
 ///
@@ -54,7 +56,7 @@ impl<A: Allocator + Copy> NameIndex<A> {
         ensures unnamed { (entity : EntityId) → IsUnnamed result entity }
     {
         NameIndex {
-            by_name: IndexMap::with_hasher(alloc, random),
+            by_name: IndexMap::with_hasher(alloc, Keyed::new(random)),
             positions: Positions::new(alloc),
         }
     }
