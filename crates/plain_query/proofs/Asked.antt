@@ -11,7 +11,7 @@ use Rattle.ecs_model.specs.Tokens.{Token, tokens_of}
 use Rattle.ecs_model.specs.Grammar.{Part}
 use Rattle.ecs_model.specs.Parse.{parts_of}
 use Rattle.ecs_model.specs.Query.{as_fault, checked, id_of_term, parts_read, query_of}
-use Rattle.query_lexer.specs.Lexed.{Answers}
+use Rattle.word_lexer.specs.Lexed.{Answers}
 use Rattle.plain_query.specs.Check.{AnswersCheck, AnswersIds}
 use Rattle.plain_query.specs.Rows.{query_for}
 

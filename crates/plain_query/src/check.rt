@@ -2,14 +2,14 @@
 
 ghost use Rattle.std.specs.Prelude.{◌≡◌, drop, fold, map, take, option_to_list, Some};
 ghost use Rattle.ecs_model.specs.Query.{is_before, kind_number, too_many};
-ghost use Rattle.query_parser.specs.Parsed.{seen_part};
+ghost use Rattle.word_parser.specs.Parsed.{seen_part};
 ghost use Rattle.plain_query.specs.Check.{AnswersCheck, AnswersIds, NamesId, lesser, unnamed};
 
 use ecs_id::Id;
 use ecs_model::faults::{Fault, FaultKind, QueryFault};
 use ecs_world::World;
-use query_lexer::lex;
-use query_parser::{Part, parse};
+use word_lexer::lex;
+use word_parser::{Part, parse};
 use std::alloc::Allocator;
 
 /// How many terms a query may have.

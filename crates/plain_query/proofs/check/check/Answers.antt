@@ -3,7 +3,7 @@ use Rattle.std.proofs.Common.{◌≡◌, [], map, take, ap, sym, ◌∙◌}
 use Rattle.std.specs.Prelude.{flat_map}
 use Rattle.std.proofs.lemmas.List.{take_all}
 use Rattle.ecs_model.specs.Query.{id_of_term, least_fault, unknown_word}
-use Rattle.query_parser.specs.Parsed.{seen_part}
+use Rattle.word_parser.specs.Parsed.{seen_part}
 use Rattle.plain_query.proofs.Faults.{all_judged, none_unknown}
 use Rattle.plain_query.proofs.check.check.Goals as goal
 

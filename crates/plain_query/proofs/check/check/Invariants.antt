@@ -1,7 +1,7 @@
 use Rattle.std.proofs.Common.{◌≡◌, [], map, take}
 use Rattle.std.specs.Prelude.{flat_map}
 use Rattle.ecs_model.specs.Query.{id_of_term, least_fault, unknown_word}
-use Rattle.query_parser.specs.Parsed.{seen_part}
+use Rattle.word_parser.specs.Parsed.{seen_part}
 use Rattle.plain_query.proofs.check.check.Given as goal
 
 abbrev pub invariant-loop-part : goal.invariant-loop-part

@@ -1,10 +1,10 @@
 -- Tokens, then parts, then ids; or the fault of the first of these.
 use Rattle.std.proofs.Common.{Vec, map, ap, sym, ◌∙◌, Ok}
 use Rattle.ecs_id.specs.declared.Id.{Id}
-use Rattle.query_lexer.specs.declared.Token.{Token}
-use Rattle.query_parser.specs.declared.Syntax.{Syntax}
-use Rattle.query_lexer.specs.Token.{seen}
-use Rattle.query_parser.specs.Parsed.{seen_part}
+use Rattle.word_lexer.specs.declared.Token.{Token}
+use Rattle.word_parser.specs.declared.Syntax.{Syntax}
+use Rattle.word_lexer.specs.Token.{seen}
+use Rattle.word_parser.specs.Parsed.{seen_part}
 use Rattle.plain_query.proofs.Asked.{lex_fault, syntax_fault, checked_ids}
 use Rattle.plain_query.proofs.check.ids_of_query.Goals as goal
 

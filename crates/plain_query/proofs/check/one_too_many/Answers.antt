@@ -1,6 +1,6 @@
 -- The 33rd term is the first one too many.
 use Rattle.std.proofs.Common.{◌∷◌, [], ap, ◌∙◌}
-use Rattle.query_parser.specs.Parsed.{seen_part}
+use Rattle.word_parser.specs.Parsed.{seen_part}
 use Rattle.plain_query.proofs.Faults.{few_terms, many_terms}
 use Rattle.plain_query.proofs.check.one_too_many.Goals as goal
 

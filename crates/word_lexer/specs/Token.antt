@@ -2,9 +2,9 @@
 use Rattle.std.specs.Prelude.{◌≡◌, ℕ, ◌≤◌, List, [], ◌∷◌, All, AllPairs, slice_range}
 use Rattle.ecs_model.specs.Tokens as tokens
 use Rattle.ecs_model.specs.Tokens.{Sign, token, span_of, Punct}
-use Rattle.query_lexer.specs.declared.Token.{Token}
-use Rattle.query_lexer.specs.declared.TokenKind.{TokenKind}
-use Rattle.query_lexer.specs.declared.TokenKind.TheVariants.{Name, Mark, End}
+use Rattle.word_lexer.specs.declared.Token.{Token}
+use Rattle.word_lexer.specs.declared.TokenKind.{TokenKind}
+use Rattle.word_lexer.specs.declared.TokenKind.TheVariants.{Name, Mark, End}
 
 -- what a token of a kind is, where a text spells it
 abbrev pub sign_of : TokenKind → List ℕ → Sign

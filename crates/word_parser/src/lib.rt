@@ -6,13 +6,13 @@ ghost use Rattle.ecs_model.specs.Grammar.{IsQuery, IsSyntaxFault};
 ghost use Rattle.ecs_model.specs.Laws.{EndsOnce};
 ghost use Rattle.ecs_model.specs.Parse.{parts_of};
 ghost use Rattle.ecs_model.specs.Text.{is_reserved};
-ghost use Rattle.query_lexer.specs.Lexed.{Answers, AnswersBy};
-ghost use Rattle.query_lexer.specs.Token.{seen, text_length};
-ghost use Rattle.query_parser.specs.Parsed.{item_of, seen_part};
+ghost use Rattle.word_lexer.specs.Lexed.{Answers, AnswersBy};
+ghost use Rattle.word_lexer.specs.Token.{seen, text_length};
+ghost use Rattle.word_parser.specs.Parsed.{item_of, seen_part};
 
 use ecs_model::faults::{Fault, FaultKind, QueryFault};
 use ecs_model::{Mark, Span};
-use query_lexer::{Token, TokenKind};
+use word_lexer::{Token, TokenKind};
 use std::alloc::{Allocator, Global};
 
 /// A reference to an entity, and where it stands: a word.
@@ -105,48 +105,4 @@ fn is_reserved(word: &str) -> bool
     ensures { result ≡ is_reserved word.now }
 {
     ecs_model::is_reserved(word.as_bytes())
-}
-
-#[cfg(test)]
-mod tests {
-    use super::*;
-    use query_lexer::lex;
-    use std::test::Fail;
-
-    fn fault_of(alloc: Global, text: &str) -> Option<QueryFault> {
-        match lex(alloc, text) {
-            Ok(tokens) => parse(alloc, &tokens).err(),
-            Err(fault) => Some(fault),
-        }
-    }
-
-    fn syntax_fault(start: usize, end: usize) -> Option<QueryFault> {
-        Some(unexpected(Span { start, end }))
-    }
-
-    #[test]
-    fn words_with_commas_between(rt: HostRuntime) -> Result<(), Fail> {
-        let tokens = lex(rt.alloc(), "Position, Planet\n")?;
-        let syntax = parse(rt.alloc(), &tokens)?;
-        let term = |word, start, end| {
-            Part::Term(Reference {
-                word,
-                span: Span { start, end },
-            })
-        };
-        let expected = [term("Position", 0, 8), term("Planet", 10, 16)];
-        assert_eq!(rt; syntax.parts.as_slice(), expected.as_slice());
-        assert_eq!(rt; syntax.length, 17);
-        Ok(())
-    }
-
-    #[test]
-    fn no_query_goes_on(rt: HostRuntime) {
-        let alloc = rt.alloc();
-        assert_eq!(rt; fault_of(alloc, "Position,, Planet"), syntax_fault(9, 10));
-        assert_eq!(rt; fault_of(alloc, "Position,"), syntax_fault(9, 9));
-        assert_eq!(rt; fault_of(alloc, ""), syntax_fault(0, 0));
-        assert_eq!(rt; fault_of(alloc, "self"), syntax_fault(0, 4));
-        assert_eq!(rt; fault_of(alloc, "Position Planet"), syntax_fault(9, 15));
-    }
 }

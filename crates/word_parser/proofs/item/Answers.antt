@@ -1,9 +1,9 @@
 use Rattle.std.proofs.Common.{◌∙◌, sym, ap}
 use Rattle.ecs_model.specs.declared.faults.FaultKind.TheVariants.{Syntax}
 use Rattle.ecs_model.specs.Query.{as_fault}
-use Rattle.query_parser.proofs.Progress.{item_at_word, item_at_reserved, item_at_no_name}
-use Rattle.query_parser.proofs.item.Goals as goal
-use Rattle.query_parser.proofs.item.Goals.{in_default-via-in-Name+else-not-is_reserved, in_default-via-in_default}
+use Rattle.word_parser.proofs.Progress.{item_at_word, item_at_reserved, item_at_no_name}
+use Rattle.word_parser.proofs.item.Goals as goal
+use Rattle.word_parser.proofs.item.Goals.{in_default-via-in-Name+else-not-is_reserved, in_default-via-in_default}
 
 pub returns-in-Name-clause-answers : goal.returns-in-Name-clause-answers
 returns-in-Name-clause-answers c =

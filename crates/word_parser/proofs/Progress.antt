@@ -15,13 +15,13 @@ use Rattle.ecs_model.specs.Parse.{refused, before_parts, parts_of}
 use Rattle.ecs_model.specs.Query.{as_fault}
 use Rattle.ecs_model.specs.Text.{is_reserved}
 use Rattle.ecs_model.specs.Tokens.{Token, token, span_of, Name, Punct, End}
-use Rattle.query_lexer.specs.declared.Token as code
-use Rattle.query_lexer.specs.declared.TokenKind.{TokenKind}
-use Rattle.query_lexer.proofs.Progress.{sign_of_no_end, text_length-push}
-use Rattle.query_lexer.specs.Lexed.{Answers}
-use Rattle.query_lexer.specs.Token.{seen, sign_of, text_length}
-use Rattle.query_parser.specs.declared.Part as code_part
-use Rattle.query_parser.specs.Parsed.{item_of, seen_part}
+use Rattle.word_lexer.specs.declared.Token as code
+use Rattle.word_lexer.specs.declared.TokenKind.{TokenKind}
+use Rattle.word_lexer.proofs.Progress.{sign_of_no_end, text_length-push}
+use Rattle.word_lexer.specs.Lexed.{Answers}
+use Rattle.word_lexer.specs.Token.{seen, sign_of, text_length}
+use Rattle.word_parser.specs.declared.Part as code_part
+use Rattle.word_parser.specs.Parsed.{item_of, seen_part}
 
 abbrev Read : Type 0
 Read = Result (List Part) Span

@@ -10,7 +10,7 @@ use Rattle.std.specs.Prelude.{slice_get}
 use Rattle.std.proofs.lemmas.List.{take_rest}
 use Rattle.ecs_model.specs.Text.{is_letter, is_name_byte, is_query_blank}
 use Rattle.ecs_model.specs.Tokens.{Sign, token, spelled, sign_at}
-use Rattle.query_lexer.specs.Lexed.{token_of, placed, next_of}
+use Rattle.word_lexer.specs.Lexed.{token_of, placed, next_of}
 
 -- a byte of a name is ASCII
 pub name_byte_is_ascii : (b : ℕ) → is_name_byte b ≡ true → b < 128

@@ -1,6 +1,6 @@
 use Rattle.std.proofs.Common.{◌-◌, length}
-use Rattle.query_parser.proofs.Progress.{HasParsed}
-use Rattle.query_parser.proofs.parse.Given as goal
+use Rattle.word_parser.proofs.Progress.{HasParsed}
+use Rattle.word_parser.proofs.parse.Given as goal
 
 abbrev pub invariant-loop-parts : goal.invariant-loop-parts
 invariant-loop-parts g l = HasParsed l.tokens l.parts.items l.at

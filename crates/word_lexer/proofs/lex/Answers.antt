@@ -1,14 +1,14 @@
 use Rattle.std.proofs.Common.{◌∙◌, map, Vec}
 use Rattle.std.proofs.lemmas.List.{map_push}
 use Rattle.std.proofs.lemmas.Result.{err_from_is_err_and}
-use Rattle.query_lexer.proofs.Progress.{pushed, started, refusal_is_of_text, tokens_at_end, ends_once, ascend_more, goes_on, text_length-push}
-use Rattle.query_lexer.specs.declared.Token.{Token}
-use Rattle.query_lexer.specs.Token.{seen}
+use Rattle.word_lexer.proofs.Progress.{pushed, started, refusal_is_of_text, tokens_at_end, ends_once, ascend_more, goes_on, text_length-push}
+use Rattle.word_lexer.specs.declared.Token.{Token}
+use Rattle.word_lexer.specs.Token.{seen}
 use Rattle.ecs_model.specs.declared.faults.FaultKind.TheVariants.{Lex}
 use Rattle.ecs_model.specs.Tokens.{IsLexFault, IsSpelledBy, tokens_of}
 use Rattle.ecs_model.proofs.SpellingLemmas.{tokens_are_spelled}
-use Rattle.query_lexer.proofs.Meant.{answer_is_meant}
-use Rattle.query_lexer.proofs.lex.Goals as goal
+use Rattle.word_lexer.proofs.Meant.{answer_is_meant}
+use Rattle.word_lexer.proofs.lex.Goals as goal
 
 pub loop-tokens-init : goal.loop-tokens-init
 loop-tokens-init g c = rw c.new-tokens.ensures.items (started c.args.text.now)

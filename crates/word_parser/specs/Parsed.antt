@@ -6,8 +6,8 @@ use Rattle.ecs_model.specs.Grammar.{term, word}
 use Rattle.ecs_model.specs.Parse.{refused}
 use Rattle.ecs_model.specs.Text.{is_reserved}
 use Rattle.ecs_model.specs.Tokens.{Token, token, Name}
-use Rattle.query_parser.specs.declared.Part.{Part}
-use Rattle.query_parser.specs.declared.Part.TheVariants.{Term}
+use Rattle.word_parser.specs.declared.Part.{Part}
+use Rattle.word_parser.specs.declared.Part.TheVariants.{Term}
 
 -- a part of the code, as the definitions see it
 abbrev pub seen_part : Part → grammar.Part

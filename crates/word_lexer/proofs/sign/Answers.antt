@@ -1,7 +1,7 @@
 use Rattle.std.proofs.Common.{◌≡◌, true, get_or, ◌∙◌, sym, arith}
 use Rattle.ecs_model.specs.Text.{is_letter}
-use Rattle.query_lexer.proofs.Reading.{name_is_not_empty, name_is_ascii}
-use Rattle.query_lexer.proofs.sign.Goals as goal
+use Rattle.word_lexer.proofs.Reading.{name_is_not_empty, name_is_ascii}
+use Rattle.word_lexer.proofs.sign.Goals as goal
 
 pub returns-then-is_letter-clause-within : goal.returns-then-is_letter-clause-within
 returns-then-is_letter-clause-within c =

@@ -1,19 +1,19 @@
 use Rattle.std.proofs.Common.{◌∙◌, ℕ, drop, map, sym, ap}
-use Rattle.query_lexer.specs.Token.{seen}
-use Rattle.query_parser.specs.declared.Part.{Part}
+use Rattle.word_lexer.specs.Token.{seen}
+use Rattle.word_parser.specs.declared.Part.{Part}
 use Rattle.std.proofs.lemmas.Result.{err_from_is_err_and}
-use Rattle.query_lexer.specs.declared.TokenKind.TheVariants.{Mark}
-use Rattle.query_parser.specs.declared.Syntax as declared
-use Rattle.query_parser.specs.Parsed.{seen_part}
-use Rattle.query_parser.proofs.Progress.{only_comma, refusal_is_of_query, goes_on, parts_at_end, length_at_end, fault_at_name}
+use Rattle.word_lexer.specs.declared.TokenKind.TheVariants.{Mark}
+use Rattle.word_parser.specs.declared.Syntax as declared
+use Rattle.word_parser.specs.Parsed.{seen_part}
+use Rattle.word_parser.proofs.Progress.{only_comma, refusal_is_of_query, goes_on, parts_at_end, length_at_end, fault_at_name}
 use Rattle.std.proofs.Common.{Err}
 use Rattle.ecs_model.specs.declared.faults.FaultKind.TheVariants.{Syntax}
 use Rattle.ecs_model.specs.Grammar.{IsQuery, IsSyntaxFault}
 use Rattle.ecs_model.specs.Parse.{parts_of}
 use Rattle.ecs_model.proofs.SyntaxLemmas.{parts_are_grammatical}
-use Rattle.query_lexer.proofs.Progress.{pushed}
-use Rattle.query_lexer.proofs.Meant.{answer_is_meant}
-use Rattle.query_parser.proofs.parse.Goals as goal
+use Rattle.word_lexer.proofs.Progress.{pushed}
+use Rattle.word_lexer.proofs.Meant.{answer_is_meant}
+use Rattle.word_parser.proofs.parse.Goals as goal
 
 pub returns-in_err-part-clause-answers : goal.returns-in_err-part-clause-answers
 returns-in_err-part-clause-answers g c =

@@ -7,8 +7,8 @@ ghost use Rattle.std.specs.List.{prefix_len};
 ghost use Rattle.ecs_model.specs.Laws.{EndsOnce};
 ghost use Rattle.ecs_model.specs.Text.{is_letter, is_name_byte, is_query_blank};
 ghost use Rattle.ecs_model.specs.Tokens.{IsLexFault, IsSpelledBy, char_len, sign_at, spelled, tokens_of};
-ghost use Rattle.query_lexer.specs.Lexed.{Answers, AnswersBy, next_of};
-ghost use Rattle.query_lexer.specs.Token.{AreSlicesOf, Ascend, seen, sign_of, text_length};
+ghost use Rattle.word_lexer.specs.Lexed.{Answers, AnswersBy, next_of};
+ghost use Rattle.word_lexer.specs.Token.{AreSlicesOf, Ascend, seen, sign_of, text_length};
 
 use ecs_model::faults::{Fault, FaultKind, QueryFault};
 use ecs_model::{Mark, Span, is_name_byte};
@@ -162,47 +162,5 @@ fn char_bytes(first: u8) -> usize
         128..224 => 2,
         224..240 => 3,
         _ => 4,
-    }
-}
-
-#[cfg(test)]
-mod tests {
-    use super::*;
-    use std::test::Fail;
-
-    fn lex_fault(start: usize, end: usize) -> Option<QueryFault> {
-        let span = Span { start, end };
-        Some(QueryFault::Fault(Fault {
-            kind: FaultKind::Lex,
-            span,
-        }))
-    }
-
-    #[test]
-    fn blanks_stand_between_tokens(rt: HostRuntime) -> Result<(), Fail> {
-        let tokens = lex(rt.alloc(), " \tSun\r\n\n,Sun.day_1 ")?;
-        let token = |kind, text, start, end| Token {
-            kind,
-            text,
-            span: Span { start, end },
-        };
-        let expected = [
-            token(TokenKind::Name, "Sun", 2, 5),
-            token(TokenKind::Mark(Mark::Comma), ",", 8, 9),
-            token(TokenKind::Name, "Sun.day_1", 9, 18),
-            token(TokenKind::End, "", 19, 19),
-        ];
-        assert_eq!(rt; tokens.as_slice(), expected.as_slice());
-        Ok(())
-    }
-
-    #[test]
-    fn no_token_begins_there(rt: HostRuntime) {
-        assert_eq!(rt; lex(rt.alloc(), "\u{e9}").err(), lex_fault(0, 2));
-        assert_eq!(rt;
-            lex(rt.alloc(), "Position & Planet").err(),
-            lex_fault(9, 10)
-        );
-        assert_eq!(rt; lex(rt.alloc(), "Sun, 1Sun").err(), lex_fault(5, 6));
     }
 }

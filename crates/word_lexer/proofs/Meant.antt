@@ -5,7 +5,7 @@ use Rattle.ecs_model.specs.declared.faults.Fault.{Fault}
 use Rattle.ecs_model.specs.declared.faults.FaultKind.{FaultKind}
 use Rattle.ecs_model.specs.declared.faults.QueryFault.{QueryFault}
 use Rattle.ecs_model.specs.Query.{as_fault}
-use Rattle.query_lexer.specs.Lexed.{Answers, AnswersBy}
+use Rattle.word_lexer.specs.Lexed.{Answers, AnswersBy}
 
 -- a fault of a kind, by its place
 fault_is_meant : {A : Type 0} (kind : FaultKind) (Q : Span → Type 0) (read : Result A Span) (f : Fault) → as_fault kind read ≡ Err f → ((s : Span) → read ≡ Err s → Q s) → (f.kind ≡ kind) × Q f.span
