@@ -1,0 +1,11 @@
+pub mod Nothing
+pub mod Placing
+pub mod Referring
+pub mod Walking
+pub mod Judging
+pub mod Naming
+pub mod Rooting
+pub mod Binding
+pub mod Numbering
+pub mod Building
+pub mod Showing

@@ -1,0 +1,7 @@
+use Rattle.query_check.specs.Seen.{seen_occurrence}
+use Rattle.query_model.specs.Numbers.{is_this}
+use Rattle.query_check.proofs.Referring.{NoneYet}
+use Rattle.query_check.proofs.numbers.is_written.Given as goal
+
+abbrev pub invariant-loop-occurrence : goal.invariant-loop-occurrence
+invariant-loop-occurrence l = NoneYet is_this seen_occurrence l.found l.occurrence-index

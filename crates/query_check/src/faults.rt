@@ -1,0 +1,306 @@
+//! The faults of a query's syntax, kind by kind: each function tells the least of its own and of the one that was found before.
+
+ghost use Rattle.std.specs.Prelude.{◌≡◌, ◌≤◌, [], ◌∷◌, if◌then◌else◌, ◌++◌, bytes_eq, flat_map, length, map, option_map, option_to_list, IfOk};
+ghost use Rattle.std.specs.List.{list_any};
+ghost use Rattle.query_check.specs.Places.{IsRooted, IsTree, places_of};
+ghost use Rattle.query_check.specs.Seen.{seen_use, seen_occurrence};
+ghost use Rattle.query_model.specs.Check.{counted_spans, faults_of_position, faults_of_use, item_at, most_names, most_terms, new_names, not_traversable, too_deep, too_deep_part, unbound, unknown_word, wildcard};
+ghost use Rattle.query_model.specs.Faults.{is_before, kind_number, fault_at, least_from, lesser};
+ghost use Rattle.query_model.specs.Levels.{Path, placed_parts};
+ghost use Rattle.query_model.specs.Scope.{occurrences, sighting, sightings, this};
+ghost use Rattle.query_model.specs.Seen.{seen_part, seen_reference};
+ghost use Rattle.query_model.specs.Scope as specs;
+
+use crate::lookup::Lookup;
+use crate::places::Place;
+use crate::scope::{Occurrence, THIS, is_bound, owner};
+use crate::uses::Use;
+use query_model::Span;
+use query_model::faults::{Fault, FaultKind};
+use query_model::query::Position;
+use query_model::syntax::{Part, Reference, Spoken};
+use std::alloc::{AllocError, Allocator};
+
+/// How many terms and equalities a query may have.
+const MOST_TERMS: usize = 32;
+
+/// How many names of variables besides `$this` a query may have.
+const MOST_NAMES: usize = 16;
+
+/// How many groups may stand around a part.
+const MOST_GROUPS: usize = 4;
+
+/// The least fault of references.
+pub(crate) fn of_uses<W: Lookup>(world: &W, uses: &[Use<'_>], found: Option<Fault>) -> Option<Fault>
+    ensures { result ≡ least_from found (flat_map (λ u. faults_of_use (W.known world.now) u.1) (map seen_use uses.now)) }
+{
+    let mut least = found;
+    for used in uses {
+        least = of_use(world, used, least);
+    }
+    least
+}
+
+fn of_use<W: Lookup>(world: &W, used: &Use<'_>, found: Option<Fault>) -> Option<Fault>
+    ensures { result ≡ least_from found (faults_of_use (W.known world.now) (seen_use used.now).1) }
+{
+    let found = with_fault(found, unknown_word(world, &used.reference));
+    with_fault(found, of_position(world, used.position, &used.reference))
+}
+
+/// The lesser of the fault that was found and another, if there is another.
+fn with_fault(found: Option<Fault>, other: Option<Fault>) -> Option<Fault>
+    ensures { result ≡ least_from found (option_to_list other) }
+{
+    let Some(fault) = other else {
+        return found;
+    };
+    match found {
+        Some(least) if !is_before(&fault, &least) => Some(least),
+        _ => Some(fault),
+    }
+}
+
+/// Whether a fault is told before another.
+fn is_before(fault: &Fault, other: &Fault) -> bool
+    ensures { result ≡ is_before fault.now other.now }
+{
+    fault.span.start < other.span.start
+        || fault.span.start == other.span.start && number_of(fault.kind) < number_of(other.kind)
+}
+
+/// The place of a kind in the order in which faults at one place are told.
+fn number_of(kind: FaultKind) -> u8
+    ensures { result ≡ kind_number kind }
+{
+    kind as u8 + 1
+}
+
+/// The fault of a word that names no entity.
+fn unknown_word<W: Lookup>(world: &W, reference: &Reference<'_>) -> Option<Fault>
+    ensures { let r = seen_reference reference.now in option_to_list result ≡ unknown_word (W.known world.now) r.spoken r.span }
+{
+    match reference.spoken {
+        Spoken::Word(word) if world.find(word).is_none() => Some(Fault {
+            kind: FaultKind::UnknownName,
+            span: reference.span,
+        }),
+        _ => None,
+    }
+}
+
+/// The fault that a reference has for what it is to its part.
+fn of_position<W: Lookup>(world: &W, position: Position, reference: &Reference<'_>) -> Option<Fault>
+    ensures { let r = seen_reference reference.now in option_to_list result ≡ faults_of_position (W.known world.now) position r.spoken r.span }
+{
+    match position {
+        Position::Risen => not_traversable(world, reference),
+        Position::Source => wildcard(FaultKind::WildcardSource, reference),
+        Position::Right => wildcard(FaultKind::WildcardEquality, reference),
+        _ => None,
+    }
+}
+
+/// The fault of a relationship behind `up` that can't be traversed.
+fn not_traversable<W: Lookup>(world: &W, reference: &Reference<'_>) -> Option<Fault>
+    ensures { let r = seen_reference reference.now in option_to_list result ≡ not_traversable (W.known world.now) r.spoken r.span }
+{
+    let Spoken::Word(word) = reference.spoken else {
+        return None;
+    };
+    match world.find(word) {
+        Some(entity) if !world.is_traversable(entity.index) => Some(Fault {
+            kind: FaultKind::NotTraversable,
+            span: reference.span,
+        }),
+        _ => None,
+    }
+}
+
+/// The fault of a wildcard.
+fn wildcard(kind: FaultKind, reference: &Reference<'_>) -> Option<Fault>
+    ensures { let r = seen_reference reference.now in option_to_list result ≡ wildcard kind r.spoken r.span }
+{
+    match reference.spoken {
+        Spoken::Any | Spoken::One => Some(Fault {
+            kind,
+            span: reference.span,
+        }),
+        _ => None,
+    }
+}
+
+/// The least fault of groups that are too deep.
+pub(crate) fn of_depth(parts: &[Part<'_>], places: &[Place], found: Option<Fault>) -> Option<Fault>
+    requires places { places.now ≡ places_of (map seen_part parts.now) }
+    requires length { length places.now ≡ length parts.now }
+    ensures { result ≡ least_from found (flat_map too_deep_part (placed_parts (map seen_part parts.now))) }
+{
+    let mut least = found;
+    for (i, part) in parts.iter().enumerate() {
+        least = with_fault(least, too_deep(part, places[i].depth));
+    }
+    least
+}
+
+/// The fault of a group inside four groups, which is itself one of the levels in which it stands.
+fn too_deep(part: &Part<'_>, depth: usize) -> Option<Fault>
+    ensures { (path : Path) → length path ≡ depth → option_to_list result ≡ too_deep path (seen_part part.now) }
+{
+    match part {
+        Part::Opened(span) if depth > MOST_GROUPS => Some(Fault {
+            kind: FaultKind::TooDeep,
+            span: *span,
+        }),
+        _ => None,
+    }
+}
+
+/// The least fault of a query with too many terms.
+pub(crate) fn of_terms<A: Allocator + Copy>(
+    alloc: A,
+    parts: &[Part<'_>],
+    found: Option<Fault>,
+) -> Result<Option<Fault>, AllocError>
+    ensures { IfOk result (λ least. least ≡ least_from found (map (fault_at FaultKind.TooManyTerms) (item_at most_terms (flat_map counted_spans (map seen_part parts.now))))) }
+{
+    let mut spans = Vec::new(alloc);
+    for part in parts {
+        add_spans(&mut spans, part)?;
+    }
+    Ok(with_fault(found, one_too_many(spans.as_slice())))
+}
+
+fn one_too_many(spans: &[Span]) -> Option<Fault>
+    ensures { option_to_list result ≡ map (fault_at FaultKind.TooManyTerms) (item_at most_terms spans.now) }
+{
+    if spans.len() <= MOST_TERMS {
+        return None;
+    }
+    Some(Fault {
+        kind: FaultKind::TooManyTerms,
+        span: spans[MOST_TERMS],
+    })
+}
+
+/// Adds the span of a term or of an equality.
+fn add_spans<A: Allocator>(spans: &mut Vec<Span, A>, part: &Part<'_>) -> Result<(), AllocError>
+    ensures { IfOk result (λ _. spans.new.items ≡ spans.old.items ++ counted_spans (seen_part part.now)) }
+{
+    match part {
+        Part::Term(_, term) => spans.push(term.span)?,
+        Part::Opened(_) | Part::Closed => {}
+        Part::Equality(left, _, right) => spans.push(Span {
+            start: left.span.start,
+            end: right.span.end,
+        })?,
+    }
+    Ok(())
+}
+
+/// The least fault of a query with too many names of variables.
+pub(crate) fn of_names<A: Allocator + Copy>(
+    alloc: A,
+    occurrences: &[Occurrence<'_>],
+    found: Option<Fault>,
+) -> Result<Option<Fault>, AllocError>
+    ensures { IfOk result (λ least. least ≡ least_from found (map (λ s. fault_at FaultKind.TooManyVariables s.span) (item_at most_names (new_names (this ∷ []) (map seen_occurrence occurrences.now))))) }
+{
+    let fault = one_name_too_many(alloc, occurrences)?.map(|o| Fault {
+        kind: FaultKind::TooManyVariables,
+        span: o.span,
+    });
+    Ok(with_fault(found, fault))
+}
+
+/// The first occurrence of the 17th name besides `$this`.
+fn one_name_too_many<'a, A: Allocator + Copy>(
+    alloc: A,
+    occurrences: &[Occurrence<'a>],
+) -> Result<Option<Occurrence<'a>>, AllocError>
+    ensures { IfOk result (λ found. option_to_list (option_map seen_occurrence found) ≡ item_at most_names (new_names (this ∷ []) (map seen_occurrence occurrences.now))) }
+{
+    let mut seen = Vec::new(alloc);
+    seen.push(THIS)?;
+    for occurrence in occurrences {
+        if !is_among(seen.as_slice(), occurrence.name) {
+            if seen.len() > MOST_NAMES {
+                return Ok(Some(*occurrence));
+            }
+            seen.push(occurrence.name)?;
+        }
+    }
+    Ok(None)
+}
+
+/// Whether a name is one of some names.
+fn is_among(names: &[&[u8]], name: &[u8]) -> bool
+    ensures { result ≡ list_any (bytes_eq name.now) (map (λ n. n.now) names.now) }
+{
+    for other in names {
+        if name == *other {
+            return true;
+        }
+    }
+    false
+}
+
+/// The least fault of variables that aren't bound.
+pub(crate) fn of_unbound(
+    parts: &[Part<'_>],
+    places: &[Place],
+    found_in: &[Occurrence<'_>],
+    found: Option<Fault>,
+) -> Option<Fault>
+    requires places { places.now ≡ places_of (map seen_part parts.now) }
+    requires length { length places.now ≡ length parts.now }
+    requires tree { IsTree places.now }
+    requires occurrences { map seen_occurrence found_in.now ≡ sightings (map seen_part parts.now) }
+    ensures { let ps = map seen_part parts.now in result ≡ least_from found (flat_map (unbound ps) (occurrences ps)) }
+{
+    let mut least = found;
+    for occurrence in found_in {
+        least = of_variable(parts, places, found_in, occurrence, least);
+    }
+    least
+}
+
+/// The lesser of the fault that was found and that of a variable that isn't bound.
+fn of_variable(
+    parts: &[Part<'_>],
+    places: &[Place],
+    found_in: &[Occurrence<'_>],
+    occurrence: &Occurrence<'_>,
+    found: Option<Fault>,
+) -> Option<Fault>
+    requires places { places.now ≡ places_of (map seen_part parts.now) }
+    requires length { length places.now ≡ length parts.now }
+    requires tree { IsTree places.now }
+    requires occurrences { map seen_occurrence found_in.now ≡ sightings (map seen_part parts.now) }
+    requires within { occurrence.now.level ≤ length places.now }
+    ensures { (o : specs.Occurrence) → sighting o ≡ seen_occurrence occurrence.now → IsRooted places.now o.path
+        → result ≡ least_from found (unbound (map seen_part parts.now) o) }
+{
+    let fault = Fault {
+        kind: FaultKind::UnboundVariable,
+        span: occurrence.span,
+    };
+    if !is_less(&fault, found) || occurrence.name == THIS {
+        return found;
+    }
+    let owner = owner(places, found_in, occurrence.name, occurrence.level);
+    if is_bound(parts, places, occurrence.name, owner) {
+        return found;
+    }
+    Some(fault)
+}
+
+/// Whether a fault is told before the one that was found, if there is one.
+fn is_less(fault: &Fault, found: Option<Fault>) -> bool
+    ensures { lesser found fault.now ≡ (if result then Some fault.now else found) }
+{
+    match found {
+        Some(least) => is_before(fault, &least),
+        None => true,
+    }
+}

@@ -1,0 +1,16 @@
+//! The check of a query's syntax against what a world knows of names: its least fault, or the checked query.
+#![tactic(auto)]
+
+mod checked;
+mod faults;
+mod lookup;
+mod numbers;
+mod places;
+mod query;
+mod scope;
+mod shown;
+mod uses;
+
+pub use checked::check;
+pub use lookup::Lookup;
+pub use query::{Item, Piece, Query};

@@ -1,0 +1,573 @@
+//! The checked query, and how it is built from a syntax without faults.
+
+ghost use Rattle.std.specs.Prelude.{◌≡◌, ◌≤◌, ◌==◌, ◌++◌, [], flat_map, fold, length, map, option_map, option_to_list, IfOk};
+ghost use Rattle.std.specs.List.{list_all, list_any};
+ghost use Rattle.query_check.specs.Places.{IsRooted, IsTree, places_of};
+ghost use Rattle.query_check.specs.Seen.{level_uses, seen_item, seen_occurrence, seen_piece, seen_use, seen_variable, syntax_of};
+ghost use Rattle.query_model.specs.Levels.{Path, alternatives, followed, level_of, placed_parts};
+ghost use Rattle.query_model.specs.Query.{add_mention, chain_of, checked_equality, checked_query, checked_term, entity_of, follows, is_definite_target, on_source_of, pieces_of, pieces_of_part, ref_of, mention_of, mentioned_by, is_as_checked, is_current, shown, source_of, up_of, visible_names};
+ghost use Rattle.query_model.specs.Scope.{sightings};
+ghost use Rattle.query_model.specs.Seen.{seen_flags, seen_part, seen_reference, seen_term};
+
+use crate::lookup::Lookup;
+use crate::numbers::{Variable, has_this, number_of, own_numbers, variables};
+use crate::places::Place;
+use crate::scope::{Occurrence, alternative, name_of};
+use crate::shown::shown;
+use crate::uses::Use;
+use ecs_id::EntityId;
+use query_model::query::{Mention, Ref, Term};
+use query_model::syntax::{Flags, Part, Reference, Rise, Role, Spoken, TermSyntax};
+use std::alloc::{AllocError, Allocator, Global};
+use std::marker::Model;
+
+/// The index of the built-in relationship ChildOf, along which a plain `up` asks.
+const CHILD_OF: u32 = 1;
+
+/// An item that is no group.
+#[derive(Debug, Drop)]
+pub enum Item<A: Allocator = Global> {
+    /// A term that must match.
+    And(Term),
+    /// A term that may match.
+    Optional(Term),
+    /// Alternatives.
+    Or(Vec<Term, A>),
+    /// A variable and a reference are one entity.
+    Equal(usize, Ref),
+    /// They are two.
+    Differ(usize, Ref),
+}
+
+/// A piece of a query in the order of its text.
+#[derive(Debug, Drop)]
+pub enum Piece<A: Allocator = Global> {
+    Item(Item<A>),
+    /// The begin of a negated group: whether it was written as one term, and the numbers of its own variables.
+    Opening(bool, Vec<usize, A>),
+    /// The end of the innermost group.
+    Closing,
+}
+
+/// A checked query: names are entities, understood sources and flags are written out, and variables go by numbers.
+///
+/// Items go by numbers too, in the order of the text, a group before the items inside it; a Not term is a group with one item.
+#[derive(Drop)]
+pub struct Query<A: Allocator = Global> {
+    variables: Vec<Vec<u8, A>, A>,
+    has_this: bool,
+    pieces: Vec<Piece<A>, A>,
+    shown: Vec<usize, A>,
+    mentions: Vec<Mention, A>,
+    length: usize,
+}
+
+impl<A: Allocator> Model for Query<A> {
+    ghost use Rattle.std.specs.Prelude.{◌≡◌, [], map};
+    ghost use Rattle.query_model.specs.Query as model;
+    ghost use Rattle.query_model.specs.Query.{entries_from, shown_from};
+    ghost use Rattle.query_check.specs.Seen.{seen_piece};
+
+    ghost Value = { model.Query };
+
+    ghost view = { λ q. record {
+      variables = map (λ n. n.items) q.variables.items;
+      has_this = q.has_this;
+      pieces = map seen_piece q.pieces.items;
+      mentions = q.mentions.items;
+      length = q.length;
+    } };
+
+    ghost invariant = { λ q. q.shown.items ≡ shown_from 0 (entries_from 0 [] (map seen_piece q.pieces.items)) };
+}
+
+impl<A: Allocator> Query<A> {
+    /// The names of the visible variables, without their `$`. They have the first numbers, in this order.
+    pub fn variables(&self) -> &[Vec<u8, A>]
+        ensures { map (λ n. n.items) result.now ≡ (self.now).variables }
+    {
+        self.variables.as_slice()
+    }
+
+    /// Whether `$this` is the first of them.
+    pub fn has_this(&self) -> bool
+        ensures { result ≡ (self.now).has_this }
+    {
+        self.has_this
+    }
+
+    /// The items in the order of the text, and the ends of groups.
+    pub fn pieces(&self) -> &[Piece<A>]
+        ensures { map seen_piece result.now ≡ (self.now).pieces }
+    {
+        self.pieces.as_slice()
+    }
+
+    /// The numbers, ascending, of the items that give fields, outside all groups.
+    pub fn shown(&self) -> &[usize]
+        ensures { result.now ≡ shown self.now }
+    {
+        self.shown.as_slice()
+    }
+
+    /// The entities that the text names, each once, by first appearance.
+    pub fn mentions(&self) -> &[Mention]
+        ensures { result.now ≡ (self.now).mentions }
+    {
+        self.mentions.as_slice()
+    }
+
+    /// How many bytes the text has.
+    pub fn length(&self) -> usize
+        ensures { result ≡ (self.now).length }
+    {
+        self.length
+    }
+
+    /// Whether all that the text names is alive, with its traits as they were at the check.
+    pub fn is_current<W: Lookup>(&self, world: &W) -> bool
+        ensures { result ≡ is_current (W.known world.now) self.now }
+    {
+        are_as_checked(world, self.mentions.as_slice())
+    }
+}
+
+fn are_as_checked<W: Lookup>(world: &W, mentions: &[Mention]) -> bool
+    ensures { result ≡ list_all (is_as_checked (W.known world.now)) mentions.now }
+{
+    mentions.iter().all(|mention| is_as_checked(world, mention))
+}
+
+/// Whether an entity is alive, with its traits as they were at the check.
+fn is_as_checked<W: Lookup>(world: &W, mention: &Mention) -> bool
+    ensures { result ≡ is_as_checked (W.known world.now) mention.now }
+{
+    let index = mention.entity.index;
+    world.is_alive(mention.entity)
+        && world.is_traversable(index) == mention.traversable
+        && world.is_transitive(index) == mention.transitive
+        && world.is_reflexive(index) == mention.reflexive
+}
+
+/// The query of parts without faults, from a text of this length.
+pub(crate) fn build<'a, A: Allocator + Copy, W: Lookup>(
+    alloc: A,
+    world: &W,
+    parts: &[Part<'a>],
+    text_length: usize,
+    places: &[Place],
+    uses: &[Use<'a>],
+    found: &[Occurrence<'a>],
+) -> Result<Query<A>, AllocError>
+    requires places { places.now ≡ places_of (map seen_part parts.now) }
+    requires length { length places.now ≡ length parts.now }
+    requires tree { IsTree places.now }
+    requires uses { map seen_use uses.now ≡ level_uses (map seen_part parts.now) }
+    requires occurrences { map seen_occurrence found.now ≡ sightings (map seen_part parts.now) }
+    ensures { IfOk result (λ query. query ≡ checked_query (W.known world.now) (syntax_of (map seen_part parts.now) text_length)) }
+{
+    let numbered = variables(alloc, parts, places, found)?;
+    let numbered = numbered.as_slice();
+    let scope = Scope {
+        places,
+        found,
+        numbered,
+    };
+    let pieces = pieces(alloc, world, &scope, parts)?;
+    let visible = visible_names(alloc, numbered)?;
+    let mentions = mentions(alloc, world, uses)?;
+    let shown = shown(alloc, pieces.as_slice())?;
+    Ok(Query {
+        variables: visible,
+        has_this: has_this(parts, found),
+        pieces,
+        shown,
+        mentions,
+        length: text_length,
+    })
+}
+
+/// The names of the variables of the whole query.
+fn visible_names<A: Allocator + Copy>(
+    alloc: A,
+    numbered: &[Variable<'_>],
+) -> Result<Vec<Vec<u8, A>, A>, AllocError>
+    ensures { IfOk result (λ names. map (λ n. n.items) names.items ≡ visible_names (map seen_variable numbered.now)) }
+{
+    let mut names = Vec::new(alloc);
+    for variable in numbered {
+        if variable.level == 0 {
+            names.push(copy_of(alloc, variable.name)?)?;
+        }
+    }
+    Ok(names)
+}
+
+fn copy_of<A: Allocator>(alloc: A, bytes: &[u8]) -> Result<Vec<u8, A>, AllocError>
+    ensures { IfOk result (λ copy. copy.items ≡ bytes.now) }
+{
+    let mut copy = Vec::new(alloc);
+    copy.extend_from_slice(bytes)?;
+    Ok(copy)
+}
+
+/// The entities that references name, each once, with the traits on which the check relies.
+fn mentions<A: Allocator, W: Lookup>(
+    alloc: A,
+    world: &W,
+    uses: &[Use<'_>],
+) -> Result<Vec<Mention, A>, AllocError>
+    ensures { IfOk result (λ mentions. mentions.items ≡ fold (add_mention (W.known world.now)) [] (flat_map (λ u. mentioned_by (W.known world.now) u.1) (map seen_use uses.now))) }
+{
+    let mut mentions = Vec::new(alloc);
+    for used in uses {
+        add_named(world, used, &mut mentions)?;
+    }
+    Ok(mentions)
+}
+
+/// Adds the entity that a reference names, unless it is there.
+fn add_named<A: Allocator, W: Lookup>(
+    world: &W,
+    used: &Use<'_>,
+    mentions: &mut Vec<Mention, A>,
+) -> Result<(), AllocError>
+    ensures { IfOk result (λ _. mentions.new.items ≡ fold (add_mention (W.known world.now)) mentions.old.items (mentioned_by (W.known world.now) (seen_use used.now).1)) }
+{
+    match named_by(world, used) {
+        Some(entity) => add_mention(world, entity, mentions),
+        None => Ok(()),
+    }
+}
+
+fn add_mention<A: Allocator, W: Lookup>(
+    world: &W,
+    entity: EntityId,
+    mentions: &mut Vec<Mention, A>,
+) -> Result<(), AllocError>
+    ensures { IfOk result (λ _. mentions.new.items ≡ add_mention (W.known world.now) mentions.old.items entity) }
+{
+    if !is_mentioned(mentions.as_slice(), entity.index) {
+        mentions.push(mention_of(world, entity))?;
+    }
+    Ok(())
+}
+
+/// The entity that a reference names.
+fn named_by<W: Lookup>(world: &W, used: &Use<'_>) -> Option<EntityId>
+    ensures { option_to_list result ≡ mentioned_by (W.known world.now) (seen_use used.now).1 }
+{
+    match used.reference.spoken {
+        Spoken::Word(word) => world.find(word),
+        _ => None,
+    }
+}
+
+fn is_mentioned(mentions: &[Mention], index: u32) -> bool
+    ensures { result ≡ list_any (λ m. (m.entity).index == index) mentions.now }
+{
+    mentions.iter().any(|mention| mention.entity.index == index)
+}
+
+fn mention_of<W: Lookup>(world: &W, entity: EntityId) -> Mention
+    ensures { result ≡ mention_of (W.known world.now) entity }
+{
+    Mention {
+        entity,
+        traversable: world.is_traversable(entity.index),
+        transitive: world.is_transitive(entity.index),
+        reflexive: world.is_reflexive(entity.index),
+    }
+}
+
+/// What the references of a query are read by: the places of its parts, its variables where they occur, and by number.
+#[derive(Clone, Copy)]
+pub(crate) struct Scope<'s, 'a> {
+    pub(crate) places: &'s [Place],
+    pub(crate) found: &'s [Occurrence<'a>],
+    pub(crate) numbered: &'s [Variable<'a>],
+}
+
+/// The pieces of a query's parts.
+pub(crate) fn pieces<A: Allocator + Copy, W: Lookup>(
+    alloc: A,
+    world: &W,
+    scope: &Scope<'_, '_>,
+    parts: &[Part<'_>],
+) -> Result<Vec<Piece<A>, A>, AllocError>
+    requires places { scope.now.places.now ≡ places_of (map seen_part parts.now) }
+    requires length { length scope.now.places.now ≡ length parts.now }
+    requires tree { IsTree scope.now.places.now }
+    ensures { IfOk result (λ pieces. map seen_piece pieces.items ≡ flat_map (pieces_of_part (W.known world.now) (map seen_occurrence scope.now.found.now) (map seen_variable scope.now.numbered.now)) (followed (placed_parts (map seen_part parts.now)))) }
+{
+    let mut pieces = Vec::new(alloc);
+    for (i, part) in parts.iter().enumerate() {
+        add_pieces(
+            alloc,
+            world,
+            scope,
+            scope.places[i].level,
+            part,
+            &parts[i + 1..],
+            &mut pieces,
+        )?;
+    }
+    Ok(pieces)
+}
+
+/// Adds the pieces of a part.
+fn add_pieces<A: Allocator + Copy, W: Lookup>(
+    alloc: A,
+    world: &W,
+    scope: &Scope<'_, '_>,
+    level: usize,
+    part: &Part<'_>,
+    behind: &[Part<'_>],
+    pieces: &mut Vec<Piece<A>, A>,
+) -> Result<(), AllocError>
+    requires tree { IsTree scope.now.places.now }
+    requires within { level ≤ length scope.now.places.now }
+    ensures { IfOk result (λ _. (path : Path) → level ≡ level_of path → IsRooted scope.now.places.now path
+        → map seen_piece pieces.new.items ≡ map seen_piece pieces.old.items ++ pieces_of (W.known world.now) (map seen_occurrence scope.now.found.now) (map seen_variable scope.now.numbered.now) path (alternatives (map seen_part behind.now)) (seen_part part.now)) }
+{
+    match part {
+        Part::Term(Role::And, term) => {
+            let item = chain(alloc, world, scope, level, term, behind)?;
+            pieces.push(Piece::Item(item))?;
+        }
+        Part::Term(Role::Or, _) => {}
+        Part::Term(Role::Optional, term) => {
+            pieces.push(Piece::Item(Item::Optional(term_of(world, scope, level, term))))?;
+        }
+        Part::Term(Role::Not, term) => {
+            let own = own_numbers(alloc, scope.numbered, level)?;
+            pieces.push(Piece::Opening(true, own))?;
+            pieces.push(Piece::Item(Item::And(term_of(world, scope, level, term))))?;
+            pieces.push(Piece::Closing)?;
+        }
+        Part::Opened(_) => {
+            let own = own_numbers(alloc, scope.numbered, level)?;
+            pieces.push(Piece::Opening(false, own))?;
+        }
+        Part::Closed => pieces.push(Piece::Closing)?,
+        Part::Equality(left, same, right) => {
+            pieces.push(Piece::Item(equality(world, scope, level, left, *same, right)))?;
+        }
+    }
+    Ok(())
+}
+
+/// The item of a term behind which others stand: a term that must match, or alternatives.
+fn chain<A: Allocator, W: Lookup>(
+    alloc: A,
+    world: &W,
+    scope: &Scope<'_, '_>,
+    level: usize,
+    term: &TermSyntax<'_>,
+    behind: &[Part<'_>],
+) -> Result<Item<A>, AllocError>
+    requires tree { IsTree scope.now.places.now }
+    requires within { level ≤ length scope.now.places.now }
+    ensures { IfOk result (λ item. (path : Path) → level ≡ level_of path → IsRooted scope.now.places.now path
+        → let term_at = checked_term (W.known world.now) (map seen_occurrence scope.now.found.now) (map seen_variable scope.now.numbered.now) path in
+        seen_item item ≡ chain_of (term_at (seen_term term.now)) (map term_at (alternatives (map seen_part behind.now)))) }
+{
+    let mut all = Vec::new(alloc);
+    let first = term_of(world, scope, level, term);
+    all.push(first)?;
+    add_alternatives(world, scope, level, behind, &mut all)?;
+    if all.len() == 1 {
+        return Ok(Item::And(first));
+    }
+    Ok(Item::Or(all))
+}
+
+/// Adds what each of the alternatives at the front of parts asks.
+fn add_alternatives<A: Allocator, W: Lookup>(
+    world: &W,
+    scope: &Scope<'_, '_>,
+    level: usize,
+    parts: &[Part<'_>],
+    all: &mut Vec<Term, A>,
+) -> Result<(), AllocError>
+    requires tree { IsTree scope.now.places.now }
+    requires within { level ≤ length scope.now.places.now }
+    ensures { IfOk result (λ _. (path : Path) → level ≡ level_of path → IsRooted scope.now.places.now path
+        → all.new.items ≡ all.old.items ++ map (checked_term (W.known world.now) (map seen_occurrence scope.now.found.now) (map seen_variable scope.now.numbered.now) path) (alternatives (map seen_part parts.now))) }
+{
+    for part in parts {
+        let Some(term) = alternative(part) else {
+            return Ok(());
+        };
+        all.push(term_of(world, scope, level, term))?;
+    }
+    Ok(())
+}
+
+/// What a term asks.
+fn term_of<W: Lookup>(world: &W, scope: &Scope<'_, '_>, level: usize, term: &TermSyntax<'_>) -> Term
+    requires tree { IsTree scope.now.places.now }
+    requires within { level ≤ length scope.now.places.now }
+    ensures { (path : Path) → level ≡ level_of path → IsRooted scope.now.places.now path
+        → result ≡ checked_term (W.known world.now) (map seen_occurrence scope.now.found.now) (map seen_variable scope.now.numbered.now) path (seen_term term.now) }
+{
+    let up = up_of(world, &term.flags);
+    let follows = follows(world, &term.first) && is_definite_target(&term.target);
+    Term {
+        first: ref_of(world, scope, level, &term.first),
+        target: target_of(world, scope, level, &term.target),
+        source: source_of(world, scope, level, &term.source),
+        on_source: on_source_of(&term.flags),
+        up,
+        closed: follows && up.is_none(),
+        valued: term.valued,
+    }
+}
+
+fn target_of<W: Lookup>(
+    world: &W,
+    scope: &Scope<'_, '_>,
+    level: usize,
+    target: &Option<Reference<'_>>,
+) -> Option<Ref>
+    requires tree { IsTree scope.now.places.now }
+    requires within { level ≤ length scope.now.places.now }
+    ensures { (path : Path) → level ≡ level_of path → IsRooted scope.now.places.now path
+        → result ≡ option_map (ref_of (W.known world.now) (map seen_occurrence scope.now.found.now) (map seen_variable scope.now.numbered.now) path) (option_map seen_reference target.now) }
+{
+    match target {
+        Some(reference) => Some(ref_of(world, scope, level, reference)),
+        None => None,
+    }
+}
+
+/// The source of a term, `$this` where none is written.
+fn source_of<W: Lookup>(
+    world: &W,
+    scope: &Scope<'_, '_>,
+    level: usize,
+    source: &Option<Reference<'_>>,
+) -> Ref
+    requires tree { IsTree scope.now.places.now }
+    requires within { level ≤ length scope.now.places.now }
+    ensures { (path : Path) → level ≡ level_of path → IsRooted scope.now.places.now path
+        → result ≡ source_of (W.known world.now) (map seen_occurrence scope.now.found.now) (map seen_variable scope.now.numbered.now) path (option_map seen_reference source.now) }
+{
+    match source {
+        Some(reference) => ref_of(world, scope, level, reference),
+        None => Ref::Var(0),
+    }
+}
+
+/// What a reference in a level stands for.
+fn ref_of<W: Lookup>(
+    world: &W,
+    scope: &Scope<'_, '_>,
+    level: usize,
+    reference: &Reference<'_>,
+) -> Ref
+    requires tree { IsTree scope.now.places.now }
+    requires within { level ≤ length scope.now.places.now }
+    ensures { (path : Path) → level ≡ level_of path → IsRooted scope.now.places.now path
+        → result ≡ ref_of (W.known world.now) (map seen_occurrence scope.now.found.now) (map seen_variable scope.now.numbered.now) path (seen_reference reference.now) }
+{
+    match reference.spoken {
+        Spoken::Word(word) => Ref::Is(entity_of(world, word)),
+        Spoken::Variable(name) => Ref::Var(number_of(
+            scope.places,
+            scope.found,
+            scope.numbered,
+            name_of(name),
+            level,
+        )),
+        Spoken::Any => Ref::Any,
+        Spoken::One => Ref::One,
+    }
+}
+
+/// The entity of a word, and 0 where there is none.
+fn entity_of<W: Lookup>(world: &W, word: &str) -> u32
+    ensures { result ≡ entity_of (W.known world.now) word.now }
+{
+    world.find(word).map_or(0, |entity| entity.index)
+}
+
+/// Whether a relationship is a name with Transitive or Reflexive.
+fn follows<W: Lookup>(world: &W, first: &Reference<'_>) -> bool
+    ensures { result ≡ follows (W.known world.now) (seen_reference first.now).spoken }
+{
+    match first.spoken {
+        Spoken::Word(word) => {
+            let entity = entity_of(world, word);
+            world.is_transitive(entity) || world.is_reflexive(entity)
+        }
+        _ => false,
+    }
+}
+
+fn is_definite_target(target: &Option<Reference<'_>>) -> bool
+    ensures { result ≡ is_definite_target (option_map seen_reference target.now) }
+{
+    match target {
+        Some(reference) => matches!(reference.spoken, Spoken::Word(_) | Spoken::Variable(_)),
+        None => false,
+    }
+}
+
+fn on_source_of(flags: &Option<Flags<'_>>) -> bool
+    ensures { result ≡ on_source_of (option_map seen_flags flags.now) }
+{
+    match flags {
+        Some(flags) => flags.on_source,
+        None => true,
+    }
+}
+
+/// The relationship along which ancestors are checked_term, if they are.
+fn up_of<W: Lookup>(world: &W, flags: &Option<Flags<'_>>) -> Option<u32>
+    ensures { result ≡ up_of (W.known world.now) (option_map seen_flags flags.now) }
+{
+    let Some(flags) = flags else {
+        return None;
+    };
+    match flags.rise {
+        Rise::No => None,
+        Rise::Up(None) => Some(CHILD_OF),
+        Rise::Up(Some(along)) => match along.spoken {
+            Spoken::Word(word) => Some(entity_of(world, word)),
+            _ => None,
+        },
+    }
+}
+
+/// The item of an equality.
+fn equality<A: Allocator, W: Lookup>(
+    world: &W,
+    scope: &Scope<'_, '_>,
+    level: usize,
+    left: &Reference<'_>,
+    same: bool,
+    right: &Reference<'_>,
+) -> Item<A>
+    requires tree { IsTree scope.now.places.now }
+    requires within { level ≤ length scope.now.places.now }
+    ensures { (path : Path) → level ≡ level_of path → IsRooted scope.now.places.now path
+        → seen_item result ≡ checked_equality (W.known world.now) (map seen_occurrence scope.now.found.now) (map seen_variable scope.now.numbered.now) path (seen_reference left.now).spoken same (seen_reference right.now) }
+{
+    let other = ref_of(world, scope, level, right);
+    let Spoken::Variable(name) = left.spoken else {
+        return Item::Equal(0, other);
+    };
+    let number = number_of(
+        scope.places,
+        scope.found,
+        scope.numbered,
+        name_of(name),
+        level,
+    );
+    if same {
+        Item::Equal(number, other)
+    } else {
+        Item::Differ(number, other)
+    }
+}

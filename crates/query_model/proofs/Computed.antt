@@ -1,0 +1,153 @@
+-- Checks of queries' texts, which the prover computes.
+use Rattle.std.specs.Prelude.{◌≡◌, ℕ, ◌==◌, true, false, List, codes, bytes_eq, Option, Some, None, Err, is_ok, refl, if◌then◌else◌}
+use Rattle.ecs_id.specs.declared.EntityId.{EntityId}
+use Rattle.query_model.specs.declared.faults.FaultKind.{FaultKind}
+use Rattle.query_model.specs.declared.faults.FaultKind.TheVariants.{Lex, Syntax, UnknownName, NotTraversable, UnboundVariable, WildcardSource, WildcardEquality, TooManyTerms, TooManyVariables, TooDeep}
+use Rattle.query_model.specs.Tokens.{tokens_from, tokens_of}
+use Rattle.query_model.specs.Check.{Known, faults}
+use Rattle.query_model.specs.Query.{checked_query, query_of}
+
+abbrev entity : ℕ → EntityId
+entity i = record { index = i; generation = 0 }
+
+-- a world of four names. Orbits is transitive and can be traversed
+abbrev named : List ℕ → Option EntityId
+named n =
+    if bytes_eq n (codes "ChildOf") then Some (entity 1)
+    else if bytes_eq n (codes "Sun") then Some (entity 64)
+    else if bytes_eq n (codes "Orbits") then Some (entity 65)
+    else if bytes_eq n (codes "Position") then Some (entity 66)
+    else None
+
+abbrev sky : Known
+sky = record {
+  named = named;
+  alive = λ e. e.generation == 0;
+  traversable = λ i. i == 65;
+  transitive = λ i. i == 65;
+  reflexive = λ i. false;
+}
+
+abbrev Tells : List ℕ → FaultKind → ℕ → ℕ → Type 0
+Tells text kind start end = query_of sky text ≡ Err (record { kind = kind; span = record { start = start; end = end } })
+
+abbrev Accepts : List ℕ → Type 0
+Accepts text = is_ok (query_of sky text) ≡ true
+
+a_dollar_alone : Tells (codes "$") Lex 0 1
+unfolding tokens_from tokens_of faults checked_query query_of
+a_dollar_alone = refl
+
+an_ampersand : Tells (codes "Position & Sun") Lex 9 10
+unfolding tokens_from tokens_of faults checked_query query_of
+an_ampersand = refl
+
+no_text : Tells (codes "") Syntax 0 0
+unfolding tokens_from tokens_of faults checked_query query_of
+no_text = refl
+
+a_comma_at_the_end : Tells (codes "Position,") Syntax 9 9
+unfolding tokens_from tokens_of faults checked_query query_of
+a_comma_at_the_end = refl
+
+an_alternative_to_a_not_term : Tells (codes "!Position || Sun") Syntax 10 12
+unfolding tokens_from tokens_of faults checked_query query_of
+an_alternative_to_a_not_term = refl
+
+an_open_group : Tells (codes "!{ Sun") Syntax 6 6
+unfolding tokens_from tokens_of faults checked_query query_of
+an_open_group = refl
+
+a_word_of_the_language : Tells (codes "Sun, self") Syntax 5 9
+unfolding tokens_from tokens_of faults checked_query query_of
+a_word_of_the_language = refl
+
+up_and_a_comma : Tells (codes "Sun(up, Sun, Sun)") Syntax 11 12
+unfolding tokens_from tokens_of faults checked_query query_of
+up_and_a_comma = refl
+
+an_unknown_name : Tells (codes "Sun, Moon") UnknownName 5 9
+unfolding tokens_from tokens_of faults checked_query query_of
+an_unknown_name = refl
+
+up_along_what_is_not_traversable : Tells (codes "Position(up Sun)") NotTraversable 12 15
+unfolding tokens_from tokens_of faults checked_query query_of
+up_along_what_is_not_traversable = refl
+
+an_unknown_name_behind_up : Tells (codes "Position(up Moon)") UnknownName 12 16
+unfolding tokens_from tokens_of faults checked_query query_of
+an_unknown_name_behind_up = refl
+
+a_variable_of_an_optional_term : Tells (codes "Sun, ?Orbits($x)") UnboundVariable 13 15
+unfolding tokens_from tokens_of faults checked_query query_of
+a_variable_of_an_optional_term = refl
+
+two_variables_in_an_equality : Tells (codes "$x == $y, Sun") UnboundVariable 0 2
+unfolding tokens_from tokens_of faults checked_query query_of
+two_variables_in_an_equality = refl
+
+a_variable_of_one_alternative : Tells (codes "(Orbits,$x) || Sun") UnboundVariable 8 10
+unfolding tokens_from tokens_of faults checked_query query_of
+a_variable_of_one_alternative = refl
+
+a_variable_bound_in_a_group_alone : Tells (codes "!{ (Orbits,$x) }, $x != Sun") UnboundVariable 11 13
+unfolding tokens_from tokens_of faults checked_query query_of
+a_variable_bound_in_a_group_alone = refl
+
+a_wildcard_as_source : Tells (codes "Position(*)") WildcardSource 9 10
+unfolding tokens_from tokens_of faults checked_query query_of
+a_wildcard_as_source = refl
+
+a_wildcard_in_an_equality : Tells (codes "Position, $this == *") WildcardEquality 19 20
+unfolding tokens_from tokens_of faults checked_query query_of
+a_wildcard_in_an_equality = refl
+
+five_groups : Tells (codes "!{ !{ !{ !{ !{ Sun } } } } }") TooDeep 13 14
+unfolding tokens_from tokens_of faults checked_query query_of
+five_groups = refl
+
+the_lesser_start_of_two : Tells (codes "Position(*), Moon") WildcardSource 9 10
+unfolding tokens_from tokens_of faults checked_query query_of
+the_lesser_start_of_two = refl
+
+-- the 33rd term, which is both too many and unknown
+the_33rd_term : Tells (codes "Sun,Sun,Sun,Sun,Sun,Sun,Sun,Sun,Sun,Sun,Sun,Sun,Sun,Sun,Sun,Sun,Sun,Sun,Sun,Sun,Sun,Sun,Sun,Sun,Sun,Sun,Sun,Sun,Sun,Sun,Sun,Sun,(Orbits,*)") TooManyTerms 128 138
+unfolding tokens_from tokens_of faults checked_query query_of
+the_33rd_term = refl
+
+-- of two faults at one place the lesser kind
+the_33rd_term_unknown : Tells (codes "Sun,Sun,Sun,Sun,Sun,Sun,Sun,Sun,Sun,Sun,Sun,Sun,Sun,Sun,Sun,Sun,Sun,Sun,Sun,Sun,Sun,Sun,Sun,Sun,Sun,Sun,Sun,Sun,Sun,Sun,Sun,Sun,Moon") UnknownName 128 132
+unfolding tokens_from tokens_of faults checked_query query_of
+the_33rd_term_unknown = refl
+
+the_17th_name : Tells (codes "Sun($a),Sun($b),Sun($c),Sun($d),Sun($e),Sun($f),Sun($g),Sun($h),Sun($i),Sun($j),Sun($k),Sun($l),Sun($m),Sun($n),Sun($o),Sun($p),Sun($q)") TooManyVariables 132 134
+unfolding tokens_from tokens_of faults checked_query query_of
+the_17th_name = refl
+
+accepted-1 : Accepts (codes "Sun, Position")
+unfolding tokens_from tokens_of faults checked_query query_of
+accepted-1 = refl
+
+accepted-2 : Accepts (codes "$x == Sun, Orbits($x)")
+unfolding tokens_from tokens_of faults checked_query query_of
+accepted-2 = refl
+
+accepted-3 : Accepts (codes "(Orbits,$x), !Sun($x)")
+unfolding tokens_from tokens_of faults checked_query query_of
+accepted-3 = refl
+
+accepted-4 : Accepts (codes "!{ (Orbits,$x) }, !{ (Orbits,$x) }")
+unfolding tokens_from tokens_of faults checked_query query_of
+accepted-4 = refl
+
+accepted-5 : Accepts (codes "Position(self|up Orbits), ?Sun")
+unfolding tokens_from tokens_of faults checked_query query_of
+accepted-5 = refl
+
+accepted-6 : Accepts (codes "(Orbits,$x) || Orbits($x, Sun)")
+unfolding tokens_from tokens_of faults checked_query query_of
+accepted-6 = refl
+
+accepted-7 : Accepts (codes "!{ !{ !{ !{ Sun } } } }")
+unfolding tokens_from tokens_of faults checked_query query_of
+accepted-7 = refl

@@ -1,0 +1,6 @@
+pub mod Complete
+mod Sound
+pub mod SyntaxFaults
+pub mod FirstOccurrence
+pub mod Spelling
+mod Computed

@@ -1,0 +1,5 @@
+use Rattle.query_model.proofs.Spelling.{tokens_are_spelled}
+use Rattle.query_model.proofs.laws.tokens_are_as_spelled.Goals as goal
+
+pub returns : goal.returns
+returns c = tokens_are_spelled

@@ -1,0 +1,15 @@
+pub mod Text
+pub mod Tokens
+pub mod Syntax
+pub mod Seen
+pub mod Faults
+pub mod Grammar
+pub mod Machine
+pub mod Laws
+pub mod Levels
+pub mod Uses
+pub mod Scope
+pub mod Numbers
+pub mod Check
+pub mod Query
+pub mod FirstOccurrence

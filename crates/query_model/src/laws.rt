@@ -1,0 +1,30 @@
+//! What is proved of the tokens, the syntax and the faults of query text: each function's contract is a law, and its body does nothing.
+
+ghost use Rattle.query_model.specs.FirstOccurrence.{FirstSuffices};
+ghost use Rattle.query_model.specs.Laws.{OneSpelling, OneSyntax, PartsAreGrammatical, TokensAreSpelled};
+
+/// Law: a text spells at most one list of tokens.
+pub fn a_text_spells_at_most_one_token_list()
+    ensures { OneSpelling }
+{}
+
+/// Law: the tokens read from a text are those that it spells, and the fault is its lex fault.
+pub fn tokens_are_as_spelled()
+    ensures { TokensAreSpelled }
+{}
+
+/// Law: a list of tokens has at most one syntax.
+pub fn tokens_have_at_most_one_syntax()
+    ensures { OneSyntax }
+{}
+
+/// Law: the parts read from tokens are those that the grammar relates to them, and the fault is their syntax fault.
+pub fn parts_are_as_the_grammar_says()
+    ensures { PartsAreGrammatical }
+{}
+
+/// Law: where a query's variables stand in the order of its text, it is enough to tell one that isn't bound at its first
+/// occurrence: the least fault is the same.
+pub fn a_variable_is_told_at_its_first_occurrence()
+    ensures { FirstSuffices }
+{}

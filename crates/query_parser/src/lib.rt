@@ -1,0 +1,103 @@
+//! The syntax of query text.
+#![tactic(auto)]
+
+mod machine;
+
+ghost use Rattle.std.specs.Prelude.{◌≡◌, ◌+◌, ◌<◌, ◌^◌, ◌++◌, map, IfOk};
+ghost use Rattle.query_model.specs.Grammar.{IsQuery, IsSyntaxFault};
+ghost use Rattle.query_model.specs.Laws.{EndsInEnd};
+ghost use Rattle.query_model.specs.Machine.{parts_of};
+ghost use Rattle.query_lexer.specs.Lexed.{Answers, AnswersBy};
+ghost use Rattle.query_lexer.specs.Token.{seen, text_length};
+ghost use Rattle.query_model.specs.Seen.{seen_part};
+ghost use Rattle.query_parser.specs.Steps.{completed, nested};
+
+use crate::machine::{Nesting, State, step};
+use query_lexer::Token;
+use query_model::Span;
+use query_model::faults::{Fault, FaultKind, QueryFault};
+use query_model::syntax::{Part, Role, Syntax};
+use std::alloc::{AllocError, Allocator};
+
+/// The syntax of a query's tokens.
+///
+/// Fails at the first token such that the tokens before it begin some query and the tokens through it
+/// begin none, or where memory is refused.
+pub fn parse<'a, A: Allocator + Copy>(
+    alloc: A,
+    tokens: &[Token<'a>],
+) -> Result<Syntax<'a, A>, QueryFault>
+    requires { EndsInEnd (map seen tokens.now) }
+    ensures answers { Answers FaultKind.Syntax (λ syntax. map seen_part syntax.parts.items) result
+        (parts_of (map seen tokens.now)) }
+    ensures meaning { AnswersBy FaultKind.Syntax
+        (λ syntax. IsQuery (map seen tokens.now) (map seen_part syntax.parts.items))
+        (IsSyntaxFault (map seen tokens.now)) result }
+    ensures length { IfOk result (λ syntax. syntax.length ≡ text_length (map seen tokens.now)) }
+{
+    let length = text_length(tokens);
+    let mut parts = Vec::new(alloc);
+    let mut depth = 0;
+    let mut state = State::TermNext(Role::And);
+    for token in tokens {
+        let Some(go) = step(depth, state, *token) else {
+            return Err(unexpected(token.span));
+        };
+        complete(&mut parts, go.part, go.nesting).map_err(|_| QueryFault::Memory)?;
+        depth = nested(depth, go.nesting);
+        state = go.state;
+    }
+    match state {
+        State::Finished => Ok(Syntax { parts, length }),
+        _ => Err(unexpected(Span { start: 0, end: 0 })),
+    }
+}
+
+/// How many bytes the text has of which these are the tokens.
+fn text_length(tokens: &[Token<'_>]) -> usize
+    ensures { result ≡ text_length (map seen tokens.now) }
+{
+    match tokens.last() {
+        Some(end) => end.span.end,
+        None => 0,
+    }
+}
+
+/// Puts the parts that a step completes behind those before them.
+fn complete<'a, A: Allocator + Copy>(
+    parts: &mut Vec<Part<'a>, A>,
+    part: Option<Part<'a>>,
+    nesting: Nesting,
+) -> Result<(), AllocError>
+    ensures { IfOk result (λ _. map seen_part parts.new.items ≡ map seen_part parts.old.items ++ completed part.entry nesting) }
+{
+    if let Some(part) = part {
+        parts.push(part)?;
+    }
+    if let Nesting::Closes = nesting {
+        parts.push(Part::Closed)?;
+    }
+    Ok(())
+}
+
+/// How many groups are open behind a step.
+fn nested(depth: usize, nesting: Nesting) -> usize
+    requires { depth + 1 < 2 ^ 64 }
+    ensures { result ≡ nested depth nesting }
+{
+    match nesting {
+        Nesting::Same => depth,
+        Nesting::Opens => depth + 1,
+        Nesting::Closes => depth.saturating_sub(1),
+    }
+}
+
+/// The fault of a token with which no query goes on, by its place.
+fn unexpected(span: Span) -> QueryFault
+    ensures { result ≡ QueryFault.Fault (record { kind = FaultKind.Syntax; span = span }) }
+{
+    QueryFault::Fault(Fault {
+        kind: FaultKind::Syntax,
+        span,
+    })
+}
