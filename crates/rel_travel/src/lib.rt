@@ -15,7 +15,5 @@ pub use falls::Falling;
 pub use found::Found;
 pub use graph::{Graph, Upward, target_under};
 pub use holders::{Downward, Holders, add_holders};
-pub use scratch::{
-    Scratch, above, below, deleted, first_up, gather, pull, reaches, would_cycle,
-};
+pub use scratch::{Scratch, above, below, deleted, first_up, gather, pull, reaches, would_cycle};
 pub use work_list::Rule;
