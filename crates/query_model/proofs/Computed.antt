@@ -1,11 +1,13 @@
 -- Checks of queries' texts, which the prover computes.
-use Rattle.std.specs.Prelude.{◌≡◌, ℕ, ◌==◌, true, false, List, codes, bytes_eq, Option, Some, None, Err, is_ok, refl, if◌then◌else◌}
+use Rattle.std.specs.Prelude.{◌≡◌, ℕ, ◌==◌, true, false, List, codes, bytes_eq, Option, Some, None, Err, is_ok, refl, if◌then◌else◌, Result, Ok}
 use Rattle.ecs_id.specs.declared.EntityId.{EntityId}
 use Rattle.query_model.specs.declared.faults.FaultKind.{FaultKind}
-use Rattle.query_model.specs.declared.faults.FaultKind.TheVariants.{Lex, Syntax, UnknownName, NotTraversable, UnboundVariable, WildcardSource, WildcardEquality, TooManyTerms, TooManyVariables, TooDeep}
+use Rattle.query_model.specs.declared.faults.FaultKind.TheVariants.{Lex, Syntax, UnknownName, NotTraversable, UnboundVariable, WildcardSource, WildcardEquality, TooManyTerms, TooManyVariables, TooDeep, NoThis, NotOneTerm}
 use Rattle.query_model.specs.Tokens.{tokens_from, tokens_of}
+use Rattle.query_model.specs.declared.faults.Fault.{Fault}
+use Rattle.query_model.specs.Observers.{monitored, observed}
 use Rattle.query_model.specs.Check.{Known, faults}
-use Rattle.query_model.specs.Query.{checked_query, query_of}
+use Rattle.query_model.specs.Query.{Query, checked_query, query_of}
 
 abbrev entity : ℕ → EntityId
 entity i = record { index = i; generation = 0 }
@@ -30,6 +32,17 @@ sky = record {
 
 abbrev Tells : List ℕ → FaultKind → ℕ → ℕ → Type 0
 Tells text kind start end = query_of sky text ≡ Err (record { kind = kind; span = record { start = start; end = end } })
+
+-- a query as that of a monitor, or of an event observer
+abbrev behind : (Query → Result Query Fault) → Result Query Fault → Result Query Fault
+behind judged (Ok q) = judged q
+behind judged (Err f) = Err f
+
+abbrev TellsOf : (Query → Result Query Fault) → List ℕ → FaultKind → ℕ → ℕ → Type 0
+TellsOf judged text kind start end = behind judged (query_of sky text) ≡ Err (record { kind = kind; span = record { start = start; end = end } })
+
+abbrev AcceptsAs : (Query → Result Query Fault) → List ℕ → Type 0
+AcceptsAs judged text = is_ok (behind judged (query_of sky text)) ≡ true
 
 abbrev Accepts : List ℕ → Type 0
 Accepts text = is_ok (query_of sky text) ≡ true
@@ -151,3 +164,43 @@ accepted-6 = refl
 accepted-7 : Accepts (codes "!{ !{ !{ !{ Sun } } } }")
 unfolding tokens_from tokens_of faults checked_query query_of
 accepted-7 = refl
+
+a_monitor_without_this : TellsOf monitored (codes "Sun($x)") NoThis 0 7
+unfolding tokens_from tokens_of faults checked_query query_of
+a_monitor_without_this = refl
+
+an_event_without_this : TellsOf observed (codes "Sun(Sun)") NoThis 0 8
+unfolding tokens_from tokens_of faults checked_query query_of
+an_event_without_this = refl
+
+an_event_of_two_terms : TellsOf observed (codes "Sun, Position") NotOneTerm 0 13
+unfolding tokens_from tokens_of faults checked_query query_of
+an_event_of_two_terms = refl
+
+an_event_of_a_not_term : TellsOf observed (codes "!Sun") NotOneTerm 0 4
+unfolding tokens_from tokens_of faults checked_query query_of
+an_event_of_a_not_term = refl
+
+an_event_with_a_variable : TellsOf observed (codes "(Orbits,$x)") NotOneTerm 0 11
+unfolding tokens_from tokens_of faults checked_query query_of
+an_event_with_a_variable = refl
+
+an_event_of_ancestors : TellsOf observed (codes "Sun(self|up)") NotOneTerm 0 12
+unfolding tokens_from tokens_of faults checked_query query_of
+an_event_of_ancestors = refl
+
+a_monitor_of_a_group : AcceptsAs monitored (codes "!{ Sun }")
+unfolding tokens_from tokens_of faults checked_query query_of
+a_monitor_of_a_group = refl
+
+an_event_of_any_pair : AcceptsAs observed (codes "[none] (*, _)")
+unfolding tokens_from tokens_of faults checked_query query_of
+an_event_of_any_pair = refl
+
+an_event_with_self : AcceptsAs observed (codes "Sun($this|self)")
+unfolding tokens_from tokens_of faults checked_query query_of
+an_event_with_self = refl
+
+an_event_of_a_closed_term : AcceptsAs observed (codes "(Orbits, Sun)")
+unfolding tokens_from tokens_of faults checked_query query_of
+an_event_of_a_closed_term = refl

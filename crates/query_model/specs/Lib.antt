@@ -13,3 +13,4 @@ pub mod Numbers
 pub mod Check
 pub mod Query
 pub mod FirstOccurrence
+pub mod Observers
