@@ -1,7 +1,7 @@
 -- What the calls of a tape do, turn by turn.
 use Rattle.std.specs.Prelude.{◌≡◌, ◌⊎◌, ℕ, ◌^◌, ◌-◌, min, max, List, [], ◌∷◌, drop, Result, Ok, Err}
 use Rattle.world_script.specs.declared.streams.Stop.{Stop}
-use Rattle.world_script.specs.declared.streams.Stop.TheVariants.{Interrupted, Failed}
+use Rattle.world_script.specs.declared.streams.Stop.TheVariants.{Failed}
 use Rattle.world_script.specs.declared.tapes.Turn.{Turn}
 use Rattle.world_script.specs.declared.tapes.Turn.TheVariants as turn
 
