@@ -1,7 +1,7 @@
 ghost use Rattle.std.specs.Prelude.{◌≡◌, ◌<◌, length};
 
-use ecs_table::Table;
 use ecs_id::{EntityId, Id};
+use ecs_table::Table;
 use std::process::Abort;
 use std::test::Fail;
 

@@ -41,6 +41,7 @@ pub sized_small : (ss : List ℕ) → ((k : ℕ) → k < length ss → slice_ind
 sized_small ss small k lt =
     let kept = filter (λ s. nat_lt 0 s) ss in
     (positive ss k lt, All-get_or (λ n. n ≤ 64) kept k 0 lt (All-filter (λ s. nat_lt 0 s) (λ n. n ≤ 64) ss (All-from_get_or (λ n. n ≤ 64) ss 0 small)))
+
 -- a loop over places that makes each element of itself and of its partner in another list
 pub paired_more : {I X : Type 0} (f : I × X → X) (is : List I) (xs ys : List X) (k : ℕ) (i : I) (x : X) → k < length is → k < length xs → ys ≡ map f (take k (zip is xs)) ++ drop k xs
     → i ≡ get_or is k i → x ≡ get_or ys k x → slice_set ys k (f (i, x)) ≡ map f (take (k + 1) (zip is xs)) ++ drop (k + 1) xs

@@ -22,10 +22,7 @@ pub fn ids_with_data<A: Allocator>(
 }
 
 /// The sizes of the ids with data.
-pub fn sizes_with_data<A: Allocator>(
-    alloc: A,
-    sizes: &[usize],
-) -> Result<Vec<usize, A>, AllocError>
+pub fn sizes_with_data<A: Allocator>(alloc: A, sizes: &[usize]) -> Result<Vec<usize, A>, AllocError>
     ensures { IfOk result (λ found. found.items ≡ filter (λ s. nat_lt 0 s) sizes.now) }
 {
     sizes

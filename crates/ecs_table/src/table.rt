@@ -230,12 +230,7 @@ fn copy_values<A: Allocator>(columns: &mut Block<A>, ids: &[Id], source: &Table<
 }
 
 /// Overwrites a value, if there is one of its size to take its place.
-fn copy_value<A: Allocator>(
-    columns: &mut Block<A>,
-    column: usize,
-    row: usize,
-    value: Option<&[u8]>,
-)
+fn copy_value<A: Allocator>(columns: &mut Block<A>, column: usize, row: usize, value: Option<&[u8]>)
     requires column { column < length columns.old.columns }
     requires row { row < columns.old.len }
     ensures { columns.new ≡ record columns.old { columns = slice_set columns.old.columns column (replaced row (option_copied value.entry) (column_at columns.old column)) } }

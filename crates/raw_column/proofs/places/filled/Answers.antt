@@ -37,9 +37,10 @@ pub zeros-filling-requires-clause-place : goal.zeros-filling-requires-clause-pla
 zeros-filling-requires-clause-place g c =
     let k = c.loop-column.column in let ss = c.args.sizes.now in let lt : k < length ss = omega arith in let kept = take (c.offset_of-end.result - c.offset_of-start.result) (drop c.offset_of-start.result c.args.old.now) in
     let upto = filled_upto c.args.len c.args.from c.args.to c.requires.rows.0 c.requires.rows.1 ss c.args.old.now c.requires.old.0 k lt in
-    let items : length c.loop-column.filling.items ≡ place_of c.args.to ss k 0 = ap length c.loop-column.invariant.items ∙ upto in
-    (c.requires.place.0 ∙ sym c.loop-column.invariant.same ∙ sym c.append.ensures.0,
-    omega (arith, c.offset_of-begun.ensures.value, ap length c.append.ensures.1, length-append c.loop-column.filling.items kept))
+    let items : length c.loop-column.filling.items ≡ place_of c.args.to ss k 0 = ap length c.loop-column.invariant.items ∙ upto in (
+      c.requires.place.0 ∙ sym c.loop-column.invariant.same ∙ sym c.append.ensures.0,
+      omega (arith, c.offset_of-begun.ensures.value, ap length c.append.ensures.1, length-append c.loop-column.filling.items kept),
+    )
 
 pub zeros-filling-requires-clause-room : goal.zeros-filling-requires-clause-room
 zeros-filling-requires-clause-room g c =

@@ -33,6 +33,7 @@ loop-column-preserved g c =
     ap (columns_in at ss) (c.fill_gap.ensures ∙ (λ i. written bs (c.offset_of-to.ensures.value i) (c.offset_of-from.ensures.value i) (c.size-size.ensures.size i)))
     ∙ columns_filled at ss bs k row last d lt c.requires.row.0 c.requires.row.1 all in
     new ∙ map_over_more (gap_filled row last) first cols k v within2 c.loop-column.invariant (get_or_default cols k d v within)
+
 pub returns : goal.returns
 returns g c =
     let k = c.loop-column.column in let ss = c.args.sizes.now in let first = columns_in c.args.capacity ss c.args.bytes.now in
