@@ -13,7 +13,7 @@ use entity_index::{EntityIndex, Live};
 use raw_column::Memory;
 use std::alloc::{Allocator, Global};
 use std::marker::Model;
-use table_store::TableStore;
+use table_store::{SizedId, TableStore};
 
 /// Where the row of an entity stands, whether the entity holds an id that was looked for, and how many ids it holds.
 #[derive(Clone, Copy)]
@@ -57,7 +57,7 @@ impl<A: Allocator + Copy> Archetypes<A> {
     }
 
     /// Puts a live entity that stands nowhere yet into the table of these ids, with zeros as their values.
-    pub fn settle(&mut self, entity: EntityId, ids: &[(Id, usize)]) -> Result<(), Memory>
+    pub fn settle(&mut self, entity: EntityId, ids: &[SizedId]) -> Result<(), Memory>
         requires alive { IsTrue (lives self.old entity) }
         requires unsettled { cells_at self.old entity.index ≡ None }
         requires ascend { IsMap id_cmp ids.now }
@@ -74,7 +74,7 @@ impl<A: Allocator + Copy> Archetypes<A> {
     }
 
     /// Makes an entity in the table of these ids, with zeros as their values. The caller has seen that an index is left.
-    pub fn create(&mut self, ids: &[(Id, usize)]) -> Result<EntityId, Memory>
+    pub fn create(&mut self, ids: &[SizedId]) -> Result<EntityId, Memory>
         requires left { IsSome (upcoming self.old) }
         requires ascend { IsMap id_cmp ids.now }
         requires small { IsTrue (list_all (λ c. nat_le c.1 64) ids.now) }

@@ -15,6 +15,7 @@ use ecs_model::faults::{CommandError, Refusal};
 use ecs_schema::Schema;
 use name_index::{BindError, NameIndex};
 use std::alloc::Allocator;
+use table_store::SizedId;
 
 impl<A: Allocator + Copy> World<A> {
     /// Makes an entity without a name and without facts.
@@ -85,7 +86,7 @@ impl<A: Allocator + Copy> World<A> {
             return Err(CommandError::Memory);
         }
         let component = Id::plain(COMPONENT);
-        if self.archetypes.create(&[(component, 0)]).is_err() {
+        if self.archetypes.create(&[SizedId::tag(component)]).is_err() {
             self.schemas.remove(&entity.index);
             self.names.unbind(entity);
             return Err(CommandError::Memory);

@@ -14,6 +14,7 @@ use name_index::NameIndex;
 use raw_column::Memory;
 use std::alloc::Allocator;
 use std::hash::RandomState;
+use table_store::SizedId;
 
 /// In order of index, from 1 on.
 const NAMES: [&str; 22] = [
@@ -86,13 +87,13 @@ fn settle<A: Allocator + Copy>(archetypes: &mut Archetypes<A>, settled: u32) -> 
     requires before { IsSettled archetypes.old settled }
     ensures { OnOk result (IsSettled archetypes.new (settled + 1)) }
 {
-    let exclusive = (Id::plain(EXCLUSIVE), 0);
-    let acyclic = (Id::plain(ACYCLIC), 0);
-    let traversable = (Id::plain(TRAVERSABLE), 0);
-    let pair_is_tag = (Id::plain(PAIR_IS_TAG), 0);
+    let exclusive = SizedId::tag(Id::plain(EXCLUSIVE));
+    let acyclic = SizedId::tag(Id::plain(ACYCLIC));
+    let traversable = SizedId::tag(Id::plain(TRAVERSABLE));
+    let pair_is_tag = SizedId::tag(Id::plain(PAIR_IS_TAG));
     match settled + 1 {
         CHILD_OF => {
-            let deletes_with_target = (Id::pair(ON_DELETE_TARGET, DELETE), 0);
+            let deletes_with_target = SizedId::tag(Id::pair(ON_DELETE_TARGET, DELETE));
             let ids = [
                 exclusive,
                 acyclic,
@@ -103,13 +104,21 @@ fn settle<A: Allocator + Copy>(archetypes: &mut Archetypes<A>, settled: u32) -> 
             put(archetypes, settled, &ids)
         }
         IS_A => {
-            let transitive = (Id::plain(TRANSITIVE), 0);
-            let reflexive = (Id::plain(REFLEXIVE), 0);
+            let transitive = SizedId::tag(Id::plain(TRANSITIVE));
+            let reflexive = SizedId::tag(Id::plain(REFLEXIVE));
             let ids = [transitive, reflexive, acyclic, traversable, pair_is_tag];
             put(archetypes, settled, &ids)
         }
-        TRANSITIVE => put(archetypes, settled, &[(Id::pair(WITH, TRAVERSABLE), 0)]),
-        TRAVERSABLE => put(archetypes, settled, &[(Id::pair(WITH, ACYCLIC), 0)]),
+        TRANSITIVE => put(
+            archetypes,
+            settled,
+            &[SizedId::tag(Id::pair(WITH, TRAVERSABLE))],
+        ),
+        TRAVERSABLE => put(
+            archetypes,
+            settled,
+            &[SizedId::tag(Id::pair(WITH, ACYCLIC))],
+        ),
         WITH => put(archetypes, settled, &[pair_is_tag]),
         ON_DELETE | ON_DELETE_TARGET | ON_INSTANTIATE => {
             put(archetypes, settled, &[exclusive, pair_is_tag])
@@ -122,7 +131,7 @@ fn settle<A: Allocator + Copy>(archetypes: &mut Archetypes<A>, settled: u32) -> 
 fn put<A: Allocator + Copy>(
     archetypes: &mut Archetypes<A>,
     settled: u32,
-    ids: &[(Id, usize)],
+    ids: &[SizedId],
 ) -> Result<(), Memory>
     requires few { settled < 22 }
     requires before { IsSettled archetypes.old settled }

@@ -18,12 +18,12 @@ use ecs_table::Table;
 use entity_index::EntityIndex;
 use raw_column::Memory;
 use std::alloc::Allocator;
-use table_store::TableStore;
+use table_store::{SizedId, TableStore};
 
 /// The table of these ids, with room for a row.
 pub fn table_for<A: Allocator + Copy>(
     tables: &mut TableStore<A>,
-    ids: &[(Id, usize)],
+    ids: &[SizedId],
 ) -> Result<TableKey, Memory>
     requires ascend { IsMap id_cmp ids.now }
     requires small { IsTrue (list_all (λ c. nat_le c.1 64) ids.now) }

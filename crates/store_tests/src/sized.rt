@@ -5,7 +5,7 @@ ghost use Rattle.store_tests.specs.Sizes.{IsSized, bytes_of};
 use ecs_id::{Id, TableKey};
 use raw_column::Memory;
 use std::alloc::Allocator;
-use table_store::TableStore;
+use table_store::{SizedId, TableStore};
 
 /// A store in which values of the plain id 64 have 4 bytes, and all other ids are tags.
 #[derive(Drop)]
@@ -39,7 +39,7 @@ impl<A: Allocator + Copy> Sized<A> {
     /// The table of two ids, by their list.
     pub fn pair(&mut self) -> Result<TableKey, Memory> {
         let (position, tag) = (Id::plain(64), Id::plain(100));
-        self.store.find_or_make(&[(position, 4), (tag, 0)])
+        self.store.find_or_make(&[SizedId::new(position, 4), SizedId::tag(tag)])
     }
 
     /// The table with an id more. Of a key that is gone it answers Memory, which no test expects there.

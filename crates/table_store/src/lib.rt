@@ -5,7 +5,7 @@
 //! let mut store = TableStore::new(rt.alloc());
 //!
 //! // a table by its ids, each with how many bytes its value has, and its neighbour with a tag more
-//! let moving = store.find_or_make(&[(position, 8)])?;
+//! let moving = store.find_or_make(&[SizedId::new(position, 8)])?;
 //! let still = store.with(moving, frozen, 0)?;
 //!
 //! // a row with its value, and its move along the edge
@@ -28,6 +28,8 @@
 
 mod edges;
 mod shape;
+mod sized;
 mod store;
 
+pub use sized::SizedId;
 pub use store::TableStore;

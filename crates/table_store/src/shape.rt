@@ -7,6 +7,7 @@ ghost use Rattle.ecs_id.specs.Id.{id_cmp};
 ghost use Rattle.table_store.specs.Kept.{stepped};
 ghost use Rattle.table_store.specs.Store.{with_id, without_id};
 
+use crate::sized::SizedId;
 use ecs_id::Id;
 use std::alloc::{AllocError, Allocator};
 
@@ -17,7 +18,7 @@ pub fn next_shape<A: Allocator + Copy>(
     sizes: &[usize],
     id: Id,
     added: Option<usize>,
-) -> Result<Vec<(Id, usize), A>, AllocError>
+) -> Result<Vec<SizedId, A>, AllocError>
     requires { IsTrue (is_sorted id_cmp (zip ids.now sizes.now)) }
     ensures { IfOk result (λ cells. cells.items ≡ stepped (zip ids.now sizes.now) id added) }
 {
@@ -33,28 +34,29 @@ fn paired<A: Allocator>(
     alloc: A,
     ids: &[Id],
     sizes: &[usize],
-) -> Result<Vec<(Id, usize), A>, AllocError>
+) -> Result<Vec<SizedId, A>, AllocError>
     ensures { IfOk result (λ cells. cells.items ≡ zip ids.now sizes.now) }
 {
     ids.iter()
         .copied()
         .zip(sizes.iter().copied())
+        .map(|(id, size)| SizedId::new(id, size))
         .collect(alloc)
 }
 
 // The shape with one id more.
 fn shape_with<A: Allocator + Copy>(
     alloc: A,
-    shape: &[(Id, usize)],
+    shape: &[SizedId],
     id: Id,
     size: usize,
-) -> Result<Vec<(Id, usize), A>, AllocError>
+) -> Result<Vec<SizedId, A>, AllocError>
     requires { IsTrue (is_sorted id_cmp shape.now) }
     ensures { IfOk result (λ cells. cells.items ≡ with_id shape.now id size) }
 {
     let above = ids_above(alloc, shape, id)?;
     let mut cells = ids_below(alloc, shape, id)?;
-    cells.push((id, size))?;
+    cells.push(SizedId::new(id, size))?;
     cells.extend_from_slice(above.as_slice())?;
     Ok(cells)
 }
@@ -62,58 +64,58 @@ fn shape_with<A: Allocator + Copy>(
 // The part of a shape whose ids are below this one.
 fn ids_below<A: Allocator>(
     alloc: A,
-    shape: &[(Id, usize)],
+    shape: &[SizedId],
     id: Id,
-) -> Result<Vec<(Id, usize), A>, AllocError>
+) -> Result<Vec<SizedId, A>, AllocError>
     ensures { IfOk result (λ cells. cells.items ≡ filter (λ c. is_lt (id_cmp c.0 id)) shape.now) }
 {
     shape
         .iter()
         .copied()
-        .filter(|cell| cell.0 < id)
+        .filter(|cell| cell.id() < id)
         .collect(alloc)
 }
 
 // The part of a shape whose ids are above this one.
 fn ids_above<A: Allocator>(
     alloc: A,
-    shape: &[(Id, usize)],
+    shape: &[SizedId],
     id: Id,
-) -> Result<Vec<(Id, usize), A>, AllocError>
+) -> Result<Vec<SizedId, A>, AllocError>
     ensures { IfOk result (λ cells. cells.items ≡ filter (λ c. is_lt (id_cmp id c.0)) shape.now) }
 {
     shape
         .iter()
         .copied()
-        .filter(|cell| id < cell.0)
+        .filter(|cell| id < cell.id())
         .collect(alloc)
 }
 
 // The shape with one id less.
 fn shape_without<A: Allocator>(
     alloc: A,
-    shape: &[(Id, usize)],
+    shape: &[SizedId],
     id: Id,
-) -> Result<Vec<(Id, usize), A>, AllocError>
+) -> Result<Vec<SizedId, A>, AllocError>
     ensures { IfOk result (λ cells. cells.items ≡ without_id shape.now id) }
 {
     shape
         .iter()
         .copied()
-        .filter(|cell| cell.0 != id)
+        .filter(|cell| cell.id() != id)
         .collect(alloc)
 }
 
 /// The ids of a shape.
-pub fn ids_of<A: Allocator>(alloc: A, shape: &[(Id, usize)]) -> Result<Vec<Id, A>, AllocError>
+pub fn ids_of<A: Allocator>(alloc: A, shape: &[SizedId]) -> Result<Vec<Id, A>, AllocError>
     ensures { IfOk result (λ ids. ids.items ≡ map (λ c. c.0) shape.now) }
 {
-    shape.iter().map(|cell| cell.0).collect(alloc)
+    shape.iter().map(|cell| cell.id()).collect(alloc)
 }
 
 /// The sizes of a shape.
-pub fn sizes_of<A: Allocator>(alloc: A, shape: &[(Id, usize)]) -> Result<Vec<usize, A>, AllocError>
+pub fn sizes_of<A: Allocator>(alloc: A, shape: &[SizedId]) -> Result<Vec<usize, A>, AllocError>
     ensures { IfOk result (λ sizes. sizes.items ≡ map (λ c. c.1) shape.now) }
 {
-    shape.iter().map(|cell| cell.1).collect(alloc)
+    shape.iter().map(|cell| cell.size()).collect(alloc)
 }

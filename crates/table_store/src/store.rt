@@ -16,6 +16,7 @@ ghost use Rattle.table_store.specs.Rows.{IsStored, Row, filler, moved_rows, remo
 
 use crate::edges::Edges;
 use crate::shape::{ids_of, next_shape, sizes_of};
+use crate::sized::SizedId;
 use ecs_id::{EntityId, Id, TableKey};
 use ecs_table::Table;
 use raw_column::Memory;
@@ -87,7 +88,7 @@ impl<A: Allocator + Copy> TableStore<A> {
     /// The table of these ids, which is made where there is none. Beside each id stands how many bytes its value has, 0 to 64: 0 for a tag.
     ///
     /// A serial is never given twice: past the greatest `u128`, and past 4,294,967,295 slots, it answers `Memory`.
-    pub fn find_or_make(&mut self, cells: &[(Id, usize)]) -> Result<TableKey, Memory>
+    pub fn find_or_make(&mut self, cells: &[SizedId]) -> Result<TableKey, Memory>
         requires ascend { IsTrue (is_sorted id_cmp cells.now) }
         requires small { (j : ℕ) → IfSome (slice_get cells.now j) (λ c. c.1 ≤ 64) }
         requires sizes { (j : ℕ) → IfSome (slice_get cells.now j) (λ c. HasSize self.old c.0 c.1) }
@@ -104,7 +105,7 @@ impl<A: Allocator + Copy> TableStore<A> {
 
     // `find_or_make`, whose clauses stand in `IsMade`.
     #[tactic(none)]
-    fn find_or_put(&mut self, cells: &[(Id, usize)]) -> Result<TableKey, Memory>
+    fn find_or_put(&mut self, cells: &[SizedId]) -> Result<TableKey, Memory>
         requires ascend { IsTrue (is_sorted id_cmp cells.now) }
         requires small { (j : ℕ) → IfSome (slice_get cells.now j) (λ c. c.1 ≤ 64) }
         requires sizes { (j : ℕ) → IfSome (slice_get cells.now j) (λ c. HasSize self.old c.0 c.1) }
@@ -121,7 +122,7 @@ impl<A: Allocator + Copy> TableStore<A> {
 
     // The table of ids that no table has.
     #[tactic(none)]
-    fn make(&mut self, ids: Vec<Id, A>, cells: &[(Id, usize)]) -> Result<TableKey, Memory>
+    fn make(&mut self, ids: Vec<Id, A>, cells: &[SizedId]) -> Result<TableKey, Memory>
         requires ascend { IsTrue (is_sorted id_cmp cells.now) }
         requires small { (j : ℕ) → IfSome (slice_get cells.now j) (λ c. c.1 ≤ 64) }
         requires sizes { (j : ℕ) → IfSome (slice_get cells.now j) (λ c. HasSize self.old c.0 c.1) }
@@ -293,7 +294,7 @@ fn prepare<A: Allocator + Copy>(
     by_serial: &mut BySerial<A>,
     key: TableKey,
     ids: Vec<Id, A>,
-    cells: &[(Id, usize)],
+    cells: &[SizedId],
 ) -> Result<Box<Slot<A>, A>, Memory>
     requires ids { ids.items ≡ map (λ c. c.0) cells.now }
     requires small { (j : ℕ) → IfSome (slice_get cells.now j) (λ c. c.1 ≤ 64) }
@@ -319,7 +320,7 @@ fn new_slot<A: Allocator + Copy>(
     alloc: A,
     serial: u128,
     ids: &[Id],
-    cells: &[(Id, usize)],
+    cells: &[SizedId],
 ) -> Result<Box<Slot<A>, A>, Memory>
     requires ids { ids.now ≡ map (λ c. c.0) cells.now }
     requires small { (j : ℕ) → IfSome (slice_get cells.now j) (λ c. c.1 ≤ 64) }

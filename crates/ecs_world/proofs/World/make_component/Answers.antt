@@ -62,11 +62,11 @@ pub create-requires-clause-ascend : goal.create-requires-clause-ascend
 create-requires-clause-ascend g c = refl
 
 pub create-requires-clause-small : goal.create-requires-clause-small
-create-requires-clause-small g c = refl
+create-requires-clause-small g c = rw (c.tag.ensures) refl
 
 pub create-requires-clause-agree : goal.create-requires-clause-agree
 create-requires-clause-agree g c =
-    rw (c.plain-component.ensures) (component_agrees c.self.invariant c.self.view_is)
+    rw (c.tag.ensures, c.plain-component.ensures) (component_agrees c.self.invariant c.self.view_is)
 
 pub invariant_of-self-then-is_err-2 : goal.invariant_of-self-then-is_err-2
 invariant_of-self-then-is_err-2 g c =
@@ -74,7 +74,7 @@ invariant_of-self-then-is_err-2 g c =
     let next = next_of c.self.invariant c.self.view_is c.unwrap-entity.result (sym c.upcoming.ensures ∙ c.unwrap-entity.ensures) in
     let inserted = on_ok c.insert.result c.insert.ensures.entries (sym c.is_err.ensures.value ∙ c.if-is_err.false) in
     (kept c.self.invariant c.self.view_is c.create.new.self c.unbind-then-is_err-2.new.self c.remove.new.self.entries
-    (failed c.self.invariant c.self.view_is ((plain component, 0) ∷ []) (component_fits c.self.invariant c.self.view_is) c.create.new.self c.create.ensures.whole (on_err c.create.result c.create.ensures.err (sym c.is_err-2.ensures.value ∙ c.if-is_err-2.true)) (rw (c.plain-component.ensures) at c.create.ensures.sizes))
+    (failed c.self.invariant c.self.view_is ((plain component, 0) ∷ []) (component_fits c.self.invariant c.self.view_is) c.create.new.self c.create.ensures.whole (on_err c.create.result c.create.ensures.err (sym c.is_err-2.ensures.value ∙ c.if-is_err-2.true)) (rw (c.tag.ensures, c.plain-component.ensures) at c.create.ensures.sizes))
     (freed w.names c.bind.new.names c.unbind-then-is_err-2.new.self c.args.name.now c.unwrap-entity.result c.in_ok-bind.ensures.free.1 c.in_ok-bind.ensures.bound c.unbind-then-is_err-2.ensures.named)
     (rw (c.remove.ensures.entries, inserted) (removed_again w.schemas.entries c.unwrap-entity.result.index c.args.schema (next_plain c.self.invariant c.self.view_is c.unwrap-entity.result next)))).0
 
@@ -84,7 +84,7 @@ returns-then-is_err-2 g c =
     let next = next_of c.self.invariant c.self.view_is c.unwrap-entity.result (sym c.upcoming.ensures ∙ c.unwrap-entity.ensures) in
     let inserted = on_ok c.insert.result c.insert.ensures.entries (sym c.is_err.ensures.value ∙ c.if-is_err.false) in
     (kept c.self.invariant c.self.view_is c.create.new.self c.unbind-then-is_err-2.new.self c.remove.new.self.entries
-    (failed c.self.invariant c.self.view_is ((plain component, 0) ∷ []) (component_fits c.self.invariant c.self.view_is) c.create.new.self c.create.ensures.whole (on_err c.create.result c.create.ensures.err (sym c.is_err-2.ensures.value ∙ c.if-is_err-2.true)) (rw (c.plain-component.ensures) at c.create.ensures.sizes))
+    (failed c.self.invariant c.self.view_is ((plain component, 0) ∷ []) (component_fits c.self.invariant c.self.view_is) c.create.new.self c.create.ensures.whole (on_err c.create.result c.create.ensures.err (sym c.is_err-2.ensures.value ∙ c.if-is_err-2.true)) (rw (c.tag.ensures, c.plain-component.ensures) at c.create.ensures.sizes))
     (freed w.names c.bind.new.names c.unbind-then-is_err-2.new.self c.args.name.now c.unwrap-entity.result c.in_ok-bind.ensures.free.1 c.in_ok-bind.ensures.bound c.unbind-then-is_err-2.ensures.named)
     (rw (c.remove.ensures.entries, inserted) (removed_again w.schemas.entries c.unwrap-entity.result.index c.args.schema (next_plain c.self.invariant c.self.view_is c.unwrap-entity.result next)))).1
 
@@ -98,18 +98,18 @@ invariant_of-self-2 g c =
     let w = c.self.inside in
     let next = next_of c.self.invariant c.self.view_is c.unwrap-entity.result (sym c.upcoming.ensures ∙ c.unwrap-entity.ensures) in
     let inserted = on_ok c.insert.result c.insert.ensures.entries (sym c.is_err.ensures.value ∙ c.if-is_err.false) in
-    let born = made_is (upcoming w.archetypes) (λ f. HoldAlike c.create.new.self (with_cells (with_entity w.archetypes f) f.index ((plain component, []) ∷ []))) c.create.result c.unwrap-entity.result c.create.ensures.next (rw (c.plain-component.ensures) at c.create.ensures.born) (sym c.is_err-2.ensures.value ∙ c.if-is_err-2.false) (sym c.upcoming.ensures ∙ c.unwrap-entity.ensures) in
+    let born = made_is (upcoming w.archetypes) (λ f. HoldAlike c.create.new.self (with_cells (with_entity w.archetypes f) f.index ((plain component, []) ∷ []))) c.create.result c.unwrap-entity.result c.create.ensures.next (rw (c.tag.ensures, c.plain-component.ensures) at c.create.ensures.born) (sym c.is_err-2.ensures.value ∙ c.if-is_err-2.false) (sym c.upcoming.ensures ∙ c.unwrap-entity.ensures) in
     (component_left c.self.invariant c.self.view_is c.unwrap-entity.result next c.args.name.now c.args.schema c.fields.ensures.sound (none_component c.self.invariant c.self.view_is c.args.name.now c.args.schema c.in_ok-bind.ensures.free c.requires) c.in_ok-bind.ensures.free.1 c.bind.new.names c.in_ok-bind.ensures.bound c.insert.new.self.entries (inserted ∙ insert_put w.schemas.entries c.unwrap-entity.result.index c.args.schema)
-    c.create.new.self c.create.ensures.whole born (rw (c.plain-component.ensures) at c.create.ensures.sizes)).0
+    c.create.new.self c.create.ensures.whole born (rw (c.tag.ensures, c.plain-component.ensures) at c.create.ensures.sizes)).0
 
 pub returns : goal.returns
 returns g c =
     let w = c.self.inside in
     let next = next_of c.self.invariant c.self.view_is c.unwrap-entity.result (sym c.upcoming.ensures ∙ c.unwrap-entity.ensures) in
     let inserted = on_ok c.insert.result c.insert.ensures.entries (sym c.is_err.ensures.value ∙ c.if-is_err.false) in
-    let born = made_is (upcoming w.archetypes) (λ f. HoldAlike c.create.new.self (with_cells (with_entity w.archetypes f) f.index ((plain component, []) ∷ []))) c.create.result c.unwrap-entity.result c.create.ensures.next (rw (c.plain-component.ensures) at c.create.ensures.born) (sym c.is_err-2.ensures.value ∙ c.if-is_err-2.false) (sym c.upcoming.ensures ∙ c.unwrap-entity.ensures) in
+    let born = made_is (upcoming w.archetypes) (λ f. HoldAlike c.create.new.self (with_cells (with_entity w.archetypes f) f.index ((plain component, []) ∷ []))) c.create.result c.unwrap-entity.result c.create.ensures.next (rw (c.tag.ensures, c.plain-component.ensures) at c.create.ensures.born) (sym c.is_err-2.ensures.value ∙ c.if-is_err-2.false) (sym c.upcoming.ensures ∙ c.unwrap-entity.ensures) in
     let sound : IsWellFormed c.args.self.now = subst IsWellFormed c.self.view_is c.self.invariant.sound in
     told_component c.args.self.now _ c.with_came.result c.args.name.now c.args.schema c.unwrap-entity.result sound next (none_component c.self.invariant c.self.view_is c.args.name.now c.args.schema c.in_ok-bind.ensures.free c.requires)
     (component_left c.self.invariant c.self.view_is c.unwrap-entity.result next c.args.name.now c.args.schema c.fields.ensures.sound (none_component c.self.invariant c.self.view_is c.args.name.now c.args.schema c.in_ok-bind.ensures.free c.requires) c.in_ok-bind.ensures.free.1 c.bind.new.names c.in_ok-bind.ensures.bound c.insert.new.self.entries (inserted ∙ insert_put w.schemas.entries c.unwrap-entity.result.index c.args.schema)
-    c.create.new.self c.create.ensures.whole born (rw (c.plain-component.ensures) at c.create.ensures.sizes)).1
+    c.create.new.self c.create.ensures.whole born (rw (c.tag.ensures, c.plain-component.ensures) at c.create.ensures.sizes)).1
     (c.with_came.ensures ∙ (λ k. record (c.of_birth.ensures k) { came = c.new-key.ensures k ∷ [] }) ∙ (λ k. record (birth c.unwrap-entity.result) { came = (c.unwrap-entity.result.index, c.plain-component.ensures k) ∷ [] }))
