@@ -3,7 +3,7 @@ use ecs_model::faults::CommandError;
 use ecs_schema::{Kind, Schema, SchemaError};
 use ecs_world::World;
 use refusing_alloc::Refusing;
-use std::alloc::Allocator;
+use std::alloc::{Allocator, Global};
 use std::hash::RandomState;
 use std::process::Abort;
 use std::test::Fail;
@@ -64,9 +64,9 @@ fn seen<A: Allocator>(world: &World<A>) -> (bool, bool, usize) {
 }
 
 /// Gives out so many blocks and no more, and tells whether the call was refused. If so, all is as before, and the next try is accepted.
-fn is_refused<B: Allocator>(
+fn is_refused(
     rt: &impl Abort,
-    heap: &Refusing<B>,
+    heap: &Refusing<Global>,
     random: RandomState,
     call: Call,
     allowed: u64,
@@ -94,15 +94,18 @@ fn is_refused<B: Allocator>(
 /// Refuses each growth of a call in turn. There is at least one.
 fn refuse_each(
     rt: &impl Abort,
-    heap: &Refusing<impl Allocator>,
+    heap: &Refusing<Global>,
     random: RandomState,
     call: Call,
 ) -> Result<(), Fail> {
-    let mut allowed = 0u64;
-    while allowed < 64 && is_refused(rt, heap, random, call, allowed)? {
-        allowed += 1;
+    let mut refusals = 0;
+    for allowed in 0..64u64 {
+        if !is_refused(rt, heap, random, call, allowed)? {
+            break;
+        }
+        refusals = allowed + 1;
     }
-    assert!(rt; 0 < allowed && allowed < 64);
+    assert!(rt; 0 < refusals && refusals < 64);
     Ok(())
 }
 
