@@ -8,9 +8,9 @@ ghost use Rattle.plain_query.specs.Check.{AnswersCheck, AnswersIds, NamesId, les
 use ecs_id::Id;
 use ecs_model::faults::{Fault, FaultKind, QueryFault};
 use ecs_world::World;
+use std::alloc::Allocator;
 use word_lexer::lex;
 use word_parser::{Part, parse};
-use std::alloc::Allocator;
 
 /// How many terms a query may have.
 const MOST_TERMS: usize = 32;

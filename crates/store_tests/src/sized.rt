@@ -39,7 +39,8 @@ impl<A: Allocator + Copy> Sized<A> {
     /// The table of two ids, by their list.
     pub fn pair(&mut self) -> Result<TableKey, Memory> {
         let (position, tag) = (Id::plain(64), Id::plain(100));
-        self.store.find_or_make(&[SizedId::new(position, 4), SizedId::tag(tag)])
+        self.store
+            .find_or_make(&[SizedId::new(position, 4), SizedId::tag(tag)])
     }
 
     /// The table with an id more. Of a key that is gone it answers Memory, which no test expects there.

@@ -12,8 +12,8 @@ ghost use Rattle.word_parser.specs.Parsed.{item_of, seen_part};
 
 use ecs_model::faults::{Fault, FaultKind, QueryFault};
 use ecs_model::{Mark, Span};
-use word_lexer::{Token, TokenKind};
 use std::alloc::{Allocator, Global};
+use word_lexer::{Token, TokenKind};
 
 /// A reference to an entity, and where it stands: a word.
 #[derive(Clone, Copy, Debug, PartialEq, Eq)]
