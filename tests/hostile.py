@@ -1,7 +1,7 @@
 #!/usr/bin/env python3
 """hostile.py names|others COUNT, hostile.py walk STEPS ENTITIES: scripts on standard output that try to wear the program out.
 
-The names are those of an enemy who knows the hash function of std's maps and the state that they begin with where nobody gives another
+The names are those of an enemy who knows the hash function of std's maps and the state that they begin with where nobody gives
 another: a number is multiplied by another, and the two halves of the product are folded into one by exclusive or. The text is
 taken 16 bytes at a time, and the last 16 bytes at the end, whatever was taken before.
 """
