@@ -23,3 +23,4 @@ pub mod LeastSets
 pub mod Reaching
 pub mod Closing
 pub mod Decided
+pub mod traits

@@ -28,3 +28,4 @@ pub mod Cycles
 pub mod Falls
 pub mod Added
 pub mod ReachLaws
+pub mod traits

@@ -1,0 +1,2 @@
+-- What is proved of commands with traits.
+mod Computed
