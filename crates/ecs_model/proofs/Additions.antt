@@ -38,7 +38,7 @@ none_held e (x ∷ xs) h =
     by false p q rest = rest
 
 -- what no key passes, a key that is there does not pass
-none_passes : {X : Type 0} (test : ℕ → Bool) (m : Map ℕ X) (k : ℕ) → has_key nat_cmp m k ≡ true → list_any test (keys m) ≡ false → test k ≡ false
+pub none_passes : {X : Type 0} (test : ℕ → Bool) (m : Map ℕ X) (k : ℕ) → has_key nat_cmp m k ≡ true → list_any test (keys m) ≡ false → test k ≡ false
 none_passes test [] k h g = absurd (true≢false (sym h))
 none_passes test (x ∷ xs) k h g =
     let parts = neither (test x.0) (list_any test (keys xs)) g in by (eq_by_cmp nat_cmp k x.0) refl h parts.0 (λ f. none_passes test xs k f parts.1)

@@ -34,7 +34,7 @@ own_keys (e ∷ es) = λ i. first i && all_more (has_key nat_cmp es) (has_key na
     first : has_key nat_cmp (e ∷ es) e.0 ≡ true
     first = ap (λ b. is_some (cond b (Some e.1) (value_at nat_cmp es e.0))) (eq_itself nat_cmp nat_cmp_total e.0)
 
-none_found : (test : ℕ → Bool) (xs : List ℕ) → list_all test xs ≡ true → find (λ x. not (test x)) xs ≡ None
+pub none_found : (test : ℕ → Bool) (xs : List ℕ) → list_all test xs ≡ true → find (λ x. not (test x)) xs ≡ None
 none_found test [] h = refl
 none_found test (x ∷ xs) h =
     let parts = both_true (test x) (list_all test xs) h in λ i. cond (not (parts.0 i)) (Some x) (none_found test xs parts.1 i)
@@ -54,10 +54,10 @@ new_found test (e ∷ es) k x h new =
     by Greater p old rest = ap (λ b. cond (not b) (Some e.0) (find (λ j. not (test j)) (keys (with_value nat_cmp es k x)))) old ∙ rest
 
 -- the entity that is live in a world and was not in the one before
-abbrev born : WorldState → WorldState → Option EntityId
+abbrev pub born : WorldState → WorldState → Option EntityId
 born w v = option_map_or (entity_at v) (find (λ i. not (is_live w i)) (entities v)) None
 
-none_born : (w v : WorldState) → v.live ≡ w.live → born w v ≡ None
+pub none_born : (w v : WorldState) → v.live ≡ w.live → born w v ≡ None
 none_born w v same =
     let none : find (λ i. not (is_live w i)) (keys w.live) ≡ None = none_found (is_live w) (keys w.live) (own_keys w.live) in
     ap (λ o. option_map_or (entity_at v) o None) (ap (λ m. find (λ i. not (is_live w i)) (keys m)) same ∙ none)
@@ -74,17 +74,17 @@ one_born w v e fresh same =
           | inr p ↦ absurd (p.0 refl)
         ]
 
-fresh_born : (w : WorldState) (o : Option EntityId) → next_entity w ≡ o → born w (counted (with_born w o)) ≡ o
+pub fresh_born : (w : WorldState) (o : Option EntityId) → next_entity w ≡ o → born w (counted (with_born w o)) ≡ o
 unfolding with_born
 fresh_born w None next = none_born w (counted w) refl
 fresh_born w (Some e) next = one_born w (counted (with_born w (Some e))) e (next_is_free w e next).fresh refl
 
-named_born : (w : WorldState) (n : List ℕ) (o : Option EntityId) → next_entity w ≡ o → born w (counted (with_named w n o)) ≡ o
+pub named_born : (w : WorldState) (n : List ℕ) (o : Option EntityId) → next_entity w ≡ o → born w (counted (with_named w n o)) ≡ o
 unfolding with_named
 named_born w n None next = none_born w (counted w) refl
 named_born w n (Some e) next = one_born w (counted (with_named w n (Some e))) e (next_is_free w e next).fresh refl
 
-component_born : (w : WorldState) (n : List ℕ) (s : Schema) (o : Option EntityId) → next_entity w ≡ o → born w (counted (with_component w n s o)) ≡ o
+pub component_born : (w : WorldState) (n : List ℕ) (s : Schema) (o : Option EntityId) → next_entity w ≡ o → born w (counted (with_component w n s o)) ≡ o
 unfolding with_component
 component_born w n s None next = none_born w (counted w) refl
 component_born w n s (Some e) next = one_born w (counted (with_component w n s (Some e))) e (next_is_free w e next).fresh refl

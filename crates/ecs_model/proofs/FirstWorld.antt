@@ -18,7 +18,7 @@ use Rattle.ecs_model.proofs.Maps.{if_some, some_of, both_true, key_cmp_same}
 use Rattle.ecs_model.proofs.Typing.{IsTyped}
 
 -- what each entry passes, an entry that is found passes
-entries_pass : {K X : Type 0} (R : K → K → Ordering) → ((x y : K) → R x y ≡ Equal → x ≡ y) → (p : K → X → Bool) (m : Map K X)
+pub entries_pass : {K X : Type 0} (R : K → K → Ordering) → ((x y : K) → R x y ≡ Equal → x ≡ y) → (p : K → X → Bool) (m : Map K X)
     → list_all (λ e. p e.0 e.1) m ≡ true → (k : K) (x : X) → value_at R m k ≡ Some x → p k x ≡ true
 entries_pass R same p [] h k x f = cc
 entries_pass R same p (e ∷ es) h k x f =
@@ -70,7 +70,7 @@ few_made {B = B} h (x ∷ xs) = by (h x) (few_made h xs)
     by None rest = omega arith
     by (Some y) rest = omega arith
 
-live_is_built_in : (i : ℕ) → is_live first_world i ≡ true → is_built_in i ≡ true
+pub live_is_built_in : (i : ℕ) → is_live first_world i ≡ true → is_built_in i ≡ true
 unfolding first_world
 live_is_built_in i l = let found = some_of (value_at nat_cmp first_world.live i) l in entries_pass nat_cmp nat_cmp-IsAntisymmetric (λ k g. is_built_in k) first_world.live refl i found.0 found.1
 
@@ -99,7 +99,7 @@ named_by i n found =
 names_differ : (i j : ℕ) (n : List ℕ) → name_of first_world i ≡ Some n → name_of first_world j ≡ Some n → i ≡ j
 names_differ i j n p q = let same : Some i ≡ Some j = sym (named_by i n p) ∙ named_by j n q in cc
 
-facts_live : (e : ℕ) (i : Id) → holds first_world e i ≡ true → (is_live first_world e ≡ true) × (list_all (is_live first_world) (mentioned i) ≡ true)
+pub facts_live : (e : ℕ) (i : Id) → holds first_world e i ≡ true → (is_live first_world e ≡ true) × (list_all (is_live first_world) (mentioned i) ≡ true)
 unfolding first_world
 facts_live e i held =
     let found = some_of (value_of first_world e i) held in

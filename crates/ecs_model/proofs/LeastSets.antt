@@ -73,7 +73,7 @@ module _ {K : Type 0} {R : K → K → Ordering} (o : IsTotalOrder R) (same : (x
     itself_in x = has_key-with_member [] x x ∙ or_left (eq_by_cmp R x x) (has_key R (let none : Set K = [] in none) x) ((eq_by_cmp_equiv o).refl x)
 
     -- all that the rounds give is reached
-    rounds_reach : (n : ℕ) (x y : K) → IsIn (within R next n x) y → Reached next x y
+    pub rounds_reach : (n : ℕ) (x y : K) → IsIn (within R next n x) y → Reached next x y
     unfolding within
     rounds_reach zero x y h = rw (← one_member x y h) itself
     rounds_reach (suc n) x y h =

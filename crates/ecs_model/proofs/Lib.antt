@@ -1,7 +1,7 @@
 pub mod Maps
 pub mod Typing
 pub mod Reasons
-mod RefusalOrder
+pub mod RefusalOrder
 pub mod Additions
 pub mod Births
 pub mod Removals

@@ -14,7 +14,7 @@ use Rattle.ecs_model.specs.World.{WorldState, type_of_id}
 use Rattle.ecs_model.specs.Command.{Fresh, Entity, Component, Add, SetValue, Remove, add_reasons, value_reasons, reasons}
 use Rattle.ecs_model.specs.Laws.{ReasonsAscend, FirstReasonIsLeast}
 
-abbrev numbers : List (Bool × Refusal) → List ℕ
+abbrev pub numbers : List (Bool × Refusal) → List ℕ
 numbers rs = map (λ r. refusal_number r.1) rs
 
 -- the reasons against `set`, by whether its id has fields
@@ -43,7 +43,7 @@ behind n (x ∷ rs) b s zero above within at =
     omega arith
 behind n (x ∷ rs) b s (suc k) above within at = behind n rs b s k above.1 (omega arith) at
 
-least : (rs : List (Bool × Refusal)) → IsStrictlySortedBy nat_cmp (numbers rs) → (r s : Refusal) → first_reason rs ≡ Some r → (k : ℕ) → k < length rs
+pub least : (rs : List (Bool × Refusal)) → IsStrictlySortedBy nat_cmp (numbers rs) → (r s : Refusal) → first_reason rs ≡ Some r → (k : ℕ) → k < length rs
     → slice_index_or rs k (true, s) ≡ (true, s) → refusal_number r ≤ refusal_number s
 unfolding IsStrictlySortedBy
 least [] rise r s first k within at = absurd (omega arith)

@@ -34,7 +34,7 @@ both_longer None xs ys h = h
 both_longer (Some y) xs ys h = omega (arith, h)
 
 -- fewer keys make no more
-fewer : {X Y : Type 0} (f : Key → Option Y) (m : Map Key X) (test : Key → Bool)
+pub fewer : {X Y : Type 0} (f : Key → Option Y) (m : Map Key X) (test : Key → Bool)
     → length (filter_map f (keys (without key_cmp m test))) ≤ length (filter_map f (keys m))
 fewer f [] test = omega arith
 fewer f (x ∷ xs) test = by (test x.0) (fewer f xs test)

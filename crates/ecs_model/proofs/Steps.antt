@@ -96,7 +96,7 @@ component_is_birth w e n s h ok next name unnamed =
       few = λ f. few_ids w e.index h free.fresh f (e.index == f) refl;
     }
 
-fresh_keeps : (w : WorldState) (o : Option EntityId) → IsWellFormed w → next_entity w ≡ o → is_none o ≡ false → is_spent w ≡ false
+pub fresh_keeps : (w : WorldState) (o : Option EntityId) → IsWellFormed w → next_entity w ≡ o → is_none o ≡ false → is_spent w ≡ false
     → IsWellFormed (counted (with_born w o))
 unfolding with_born
 fresh_keeps w None h next some spent = absurd (true≢false some)
@@ -104,7 +104,7 @@ fresh_keeps w (Some e) h next some spent =
     let naming = no_name_is_naming w e.index h (next_is_free w e next).fresh in
     birth_keeps w e.index e.generation w.names w.schemas w.facts h (entity_is_birth w e w.names h next naming) spent
 
-entity_keeps : (w : WorldState) (n : List ℕ) (o : Option EntityId) → IsWellFormed w → next_entity w ≡ o → is_name n ≡ true → is_some (named w n) ≡ false
+pub entity_keeps : (w : WorldState) (n : List ℕ) (o : Option EntityId) → IsWellFormed w → next_entity w ≡ o → is_name n ≡ true → is_some (named w n) ≡ false
     → is_none o ≡ false → is_spent w ≡ false → IsWellFormed (counted (with_named w n o))
 unfolding with_named
 entity_keeps w n None h next name unnamed some spent = absurd (true≢false some)
@@ -112,7 +112,7 @@ entity_keeps w n (Some e) h next name unnamed some spent =
     let names = with_value nat_cmp w.names e.index n in
     birth_keeps w e.index e.generation names w.schemas w.facts h (entity_is_birth w e names h next (name_is_naming w e.index n h name unnamed)) spent
 
-component_keeps : (w : WorldState) (n : List ℕ) (s : Schema) (o : Option EntityId) → IsWellFormed w → schema_fault s ≡ None → next_entity w ≡ o → is_name n ≡ true
+pub component_keeps : (w : WorldState) (n : List ℕ) (s : Schema) (o : Option EntityId) → IsWellFormed w → schema_fault s ≡ None → next_entity w ≡ o → is_name n ≡ true
     → is_some (named w n) ≡ false → is_none o ≡ false → is_spent w ≡ false → IsWellFormed (counted (with_component w n s o))
 unfolding with_component
 component_keeps w n s None h ok next name unnamed some spent = absurd (true≢false some)

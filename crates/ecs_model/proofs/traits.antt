@@ -1,2 +1,6 @@
 -- What is proved of commands with traits.
 mod Computed
+pub mod Facts
+pub mod Fewer
+pub mod Kept
+pub mod Deletions

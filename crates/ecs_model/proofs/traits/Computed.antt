@@ -1,12 +1,11 @@
 -- Checks of single definitions of commands with traits, which the prover computes.
-use Rattle.std.specs.Prelude.{◌≡◌, ℕ, ◌+◌, ◌-◌, ◌^◌, ◌==◌, Bool, true, false, List, [], ◌∷◌, ◌++◌, map, ℤ, Option, Some, None, Result, Ok, Err, refl}
+use Rattle.std.specs.Prelude.{◌≡◌, ℕ, ◌-◌, ◌^◌, ◌==◌, true, false, List, [], ◌∷◌, ◌++◌, map, ℤ, Option, Some, None, Result, Ok, Err, refl}
 use Rattle.std.specs.List.{range_with_len}
-use Rattle.std.specs.Ordering.{nat_cmp}
 use Rattle.ecs_id.specs.declared.EntityId.{EntityId}
-use Rattle.ecs_id.specs.Id.{Id, plain, pair, id_cmp}
+use Rattle.ecs_id.specs.Id.{plain, pair, id_cmp}
 use Rattle.ecs_model.specs.declared.faults.Refusal.{Refusal}
-use Rattle.ecs_model.specs.declared.faults.Refusal.TheVariants.{Dead, BuiltIn, NoData, TraitFixed, InUse, Cycle, TooManyIds, Panic, Full}
-use Rattle.ecs_model.specs.Command.{Changed, differences}
+use Rattle.ecs_model.specs.declared.faults.Refusal.TheVariants.{Dead, BuiltIn, NoData, TraitFixed, InUse, Cycle, TooManyIds, Panic}
+use Rattle.ecs_model.specs.Command.{differences}
 use Rattle.ecs_model.specs.Line.{line_within}
 use Rattle.ecs_model.specs.Links.{line}
 use Rattle.ecs_model.specs.Map.{Map, keys}
@@ -15,7 +14,7 @@ use Rattle.ecs_model.specs.Sets.{has_chain, within}
 use Rattle.ecs_model.specs.World.{WorldState, Key, key_cmp, entities, ids_of}
 use Rattle.ecs_model.specs.traits.Rules.{is_trait, is_passed_over}
 use Rattle.ecs_model.specs.traits.Changes.{added, replaced, facts_after_add, facts_after_remove, deleted, facts_after_delete}
-use Rattle.ecs_model.specs.traits.Command.{Command, Fresh, Add, SetValue, Remove, Delete, without_entities, reasons, effect, step}
+use Rattle.ecs_model.specs.traits.Command.{Command, Add, SetValue, Remove, Delete, without_entities, reasons, effect, step}
 use Rattle.ecs_model.specs.traits.Pins.{most_pins, pin, unpin}
 
 abbrev tags : List Key → Map Key (List ℤ)

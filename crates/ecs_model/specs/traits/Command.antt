@@ -11,7 +11,7 @@ use Rattle.ecs_model.specs.Added.{is_used}
 use Rattle.ecs_model.specs.BuiltIns.{acyclic}
 use Rattle.ecs_model.specs.Command.{Changed, is_spent, is_dead, is_crowded, next_entity, with_facts, counted, with_born, with_named, with_component, name_reasons, birth_reasons, value_reasons, differences}
 use Rattle.ecs_model.specs.Links.{upward}
-use Rattle.ecs_model.specs.Map.{Map, keys, has_key, with_value, without, count_at}
+use Rattle.ecs_model.specs.Map.{keys, has_key, with_value, without, count_at}
 use Rattle.ecs_model.specs.Refusal.{first_reason}
 use Rattle.ecs_model.specs.Schema.{Schema, schema_fault}
 use Rattle.ecs_model.specs.Sets.{Set, has_chain}

@@ -1,9 +1,9 @@
 -- The laws of commands with traits, as statements.
-use Rattle.std.specs.Prelude.{◌≡◌, ◌↔◌, ℕ, ◌≤◌, Bool, true, false, List, ◌∷◌, map, Contains, Option, Some, None, IsTrue, Ok, All}
+use Rattle.std.specs.Prelude.{◌≡◌, ◌↔◌, ℕ, ◌≤◌, true, false, ◌∷◌, map, Contains, Option, Some, None, IsTrue, Ok, All}
 use Rattle.std.specs.List.Sorted.{IsStrictlySortedBy}
 use Rattle.std.specs.Ordering.{nat_cmp}
 use Rattle.ecs_id.specs.declared.EntityId.{EntityId}
-use Rattle.ecs_id.specs.Id.{Id, mentioned, first_of}
+use Rattle.ecs_id.specs.Id.{Id, mentioned}
 use Rattle.ecs_model.specs.declared.faults.Refusal.{Refusal}
 use Rattle.ecs_model.specs.Added.{IsAdded}
 use Rattle.ecs_model.specs.Command.{Changed, next_entity}

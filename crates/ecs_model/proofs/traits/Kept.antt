@@ -1,0 +1,62 @@
+-- A well-formed world but for what traits ask, and what follows of its entities and ids.
+use Rattle.std.proofs.Common.{◌≡◌, ℕ, suc, Bool, true, false, List, [], ◌∷◌, get_or, refl, inl, inr, arith}
+use Rattle.std.specs.List.{All, Contains, list_all}
+use Rattle.std.proofs.lemmas.Bool.Decides.{nat_tests}
+use Rattle.std.proofs.lemmas.List.Elements.{Contains-get_or}
+use Rattle.ecs_id.specs.Id.{Id, IsIndex, mentioned, last_index}
+use Rattle.ecs_model.specs.Keeps as bare
+use Rattle.ecs_model.specs.Links.{AreLinks}
+use Rattle.ecs_model.specs.World.{WorldState, is_built_in, is_live, entities, holds, ids_of}
+use Rattle.ecs_model.specs.traits.Keeps.{KeepsTraits, IsWellFormed}
+use Rattle.ecs_model.specs.traits.Laws.{ZeroIsNothing}
+use Rattle.ecs_model.proofs.Members.{both, head_or_tail}
+use Rattle.ecs_model.proofs.traits.Facts.{listed_live, live_listed, listed_held}
+
+pub but_traits : (w : WorldState) → IsWellFormed w → bare.IsWellFormed w
+but_traits w h = record { in_order = h.in_order; indexes = h.indexes; built_in = h.built_in; live = h.live; typed = h.typed; few_ids = h.few_ids; counted = h.counted }
+
+pub and_traits : (w : WorldState) → bare.IsWellFormed w → KeepsTraits w → IsWellFormed w
+and_traits w h t = record { in_order = h.in_order; indexes = h.indexes; built_in = h.built_in; live = h.live; typed = h.typed; few_ids = h.few_ids; counted = h.counted; traits = t }
+
+-- what all pass, each passes
+pub each_passes : {A : Type 0} (p : A → Bool) (xs : List A) → list_all p xs ≡ true → (x : A) → Contains xs x → p x ≡ true
+each_passes p [] h x c = absurd (omega (arith, c.1))
+each_passes p (y ∷ ys) h x c =
+    let parts = both (p y) (list_all p ys) h in elim (head_or_tail y x ys c) [ inl e ↦ rw (← e) parts.0 | inr t ↦ each_passes p ys parts.1 x t ]
+
+all_are : {A : Type 0} (P : A → Type 0) (xs : List A) → ((x : A) → Contains xs x → P x) → All P xs
+all_are P xs f k d l = f (get_or xs k d) (Contains-get_or xs k d l)
+
+pub refuted : (b : Bool) → (b ≡ true → ⊥) → b ≡ false
+refuted true h = absurd (h refl)
+refuted false h = refl
+
+built_in_bounds : (e : ℕ) → is_built_in e ≡ true → IsIndex e
+built_in_bounds e h = (grind (arith, nat_tests), grind (arith, nat_tests))
+
+module _ (w : WorldState) (h : IsWellFormed w) where
+  -- a live entity has an index that an id can have
+  pub live_index : (e : ℕ) → is_live w e ≡ true → IsIndex e
+  live_index e l = elim ((h.indexes).given_out e l) [ inl b ↦ built_in_bounds e b | inr p ↦ (omega (arith, p.0), p.1) ]
+
+  -- who holds an id is live, and so is all that it mentions
+  pub holder_lives : (e : ℕ) (i : Id) → holds w e i ≡ true → is_live w e ≡ true
+  holder_lives e i p = ((h.live).facts e i p).0
+
+  pub mentioned_lives : (e : ℕ) (i : Id) → holds w e i ≡ true → (x : ℕ) → Contains (mentioned i) x → is_live w x ≡ true
+  mentioned_lives e i p x c = each_passes (is_live w) (mentioned i) ((h.live).facts e i p).1 x c
+
+  -- the live entities and the ids of each fit together
+  pub are_links : AreLinks (suc last_index) (entities w) (ids_of w)
+  are_links = record {
+    indexes = λ e c. live_index e (listed_live w e c);
+    below = λ e c. let i = live_index e (listed_live w e c) in omega (arith, i.1);
+    held = λ e i c. live_listed w e (holder_lives e i (listed_held w e i c));
+    live = λ e i c. all_are (Contains (entities w)) (mentioned i) (λ x m. live_listed w x (mentioned_lives e i (listed_held w e i c) x m));
+  }
+
+pub zero_is_nothing : ZeroIsNothing
+zero_is_nothing w h = (refuted (is_live w 0) none, λ e i p c. elim (head_or_tail e 0 (mentioned i) c) [ inl q ↦ none (rw q at (holder_lives w h e i p)) | inr m ↦ none (mentioned_lives w h e i p 0 m) ])
+  where
+    none : is_live w 0 ≡ true → ⊥
+    none l = let i = live_index w h 0 l in omega (arith, i.0)
