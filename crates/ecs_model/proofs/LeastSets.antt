@@ -141,7 +141,7 @@ module _ {K : Type 0} {R : K → K → Ordering} (o : IsTotalOrder R) (same : (x
     pub within_is_least : (n : ℕ) (live : List K) → length live ≤ suc n → (x : K) → ((y : K) → Reached next x y → Contains live y) → IsLeastFrom R next x (within R next n x)
     within_is_least n live l x all y = (rounds_reach n x y, λ r. enough_rounds n live l x y (by_live live x all r))
 
-nat_same : (x y : ℕ) → eq_by_cmp nat_cmp x y ≡ true → x ≡ y
+pub nat_same : (x y : ℕ) → eq_by_cmp nat_cmp x y ≡ true → x ≡ y
 nat_same x y e = grind (arith, nat_tests)
 
 pub rounds_are_enough : RoundsAreEnough

@@ -120,7 +120,7 @@ component_keeps w n s (Some e) h ok next name unnamed some spent =
     birth_keeps w e.index e.generation (with_value nat_cmp w.names e.index n) (with_value nat_cmp w.schemas e.index s) (with_value key_cmp w.facts (e.index, plain component) []) h
     (component_is_birth w e n s h ok next name unnamed) spent
 
-there : (o : Option ℕ) (g : ℕ) → option_eq ◌==◌ o (Some g) ≡ true → is_some o ≡ true
+pub there : (o : Option ℕ) (g : ℕ) → option_eq ◌==◌ o (Some g) ≡ true → is_some o ≡ true
 there None g h = absurd (true≢false (sym h))
 there (Some x) g h = refl
 

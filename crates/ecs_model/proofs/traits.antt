@@ -4,3 +4,10 @@ pub mod Facts
 pub mod Fewer
 pub mod Kept
 pub mod Deletions
+pub mod FirstTraits
+pub mod NewEntities
+pub mod Deleted
+pub mod Order
+pub mod Born
+pub mod Held
+pub mod Pinned

@@ -19,20 +19,19 @@ use Rattle.ecs_model.specs.traits.Changes.{mentions_gone, facts_after_delete}
 use Rattle.ecs_model.specs.traits.Command.{without_entities}
 use Rattle.ecs_model.specs.traits.Keeps.{IsWellFormed}
 use Rattle.ecs_model.proofs.Additions.{not_spent}
-use Rattle.ecs_model.proofs.FirstWorld.{facts_live, live_is_built_in}
 use Rattle.ecs_model.proofs.Maps.{of_some, if_some, both_true, to_T, from_T, IsMap-with_value, nat_value_at}
 use Rattle.ecs_model.proofs.Reasons.{neither}
 use Rattle.ecs_model.proofs.Removals.{IsMap-without, fewer, value_at-without}
 use Rattle.ecs_model.proofs.Typing.{IsTyped}
 use Rattle.ecs_model.proofs.traits.Facts.{there_key}
 use Rattle.ecs_model.proofs.traits.Fewer.{IsFewer, fewer_keep}
-use Rattle.ecs_model.proofs.traits.Kept.{each_passes, refuted}
+use Rattle.ecs_model.proofs.traits.Kept.{built_in_mentions, none_pass, refuted}
 
 -- maps by number, without some of their numbers
-nat_value_at-without : {X : Type 0} (m : Map ℕ X) (test : ℕ → Bool) (q : ℕ) → value_at nat_cmp (without nat_cmp m test) q ≡ cond (not (test q)) (value_at nat_cmp m q) None
+pub nat_value_at-without : {X : Type 0} (m : Map ℕ X) (test : ℕ → Bool) (q : ℕ) → value_at nat_cmp (without nat_cmp m test) q ≡ cond (not (test q)) (value_at nat_cmp m q) None
 nat_value_at-without m test q = find-where_key nat_cmp (λ k. not (test k)) q (λ x t. ap (λ k. not (test k)) (sym (nat_cmp-IsAntisymmetric q x t))) m
 
-nat_IsMap-without : {X : Type 0} (m : Map ℕ X) (test : ℕ → Bool) → IsMap nat_cmp m → IsMap nat_cmp (without nat_cmp m test)
+pub nat_IsMap-without : {X : Type 0} (m : Map ℕ X) (test : ℕ → Bool) → IsMap nat_cmp m → IsMap nat_cmp (without nat_cmp m test)
 nat_IsMap-without m test h = from_T _ (is_sorted-where_key nat_cmp (λ k. not (test k)) m (to_T _ h))
 
 -- what is left has not gone, and is as it was
@@ -128,14 +127,8 @@ module _ (w : WorldState) (gone : Set ℕ) (h : IsWellFormed w) (may : MayGo w g
     where
       by : (c : Bool) → holds w e i ≡ c → value_of left e i ≡ value_of w e i
       by true held =
-          let first = (facts_live e i (sym (ap is_some ((h.built_in).facts e i b)) ∙ held)).1 in
-          let none : list_any is_gone (mentioned i) ≡ false =
-          all_stay (mentioned i) (λ x c. built_in_stays x (live_is_built_in x (each_passes (is_live first_world) (mentioned i) first x c))) in
+          let none = none_pass is_gone (mentioned i) (λ x c. built_in_stays x (built_in_mentions w h e i b held x c)) in
           fact_stays (e, i) (λ k. built_in_stays e b k || none k)
-        where
-          all_stay : (is : List ℕ) → ((x : ℕ) → Contains is x → is_gone x ≡ false) → list_any is_gone is ≡ false
-          all_stay [] f = refl
-          all_stay (x ∷ xs) f = λ k. f x (0, omega arith, refl) k || all_stay xs (λ y c. f y (Contains-append_right (x ∷ []) xs y c)) k
       by false none = at (e, i) ∙ none_still (mentions_gone w gone (e, i)) (value_of w e i) none
 
   -- an id of those who stay keeps its type

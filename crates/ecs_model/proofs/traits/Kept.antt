@@ -1,14 +1,15 @@
 -- A well-formed world but for what traits ask, and what follows of its entities and ids.
-use Rattle.std.proofs.Common.{◌≡◌, ℕ, suc, Bool, true, false, List, [], ◌∷◌, get_or, refl, inl, inr, arith}
-use Rattle.std.specs.List.{All, Contains, list_all}
+use Rattle.std.proofs.Common.{◌≡◌, ℕ, suc, Bool, true, false, ◌&&◌, ◌||◌, List, [], ◌∷◌, get_or, is_some, refl, sym, ap, ◌∙◌, inl, inr, arith}
+use Rattle.std.specs.List.{All, Contains, list_all, list_any}
 use Rattle.std.proofs.lemmas.Bool.Decides.{nat_tests}
-use Rattle.std.proofs.lemmas.List.Elements.{Contains-get_or}
+use Rattle.std.proofs.lemmas.List.Elements.{Contains-append_right, Contains-get_or}
 use Rattle.ecs_id.specs.Id.{Id, IsIndex, mentioned, last_index}
 use Rattle.ecs_model.specs.Keeps as bare
 use Rattle.ecs_model.specs.Links.{AreLinks}
-use Rattle.ecs_model.specs.World.{WorldState, is_built_in, is_live, entities, holds, ids_of}
+use Rattle.ecs_model.specs.World.{WorldState, first_world, is_built_in, is_live, entities, holds, ids_of}
 use Rattle.ecs_model.specs.traits.Keeps.{KeepsTraits, IsWellFormed}
 use Rattle.ecs_model.specs.traits.Laws.{ZeroIsNothing}
+use Rattle.ecs_model.proofs.FirstWorld.{facts_live, live_is_built_in}
 use Rattle.ecs_model.proofs.Members.{both, head_or_tail}
 use Rattle.ecs_model.proofs.traits.Facts.{listed_live, live_listed, listed_held}
 
@@ -54,6 +55,22 @@ module _ (w : WorldState) (h : IsWellFormed w) where
     held = λ e i c. live_listed w e (holder_lives e i (listed_held w e i c));
     live = λ e i c. all_are (Contains (entities w)) (mentioned i) (λ x m. live_listed w x (mentioned_lives e i (listed_held w e i c) x m));
   }
+
+-- what a built-in entity holds mentions built-in entities alone
+pub built_in_mentions : (w : WorldState) → IsWellFormed w → (e : ℕ) (i : Id) → is_built_in e ≡ true → holds w e i ≡ true → (x : ℕ) → Contains (mentioned i) x → is_built_in x ≡ true
+built_in_mentions w h e i b held x c =
+    let first = facts_live e i (sym (ap is_some ((h.built_in).facts e i b)) ∙ held) in
+    live_is_built_in x (each_passes (is_live first_world) (mentioned i) first.1 x c)
+
+-- a list of which each passes
+pub all_pass : {A : Type 0} (p : A → Bool) (xs : List A) → ((x : A) → Contains xs x → p x ≡ true) → list_all p xs ≡ true
+all_pass p [] f = refl
+all_pass p (x ∷ xs) f = λ k. f x (0, omega arith, refl) k && all_pass p xs (λ y c. f y (Contains-append_right (x ∷ []) xs y c)) k
+
+-- and one of which none does
+pub none_pass : {A : Type 0} (p : A → Bool) (xs : List A) → ((x : A) → Contains xs x → p x ≡ false) → list_any p xs ≡ false
+none_pass p [] f = refl
+none_pass p (x ∷ xs) f = λ k. f x (0, omega arith, refl) k || none_pass p xs (λ y c. f y (Contains-append_right (x ∷ []) xs y c)) k
 
 pub zero_is_nothing : ZeroIsNothing
 zero_is_nothing w h = (refuted (is_live w 0) none, λ e i p c. elim (head_or_tail e 0 (mentioned i) c) [ inl q ↦ none (rw q at (holder_lives w h e i p)) | inr m ↦ none (mentioned_lives w h e i p 0 m) ])
