@@ -11,3 +11,5 @@ pub mod Order
 pub mod Born
 pub mod Held
 pub mod Pinned
+pub mod Steps
+pub mod Differences

@@ -9,6 +9,7 @@ pub mod laws;
 pub mod names;
 pub mod reach_laws;
 pub mod text_laws;
+pub mod trait_laws;
 pub mod values;
 
 pub use names::{is_name, is_name_byte, is_reserved};

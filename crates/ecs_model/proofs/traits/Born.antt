@@ -19,7 +19,7 @@ use Rattle.ecs_model.proofs.traits.Kept.{all_pass}
 use Rattle.ecs_model.proofs.traits.Order.{accepted_step}
 
 -- who is left was live
-none_born_left : (w : WorldState) (gone : Set ℕ) → born w (counted (without_entities w gone)) ≡ None
+pub none_born_left : (w : WorldState) (gone : Set ℕ) → born w (counted (without_entities w gone)) ≡ None
 unfolding without_entities
 none_born_left w gone = ap (λ o. option_map_or (entity_at (counted (without_entities w gone))) o None) (none_found (is_live w) left (all_pass (is_live w) left lived))
   where
@@ -29,7 +29,7 @@ none_born_left w gone = ap (λ o. option_map_or (entity_at (counted (without_ent
     lived : (i : ℕ) → Contains left i → is_live w i ≡ true
     lived i c =
         (was_there (has_key nat_cmp gone i) (value_at nat_cmp (without nat_cmp w.live (has_key nat_cmp gone)) i) (value_at nat_cmp w.live i)
-            (nat_value_at-without w.live (has_key nat_cmp gone) i) (there_key nat_cmp nat_cmp_total (without nat_cmp w.live (has_key nat_cmp gone)) i c)).1
+        (nat_value_at-without w.live (has_key nat_cmp gone) i) (there_key nat_cmp nat_cmp_total (without nat_cmp w.live (has_key nat_cmp gone)) i c)).1
 
 pub born_of_effect : (w : WorldState) (c : Command) (written : List Key) → (differences w (counted (effect w c)) written).born ≡ made_by w c
 unfolding differences effect

@@ -1,0 +1,6 @@
+-- Indexes that are given out are greater.
+use Rattle.ecs_model.proofs.traits.Kept.{zero_is_nothing}
+use Rattle.ecs_model.proofs.trait_laws.index_zero_is_that_of_nothing.Goals as goal
+
+pub returns : goal.returns
+returns c = zero_is_nothing

@@ -1,0 +1,6 @@
+-- A count says nothing but that its entity lives.
+use Rattle.ecs_model.proofs.traits.Pinned.{pins_keep}
+use Rattle.ecs_model.proofs.trait_laws.pins_keep_the_world_well_formed.Goals as goal
+
+pub returns : goal.returns
+returns c = pins_keep
