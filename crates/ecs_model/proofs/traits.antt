@@ -13,3 +13,6 @@ pub mod Held
 pub mod Pinned
 pub mod Steps
 pub mod Differences
+pub mod Adding
+pub mod Replacing
+pub mod KeptByAdd
