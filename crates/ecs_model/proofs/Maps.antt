@@ -8,10 +8,11 @@ use Rattle.std.specs.declared.cmp.Ordering.TheVariants.{Less, Equal, Greater}
 use Rattle.std.specs.Cmp.{IsTotalOrder, nat_cmp_total, Equal-is}
 use Rattle.std.specs.FinMap.{nat_cmp-IsAntisymmetric}
 use Rattle.std.proofs.Common.{refl, sym, ap, subst, ◌∙◌, inl, inr, arith, true≢false}
-use Rattle.std.proofs.lemmas.Cmp.{on_total, then_total, tied_itself}
-use Rattle.ecs_id.specs.Id.{id_cmp, id_cmp_total, id_cmp_same}
+use Rattle.std.proofs.lemmas.Cmp.{tied_itself}
+use Rattle.ecs_id.specs.Id.{id_cmp, id_cmp_same}
 use Rattle.ecs_model.specs.Map.{Map, IsMap, value_at, has_key, with_value, keys}
 use Rattle.ecs_model.specs.World.{Key, key_cmp}
+pub use Rattle.ecs_model.specs.FactOrder.{key_cmp_total}
 
 pub to_T : (b : Bool) → b ≡ true → T b
 to_T b e = subst T (sym e) tt
@@ -51,10 +52,6 @@ behind None xs ys h = h
 behind (Some x) xs ys h = omega arith
 
 -- the order of facts
-pub key_cmp_total : IsTotalOrder key_cmp
-unfolding key_cmp
-key_cmp_total = then_total (on_total (λ (k : Key). k.0) nat_cmp_total) (on_total (λ (k : Key). k.1) id_cmp_total)
-
 pub key_cmp_same : (x y : Key) → key_cmp x y ≡ Equal → x ≡ y
 unfolding key_cmp
 key_cmp_same x y e = by (nat_cmp x.0 y.0) refl e

@@ -3,6 +3,7 @@ pub mod Text
 pub mod Schema
 pub mod Bytes
 pub mod World
+pub mod FactOrder
 pub mod Values
 pub mod Refusal
 pub mod Provisional

@@ -4,6 +4,7 @@
 #![tactic(auto)]
 
 pub mod built_ins;
+pub mod facts;
 pub mod faults;
 pub mod laws;
 pub mod names;
@@ -12,6 +13,7 @@ pub mod text_laws;
 pub mod trait_laws;
 pub mod values;
 
+pub use facts::FactKey;
 pub use names::{is_name, is_name_byte, is_reserved};
 pub use values::Value;
 
