@@ -17,7 +17,7 @@ use Rattle.ecs_model.specs.Added.{displaced, is_exclusive, is_symmetric}
 use Rattle.rel_traits.proofs.Spreading.{is_along, is_back, joined, pair_only}
 
 -- more steps keep a cycle
-wider_cycle : (f g : ℕ → List ℕ) → ((x y : ℕ) → Contains (f x) y → Contains (g x) y) → HasCycle f → HasCycle g
+pub wider_cycle : (f g : ℕ → List ℕ) → ((x y : ℕ) → Contains (f x) y → Contains (g x) y) → HasCycle f → HasCycle g
 wider_cycle f g wider c = (c.0, ((c.1).0, wider c.0 (c.1).0 (c.1).1, go (c.1).2))
   where
     go : {x y : ℕ} → Reached f x y → Reached g x y
@@ -32,7 +32,7 @@ other_number x y e q = absurd (true≢false (sym (grind (arith, nat_tests, q)) �
 
 module _ (ids : ℕ → List Id) where
   -- what is displaced: pairs of the same relationship
-  gone : (x c t : ℕ) (z : Key) → Contains (displaced ids (x, pair c t)) z
+  pub gone : (x c t : ℕ) (z : Key) → Contains (displaced ids (x, pair c t)) z
       → (is_exclusive ids c ≡ true) × ((u : ℕ) × ¬ (u ≡ t) × ((z ≡ (x, pair c u)) ⊎ ((is_symmetric ids c ≡ true) × (z ≡ (u, pair c x)))))
   gone x c t z h = by (is_exclusive ids c) refl h
     where

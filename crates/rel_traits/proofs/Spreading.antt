@@ -1,13 +1,14 @@
 -- The added set: the facts along With, and of the symmetric ones among them the mirrors, along With again.
-use Rattle.std.proofs.Common.{◌≡◌, ◌↔◌, ◌⊎◌, ℕ, ◌<◌, Bool, true, false, cond, List, [], ◌∷◌, ◌++◌, ◌+◌, length, take, get_or, Some, None, refl, sym, ap, inl, inr, arith}
+use Rattle.std.proofs.Common.{◌≡◌, ◌↔◌, ◌⊎◌, ℕ, zero, suc, ◌<◌, Bool, true, false, cond, List, [], ◌∷◌, ◌++◌, ◌+◌, length, take, get_or, Some, None, refl, sym, ap, inl, inr, arith}
 use Rattle.std.specs.Prelude.{map}
 use Rattle.std.specs.List.{All, Contains, filter}
 use Rattle.std.proofs.lemmas.List.{append-nil, map-append, take_more}
 use Rattle.std.proofs.lemmas.List.Elements.{All-contains, Contains-get_or, Contains-append_cases, Contains-append_left, Contains-append_right, Contains-push_cases, filter-append}
-use Rattle.ecs_id.specs.Id.{Id, plain, pair, first_of, second_of}
+use Rattle.ecs_id.specs.Id.{Id, plain, pair, first_of, mentioned, second_of}
 use Rattle.ecs_model.specs.World.{Key}
 use Rattle.ecs_model.specs.Links.{AreLinks, upward}
 use Rattle.ecs_model.specs.Reach.{Reached, itself, onward, IsLeast, IsReachedFrom}
+use Rattle.rel_traits.specs.FactLists.{IsOfLive}
 use Rattle.rel_travel.specs.Growing.{IsGrownBy}
 use Rattle.rel_travel.specs.Finds.{with_find}
 use Rattle.ecs_model.proofs.Members.{filtered}
@@ -211,12 +212,12 @@ pub grown_by_other : (ids : ℕ → List Id) (ks : List Key) (n x : ℕ) (k : Ke
 grown_by_other ids ks n x k old new l e f s g = rw (symmetric_more ids ks n k l, ← e, ← f, s, append-nil (symmetric_of ids (take n ks))) g
 
 -- what With leads to lives
+reached_lives : {n : ℕ} {entities : List ℕ} {ids : ℕ → List Id} → AreLinks n entities ids → {x y : ℕ} → Contains entities x → Reached (upward ids 13) x y → Contains entities y
+reached_lives links h itself = h
+reached_lives links h (onward {y} {z} r m) = upward_lives links 13 y z m
+
 pub lives_along : {n : ℕ} {entities : List ℕ} {ids : ℕ → List Id} → AreLinks n entities ids → (start all : List ℕ) → IsLeast (upward ids 13) start all → All (Contains entities) start → All (Contains entities) all
-lives_along {n} {entities} {ids} links start all least lives k d l = let r = (least (get_or all k d)).0 (Contains-get_or all k d l) in go (All-contains (Contains entities) start r.0 lives r.1) r.2
-  where
-    go : {x y : ℕ} → Contains entities x → Reached (upward ids 13) x y → Contains entities y
-    go h itself = h
-    go h (onward {y} {z} r m) = upward_lives links 13 y z m
+lives_along links start all least lives k d l = let r = (least (get_or all k d)).0 (Contains-get_or all k d l) in reached_lives links (All-contains (Contains _) start r.0 lives r.1) r.2
 
 -- the symmetric ones are among those that were found
 pub symmetric_lives : (P : ℕ → Type 0) (ids : ℕ → List Id) (e : ℕ) (i : Id) (cs start : List ℕ) → IsGrownBy (symmetric_of ids (facts_with ids e i cs)) [] start → All P cs → All P start
@@ -273,3 +274,22 @@ facts_of_two P ids e i cs mid items is a h k d l =
       | inl m ↦ All-contains (λ k. P k.0) mid (get_or items k d) a m
       | inr f ↦ let m = from_map (λ c. (e, with_first c i)) cs (get_or items k d) f in rw (← m.2) h
     ]
+
+-- what is added to live entities is of live entities
+all_two : (P : ℕ → Type 0) (x y : ℕ) → P x → P y → All P (x ∷ y ∷ [])
+all_two P x y p q zero d l = p
+all_two P x y p q (suc zero) d l = q
+all_two P x y p q (suc (suc k)) d l = absurd (omega arith)
+
+pub added_live : {n : ℕ} {entities : List ℕ} {ids : ℕ → List Id} → AreLinks n entities ids → (e : ℕ) (i : Id) → Contains entities e → Contains entities (first_of i) → All (Contains entities) (mentioned i)
+    → (z : Key) → Reached (brought ids) (e, i) z → IsOfLive entities z
+added_live {entities = entities} {ids = ids} links e (plain c) h f m z p =
+    let a = plain_only ids e c p in rw a.2 (h, one_lives (Contains entities) a.0 (a.0 ∷ []) refl (reached_lives links f a.1))
+added_live {entities = entities} {ids = ids} links e (pair r t) h f m z p =
+    elim (pair_only ids e r t p) [
+      | inl (c, q, same) ↦ rw same (h, all_two (Contains entities) c t (reached_lives links f q) target)
+      | inr (c, b, q, s, w, same) ↦ rw same (target, all_two (Contains entities) c e (reached_lives links f (joined q w)) h)
+    ]
+  where
+    target : Contains entities t
+    target = m 1 t (omega arith)

@@ -1,11 +1,11 @@
 -- What a fact that is added does to the steps of a relationship.
-use Rattle.std.specs.Prelude.{Some, ◌≡◌, ◌↔◌, ◌⊎◌, ℕ, true, List, Contains}
+use Rattle.std.specs.Prelude.{Some, ◌≡◌, ◌↔◌, ◌⊎◌, ℕ, true, false, List, Contains}
 use Rattle.ecs_id.specs.Id.{Id, plain, pair, first_of, second_of}
 use Rattle.ecs_model.specs.World.{Key}
 use Rattle.ecs_model.specs.Cycles.{HasCycle}
-use Rattle.ecs_model.specs.Links.{is_held, upward}
+use Rattle.ecs_model.specs.Links.{AreLinks, is_held, upward}
 use Rattle.ecs_model.specs.Reach.{Reached}
-use Rattle.ecs_model.specs.Added.{IsAdded, IsReplaced, is_symmetric}
+use Rattle.ecs_model.specs.Added.{IsAdded, IsReplaced, is_symmetric, is_used}
 use Rattle.ecs_model.specs.BuiltIns.{acyclic, with_trait}
 
 module _ (ids : ℕ → List Id) where
@@ -36,3 +36,28 @@ AddedPairsClose = (ids : ℕ → List Id) (e r t c : ℕ) (next : ℕ → List �
 -- one that does not come gets none
 abbrev pub OthersStayOpen : Type 0
 OthersStayOpen = (ids : ℕ → List Id) (e r t c : ℕ) (next : ℕ → List ℕ) → IsAfter ids (e, pair r t) c next → ¬ (HasCycle (upward ids c)) → ¬ (Reached (upward ids with_trait) r c) → ¬ (HasCycle next)
+
+-- what each entity holds after k is added: what came, and what was there and did not go
+abbrev pub IsAfterAdding : (ℕ → List Id) → Key → (ℕ → List Id) → Type 0
+IsAfterAdding ids k after = (x : ℕ) (i : Id) → Contains (after x) i ↔ (IsAdded ids k (x, i) ⊎ (Contains (ids x) i × ¬ (IsReplaced ids k (x, i))))
+
+-- an acyclic relationship has a cycle
+abbrev pub HasBannedCycle : (ℕ → List Id) → Type 0
+HasBannedCycle ids = (r : ℕ) × (is_held (ids r) (plain acyclic) ≡ true) × HasCycle (upward ids r)
+
+-- what gets the trait Acyclic with k is not in use
+abbrev pub FreshAreAcyclic : List ℕ → (ℕ → List Id) → Key → Type 0
+FreshAreAcyclic entities ids k = (r : ℕ) → IsAdded ids k (r, plain acyclic) → (is_held (ids r) (plain acyclic) ≡ true) ⊎ (is_used ids entities r ≡ false)
+
+-- the answer to whether these close a cycle tells, for each fact of e with which they come, whether an acyclic relationship has a cycle afterwards, where none had one before
+abbrev pub TellsCycles : List ℕ → (ℕ → List Id) → ℕ → List Key → Type 0 → Type 0
+TellsCycles entities ids e ks Closes = (i : Id) (after : ℕ → List Id) → ((z : Key) → Contains ks z ↔ IsAdded ids (e, i) z) → IsAfterAdding ids (e, i) after → FreshAreAcyclic entities ids (e, i) → ¬ (HasBannedCycle ids)
+    → Closes ↔ HasBannedCycle after
+
+-- so does the test of the added facts
+abbrev pub AddedFactsClose : Type 0
+AddedFactsClose = (n : ℕ) (entities : List ℕ) (ids : ℕ → List Id) → AreLinks n entities ids → (e : ℕ) (ks : List Key) → TellsCycles entities ids e ks (ClosesOne ids e ks)
+
+-- no added fact is replaced
+abbrev pub AddedFactsStay : Type 0
+AddedFactsStay = (ids : ℕ → List Id) (k z : Key) → IsAdded ids k z → ¬ (IsReplaced ids k z)

@@ -1,2 +1,3 @@
 pub mod TraitBits
+pub mod FactLists
 pub mod After

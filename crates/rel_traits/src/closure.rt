@@ -1,23 +1,46 @@
 //! Which facts come with an added one.
 ghost use Rattle.std.specs.Prelude.{◌≡◌, ◌++◌, ◌∷◌, ◌≤◌, ◌<◌, [], ℕ, All, Contains, filter, map, OnOk};
-ghost use Rattle.ecs_id.specs.Id.{IsIndex, first_of};
+ghost use Rattle.ecs_id.specs.Id.{IsIndex, first_of, mentioned};
 ghost use Rattle.ecs_model.specs.BuiltIns.{with_trait};
 ghost use Rattle.ecs_model.specs.Links.{upward};
 ghost use Rattle.rel_travel.specs.Growing.{IsGrownBy};
 ghost use Rattle.ecs_model.specs.Reach.{IsLeast};
-ghost use Rattle.ecs_model.specs.Added.{brought, is_symmetric, with_first};
+ghost use Rattle.ecs_model.specs.Added.{IsAdded, brought, is_symmetric, with_first};
+ghost use Rattle.rel_traits.specs.FactLists.{IsListOf, IsOfLive};
 
-use crate::fact::FactKey;
+use crate::fact_lists::put_in_order;
 use ecs_id::Id;
+use ecs_model::FactKey;
 use ecs_model::built_ins::{SYMMETRIC, WITH};
 use rel_travel::{Graph, Scratch, Upward, gather};
 use std::alloc::{AllocError, Allocator};
 
-/// Finds the added set: the fact, and all facts that it brings by With and by Symmetric.
+/// Finds the added set, in order: the fact, and all facts that it brings by With and by Symmetric.
 ///
 /// It changes nothing but its scratch and the list. Memory can be refused only where the list has no room. It takes time in what it
-/// finds.
+/// finds, and to put that in order.
 pub fn closure_add<G: Graph, A: Allocator>(
+    graph: &G,
+    fact: FactKey,
+    scratch: &mut Scratch<A>,
+    added: &mut Vec<FactKey, A>,
+) -> Result<(), AllocError>
+    requires covered { G.size graph.now ≤ scratch.old.size }
+    requires entity { Contains (G.entities graph.now) fact.0 }
+    requires first { Contains (G.entities graph.now) (first_of fact.1) }
+    ensures size { scratch.new.size ≡ scratch.old.size }
+    ensures added { OnOk result (IsListOf (IsAdded (G.ids graph.now) fact) added.new.items) }
+    ensures indexes { OnOk result (All (λ k. IsIndex k.0) added.new.items) }
+    ensures live { All (Contains (G.entities graph.now)) (mentioned fact.1) → OnOk result (All (IsOfLive (G.entities graph.now)) added.new.items) }
+{
+    let _ = graph.size();
+    list_added(graph, fact, scratch, added)?;
+    put_in_order(added);
+    Ok(())
+}
+
+/// The added set in another order.
+fn list_added<G: Graph, A: Allocator>(
     graph: &G,
     fact: FactKey,
     scratch: &mut Scratch<A>,

@@ -1,15 +1,17 @@
 //! Whether added facts would close a cycle.
 ghost use Rattle.std.specs.Prelude.{◌≡◌, ◌↔◌, ◌≤◌, ◌<◌, All, IfSome, IsTrue};
 ghost use Rattle.ecs_id.specs.Id.{second_of};
-ghost use Rattle.rel_traits.specs.After.{ClosesAt, ClosesOne};
+ghost use Rattle.rel_traits.specs.After.{ClosesAt, ClosesOne, TellsCycles};
 
-use crate::fact::FactKey;
 use ecs_id::Id;
+use ecs_model::FactKey;
 use ecs_model::built_ins::ACYCLIC;
 use rel_travel::{Graph, Scratch, would_cycle};
 use std::alloc::Allocator;
 
 /// Whether one of the facts that come with a fact of the entity closes a cycle of a relationship that must have none.
+///
+/// It goes through the ids of the ancestors of a pair's target, for each pair of an acyclic relationship.
 pub fn adds_cycle<G: Graph, A: Allocator>(
     graph: &G,
     entity: u32,
@@ -19,8 +21,11 @@ pub fn adds_cycle<G: Graph, A: Allocator>(
     requires covered { G.size graph.now ≤ scratch.old.size }
     requires entity { entity < scratch.old.size }
     requires targets { All (λ k. IfSome (second_of k.1) (λ t. t < scratch.old.size)) added.now }
-    ensures { IsTrue result ↔ ClosesOne (G.ids graph.now) entity added.now }
+    ensures size { scratch.new.size ≡ scratch.old.size }
+    ensures closes { IsTrue result ↔ ClosesOne (G.ids graph.now) entity added.now }
+    ensures cycles { TellsCycles (G.entities graph.now) (G.ids graph.now) entity added.now (IsTrue result) }
 {
+    let _ = graph.size();
     for fact in added {
         if closes(graph, entity, *fact, scratch) {
             return true;

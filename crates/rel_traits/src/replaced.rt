@@ -1,33 +1,36 @@
-//! Which facts go with an added or a removed one.
-ghost use Rattle.std.specs.Prelude.{◌≡◌, ◌++◌, [], ◌∷◌, All, flat_map, OnOk};
-ghost use Rattle.std.specs.List.{cons_option};
+//! Which facts go with an added one.
+ghost use Rattle.std.specs.Prelude.{◌≡◌, ◌++◌, [], ◌∷◌, All, IsTrue, flat_map, OnOk};
 ghost use Rattle.ecs_id.specs.Id.{IsIndex};
-ghost use Rattle.ecs_model.specs.Added.{displaced, mirror, others_of};
+ghost use Rattle.ecs_model.specs.Added.{displaced, others_of};
+ghost use Rattle.rel_traits.specs.FactLists.{GivesWay, IsListOf, is_fact};
 
-use crate::fact::FactKey;
+use crate::fact_lists::{keep_held, put_in_order};
 use ecs_id::Id;
+use ecs_model::FactKey;
 use ecs_model::built_ins::{EXCLUSIVE, SYMMETRIC};
 use rel_travel::{Graph, target_under};
 use std::alloc::{AllocError, Allocator};
 
-/// The mirror of a removed fact, which goes with it.
-pub fn closure_remove<G: Graph>(graph: &G, fact: FactKey) -> Option<FactKey>
-    requires { IsIndex fact.0 }
-    ensures { cons_option result [] ≡ mirror (G.ids graph.now) fact }
+/// Finds the replaced facts, in order: those that are held and give way to the added ones, by their relationships that are exclusive, and
+/// their mirrors.
+///
+/// It takes time in the ids of the entities of the added facts and of their mirrors.
+pub fn replaced_by<G: Graph, A: Allocator>(
+    graph: &G,
+    added: &[FactKey],
+    replaced: &mut Vec<FactKey, A>,
+) -> Result<(), AllocError>
+    requires { All (λ k. IsIndex k.0) added.now }
+    ensures { OnOk result (IsListOf (λ z. GivesWay (G.ids graph.now) added.now z × IsTrue (is_fact (G.ids graph.now) z)) replaced.new.items) }
 {
-    let id = fact.id();
-    let target = id.second()?;
-    if graph.ids(id.first()).contains(&Id::plain(SYMMETRIC)) {
-        Some(FactKey::new(target, Id::pair(id.first(), fact.entity())))
-    } else {
-        None
-    }
+    list_displaced(graph, added, replaced)?;
+    keep_held(graph, replaced);
+    put_in_order(replaced);
+    Ok(())
 }
 
-/// Finds the replaced facts: those that give way to the added ones, by their relationships that are exclusive, and their mirrors.
-///
-/// A fact may stand there twice, if it is its own mirror.
-pub fn replaced_by<G: Graph, A: Allocator>(
+/// What gives way to the added facts, held or not, and each as often as it does.
+fn list_displaced<G: Graph, A: Allocator>(
     graph: &G,
     added: &[FactKey],
     replaced: &mut Vec<FactKey, A>,
