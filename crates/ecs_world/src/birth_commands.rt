@@ -9,8 +9,9 @@ ghost use Rattle.name_index.specs.Names.{IsUnnamed};
 ghost use Rattle.ecs_world.specs.State.{IsUnbound};
 
 use crate::built_in::COMPONENT;
-use crate::{Changes, FactKey, World};
+use crate::{Changes, World};
 use ecs_id::{EntityId, Id};
+use ecs_model::FactKey;
 use ecs_model::faults::{CommandError, Refusal};
 use ecs_schema::Schema;
 use name_index::{BindError, NameIndex};

@@ -3,47 +3,9 @@
 ghost use Rattle.std.specs.Prelude.{◌≡◌, [], ◌∷◌, Some};
 ghost use Rattle.ecs_world.specs.State.{birth, no_change};
 
-use ecs_id::{EntityId, Id};
+use ecs_id::EntityId;
+use ecs_model::FactKey;
 use std::marker::Model;
-
-/// A fact without its value: an entity, by its index, and the id that it holds.
-#[derive(Clone, Copy)]
-pub struct FactKey {
-    entity: u32,
-    id: Id,
-}
-
-impl Model for FactKey {
-    ghost use Rattle.ecs_model.specs.World.{Key};
-
-    ghost Value = { Key };
-
-    ghost view = { λ k. (k.entity, k.id) };
-
-    ghost inverse = { λ k. record { entity = k.0; id = k.1 } };
-}
-
-impl FactKey {
-    pub(crate) fn new(entity: u32, id: Id) -> FactKey
-        ensures { result ≡ (entity, id) }
-    {
-        FactKey { entity, id }
-    }
-
-    /// The entity's index.
-    pub fn entity(self) -> u32
-        ensures { result ≡ self.0 }
-    {
-        self.entity
-    }
-
-    /// The id that it holds.
-    pub fn id(self) -> Id
-        ensures { result ≡ self.1 }
-    {
-        self.id
-    }
-}
 
 /// What an accepted command has changed.
 ///

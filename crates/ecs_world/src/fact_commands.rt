@@ -2,8 +2,9 @@
 
 ghost use Rattle.ecs_model.specs.Command.{Add, AnswersStep, Remove, SetValue, step};
 
-use crate::{Changes, FactKey, World};
+use crate::{Changes, World};
 use ecs_id::{EntityId, Id};
+use ecs_model::FactKey;
 use ecs_model::faults::{CommandError, Refusal};
 use std::alloc::Allocator;
 

@@ -39,7 +39,8 @@ mod refusals;
 mod rows;
 
 use archetypes::Archetypes;
-pub use changes::{Changes, FactKey};
+pub use changes::Changes;
+pub use ecs_model::FactKey;
 use ecs_schema::Schema;
 use name_index::NameIndex;
 pub use raw_column::Memory;
