@@ -2,5 +2,6 @@ pub mod Complete
 mod Sound
 pub mod SyntaxFaults
 pub mod FirstOccurrence
+pub mod Order
 pub mod Spelling
 mod Computed

@@ -7,6 +7,8 @@ use Rattle.query_model.specs.Syntax.{Part}
 use Rattle.query_model.specs.Scope.{Occurrence, occurrences, sightings}
 use Rattle.query_model.specs.Numbers.{Variable, same_variable, variable_of}
 use Rattle.query_model.specs.Check.{unbound}
+use Rattle.query_model.specs.Tokens.{Token, IsSpelledBy}
+use Rattle.query_model.specs.Grammar.{IsQuery}
 
 -- the faults of variables that aren't bound and are not among those seen before, each at its first occurrence
 abbrev pub unbound_first : List Part → List Variable → List Occurrence → List Fault
@@ -22,3 +24,12 @@ Ascends low (o ∷ os) = (low ≤ (o.span).start) × Ascends (o.span).start os
 -- the least fault is the same
 abbrev pub FirstSuffices : Type 0
 FirstSuffices = (ps : List Part) (found : Option Fault) → Ascends 0 (occurrences ps) → least_from found (flat_map (unbound ps) (occurrences ps)) ≡ least_from found (unbound_first ps [] (occurrences ps))
+
+-- the variables of a query stand in the order of its text
+abbrev pub VariablesAscend : Type 0
+VariablesAscend = (text : List ℕ) (ts : List Token) (ps : List Part) → IsSpelledBy text ts → IsQuery ts ps → Ascends 0 (occurrences ps)
+
+-- so for each query that a text spells the least fault is the same
+abbrev pub FirstSufficesInTexts : Type 0
+FirstSufficesInTexts = (text : List ℕ) (ts : List Token) (ps : List Part) (found : Option Fault) → IsSpelledBy text ts → IsQuery ts ps
+    → least_from found (flat_map (unbound ps) (occurrences ps)) ≡ least_from found (unbound_first ps [] (occurrences ps))

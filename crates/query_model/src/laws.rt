@@ -1,6 +1,6 @@
 //! What is proved of the tokens, the syntax and the faults of query text: each function's contract is a law, and its body does nothing.
 
-ghost use Rattle.query_model.specs.FirstOccurrence.{FirstSuffices};
+ghost use Rattle.query_model.specs.FirstOccurrence.{FirstSuffices, FirstSufficesInTexts, VariablesAscend};
 ghost use Rattle.query_model.specs.Laws.{OneSpelling, OneSyntax, PartsAreGrammatical, TokensAreSpelled};
 
 /// Law: a text spells at most one list of tokens.
@@ -23,8 +23,14 @@ pub fn parts_are_as_the_grammar_says()
     ensures { PartsAreGrammatical }
 {}
 
-/// Law: where a query's variables stand in the order of its text, it is enough to tell one that isn't bound at its first
-/// occurrence: the least fault is the same.
+/// Law: the variables of a query stand in the order of its text.
+pub fn the_variables_of_a_text_ascend()
+    ensures { VariablesAscend }
+{}
+
+/// Law: it is enough to tell a variable that isn't bound at its first occurrence, since the least fault is the same: for each text, and
+/// for any parts whose variables stand in the order of the text.
 pub fn a_variable_is_told_at_its_first_occurrence()
-    ensures { FirstSuffices }
+    ensures of_texts { FirstSufficesInTexts }
+    ensures of_parts { FirstSuffices }
 {}
