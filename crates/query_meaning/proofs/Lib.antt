@@ -1,0 +1,15 @@
+pub mod Lists
+pub mod Assignments
+pub mod Holding
+pub mod Fills
+pub mod Strategies
+pub mod Numbers
+pub mod Named
+pub mod Levels
+pub mod Planned
+pub mod Plans
+pub mod Cursor
+pub mod Worlds
+pub mod Rows
+pub mod RowIds
+pub mod Locality

@@ -1,0 +1,38 @@
+//! What is proved of the rows of queries and of plans: each function's contract is a law, and its body does nothing.
+
+ghost use Rattle.query_meaning.specs.Laws.{LocalByIds, PlansGiveAllRows, PlansGiveRows, RowsAreAnswers, RowsAreDistinct, RowsAreTheirIds, WorldsHaveNoRepeats};
+
+/// Law: what the others ask of a view, every well-formed world shows.
+pub fn worlds_have_no_repeats()
+    ensures { WorldsHaveNoRepeats }
+{}
+
+/// Law: no row of a query is there twice.
+pub fn no_row_stands_twice()
+    ensures { RowsAreDistinct }
+{}
+
+/// Law: two rows with the same entities and the same ids are one row.
+pub fn rows_with_equal_entities_and_ids_are_one()
+    ensures { RowsAreTheirIds }
+{}
+
+/// Law: the rows are those of the assignments under which all items hold.
+pub fn rows_are_those_of_the_answers()
+    ensures { RowsAreAnswers }
+{}
+
+/// Law: every valid plan gives the assignments of the rows, each once, in some order.
+pub fn every_valid_plan_gives_the_answers()
+    ensures { PlansGiveRows }
+{}
+
+/// Law: the rows under the assignments of a valid plan are all rows, each once, in some order.
+pub fn every_valid_plan_gives_all_rows()
+    ensures { PlansGiveAllRows }
+{}
+
+/// Law: whether an entity is `$this` of a row of a local query depends on its own life and ids alone.
+pub fn local_queries_ask_an_entity_alone()
+    ensures { LocalByIds }
+{}
