@@ -13,3 +13,4 @@ pub mod Worlds
 pub mod Rows
 pub mod RowIds
 pub mod Locality
+pub mod Flat

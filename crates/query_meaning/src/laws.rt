@@ -1,10 +1,15 @@
 //! What is proved of the rows of queries and of plans: each function's contract is a law, and its body does nothing.
 
-ghost use Rattle.query_meaning.specs.Laws.{LocalByIds, PlansGiveAllRows, PlansGiveRows, RowsAreAnswers, RowsAreDistinct, RowsAreTheirIds, WorldsHaveNoRepeats};
+ghost use Rattle.query_meaning.specs.Laws.{ItemsGoByNumber, LocalByIds, PlansGiveAllRows, PlansGiveRows, RowsAreAnswers, RowsAreDistinct, RowsAreTheirIds, WorldsHaveNoRepeats};
 
 /// Law: what the others ask of a view, every well-formed world shows.
 pub fn worlds_have_no_repeats()
     ensures { WorldsHaveNoRepeats }
+{}
+
+/// Law: items have the numbers and the levels that the check gives them.
+pub fn items_go_by_number()
+    ensures { ItemsGoByNumber }
 {}
 
 /// Law: no row of a query is there twice.

@@ -1,0 +1,5 @@
+use Rattle.query_meaning.proofs.Flat.{items_go_by_number}
+use Rattle.query_meaning.proofs.laws.items_go_by_number.Goals as goal
+
+pub returns : goal.returns
+returns c = items_go_by_number
