@@ -16,3 +16,5 @@ pub mod Differences
 pub mod Adding
 pub mod Replacing
 pub mod KeptByAdd
+pub mod SameKeys
+pub mod AfterAdd

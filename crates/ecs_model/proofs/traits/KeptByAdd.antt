@@ -41,13 +41,13 @@ pub record MayCome (w : WorldState) (e : ℕ) (i : Id) : Type 0 where
   pub own : (k : Key) → IsAdded (ids_of w) (e, i) k → is_built_in k.0 ≡ false
   pub fixed : (k : Key) → IsAdded (ids_of w) (e, i) k → holds w k.0 k.1 ≡ false → is_trait k.1 ≡ true → is_used (ids_of w) (entities w) k.0 ≡ false
 
-same_parts : (e f r s t u : ℕ) → ◌≡◌ {A = Key} (e, pair r t) (f, pair s u) → (e ≡ f) × (r ≡ s) × (t ≡ u)
+pub same_parts : (e f r s t u : ℕ) → ◌≡◌ {A = Key} (e, pair r t) (f, pair s u) → (e ≡ f) × (r ≡ s) × (t ≡ u)
 same_parts e f r s t u q =
     let first : e ≡ f = ap (λ (k : Key). k.0) q in
     let second : pair r t ≡ pair s u = ap (λ (k : Key). k.1) q in
     (first, (cc), (cc))
 
-no_pair : (e f c r t : ℕ) → ◌≡◌ {A = Key} (e, plain c) (f, pair r t) → ⊥
+pub no_pair : (e f c r t : ℕ) → ◌≡◌ {A = Key} (e, plain c) (f, pair r t) → ⊥
 no_pair e f c r t q = let second : plain c ≡ pair r t = ap (λ (k : Key). k.1) q in cc
 
 -- an added set is of plain ids alone or of pairs alone
