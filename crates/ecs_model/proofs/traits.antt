@@ -18,3 +18,5 @@ pub mod Replacing
 pub mod KeptByAdd
 pub mod SameKeys
 pub mod AfterAdd
+pub mod KeptByRemove
+pub mod Accepted

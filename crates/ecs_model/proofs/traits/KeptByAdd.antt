@@ -66,7 +66,7 @@ one_end e (pair a b) c d f r t u (inr p) (inl q) =
     let x = same_parts f b r c t e p in let y = same_parts f e r d u b q in x.2 ∙ (sym y.0 ∙ (x.0 ∙ sym y.2))
 one_end e (pair a b) c d f r t u (inr p) (inr q) = (same_parts f b r c t e p).2 ∙ sym (same_parts f b r d u e q).2
 
-no_value : {X : Type 0} (o : Option X) → is_some o ≡ false → None ≡ o
+pub no_value : {X : Type 0} (o : Option X) → is_some o ≡ false → None ≡ o
 no_value None h = refl
 no_value (Some x) h = absurd (true≢false h)
 
