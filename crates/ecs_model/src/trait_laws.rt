@@ -1,10 +1,15 @@
 //! What is proved of commands with traits: each function's contract is a law, and its body does nothing.
 
-ghost use Rattle.ecs_model.specs.traits.Laws.{BornIsMade, DeletedIsLeast, FirstReasonIsLeast, FirstWorldIsWellFormed, PinsKeep, ReasonsAscend, RemovesHeldAlone, ZeroIsNothing};
+ghost use Rattle.ecs_model.specs.traits.Laws.{AddedIsLeast, BornIsMade, DeletedIsLeast, FirstReasonIsLeast, FirstWorldIsWellFormed, PinsKeep, ReasonsAscend, RemovesHeldAlone, StepKeeps, ZeroIsNothing};
 
 /// Law: the world before any command is well formed.
 pub fn first_world_is_well_formed()
     ensures { FirstWorldIsWellFormed }
+{}
+
+/// Law: each accepted command leaves a well-formed world.
+pub fn every_step_keeps_the_world_well_formed()
+    ensures { StepKeeps }
 {}
 
 /// Law: where one stored query more or less mentions an entity, a well-formed world stays so.
@@ -35,6 +40,11 @@ pub fn the_entity_born_is_the_next()
 /// Law: in a well-formed world removing what isn't held leaves the facts as they were.
 pub fn removing_what_is_not_held_takes_nothing()
     ensures { RemovesHeldAlone }
+{}
+
+/// Law: what comes with a fact is the least set that holds it and all that its members bring by With and by Symmetric.
+pub fn the_added_set_is_the_least()
+    ensures { AddedIsLeast }
 {}
 
 /// Law: what is deleted with a live entity is the least set that holds it and all who fall with its members.

@@ -1,7 +1,6 @@
 -- Removing what isn't held takes nothing.
 use Rattle.std.specs.Prelude.{◌≡◌, ℕ, Bool, true, false, not, [], ◌∷◌, cond}
 use Rattle.std.specs.List.{Contains, list_any}
-use Rattle.std.specs.Cmp.{Equal-is}
 use Rattle.std.proofs.Common.{refl, sym, ap, ◌∙◌, inl, inr, arith, true≢false}
 use Rattle.std.proofs.lemmas.List.Elements.{Contains-append_right}
 use Rattle.ecs_id.specs.Id.{Id, plain, pair}
@@ -11,10 +10,11 @@ use Rattle.ecs_model.specs.World.{WorldState, Key, key_cmp, key_eq, holds, ids_o
 use Rattle.ecs_model.specs.traits.Changes.{facts_after_remove, removed}
 use Rattle.ecs_model.specs.traits.Keeps.{IsWellFormed}
 use Rattle.ecs_model.specs.traits.Laws.{RemovesHeldAlone}
-use Rattle.ecs_model.proofs.Maps.{key_cmp_same, key_cmp_total}
+use Rattle.ecs_model.proofs.Maps.{key_cmp_total}
 use Rattle.ecs_model.proofs.Members.{head_or_tail, passing}
 use Rattle.ecs_model.proofs.traits.Facts.{is_held-holds, there_key}
 use Rattle.ecs_model.proofs.traits.Kept.{refuted}
+use Rattle.ecs_model.proofs.traits.Replacing.{key_eq_same}
 
 -- where no key passes the test, none goes
 pub none_goes : {X : Type 0} (m : Map Key X) (test : Key → Bool) → ((k : Key) → Contains (keys m) k → test k ≡ false) → without key_cmp m test ≡ m
@@ -22,9 +22,6 @@ none_goes [] test none = refl
 none_goes (e ∷ es) test none =
     ap (λ b. cond (not b) (e ∷ without key_cmp es test) (without key_cmp es test)) (none e.0 (0, omega arith, refl))
     ∙ ap (λ xs. e ∷ xs) (none_goes es test (λ k c. none k (Contains-append_right (e.0 ∷ []) (keys es) k c)))
-
-pub key_eq_same : (q k : Key) → key_eq q k ≡ true → q ≡ k
-key_eq_same q k e = key_cmp_same q k ((Equal-is (key_cmp q k)).0 e)
 
 module _ (w : WorldState) (h : IsWellFormed w) where
   -- a mirror is held with its fact alone

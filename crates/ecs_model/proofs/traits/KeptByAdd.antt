@@ -17,13 +17,12 @@ use Rattle.ecs_model.specs.World.{WorldState, Key, key_cmp, entities, first_worl
 use Rattle.ecs_model.specs.traits.Keeps.{IsWellFormed}
 use Rattle.ecs_model.specs.traits.Rules.{is_trait}
 use Rattle.ecs_model.proofs.Additions.{not_spent}
-use Rattle.ecs_model.proofs.FirstWorld.{facts_live, live_is_built_in}
 use Rattle.ecs_model.proofs.Maps.{if_some, of_some}
 use Rattle.ecs_model.proofs.Members.{alike, any_passes, eq_itself, eq_same}
 use Rattle.ecs_model.proofs.Typing.{IsTyped}
 use Rattle.ecs_model.proofs.traits.Adding.{HasForm, added_are_members, added_form, form_lives, in_map, in_mirror}
 use Rattle.ecs_model.proofs.traits.Facts.{held_listed, holds_leads, live_listed}
-use Rattle.ecs_model.proofs.traits.Kept.{each_passes, holder_lives, refuted}
+use Rattle.ecs_model.proofs.traits.Kept.{built_in_mentions, holder_lives, refuted}
 use Rattle.ecs_model.proofs.traits.Replacing.{GivesWay, gives_way, is_replaced, mirror_displaced, other_displaced, replaced_by}
 
 -- the facts after an added set came: what is added is there, with values of its id's type, and each other fact has gone or is as it was
@@ -72,11 +71,6 @@ no_value (Some x) h = absurd (true≢false h)
 
 turned : (t u : ℕ) → (t == u) ≡ false → (u == t) ≡ false
 turned t u h = grind (arith, nat_tests)
-
--- a fact of a built-in entity mentions built-in entities alone
-pub built_in_mentions : (w : WorldState) → IsWellFormed w → (f : ℕ) (j : Id) → is_built_in f ≡ true → holds w f j ≡ true → (x : ℕ) → Contains (mentioned j) x → is_built_in x ≡ true
-built_in_mentions w h f j b held x c =
-    live_is_built_in x (each_passes (is_live first_world) (mentioned j) (facts_live f j (sym (ap is_some ((h.built_in).facts f j b)) ∙ held)).1 x c)
 
 traversable_first : is_some (value_of first_world traversable (pair with_trait acyclic)) ≡ true
 unfolding first_world key_cmp id_cmp

@@ -22,8 +22,8 @@ use Rattle.ecs_model.proofs.Removals.{IsMap-without, fewer, value_at-without}
 use Rattle.ecs_model.proofs.Typing.{IsTyped}
 use Rattle.ecs_model.proofs.traits.Adding.{from_mirror, in_mirror}
 use Rattle.ecs_model.proofs.traits.Fewer.{IsFewer, fewer_keep}
-use Rattle.ecs_model.proofs.traits.Kept.{refuted}
-use Rattle.ecs_model.proofs.traits.KeptByAdd.{built_in_mentions, no_pair, no_value, same_parts}
+use Rattle.ecs_model.proofs.traits.Kept.{built_in_mentions, refuted}
+use Rattle.ecs_model.proofs.traits.KeptByAdd.{no_pair, no_value, same_parts}
 use Rattle.ecs_model.proofs.traits.Replacing.{key_eq_same}
 
 -- q is the mirror of the fact
