@@ -20,3 +20,5 @@ pub mod Steps
 pub mod SameKeys
 pub mod Differences
 pub mod AfterAdd
+pub mod Found
+pub mod Cycles

@@ -1,6 +1,6 @@
 //! What is proved of commands with traits: each function's contract is a law, and its body does nothing.
 
-ghost use Rattle.ecs_model.specs.traits.Laws.{AddedIsLeast, BornIsMade, DeletedIsLeast, FirstReasonIsLeast, FirstWorldIsWellFormed, PinsKeep, ReasonsAscend, RemovesHeldAlone, StepKeeps, ZeroIsNothing};
+ghost use Rattle.ecs_model.specs.traits.Laws.{AddedIsLeast, AddedPairsClose, BornIsMade, DeletedIsLeast, FirstReasonIsLeast, FirstWorldIsWellFormed, PinsKeep, ReasonsAscend, RemovesHeldAlone, StepKeeps, ZeroIsNothing};
 
 /// Law: the world before any command is well formed.
 pub fn first_world_is_well_formed()
@@ -45,6 +45,12 @@ pub fn removing_what_is_not_held_takes_nothing()
 /// Law: what comes with a fact is the least set that holds it and all that its members bring by With and by Symmetric.
 pub fn the_added_set_is_the_least()
     ensures { AddedIsLeast }
+{}
+
+/// Law: where all live, nothing comes to a built-in entity and no trait changes, what comes with a fact makes a cycle of an Acyclic
+/// relationship exactly where a pair of it is a mirror, or led from its target back to its entity before.
+pub fn added_pairs_close_cycles()
+    ensures { AddedPairsClose }
 {}
 
 /// Law: what is deleted with a live entity is the least set that holds it and all who fall with its members.

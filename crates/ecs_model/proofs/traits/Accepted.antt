@@ -88,7 +88,7 @@ there None g h = absurd (true≢false (sym h))
 there (Some x) g h = refl
 
 -- where nobody of these is dead, nothing comes to a built-in entity and no trait changes, the added set may come
-may_come : (w : WorldState) (e : EntityId) (i : Id) → IsWellFormed w → is_dead w e i ≡ false → adds_built_in w e.index i ≡ false → changes_trait w e.index i ≡ false → MayCome w e.index i
+pub may_come : (w : WorldState) (e : EntityId) (i : Id) → IsWellFormed w → is_dead w e i ≡ false → adds_built_in w e.index i ≡ false → changes_trait w e.index i ≡ false → MayCome w e.index i
 may_come w e i h dead built fixed = record {
   live = there (value_at nat_cmp w.live e.index) e.generation (denied (is_alive w e) alive.0);
   mentions = mentions;
@@ -118,7 +118,7 @@ may_come w e i h dead built fixed = record {
     unused false false c d p q r = absurd (true≢false (sym q))
 
 -- `add` is such a change
-add_is_addition : (w : WorldState) (e : ℕ) (i : Id) → IsWellFormed w → list_all (is_live w) (mentioned i) ≡ true → IsAddition w e i (facts_after_add w e i)
+pub add_is_addition : (w : WorldState) (e : ℕ) (i : Id) → IsWellFormed w → list_all (is_live w) (mentioned i) ≡ true → IsAddition w e i (facts_after_add w e i)
 add_is_addition w e i h m = record {
   in_order = IsMap-add w e i (h.in_order).facts;
   there = λ q n. added_there w e i q ((added_are_members w e i h m q).1 n);

@@ -62,7 +62,7 @@ module _ (w : WorldState) where
   in_mirror e r t h = in_one {A = Key} (is_symmetric ids r) (t, pair r e) (is_held-holds w r (plain symmetric) ∙ h)
 
   -- what a member brings has the same form, with an id that With leads to or its own
-  by_with : (k : Key) (z : Key) → Contains (map (λ c. (k.0, with_first c k.1)) (upward ids with_trait (first_of k.1))) z
+  pub by_with : (k : Key) (z : Key) → Contains (map (λ c. (k.0, with_first c k.1)) (upward ids with_trait (first_of k.1))) z
       → (d : ℕ) × (holds w (first_of k.1) (pair with_trait d) ≡ true) × ((k.0, with_first d k.1) ≡ z)
   by_with k z h =
       let found = from_map (λ c. (k.0, with_first c k.1)) (upward ids with_trait (first_of k.1)) z h in

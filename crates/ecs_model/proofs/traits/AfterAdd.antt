@@ -93,7 +93,7 @@ module _ (w : WorldState) where
   again false true c o x e = refl
   again false false c o x e = refl
 
-  all_at : (ks : List Key) (m : Map Key (List ℤ)) (q : Key)
+  pub all_at : (ks : List Key) (m : Map Key (List ℤ)) (q : Key)
       → value_at key_cmp (with_all m ks) q ≡ cond (has_key key_cmp m q) (value_at key_cmp m q) (cond (list_any (key_eq q) ks) (Some (new_value w q.1)) None)
   all_at [] m q = by (value_at key_cmp m q)
     where

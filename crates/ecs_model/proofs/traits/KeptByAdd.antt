@@ -90,25 +90,25 @@ module _ (w : WorldState) (e : ℕ) (i : Id) (facts : Map Key (List ℤ)) (h : I
   abbrev gone : Key → Bool
   gone k = is_replaced w e i k
 
-  gone_by : (q : Key) → gone q ≡ true → (b : Key) × IsNew b × GivesWay w b q
+  pub gone_by : (q : Key) → gone q ≡ true → (b : Key) × IsNew b × GivesWay w b q
   gone_by q g = let r = replaced_by w e i q g in (r.0, (added_are_members w e i h may.mentions r.0).0 r.1, r.2)
 
   goes : (b q : Key) → IsNew b → Contains (displaced (ids_of w) b) q → gone q ≡ true
   goes b q n d = gives_way w e i b q ((added_are_members w e i h may.mentions b).1 n) d
 
   -- a fact that is there came, or stayed
-  came_or_stayed : (q : Key) → has_key key_cmp facts q ≡ true → IsNew q ⊎ ((gone q ≡ false) × (has_key key_cmp w.facts q ≡ true))
+  pub came_or_stayed : (q : Key) → has_key key_cmp facts q ≡ true → IsNew q ⊎ ((gone q ≡ false) × (has_key key_cmp w.facts q ≡ true))
   came_or_stayed q held = elim (a.each q) [ inl p ↦ inl p.0 | inr p ↦ by (gone q) refl p ]
     where
       by : (b : Bool) → gone q ≡ b → value_at key_cmp facts q ≡ cond (not b) (value_at key_cmp w.facts q) None → IsNew q ⊎ ((gone q ≡ false) × (has_key key_cmp w.facts q ≡ true))
       by true g p = absurd (true≢false (sym held ∙ ap is_some p))
       by false g p = inr (g, sym (ap is_some p) ∙ held)
 
-  stays : (q : Key) → has_key key_cmp w.facts q ≡ true → gone q ≡ false → has_key key_cmp facts q ≡ true
+  pub stays : (q : Key) → has_key key_cmp w.facts q ≡ true → gone q ≡ false → has_key key_cmp facts q ≡ true
   stays q held g = elim (a.each q) [ inl p ↦ a.there q p.0 | inr p ↦ ap is_some (p ∙ ap (λ b. cond (not b) (value_at key_cmp w.facts q) None) g) ∙ held ]
 
   -- no plain fact gives way
-  plain_stays : (f c : ℕ) → holds w f (plain c) ≡ true → has_key key_cmp facts (f, plain c) ≡ true
+  pub plain_stays : (f c : ℕ) → holds w f (plain c) ≡ true → has_key key_cmp facts (f, plain c) ≡ true
   plain_stays f c held = stays (f, plain c) held (refuted (gone (f, plain c)) none)
     where
       none : gone (f, plain c) ≡ true → ⊥
@@ -123,7 +123,7 @@ module _ (w : WorldState) (e : ℕ) (i : Id) (facts : Map Key (List ℤ)) (h : I
       (any_passes (λ j. first_of j == r) (ids_of w f) (pair r t) (held_listed w f (pair r t) held) (eq_itself r))
 
   -- a trait of a relationship that has a pair was there before
-  trait_before : (f r t c : ℕ) → is_trait (plain c) ≡ true → has_key key_cmp facts (f, pair r t) ≡ true → has_key key_cmp facts (r, plain c) ≡ true → holds w r (plain c) ≡ true
+  pub trait_before : (f r t c : ℕ) → is_trait (plain c) ≡ true → has_key key_cmp facts (f, pair r t) ≡ true → has_key key_cmp facts (r, plain c) ≡ true → holds w r (plain c) ≡ true
   trait_before f r t c is p q = by (holds w r (plain c)) refl
     where
       clash : IsNew (r, plain c) → holds w r (plain c) ≡ false → IsNew (f, pair r t) ⊎ ((gone (f, pair r t) ≡ false) × (holds w f (pair r t) ≡ true)) → ⊥

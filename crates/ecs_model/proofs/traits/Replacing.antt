@@ -100,7 +100,7 @@ module _ (w : WorldState) where
       by true = h
       by false = IsMap-with_value key_cmp key_cmp_total m k (new_value w k.1) h
 
-  IsMap-with_all : (m : Map Key (List ℤ)) (ks : List Key) → IsMap key_cmp m → IsMap key_cmp (with_all m ks)
+  pub IsMap-with_all : (m : Map Key (List ℤ)) (ks : List Key) → IsMap key_cmp m → IsMap key_cmp (with_all m ks)
   IsMap-with_all m [] h = h
   IsMap-with_all m (k ∷ ks) h = IsMap-with_all (with_new w m k) ks (IsMap-with_new m k h)
 

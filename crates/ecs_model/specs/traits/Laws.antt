@@ -1,19 +1,21 @@
 -- The laws of commands with traits, as statements.
-use Rattle.std.specs.Prelude.{◌≡◌, ◌↔◌, ℕ, ◌≤◌, true, false, ◌∷◌, map, Contains, Option, Some, None, IsTrue, Ok, All}
+use Rattle.std.specs.Prelude.{◌≡◌, ◌↔◌, ◌⊎◌, ℕ, ◌≤◌, true, false, List, ◌∷◌, map, Contains, Option, Some, None, IsTrue, Ok, All}
 use Rattle.std.specs.List.Sorted.{IsStrictlySortedBy}
 use Rattle.std.specs.Ordering.{nat_cmp}
 use Rattle.ecs_id.specs.declared.EntityId.{EntityId}
-use Rattle.ecs_id.specs.Id.{Id, mentioned}
+use Rattle.ecs_id.specs.Id.{Id, plain, first_of, second_of, mentioned}
 use Rattle.ecs_model.specs.declared.faults.Refusal.{Refusal}
 use Rattle.ecs_model.specs.Added.{IsAdded}
-use Rattle.ecs_model.specs.Command.{Changed, next_entity}
+use Rattle.ecs_model.specs.BuiltIns.{acyclic}
+use Rattle.ecs_model.specs.Command.{Changed, is_dead, next_entity, with_facts}
 use Rattle.ecs_model.specs.Falls.{falling}
+use Rattle.ecs_model.specs.Links.{is_held, upward}
 use Rattle.ecs_model.specs.Map.{has_key}
 use Rattle.ecs_model.specs.Reach.{Reached}
 use Rattle.ecs_model.specs.Refusal.{first_reason, refusal_number}
 use Rattle.ecs_model.specs.World.{WorldState, key_cmp, first_world, is_live, entities, holds, ids_of}
-use Rattle.ecs_model.specs.traits.Changes.{added, deleted, facts_after_remove}
-use Rattle.ecs_model.specs.traits.Command.{Command, Fresh, Entity, Component, IsCommand, reasons, step}
+use Rattle.ecs_model.specs.traits.Changes.{added, deleted, facts_after_add, facts_after_remove}
+use Rattle.ecs_model.specs.traits.Command.{Command, Fresh, Entity, Component, IsCommand, adds_built_in, changes_trait, has_cycle, reasons, step}
 use Rattle.ecs_model.specs.traits.Keeps.{IsWellFormed}
 use Rattle.ecs_model.specs.traits.Pins.{pin, unpin}
 
@@ -58,6 +60,16 @@ abbrev pub AddedIsLeast : Type 0
 AddedIsLeast =
     (w : WorldState) (e : ℕ) (i : Id) → IsWellFormed w → IsTrue (is_live w e) → All (λ x. IsTrue (is_live w x)) (mentioned i)
     → (k : ℕ × Id) → IsTrue (has_key key_cmp (added w e i) k) ↔ IsAdded (ids_of w) (e, i) k
+
+-- an added pair closes a cycle of an acyclic relationship: it is a mirror, or its target led to the entity to which a fact is added
+abbrev pub ClosesAt : (ℕ → List Id) → ℕ → ℕ × Id → Type 0
+ClosesAt ids e k = (t : ℕ) × (Some t ≡ second_of k.1) × (is_held (ids (first_of k.1)) (plain acyclic) ≡ true) × (¬ (k.0 ≡ e) ⊎ Reached (upward ids (first_of k.1)) t e)
+
+-- where all live, nothing comes to a built-in entity and no trait changes, `add` makes a cycle exactly where an added pair closes one
+abbrev pub AddedPairsClose : Type 0
+AddedPairsClose =
+    (w : WorldState) (e : EntityId) (i : Id) → IsWellFormed w → is_dead w e i ≡ false → adds_built_in w e.index i ≡ false → changes_trait w e.index i ≡ false
+    → IsTrue (has_cycle (with_facts w (facts_after_add w e.index i))) ↔ ((k : ℕ × Id) × IsAdded (ids_of w) (e.index, i) k × ClosesAt (ids_of w) e.index k)
 
 -- the deleted set is the least one that holds the entity and all who fall with its members
 abbrev pub DeletedIsLeast : Type 0

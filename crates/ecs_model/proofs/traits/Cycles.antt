@@ -1,0 +1,274 @@
+-- An added set makes a cycle exactly where one of its pairs closes one.
+use Rattle.std.specs.Prelude.{◌≡◌, ◌⊎◌, ◌↔◌, ℕ, ◌-◌, ◌==◌, ◌&&◌, IsTrue, Bool, true, false, [], ◌∷◌, ◌++◌, length, map, cond}
+use Rattle.std.specs.List.{Contains, list_all, list_any}
+use Rattle.std.proofs.Common.{refl, sym, ap, subst, ◌∙◌, inl, inr, arith, true≢false}
+use Rattle.std.proofs.lemmas.List.Elements.{Contains-append_cases, Contains-append_left, Contains-push}
+use Rattle.ecs_id.specs.Id.{Id, plain, pair, mentioned, first_of}
+use Rattle.ecs_model.specs.Added.{IsAdded, mirror, with_first}
+use Rattle.ecs_model.specs.BuiltIns.{acyclic, with_trait}
+use Rattle.ecs_model.specs.Command.{with_facts}
+use Rattle.ecs_model.specs.Cycles.{HasCycle, after_step}
+use Rattle.ecs_model.specs.Links.{is_held, upward}
+use Rattle.ecs_model.specs.Map.{has_key}
+use Rattle.ecs_model.specs.Reach.{HasChain, Reached, itself, onward}
+use Rattle.ecs_model.specs.Sets.{has_chain}
+use Rattle.ecs_model.specs.World.{WorldState, Key, key_cmp, is_live, entities, holds, ids_of}
+use Rattle.ecs_model.specs.traits.Changes.{added, facts_after_add}
+use Rattle.ecs_model.specs.traits.Command.{has_cycle}
+use Rattle.ecs_model.specs.traits.Keeps.{IsWellFormed}
+use Rattle.ecs_model.specs.traits.Laws.{AddedPairsClose, ClosesAt}
+use Rattle.ecs_model.proofs.Closing.{steps_close_chains}
+use Rattle.ecs_model.proofs.LeastSets.{chains_are_short}
+use Rattle.ecs_model.proofs.Members.{and_true, any_passes, both, eq_itself, eq_same, passing}
+use Rattle.ecs_model.proofs.traits.Accepted.{add_is_addition, may_come}
+use Rattle.ecs_model.proofs.traits.Adding.{HasForm, added_are_members, added_form, by_with, from_mirror, in_map}
+use Rattle.ecs_model.proofs.traits.Facts.{holds_leads, is_held-holds, leads_holds, live_listed}
+use Rattle.ecs_model.proofs.traits.Fewer.{chain_of_more}
+use Rattle.ecs_model.proofs.traits.Kept.{each_passes, refuted}
+use Rattle.ecs_model.proofs.traits.KeptByAdd.{IsAddition, MayCome, came_or_stayed, facts_live_after, gone_by, no_pair, plain_stays, same_parts, stays, trait_before}
+use Rattle.ecs_model.proofs.traits.Replacing.{is_replaced}
+
+-- the test of cycles tells whether an acyclic relationship has one, where facts mention live entities
+has_cycle_tells : (v : WorldState) → ((f : ℕ) (j : Id) → holds v f j ≡ true → (is_live v f ≡ true) × (list_all (is_live v) (mentioned j) ≡ true))
+    → IsTrue (has_cycle v) ↔ ((r : ℕ) × (holds v r (plain acyclic) ≡ true) × HasCycle (upward (ids_of v) r))
+has_cycle_tells v live = (
+  λ t. let r = passing cyclic (entities v) t in
+      let parts = both (holds v r.0 (plain acyclic)) (list_any (closed r.0) (entities v)) r.2 in
+      let x = passing (closed r.0) (entities v) parts.1 in
+      (r.0, parts.0, (x.0, (chains r.0 x.0).0 x.2)),
+  λ c. any_passes cyclic (entities v) c.0 (live_listed v c.0 (live c.0 (plain acyclic) c.1).0)
+      (and_true (holds v c.0 (plain acyclic)) (list_any (closed c.0) (entities v)) c.1
+      (any_passes (closed c.0) (entities v) (c.2).0 (starts_live c.0 (c.2).0 (c.2).1) ((chains c.0 (c.2).0).1 (c.2).1))),
+)
+  where
+    closed : ℕ → ℕ → Bool
+    closed r y = has_chain (upward (ids_of v) r) (length (entities v) - 1) y y
+
+    cyclic : ℕ → Bool
+    cyclic q = holds v q (plain acyclic) && list_any (λ y. has_chain (upward (ids_of v) q) (length (entities v) - 1) y y) (entities v)
+
+    starts_live : (r x : ℕ) → HasChain (upward (ids_of v) r) x x → Contains (entities v) x
+    starts_live r x c = live_listed v x (live x (pair r c.0) (leads_holds v r x c.0 c.1)).0
+
+    leads_live : (r y z : ℕ) → Contains (upward (ids_of v) r y) z → Contains (entities v) z
+    leads_live r y z n = live_listed v z (each_passes (is_live v) (mentioned (pair r z)) (live y (pair r z) (leads_holds v r y z n)).1 z (1, omega arith, refl))
+
+    chains : (r x : ℕ) → IsTrue (has_chain (upward (ids_of v) r) (length (entities v) - 1) x x) ↔ HasChain (upward (ids_of v) r) x x
+    chains r x = chains_are_short (upward (ids_of v) r) (length (entities v) - 1) (entities v) (omega arith) (leads_live r) x x
+
+-- a pair whose mirror was added was added itself
+both_ways : (w : WorldState) (h : IsWellFormed w) (e b t : ℕ) → list_all (is_live w) (mentioned (pair b t)) ≡ true → (t == e) ≡ false → {z : Key} → IsAdded (ids_of w) (e, pair b t) z
+    → (r : ℕ) → z ≡ (t, pair r e) → IsAdded (ids_of w) (e, pair b t) (e, pair r t)
+both_ways w h e b t m apart itself r q = absurd (true≢false (sym (eq_itself e) ∙ (ap (λ x. x == e) (same_parts e t b r t e q).0 ∙ apart)))
+both_ways w h e b t m apart (onward {y = y} {z = z} n c) r q =
+    let form = added_form w h e (pair b t) m n in
+    elim (Contains-append_cases (map (λ d. (y.0, with_first d y.1)) (upward (ids_of w) with_trait (first_of y.1))) (mirror (ids_of w) y) z c) [
+      | inl g ↦ let d = by_with w y z g in with_it form.0 form.2 d.0 d.1 (d.2 ∙ q) (λ s. both_ways w h e b t m apart n form.0 s)
+      | inr g ↦ mirrored form.0 form.2 (subst (Contains (mirror (ids_of w) y)) q g)
+    ]
+  where
+    differ : e ≡ t → ⊥
+    differ s = true≢false (sym (eq_itself e) ∙ (ap (λ x. x == e) s ∙ apart))
+
+    with_it : (c : ℕ) → HasForm e (pair b t) c y → (d : ℕ) → holds w (first_of y.1) (pair with_trait d) ≡ true → ◌≡◌ {A = Key} (y.0, with_first d y.1) (t, pair r e)
+        → (y ≡ (t, pair c e) → IsAdded (ids_of w) (e, pair b t) (e, pair c t)) → IsAdded (ids_of w) (e, pair b t) (e, pair r t)
+    with_it c (inl s) d leads p rest = absurd (differ (same_parts e t d r t e (sym (ap (λ (k : Key). (k.0, with_first d k.1)) s) ∙ p)).0)
+    with_it c (inr s) d leads p rest =
+        let same = same_parts t t d r e e (sym (ap (λ (k : Key). (k.0, with_first d k.1)) s) ∙ p) in
+        let led : holds w c (pair with_trait r) ≡ true = sym (ap (λ (k : Key). holds w (first_of k.1) (pair with_trait d)) s ∙ ap (λ x. holds w c (pair with_trait x)) same.1) ∙ leads in
+        onward (rest s)
+        (Contains-append_left (map (λ d. (e, with_first d (pair c t))) (upward (ids_of w) with_trait c)) (mirror (ids_of w) (e, pair c t)) (e, pair r t)
+        (in_map (λ d. (e, with_first d (pair c t))) (upward (ids_of w) with_trait c) r (holds_leads w with_trait c r led)))
+
+    mirrored : (c : ℕ) → HasForm e (pair b t) c y → Contains (mirror (ids_of w) y) (t, pair r e) → IsAdded (ids_of w) (e, pair b t) (e, pair r t)
+    mirrored c (inl s) g =
+        let back = from_mirror w e c t (t, pair r e) (subst (λ k. Contains (mirror (ids_of w) k) (t, pair r e)) s g) in
+        let same = same_parts t t c r e e back.1 in
+        subst (IsAdded (ids_of w) (e, pair b t)) (s ∙ (λ j. (e, pair (same.1 j) t))) n
+    mirrored c (inr s) g =
+        let back = from_mirror w t c e (t, pair r e) (subst (λ k. Contains (mirror (ids_of w) k) (t, pair r e)) s g) in
+        absurd (differ (same_parts e t c r t e back.1).0)
+
+module _ (w : WorldState) (e : ℕ) (i : Id) (h : IsWellFormed w) (may : MayCome w e i) where
+  abbrev left : WorldState
+  left = with_facts w (facts_after_add w e i)
+
+  abbrev IsNew : Key → Type 0
+  IsNew k = IsAdded (ids_of w) (e, i) k
+
+  a : IsAddition w e i (facts_after_add w e i)
+  a = add_is_addition w e i h may.mentions
+
+  -- a step afterwards came, or was there
+  step_was : (r x y : ℕ) → Contains (upward (ids_of left) r x) y → IsNew (x, pair r y) ⊎ Contains (upward (ids_of w) r x) y
+  step_was r x y c =
+      elim (came_or_stayed w e i (facts_after_add w e i) h a may (x, pair r y) (leads_holds left r x y c)) [ inl n ↦ inl n | inr s ↦ inr (holds_leads w r x y s.1) ]
+
+  new_step : (r x y : ℕ) → IsNew (x, pair r y) → Contains (upward (ids_of left) r x) y
+  new_step r x y n = holds_leads left r x y (a.there (x, pair r y) n)
+
+  -- an acyclic relationship with a cycle was Acyclic before
+  was_acyclic : (r : ℕ) → holds left r (plain acyclic) ≡ true → HasCycle (upward (ids_of left) r) → holds w r (plain acyclic) ≡ true
+  was_acyclic r is c = trait_before w e i (facts_after_add w e i) h a may c.0 r (c.1).0 acyclic refl (leads_holds left r c.0 (c.1).0 (c.1).1) is
+
+  none_before : (r : ℕ) → holds w r (plain acyclic) ≡ true → ¬ (HasCycle (upward (ids_of w) r))
+  none_before r is c = (h.traits).no_cycle r is c.0 c.1
+
+  held_acyclic : (r : ℕ) → holds w r (plain acyclic) ≡ true → is_held (ids_of w r) (plain acyclic) ≡ true
+  held_acyclic r is = is_held-holds w r (plain acyclic) ∙ is
+
+  -- where no pair of the relationship comes, none closes
+  none_new : (r : ℕ) → holds w r (plain acyclic) ≡ true → HasCycle (upward (ids_of left) r) → ((x y : ℕ) → IsNew (x, pair r y) → ⊥) → ⊥
+  none_new r is c none =
+      none_before r is
+      (c.0, chain_of_more (upward (ids_of left) r) (upward (ids_of w) r) (λ x y s. elim (step_was r x y s) [ inl n ↦ absurd (none x y n) | inr o ↦ o ]) c.0 c.0 c.1)
+
+  abbrev Closed : Type 0
+  Closed = (k : Key) × IsNew k × ClosesAt (ids_of w) e k
+
+  is_new : (k : Key) → has_key key_cmp (added w e i) k ≡ true → IsNew k
+  is_new k t = (added_are_members w e i h may.mentions k).0 t
+
+  not_new : (k : Key) → has_key key_cmp (added w e i) k ≡ false → IsNew k → ⊥
+  not_new k f n = true≢false (sym ((added_are_members w e i h may.mentions k).1 n) ∙ f)
+
+module _ (w : WorldState) (e b t : ℕ) (h : IsWellFormed w) (may : MayCome w e (pair b t)) where
+  abbrev New : Key → Type 0
+  New k = IsAdded (ids_of w) (e, pair b t) k
+
+  abbrev then : WorldState
+  then = with_facts w (facts_after_add w e (pair b t))
+
+  form : (r x y : ℕ) → New (x, pair r y) → ((x ≡ e) × (y ≡ t)) ⊎ ((x ≡ t) × (y ≡ e))
+  form r x y n =
+      let f = added_form w h e (pair b t) may.mentions n in
+      elim f.2 [ inl q ↦ let s = same_parts x e r f.0 y t q in inl (s.0, s.2) | inr q ↦ let s = same_parts x t r f.0 y e q in inr (s.0, s.2) ]
+
+  -- where the pair alone comes, it closes what led back
+  led_back : (r : ℕ) → holds w r (plain acyclic) ≡ true → HasCycle (upward (ids_of then) r) → ((x y : ℕ) → New (x, pair r y) → (x ≡ e) × (y ≡ t)) → Reached (upward (ids_of w) r) t e
+  led_back r is c one =
+      (steps_close_chains (upward (ids_of w) r) (none_before w e (pair b t) h may r is) false e t).0
+      (c.0, chain_of_more (upward (ids_of then) r) (after_step (upward (ids_of w) r) false e t) steps c.0 c.0 c.1)
+    where
+      new_at : (x y : ℕ) → x ≡ e → y ≡ t → Contains (after_step (upward (ids_of w) r) false e t x) y
+      new_at x y p q = rw (p, q, eq_itself e) (Contains-push (upward (ids_of w) r e) t)
+
+      old_at : (x y : ℕ) → Contains (upward (ids_of w) r x) y → (here : Bool) → Contains (cond here (upward (ids_of w) r x ++ t ∷ []) (upward (ids_of w) r x)) y
+      old_at x y o true = Contains-append_left (upward (ids_of w) r x) (t ∷ []) y o
+      old_at x y o false = o
+
+      steps : (x y : ℕ) → Contains (upward (ids_of then) r x) y → Contains (after_step (upward (ids_of w) r) false e t x) y
+      steps x y s = elim (step_was w e (pair b t) h may r x y s) [ inl n ↦ let p = one x y n in new_at x y p.0 p.1 | inr o ↦ old_at x y o (x == e) ]
+
+  some_closes : (r : ℕ) → holds w r (plain acyclic) ≡ true → HasCycle (upward (ids_of then) r) → Closed w e (pair b t) h may
+  some_closes r is c = by (has_key key_cmp (added w e (pair b t)) (t, pair r e)) (t == e) refl refl
+    where
+      one_way : ((x y : ℕ) → New (x, pair r y) → (x ≡ e) × (y ≡ t)) → (f : Bool) → has_key key_cmp (added w e (pair b t)) (e, pair r t) ≡ f → Closed w e (pair b t) h may
+      one_way one true n = ((e, pair r t), is_new w e (pair b t) h may (e, pair r t) n, (t, refl, held_acyclic w e (pair b t) h may r is, inr (led_back r is c one)))
+      one_way one false n =
+          absurd (none_new w e (pair b t) h may r is c
+          (λ x y m. let p = one x y m in not_new w e (pair b t) h may (e, pair r t) n (subst New (λ j. (p.0 j, pair r (p.1 j))) m)))
+
+      by : (back same : Bool) → has_key key_cmp (added w e (pair b t)) (t, pair r e) ≡ back → (t == e) ≡ same → Closed w e (pair b t) h may
+      by true false n d =
+          ((t, pair r e), is_new w e (pair b t) h may (t, pair r e) n, (e, refl, held_acyclic w e (pair b t) h may r is, inl (λ q. true≢false (sym (eq_itself e) ∙ (ap (λ x. x == e) (sym q) ∙ d)))))
+      by back true n d =
+          let s = eq_same t e d in
+          one_way (λ x y m. elim (form r x y m) [ inl p ↦ p | inr p ↦ (p.0 ∙ s, p.1 ∙ sym s) ]) (has_key key_cmp (added w e (pair b t)) (e, pair r t)) refl
+      by false false n d =
+          one_way (λ x y m. elim (form r x y m) [ inl p ↦ p | inr p ↦ absurd (not_new w e (pair b t) h may (t, pair r e) n (subst New (λ j. (p.0 j, pair r (p.1 j))) m)) ])
+          (has_key key_cmp (added w e (pair b t)) (e, pair r t)) refl
+
+  -- a relationship whose pair comes both ways has a cycle
+  two_ways : (r : ℕ) → New (e, pair r t) → New (t, pair r e) → HasCycle (upward (ids_of then) r)
+  two_ways r n m = (e, (t, new_step w e (pair b t) h may r e t n, onward itself (new_step w e (pair b t) h may r t e m)))
+
+  -- from others than e no step goes, where the pair comes one way
+  steps_stay : (r : ℕ) → holds w r (plain acyclic) ≡ true → (New (t, pair r e) → (t == e) ≡ false → ⊥) → (x y : ℕ) → (x == e) ≡ false → Contains (upward (ids_of w) r x) y → Contains (upward (ids_of then) r x) y
+  steps_stay r is one x y other c =
+      let held = leads_holds w r x y c in
+      holds_leads then r x y (stays w e (pair b t) (facts_after_add w e (pair b t)) h (a w e (pair b t) h may) may (x, pair r y) held (refuted (is_replaced w e (pair b t) (x, pair r y)) goes))
+    where
+      away : (g : Key) → New g → (q : ℕ) (s : ℕ) → g ≡ (g.0, pair q s) → x ≡ g.0 → r ≡ q → ⊥
+      away g n q s p k l =
+          let m : New (x, pair r s) = subst New (p ∙ (λ j. (sym k j, pair (sym l j) s))) n in
+          elim (form r x s m) [
+            | inl f ↦ true≢false (sym (eq_itself e) ∙ (ap (λ z. z == e) (sym f.0) ∙ other))
+            | inr f ↦ one (subst New (λ j. (f.0 j, pair r (f.1 j))) m) (ap (λ z. z == e) (sym f.0) ∙ other)
+          ]
+
+      goes : is_replaced w e (pair b t) (x, pair r y) ≡ true → ⊥
+      goes g =
+          let by = gone_by w e (pair b t) (facts_after_add w e (pair b t)) h (a w e (pair b t) h may) may (x, pair r y) g in
+          let way = by.2 in
+          elim way.what [
+            | inl z ↦ let s = same_parts x by.0.0 r way.r y way.u z in away by.0 by.1 way.r way.t way.is_pair s.0 s.1
+            | inr z ↦ let s = same_parts x way.u r way.r y by.0.0 z.1 in
+                let back = (h.traits).mirrored by.0.0 way.r way.u z.0 way.held in
+                none_before w e (pair b t) h may way.r (sym (ap (λ q. holds w q (plain acyclic)) s.1) ∙ is)
+                (by.0.0, (way.u, holds_leads w way.r by.0.0 way.u way.held, onward itself (holds_leads w way.r way.u by.0.0 back)))
+          ]
+
+  -- up to e, a way needs no step from e
+  way_stays : (r : ℕ) → ((x y : ℕ) → (x == e) ≡ false → Contains (upward (ids_of w) r x) y → Contains (upward (ids_of then) r x) y) → {y : ℕ} → Reached (upward (ids_of w) r) t y
+      → Reached (upward (ids_of then) r) t e ⊎ Reached (upward (ids_of then) r) t y
+  way_stays r stay itself = inr itself
+  way_stays r stay (onward {y = y} {z = z} n c) = by (y == e) refl (way_stays r stay n)
+    where
+      by : (same : Bool) → (y == e) ≡ same → Reached (upward (ids_of then) r) t e ⊎ Reached (upward (ids_of then) r) t y → Reached (upward (ids_of then) r) t e ⊎ Reached (upward (ids_of then) r) t z
+      by same d (inl done) = inl done
+      by true d (inr m) = inl (subst (Reached (upward (ids_of then) r) t) (eq_same y e d) m)
+      by false d (inr m) = inr (onward m (stay y z d c))
+
+  closes : (r : ℕ) → holds w r (plain acyclic) ≡ true → New (e, pair r t) → Reached (upward (ids_of w) r) t e → HasCycle (upward (ids_of then) r)
+  closes r is n way = by (has_key key_cmp (added w e (pair b t)) (t, pair r e)) refl
+    where
+      by : (back : Bool) → has_key key_cmp (added w e (pair b t)) (t, pair r e) ≡ back → HasCycle (upward (ids_of then) r)
+      by true m = two_ways r n (is_new w e (pair b t) h may (t, pair r e) m)
+      by false m =
+          let stay = steps_stay r is (λ x d. not_new w e (pair b t) h may (t, pair r e) m x) in
+          (e, (t, new_step w e (pair b t) h may r e t n, elim (way_stays r stay way) [ inl q ↦ q | inr q ↦ q ]))
+
+  one_closes : (x r s : ℕ) → New (x, pair r s) → holds w r (plain acyclic) ≡ true → (¬ (x ≡ e)) ⊎ Reached (upward (ids_of w) r) s e → HasCycle (upward (ids_of then) r)
+  one_closes x r s n is alt = by (x == e) refl (form r x s n) alt
+    where
+      differ : (x == e) ≡ false → x ≡ e → ⊥
+      differ d q = true≢false (sym (eq_itself e) ∙ (ap (λ z. z == e) (sym q) ∙ d))
+
+      by : (same : Bool) → (x == e) ≡ same → ((x ≡ e) × (s ≡ t)) ⊎ ((x ≡ t) × (s ≡ e)) → (¬ (x ≡ e)) ⊎ Reached (upward (ids_of w) r) s e → HasCycle (upward (ids_of then) r)
+      by false d (inl f) g = absurd (differ d f.0)
+      by false d (inr f) g =
+          let back : New (t, pair r e) = subst New (λ j. (f.0 j, pair r (f.1 j))) n in
+          two_ways r (both_ways w h e b t may.mentions (ap (λ z. z == e) (sym f.0) ∙ d) back r refl) back
+      by true d f (inl g) = absurd (g (eq_same x e d))
+      by true d (inl f) (inr g) = closes r is (subst New (λ j. (f.0 j, pair r (f.1 j))) n) (subst (λ z. Reached (upward (ids_of w) r) z e) f.1 g)
+      by true d (inr f) (inr g) =
+          let q : t ≡ e = sym f.0 ∙ eq_same x e d in
+          let ends : s ≡ t = f.1 ∙ sym q in
+          closes r is (subst New (λ j. (eq_same x e d j, pair r (ends j))) n) (subst (λ z. Reached (upward (ids_of w) r) z e) ends g)
+
+-- by what is added: a plain id closes nothing
+closed_by : (w : WorldState) (e : ℕ) (i : Id) (h : IsWellFormed w) (may : MayCome w e i) (r : ℕ) → holds w r (plain acyclic) ≡ true
+    → HasCycle (upward (ids_of (with_facts w (facts_after_add w e i))) r) → Closed w e i h may
+closed_by w e (plain c) h may r is cycle =
+    absurd (none_new w e (plain c) h may r is cycle (λ x y n. let f = added_form w h e (plain c) may.mentions n in no_pair e x f.0 r y (sym f.2)))
+closed_by w e (pair b t) h may r is cycle = some_closes w e b t h may r is cycle
+
+closes_by : (w : WorldState) (e : ℕ) (i : Id) (h : IsWellFormed w) (may : MayCome w e i) (k : Key) → IsAdded (ids_of w) (e, i) k → ClosesAt (ids_of w) e k
+    → (r : ℕ) × (holds w r (plain acyclic) ≡ true) × HasCycle (upward (ids_of (with_facts w (facts_after_add w e i))) r)
+closes_by w e i h may (x, plain d) n c = absurd cc
+closes_by w e (plain b) h may (x, pair r s) n c = let f = added_form w h e (plain b) may.mentions n in absurd (no_pair e x f.0 r s (sym f.2))
+closes_by w e (pair b t) h may (x, pair r s) n (u, ends, is, alt) =
+    let same : u ≡ s = cc in
+    let held = sym (is_held-holds w r (plain acyclic)) ∙ is in
+    (r, held, one_closes w e b t h may x r s n held (subst (λ z. (¬ (x ≡ e)) ⊎ Reached (upward (ids_of w) r) z e) same alt))
+
+pub added_pairs_close : AddedPairsClose
+added_pairs_close w e i h dead built fixed =
+    let may = may_come w e i h dead built fixed in
+    let left : WorldState = with_facts w (facts_after_add w e.index i) in
+    let addition = add_is_addition w e.index i h may.mentions in
+    let tells = has_cycle_tells left (facts_live_after w e.index i (facts_after_add w e.index i) h addition may) in (
+      λ t. let r = tells.0 t in closed_by w e.index i h may r.0 (was_acyclic w e.index i h may r.0 r.1 r.2) r.2,
+      λ k. let r = closes_by w e.index i h may k.0 k.1 k.2 in tells.1 (r.0, plain_stays w e.index i (facts_after_add w e.index i) h addition may r.0 acyclic r.1, r.2),
+    )
