@@ -15,6 +15,7 @@ pub mod Adding
 pub mod Replacing
 pub mod KeptByAdd
 pub mod KeptByRemove
+pub mod CyclesLeft
 pub mod Accepted
 pub mod Steps
 pub mod SameKeys

@@ -1,5 +1,5 @@
 -- What an accepted `add`, `set` or `remove` leaves is well formed.
-use Rattle.std.proofs.Common.{◌≡◌, ℕ, ◌-◌, ◌≤◌, ◌==◌, Bool, true, false, not, ◌&&◌, ◌||◌, List, [], ◌∷◌, ◌++◌, length, refl, sym, ap, subst, ◌∙◌, inl, inr, arith, true≢false}
+use Rattle.std.proofs.Common.{◌≡◌, ℕ, ◌≤◌, ◌==◌, Bool, true, false, not, ◌&&◌, ◌||◌, List, [], ◌∷◌, ◌++◌, length, refl, sym, ap, subst, ◌∙◌, inl, inr, arith, true≢false}
 use Rattle.std.specs.Prelude.{ℤ, Option, Some, None, is_some, filter_map, nat_lt, if◌then◌else◌}
 use Rattle.std.specs.List.{Contains, list_all, list_any}
 use Rattle.std.specs.Option.{option_eq}
@@ -7,32 +7,31 @@ use Rattle.std.specs.Ordering.{nat_cmp}
 use Rattle.std.proofs.lemmas.Bool.Decides.{nat_tests, Decides-eqb}
 use Rattle.std.proofs.lemmas.List.{length-map}
 use Rattle.ecs_id.specs.declared.EntityId.{EntityId}
-use Rattle.ecs_id.specs.Id.{Id, plain, pair, id_eq, mentioned}
+use Rattle.ecs_id.specs.Id.{Id, plain, id_eq, mentioned}
 use Rattle.ecs_model.specs.declared.faults.Refusal.{Refusal}
 use Rattle.ecs_model.specs.declared.faults.Refusal.TheVariants.{Dead, BuiltIn, NoData, Count, Range, TraitFixed, Cycle, TooManyIds, Full}
 use Rattle.ecs_model.specs.Added.{IsAdded, is_used}
 use Rattle.ecs_model.specs.BuiltIns.{acyclic}
 use Rattle.ecs_model.specs.Command.{counted, is_crowded, is_dead, is_spent, value_reasons, with_facts}
-use Rattle.ecs_model.specs.Links.{IsAcyclic, upward}
+use Rattle.ecs_model.specs.Links.{IsAcyclic}
 use Rattle.ecs_model.specs.Map.{Map, has_key, keys, value_at, with_value}
 use Rattle.ecs_model.specs.Reach.{itself}
 use Rattle.ecs_model.specs.Refusal.{first_reason}
 use Rattle.ecs_model.specs.Schema.{Schema, all_fit}
-use Rattle.ecs_model.specs.Sets.{has_chain}
 use Rattle.ecs_model.specs.World.{WorldState, Key, key_cmp, component, entities, holds, ids_of, is_alive, is_built_in, is_live, new_value, type_of_id}
 use Rattle.ecs_model.specs.traits.Changes.{added, facts_after_add}
 use Rattle.ecs_model.specs.traits.Command.{Add, SetValue, Remove, add_reasons, adds_built_in, changes_trait, effect, has_cycle, is_pinned, reasons}
 use Rattle.ecs_model.specs.traits.Keeps.{IsWellFormed}
 use Rattle.ecs_model.specs.traits.Rules.{is_trait}
 use Rattle.ecs_model.proofs.Additions.{none_held}
-use Rattle.ecs_model.proofs.LeastSets.{chains_are_short}
 use Rattle.ecs_model.proofs.Maps.{IsMap-with_value, fact_value_at, key_cmp_same, key_cmp_total, keys-with_value}
-use Rattle.ecs_model.proofs.Members.{and_true, any_passes}
+use Rattle.ecs_model.proofs.Members.{any_passes}
 use Rattle.ecs_model.proofs.Reasons.{denied, neither, passed}
 use Rattle.ecs_model.proofs.Typing.{IsTyped, zeros_typed}
 use Rattle.ecs_model.proofs.traits.Adding.{added_are_members}
-use Rattle.ecs_model.proofs.traits.Facts.{key_there, leads_holds, live_listed}
-use Rattle.ecs_model.proofs.traits.Kept.{each_passes, refuted}
+use Rattle.ecs_model.proofs.traits.CyclesLeft.{none_closes}
+use Rattle.ecs_model.proofs.traits.Facts.{key_there, live_listed}
+use Rattle.ecs_model.proofs.traits.Kept.{refuted}
 use Rattle.ecs_model.proofs.traits.KeptByAdd.{IsAddition, MayCome, addition_keeps, facts_live_after}
 use Rattle.ecs_model.proofs.traits.KeptByRemove.{removal_keeps}
 use Rattle.ecs_model.proofs.traits.Replacing.{IsMap-add, added_there, value-add}
@@ -56,28 +55,6 @@ few_ids w facts live crowd f = by (is_live w f) refl
         let empty : ids_of (with_facts w facts) f ≡ [] =
         none_held f facts (λ j. refuted (has_key key_cmp facts (f, j)) (λ held. true≢false (sym (live f j held).0 ∙ dead))) in
         subst (λ is. length is ≤ 64) (sym empty) (omega arith)
-
--- and no acyclic relationship has a cycle, where the test finds none
-acyclic_left : (v : WorldState) → ((f : ℕ) (j : Id) → holds v f j ≡ true → (is_live v f ≡ true) × (list_all (is_live v) (mentioned j) ≡ true))
-    → has_cycle v ≡ false → (r : ℕ) → holds v r (plain acyclic) ≡ true → IsAcyclic (ids_of v) r
-acyclic_left v live none r is x c = true≢false (sym (any_passes cyclic (entities v) r (live_listed v r (live r (plain acyclic) is).0) (and_true (holds v r (plain acyclic)) (list_any closed (entities v)) is closes)) ∙ none)
-  where
-    next : ℕ → List ℕ
-    next = upward (ids_of v) r
-
-    closed : ℕ → Bool
-    closed y = has_chain next (length (entities v) - 1) y y
-
-    cyclic : ℕ → Bool
-    cyclic q = holds v q (plain acyclic) && list_any (λ y. has_chain (upward (ids_of v) q) (length (entities v) - 1) y y) (entities v)
-
-    leads_live : (y z : ℕ) → Contains (next y) z → Contains (entities v) z
-    leads_live y z n = live_listed v z (each_passes (is_live v) (mentioned (pair r z)) (live y (pair r z) (leads_holds v r y z n)).1 z (1, omega arith, refl))
-
-    closes : list_any closed (entities v) ≡ true
-    closes =
-        any_passes closed (entities v) x (live_listed v x (live x (pair r c.0) (leads_holds v r x c.0 c.1)).0)
-        ((chains_are_short next (length (entities v) - 1) (entities v) (omega arith) leads_live x x).1 c)
 
 -- what no member of a list passes
 none_pass : {A : Type 0} (p : A → Bool) (xs : List A) → list_any p xs ≡ false → (x : A) → Contains xs x → p x ≡ false
@@ -180,7 +157,7 @@ keeps_add w e i h r =
     let a = add_is_addition w e.index i h may.mentions in
     let facts = facts_after_add w e.index i in
     let live = facts_live_after w e.index i facts h a may in
-    addition_keeps w e.index i facts h a may ok.room (few_ids w facts live ok.few) (acyclic_left (with_facts w facts) live ok.acyclic)
+    addition_keeps w e.index i facts h a may ok.room (few_ids w facts live ok.few) (none_closes (with_facts w facts) live ok.acyclic)
 
 -- an accepted `set` leaves a well-formed world: it holds what `add` leaves, with one value more
 pub keeps_set : (w : WorldState) (e : EntityId) (i : Id) (vs : List ℤ) → IsWellFormed w → first_reason (reasons w (SetValue e i vs)) ≡ None
@@ -231,7 +208,7 @@ keeps_set w e i vs h r = addition_keeps w e.index i set h (set_is_addition w e.i
     before q there = elim (fact_value_at facts (e.index, i) vs q) [ inl p ↦ rw (p.0) held | inr p ↦ sym (ap is_some p.1) ∙ there ]
 
     no_cycle : (r : ℕ) → has_key key_cmp set (r, plain acyclic) ≡ true → IsAcyclic (ids_of (with_facts w set)) r
-    no_cycle r there = subst (λ ids. IsAcyclic ids r) (sym same_ids) (acyclic_left (with_facts w facts) live ok.acyclic r (before (r, plain acyclic) there))
+    no_cycle r there = subst (λ ids. IsAcyclic ids r) (sym same_ids) (none_closes (with_facts w facts) live ok.acyclic r (before (r, plain acyclic) there))
 
 -- an accepted `remove` leaves a well-formed world
 pub keeps_remove : (w : WorldState) (e : EntityId) (i : Id) → IsWellFormed w → first_reason (reasons w (Remove e i)) ≡ None → IsWellFormed (counted (effect w (Remove e i)))

@@ -1,7 +1,7 @@
 -- An added set makes a cycle exactly where one of its pairs closes one.
-use Rattle.std.specs.Prelude.{◌≡◌, ◌⊎◌, ◌↔◌, ℕ, ◌-◌, ◌==◌, ◌&&◌, IsTrue, Bool, true, false, [], ◌∷◌, ◌++◌, length, map, cond}
-use Rattle.std.specs.List.{Contains, list_all, list_any}
-use Rattle.std.proofs.Common.{refl, sym, ap, subst, ◌∙◌, inl, inr, arith, true≢false}
+use Rattle.std.specs.Prelude.{◌≡◌, ◌⊎◌, ℕ, ◌==◌, Bool, true, false, [], ◌∷◌, ◌++◌, map, cond}
+use Rattle.std.specs.List.{Contains, list_all}
+use Rattle.std.proofs.Common.{refl, sym, ap, subst, ◌∙◌, inl, inr, true≢false}
 use Rattle.std.proofs.lemmas.List.Elements.{Contains-append_cases, Contains-append_left, Contains-push}
 use Rattle.ecs_id.specs.Id.{Id, plain, pair, mentioned, first_of}
 use Rattle.ecs_model.specs.Added.{IsAdded, mirror, with_first}
@@ -10,51 +10,21 @@ use Rattle.ecs_model.specs.Command.{with_facts}
 use Rattle.ecs_model.specs.Cycles.{HasCycle, after_step}
 use Rattle.ecs_model.specs.Links.{is_held, upward}
 use Rattle.ecs_model.specs.Map.{has_key}
-use Rattle.ecs_model.specs.Reach.{HasChain, Reached, itself, onward}
-use Rattle.ecs_model.specs.Sets.{has_chain}
-use Rattle.ecs_model.specs.World.{WorldState, Key, key_cmp, is_live, entities, holds, ids_of}
+use Rattle.ecs_model.specs.Reach.{Reached, itself, onward}
+use Rattle.ecs_model.specs.World.{WorldState, Key, key_cmp, is_live, holds, ids_of}
 use Rattle.ecs_model.specs.traits.Changes.{added, facts_after_add}
-use Rattle.ecs_model.specs.traits.Command.{has_cycle}
 use Rattle.ecs_model.specs.traits.Keeps.{IsWellFormed}
 use Rattle.ecs_model.specs.traits.Laws.{AddedPairsClose, ClosesAt}
 use Rattle.ecs_model.proofs.Closing.{steps_close_chains}
-use Rattle.ecs_model.proofs.LeastSets.{chains_are_short}
-use Rattle.ecs_model.proofs.Members.{and_true, any_passes, both, eq_itself, eq_same, passing}
+use Rattle.ecs_model.proofs.Members.{eq_itself, eq_same}
 use Rattle.ecs_model.proofs.traits.Accepted.{add_is_addition, may_come}
 use Rattle.ecs_model.proofs.traits.Adding.{HasForm, added_are_members, added_form, by_with, from_mirror, in_map}
-use Rattle.ecs_model.proofs.traits.Facts.{holds_leads, is_held-holds, leads_holds, live_listed}
+use Rattle.ecs_model.proofs.traits.CyclesLeft.{has_cycle_tells}
+use Rattle.ecs_model.proofs.traits.Facts.{holds_leads, is_held-holds, leads_holds}
 use Rattle.ecs_model.proofs.traits.Fewer.{chain_of_more}
-use Rattle.ecs_model.proofs.traits.Kept.{each_passes, refuted}
-use Rattle.ecs_model.proofs.traits.KeptByAdd.{IsAddition, MayCome, came_or_stayed, facts_live_after, gone_by, no_pair, plain_stays, same_parts, stays, trait_before}
+use Rattle.ecs_model.proofs.traits.Kept.{refuted}
+use Rattle.ecs_model.proofs.traits.KeptByAdd.{IsAddition, MayCome, came_or_stayed, came_or_was, facts_live_after, gone_by, no_pair, plain_stays, same_parts, stays, trait_before}
 use Rattle.ecs_model.proofs.traits.Replacing.{is_replaced}
-
--- the test of cycles tells whether an acyclic relationship has one, where facts mention live entities
-has_cycle_tells : (v : WorldState) → ((f : ℕ) (j : Id) → holds v f j ≡ true → (is_live v f ≡ true) × (list_all (is_live v) (mentioned j) ≡ true))
-    → IsTrue (has_cycle v) ↔ ((r : ℕ) × (holds v r (plain acyclic) ≡ true) × HasCycle (upward (ids_of v) r))
-has_cycle_tells v live = (
-  λ t. let r = passing cyclic (entities v) t in
-      let parts = both (holds v r.0 (plain acyclic)) (list_any (closed r.0) (entities v)) r.2 in
-      let x = passing (closed r.0) (entities v) parts.1 in
-      (r.0, parts.0, (x.0, (chains r.0 x.0).0 x.2)),
-  λ c. any_passes cyclic (entities v) c.0 (live_listed v c.0 (live c.0 (plain acyclic) c.1).0)
-      (and_true (holds v c.0 (plain acyclic)) (list_any (closed c.0) (entities v)) c.1
-      (any_passes (closed c.0) (entities v) (c.2).0 (starts_live c.0 (c.2).0 (c.2).1) ((chains c.0 (c.2).0).1 (c.2).1))),
-)
-  where
-    closed : ℕ → ℕ → Bool
-    closed r y = has_chain (upward (ids_of v) r) (length (entities v) - 1) y y
-
-    cyclic : ℕ → Bool
-    cyclic q = holds v q (plain acyclic) && list_any (λ y. has_chain (upward (ids_of v) q) (length (entities v) - 1) y y) (entities v)
-
-    starts_live : (r x : ℕ) → HasChain (upward (ids_of v) r) x x → Contains (entities v) x
-    starts_live r x c = live_listed v x (live x (pair r c.0) (leads_holds v r x c.0 c.1)).0
-
-    leads_live : (r y z : ℕ) → Contains (upward (ids_of v) r y) z → Contains (entities v) z
-    leads_live r y z n = live_listed v z (each_passes (is_live v) (mentioned (pair r z)) (live y (pair r z) (leads_holds v r y z n)).1 z (1, omega arith, refl))
-
-    chains : (r x : ℕ) → IsTrue (has_chain (upward (ids_of v) r) (length (entities v) - 1) x x) ↔ HasChain (upward (ids_of v) r) x x
-    chains r x = chains_are_short (upward (ids_of v) r) (length (entities v) - 1) (entities v) (omega arith) (leads_live r) x x
 
 -- a pair whose mirror was added was added itself
 both_ways : (w : WorldState) (h : IsWellFormed w) (e b t : ℕ) → list_all (is_live w) (mentioned (pair b t)) ≡ true → (t == e) ≡ false → {z : Key} → IsAdded (ids_of w) (e, pair b t) z
@@ -109,7 +79,8 @@ module _ (w : WorldState) (e : ℕ) (i : Id) (h : IsWellFormed w) (may : MayCome
 
   -- an acyclic relationship with a cycle was Acyclic before
   was_acyclic : (r : ℕ) → holds left r (plain acyclic) ≡ true → HasCycle (upward (ids_of left) r) → holds w r (plain acyclic) ≡ true
-  was_acyclic r is c = trait_before w e i (facts_after_add w e i) h a may c.0 r (c.1).0 acyclic refl (leads_holds left r c.0 (c.1).0 (c.1).1) is
+  was_acyclic r is c = trait_before w e i (facts_after_add w e i) h a may c.0 r (c.1).0 acyclic refl
+      (came_or_was w e i (facts_after_add w e i) h a may (c.0, pair r (c.1).0) (leads_holds left r c.0 (c.1).0 (c.1).1)) is
 
   none_before : (r : ℕ) → holds w r (plain acyclic) ≡ true → ¬ (HasCycle (upward (ids_of w) r))
   none_before r is c = (h.traits).no_cycle r is c.0 c.1

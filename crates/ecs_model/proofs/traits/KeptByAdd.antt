@@ -122,20 +122,24 @@ module _ (w : WorldState) (e : ℕ) (i : Id) (facts : Map Key (List ℤ)) (h : I
       any_passes (λ x. list_any (λ j. first_of j == r) (ids_of w x)) (entities w) f (live_listed w f (holder_lives w h f (pair r t) held))
       (any_passes (λ j. first_of j == r) (ids_of w f) (pair r t) (held_listed w f (pair r t) held) (eq_itself r))
 
-  -- a trait of a relationship that has a pair was there before
-  pub trait_before : (f r t c : ℕ) → is_trait (plain c) ≡ true → has_key key_cmp facts (f, pair r t) ≡ true → has_key key_cmp facts (r, plain c) ≡ true → holds w r (plain c) ≡ true
+  -- a fact that is there came, or was there
+  pub came_or_was : (q : Key) → has_key key_cmp facts q ≡ true → IsNew q ⊎ (has_key key_cmp w.facts q ≡ true)
+  came_or_was q held = elim (came_or_stayed q held) [ inl n ↦ inl n | inr s ↦ inr s.1 ]
+
+  -- a trait of a relationship was there before, if a pair of it came or was there
+  pub trait_before : (f r t c : ℕ) → is_trait (plain c) ≡ true → IsNew (f, pair r t) ⊎ (holds w f (pair r t) ≡ true) → has_key key_cmp facts (r, plain c) ≡ true → holds w r (plain c) ≡ true
   trait_before f r t c is p q = by (holds w r (plain c)) refl
     where
-      clash : IsNew (r, plain c) → holds w r (plain c) ≡ false → IsNew (f, pair r t) ⊎ ((gone (f, pair r t) ≡ false) × (holds w f (pair r t) ≡ true)) → ⊥
+      clash : IsNew (r, plain c) → holds w r (plain c) ≡ false → IsNew (f, pair r t) ⊎ (holds w f (pair r t) ≡ true) → ⊥
       clash n new (inl m) =
           let x = added_form w h e i may.mentions n in let y = added_form w h e i may.mentions m in not_mixed e i x.0 y.0 f r t r c x.2 y.2
-      clash n new (inr s) = true≢false (sym (used f r t s.1) ∙ may.fixed (r, plain c) n new is)
+      clash n new (inr s) = true≢false (sym (used f r t s) ∙ may.fixed (r, plain c) n new is)
 
       by : (b : Bool) → holds w r (plain c) ≡ b → b ≡ true
       by true held = refl
       by false new =
           elim (came_or_stayed (r, plain c) q) [
-            | inl n ↦ absurd (clash n new (came_or_stayed (f, pair r t) p))
+            | inl n ↦ absurd (clash n new p)
             | inr s ↦ absurd (true≢false (sym s.1 ∙ new))
           ]
 
@@ -143,7 +147,7 @@ module _ (w : WorldState) (e : ℕ) (i : Id) (facts : Map Key (List ℤ)) (h : I
   one_target f r t u x p q = by (t == u) refl
     where
       only : holds w r (plain exclusive) ≡ true
-      only = trait_before f r t exclusive refl p x
+      only = trait_before f r t exclusive refl (came_or_was (f, pair r t) p) x
 
       clash : (v z : ℕ) → IsNew (f, pair r v) → (gone (f, pair r z) ≡ false) × (holds w f (pair r z) ≡ true) → (z == v) ≡ false → ⊥
       clash v z n s d = true≢false (sym (goes (f, pair r v) (f, pair r z) n (other_displaced w f r v z only s.1 d)) ∙ s.0)
@@ -164,7 +168,7 @@ module _ (w : WorldState) (e : ℕ) (i : Id) (facts : Map Key (List ℤ)) (h : I
   mirrored f r t s p = elim (came_or_stayed (f, pair r t) p) [ inl n ↦ with_mirror n | inr m ↦ stays (t, pair r f) ((h.traits).mirrored f r t both m.1) (refuted (gone (t, pair r f)) (together m.0)) ]
     where
       both : holds w r (plain symmetric) ≡ true
-      both = trait_before f r t symmetric refl p s
+      both = trait_before f r t symmetric refl (came_or_was (f, pair r t) p) s
 
       with_mirror : IsNew (f, pair r t) → holds after t (pair r f) ≡ true
       with_mirror n =
@@ -216,7 +220,8 @@ module _ (w : WorldState) (e : ℕ) (i : Id) (facts : Map Key (List ℤ)) (h : I
         | inr s ↦ (h.live).facts f j s.1
       ]
 
-  types_kept : (f : ℕ) (j : Id) → has_key key_cmp facts (f, j) ≡ true → type_of_id after j ≡ type_of_id w j
+  -- an id that came or was held keeps its type
+  pub types_kept : (f : ℕ) (j : Id) → IsNew (f, j) ⊎ (holds w f j ≡ true) → type_of_id after j ≡ type_of_id w j
   types_kept f (plain c) held = refl
   types_kept f (pair r t) held =
       ap (λ b. if b then None else option_or (value_at nat_cmp w.schemas r) (value_at nat_cmp w.schemas t))
@@ -250,7 +255,7 @@ module _ (w : WorldState) (e : ℕ) (i : Id) (facts : Map Key (List ℤ)) (h : I
     live = record { names = (h.live).names; names_differ = (h.live).names_differ; schemas = (h.live).schemas; pins = (h.live).pins; facts = facts_live_after };
     typed = λ f j.
         if_some (IsTyped (type_of_id after j)) (value_of after f j)
-        (λ x found. subst (λ o. IsTyped o x) (sym (types_kept f j (ap is_some found))) (still_typed f j x found));
+        (λ x found. subst (λ o. IsTyped o x) (sym (types_kept f j (came_or_was (f, j) (ap is_some found)))) (still_typed f j x found));
     few_ids = few;
     counted = not_spent w.accepted spent;
     traits = record { one_target = one_target; mirrored = mirrored; traversable_acyclic = traversable_acyclic; no_cycle = no_cycle };

@@ -148,12 +148,15 @@ module _ (w : WorldState) where
     abbrev left : Map Key (List ℤ)
     left = without key_cmp w.facts is_replaced
 
-    pub replaced_by : (q : Key) → is_replaced q ≡ true → (a : Key) × IsTrue (has_key key_cmp (added w e i) a) × GivesWay a q
+    pub replaced_in : (q : Key) → is_replaced q ≡ true → (a : Key) × IsTrue (has_key key_cmp (added w e i) a) × Contains (displaced ids a) q
     unfolding replaced
-    replaced_by q h =
+    replaced_in q h =
         let k = passing (key_eq q) (replaced w e i) h in
         let found = from_flat_map (displaced ids) (keys (added w e i)) q (subst (Contains (replaced w e i)) (sym (key_eq_same q k.0 k.2)) k.1) in
-        (found.0, there_key key_cmp key_cmp_total (added w e i) found.0 found.1, from_displaced found.0 q found.2)
+        (found.0, there_key key_cmp key_cmp_total (added w e i) found.0 found.1, found.2)
+
+    pub replaced_by : (q : Key) → is_replaced q ≡ true → (a : Key) × IsTrue (has_key key_cmp (added w e i) a) × GivesWay a q
+    replaced_by q h = let r = replaced_in q h in (r.0, r.1, from_displaced r.0 q r.2)
 
     pub gives_way : (a q : Key) → has_key key_cmp (added w e i) a ≡ true → Contains (displaced ids a) q → is_replaced q ≡ true
     unfolding replaced
