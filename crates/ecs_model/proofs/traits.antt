@@ -23,3 +23,4 @@ pub mod Differences
 pub mod AfterAdd
 pub mod Found
 pub mod Cycles
+pub mod TypesStay

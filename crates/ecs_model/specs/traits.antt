@@ -5,3 +5,4 @@ pub mod Command
 pub mod Pins
 pub mod Keeps
 pub mod Laws
+pub mod FactLaws

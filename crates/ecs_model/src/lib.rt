@@ -5,6 +5,7 @@
 
 pub mod built_ins;
 pub mod facts;
+pub mod fact_laws;
 pub mod faults;
 pub mod laws;
 pub mod names;

@@ -111,7 +111,7 @@ add_is_addition w e i h m = record {
 }
 
 -- and so is `set`, with a value of the id's type
-set_is_addition : (w : WorldState) (e : ℕ) (i : Id) (facts : Map Key (List ℤ)) (vs : List ℤ) → IsAddition w e i facts → IsTyped (type_of_id w i) vs
+pub set_is_addition : (w : WorldState) (e : ℕ) (i : Id) (facts : Map Key (List ℤ)) (vs : List ℤ) → IsAddition w e i facts → IsTyped (type_of_id w i) vs
     → IsAddition w e i (with_value key_cmp facts (e, i) vs)
 set_is_addition w e i facts vs a fits = record {
   in_order = IsMap-with_value key_cmp key_cmp_total facts (e, i) vs a.in_order;
@@ -123,20 +123,27 @@ set_is_addition w e i facts vs a fits = record {
       ];
 }
 
--- what is not refused
-record IsAccepted (w : WorldState) (e : ℕ) (i : Id) : Type 0 where
-  fixed : changes_trait w e i ≡ false
-  acyclic : has_cycle (with_facts w (facts_after_add w e i)) ≡ false
-  few : is_crowded (with_facts w (facts_after_add w e i)) ≡ false
+-- an addition against which there is no reason: it may come, and what it leaves has no cycle and no entity with too many ids
+pub record IsAccepted (w : WorldState) (e : EntityId) (i : Id) : Type 0 where
+  pub may : MayCome w e.index i
+  acyclic : has_cycle (with_facts w (facts_after_add w e.index i)) ≡ false
+  few : is_crowded (with_facts w (facts_after_add w e.index i)) ≡ false
   room : is_spent w ≡ false
 
-accepted : (w : WorldState) (e : ℕ) (i : Id) → first_reason (add_reasons w e i) ≡ None → IsAccepted w e i
-accepted w e i r =
-    let left : WorldState = with_facts w (facts_after_add w e i) in
-    let fixed = passed (changes_trait w e i) TraitFixed ((has_cycle left, Cycle) ∷ (is_crowded left, TooManyIds) ∷ (is_spent w, Full) ∷ []) r in
+accepted : (w : WorldState) (e : EntityId) (i : Id) → IsWellFormed w → is_dead w e i ≡ false → adds_built_in w e.index i ≡ false → first_reason (add_reasons w e.index i) ≡ None → IsAccepted w e i
+accepted w e i h dead built r =
+    let left : WorldState = with_facts w (facts_after_add w e.index i) in
+    let fixed = passed (changes_trait w e.index i) TraitFixed ((has_cycle left, Cycle) ∷ (is_crowded left, TooManyIds) ∷ (is_spent w, Full) ∷ []) r in
     let acyclic = passed (has_cycle left) Cycle ((is_crowded left, TooManyIds) ∷ (is_spent w, Full) ∷ []) fixed.1 in
     let few = passed (is_crowded left) TooManyIds ((is_spent w, Full) ∷ []) acyclic.1 in
-    record { fixed = fixed.0; acyclic = acyclic.0; few = few.0; room = (passed (is_spent w) Full [] few.1).0 }
+    record { may = may_come w e i h dead built fixed.0; acyclic = acyclic.0; few = few.0; room = (passed (is_spent w) Full [] few.1).0 }
+
+pub accepted_add : (w : WorldState) (e : EntityId) (i : Id) → IsWellFormed w → first_reason (reasons w (Add e i)) ≡ None → IsAccepted w e i
+unfolding reasons
+accepted_add w e i h r =
+    let dead = passed (is_dead w e i) Dead ((adds_built_in w e.index i, BuiltIn) ∷ add_reasons w e.index i) r in
+    let own = passed (adds_built_in w e.index i) BuiltIn (add_reasons w e.index i) dead.1 in
+    accepted w e i h dead.0 own.0 own.1
 
 -- values against which there is no reason are of their id's type
 values_typed : (o : Option Schema) (vs : List ℤ) (rs : List (Bool × Refusal)) → first_reason (value_reasons o vs ++ rs) ≡ None → IsTyped o vs × (first_reason rs ≡ None)
@@ -146,39 +153,36 @@ values_typed (Some fs) vs rs r =
     let ranged = passed (not (all_fit fs vs)) Range rs counted.1 in
     (((Decides-eqb (length vs) (length fs)).0 (denied (length vs == length fs) counted.0) ∙ sym (length-map fs _), denied (all_fit fs vs) ranged.0), ranged.1)
 
+pub accepted_set : (w : WorldState) (e : EntityId) (i : Id) (vs : List ℤ) → IsWellFormed w → first_reason (reasons w (SetValue e i vs)) ≡ None
+    → IsTyped (type_of_id w i) vs × IsAccepted w e i
+unfolding reasons
+accepted_set w e i vs h r =
+    let dead = passed (is_dead w e i) Dead ((adds_built_in w e.index i, BuiltIn) ∷ (value_reasons (type_of_id w i) vs ++ add_reasons w e.index i)) r in
+    let own = passed (adds_built_in w e.index i) BuiltIn (value_reasons (type_of_id w i) vs ++ add_reasons w e.index i) dead.1 in
+    let typed = values_typed (type_of_id w i) vs (add_reasons w e.index i) own.1 in
+    (typed.0, accepted w e i h dead.0 own.0 typed.1)
+
 -- an accepted `add` leaves a well-formed world
 pub keeps_add : (w : WorldState) (e : EntityId) (i : Id) → IsWellFormed w → first_reason (reasons w (Add e i)) ≡ None → IsWellFormed (counted (effect w (Add e i)))
-unfolding reasons effect
+unfolding effect
 keeps_add w e i h r =
-    let dead = passed (is_dead w e i) Dead ((adds_built_in w e.index i, BuiltIn) ∷ add_reasons w e.index i) r in
-    let own = passed (adds_built_in w e.index i) BuiltIn (add_reasons w e.index i) dead.1 in
-    let ok = accepted w e.index i own.1 in
-    let may = may_come w e i h dead.0 own.0 ok.fixed in
-    let a = add_is_addition w e.index i h may.mentions in
+    let ok = accepted_add w e i h r in
+    let a = add_is_addition w e.index i h (ok.may).mentions in
     let facts = facts_after_add w e.index i in
-    let live = facts_live_after w e.index i facts h a may in
-    addition_keeps w e.index i facts h a may ok.room (few_ids w facts live ok.few) (none_closes (with_facts w facts) live ok.acyclic)
+    let live = facts_live_after w e.index i facts h a ok.may in
+    addition_keeps w e.index i facts h a ok.may ok.room (few_ids w facts live ok.few) (none_closes (with_facts w facts) live ok.acyclic)
 
 -- an accepted `set` leaves a well-formed world: it holds what `add` leaves, with one value more
 pub keeps_set : (w : WorldState) (e : EntityId) (i : Id) (vs : List ℤ) → IsWellFormed w → first_reason (reasons w (SetValue e i vs)) ≡ None
     → IsWellFormed (counted (effect w (SetValue e i vs)))
-unfolding reasons effect
-keeps_set w e i vs h r = addition_keeps w e.index i set h (set_is_addition w e.index i facts vs a typed.0) may ok.room few no_cycle
+unfolding effect
+keeps_set w e i vs h r = addition_keeps w e.index i set h (set_is_addition w e.index i facts vs a typed) ok.may ok.room few no_cycle
   where
-    dead : (is_dead w e i ≡ false) × (first_reason ((adds_built_in w e.index i, BuiltIn) ∷ (value_reasons (type_of_id w i) vs ++ add_reasons w e.index i)) ≡ None)
-    dead = passed (is_dead w e i) Dead ((adds_built_in w e.index i, BuiltIn) ∷ (value_reasons (type_of_id w i) vs ++ add_reasons w e.index i)) r
+    typed : IsTyped (type_of_id w i) vs
+    typed = (accepted_set w e i vs h r).0
 
-    own : (adds_built_in w e.index i ≡ false) × (first_reason (value_reasons (type_of_id w i) vs ++ add_reasons w e.index i) ≡ None)
-    own = passed (adds_built_in w e.index i) BuiltIn (value_reasons (type_of_id w i) vs ++ add_reasons w e.index i) dead.1
-
-    typed : IsTyped (type_of_id w i) vs × (first_reason (add_reasons w e.index i) ≡ None)
-    typed = values_typed (type_of_id w i) vs (add_reasons w e.index i) own.1
-
-    ok : IsAccepted w e.index i
-    ok = accepted w e.index i typed.1
-
-    may : MayCome w e.index i
-    may = may_come w e i h dead.0 own.0 ok.fixed
+    ok : IsAccepted w e i
+    ok = (accepted_set w e i vs h r).1
 
     facts : Map Key (List ℤ)
     facts = facts_after_add w e.index i
@@ -187,10 +191,10 @@ keeps_set w e i vs h r = addition_keeps w e.index i set h (set_is_addition w e.i
     set = with_value key_cmp facts (e.index, i) vs
 
     a : IsAddition w e.index i facts
-    a = add_is_addition w e.index i h may.mentions
+    a = add_is_addition w e.index i h (ok.may).mentions
 
     live : (f : ℕ) (j : Id) → has_key key_cmp facts (f, j) ≡ true → (is_live w f ≡ true) × (list_all (is_live w) (mentioned j) ≡ true)
-    live = facts_live_after w e.index i facts h a may
+    live = facts_live_after w e.index i facts h a ok.may
 
     held : has_key key_cmp facts (e.index, i) ≡ true
     held = a.there (e.index, i) itself

@@ -247,3 +247,8 @@ module _ (w : WorldState) (gone : Set ℕ) (h : IsWellFormed w) (may : MayGo w g
   pub deletion_keeps : is_spent w ≡ false → IsWellFormed (counted (without_entities w gone))
   unfolding without_entities facts_after_delete
   deletion_keeps spent = left_is_well_formed spent
+
+  -- an id that is still held keeps its type
+  pub deletion_types : (e : ℕ) (i : Id) → holds (counted (without_entities w gone)) e i ≡ true → type_of_id (counted (without_entities w gone)) i ≡ type_of_id w i
+  unfolding without_entities facts_after_delete
+  deletion_types e i f = type_stays i (neither (is_gone e) (list_any is_gone (mentioned i)) (held_was e i f).0).1

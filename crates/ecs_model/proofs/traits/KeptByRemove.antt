@@ -135,6 +135,10 @@ module _ (w : WorldState) (e : ℕ) (i : Id) where
     types_kept (pair r t) =
         ap (λ b. if b then None else option_or (value_at nat_cmp w.schemas r) (value_at nat_cmp w.schemas t)) (ap is_some (stays (r, plain pair_is_tag) (trait_stays r pair_is_tag refl)))
 
+    pub removal_types : (j : Id) → type_of_id (counted (with_facts w (facts_after_remove w e i))) j ≡ type_of_id w j
+    unfolding facts_after_remove
+    removal_types j = types_kept j
+
     still_typed : (f : ℕ) (j : Id) (x : List ℤ) → value_at key_cmp facts (f, j) ≡ Some x → IsTyped (type_of_id w j) x
     still_typed f j x found = of_some (IsTyped (type_of_id w j)) (value_of w f j) (h.typed f j) x (was (goes (f, j)) (value_at key_cmp facts (f, j)) (value_of w f j) (at (f, j)) x found).1
 

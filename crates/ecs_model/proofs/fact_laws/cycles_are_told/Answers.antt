@@ -1,0 +1,9 @@
+-- No chain has more steps than there are live entities.
+use Rattle.std.proofs.lemmas.List.Sums.{list_all-from_AllPass}
+use Rattle.ecs_id.specs.Id.{mentioned}
+use Rattle.ecs_model.specs.World.{is_live}
+use Rattle.ecs_model.proofs.traits.CyclesLeft.{cycle_is_told}
+use Rattle.ecs_model.proofs.fact_laws.cycles_are_told.Goals as goal
+
+pub returns : goal.returns
+returns c w e i h l m = cycle_is_told w e i h l (list_all-from_AllPass (is_live w) (mentioned i) m)

@@ -1,0 +1,37 @@
+-- The laws of what commands do to facts, as statements.
+use Rattle.std.specs.Prelude.{◌≡◌, ◌↔◌, ◌⊎◌, ℕ, All, IsTrue, Some, Ok, if◌then◌else◌}
+use Rattle.ecs_id.specs.Id.{Id, plain, mentioned}
+use Rattle.ecs_model.specs.Added.{IsAdded, IsReplaced}
+use Rattle.ecs_model.specs.BuiltIns.{acyclic}
+use Rattle.ecs_model.specs.Command.{Changed, with_facts}
+use Rattle.ecs_model.specs.Cycles.{HasCycle}
+use Rattle.ecs_model.specs.Links.{upward}
+use Rattle.ecs_model.specs.Map.{has_key, value_at}
+use Rattle.ecs_model.specs.World.{WorldState, Key, key_cmp, holds, ids_of, is_live, new_value, type_of_id, value_of}
+use Rattle.ecs_model.specs.traits.Changes.{facts_after_add}
+use Rattle.ecs_model.specs.traits.Command.{Command, IsCommand, has_cycle, step}
+use Rattle.ecs_model.specs.traits.Keeps.{IsWellFormed}
+
+-- what is said of a fact that is added to a live entity, with an id of live ones
+abbrev pub OfLive : (WorldState → ℕ → Id → Type 0) → Type 0
+OfLive P = (w : WorldState) (e : ℕ) (i : Id) → IsWellFormed w → IsTrue (is_live w e) → All (λ x. IsTrue (is_live w x)) (mentioned i) → P w e i
+
+-- after `add` a fact is held exactly if it was added, or was held and does not give way
+abbrev pub FactsAfterAdd : Type 0
+FactsAfterAdd = OfLive (λ w e i. (k : Key)
+    → IsTrue (has_key key_cmp (facts_after_add w e i) k) ↔ (IsAdded (ids_of w) (e, i) k ⊎ (IsTrue (holds w k.0 k.1) × ¬ (IsReplaced (ids_of w) (e, i) k))))
+
+-- what was held keeps its value, added or not, and what has come has a new one
+abbrev pub ValuesAfterAdd : Type 0
+ValuesAfterAdd = OfLive (λ w e i. (k : Key) → IsTrue (has_key key_cmp (facts_after_add w e i) k)
+    → value_at key_cmp (facts_after_add w e i) k ≡ (if holds w k.0 k.1 then value_of w k.0 k.1 else Some (new_value w k.1)))
+
+-- the test of cycles passes exactly where `add` would leave a relationship that is Acyclic with a cycle
+abbrev pub CycleIsTold : Type 0
+CycleIsTold = OfLive (λ w e i. let left = with_facts w (facts_after_add w e i) in
+    IsTrue (has_cycle left) ↔ ((r : ℕ) × IsTrue (holds left r (plain acyclic)) × HasCycle (upward (ids_of left) r)))
+
+-- an id that an entity holds after a command has the type that it had before
+abbrev pub HeldIdsKeepTypes : Type 0
+HeldIdsKeepTypes = (w v : WorldState) (c : Command) (changed : Changed) → IsWellFormed w → IsCommand c → step w c ≡ Ok (v, changed)
+    → (e : ℕ) (i : Id) → IsTrue (holds v e i) → type_of_id v i ≡ type_of_id w i

@@ -1,0 +1,23 @@
+//! What is proved of facts after commands with traits: each function's contract is a law, and its body does nothing.
+
+ghost use Rattle.ecs_model.specs.traits.FactLaws.{CycleIsTold, FactsAfterAdd, HeldIdsKeepTypes, ValuesAfterAdd};
+
+/// Law: after `add` a fact is held exactly if it was added, or was held and does not give way.
+pub fn added_facts_come_and_replaced_ones_go()
+    ensures { FactsAfterAdd }
+{}
+
+/// Law: after `add` what was held has the value that it had, and what has come a new one.
+pub fn held_facts_keep_their_values()
+    ensures { ValuesAfterAdd }
+{}
+
+/// Law: Cycle applies against `add` exactly where it would leave a relationship that is Acyclic with a cycle.
+pub fn cycles_are_told()
+    ensures { CycleIsTold }
+{}
+
+/// Law: an accepted command leaves each id that an entity holds the type that it had.
+pub fn held_ids_keep_their_types()
+    ensures { HeldIdsKeepTypes }
+{}
