@@ -1,11 +1,11 @@
 -- The values of a block's columns, read from its bytes and written to them.
 use Rattle.std.proofs.Common.{◌≡◌, ℕ, zero, suc, ◌+◌, ◌-◌, ◌*◌, ◌≤◌, ◌<◌, List, [], ◌∷◌, ◌++◌, map, take, drop, take-append-drop, length, length-append, length-take-le, length-drop, replicate, slice_index, refl, sym, ap, ap₂, subst, ◌∙◌, arith, inl, inr}
-use Rattle.std.proofs.lemmas.List.{append_assoc, append-nil, drop_all, set-set, take_all, take-append-le, take-replicate, drop-replicate, length-replicate, replicate-append-replicate}
+use Rattle.std.proofs.lemmas.List.{append_assoc, append-nil, drop_all, set-set, take_all, length-replicate, replicate-append-replicate}
 use Rattle.std.proofs.lemmas.List.Sums.{sum_by-cons, sum_by-take-le}
 use Rattle.std.proofs.lemmas.Grind.{get_or-set_at}
 use Rattle.std.proofs.lemmas.Bool.{cases_lt}
 use Rattle.std.proofs.Math.Seq.{take-append_seam, drop-append_seam, take-append-add, drop-append-add}
-use Rattle.std.specs.List.{All, sum}
+use Rattle.std.specs.List.{sum}
 use native.Mathlib.Nat.{zero-mul, mul-zero, suc-mul, add-mul, mul-add, mul-le-mul_right, mul-le-mul_left}
 use lib.ListN.{set, get_or}
 use lib.Seq.{drop-drop}
@@ -17,10 +17,10 @@ pub length_over : (k s : ℕ) (bs ws : List ℕ) → length ws ≡ s → k + s �
 length_over k s bs ws e le =
     omega (arith, length-append (take k bs ++ ws) (drop (k + s) bs), length-append (take k bs) ws, length-take-le k bs (omega arith), length-drop (k + s) bs)
 
-take_seam : (k : ℕ) (xs ys : List ℕ) → length xs ≡ k → take k (xs ++ ys) ≡ xs
+pub take_seam : (k : ℕ) (xs ys : List ℕ) → length xs ≡ k → take k (xs ++ ys) ≡ xs
 take_seam k xs ys e = subst (λ j. take j (xs ++ ys) ≡ xs) e (take-append_seam xs ys)
 
-drop_seam : (k : ℕ) (xs ys : List ℕ) → length xs ≡ k → drop k (xs ++ ys) ≡ ys
+pub drop_seam : (k : ℕ) (xs ys : List ℕ) → length xs ≡ k → drop k (xs ++ ys) ≡ ys
 drop_seam k xs ys e = subst (λ j. drop j (xs ++ ys) ≡ ys) e (drop-append_seam xs ys)
 
 -- a write after the first q bytes leaves them
@@ -107,7 +107,7 @@ module _ (s : ℕ) where
 sum_cons : (s : ℕ) (ss : List ℕ) → sum (s ∷ ss) ≡ s + sum ss
 sum_cons s ss = sum_by-cons (λ x. x) s ss
 
-all_cons : (c s : ℕ) (ss : List ℕ) → c * sum (s ∷ ss) ≡ c * s + c * sum ss
+pub all_cons : (c s : ℕ) (ss : List ℕ) → c * sum (s ∷ ss) ≡ c * s + c * sum ss
 all_cons c s ss = ap (λ n. c * n) (sum_cons s ss) ∙ mul-add c s (sum ss)
 
 pub place_is : (c : ℕ) (ss : List ℕ) (k i : ℕ) → k < length ss → place_of c ss k i ≡ c * sum (take k ss) + i * get_or ss k 0
@@ -244,7 +244,7 @@ columns_resized n c d le ge (s ∷ ss) bs all =
     ap₂ (λ a b. record { size = s; items = a } ∷ columns_in d ss b) (rows_prefix s d x y enough ∙ column_resized n c d s le ge bs fits) (drop_seam (d * s) x y long)
     ∙ ap (λ l. resized_in n d (record { size = s; items = rows s c bs }) ∷ l) (columns_resized n c d le ge ss ys rest)
 
-length_resized : (n c d : ℕ) → n ≤ c → n ≤ d → (ss bs : List ℕ) → c * sum ss ≤ length bs → length (resized n c d ss bs) ≡ d * sum ss
+pub length_resized : (n c d : ℕ) → n ≤ c → n ≤ d → (ss bs : List ℕ) → c * sum ss ≤ length bs → length (resized n c d ss bs) ≡ d * sum ss
 length_resized n c d le ge [] bs all = sym (mul-zero d)
 length_resized n c d le ge (s ∷ ss) bs all =
     let x = take (n * s) bs ++ replicate ((d - n) * s) 0 in let ys = drop (c * s) bs in

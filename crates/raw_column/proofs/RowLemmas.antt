@@ -1,9 +1,9 @@
 -- The rows of a block: the first values of each column, and zeros after them.
 use Rattle.std.proofs.Common.{◌≡◌, ℕ, zero, suc, ◌+◌, ◌-◌, ◌*◌, ◌≤◌, ◌<◌, List, [], ◌∷◌, ◌++◌, map, max, ◌^◌, take, drop, length, length-take-le, slice_get, slice_index_or, Some, replicate, refl, sym, ap, ap₂, subst, ◌∙◌, arith}
-use Rattle.std.proofs.lemmas.List.{drop-append-le, drop-set, drop-set-lt, drop_more, get_or-map, get_or-take, get_or_default, length-map, length-replicate, length-set, map-set, take-append-le, take-set, take-take, take_more}
+use Rattle.std.proofs.lemmas.List.{drop-set, drop-set-lt, drop_more, get_or-map, get_or-take, length-map, length-set, map-set, take-append-le, take-set, take-take, take_more}
 use Rattle.std.proofs.lemmas.List.Elements.{All-map, All-set}
 use Rattle.std.proofs.Math.Seq.{drop-append_seam}
-use Rattle.std.specs.List.{All, fold, sum, swap_remove}
+use Rattle.std.specs.List.{All, fold, sum}
 use Rattle.std.proofs.lemmas.Option.{slice_get-get_or}
 use native.Mathlib.Nat.{div-mul-le_self, mul-le-mul_left, mul-le-mul_right}
 use lib.ListN.{set, get_or}

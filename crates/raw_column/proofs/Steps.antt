@@ -1,12 +1,14 @@
 -- What the walks of the raw layer share. Assumes `Logic`.
 --     base_val, base_vals, base_Tells, base_Good      the one machine value of a `Base`
 --     none_val, none_told, none_made      of a struct with no field; mark_val ..      of one whose field takes no space
---     three_val, three_of      a tuple of three is made of them
+--     three_val, three_of, two_val, two_of      a tuple is made of its parts
 --     shared_take, shared_drop      a part of bytes that are shared is shared
 --     own_out, own_in      the bytes at a pointer, one by one
 --     run_out, run_in      a run of the bytes is taken out, and put back
 --     filling_start, filling_out, filling_in      a block that is filled from its front: empty, before a byte, after it
-use Rattle.std.proofs.Common.{◌≡◌, ℕ, zero, suc, ◌+◌, ◌≤◌, ◌<◌, ◌^◌, w8, List, [], ◌∷◌, ◌++◌, take, take-append-drop, length, length-append, length-take-le, length-drop, refl, sym, ap, ◌∙◌, arith, lit<}
+--     filling_begun      a block whose bytes count as written up to some place
+--     filling_block, block_filling      such a block, with the right to free it, as an allocator takes it at a growth, and gives it back
+use Rattle.std.proofs.Common.{◌≡◌, ℕ, zero, suc, ◌+◌, ◌-◌, ◌*◌, ◌≤◌, ◌<◌, ◌^◌, w8, List, [], ◌∷◌, ◌++◌, take, take-append-drop, length, length-append, length-take-le, length-drop, refl, sym, ap, ◌∙◌, arith, lit<}
 use lib.Seq.{drop-drop}
 use base.Fraction.{full_share}
 use base.Logic.{sep, emp}
@@ -15,12 +17,13 @@ use types.Kit.{fpack, ‵, ◌⊛◌, ◌$◌, ◌∵◌, !, qed, by, move, drop
 use types.SemTy.{cells}
 use denote.Array.{Array}
 use denote.Memory.{mem, part_at}
-use denote.RawPtr.Bytes.{bytes, bytes_cut, bytes_glue, bytes_apart, bytes_whole}
+use denote.RawPtr.Bytes.{bytes, bytes_cut, bytes_glue, bytes_apart, bytes_whole, bytes-room}
 use lib.ListN.{drop as drop_l}
 use lib.Dec.{T}
 use seplogic.Ra.Ura.{Ura}
-use mir.Syntax.{ty_int}
+use mir.Syntax.{Ty, ty_int}
 use base.Fml.{froom}
+use Rattle.core.specs.Allocator.{block_with_items}
 use Rattle.raw_column.specs.Ownership.{bytes_type, past, filling_owns}
 use mir.Val.{Val, vstruct, vcons, vnil, of_list, has_ty, WT}
 use base.Logic.{ent, via, id⊢, snd∗, mono_r}
@@ -30,7 +33,7 @@ use types.Logic.{Logic, sem}
 use denote.Builtin.{u8}
 use denote.Laws.{Is, Tells}
 use denote.Memory.{shared_of}
-use denote.Param.{layout}
+use denote.Param.{layout, param}
 use denote.RattleType.{RattleType, Valss}
 use denote.Steps.{nothing}
 use denote.Struct.Declared as Declared
@@ -98,6 +101,16 @@ three_of 𝓛 R S T x y z u v w =
     qed 𝓛 (‵ (R.own_val x (u ∷ [])) ∷ ‵ (S.own_val y (v ∷ [])) ∷ ‵ (T.own_val z (w ∷ [])) ∷ []) ∵ nothing ! $ move ! (3 ∷ 0 ∷ []) $ fjoin ! $ move ! (2 ∷ 0 ∷ []) $ fjoin ! $ move ! (1 ∷ 0 ∷ []) $ fjoin ! $
     feq_i ! (List Val) (three_val u v w ∷ []) (three_val u v w ∷ []) refl $ fjoin ! $
     fpack ! (Valss (R ∷ S ∷ T ∷ [])) (within (Declared.shape (tuple_type (R ∷ S ∷ T ∷ []))) (x, (y, (z, tt))) (three_val u v w ∷ [])) (u ∷ [], (v ∷ [], (w ∷ [], tt))) $ done !
+
+abbrev pub two_val : Val → Val → Val
+two_val v w = vstruct (vcons v (vcons w vnil))
+
+pub two_of : {M : Type 1} {𝓤 : Ura M} (𝓛 : Logic 𝓤) (S T : RattleType) (y : S.Denot) (z : T.Denot) (v w : Val)
+    → ent 𝓤 (sep 𝓤 (sem 𝓛 (S.own_val y (v ∷ []))) (sem 𝓛 (T.own_val z (w ∷ [])))) (sem 𝓛 ((Tuple (S ∷ T ∷ [])).own_val (y, z) (two_val v w ∷ [])))
+two_of 𝓛 S T y z v w =
+    qed 𝓛 (‵ (S.own_val y (v ∷ [])) ∷ ‵ (T.own_val z (w ∷ [])) ∷ []) ∵ nothing ! $ move ! (2 ∷ 0 ∷ []) $ fjoin ! $ move ! (1 ∷ 0 ∷ []) $ fjoin ! $
+    feq_i ! (List Val) (two_val v w ∷ []) (two_val v w ∷ []) refl $ fjoin ! $
+    fpack ! (Valss (S ∷ T ∷ [])) (within (Declared.shape (tuple_type (S ∷ T ∷ []))) (y, (z, tt)) (two_val v w ∷ [])) (v ∷ [], (w ∷ [], tt)) $ done !
 
 module _ {M : Type 1} {𝓤 : Ura M} (𝓛 : Logic 𝓤) (b : ℕ) (κ : Lft) where
   pub shared_take : (n : ℕ) (xs : List ℕ) (o : ℕ) → ent 𝓤 (sem 𝓛 (elements_shared u8 xs b o κ)) (sem 𝓛 (elements_shared u8 (take n xs) b o κ))
@@ -189,3 +202,35 @@ module _ {M : Type 1} {𝓤 : Ura M} (𝓛 : Logic 𝓤) (b o : ℕ) where
       use1 𝓛 (‵ (bytes full_share one b (length xs + o))) (id⊢ 𝓤 _) $ rewrite ! 0 (λ (k : ℕ). ‵ (bytes full_share one b k)) e1 refl $ move ! (1 ∷ 0 ∷ []) $
       use2 𝓛 (‵ (bytes full_share ys b o)) (bytes_glue 𝓛 full_share xs one b o) $ use1 𝓛 (‵ (part_at (Array u8 (length ys)) full_share ys b o)) (own_in 𝓛 b ys o) $
       move ! (1 ∷ []) $ rewrite ! 0 (λ (k : ℕ). ‵ (froom (bytes_type m) b k)) e2 refl $ move ! (1 ∷ 0 ∷ []) $ fjoin ! $ flt_i ! (length ys + m) (2 ^ 63) (omega (arith, long)) $ fjoin ! $ done !
+
+  pub filling_begun : (xs : List ℕ) (k : ℕ) → k ≤ length xs → length xs < 2 ^ 63
+      → ent 𝓤 (sem 𝓛 (lies_at (Array u8 (length xs)) full_share (block_ptr b o) xs)) (sem 𝓛 (filling_owns (block_ptr b o) (take k xs) (length xs - k)))
+  filling_begun xs k le small =
+      let ys = take k xs in let zs = drop_l k xs in let n : ℕ = length xs - k in let long : length ys ≡ k = length-take-le k xs le in
+      let e : o + length ys ≡ length ys + o = omega arith in
+      qed 𝓛 (‵ (part_at (Array u8 (length xs)) full_share xs b o) ∷ []) ∵ use1 𝓛 (‵ (bytes full_share xs b o)) (own_out 𝓛 b xs o) $
+      rewrite ! 0 (λ (l : List ℕ). ‵ (bytes full_share l b o)) (sym (take-append-drop k xs)) refl $
+      use1 𝓛 (‵ (bytes full_share ys b o) ⊛ ‵ (bytes full_share zs b (o + length ys))) (bytes_cut 𝓛 full_share ys zs b o) $ split ! $
+      use1 𝓛 (‵ (part_at (Array u8 (length ys)) full_share ys b o)) (own_in 𝓛 b ys o) $ move ! (1 ∷ []) $
+      use1 𝓛 (‵ (froom (bytes_type (length zs)) b (o + length ys))) (bytes-room 𝓛 zs b (o + length ys)) $
+      rewrite ! 0 (λ (j : ℕ). ‵ (froom (bytes_type j) b (o + length ys))) (length-drop k xs) refl $ rewrite ! 0 (λ (j : ℕ). ‵ (froom (bytes_type n) b j)) e refl $
+      move ! (1 ∷ 0 ∷ []) $ fjoin ! $ flt_i ! (length ys + n) (2 ^ 63) (omega (arith, long)) $ fjoin ! $ done !
+
+  module _ (holds : Ty → Ptr → Fml) (xs : List ℕ) (k len : ℕ) (long : length xs ≡ k) where
+    pub filling_block : (n : ℕ) → k + n ≡ len
+        → ent 𝓤 (sep 𝓤 (sem 𝓛 (filling_owns (block_ptr b o) xs n)) (sem 𝓛 (holds (bytes_type len) (block_ptr b o)))) (sem 𝓛 (block_with_items holds (param 1 u8) (block_ptr b o) k len xs))
+    filling_block n all =
+        let rest : n ≡ len - k = omega arith in let e : length xs + o ≡ o + k * 1 = omega (arith, long) in
+        qed 𝓛 (‵ (filling_owns (block_ptr b o) xs n) ∷ ‵ (holds (bytes_type len) (block_ptr b o)) ∷ []) ∵ fsplit ! $ skip ! $ fsplit ! $
+        rewrite ! 0 (λ (j : ℕ). ‵ (part_at (Array u8 j) full_share xs b o)) long refl $ move ! (1 ∷ []) $
+        rewrite ! 0 (λ (j : ℕ). ‵ (froom (bytes_type j) b (length xs + o))) rest refl $ rewrite ! 0 (λ (j : ℕ). ‵ (froom (bytes_type (len - k)) b j)) e refl $
+        move ! (0 ∷ 2 ∷ []) $ fjoin ! $ move ! (1 ∷ 0 ∷ []) $ fjoin ! $ done !
+
+    pub block_filling : k ≤ len → len < 2 ^ 63
+        → ent 𝓤 (sem 𝓛 (block_with_items holds (param 1 u8) (block_ptr b o) k len xs)) (sep 𝓤 (sem 𝓛 (filling_owns (block_ptr b o) xs (len - k))) (sem 𝓛 (holds (bytes_type len) (block_ptr b o))))
+    block_filling le small =
+        let n : ℕ = len - k in let e : o + k * 1 ≡ length xs + o = omega (arith, long) in
+        qed 𝓛 (‵ (block_with_items holds (param 1 u8) (block_ptr b o) k len xs) ∷ []) ∵ fsplit ! $
+        rewrite ! 0 (λ (j : ℕ). ‵ (part_at (Array u8 j) full_share xs b o)) (sym long) refl $ move ! (1 ∷ []) $ fsplit ! $
+        rewrite ! 0 (λ (j : ℕ). ‵ (froom (bytes_type n) b j)) e refl $ move ! (2 ∷ 0 ∷ []) $ fjoin ! $
+        flt_i ! (length xs + n) (2 ^ 63) (omega (arith, long)) $ fjoin ! $ done !

@@ -1,5 +1,5 @@
 -- Columns in a run of bytes: one behind the other, each with a place for each of so many rows.
-use Rattle.std.specs.Prelude.{ℕ, zero, suc, ◌+◌, ◌-◌, ◌*◌, List, [], ◌∷◌, ◌++◌, take, drop, replicate, slice_index_or, slice_set}
+use Rattle.std.specs.Prelude.{ℕ, zero, suc, ◌+◌, ◌-◌, ◌*◌, List, [], ◌∷◌, ◌++◌, take, drop, length, replicate, slice_index_or, slice_set}
 
 -- the values of one column: how many bytes each has, and the bytes by row
 pub record Values : Type 0 where
@@ -30,7 +30,15 @@ over k s bs ws = take k bs ++ ws ++ drop (k + s) bs
 abbrev pub gap_filled : ℕ → ℕ → Values → Values
 gap_filled row last v = record v { items = slice_set (slice_set v.items row (slice_index_or v.items last [])) last (replicate v.size 0) }
 
+-- the first n rows of a column, and zeros up to d places
+abbrev pub column_resized : ℕ → ℕ → ℕ → List ℕ → List ℕ
+column_resized n d s bs = take (n * s) bs ++ replicate ((d - n) * s) 0
+
 -- the first n rows of c places in d places each, with zeros after them
 abbrev pub resized : ℕ → ℕ → ℕ → List ℕ → List ℕ → List ℕ
 resized n c d [] bs = []
-resized n c d (s ∷ ss) bs = take (n * s) bs ++ replicate ((d - n) * s) 0 ++ resized n c d ss (drop (c * s) bs)
+resized n c d (s ∷ ss) bs = column_resized n d s bs ++ resized n c d ss (drop (c * s) bs)
+
+-- the first k bytes, or all that there are, and zeros up to n
+abbrev pub padded : ℕ → ℕ → List ℕ → List ℕ
+padded k n bs = take k bs ++ replicate (n - length (take k bs)) 0

@@ -126,7 +126,7 @@ impl<A: Allocator> Block<A> {
         let least = (self.len + additional).max(2 * self.capacity);
         let capacity = self.rounded(least).min(most);
         self.buffer
-            .resize(&self.sizes, self.len, self.capacity, capacity)?;
+            .grow(&self.sizes, self.len, self.capacity, capacity)?;
         self.capacity = capacity;
         Ok(())
     }
@@ -149,7 +149,7 @@ impl<A: Allocator> Block<A> {
         }
         if self
             .buffer
-            .resize(&self.sizes, self.len, self.capacity, capacity)
+            .shrink(&self.sizes, self.len, self.capacity, capacity)
             .is_ok()
         {
             self.capacity = capacity;

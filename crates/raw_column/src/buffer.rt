@@ -1,12 +1,12 @@
 //! A run of bytes in a block from an allocator, or none. A clause sees it as its bytes.
-ghost use Rattle.std.specs.Prelude.{◌≡◌, ℕ, ◌+◌, ◌*◌, ◌^◌, ◌<◌, ◌≤◌, [], ◌++◌, length, map, take, drop, slice_index, OnOk, OnErr, IsOk, Some};
+ghost use Rattle.std.specs.Prelude.{◌≡◌, ℕ, ◌+◌, ◌*◌, ◌^◌, ◌<◌, ◌≤◌, [], ◌++◌, length, map, take, drop, replicate, slice_index, IfOk, IfErr, OnOk, OnErr, IsOk, Some};
 ghost use Rattle.std.specs.List.{sum};
-ghost use Rattle.raw_column.specs.Buffer.{IsPlaced};
-ghost use Rattle.raw_column.specs.Places.{columns_in, gap_filled, resized};
+ghost use Rattle.raw_column.specs.Buffer.{IsPlaced, bytes_of};
+ghost use Rattle.raw_column.specs.Places.{columns_in, gap_filled, padded, resized};
 
 use crate::element::copy;
-use crate::memory::{Base, Bytes, Deed, allocate, deallocate};
-use crate::places::{filled, remove_each};
+use crate::memory::{Base, Bytes, Deed, allocate, deallocate, grow, shrink};
+use crate::places::{gather, remove_each, spread};
 use crate::sizes::Sizes;
 use std::alloc::{AllocError, Allocator};
 use std::marker::Model;
@@ -95,38 +95,123 @@ impl<A: Allocator> Buffer<A> {
         }
     }
 
-    /// Moves to a block with places for `to` rows in each column, where there were places for `from`. The first `len` rows stay, and
-    /// zeros come after them. No bytes take no memory.
-    pub(crate) fn resize<B: Allocator>(
+    /// Makes places for `to` rows in each column, where there were places for `from`. The first `len` rows stay, and zeros come after
+    /// them. No bytes take no memory.
+    pub(crate) fn grow<B: Allocator>(
         &mut self,
         sizes: &Sizes<B>,
         len: usize,
         from: usize,
         to: usize,
     ) -> Result<(), AllocError>
-        requires rows { (len ≤ from) × (len ≤ to) }
-        requires old { (length self.old ≡ from * sum sizes.now) × (from * sum sizes.now < 2 ^ 63) }
+        requires rows { (len ≤ from) × (from ≤ to) }
+        requires old { length self.old ≡ from * sum sizes.now }
         requires new { to * sum sizes.now < 2 ^ 63 }
         ensures ok { OnOk result (self.new ≡ resized len from to sizes.now self.old) }
         ensures err { OnErr result (self.new ≡ self.old) }
+    {
+        self.set_len(to * sizes.width())?;
+        self.spread(sizes, len, from, to);
+        Ok(())
+    }
+
+    /// Leaves places for `to` rows in each column, where there were places for `from`. The first `len` rows stay, and zeros come after
+    /// them, also where the smaller block is refused.
+    pub(crate) fn shrink<B: Allocator>(
+        &mut self,
+        sizes: &Sizes<B>,
+        len: usize,
+        from: usize,
+        to: usize,
+    ) -> Result<(), AllocError>
+        requires rows { (len ≤ to) × (to ≤ from) }
+        requires all { (length self.old ≡ from * sum sizes.now) × (from * sum sizes.now < 2 ^ 63) }
+        ensures ok { OnOk result (self.new ≡ resized len from to sizes.now self.old) }
+        ensures err { OnErr result (self.new ≡ resized len from from sizes.now self.old) }
         ensures free { to * sum sizes.now ≡ 0 → IsOk result }
     {
-        let size = to * sizes.width();
-        if size == 0 {
-            replace(&mut self.allocation, None, &self.alloc);
-            return Ok(());
+        self.gather(sizes, len, from, to);
+        match self.set_len(to * sizes.width()) {
+            Ok(()) => Ok(()),
+            Err(error) => {
+                self.spread(sizes, len, to, from);
+                Err(error)
+            }
         }
-        let (base, filling, deed) = allocate(&self.alloc, size)?;
-        let old = self.read(0, from * sizes.width());
-        let bytes = filled(filling, base, sizes, old, len, from, to);
-        let new = Allocation {
-            base,
-            len: size,
-            bytes,
-            deed,
-        };
-        replace(&mut self.allocation, Some(new), &self.alloc);
-        Ok(())
+    }
+
+    /// Moves the columns apart, from `from` places each to `to`, which all these bytes are for.
+    fn spread<B: Allocator>(&mut self, sizes: &Sizes<B>, len: usize, from: usize, to: usize)
+        requires rows { (len ≤ from) × (from ≤ to) }
+        requires all { (length self.old ≡ to * sum sizes.now) × (to * sum sizes.now < 2 ^ 63) }
+        ensures { self.new ≡ resized len from to sizes.now self.old }
+    {
+        if let Some(held) = &mut self.allocation {
+            let (base, end) = (held.base, held.len);
+            spread(held.bytes.slice_mut(base, 0, end), sizes, len, from, to);
+        }
+    }
+
+    /// Moves the columns together, from `from` places each, which all these bytes are for, to `to`.
+    fn gather<B: Allocator>(&mut self, sizes: &Sizes<B>, len: usize, from: usize, to: usize)
+        requires rows { (len ≤ to) × (to ≤ from) }
+        requires all { (length self.old ≡ from * sum sizes.now) × (from * sum sizes.now < 2 ^ 63) }
+        ensures { self.new ≡ resized len from to sizes.now self.old ++ drop (to * sum sizes.now) self.old }
+    {
+        if let Some(held) = &mut self.allocation {
+            let (base, end) = (held.base, held.len);
+            gather(held.bytes.slice_mut(base, 0, end), sizes, len, from, to);
+        }
+    }
+
+    /// Keeps the first `len` bytes, or has zeros after those that there are. A block of another length that is refused is as it was, but
+    /// for zeros after the first `len` bytes.
+    fn set_len(&mut self, len: usize) -> Result<(), AllocError>
+        requires { len < 2 ^ 63 }
+        ensures ok { OnOk result (self.new ≡ padded len len self.old) }
+        ensures err { OnErr result (self.new ≡ padded len (length self.old) self.old) }
+        ensures free { len ≡ 0 → IsOk result }
+    {
+        let held = mem::replace(&mut self.allocation, None);
+        match with_len(held, &self.alloc, len) {
+            Ok(new) => {
+                replace(&mut self.allocation, new, &self.alloc);
+                Ok(())
+            }
+            Err(old) => {
+                replace(&mut self.allocation, old, &self.alloc);
+                Err(AllocError)
+            }
+        }
+    }
+}
+
+/// A block of another length, by way of the one that is held.
+fn with_len<A: Allocator>(
+    held: Option<Allocation<A>>,
+    alloc: &A,
+    len: usize,
+) -> Result<Option<Allocation<A>>, Option<Allocation<A>>>
+    requires placed { IsPlaced held alloc.now }
+    requires small { len < 2 ^ 63 }
+    ensures ok { IfOk result (λ new. IsPlaced new alloc.now × (bytes_of new ≡ padded len len (bytes_of held))) }
+    ensures err { IfErr result (λ old. IsPlaced old alloc.now × (bytes_of old ≡ padded len (length (bytes_of held)) (bytes_of held))) }
+    ensures free { len ≡ 0 → IsOk result }
+{
+    match held {
+        Some(held) if len == 0 => {
+            held.free(alloc);
+            Ok(None)
+        }
+        Some(held) => match held.with_len(alloc, len) {
+            Ok(new) => Ok(Some(new)),
+            Err(old) => Err(Some(old)),
+        },
+        None if len == 0 => Ok(None),
+        None => match Allocation::new(alloc, len) {
+            Ok(new) => Ok(Some(new)),
+            Err(_) => Err(None),
+        },
     }
 }
 
@@ -150,6 +235,58 @@ impl<A: Allocator> Drop for Buffer<A> {
 }
 
 impl<A: Allocator> Allocation<A> {
+    /// A block of zeros.
+    fn new(alloc: &A, len: usize) -> Result<Allocation<A>, AllocError>
+        requires { len < 2 ^ 63 }
+        ensures { IfOk result (λ new. IsPlaced (Some new) alloc.now × (new.bytes.items ≡ replicate len 0)) }
+    {
+        let (base, filling, deed) = allocate(alloc, len)?;
+        let bytes = filling.zeros(base, 0, len).whole();
+        Ok(Allocation {
+            base,
+            len,
+            bytes,
+            deed,
+        })
+    }
+
+    /// A block of another length, which may be the same one: the first bytes stay, and zeros come after them. Where it is refused, the same
+    /// block with zeros after the first `len` bytes.
+    fn with_len(self, alloc: &A, len: usize) -> Result<Allocation<A>, Allocation<A>>
+        requires placed { IsPlaced (Some self) alloc.now }
+        requires small { len < 2 ^ 63 }
+        ensures ok { IfOk result (λ new. IsPlaced (Some new) alloc.now × (new.bytes.items ≡ padded len len self.bytes.items)) }
+        ensures err { IfErr result (λ old. IsPlaced (Some old) alloc.now × (old.bytes.items ≡ padded len self.len self.bytes.items)) }
+    {
+        let Allocation {
+            base,
+            len: had,
+            bytes,
+            deed,
+        } = self;
+        let kept = had.min(len);
+        let filling = bytes.begun(kept);
+        let resized = if had <= len {
+            grow(alloc, base, filling, deed, kept, had, len)
+        } else {
+            shrink(alloc, base, filling, deed, kept, had, len)
+        };
+        match resized {
+            Ok((base, filling, deed)) => Ok(Allocation {
+                base,
+                len,
+                bytes: filling.zeros(base, kept, len - kept).whole(),
+                deed,
+            }),
+            Err((filling, deed)) => Err(Allocation {
+                base,
+                len: had,
+                bytes: filling.zeros(base, kept, had - kept).whole(),
+                deed,
+            }),
+        }
+    }
+
     fn free(self, alloc: &A)
         requires { IsPlaced (Some self) alloc.now }
     {

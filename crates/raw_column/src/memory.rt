@@ -1,5 +1,5 @@
 //! The raw layer: a block of bytes from an allocator, reached by a pointer. Every raw pointer of the crate is here.
-ghost use Rattle.std.specs.Prelude.{◌≡◌, ℕ, ◌+◌, ◌^◌, ◌<◌, ◌≤◌, List, [], ◌∷◌, ◌++◌, length, take, drop, replicate, IfOk};
+ghost use Rattle.std.specs.Prelude.{◌≡◌, ℕ, ◌+◌, ◌^◌, ◌<◌, ◌≤◌, List, [], ◌∷◌, ◌++◌, length, take, drop, replicate, IfOk, MatchResult};
 ghost use Rattle.std.specs.Borrow.{sem};
 ghost use base.Fml.{ftrue};
 ghost use denote.RawPtr.{Ptr};
@@ -81,6 +81,51 @@ pub(crate) fn allocate<A: Allocator>(
     }
 }
 
+/// Makes a block of `len` bytes, of which `filled` are written, one of `to`, which may begin elsewhere. What is written stays. A
+/// refused one is as it was.
+pub(crate) fn grow<A: Allocator>(
+    alloc: &A,
+    base: Base,
+    filling: Filling,
+    deed: Deed<A>,
+    filled: usize,
+    len: usize,
+    to: usize,
+) -> Result<(Base, Filling, Deed<A>), (Filling, Deed<A>)>
+    requires block { (filling.at ≡ base.ptr) × (length filling.items ≡ filled) × (filled + filling.spare ≡ len) × (deed.at ≡ base.ptr) × (deed.len ≡ len) × (deed.alloc ≡ alloc.now) }
+    requires larger { (len ≤ to) × (to < 2 ^ 63) }
+    ensures { MatchResult result (λ r. (r.1.at ≡ r.0.ptr) × (r.1.items ≡ filling.items) × (filled + r.1.spare ≡ to) × (r.2.at ≡ r.0.ptr) × (r.2.len ≡ to) × (r.2.alloc ≡ alloc.now)) (λ r. (r.0 ≡ filling) × (r.1 ≡ deed)) }
+{
+    let Filling {} = filling;
+    let Deed { mark: _ } = deed;
+    match unsafe { alloc.grow(base.ptr, filled, len, to) } {
+        Ok(ptr) => Ok((Base { ptr }, Filling {}, Deed { mark: PhantomData })),
+        Err(_) => Err((Filling {}, Deed { mark: PhantomData })),
+    }
+}
+
+/// The same to a smaller block, in which all that is written has its place.
+pub(crate) fn shrink<A: Allocator>(
+    alloc: &A,
+    base: Base,
+    filling: Filling,
+    deed: Deed<A>,
+    filled: usize,
+    len: usize,
+    to: usize,
+) -> Result<(Base, Filling, Deed<A>), (Filling, Deed<A>)>
+    requires block { (filling.at ≡ base.ptr) × (length filling.items ≡ filled) × (filled + filling.spare ≡ len) × (deed.at ≡ base.ptr) × (deed.len ≡ len) × (deed.alloc ≡ alloc.now) }
+    requires smaller { (filled ≤ to) × (to ≤ len) × (len < 2 ^ 63) }
+    ensures { MatchResult result (λ r. (r.1.at ≡ r.0.ptr) × (r.1.items ≡ filling.items) × (filled + r.1.spare ≡ to) × (r.2.at ≡ r.0.ptr) × (r.2.len ≡ to) × (r.2.alloc ≡ alloc.now)) (λ r. (r.0 ≡ filling) × (r.1 ≡ deed)) }
+{
+    let Filling {} = filling;
+    let Deed { mark: _ } = deed;
+    match unsafe { alloc.shrink(base.ptr, filled, len, to) } {
+        Ok(ptr) => Ok((Base { ptr }, Filling {}, Deed { mark: PhantomData })),
+        Err(_) => Err((Filling {}, Deed { mark: PhantomData })),
+    }
+}
+
 /// Gives a block back, with the size and the alignment with which it was got.
 pub(crate) fn deallocate<A: Allocator>(
     alloc: &A,
@@ -112,19 +157,6 @@ impl Filling {
         Filling {}
     }
 
-    /// Writes the next bytes, after the `filled` that are written.
-    pub(crate) fn append(self, base: Base, filled: usize, src: &[u8]) -> Filling
-        requires place { (base.ptr ≡ self.at) × (filled ≡ length self.items) }
-        requires room { (length src.now ≤ self.spare) × (filled + length src.now < 2 ^ 63) }
-        ensures { (result.at ≡ self.at) × (result.items ≡ self.items ++ src.now) × (result.spare + length src.now ≡ self.spare) }
-    {
-        let mut filling = self;
-        for (i, byte) in src.iter().enumerate() {
-            filling = filling.push(base, filled + i, *byte);
-        }
-        filling
-    }
-
     /// Writes `count` zeros, after the `filled` bytes that are written.
     pub(crate) fn zeros(self, base: Base, filled: usize, count: usize) -> Filling
         requires place { (base.ptr ≡ self.at) × (filled ≡ length self.items) }
@@ -150,6 +182,15 @@ impl Filling {
 
 impl Bytes {
     ghost use Rattle.raw_column.specs.Lends.{lends_run};
+
+    /// The same block, in which only the first `kept` bytes count as written.
+    pub(crate) fn begun(self, kept: usize) -> Filling
+        requires { kept ≤ length self.items }
+        ensures { (result.at ≡ self.at) × (result.items ≡ take kept self.items) × (kept + result.spare ≡ length self.items) }
+    {
+        let Bytes {} = self;
+        Filling {}
+    }
 
     /// The `len` bytes from `from` on.
     #[inline(always)]

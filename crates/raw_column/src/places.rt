@@ -1,10 +1,9 @@
 //! Columns in a run of bytes: one behind the other, each with a place for each of so many rows.
-ghost use Rattle.std.specs.Prelude.{◌≡◌, ℕ, ◌+◌, ◌*◌, ◌^◌, ◌<◌, ◌≤◌, [], length, map, take, drop, replicate, slice_index};
+ghost use Rattle.std.specs.Prelude.{◌≡◌, ◌+◌, ◌*◌, ◌^◌, ◌<◌, ◌≤◌, ◌++◌, length, map, take, drop, replicate, slice_index};
 ghost use Rattle.std.specs.List.{sum};
-ghost use Rattle.raw_column.specs.Places.{columns_in, gap_filled, over, resized};
+ghost use Rattle.raw_column.specs.Places.{column_resized, columns_in, gap_filled, over, place_of, resized};
 
 use crate::element::{clear, copy};
-use crate::memory::{Base, Bytes, Filling};
 use crate::sizes::Sizes;
 use std::alloc::Allocator;
 
@@ -53,6 +52,15 @@ fn copy_down(bytes: &mut [u8], to: usize, from: usize, size: usize)
     copy(&mut front[to..to + size], &back[..size]);
 }
 
+/// Copies `size` bytes to a higher place.
+fn copy_up(bytes: &mut [u8], to: usize, from: usize, size: usize)
+    requires { (from + size ≤ to) × (to + size ≤ length bytes.old) }
+    ensures { bytes.new ≡ over to size bytes.old (take size (drop from bytes.old)) }
+{
+    let (front, back) = bytes.split_at_mut(to);
+    copy(&mut back[..size], &front[from..from + size]);
+}
+
 /// Overwrites `size` bytes with zeros.
 #[inline(always)]
 fn clear_at(bytes: &mut [u8], at: usize, size: usize)
@@ -62,33 +70,100 @@ fn clear_at(bytes: &mut [u8], at: usize, size: usize)
     clear(&mut bytes[at..at + size]);
 }
 
-/// Writes the first `len` rows of the columns in `old`, which have places for `from` rows each, into a block with places for `to` rows,
-/// and zeros after them.
-pub(crate) fn filled<A: Allocator>(
-    filling: Filling,
-    base: Base,
+/// Moves `size` bytes, also where the places overlap: in runs that don't, from the end to the front on the way up, and from the
+/// front on the way down.
+fn shift(bytes: &mut [u8], to: usize, from: usize, size: usize)
+    requires { (from + size ≤ length bytes.old) × (to + size ≤ length bytes.old) }
+    ensures { bytes.new ≡ over to size bytes.old (take size (drop from bytes.old)) }
+{
+    if from < to {
+        shift_up(bytes, to, from, size);
+    } else if to < from {
+        shift_down(bytes, to, from, size);
+    }
+}
+
+fn shift_up(bytes: &mut [u8], to: usize, from: usize, size: usize)
+    requires { (from < to) × (to + size ≤ length bytes.old) }
+    ensures { bytes.new ≡ over to size bytes.old (take size (drop from bytes.old)) }
+{
+    let gap = to - from;
+    let mut left = size;
+    while 0 < left {
+        let run = left.min(gap);
+        left -= run;
+        copy_up(bytes, to + left, from + left, run);
+    }
+}
+
+fn shift_down(bytes: &mut [u8], to: usize, from: usize, size: usize)
+    requires { (to < from) × (from + size ≤ length bytes.old) }
+    ensures { bytes.new ≡ over to size bytes.old (take size (drop from bytes.old)) }
+{
+    let gap = from - to;
+    let mut done = 0;
+    while done < size {
+        let run = (size - done).min(gap);
+        copy_down(bytes, to + done, from + done, run);
+        done += run;
+    }
+}
+
+/// Moves a column's first `len` rows to where it begins with places for `to` rows each, and writes zeros after them.
+fn place_column<A: Allocator>(
+    bytes: &mut [u8],
     sizes: &Sizes<A>,
-    old: &[u8],
+    column: usize,
     len: usize,
     from: usize,
     to: usize,
-) -> Bytes
-    requires place { (base.ptr ≡ filling.at) × (filling.items ≡ []) × (filling.spare ≡ to * sum sizes.now) }
+)
+    requires column { column < length sizes.now }
     requires rows { (len ≤ from) × (len ≤ to) }
-    requires old { (length old.now ≡ from * sum sizes.now) × (from * sum sizes.now < 2 ^ 63) }
-    requires new { to * sum sizes.now < 2 ^ 63 }
-    ensures { (result.at ≡ filling.at) × (result.items ≡ resized len from to sizes.now old.now) }
+    requires from { (from * sum sizes.now ≤ length bytes.old) × (from * sum sizes.now < 2 ^ 63) }
+    requires to { (to * sum sizes.now ≤ length bytes.old) × (to * sum sizes.now < 2 ^ 63) }
+    ensures { bytes.new ≡ over (place_of to sizes.now column 0) (to * slice_index sizes.now column) bytes.old (column_resized len to (slice_index sizes.now column) (drop (place_of from sizes.now column 0) bytes.old)) }
 {
-    let mut filling = filling;
-    for column in 0..sizes.count() {
-        let size = sizes.size(column);
-        let start = sizes.offset_of(column, 0, from);
-        let end = sizes.offset_of(column, len, from);
-        let begun = sizes.offset_of(column, 0, to);
-        let kept = &old[start..end];
-        filling = filling
-            .append(base, begun, kept)
-            .zeros(base, begun + kept.len(), (to - len) * size);
+    let size = sizes.size(column);
+    let had = sizes.offset_of(column, 0, from);
+    let at = sizes.offset_of(column, 0, to);
+    let kept = len * size;
+    shift(bytes, at, had, kept);
+    clear_at(bytes, at + kept, (to - len) * size);
+}
+
+/// Moves columns with places for `from` rows each apart, so that there are places for `to`, from the last one to the first. The first
+/// `len` rows stay, and zeros come after them.
+pub(crate) fn spread<A: Allocator>(
+    bytes: &mut [u8],
+    sizes: &Sizes<A>,
+    len: usize,
+    from: usize,
+    to: usize,
+)
+    requires rows { (len ≤ from) × (from ≤ to) }
+    requires all { (length bytes.old ≡ to * sum sizes.now) × (to * sum sizes.now < 2 ^ 63) }
+    ensures { bytes.new ≡ resized len from to sizes.now bytes.old }
+{
+    for column in (0..sizes.count()).rev() {
+        place_column(bytes, sizes, column, len, from, to);
     }
-    filling.whole()
+}
+
+/// Moves columns with places for `from` rows each together, so that there are places for `to`, from the first one to the last. The first
+/// `len` rows stay, and zeros come after them.
+pub(crate) fn gather<A: Allocator>(
+    bytes: &mut [u8],
+    sizes: &Sizes<A>,
+    len: usize,
+    from: usize,
+    to: usize,
+)
+    requires rows { (len ≤ to) × (to ≤ from) }
+    requires all { (length bytes.old ≡ from * sum sizes.now) × (from * sum sizes.now < 2 ^ 63) }
+    ensures { bytes.new ≡ resized len from to sizes.now bytes.old ++ drop (to * sum sizes.now) bytes.old }
+{
+    for column in 0..sizes.count() {
+        place_column(bytes, sizes, column, len, from, to);
+    }
 }

@@ -1,6 +1,5 @@
-use Rattle.std.proofs.Common.{◌≡◌, ◌+◌, ◌*◌, ◌<◌, ◌≤◌, length, take, drop, length-take-le, length-drop, slice_get, Some, sym, ap, ap₂, subst, ◌∙◌, arith}
+use Rattle.std.proofs.Common.{◌+◌, ◌<◌, ◌≤◌, length, take, drop, length-take-le, length-drop, slice_get, Some, sym, ap, ap₂, subst, ◌∙◌, arith}
 use Rattle.std.specs.List.{sum}
-use lib.ListN.{get_or}
 use Rattle.raw_column.specs.Contents.{Contents, column_at}
 use Rattle.raw_column.proofs.RowLemmas.{fits_most, length_shown, size_shown, value_shown}
 use Rattle.raw_column.proofs.block.Block.get.Goals as goal

@@ -1,9 +1,7 @@
-use Rattle.std.proofs.Common.{◌≡◌, ℕ, ◌+◌, ◌-◌, ◌<◌, List, [], length, map, take, slice_get, slice_index_or, Some, sym, ap, ap₂, subst, ◌∙◌, arith, inl, inr}
+use Rattle.std.proofs.Common.{◌≡◌, ℕ, ◌+◌, ◌-◌, ◌<◌, List, [], length, map, take, slice_get, slice_index_or, Some, sym, ap, ap₂, ◌∙◌, arith, inl, inr}
 use Rattle.std.proofs.lemmas.List.Sums.{fold_more}
-use Rattle.std.proofs.lemmas.List.{take_all}
 use Rattle.std.proofs.lemmas.Bool.{cases_lt}
 use Rattle.std.proofs.lemmas.Option.{same_Some, slice_get-get_or, slice_get_past}
-use Rattle.std.specs.List.{fold}
 use Rattle.raw_column.specs.Contents.{Contents, column_at, with_copied, with_item_in, with_zeros}
 use Rattle.raw_column.proofs.RowLemmas.{copied_shape, same_size, zeros_shape}
 use Rattle.raw_column.proofs.block.Block.move_row.Goals as goal

@@ -1,4 +1,4 @@
-use Rattle.std.proofs.Common.{◌≡◌, ℕ, ◌*◌, ◌<◌, ◌≤◌, List, slice_index, [], length, map, sym, ap, subst, ◌∙◌, arith}
+use Rattle.std.proofs.Common.{ℕ, ◌<◌, ◌≤◌, List, slice_index, length, map, sym, ap, subst, ◌∙◌, arith}
 use Rattle.std.specs.List.{sum}
 use native.Mathlib.Nat.{zero-mul}
 use Rattle.raw_column.specs.Contents.{no_values}

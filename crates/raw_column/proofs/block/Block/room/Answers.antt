@@ -1,6 +1,5 @@
-use Rattle.std.proofs.Common.{◌≡◌, ◌-◌, ◌*◌, ◌≤◌, max, ap, arith}
+use Rattle.std.proofs.Common.{◌≡◌, ap, arith}
 use Rattle.std.specs.List.{sum}
-use native.Mathlib.Nat.{mul-le-mul_left}
 use Rattle.raw_column.specs.Contents.{Contents}
 use Rattle.raw_column.proofs.RowLemmas.{few_rows}
 use Rattle.raw_column.proofs.block.Block.room.Goals as goal

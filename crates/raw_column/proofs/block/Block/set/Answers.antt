@@ -1,8 +1,8 @@
-use Rattle.std.proofs.Common.{◌≡◌, ℕ, ◌+◌, ◌-◌, ◌*◌, ◌<◌, ◌≤◌, List, ◌++◌, length, map, take, drop, sym, ap, ap₂, subst, ◌∙◌, arith}
+use Rattle.std.proofs.Common.{◌≡◌, ◌+◌, ◌-◌, ◌<◌, ◌≤◌, ◌++◌, length, map, take, drop, sym, ap, ap₂, subst, ◌∙◌, arith}
 use Rattle.std.specs.List.{All, sum}
-use lib.ListN.{get_or, set}
-use Rattle.raw_column.specs.Contents.{Contents, HasZeros, column_at, first_of, no_values, with_item, with_item_in}
-use Rattle.raw_column.specs.Places.{Values, columns_in, over, place_of}
+use lib.ListN.{get_or}
+use Rattle.raw_column.specs.Contents.{Contents, HasZeros, column_at, first_of, no_values, with_item_in}
+use Rattle.raw_column.specs.Places.{columns_in, over, place_of}
 use Rattle.raw_column.proofs.PlaceLemmas.{columns_write, length_columns, length_over, place_inside}
 use Rattle.raw_column.proofs.RowLemmas.{contents, fits_most, length_shown, rows_set, size_shown, zeros_set}
 use Rattle.raw_column.proofs.block.Block.set.Goals as goal

@@ -1,4 +1,4 @@
-use Rattle.std.proofs.Common.{◌≡◌, ◌<◌, length, sym, ap, subst, ◌∙◌}
+use Rattle.std.proofs.Common.{◌<◌, length, sym, ap, subst, ◌∙◌}
 use Rattle.raw_column.specs.Contents.{Contents, column_at}
 use Rattle.raw_column.proofs.RowLemmas.{length_shown, size_shown}
 use Rattle.raw_column.proofs.block.Block.size.Goals as goal

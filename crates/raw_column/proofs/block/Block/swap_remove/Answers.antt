@@ -1,7 +1,6 @@
-use Rattle.std.proofs.Common.{◌≡◌, ◌+◌, ◌-◌, ◌*◌, ◌<◌, ◌≤◌, length, map, sym, ap, ap₂, subst, ◌∙◌, arith}
+use Rattle.std.proofs.Common.{◌≡◌, ◌+◌, ◌-◌, ◌<◌, ◌≤◌, map, sym, ap, ap₂, subst, ◌∙◌, arith}
 use Rattle.std.specs.List.{All, sum}
 use Rattle.raw_column.specs.Contents.{Contents, HasZeros, first_of, without_row}
-use Rattle.raw_column.specs.Places.{columns_in}
 use Rattle.raw_column.proofs.RowLemmas.{contents, fits_most, rows_removed, zeros_removed}
 use Rattle.raw_column.proofs.block.Block.swap_remove.Goals as goal
 

@@ -1,4 +1,4 @@
-use Rattle.std.proofs.Common.{◌≡◌, ℕ, ◌*◌, ◌<◌, length, List, [], map, ap, sym, subst, ◌∙◌, arith}
+use Rattle.std.proofs.Common.{◌≡◌, ◌*◌, length, [], map, ap, sym, subst, ◌∙◌, arith}
 use Rattle.std.specs.List.{sum}
 use Rattle.raw_column.specs.Buffer.{IsPlaced, bytes_of}
 use Rattle.raw_column.specs.Places.{columns_in, gap_filled}

@@ -1,4 +1,4 @@
-use Rattle.std.proofs.Common.{◌≡◌, ℕ, ◌+◌, ◌^◌, ◌<◌, ◌++◌, ◌∷◌, [], length, List, ap, ap₂, sym, subst, ◌∙◌, slice_index, arith}
+use Rattle.std.proofs.Common.{◌≡◌, ℕ, ◌+◌, ◌^◌, ◌<◌, ◌++◌, ◌∷◌, [], length, ap, sym, subst, ◌∙◌, slice_index, arith}
 use Rattle.std.proofs.lemmas.List.{map-append, take_more}
 use Rattle.raw_column.specs.Sizes.{IsSpread, sizes_of}
 use Rattle.raw_column.specs.declared.sizes.Span.{Span}

@@ -1,9 +1,6 @@
-use Rattle.std.proofs.Common.{◌≡◌, ℕ, ◌+◌, ◌*◌, ◌^◌, ◌<◌, ◌≤◌, List, length, sym, ap, subst, ◌∙◌, arith}
+use Rattle.std.proofs.Common.{◌≡◌, ◌+◌, ◌*◌, ◌<◌, length, sym, ap, subst, ◌∙◌, arith}
 use Rattle.std.proofs.lemmas.List.{length-map}
-use Rattle.std.specs.List.{sum}
-use lib.ListN.{get_or}
 use Rattle.raw_column.specs.Places.{place_of}
-use Rattle.raw_column.specs.Sizes.{sizes_of}
 use Rattle.raw_column.specs.declared.sizes.Span.{Span}
 use Rattle.raw_column.proofs.PlaceLemmas.{place_inside, place_within}
 use Rattle.raw_column.proofs.SizeLemmas.{offset_is}
