@@ -16,7 +16,7 @@ use Rattle.ecs_model.proofs.Maps.{of_some, some_of, both_true}
 use Rattle.ecs_schema.proofs.Meaning.{values_in-zeros}
 use Rattle.name_index.specs.Names.{Names}
 use Rattle.ecs_world.specs.Holdings.{AreHoldings, Cells, HoldAlike, Holdings, KeepsSizes, Sizes, agrees, bytes_at, cells_at, entity_at, held_at, holds_id, lives, place_in, sizes_of}
-use Rattle.ecs_world.specs.State.{IsWorld, Parts, parts_of, byte_count, is_known_rightly, name_in, state_of, type_in, type_of, value_in}
+use Rattle.ecs_world.specs.State.{AreFactsOf, IsWorld, Parts, parts_of, byte_count, is_known_rightly, name_in, state_of, type_in, type_of, value_in}
 use Rattle.ecs_world.proofs.Entities.{generation_of}
 use Rattle.ecs_world.proofs.Facts.{find-facts, ids-facts}
 use Rattle.ecs_world.proofs.FactChanges.{AreCells}
@@ -186,6 +186,27 @@ module _ {parts : Parts} (world : IsWorld parts) where
       sized : (p : Option (List ℕ)) → p ≡ bytes_at h e i → IfSome p (λ bytes. length bytes ≡ byte_count (type_of_id w i))
       sized None q = tt
       sized (Some bytes) q = (known_held e i bytes (sym q)).0 ∙ ap byte_count (sym (type_is i))
+
+  -- the facts of a live entity
+  pub facts_told : (e : EntityId) (o : Option Cells) → o ≡ (if lives h e then cells_at h e.index else None) → (is_some o ≡ is_alive w e) × IfSome o (AreFactsOf w e.index)
+  facts_told e o is = by (lives h e) refl o is
+    where
+      told : (cs : Cells) → cells_at h e.index ≡ Some cs → AreFactsOf w e.index cs
+      told cs at =
+          let each = λ (i : Id). bytes_told e.index i (value_at id_cmp cs i) (sym (ap (λ o. value_at id_cmp (unwrap_or o []) i) at)) in
+          record {
+            ids = sym (ids_is e.index ∙ ap (λ o. keys (unwrap_or o [])) at);
+            value = λ i. (each i).0;
+            size = λ i. (each i).1;
+          }
+
+      by : (b : Bool) → lives h e ≡ b → (o : Option Cells) → o ≡ (if b then cells_at h e.index else None) → (is_some o ≡ b) × IfSome o (AreFactsOf w e.index)
+      by true alive None is =
+          let at = settled_at e.index (ap is_some (generation_of (value_at nat_cmp h.live e.index) e.generation alive)) in
+          let none : None ≡ Some at.0 = is ∙ at.1 in cc
+      by true alive (Some cs) is = (refl, told cs (sym is))
+      by false dead None is = (refl, tt)
+      by false dead (Some cs) is = cc
 
   -- the name of the entity at an index
   pub name_told : (e : EntityId) (i : ℕ) (o : Option (List ℕ)) → Some e ≡ entity_at h i → o ≡ name_in names e → o ≡ name_of w i

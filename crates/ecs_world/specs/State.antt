@@ -1,11 +1,11 @@
 -- What the parts of a world mean: its state.
-use Rattle.std.specs.Prelude.{◌≡◌, ℕ, ◌≤◌, nat_le, ◌==◌, Bool, not, ◌&&◌, take, List, [], ◌∷◌, map, flat_map, filter_map, ℤ, Option, Some, None, option_map, is_some, if◌then◌else◌, IsTrue}
+use Rattle.std.specs.Prelude.{◌≡◌, ℕ, ◌≤◌, nat_le, ◌==◌, Bool, not, ◌&&◌, take, List, [], ◌∷◌, length, map, flat_map, filter_map, ℤ, Option, Some, None, option_map, is_some, if◌then◌else◌, IsTrue, IfSome}
 use Rattle.std.specs.List.{find, list_all}
 use Rattle.std.specs.Option.{option_map_or, option_or}
 use Rattle.std.specs.Ordering.{nat_cmp}
 use Rattle.std.specs.FinMap as finite
 use Rattle.ecs_id.specs.declared.EntityId.{EntityId}
-use Rattle.ecs_id.specs.Id.{Id, plain, pair, mentioned}
+use Rattle.ecs_id.specs.Id.{Id, plain, pair, mentioned, id_cmp}
 use Rattle.ecs_model.specs.Map.{Map, has_key, keys, value_at}
 use Rattle.ecs_model.specs.Schema.{Schema}
 use Rattle.ecs_model.specs.Bytes.{size_of, values_in}
@@ -16,7 +16,7 @@ use Rattle.ecs_model.specs.declared.faults.Refusal.{Refusal}
 use Rattle.ecs_model.specs.declared.faults.Refusal.TheVariants.{BadName, NameTaken, TooManyIds, Full}
 use Rattle.ecs_model.specs.declared.faults.CommandError.{CommandError}
 use Rattle.ecs_model.specs.declared.faults.CommandError.TheVariants.{Refused, Memory}
-use Rattle.ecs_model.specs.World.{WorldState, Key, holds, most_ids, pair_is_tag}
+use Rattle.ecs_model.specs.World.{WorldState, Key, holds, ids_of, most_ids, pair_is_tag, type_of_id, value_of}
 use Rattle.ecs_model.specs.Command.{Changed}
 use Rattle.name_index.specs.Names.{Names, IsOneToOne, entity_eq}
 use Rattle.ecs_world.specs.declared.archetypes.Found.{Found}
@@ -92,6 +92,12 @@ pub record IsWorld (p : Parts) : Type 0 where
   -- names are of live entities
   pub named : (n : List ℕ) (e : EntityId) → finite.get p.names n ≡ Some e → IsTrue (lives p.holdings e)
   pub one_to_one : IsOneToOne p.names
+
+-- cells are the facts of an entity: its ids in order, each with the bytes of its value
+pub record AreFactsOf (w : WorldState) (e : ℕ) (cells : Cells) : Type 0 where
+  pub ids : keys cells ≡ ids_of w e
+  pub value : (i : Id) → option_map (value_in (type_of_id w i)) (value_at id_cmp cells i) ≡ value_of w e i
+  pub size : (i : Id) → IfSome (value_at id_cmp cells i) (λ bytes. length bytes ≡ byte_count (type_of_id w i))
 
 -- the front of a buffer has the bytes of a value
 pub record IsEncoded (type : Option Schema) (vs : List ℤ) (size : ℕ) (buffer : List ℕ) : Type 0 where

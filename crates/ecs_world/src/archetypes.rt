@@ -7,6 +7,7 @@ ghost use Rattle.ecs_id.specs.Id.{id_cmp, id_eq};
 ghost use Rattle.ecs_model.specs.Map.{IsMap, keys, with_value, without};
 ghost use Rattle.ecs_world.specs.Holdings.{AreHoldings, HoldAlike, KeepsSizes, agrees, bytes_at, cells_at, entity_at, first_holdings, held_at, holds_id, live_entities, lives, place_in, upcoming, with_cells, with_entity, zero_cells};
 
+use crate::entity_facts::EntityFacts;
 use crate::rows::{carry, enter, narrower, table_for, value_in, wider};
 use ecs_id::{EntityId, Id, LAST_INDEX, Place};
 use entity_index::{EntityIndex, Live};
@@ -196,6 +197,15 @@ impl<A: Allocator> Archetypes<A> {
         let place = self.entities.place(entity)?;
         let table = self.tables.get(place.table)?;
         Some(table.ids())
+    }
+
+    /// The facts of a settled entity.
+    pub fn facts(&self, entity: EntityId) -> Option<EntityFacts<'_, A>>
+        ensures { result ≡ (if lives self.now entity then cells_at self.now entity.index else None) }
+    {
+        let place = self.entities.place(entity)?;
+        let table = self.tables.get(place.table)?;
+        Some(EntityFacts::new(table, place.row))
     }
 
     /// The bytes of the value of an id that the entity of an index holds: none for a tag.

@@ -1,16 +1,17 @@
 //! What is read from a world, without memory.
 
-ghost use Rattle.std.specs.Prelude.{◌≡◌, ◌<◌, ◌≤◌, IfSome, IsTrue, map, length, option_map, None, Some, if◌then◌else◌};
+ghost use Rattle.std.specs.Prelude.{◌≡◌, ◌<◌, ◌≤◌, IfSome, IsTrue, is_some, map, length, option_map, None, Some, if◌then◌else◌};
 ghost use Rattle.std.specs.Option.{option_copied};
 ghost use Rattle.std.specs.Ordering.{nat_cmp};
 ghost use Rattle.ecs_model.specs.Bytes.{size_of, values_in};
 ghost use Rattle.ecs_model.specs.Keeps.{IsWellFormed};
 ghost use Rattle.ecs_model.specs.Map.{value_at};
 ghost use Rattle.ecs_model.specs.World.{entity_at, holds, ids_of, is_alive, is_live, name_of, named, type_of_id, value_of};
-ghost use Rattle.ecs_world.specs.State.{byte_count, value_in};
+ghost use Rattle.ecs_world.specs.State.{AreFactsOf, byte_count, value_in};
 
 use crate::World;
 use crate::built_in::PAIR_IS_TAG;
+use crate::entity_facts::EntityFacts;
 use ecs_id::{EntityId, Id};
 use ecs_model::Value;
 use ecs_schema::Schema;
@@ -104,6 +105,14 @@ impl<A: Allocator> World<A> {
         ensures { option_copied result ≡ (if is_alive self.now entity then Some (ids_of self.now entity.index) else None) }
     {
         self.archetypes.ids_of(entity)
+    }
+
+    /// The facts of a live entity, in the order of ids, and None of one that is not alive.
+    pub fn facts(&self, entity: EntityId) -> Option<EntityFacts<'_, A>>
+        ensures alive { is_some result ≡ is_alive self.now entity }
+        ensures facts { IfSome result (AreFactsOf self.now entity.index) }
+    {
+        self.archetypes.facts(entity)
     }
 
     /// The fields of a component.
