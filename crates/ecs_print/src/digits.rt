@@ -1,9 +1,9 @@
 //! Numbers in decimal.
-ghost use Rattle.std.specs.Prelude.{◌≡◌, ◌++◌, OnOk, decimal};
+ghost use Rattle.std.specs.Prelude.{◌≡◌, ◌+◌, ◌^◌, ◌<◌, ◌≤◌, ◌++◌, OnOk, decimal, drop, length, unsigned_abs};
 ghost use Rattle.std.specs.Fmt.{signed_decimal};
 ghost use Rattle.ecs_print.specs.Values.{behind_comma};
 
-use itoa::Buffer;
+use itoa::{Buffer, write_digits};
 use std::alloc::{AllocError, Allocator};
 
 /// Writes a whole number in decimal.
@@ -14,21 +14,33 @@ pub fn write_number<A: Allocator>(number: usize, out: &mut Vec<u8, A>) -> Result
     out.extend_from_slice(buffer.format(number).as_bytes())
 }
 
-/// Writes a number of a value.
-pub(crate) fn write_integer<A: Allocator>(
-    number: i128,
-    out: &mut Vec<u8, A>,
-) -> Result<(), AllocError>
-    ensures { OnOk result (out.new.items ≡ out.old.items ++ signed_decimal number) }
+/// Writes a comma and a number of a value right before `end`, and answers where they start.
+pub(crate) fn write_next(number: i128, text: &mut [u8], end: usize) -> usize
+    requires word { unsigned_abs number < 2 ^ 64 }
+    requires room { 22 ≤ end }
+    requires within { end ≤ length text.old }
+    ensures room { end ≤ result + 22 }
+    ensures some { result < end }
+    ensures written { drop result text.new ≡ behind_comma number ++ drop end text.old }
 {
-    let mut buffer = Buffer::new();
-    out.extend_from_slice(buffer.format(number).as_bytes())
+    let start = write_integer(number, text, end) - 1;
+    text[start] = b',';
+    start
 }
 
-/// Writes a comma and a number.
-pub(crate) fn write_next<A: Allocator>(number: i128, out: &mut Vec<u8, A>) -> Result<(), AllocError>
-    ensures { OnOk result (out.new.items ≡ out.old.items ++ behind_comma number) }
+/// Writes a number of a value right before `end`, and answers where it starts.
+fn write_integer(number: i128, text: &mut [u8], end: usize) -> usize
+    requires word { unsigned_abs number < 2 ^ 64 }
+    requires room { 21 ≤ end }
+    requires within { end ≤ length text.old }
+    ensures room { end ≤ result + 21 }
+    ensures within { result ≤ end }
+    ensures written { drop result text.new ≡ signed_decimal number ++ drop end text.old }
 {
-    out.extend_from_slice(b",")?;
-    write_integer(number, out)
+    let start = write_digits(number.unsigned_abs() as u64, text, end);
+    if number >= 0 {
+        return start;
+    }
+    text[start - 1] = b'-';
+    start - 1
 }

@@ -1,17 +1,39 @@
 //! The values of facts.
-ghost use Rattle.std.specs.Prelude.{◌≡◌, ◌++◌, OnOk, Some, drop, flat_map, length};
+ghost use Rattle.std.specs.Prelude.{◌≡◌, ◌++◌, IsTrue, OnOk, Some, flat_map, length};
 ghost use Rattle.ecs_model.specs.Bytes.{size_of, values_in};
 ghost use Rattle.ecs_model.specs.Output.{fact_text};
 ghost use Rattle.ecs_model.specs.Print.{value_text};
-ghost use Rattle.ecs_model.specs.World.{value_of};
-ghost use Rattle.ecs_print.specs.Values.{behind_comma};
+ghost use Rattle.ecs_model.specs.World.{ids_of, is_alive, type_of_id, value_of};
+ghost use Rattle.ecs_world.specs.State.{byte_count, value_in};
+ghost use Rattle.ecs_print.specs.Values.{held_text};
 
-use crate::digits::{write_integer, write_next};
+use crate::digits::write_next;
 use crate::entities::write_id;
-use ecs_id::Id;
+use ecs_id::{EntityId, Id};
 use ecs_schema::Schema;
+use ecs_schema::laws::bytes_are_a_value;
 use ecs_world::World;
 use std::alloc::{AllocError, Allocator};
+
+/// The numbers of a value take at most so many bytes: eight of up to twenty digits, each with a sign and what stands before it.
+const MOST_TEXT: usize = 176;
+
+/// Writes the facts of a live entity, in the order of ids.
+pub fn write_facts<A: Allocator>(
+    world: &World<A>,
+    entity: EntityId,
+    out: &mut Vec<u8, A>,
+) -> Result<(), AllocError>
+    requires { IsTrue (is_alive world.now entity) }
+    ensures { OnOk result (out.new.items ≡ out.old.items ++ flat_map (fact_text world.now entity.index) (ids_of world.now entity.index)) }
+{
+    let facts = world.facts(entity).unwrap();
+    for place in 0..facts.len() {
+        let (id, bytes) = facts.at(place);
+        write_held(world, id, bytes, out)?;
+    }
+    Ok(())
+}
 
 /// Writes a fact of an entity, by its index: ` [ID=v,v]`, or ` [ID]` without a value.
 pub fn write_fact<A: Allocator>(
@@ -47,6 +69,42 @@ pub fn write_value<A: Allocator>(
     }
 }
 
+/// Writes a fact of which the bytes of its value are given.
+fn write_held<A: Allocator>(
+    world: &World<A>,
+    id: Id,
+    bytes: &[u8],
+    out: &mut Vec<u8, A>,
+) -> Result<(), AllocError>
+    requires { length bytes.now ≡ byte_count (type_of_id world.now id) }
+    ensures { OnOk result (out.new.items ≡ out.old.items ++ held_text world.now id bytes.now) }
+{
+    out.extend_from_slice(b" [")?;
+    write_id(world, id, out)?;
+    write_bytes(world, id, bytes, out)?;
+    out.extend_from_slice(b"]")
+}
+
+/// Writes the value that the bytes of a fact mean. Where there are none, its type needs no look-up.
+fn write_bytes<A: Allocator>(
+    world: &World<A>,
+    id: Id,
+    bytes: &[u8],
+    out: &mut Vec<u8, A>,
+) -> Result<(), AllocError>
+    requires { length bytes.now ≡ byte_count (type_of_id world.now id) }
+    ensures { OnOk result (out.new.items ≡ out.old.items ++ value_text (Some (value_in (type_of_id world.now id) bytes.now))) }
+{
+    world.keeps();
+    if bytes.is_empty() {
+        return Ok(());
+    }
+    match world.type_of(id) {
+        None => Ok(()),
+        Some(schema) => write_fields(schema, bytes, out),
+    }
+}
+
 /// Writes the value that bytes mean: `=` and the number of each field, with commas between.
 pub fn write_fields<A: Allocator>(
     schema: &Schema<A>,
@@ -56,11 +114,16 @@ pub fn write_fields<A: Allocator>(
     requires { length bytes.now ≡ size_of schema.now }
     ensures { OnOk result (out.new.items ≡ out.old.items ++ value_text (Some (values_in schema.now bytes.now))) }
 {
+    bytes_are_a_value(schema, bytes);
     let count = schema.field_count();
-    out.extend_from_slice(b"=")?;
-    write_integer(schema.decode(bytes, 0), out)?;
-    for field in 1..count {
-        write_next(schema.decode(bytes, field), out)?;
+    let mut text = [0; MOST_TEXT];
+    let mut start = MOST_TEXT;
+    let mut field = count;
+    while field > 0 {
+        field -= 1;
+        start = write_next(schema.decode(bytes, field), &mut text, start);
     }
-    Ok(())
+    // Before the first number stands no comma.
+    text[start] = b'=';
+    out.extend_from_slice(&text[start..])
 }
