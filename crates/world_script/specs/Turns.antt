@@ -1,9 +1,21 @@
--- What the calls of a tape do, turn by turn.
-use Rattle.std.specs.Prelude.{◌≡◌, ◌⊎◌, ℕ, ◌^◌, ◌-◌, min, max, List, [], ◌∷◌, drop, Result, Ok, Err}
+-- What a tape holds, and what its calls do, turn by turn.
+use Rattle.std.specs.Prelude.{◌≡◌, ◌⊎◌, ℕ, ◌^◌, ◌-◌, min, max, false, List, [], ◌∷◌, drop, Result, Ok, Err}
+use Rattle.world_script.specs.declared.streams.Calls.{Calls}
 use Rattle.world_script.specs.declared.streams.Stop.{Stop}
 use Rattle.world_script.specs.declared.streams.Stop.TheVariants.{Failed}
 use Rattle.world_script.specs.declared.tapes.Turn.{Turn}
 use Rattle.world_script.specs.declared.tapes.Turn.TheVariants as turn
+
+-- a tape: all its bytes, how many of them were given to reads, the turns to come, and what is told of the calls so far
+pub record TapeState : Type 0 where
+  pub bytes : List ℕ
+  pub given : ℕ
+  pub turns : List Turn
+  pub calls : Calls
+
+-- a tape with these bytes and turns, of which nothing was asked
+abbrev pub new_tape : List ℕ → List Turn → TapeState
+new_tape bytes turns = record { bytes = bytes; given = 0; turns = turns; calls = record { interruptions = 0; has_failed = false } }
 
 -- the turn that comes next: behind the last, all bytes pass
 abbrev pub next_turn : List Turn → Turn

@@ -1,10 +1,10 @@
 //! What `show` prints.
-ghost use Rattle.std.specs.Prelude.{◌≡◌, ◌++◌, flat_map, IsTrue, OnOk};
+ghost use Rattle.std.specs.Prelude.{◌≡◌, ◌++◌, IsTrue, OnOk};
 ghost use Rattle.ecs_model.specs.World.{is_alive};
-ghost use Rattle.ecs_model.specs.Output.{fact_text, show_text};
+ghost use Rattle.ecs_model.specs.Output.{show_text};
 
-use ecs_id::{EntityId, Id};
-use ecs_print::{write_entity, write_fact};
+use ecs_id::EntityId;
+use ecs_print::{write_entity, write_facts};
 use ecs_world::World;
 use std::alloc::{AllocError, Allocator};
 
@@ -17,24 +17,8 @@ pub(crate) fn show_entity<A: Allocator>(
     requires { IsTrue (is_alive world.now entity) }
     ensures { OnOk result (output.new.items ≡ output.old.items ++ show_text world.now entity) }
 {
-    let ids = world.ids_of(entity).unwrap();
     output.extend_from_slice(b"show ")?;
     write_entity(world, entity, output)?;
-    show_facts(world, entity.index, ids, output)?;
+    write_facts(world, entity, output)?;
     output.extend_from_slice(b"\n")
-}
-
-/// Prints the facts of these ids.
-fn show_facts<A: Allocator>(
-    world: &World<A>,
-    entity: u32,
-    ids: &[Id],
-    output: &mut Vec<u8, A>,
-) -> Result<(), AllocError>
-    ensures { OnOk result (output.new.items ≡ output.old.items ++ flat_map (fact_text world.now entity) ids.now) }
-{
-    for id in ids {
-        write_fact(world, entity, *id, output)?;
-    }
-    Ok(())
 }

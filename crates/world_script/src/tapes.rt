@@ -1,9 +1,10 @@
 //! A reader and a writer for tests, which does as it is told.
-ghost use Rattle.std.specs.Prelude.{◌≡◌, ◌+◌, ◌-◌, ◌<◌, ◌≤◌, Some, IfOk, false, length, take, drop, vec_len};
-ghost use Rattle.world_script.specs.Turns.{next_turn, passed};
+ghost use Rattle.std.specs.Prelude.{◌≡◌, ◌+◌, ◌-◌, ◌<◌, ◌≤◌, IfOk, length, take, drop};
+ghost use Rattle.world_script.specs.Turns.{next_turn, new_tape, passed};
 
 use crate::streams::{Calls, Sink, Source, Stop};
 use std::alloc::{AllocError, Allocator, Global};
+use std::marker::Model;
 
 /// What one call of a tape does.
 #[derive(Clone, Copy, Debug, PartialEq, Eq)]
@@ -24,17 +25,23 @@ pub struct Tape<'a, A: Allocator = Global> {
     given: usize,
     turns: &'a [Turn],
     calls: Calls,
-    ghost inside: { given ≤ vec_len bytes },
+}
+
+impl<'a, A: Allocator> Model for Tape<'a, A> {
+    ghost use Rattle.std.specs.Prelude.{◌≤◌, length};
+    ghost use Rattle.world_script.specs.Turns.{TapeState};
+
+    ghost Value = { TapeState };
+
+    ghost view = { λ t. record { bytes = t.bytes.items; given = t.given; turns = t.turns.now; calls = t.calls } };
+
+    ghost invariant = { λ t. t.given ≤ length t.bytes.items };
 }
 
 impl<'a, A: Allocator> Tape<'a, A> {
     /// A tape with these bytes on it, and with these turns to come.
     pub fn new(alloc: A, bytes: &[u8], turns: &'a [Turn]) -> Result<Self, AllocError>
-        ensures to_read { IfOk result (λ tape. ⟦<Tape<'a, A> as Source>⟧.remaining tape ≡ Some bytes.now) }
-        ensures written { IfOk result (λ tape. ⟦<Tape<'a, A> as Sink>⟧.contents tape ≡ Some bytes.now) }
-        ensures turns { IfOk result (λ tape. tape.turns.now ≡ turns.now) }
-        ensures reads { IfOk result (λ tape. ⟦<Tape<'a, A> as Source>⟧.calls tape ≡ record { interruptions = 0; has_failed = false }) }
-        ensures writes { IfOk result (λ tape. ⟦<Tape<'a, A> as Sink>⟧.calls tape ≡ record { interruptions = 0; has_failed = false }) }
+        ensures { IfOk result (λ tape. tape ≡ new_tape bytes.now turns.now) }
     {
         Ok(Tape {
             bytes: Vec::from_slice(alloc, bytes)?,
@@ -46,14 +53,14 @@ impl<'a, A: Allocator> Tape<'a, A> {
 
     /// All its bytes.
     pub fn bytes(&self) -> &[u8]
-        ensures { Some result.now ≡ ⟦<Tape<'a, A> as Sink>⟧.contents self.now }
+        ensures { result.now ≡ self.now.bytes }
     {
         self.bytes.as_slice()
     }
 
     /// The turns to come.
     pub fn turns(&self) -> &[Turn]
-        ensures { result.now ≡ self.now.turns.now }
+        ensures { result.now ≡ self.now.turns }
     {
         self.turns
     }
@@ -88,14 +95,14 @@ fn give(bytes: &[u8], given: usize, most: usize, buffer: &mut [u8]) -> usize
 }
 
 impl<A: Allocator> Source for Tape<'_, A> {
-    ghost use Rattle.std.specs.Prelude.{◌-◌, Some, drop, vec_len};
+    ghost use Rattle.std.specs.Prelude.{◌-◌, Some, drop, length};
     ghost use Rattle.world_script.specs.Turns.{ReadsInTurn};
 
-    ghost remaining = { λ s. Some (drop s.given s.bytes.items) };
+    ghost remaining = { λ t. Some (drop t.given t.bytes) };
 
-    ghost calls = { λ s. s.calls };
+    ghost calls = { λ t. t.calls };
 
-    ghost reads = { λ s room answer t. ReadsInTurn s.turns.now room (vec_len s.bytes - s.given) answer t.turns.now };
+    ghost reads = { λ t room answer later. ReadsInTurn t.turns room (length t.bytes - t.given) answer later.turns };
 
     fn read(&mut self, buffer: &mut [u8]) -> Result<usize, Stop> {
         let answer = match take_turn(&mut self.turns) {
@@ -115,11 +122,11 @@ impl<A: Allocator> Sink for Tape<'_, A> {
     ghost use Rattle.std.specs.Prelude.{Some};
     ghost use Rattle.world_script.specs.Turns.{WritesInTurn};
 
-    ghost contents = { λ s. Some s.bytes.items };
+    ghost contents = { λ t. Some t.bytes };
 
-    ghost calls = { λ s. s.calls };
+    ghost calls = { λ t. t.calls };
 
-    ghost writes = { λ s count answer t. WritesInTurn s.turns.now count answer t.turns.now };
+    ghost writes = { λ t count answer later. WritesInTurn t.turns count answer later.turns };
 
     /// Memory that is refused is a failure.
     fn write(&mut self, bytes: &[u8]) -> Result<usize, Stop> {
