@@ -153,27 +153,8 @@ fn word_len(rest: &[u8]) -> usize
 fn is_word_byte(byte: u8) -> bool
     ensures { result ≡ is_word_byte byte }
 {
-    byte.is_ascii_alphanumeric() || byte == b'_'
+    byte.is_ascii_lowercase() || byte.is_ascii_digit() || byte.is_ascii_uppercase() || byte == b'_'
 }
-
-/// The marks, each before those that begin it.
-const MARKS: [Mark; 15] = [
-    Mark::Comma,
-    Mark::OrOr,
-    Mark::Bar,
-    Mark::NotEqual,
-    Mark::Bang,
-    Mark::Question,
-    Mark::EqualEqual,
-    Mark::OpenParen,
-    Mark::CloseParen,
-    Mark::OpenBrace,
-    Mark::CloseBrace,
-    Mark::OpenBracket,
-    Mark::CloseBracket,
-    Mark::Star,
-    Mark::Underscore,
-];
 
 /// How a mark is spelled.
 fn spelling(mark: Mark) -> &'static str
@@ -198,51 +179,39 @@ fn spelling(mark: Mark) -> &'static str
     }
 }
 
-/// Whether a mark stands at the front.
-fn is_at_front(rest: &[u8], mark: Mark) -> bool
-    ensures { result ≡ starts_with nat_eq rest.now (spelling mark) }
-{
-    match mark {
-        Mark::Comma => begins(rest, b','),
-        Mark::OrOr => begins_with_both(rest, b'|', b'|'),
-        Mark::Bar => begins(rest, b'|'),
-        Mark::NotEqual => begins_with_both(rest, b'!', b'='),
-        Mark::Bang => begins(rest, b'!'),
-        Mark::Question => begins(rest, b'?'),
-        Mark::EqualEqual => begins_with_both(rest, b'=', b'='),
-        Mark::OpenParen => begins(rest, b'('),
-        Mark::CloseParen => begins(rest, b')'),
-        Mark::OpenBrace => begins(rest, b'{'),
-        Mark::CloseBrace => begins(rest, b'}'),
-        Mark::OpenBracket => begins(rest, b'['),
-        Mark::CloseBracket => begins(rest, b']'),
-        Mark::Star => begins(rest, b'*'),
-        Mark::Underscore => begins(rest, b'_'),
-    }
-}
-
-fn begins(rest: &[u8], byte: u8) -> bool
-    ensures { result ≡ starts_with nat_eq rest.now (byte ∷ []) }
-{
-    !rest.is_empty() && rest[0] == byte
-}
-
-fn begins_with_both(rest: &[u8], first: u8, second: u8) -> bool
-    ensures { result ≡ starts_with nat_eq rest.now (first ∷ second ∷ []) }
-{
-    rest.len() > 1 && rest[0] == first && rest[1] == second
-}
-
 /// The longest mark at the front.
+
 fn mark(rest: &[u8]) -> Option<Mark>
+    requires { 0 < length rest.now }
     ensures { result ≡ find (λ m. starts_with nat_eq rest.now (spelling m)) marks }
 {
-    for mark in &MARKS {
-        if is_at_front(rest, *mark) {
-            return Some(*mark);
-        }
-    }
-    None
+    let mark = match rest[0] {
+        b',' => Mark::Comma,
+        b'|' if has_second(rest, b'|') => Mark::OrOr,
+        b'|' => Mark::Bar,
+        b'!' if has_second(rest, b'=') => Mark::NotEqual,
+        b'!' => Mark::Bang,
+        b'?' => Mark::Question,
+        b'=' if has_second(rest, b'=') => Mark::EqualEqual,
+        b'(' => Mark::OpenParen,
+        b')' => Mark::CloseParen,
+        b'{' => Mark::OpenBrace,
+        b'}' => Mark::CloseBrace,
+        b'[' => Mark::OpenBracket,
+        b']' => Mark::CloseBracket,
+        b'*' => Mark::Star,
+        b'_' => Mark::Underscore,
+        _ => return None,
+    };
+    Some(mark)
+}
+
+/// Whether the second byte is this one.
+fn has_second(rest: &[u8], byte: u8) -> bool
+    requires { 0 < length rest.now }
+    ensures { result ≡ starts_with nat_eq (drop 1 rest.now) (byte ∷ []) }
+{
+    rest.len() > 1 && rest[1] == byte
 }
 
 /// How many blanks stand at the front.

@@ -7,7 +7,12 @@ ghost use Rattle.query_model.specs.Text.{is_name_byte, is_reserved};
 pub fn is_name_byte(byte: u8) -> bool
     ensures { result ≡ is_name_byte byte }
 {
-    byte.is_ascii_alphanumeric() || byte == b'_' || byte == b'.'
+    // (most bytes of names are small letters)
+    byte.is_ascii_lowercase()
+        || byte.is_ascii_digit()
+        || byte.is_ascii_uppercase()
+        || byte == b'_'
+        || byte == b'.'
 }
 
 /// Whether a text is one of the words of the query language, which name nothing.

@@ -12,7 +12,7 @@ ghost use Rattle.query_lexer.specs.Token.{seen, text_length};
 ghost use Rattle.query_model.specs.Seen.{seen_part};
 ghost use Rattle.query_parser.specs.Steps.{completed, nested};
 
-use crate::machine::{Nesting, State, step};
+use crate::machine::{Move, Nesting, State, step};
 use query_lexer::Token;
 use query_model::Span;
 use query_model::faults::{Fault, FaultKind, QueryFault};
@@ -40,10 +40,12 @@ pub fn parse<'a, A: Allocator + Copy>(
     let mut depth = 0;
     let mut state = State::TermNext(Role::And);
     for token in tokens {
-        let Some(go) = step(depth, state, *token) else {
+        // (a move is large, so it stays where it is)
+        let next = step(depth, state, *token);
+        let Some(go) = &next else {
             return Err(unexpected(token.span));
         };
-        complete(&mut parts, go.part, go.nesting).map_err(|_| QueryFault::Memory)?;
+        complete(&mut parts, go).map_err(|_| QueryFault::Memory)?;
         depth = nested(depth, go.nesting);
         state = go.state;
     }
@@ -66,15 +68,14 @@ fn text_length(tokens: &[Token<'_>]) -> usize
 /// Puts the parts that a step completes behind those before them.
 fn complete<'a, A: Allocator + Copy>(
     parts: &mut Vec<Part<'a>, A>,
-    part: Option<Part<'a>>,
-    nesting: Nesting,
+    go: &Move<'a>,
 ) -> Result<(), AllocError>
-    ensures { IfOk result (λ _. map seen_part parts.new.items ≡ map seen_part parts.old.items ++ completed part.entry nesting) }
+    ensures { IfOk result (λ _. map seen_part parts.new.items ≡ map seen_part parts.old.items ++ completed go.now.part go.now.nesting) }
 {
-    if let Some(part) = part {
+    if let Some(part) = go.part {
         parts.push(part)?;
     }
-    if let Nesting::Closes = nesting {
+    if let Nesting::Closes = go.nesting {
         parts.push(Part::Closed)?;
     }
     Ok(())

@@ -1,0 +1,90 @@
+//! Reads texts of queries, from their bytes to the checked query or the fault, and tells what came of each.
+//!
+//! Its first argument names one text, and its second how often it is read: time it from outside, once and many times, so that the
+//! difference is what reading costs. Without arguments each text is read once.
+#![tactic(auto)]
+
+mod texts;
+mod words;
+
+use query_check::{Query, check};
+use query_lexer::lex;
+use query_model::faults::QueryFault;
+use query_parser::parse;
+use std::alloc::{AllocError, Global};
+use std::{env, io};
+use words::Words;
+
+/// The texts by name: one that has all that a query may have, and some that try to be slow.
+const TEXTS: [&str; 8] = [
+    "terms",
+    "alternatives",
+    "variables",
+    "occurrences",
+    "groups",
+    "nested",
+    "marks",
+    "blanks",
+];
+
+fn text_of(alloc: Global, name: &str) -> Result<String, AllocError> {
+    match name {
+        "terms" => texts::terms(alloc),
+        "alternatives" => texts::repeated(alloc, "N", "||N"),
+        "variables" => texts::variables(alloc),
+        "occurrences" => texts::repeated(alloc, "N", ",N($a,$b)"),
+        "groups" => texts::repeated(alloc, "N", ",!{!{!{N($a,$b)}}}"),
+        "nested" => texts::repeated(alloc, "", "!{"),
+        "marks" => texts::repeated(alloc, "", "|||"),
+        _ => texts::repeated(alloc, "N", " "),
+    }
+}
+
+fn ask(alloc: Global, text: &str) -> Result<Query, QueryFault> {
+    let tokens = match lex(alloc, text) {
+        Ok(tokens) => tokens,
+        Err(fault) => return Err(fault),
+    };
+    let syntax = match parse(alloc, tokens.as_slice()) {
+        Ok(syntax) => syntax,
+        Err(fault) => return Err(fault),
+    };
+    check(alloc, &Words, &syntax)
+}
+
+fn told(rt: &HostRuntime, name: &str, answer: Result<Query, QueryFault>) -> io::Result<()> {
+    match answer {
+        Ok(query) => println!(rt;
+            "{name}: {} pieces, {} mentions, {} variables",
+            query.pieces().len(),
+            query.mentions().len(),
+            query.variables().len()
+        ),
+        Err(QueryFault::Memory) => println!(rt; "{name}: Memory"),
+        Err(QueryFault::Fault(fault)) => println!(rt;
+            "{name}: {:?} {}..{}",
+            fault.kind, fault.span.start, fault.span.end
+        ),
+    }
+}
+
+fn main(rt: HostRuntime) -> io::Result<()> {
+    let alloc = rt.alloc();
+    let mut words = env::args(&rt)?.skip(1);
+    let chosen = words.next();
+    let times = match words.next() {
+        Some(word) => word.parse().unwrap_or(1),
+        None => 1,
+    };
+    for name in TEXTS {
+        if chosen.as_ref().is_some_and(|word| word.as_str() != name) {
+            continue;
+        }
+        let text = text_of(alloc, name)?;
+        for _ in 1..times {
+            ask(alloc, &text).is_ok();
+        }
+        told(&rt, name, ask(alloc, &text))?;
+    }
+    Ok(())
+}
