@@ -6,3 +6,5 @@ mod Marks
 mod Rows
 mod WorkLists
 mod Pulls
+mod Mentions
+mod Forbidden

@@ -1,5 +1,5 @@
 -- The entities in the rows of tables, one after another.
-use Rattle.std.proofs.Common.{◌≡◌, ℕ, ◌+◌, ◌<◌, List, [], ◌∷◌, length, get_or, take, ap, ◌∙◌}
+use Rattle.std.proofs.Common.{◌≡◌, ℕ, ◌+◌, ◌<◌, ◌≤◌, List, [], ◌∷◌, length, get_or, take, take_all, ap, ◌∙◌, arith}
 use Rattle.std.specs.Prelude.{map}
 use Rattle.std.specs.List.{All, Contains, flat_map}
 use Rattle.std.proofs.Math.ListN.{get_or-map}
@@ -31,3 +31,11 @@ rows_below rows ts i d n f es l e below k x in' =
   where
     there : Contains (map f es) (f (get_or es k x))
     there = (k, rw length-map in', get_or-map f es k (get_or es k x) ∙ ap f (get_or_default es k (get_or es k x) x in'))
+
+-- one item of a slice more, and all of them
+module _ (bring : ℕ → List ℕ) (all items : List ℕ) (is : items ≡ all) (k : ℕ) (old found : List ℕ) where
+  pub item_added : (new : List ℕ) → k < length items → IsGrownBy (flat_map bring (take k all)) old found → IsGrownBy (bring (get_or items k 0)) found new → IsGrownBy (flat_map bring (take (k + 1) all)) old new
+  item_added new l f g = table_added bring all k 0 (bring (get_or items k 0)) old found new (omega (arith, ap length is)) (ap (λ xs. bring (get_or xs k 0)) is) f g
+
+  pub all_added : length items ≤ k → IsGrownBy (flat_map bring (take k all)) old found → IsGrownBy (flat_map bring all) old found
+  all_added l f = let over : length all ≤ k = omega (arith, ap length is) in rw (take_all k all over) at f

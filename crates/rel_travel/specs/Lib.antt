@@ -3,3 +3,5 @@ pub mod Growing
 pub mod Trail
 pub mod Holders
 pub mod Lists
+pub mod Referring
+pub mod Outside

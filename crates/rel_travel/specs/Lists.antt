@@ -9,6 +9,8 @@ use Rattle.rel_travel.specs.Holders.{holders_of_pair}
 pub record Work : Type 0 where
   pub size : ℕ
   pub found : List ℕ
+  -- those that refer to what was found, as they were found last
+  pub referrers : List ℕ
   -- of the list that was begun last: its relationship, whether it goes from sources to targets, whether it goes on from each entity that it gives, and how many of the found it has given
   pub relationship : ℕ
   pub is_upward : Bool

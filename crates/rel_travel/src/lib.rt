@@ -3,11 +3,13 @@
 
 mod chains;
 mod falls;
+mod forbidding;
 mod found;
 mod graph;
 mod holders;
 mod line;
 mod path;
+mod referrers;
 mod scratch;
 mod work_list;
 
@@ -15,5 +17,8 @@ pub use falls::Falling;
 pub use found::Found;
 pub use graph::{Graph, Upward, target_under};
 pub use holders::{Downward, Holders, add_holders};
-pub use scratch::{Scratch, above, below, deleted, first_up, gather, pull, reaches, would_cycle};
+pub use scratch::{
+    Scratch, above, below, deleted, deletion_is_forbidden, find_referrers, first_up, gather, pull,
+    reaches, would_cycle,
+};
 pub use work_list::Rule;

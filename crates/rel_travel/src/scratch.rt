@@ -7,15 +7,18 @@ ghost use Rattle.ecs_model.specs.Links.{IsAcyclic, IsReached, line, reaches as r
 ghost use Rattle.ecs_model.specs.Reach.{IsLeast, Reached};
 ghost use Rattle.rel_travel.specs.Lists.{GivesOne, IsListing, IsToCome, given_by, steps};
 ghost use Rattle.rel_travel.specs.Growing.{IsGrownBy};
-ghost use Rattle.rel_travel.specs.Finds.{with_find};
+ghost use Rattle.rel_travel.specs.Finds.{is_among, with_find};
+ghost use Rattle.rel_travel.specs.Referring.{is_forbidden, referrers};
 
 use crate::chains::{Reach, begin, leads, leads_back, reach_of};
 use crate::falls::find_falling;
+use crate::forbidding::has_forbidder;
 use crate::found::Found;
 use crate::graph::{Graph, Upward};
 use crate::holders::{Downward, Holders};
 use crate::line::first_hit;
 use crate::path::Path;
+use crate::referrers::list_referrers;
 use crate::work_list::{Rule, gather_found};
 use component_index::Pattern;
 use std::alloc::{AllocError, Allocator, Global};
@@ -40,6 +43,7 @@ struct Listing {
 #[derive(Drop)]
 pub struct Scratch<A: Allocator = Global> {
     found: Found<A>,
+    referring: Found<A>,
     path: Path<A>,
     list: Listing,
 }
@@ -50,9 +54,9 @@ impl<A: Allocator> Model for Scratch<A> {
 
     ghost Value = { Work };
 
-    ghost view = { λ s. record { size = s.found.size; found = s.found.items; relationship = s.list.relationship; is_upward = s.list.is_upward; goes_on = s.list.goes_on; given = s.list.given } };
+    ghost view = { λ s. record { size = s.found.size; found = s.found.items; referrers = s.referring.items; relationship = s.list.relationship; is_upward = s.list.is_upward; goes_on = s.list.goes_on; given = s.list.given } };
 
-    ghost invariant = { λ s. s.found.size ≤ s.path.room - 1 };
+    ghost invariant = { λ s. (s.found.size ≤ s.path.room - 1) × (s.found.size ≤ s.referring.size) };
 }
 
 impl<A: Allocator + Copy> Scratch<A> {
@@ -63,6 +67,7 @@ impl<A: Allocator + Copy> Scratch<A> {
     {
         Scratch {
             found: Found::new(alloc),
+            referring: Found::new(alloc),
             path: Path::new(alloc),
             list: Listing {
                 relationship: 0,
@@ -81,6 +86,7 @@ impl<A: Allocator + Copy> Scratch<A> {
         ensures refused { OnErr result (self.new ≡ self.old) }
     {
         self.path.reserve(size as usize + 1)?;
+        self.referring.reserve(size)?;
         self.found.reserve(size)
     }
 }
@@ -99,6 +105,22 @@ impl<A: Allocator> Scratch<A> {
         ensures once { IsDistinct ◌==◌ result.now }
     {
         self.found.as_slice()
+    }
+
+    /// Those that refer to what was found, as `find_referrers` found them last, each once, by index.
+    pub fn referrers(&self) -> &[u32]
+        ensures referrers { result.now ≡ self.now.referrers }
+        ensures once { IsDistinct ◌==◌ result.now }
+    {
+        self.referring.as_slice()
+    }
+
+    /// Whether the last search found an entity.
+    pub fn is_found(&self, index: u32) -> bool
+        requires { index < self.now.size }
+        ensures { result ≡ is_among self.now.found index }
+    {
+        self.found.is_found(index)
     }
 
     /// Forgets what the last search found.
@@ -314,4 +336,27 @@ pub fn deleted<G: Holders, A: Allocator>(graph: &G, index: u32, scratch: &mut Sc
     ensures least { (y : ℕ) → Contains scratch.new.found y ↔ Reached (falling (G.ids graph.now) (G.entities graph.now)) index y }
 {
     find_falling(graph, index, &mut scratch.found);
+}
+
+/// Finds who refers to what was found: the entities outside that hold an id which mentions one of the found.
+///
+/// After `deleted` these are the ones that lose ids with the deleted entities. It goes through what mentions each of the found.
+pub fn find_referrers<G: Holders, A: Allocator>(graph: &G, scratch: &mut Scratch<A>)
+    requires covered { G.size graph.now ≤ scratch.old.size }
+    ensures same { scratch.new ≡ record scratch.old { referrers = scratch.new.referrers } }
+    ensures exact { (y : ℕ) → Contains scratch.new.referrers y ↔ Contains (referrers (G.ids graph.now) (G.entities graph.now) scratch.old.found) y }
+{
+    list_referrers(graph, &scratch.found, &mut scratch.referring);
+}
+
+/// Whether a cleanup rule forbids the deletion of what was found: an entity outside is the source of a pair with one of them as target,
+/// whose relationship has (OnDeleteTarget,Panic), or uses one of them that has (OnDelete,Panic).
+///
+/// It goes through the ids of those that refer to them, once `find_referrers` has found these.
+pub fn deletion_is_forbidden<G: Graph, A: Allocator>(graph: &G, scratch: &Scratch<A>) -> bool
+    requires covered { G.size graph.now ≤ scratch.now.size }
+    requires referrers { (y : ℕ) → Contains scratch.now.referrers y ↔ Contains (referrers (G.ids graph.now) (G.entities graph.now) scratch.now.found) y }
+    ensures { result ≡ is_forbidden (G.ids graph.now) (G.entities graph.now) scratch.now.found }
+{
+    has_forbidder(graph, &scratch.found, scratch.referring.as_slice())
 }

@@ -17,7 +17,7 @@ returns-then-list-clause-begun g c =
     let entities = g.G.Graph.entities c.args.graph.now in
     let ids = g.G.Graph.ids c.args.graph.now in
     let s = c.scratch.inside in
-    let old : Work = record { size = s.found.size; found = s.found.items; relationship = s.list.relationship; is_upward = s.list.is_upward; goes_on = s.list.goes_on; given = s.list.given } in
+    let old : Work = record { size = s.found.size; found = s.found.items; referrers = s.referring.items; relationship = s.list.relationship; is_upward = s.list.is_upward; goes_on = s.list.goes_on; given = s.list.given } in
     let P : Work → Type 0 = λ w. IsListing entities ids w in
     let turn : IsTurn old.goes_on (steps entities ids old.is_upward old.relationship) c.at-entity.result old.found c.follow.new.found.items = rw c.if-list.true c.follow.ensures.grown in
     is_listing entities ids old c.follow.new.found.size c.follow.new.found.items c.at-entity.result (omega (arith, c.len.ensures.count)) c.at-entity.ensures c.len.ensures.once turn (subst P (sym c.scratch.view_is) c.requires.begun)
@@ -27,7 +27,7 @@ returns-then-list-clause-given g c =
     let entities = g.G.Graph.entities c.args.graph.now in
     let ids = g.G.Graph.ids c.args.graph.now in
     let s = c.scratch.inside in
-    let old : Work = record { size = s.found.size; found = s.found.items; relationship = s.list.relationship; is_upward = s.list.is_upward; goes_on = s.list.goes_on; given = s.list.given } in
+    let old : Work = record { size = s.found.size; found = s.found.items; referrers = s.referring.items; relationship = s.list.relationship; is_upward = s.list.is_upward; goes_on = s.list.goes_on; given = s.list.given } in
     let P : Work → Type 0 = λ w. IsListing entities ids w in
     let turn : IsTurn old.goes_on (steps entities ids old.is_upward old.relationship) c.at-entity.result old.found c.follow.new.found.items = rw c.if-list.true c.follow.ensures.grown in
     rw (← c.scratch.view_is) (is_given entities ids old c.follow.new.found.size c.follow.new.found.items c.at-entity.result (omega (arith, c.len.ensures.count)) c.at-entity.ensures c.len.ensures.once turn (subst P (sym c.scratch.view_is) c.requires.begun))
@@ -37,7 +37,7 @@ returns-else-list-clause-given g c =
     let entities = g.G.Graph.entities c.args.graph.now in
     let ids = g.G.Graph.ids c.args.graph.now in
     let s = c.scratch.inside in
-    let old : Work = record { size = s.found.size; found = s.found.items; relationship = s.list.relationship; is_upward = s.list.is_upward; goes_on = s.list.goes_on; given = s.list.given } in
+    let old : Work = record { size = s.found.size; found = s.found.items; referrers = s.referring.items; relationship = s.list.relationship; is_upward = s.list.is_upward; goes_on = s.list.goes_on; given = s.list.given } in
     let P : Work → Type 0 = λ w. IsListing entities ids w in
     let turn : IsTurn old.goes_on (steps entities ids old.is_upward old.relationship) c.at-entity.result old.found old.found = rw c.if-list.false refl in
     rw (← c.scratch.view_is) (is_given entities ids old s.found.size old.found c.at-entity.result (omega (arith, c.len.ensures.count)) c.at-entity.ensures c.len.ensures.once turn (subst P (sym c.scratch.view_is) c.requires.begun))
