@@ -11,7 +11,7 @@ use Rattle.ecs_model.specs.Reach.{Reached, itself, onward}
 use Rattle.ecs_model.proofs.Linked.{of_pair, pair_of}
 use Rattle.ecs_model.proofs.Maps.{eq_itself, key_cmp_total}
 use Rattle.ecs_model.specs.World.{key_cmp}
-use Rattle.ecs_model.proofs.Members.{any_passes, from_filter_map, in_filter_map, passing, eq_same}
+use Rattle.ecs_model.proofs.Members.{any_passes, from_filter_map, in_filter_map, passing}
 use Rattle.ecs_model.proofs.Members.{eq_itself as number_itself}
 use Rattle.rel_traits.specs.After.{AddedFactsClose, ClosesOne, FreshAreAcyclic, HasBannedCycle, IsAfter, IsAfterAdding, IsTurned, TellsCycles}
 use Rattle.rel_traits.proofs.Cycling.{added_pairs_close, gone, others_stay_open, wider_cycle}

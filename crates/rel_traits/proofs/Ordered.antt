@@ -1,5 +1,5 @@
 -- A list of facts that was sorted, and of which each was kept once.
-use Rattle.std.proofs.Common.{◌≡◌, ◌↔◌, ℕ, true, IsTrue, List, ◌∷◌, [], get_or, refl}
+use Rattle.std.proofs.Common.{◌≡◌, ◌↔◌, ℕ, true, IsTrue, List, get_or, refl}
 use Rattle.std.specs.List.{All, Contains, dedup, filter, flat_map}
 use Rattle.std.specs.List.Sorted.{IsPermutation, IsSorted, IsStrictlySortedBy}
 use Rattle.std.specs.Cmp.{Equal-is}

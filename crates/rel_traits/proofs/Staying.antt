@@ -2,7 +2,7 @@
 use Rattle.std.proofs.Common.{◌≡◌, ◌⊎◌, ℕ, true, List, sym, ap, ◌∙◌, inl, inr, arith}
 use Rattle.ecs_id.specs.Id.{Id, plain, pair, target_or_zero}
 use Rattle.ecs_model.specs.World.{Key}
-use Rattle.ecs_model.specs.Added.{IsAdded, IsReplaced, is_symmetric}
+use Rattle.ecs_model.specs.Added.{IsAdded, is_symmetric}
 use Rattle.rel_traits.specs.After.{AddedFactsStay}
 use Rattle.rel_traits.proofs.Cycling.{gone}
 use Rattle.rel_traits.proofs.Spreading.{pair_only, plain_only}

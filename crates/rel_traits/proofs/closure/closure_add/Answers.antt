@@ -1,7 +1,6 @@
-use Rattle.std.proofs.Common.{◌↔◌, refl}
-use Rattle.std.specs.List.{Contains}
+use Rattle.std.proofs.Common.{refl}
 use Rattle.ecs_id.specs.Id.{IsIndex}
-use Rattle.ecs_model.specs.Added.{IsAdded, brought}
+use Rattle.ecs_model.specs.Added.{brought}
 use Rattle.ecs_model.specs.World.{Key}
 use Rattle.rel_travel.proofs.Begun.{from_one}
 use Rattle.rel_traits.specs.FactLists.{IsOfLive}
