@@ -1,3 +1,4 @@
 pub mod Store
 pub mod Rows
 pub mod Kept
+pub mod Going

@@ -1,0 +1,51 @@
+-- The new entity enters the table.
+use Rattle.std.proofs.Common.{◌∙◌, ◌+◌, ◌<◌, ◌≤◌, List, ap, refl, subst, sym}
+use Rattle.ecs_archetypes.specs.Holdings.{upcoming, zero_cells}
+use Rattle.ecs_archetypes.specs.Archetypes.{IsSound}
+use Rattle.ecs_archetypes.specs.Housing.{Housing, holdings_of}
+use Rattle.table_store.specs.Store.{room_at, shape_at}
+use Rattle.ecs_archetypes.proofs.ArchetypeCalls.{alike_born, born_alive, dead_before, sound_born}
+use Rattle.ecs_id.specs.declared.TableKey.{TableKey}
+use Rattle.ecs_archetypes.specs.declared.plans.Move.{Move}
+use Rattle.ecs_archetypes.specs.Moves.{AreReady, moves_to}
+use Rattle.ecs_archetypes.specs.Tables.{one_in}
+use Rattle.ecs_archetypes.proofs.Deleting.{ready_born}
+use Rattle.ecs_archetypes.proofs.Known.{room_stands}
+use Rattle.ecs_archetypes.proofs.FirstHoldings.{same_next}
+use Rattle.ecs_archetypes.proofs.Soundness.{holdings}
+use Rattle.ecs_archetypes.proofs.Standing.{entered_alike}
+use Rattle.ecs_archetypes.proofs.Archetypes.create_in.Goals as goal
+
+pub enter-requires-clause-sound : goal.enter-requires-clause-sound
+enter-requires-clause-sound g c = sound_born c.self.inside.entities c.create.new.self c.self.inside.tables c.self.invariant.sound c.in-Ok.entity c.in-Ok.ensures.smallest c.in-Ok.ensures.born c.create.ensures.well_formed
+
+pub enter-requires-clause-alive : goal.enter-requires-clause-alive
+enter-requires-clause-alive g c = born_alive c.self.inside.entities c.create.new.self c.self.inside.tables c.self.invariant.sound c.in-Ok.entity c.in-Ok.ensures.smallest c.in-Ok.ensures.born c.create.ensures.well_formed
+
+pub invariant_of-self-2 : goal.invariant_of-self-2
+invariant_of-self-2 g c = record { sound = c.enter.ensures.sound; entered = entered_alike c.self.inside.tables c.enter.new.tables c.self.inside.components c.enter.ensures.alike.shapes c.self.invariant.entered }
+
+pub returns-in_default-clause-holdings : goal.returns-in_default-clause-holdings
+returns-in_default-clause-holdings g c = holdings c.create.new.self c.self.inside.tables (subst (λ u. IsSound u c.self.inside.tables) (sym c.in_default.ensures.err) c.self.invariant.sound)
+
+pub returns-clause-holdings : goal.returns-clause-holdings
+returns-clause-holdings g c = holdings c.enter.new.entities c.enter.new.tables c.enter.ensures.sound
+
+pub returns-clause-next : goal.returns-clause-next
+returns-clause-next g c = sym (same_next c.self.inside.entities c.self.inside.tables c.self.invariant.sound.last ∙ ap (λ h. upcoming (holdings_of h)) c.self.view_is) ∙ c.in-Ok.ensures.next
+
+pub returns-clause-born : goal.returns-clause-born
+returns-clause-born g c = λ f shape.
+    alike_born c.self.inside.entities c.create.new.self c.self.inside.tables c.self.inside.tables c.self.invariant.sound (λ p. refl) c.self.invariant.sound.stored (holdings_of c.args.self.now) (ap holdings_of c.self.view_is) c.in-Ok.entity c.in-Ok.ensures.born _ _
+    (c.enter.ensures.held f (ap (λ h. shape_at h.tables c.args.to) c.self.view_is ∙ shape))
+
+pub returns-clause-ready : goal.returns-clause-ready
+returns-clause-ready g c =
+    let old : Housing = record { entities = c.self.inside.entities; tables = c.self.inside.tables } in
+    let new : Housing = record { entities = c.enter.new.entities; tables = c.enter.new.tables } in
+    let f = room_stands c.self.inside.tables c.args.to (subst (λ h. 0 < room_at h.tables c.args.to) (sym c.self.view_is) c.requires.room) in
+    subst (λ h. (ms : List Move) → AreReady h ms → ((q : TableKey) → moves_to q ms + one_in c.args.to q ≤ room_at h.tables q) → AreReady new ms) c.self.view_is
+    (ready_born old new c.in-Ok.entity c.args.to (zero_cells f.0)
+    (dead_before c.self.inside.entities c.create.new.self c.self.inside.tables c.self.invariant.sound c.in-Ok.entity c.in-Ok.ensures.smallest c.in-Ok.ensures.born c.create.ensures.well_formed)
+    (alike_born c.self.inside.entities c.create.new.self c.self.inside.tables c.self.inside.tables c.self.invariant.sound (λ p. refl) c.self.invariant.sound.stored (holdings_of old) refl c.in-Ok.entity c.in-Ok.ensures.born _ _ (c.enter.ensures.held f.0 f.1))
+    c.enter.ensures.room)

@@ -1,0 +1,13 @@
+-- Each deletion leaves the others as they were.
+use Rattle.std.proofs.Common.{arith, refl}
+use Rattle.ecs_archetypes.proofs.Deleting.{deleted_more, next_deletable, next_settled}
+use Rattle.ecs_archetypes.proofs.Archetypes.delete_each.Goals as goal
+
+pub delete_alone-requires-clause-settled : goal.delete_alone-requires-clause-settled
+delete_alone-requires-clause-settled g c = next_settled c.args.self.now c.loop-entity.self c.args.dead.now c.loop-entity.entity-index _ _ refl (omega (arith, c.loop-entity-test.true)) c.loop-entity.invariant
+
+pub delete_alone-requires-clause-deletable : goal.delete_alone-requires-clause-deletable
+delete_alone-requires-clause-deletable g c = next_deletable c.args.self.now c.loop-entity.self c.args.dead.now c.loop-entity.entity-index _ _ refl (omega (arith, c.loop-entity-test.true)) c.loop-entity.invariant
+
+pub loop-entity-preserved : goal.loop-entity-preserved
+loop-entity-preserved g c = deleted_more c.args.self.now c.loop-entity.self c.args.dead.now c.loop-entity.entity-index _ _ refl (omega (arith, c.loop-entity-test.true)) c.loop-entity.invariant c.delete_alone.new.self c.delete_alone.ensures.held c.delete_alone.ensures.alike

@@ -1,0 +1,17 @@
+pub mod MapLists
+pub mod Placings
+pub mod Known
+pub mod Soundness
+pub mod RowChanges
+pub mod Carried
+pub mod ArchetypeCalls
+pub mod RowReads
+pub mod FirstHoldings
+pub mod Standing
+pub mod Moving
+pub mod Leaving
+pub mod Planning
+pub mod Scanning
+pub mod Deleting
+pub mod Releases
+pub mod Counting

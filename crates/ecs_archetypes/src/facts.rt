@@ -1,0 +1,140 @@
+//! One entity's ids and values: what it holds is found, and then changed at its place.
+ghost use Rattle.std.specs.Prelude.{◌≡◌, ◌<◌, ◌≤◌, [], ◌∷◌, Some, IfOk, IfSome, OnOk, OnErr, IsTrue, is_some, length, option_map, replicate, false, true};
+ghost use Rattle.ecs_id.specs.Id.{id_cmp, id_eq};
+ghost use Rattle.ecs_model.specs.Map.{with_value, without};
+ghost use Rattle.entity_index.specs.Entities.{place_of};
+ghost use Rattle.ecs_archetypes.specs.Archetypes.{known_in};
+ghost use Rattle.ecs_archetypes.specs.Holdings.{AreHoldings, HoldAlike, KeepsSizes, agrees, held_at, holds_id, is_settled, with_cells};
+ghost use Rattle.ecs_archetypes.specs.Housing.{IsHoused, holdings_of};
+ghost use Rattle.ecs_archetypes.specs.Tables.{StandAlike};
+ghost use Rattle.table_store.specs.Going.{TablesGoOn};
+
+use crate::Archetypes;
+use crate::rows::carry_alone;
+use crate::tables::{narrower, wider};
+use ecs_id::{EntityId, Id, Place};
+use raw_column::Memory;
+use std::alloc::Allocator;
+
+/// Where the row of an entity stands, whether the entity holds an id that was looked for, and how many ids it holds.
+#[derive(Clone, Copy)]
+pub struct Found {
+    pub place: Place,
+    pub is_held: bool,
+    pub count: usize,
+}
+
+impl<A: Allocator + Copy> Archetypes<A> {
+    /// Gives an entity an id that it doesn't hold, with zeros as its value: its row moves to the table with the id. Answers where it stands
+    /// then.
+    pub fn add(
+        &mut self,
+        entity: EntityId,
+        place: Place,
+        id: Id,
+        size: usize,
+    ) -> Result<Place, Memory>
+        requires there { place_of self.old.entities entity ≡ Some place }
+        requires not_held { holds_id (holdings_of self.old) entity.index id ≡ false }
+        requires small { size ≤ 64 }
+        requires agree { IsTrue (agrees (known_in self.old.tables) id size) }
+        ensures placed { IfOk result (λ now. place_of self.new.entities entity ≡ Some now) }
+        ensures added { OnOk result (HoldAlike (holdings_of self.new) (with_cells (holdings_of self.old) entity.index (with_value id_cmp (held_at (holdings_of self.old) entity.index) id (replicate size 0)))) }
+        ensures refused { OnErr result (HoldAlike (holdings_of self.new) (holdings_of self.old)) }
+        ensures sizes { KeepsSizes (known_in self.old.tables) ((id, size) ∷ []) (known_in self.new.tables) }
+        ensures goes_on { TablesGoOn self.old.tables self.new.tables }
+        ensures holdings { AreHoldings (holdings_of self.new) }
+        ensures whole { IsHoused self.new }
+    {
+        let to = wider(
+            &mut self.tables,
+            &mut self.components,
+            place.table,
+            id,
+            size,
+        )?;
+        let now = carry_alone(&mut self.entities, &mut self.tables, entity, place, to);
+        Ok(now)
+    }
+
+    /// Gives an entity a value of an id with data, and the id where it doesn't hold it.
+    pub fn put(
+        &mut self,
+        entity: EntityId,
+        found: &Found,
+        id: Id,
+        bytes: &[u8],
+    ) -> Result<(), Memory>
+        requires there { place_of self.old.entities entity ≡ Some (found.now).place }
+        requires held { (found.now).is_held ≡ holds_id (holdings_of self.old) entity.index id }
+        requires data { 0 < length bytes.now }
+        requires small { length bytes.now ≤ 64 }
+        requires agree { IsTrue (agrees (known_in self.old.tables) id (length bytes.now)) }
+        ensures put { OnOk result (HoldAlike (holdings_of self.new) (with_cells (holdings_of self.old) entity.index (with_value id_cmp (held_at (holdings_of self.old) entity.index) id bytes.now))) }
+        ensures refused { OnErr result (HoldAlike (holdings_of self.new) (holdings_of self.old)) }
+        ensures sizes { KeepsSizes (known_in self.old.tables) ((id, length bytes.now) ∷ []) (known_in self.new.tables) }
+        ensures goes_on { TablesGoOn self.old.tables self.new.tables }
+        ensures holdings { AreHoldings (holdings_of self.new) }
+        ensures whole { IsHoused self.new }
+    {
+        if found.is_held {
+            self.set_value(entity, found.place, id, bytes);
+            return Ok(());
+        }
+        let now = self.add(entity, found.place, id, bytes.len())?;
+        self.set_value(entity, now, id, bytes);
+        Ok(())
+    }
+
+    /// Takes an id from an entity that holds it: its row moves to the table without the id.
+    pub fn remove(&mut self, entity: EntityId, place: Place, id: Id) -> Result<(), Memory>
+        requires there { place_of self.old.entities entity ≡ Some place }
+        requires held { holds_id (holdings_of self.old) entity.index id ≡ true }
+        ensures removed { OnOk result (HoldAlike (holdings_of self.new) (with_cells (holdings_of self.old) entity.index (without id_cmp (held_at (holdings_of self.old) entity.index) (λ i. id_eq i id)))) }
+        ensures refused { OnErr result (HoldAlike (holdings_of self.new) (holdings_of self.old)) }
+        ensures sizes { KeepsSizes (known_in self.old.tables) [] (known_in self.new.tables) }
+        ensures goes_on { TablesGoOn self.old.tables self.new.tables }
+        ensures holdings { AreHoldings (holdings_of self.new) }
+        ensures whole { IsHoused self.new }
+    {
+        let to = narrower(&mut self.tables, &mut self.components, place.table, id)?;
+        carry_alone(&mut self.entities, &mut self.tables, entity, place, to);
+        Ok(())
+    }
+}
+
+impl<A: Allocator> Archetypes<A> {
+    /// Overwrites the value of an id with data that the entity holds, with as many bytes.
+    pub fn set_value(&mut self, entity: EntityId, place: Place, id: Id, bytes: &[u8])
+        requires there { place_of self.old.entities entity ≡ Some place }
+        requires held { holds_id (holdings_of self.old) entity.index id ≡ true }
+        requires data { 0 < length bytes.now }
+        requires size { IsTrue (agrees (known_in self.old.tables) id (length bytes.now)) }
+        ensures written { HoldAlike (holdings_of self.new) (with_cells (holdings_of self.old) entity.index (with_value id_cmp (held_at (holdings_of self.old) entity.index) id bytes.now)) }
+        ensures entities { self.new.entities ≡ self.old.entities }
+        ensures sizes { KeepsSizes (known_in self.old.tables) [] (known_in self.new.tables) }
+        ensures alike { StandAlike self.old.tables self.new.tables }
+        ensures goes_on { TablesGoOn self.old.tables self.new.tables }
+        ensures holdings { AreHoldings (holdings_of self.new) }
+        ensures whole { IsHoused self.new }
+    {
+        let _ = entity;
+        self.tables.set_value(place.table, place.row, id, bytes);
+    }
+
+    /// Finds the row of a settled entity, and looks there for an id.
+    pub fn find(&self, entity: EntityId, id: Id) -> Option<Found>
+        ensures settled { is_some result ≡ is_settled (holdings_of self.now) entity }
+        ensures place { option_map (λ f. f.place) result ≡ place_of self.now.entities entity }
+        ensures held { IfSome result (λ f. f.is_held ≡ holds_id (holdings_of self.now) entity.index id) }
+        ensures count { IfSome result (λ f. f.count ≡ length (held_at (holdings_of self.now) entity.index)) }
+    {
+        let place = self.entities.place(entity)?;
+        let ids = self.tables.get(place.table)?.ids();
+        Some(Found {
+            place,
+            is_held: ids.contains(&id),
+            count: ids.len(),
+        })
+    }
+}

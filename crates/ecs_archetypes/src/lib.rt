@@ -1,0 +1,96 @@
+//! The entities in their archetype tables: which live, where each stands, what each holds, and which tables stand.
+//!
+//! ```text
+//! let mut entities = Archetypes::new(rt.alloc(), RandomState::new(&rt)?)?;
+//! let (position, likes) = (SizedId::new(Id::plain(64), 8), SizedId::tag(Id::pair(65, 66)));
+//!
+//! // an entity in the table of its ids, with zeros as their values
+//! let earth = entities.create(&[position])?;
+//! let found = entities.find(earth, position.id()).unwrap();
+//! entities.set_value(earth, found.place, position.id(), &[1, 0, 0, 0, 2, 0, 0, 0]);
+//!
+//! // moves of several entities: all are planned, which takes all memory that they need, and then carried out, which can't fail
+//! let mut plan = Plan::new(rt.alloc());
+//! entities.plan(&mut plan, earth, &[position, likes])?;
+//! let moon = entities.create_and_move(&[likes], &plan)?;
+//!
+//! // what queries read: the tables that have an id which a pattern matches, with their rows
+//! let any = Pattern { first: Part::Is(65), second: Some(Part::Any) };
+//! for key in entities.graph().tables_of(any) { .. }
+//!
+//! // a death, and a table that nobody needs
+//! let left = entities.table_of(moon).unwrap();
+//! entities.delete(moon);
+//! entities.release(left);
+//! ```
+//!
+//! What a call requires, as an entity that stands in a table, its caller proves: no call fails for want of it. A call that can't get
+//! memory answers `Memory`, and each entity holds what it held; a table that was made on the way may stay.
+#![tactic(auto, using(ecs_id::specs::Id::id_tests))]
+
+ghost use Rattle.std.specs.Prelude.{◌≡◌, IfOk};
+ghost use Rattle.ecs_archetypes.specs.Holdings.{AreHoldings, first_holdings};
+ghost use Rattle.ecs_archetypes.specs.Housing.{IsHoused, holdings_of};
+
+mod births;
+mod changes;
+mod deaths;
+mod facts;
+mod graph;
+mod plans;
+mod readers;
+mod rows;
+mod tables;
+
+use component_index::ComponentIndex;
+use ecs_id::LAST_INDEX;
+use entity_index::EntityIndex;
+pub use facts::Found;
+pub use graph::Graph;
+pub use plans::{Move, Plan, Target};
+pub use raw_column::Memory;
+use std::alloc::{Allocator, Global};
+use std::hash::RandomState;
+use std::marker::Model;
+use table_store::TableStore;
+
+/// The entities in their archetype tables.
+///
+/// An entity is settled once it stands in a table. `settle`, `create`, `add` and `remove` touch one row and the last of its table.
+/// `prepare` and `plan` take the memory that moves need; `move_to` and `carry_out` can't fail. A table that lost most of its rows gives
+/// memory back, after `add` and `remove`, after the last move of a plan, and after each death of `delete_each`.
+/// Readers take no memory, and look at no more than the ids of one table.
+#[derive(Drop)]
+pub struct Archetypes<A: Allocator = Global> {
+    entities: EntityIndex<A>,
+    tables: TableStore<A>,
+    components: ComponentIndex<A>,
+}
+
+impl<A: Allocator> Model for Archetypes<A> {
+    ghost use Rattle.ecs_archetypes.specs.Housing.{Housing, IsKept};
+
+    ghost Value = { Housing };
+
+    ghost view = { λ a. record { entities = a.entities; tables = a.tables } };
+
+    ghost invariant = { λ a. IsKept a.entities a.tables a.components };
+}
+
+impl<A: Allocator + Copy> Archetypes<A> {
+    /// The built-in entities, not yet in tables. Ids and tables are hashed with these random keys.
+    pub fn new(alloc: A, random: RandomState) -> Result<Self, Memory>
+        ensures first { IfOk result (λ a. holdings_of a ≡ first_holdings) }
+        ensures holdings { IfOk result (λ a. AreHoldings (holdings_of a)) }
+        ensures whole { IfOk result IsHoused }
+    {
+        let entities = EntityIndex::new(alloc, LAST_INDEX)?;
+        let tables = TableStore::new(alloc);
+        let components = ComponentIndex::new(alloc, random);
+        Ok(Archetypes {
+            entities,
+            tables,
+            components,
+        })
+    }
+}
