@@ -4,17 +4,17 @@ use Rattle.std.specs.List.{range_with_len}
 use Rattle.ecs_id.specs.declared.EntityId.{EntityId}
 use Rattle.ecs_id.specs.Id.{plain, pair, id_cmp}
 use Rattle.ecs_model.specs.declared.faults.Refusal.{Refusal}
-use Rattle.ecs_model.specs.declared.faults.Refusal.TheVariants.{Dead, BuiltIn, NoData, TraitFixed, InUse, Cycle, TooManyIds, Panic}
+use Rattle.ecs_model.specs.declared.faults.Refusal.TheVariants.{Dead, BuiltIn, NoData, TraitFixed, InUse, Cycle, TooManyIds, Panic, Full}
 use Rattle.ecs_model.specs.Command.{differences}
 use Rattle.ecs_model.specs.Line.{line_within}
 use Rattle.ecs_model.specs.Links.{line}
 use Rattle.ecs_model.specs.Map.{Map, keys}
 use Rattle.ecs_model.specs.Refusal.{first_reason}
 use Rattle.ecs_model.specs.Sets.{has_chain, within}
-use Rattle.ecs_model.specs.World.{WorldState, Key, key_cmp, entities, ids_of}
+use Rattle.ecs_model.specs.World.{WorldState, Key, key_cmp, next_among, entities, ids_of}
 use Rattle.ecs_model.specs.traits.Rules.{is_trait, is_passed_over}
 use Rattle.ecs_model.specs.traits.Changes.{added, replaced, facts_after_add, facts_after_remove, deleted, facts_after_delete}
-use Rattle.ecs_model.specs.traits.Command.{Command, Add, SetValue, Remove, Delete, without_entities, reasons, effect, step}
+use Rattle.ecs_model.specs.traits.Command.{Command, Fresh, Add, SetValue, Remove, Delete, without_entities, reasons, effect, step}
 use Rattle.ecs_model.specs.traits.Pins.{most_pins, pin, unpin}
 
 abbrev tags : List Key → Map Key (List ℤ)
@@ -203,6 +203,15 @@ plain_traits_are_exclusive_to_pair_is_tag = refl
 
 pairs_are_traits_by_their_relationship : map (λ r. is_trait (pair r 64)) (12 ∷ 13 ∷ 14 ∷ 15 ∷ 16 ∷ 18 ∷ 19 ∷ 20 ∷ []) ≡ false ∷ true ∷ true ∷ true ∷ false ∷ false ∷ true ∷ false ∷ []
 pairs_are_traits_by_their_relationship = refl
+
+a_spent_count_refuses_all : let spent = record tree { accepted = 2 ^ 64 - 1 } in
+    map (refusal_of spent) (Fresh ∷ Add (handle 70) (plain 66) ∷ Remove (handle 70) (plain 66) ∷ Delete (handle 70) ∷ []) ≡ Some Full ∷ Some Full ∷ Some Full ∷ Some Full ∷ []
+unfolding id_cmp key_cmp next_among within has_chain added replaced facts_after_add deleted reasons
+a_spent_count_refuses_all = refl
+
+too_many_ids_is_told_before_full : refusal_of (record tree { accepted = 2 ^ 64 - 1 }) (Add (handle 73) (plain 65)) ≡ Some TooManyIds
+unfolding id_cmp key_cmp within has_chain added replaced facts_after_add reasons
+too_many_ids_is_told_before_full = refl
 
 -- the line in a world: a diamond under 64
 a_line_of_a_world_gives_a_diamond_its_top_twice : let w = of (64 ∷ 70 ∷ 71 ∷ 72 ∷ 73 ∷ []) ((71, pair 64 70) ∷ (72, pair 64 70) ∷ (73, pair 64 71) ∷ (73, pair 64 72) ∷ []) in

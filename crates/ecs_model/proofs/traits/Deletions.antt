@@ -54,10 +54,10 @@ none_still true None h = refl
 none_still false None h = refl
 
 -- the counts of deletions with one more for each of these
-abbrev counted_up : Map ℕ ℕ → List ℕ → Map ℕ ℕ
+abbrev pub counted_up : Map ℕ ℕ → List ℕ → Map ℕ ℕ
 counted_up m is = fold (λ m i. with_value nat_cmp m i (count_at m i + 1)) m is
 
-IsMap-counted_up : (is : List ℕ) (m : Map ℕ ℕ) → IsMap nat_cmp m → IsMap nat_cmp (counted_up m is)
+pub IsMap-counted_up : (is : List ℕ) (m : Map ℕ ℕ) → IsMap nat_cmp m → IsMap nat_cmp (counted_up m is)
 IsMap-counted_up [] m h = h
 IsMap-counted_up (i ∷ is) m h =
     IsMap-counted_up is (with_value nat_cmp m i (count_at m i + 1)) (IsMap-with_value nat_cmp nat_cmp_total m i (count_at m i + 1) h)

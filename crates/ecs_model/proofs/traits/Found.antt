@@ -1,25 +1,31 @@
 -- Lists that were found, in the place of the added and of the deleted set: what counts is who is on them.
-use Rattle.std.specs.Prelude.{◌≡◌, ◌↔◌, ℕ, ◌==◌, Bool, true, List, [], ◌∷◌, flat_map, fold, ℤ, Some, None, cond}
-use Rattle.std.specs.List.{Contains, list_all, list_any}
-use Rattle.std.specs.FinMap.Entries.{is_some-find, same_entries}
+use Rattle.std.specs.Prelude.{◌≡◌, ◌≢◌, ◌↔◌, ◌⊎◌, ℕ, ◌+◌, ◌==◌, ◌||◌, Bool, true, false, List, [], ◌∷◌, flat_map, fold, length, ℤ, Some, None, is_some, unwrap_or, cond}
+use Rattle.std.specs.List.{AllByRecursion, Contains, IsDistinct, list_all, list_any}
+use Rattle.std.specs.FinMap.Entries.{below_all, is_some-find, is_sorted, same_entries}
 use Rattle.std.specs.Ordering.{nat_cmp}
-use Rattle.std.proofs.Common.{refl, sym, ◌∙◌, inl, inr, arith}
+use Rattle.std.proofs.Common.{refl, sym, ap, ◌∙◌, inl, inr, arith, true≢false}
+use Rattle.std.proofs.lemmas.Bool.Decides.{nat_tests}
 use Rattle.ecs_id.specs.Id.{Id, mentioned}
 use Rattle.ecs_model.specs.Added.{brought, displaced}
 use Rattle.ecs_model.specs.Changes.{with_new}
 use Rattle.ecs_model.specs.Falls.{falling}
-use Rattle.ecs_model.specs.Map.{Map, has_key, keys, value_at, without}
+use Rattle.ecs_model.specs.Map.{Map, IsMap, count_at, has_key, keys, value_at, with_value, without}
 use Rattle.ecs_model.specs.Reach.{IsLeast, Reached}
 use Rattle.ecs_model.specs.World.{WorldState, Key, key_cmp, key_eq, is_live, entities, ids_of, new_value}
-use Rattle.ecs_model.specs.traits.Changes.{added, replaced, deleted, facts_after_add}
+use Rattle.ecs_model.specs.traits.Changes.{added, replaced, deleted, mentions_gone, facts_after_add, facts_after_delete}
+use Rattle.ecs_model.specs.Sets.{Set}
+use Rattle.ecs_model.specs.traits.Command.{without_entities}
 use Rattle.ecs_model.specs.traits.Keeps.{IsWellFormed}
-use Rattle.ecs_model.proofs.Maps.{key_cmp_same, key_cmp_total, to_T}
+use Rattle.ecs_model.proofs.Maps.{absent_below, both_true, nat_value_at, key_cmp_same, key_cmp_total, to_T}
 use Rattle.ecs_model.proofs.Members.{alike, any_passes, eq_itself, eq_same, from_flat_map, head_or_tail, in_flat_map, passing}
 use Rattle.ecs_model.proofs.Removals.{IsMap-without}
 use Rattle.ecs_model.proofs.traits.Adding.{added_are_members}
 use Rattle.ecs_model.proofs.traits.AfterAdd.{all_at, value_after_add}
 use Rattle.ecs_model.proofs.traits.Deleted.{deleted_is_least}
+use Rattle.ecs_model.proofs.traits.Deletions.{counted_up, IsMap-counted_up}
 use Rattle.ecs_model.proofs.traits.Differences.{without_alike}
+use Rattle.ecs_model.proofs.traits.Kept.{refuted}
+use Rattle.ecs_model.proofs.traits.SameKeys.{IsMap-within}
 use Rattle.ecs_model.proofs.traits.Facts.{key_there, there_key}
 use Rattle.ecs_model.proofs.traits.Replacing.{IsMap-add, IsMap-with_all, is_replaced}
 use Rattle.std.specs.Cmp.{nat_cmp_total}
@@ -31,6 +37,61 @@ any_alike p xs ys same =
     alike (list_any p xs) (list_any p ys)
     (λ h. let x = passing p xs h in any_passes p ys x.0 ((same x.0).0 x.1) x.2)
     (λ h. let x = passing p ys h in any_passes p xs x.0 ((same x.0).1 x.1) x.2)
+
+-- lists whose items stand there once
+abbrev Apart : List ℕ → Type 0
+Apart [] = Unit {0}
+Apart (i ∷ is) = (list_any (λ x. x == i) is ≡ false) × Apart is
+
+distinct_apart : (is : List ℕ) → IsDistinct ◌==◌ is → Apart is
+unfolding IsDistinct
+distinct_apart [] d = tt
+distinct_apart (i ∷ is) d = (none i is d.0, distinct_apart is d.1)
+  where
+    turned : (i x : ℕ) → (i == x) ≡ false → (x == i) ≡ false
+    turned i x h = grind (arith, nat_tests)
+
+    none : (i : ℕ) (is : List ℕ) → AllByRecursion (λ y. (i == y) ≡ false) is → list_any (λ x. x == i) is ≡ false
+    none i [] a = refl
+    none i (x ∷ xs) a = let rest = none i xs a.1 in let first : (x == i) ≡ false = turned i x a.0 in λ j. first j || rest j
+
+set_apart : (s : Set ℕ) → IsMap nat_cmp s → Apart (keys s)
+set_apart [] h = tt
+set_apart (e ∷ es) h =
+    let parts = both_true (below_all nat_cmp e.0 es) (is_sorted nat_cmp es) h in
+    let none : list_any (λ x. x == e.0) (keys es) ≡ false =
+    refuted (list_any (λ x. x == e.0) (keys es))
+    (λ t. let x = passing (λ x. x == e.0) (keys es) t in
+    true≢false (sym (there_key nat_cmp nat_cmp_total es e.0 (rw (eq_same x.0 e.0 x.2) at x.1)) ∙ ap is_some (absent_below nat_cmp nat_cmp_total e.0 es parts.0)))
+    in (none, set_apart es parts.1)
+
+-- a count after one deletion of each
+value-counted_up : (is : List ℕ) → Apart is → (m : Map ℕ ℕ) (j : ℕ)
+    → value_at nat_cmp (counted_up m is) j ≡ cond (list_any (λ x. x == j) is) (Some (count_at m j + 1)) (value_at nat_cmp m j)
+value-counted_up [] a m j = refl
+value-counted_up (i ∷ is) a m j =
+    value-counted_up is a.1 (with_value nat_cmp m i (count_at m i + 1)) j ∙ by (i == j) refl (nat_value_at m i (count_at m i + 1) j)
+  where
+    next : Map ℕ ℕ
+    next = with_value nat_cmp m i (count_at m i + 1)
+
+    by : (b : Bool) → (i == j) ≡ b
+        → ((j ≡ i) × (value_at nat_cmp next j ≡ Some (count_at m i + 1))) ⊎ ((j ≢ i) × (value_at nat_cmp next j ≡ value_at nat_cmp m j))
+        → cond (list_any (λ x. x == j) is) (Some (count_at next j + 1)) (value_at nat_cmp next j) ≡ cond (b || list_any (λ x. x == j) is) (Some (count_at m j + 1)) (value_at nat_cmp m j)
+    by true q (inl p) =
+        let none : list_any (λ x. x == j) is ≡ false = rw (p.0) a.0 in
+        (λ n. cond (none n) (Some (count_at next j + 1)) (value_at nat_cmp next j)) ∙ p.1 ∙ ap (λ x. Some (count_at m x + 1)) (sym p.0)
+    by true q (inr p) = absurd (p.0 (sym (eq_same i j q)))
+    by false q (inl p) = absurd (true≢false (sym (rw (p.0) (eq_itself i)) ∙ q))
+    by false q (inr p) = λ n. cond (list_any (λ x. x == j) is) (Some (unwrap_or (p.1 n) 0 + 1)) (p.1 n)
+
+-- the order of deletions makes no difference
+counts_alike : (is js : List ℕ) (m : Map ℕ ℕ) → IsMap nat_cmp m → Apart is → Apart js → ((x : ℕ) → Contains is x ↔ Contains js x) → counted_up m is ≡ counted_up m js
+counts_alike is js m h a b same =
+    same_entries nat_cmp nat_cmp_total nat_cmp-IsAntisymmetric (counted_up m is) (counted_up m js) (to_T _ (IsMap-counted_up is m h)) (to_T _ (IsMap-counted_up js m h))
+    (λ j. value-counted_up is a m j
+    ∙ ap (λ c. cond c (Some (count_at m j + 1)) (value_at nat_cmp m j)) (any_alike (λ x. x == j) is js same)
+    ∙ sym (value-counted_up js b m j))
 
 -- who was found to fall with an entity
 module _ (w : WorldState) (e : ℕ) (live : is_live w e ≡ true) (found : List ℕ) (all : (y : ℕ) → Contains found y ↔ Reached (falling (ids_of w) (entities w)) e y) where
@@ -48,6 +109,41 @@ module _ (w : WorldState) (e : ℕ) (live : is_live w e ≡ true) (found : List 
       alike (has_key nat_cmp (deleted w e) y) (list_any (λ x. x == y) found)
       (λ h. any_passes (λ x. x == y) found y ((among y).0 (key_there nat_cmp nat_cmp-IsAntisymmetric (deleted w e) y h)) (eq_itself y))
       (λ h. let x = passing (λ x. x == y) found h in there_key nat_cmp nat_cmp_total (deleted w e) y ((among y).1 (rw (eq_same x.0 y x.2) at x.1)))
+
+  module _ (sound : IsWellFormed w) (once : IsDistinct ◌==◌ found) where
+    -- in whatever order they go, their deletions are counted
+    pub deletions_by_found : counted_up w.deletions (keys (deleted w e)) ≡ counted_up w.deletions found
+    unfolding deleted
+    deletions_by_found = counts_alike (keys (deleted w e)) found w.deletions (sound.in_order).deletions (set_apart (deleted w e) IsMap-deleted) (distinct_apart found once) among
+      where
+        IsMap-deleted : IsMap nat_cmp (deleted w e)
+        IsMap-deleted = IsMap-within nat_cmp nat_cmp_total (falling (ids_of w) (entities w)) (length (entities w)) e
+
+    abbrev among_found : ℕ → Bool
+    among_found y = list_any (λ x. x == y) found
+
+    -- the world without them
+    pub left_by_found : without_entities w (deleted w e)
+        ≡ record w {
+          live = without nat_cmp w.live among_found;
+          facts = without key_cmp w.facts (λ k. among_found k.0 || list_any among_found (mentioned k.1));
+          names = without nat_cmp w.names among_found;
+          schemas = without nat_cmp w.schemas among_found;
+          deletions = counted_up w.deletions found;
+        }
+    unfolding without_entities facts_after_delete
+    left_by_found = λ j. record w {
+      live = without_alike nat_cmp w.live (has_key nat_cmp (deleted w e)) among_found (λ k c. is_deleted k) j;
+      facts = without_alike key_cmp w.facts (mentions_gone w (deleted w e)) (λ k. among_found k.0 || list_any among_found (mentioned k.1))
+          (λ k c. λ n. is_deleted k.0 n || any_same (mentioned k.1) n) j;
+      names = without_alike nat_cmp w.names (has_key nat_cmp (deleted w e)) among_found (λ k c. is_deleted k) j;
+      schemas = without_alike nat_cmp w.schemas (has_key nat_cmp (deleted w e)) among_found (λ k c. is_deleted k) j;
+      deletions = deletions_by_found j;
+    }
+      where
+        any_same : (is : List ℕ) → list_any (has_key nat_cmp (deleted w e)) is ≡ list_any among_found is
+        any_same [] = refl
+        any_same (x ∷ xs) = let rest = any_same xs in λ n. is_deleted x n || rest n
 
 -- what was found to come with a fact
 module _ (w : WorldState) (e : ℕ) (i : Id) (h : IsWellFormed w) (mentions : list_all (is_live w) (mentioned i) ≡ true) (items : List Key) (least : IsLeast (brought (ids_of w)) ((e, i) ∷ []) items) where

@@ -1,5 +1,5 @@
 -- A well-formed world but for what traits ask, and what follows of its entities and ids.
-use Rattle.std.proofs.Common.{◌≡◌, ℕ, suc, Bool, true, false, ◌&&◌, ◌||◌, List, [], ◌∷◌, get_or, is_some, refl, sym, ap, ◌∙◌, inl, inr, arith}
+use Rattle.std.proofs.Common.{◌≡◌, ℕ, suc, ◌<◌, Bool, true, false, ◌&&◌, ◌||◌, List, [], ◌∷◌, get_or, is_some, refl, sym, ap, ◌∙◌, inl, inr, arith}
 use Rattle.std.specs.List.{All, Contains, list_all, list_any}
 use Rattle.std.proofs.lemmas.Bool.Decides.{nat_tests}
 use Rattle.std.proofs.lemmas.List.Elements.{Contains-append_right, Contains-get_or}
@@ -47,14 +47,17 @@ module _ (w : WorldState) (h : IsWellFormed w) where
   pub mentioned_lives : (e : ℕ) (i : Id) → holds w e i ≡ true → (x : ℕ) → Contains (mentioned i) x → is_live w x ≡ true
   mentioned_lives e i p x c = each_passes (is_live w) (mentioned i) ((h.live).facts e i p).1 x c
 
-  -- the live entities and the ids of each fit together
-  pub are_links : AreLinks (suc last_index) (entities w) (ids_of w)
-  are_links = record {
+  -- the live entities and the ids of each fit together, below any size that is above them
+  pub links_below : (n : ℕ) → ((e : ℕ) → is_live w e ≡ true → e < n) → AreLinks n (entities w) (ids_of w)
+  links_below n small = record {
     indexes = λ e c. live_index e (listed_live w e c);
-    below = λ e c. let i = live_index e (listed_live w e c) in omega (arith, i.1);
+    below = λ e c. small e (listed_live w e c);
     held = λ e i c. live_listed w e (holder_lives e i (listed_held w e i c));
     live = λ e i c. all_are (Contains (entities w)) (mentioned i) (λ x m. live_listed w x (mentioned_lives e i (listed_held w e i c) x m));
   }
+
+  pub are_links : AreLinks (suc last_index) (entities w) (ids_of w)
+  are_links = links_below (suc last_index) (λ e l. let i = live_index e l in omega (arith, i.1))
 
 -- what a built-in entity holds mentions built-in entities alone
 pub built_in_mentions : (w : WorldState) → IsWellFormed w → (e : ℕ) (i : Id) → is_built_in e ≡ true → holds w e i ≡ true → (x : ℕ) → Contains (mentioned i) x → is_built_in x ≡ true
