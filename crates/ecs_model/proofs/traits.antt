@@ -24,3 +24,4 @@ pub mod AfterAdd
 pub mod Found
 pub mod Cycles
 pub mod TypesStay
+pub mod Crowding

@@ -1,6 +1,6 @@
 //! What is proved of facts after commands with traits: each function's contract is a law, and its body does nothing.
 
-ghost use Rattle.ecs_model.specs.traits.FactLaws.{CycleIsTold, FactsAfterAdd, HeldIdsKeepTypes, ValuesAfterAdd};
+ghost use Rattle.ecs_model.specs.traits.FactLaws.{CrowdedIsTold, CycleIsTold, FactsAfterAdd, HeldIdsKeepTypes, ValuesAfterAdd};
 
 /// Law: after `add` a fact is held exactly if it was added, or was held and does not give way.
 pub fn added_facts_come_and_replaced_ones_go()
@@ -15,6 +15,11 @@ pub fn held_facts_keep_their_values()
 /// Law: Cycle applies against `add` exactly where it would leave a relationship that is Acyclic with a cycle.
 pub fn cycles_are_told()
     ensures { CycleIsTold }
+{}
+
+/// Law: TooManyIds applies against `add` exactly where an entity that gets one of the added facts would have more ids than an entity may have.
+pub fn crowded_entities_are_told()
+    ensures { CrowdedIsTold }
 {}
 
 /// Law: an accepted command leaves each id that an entity holds the type that it had.

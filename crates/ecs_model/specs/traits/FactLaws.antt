@@ -1,13 +1,13 @@
 -- The laws of what commands do to facts, as statements.
-use Rattle.std.specs.Prelude.{◌≡◌, ◌↔◌, ◌⊎◌, ℕ, All, IsTrue, Some, Ok, if◌then◌else◌}
+use Rattle.std.specs.Prelude.{◌≡◌, ◌↔◌, ◌⊎◌, ℕ, ◌<◌, length, All, IsTrue, Some, Ok, if◌then◌else◌}
 use Rattle.ecs_id.specs.Id.{Id, plain, mentioned}
 use Rattle.ecs_model.specs.Added.{IsAdded, IsReplaced}
 use Rattle.ecs_model.specs.BuiltIns.{acyclic}
-use Rattle.ecs_model.specs.Command.{Changed, with_facts}
+use Rattle.ecs_model.specs.Command.{Changed, is_crowded, with_facts}
 use Rattle.ecs_model.specs.Cycles.{HasCycle}
 use Rattle.ecs_model.specs.Links.{upward}
 use Rattle.ecs_model.specs.Map.{has_key, value_at}
-use Rattle.ecs_model.specs.World.{WorldState, Key, key_cmp, holds, ids_of, is_live, new_value, type_of_id, value_of}
+use Rattle.ecs_model.specs.World.{WorldState, Key, key_cmp, holds, ids_of, is_live, most_ids, new_value, type_of_id, value_of}
 use Rattle.ecs_model.specs.traits.Changes.{facts_after_add}
 use Rattle.ecs_model.specs.traits.Command.{Command, IsCommand, has_cycle, step}
 use Rattle.ecs_model.specs.traits.Keeps.{IsWellFormed}
@@ -30,6 +30,11 @@ ValuesAfterAdd = OfLive (λ w e i. (k : Key) → IsTrue (has_key key_cmp (facts_
 abbrev pub CycleIsTold : Type 0
 CycleIsTold = OfLive (λ w e i. let left = with_facts w (facts_after_add w e i) in
     IsTrue (has_cycle left) ↔ ((r : ℕ) × IsTrue (holds left r (plain acyclic)) × HasCycle (upward (ids_of left) r)))
+
+-- the test of too many ids passes exactly where an entity would have too many that gets one of the added facts
+abbrev pub CrowdedIsTold : Type 0
+CrowdedIsTold = OfLive (λ w e i. let left = with_facts w (facts_after_add w e i) in
+    IsTrue (is_crowded left) ↔ ((k : Key) × IsAdded (ids_of w) (e, i) k × (most_ids < length (ids_of left k.0))))
 
 -- an id that an entity holds after a command has the type that it had before
 abbrev pub HeldIdsKeepTypes : Type 0
