@@ -1,6 +1,7 @@
 //! The ids with data of a table, and where each one stands.
-ghost use Rattle.std.specs.Prelude.{◌≡◌, ℕ, ◌<◌, IfSome, IsTrue, length, slice_index_or};
-ghost use Rattle.ecs_id.specs.Id.{Id};
+ghost use Rattle.std.specs.Prelude.{◌≡◌, ℕ, ◌<◌, ◌≤◌, IfSome, IsTrue, length, slice_index_or};
+ghost use Rattle.std.specs.declared.cmp.Ordering.TheVariants.{Less};
+ghost use Rattle.ecs_id.specs.Id.{Id, id_cmp};
 ghost use Rattle.ecs_table.specs.Archetype.{Ascend, index_in};
 
 use ecs_id::Id;
@@ -56,6 +57,20 @@ impl<A: Allocator> DataIds<A> {
             scan(ids, id)
         }
     }
+
+    /// Where an id stands, for many ids in turn: the search begins at `from`, 0 for the first id, and answers where that of the next one is to
+    /// begin. Ids that ascend take one pass over these together. Any other `from` is only slower.
+    pub(crate) fn find_from(&self, from: usize, id: Id) -> (usize, Option<usize>)
+        ensures index { result.1 ≡ index_in self.now id }
+        ensures within { IfSome result.1 (λ index. index < length self.now) }
+    {
+        let ids = self.ids.as_slice();
+        if self.ascending && FEW < ids.len() {
+            search_from(ids, from, id)
+        } else {
+            (0, scan(ids, id))
+        }
+    }
 }
 
 /// Whether each id comes before the next.
@@ -87,5 +102,35 @@ fn search(ids: &[Id], id: Id) -> Option<usize>
     match ids.binary_search(&id) {
         Ok(index) => Some(index),
         Err(_) => None,
+    }
+}
+
+fn search_from(ids: &[Id], from: usize, id: Id) -> (usize, Option<usize>)
+    requires { Ascend ids.now }
+    ensures index { result.1 ≡ index_in ids.now id }
+    ensures within { IfSome result.1 (λ index. index < length ids.now) }
+{
+    for at in begin(ids, from, id)..ids.len() {
+        match ids[at].cmp(&id) {
+            Ordering::Less => {}
+            Ordering::Equal => return (at + 1, Some(at)),
+            Ordering::Greater => return (at, None),
+        }
+    }
+    (ids.len(), None)
+}
+
+/// `from`, if the ids before it come before this one, and else 0.
+fn begin(ids: &[Id], from: usize, id: Id) -> usize
+    requires { Ascend ids.now }
+    ensures before { (k : ℕ) (d : Id) → k < result → id_cmp (slice_index_or ids.now k d) id ≡ Less }
+    ensures within { result ≤ length ids.now }
+{
+    if from == 0 || ids.len() < from {
+        return 0;
+    }
+    match ids[from - 1].cmp(&id) {
+        Ordering::Less => from,
+        _ => 0,
     }
 }

@@ -146,6 +146,18 @@ impl<A: Allocator> Table<A> {
         }
     }
 
+    /// `value`, with where the search of the id is to begin and where that of the next one.
+    fn value_from(&self, from: usize, row: usize, id: Id) -> (usize, Option<&[u8]>)
+        requires { row < length self.now.entities }
+        ensures { MatchOption result.1 (value_of self.now row id ≡ None) (λ bytes. value_of self.now row id ≡ Some bytes.now) }
+    {
+        let (next, found) = self.data_ids.find_from(from, id);
+        match found {
+            None => (next, None),
+            Some(column) => (next, Some(self.value_in(column, row))),
+        }
+    }
+
     /// The bytes of the value in a column at a row.
     fn value_in(&self, column: usize, row: usize) -> &[u8]
         requires column { column < length self.now.columns }
@@ -224,8 +236,11 @@ fn copy_values<A: Allocator>(columns: &mut Block<A>, ids: &[Id], source: &Table<
     ensures { columns.new ≡ record columns.old { columns = map (λ p. replaced (columns.old.len - 1) (value_of source.now row p.0) p.1) (zip ids.now columns.old.columns) } }
 {
     let last = columns.len() - 1;
+    let mut from = 0;
     for k in 0..ids.len() {
-        copy_value(columns, k, last, source.value(row, ids[k]));
+        let (next, value) = source.value_from(from, row, ids[k]);
+        copy_value(columns, k, last, value);
+        from = next;
     }
 }
 

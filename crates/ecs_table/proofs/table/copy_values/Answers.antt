@@ -27,7 +27,7 @@ loop-k-preserved g c =
     let i : Id = c.index-ids-k.result in let x = slice_index_or cs k (no_values 0) in
     let within : k < length cs = (paired_rest f ids first.columns cs k (no_values 0) lt lt2 done).0 in
     let at : c.len-last.result - 1 ≡ last = ap (λ n. n - 1) c.len-last.ensures in
-    let said = said_option c.value.result (value i) c.value.ensures.value in
+    let said = said_option c.value_from-next.result.1 (value i) c.value_from-next.ensures in
     let new = paired_more f ids first.columns cs k i x lt lt2 done c.index-ids-k.is (get_or_default cs k (no_values 0) x within) in
     c.copy_value.ensures ∙ (λ j. record c.loop-k.columns { columns = slice_set cs k (replaced (at j) (said j) x) }) ∙ ap (λ l. record c.loop-k.columns { columns = l }) new
     ∙ ap (λ (v : Contents). record v { columns = map f (take (k + 1) (zip ids first.columns)) ++ drop (k + 1) first.columns }) c.loop-k.invariant
