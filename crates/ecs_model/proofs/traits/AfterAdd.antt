@@ -1,13 +1,13 @@
 -- The facts after `add` and `set`, one by one, and what has changed.
-use Rattle.std.specs.Prelude.{◌≡◌, ℕ, ◌*◌, ◌==◌, ◌&&◌, ◌||◌, Bool, true, false, not, List, [], ◌∷◌, map, filter, fold, length, ℤ, Option, Some, None, is_some, cond, if◌then◌else◌}
-use Rattle.std.specs.List.{list_all, list_any}
-use Rattle.std.specs.Ordering.{nat_cmp}
 use Rattle.std.specs.Cmp.{Equal-is, eq_by_cmp_equiv, nat_cmp_total}
 use Rattle.std.specs.FinMap.Entries.{is_some-find}
+use Rattle.std.specs.List.{list_all, list_any}
+use Rattle.std.specs.Ordering.{nat_cmp}
+use Rattle.std.specs.Prelude.{◌≡◌, ℕ, ◌*◌, ◌==◌, ◌&&◌, ◌||◌, Bool, true, false, not, List, [], ◌∷◌, map, filter, fold, length, ℤ, Option, Some, None, is_some, cond, if◌then◌else◌}
 use Rattle.std.specs.declared.cmp.Ordering.TheVariants.{Equal}
 use Rattle.std.proofs.Common.{refl, sym, ap, subst, ◌∙◌, inl, inr, true≢false}
-use Rattle.ecs_id.specs.declared.EntityId.{EntityId}
 use Rattle.ecs_id.specs.Id.{Id, plain, pair, mentioned}
+use Rattle.ecs_id.specs.declared.EntityId.{EntityId}
 use Rattle.ecs_model.specs.Added.{brought}
 use Rattle.ecs_model.specs.Changes.{with_new}
 use Rattle.ecs_model.specs.Command.{counted, differences, with_facts}

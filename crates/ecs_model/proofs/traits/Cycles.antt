@@ -1,27 +1,31 @@
 -- An added set makes a cycle exactly where one of its pairs closes one.
-use Rattle.std.specs.Prelude.{◌≡◌, ◌⊎◌, ℕ, ◌==◌, Bool, true, false, [], ◌∷◌, ◌++◌, map, cond}
 use Rattle.std.specs.List.{Contains, list_all}
+use Rattle.std.specs.Prelude.{◌≡◌, ◌⊎◌, ◌↔◌, ℕ, ◌==◌, IsTrue, Bool, true, false, List, [], ◌∷◌, ◌++◌, map, cond}
 use Rattle.std.proofs.Common.{refl, sym, ap, subst, ◌∙◌, inl, inr, true≢false}
 use Rattle.std.proofs.lemmas.List.Elements.{Contains-append_cases, Contains-append_left, Contains-push}
 use Rattle.ecs_id.specs.Id.{Id, plain, pair, mentioned, first_of}
-use Rattle.ecs_model.specs.Added.{IsAdded, mirror, with_first}
+use Rattle.ecs_id.specs.declared.EntityId.{EntityId}
+use Rattle.ecs_model.specs.Added.{brought, IsAdded, mirror, with_first}
 use Rattle.ecs_model.specs.BuiltIns.{acyclic, with_trait}
-use Rattle.ecs_model.specs.Command.{with_facts}
+use Rattle.ecs_model.specs.Command.{is_dead, with_facts}
 use Rattle.ecs_model.specs.Cycles.{HasCycle, after_step}
 use Rattle.ecs_model.specs.Links.{is_held, upward}
 use Rattle.ecs_model.specs.Map.{has_key}
-use Rattle.ecs_model.specs.Reach.{Reached, itself, onward}
+use Rattle.ecs_model.specs.Reach.{IsLeast, Reached, itself, onward}
 use Rattle.ecs_model.specs.World.{WorldState, Key, key_cmp, is_live, holds, ids_of}
 use Rattle.ecs_model.specs.traits.Changes.{added, facts_after_add}
+use Rattle.ecs_model.specs.traits.Command.{adds_built_in, changes_trait, has_cycle}
 use Rattle.ecs_model.specs.traits.Keeps.{IsWellFormed}
 use Rattle.ecs_model.specs.traits.Laws.{AddedPairsClose, ClosesAt}
 use Rattle.ecs_model.proofs.Closing.{steps_close_chains}
-use Rattle.ecs_model.proofs.Members.{eq_itself, eq_same}
+use Rattle.ecs_model.proofs.Maps.{key_cmp_same, key_cmp_total}
+use Rattle.ecs_model.proofs.Members.{alike, eq_itself, eq_same}
 use Rattle.ecs_model.proofs.traits.Accepted.{add_is_addition, may_come}
 use Rattle.ecs_model.proofs.traits.Adding.{HasForm, added_are_members, added_form, by_with, from_mirror, in_map}
 use Rattle.ecs_model.proofs.traits.CyclesLeft.{has_cycle_tells}
-use Rattle.ecs_model.proofs.traits.Facts.{holds_leads, is_held-holds, leads_holds}
+use Rattle.ecs_model.proofs.traits.Facts.{holds_leads, is_held-holds, leads_holds, key_there, there_key}
 use Rattle.ecs_model.proofs.traits.Fewer.{chain_of_more}
+use Rattle.ecs_model.proofs.traits.Found.{members}
 use Rattle.ecs_model.proofs.traits.Kept.{refuted}
 use Rattle.ecs_model.proofs.traits.KeptByAdd.{IsAddition, MayCome, came_or_stayed, came_or_was, facts_live_after, gone_by, no_pair, plain_stays, same_parts, stays, trait_before}
 use Rattle.ecs_model.proofs.traits.Replacing.{is_replaced}
@@ -243,3 +247,16 @@ added_pairs_close w e i h dead built fixed =
       λ t. let r = tells.0 t in closed_by w e.index i h may r.0 (was_acyclic w e.index i h may r.0 r.1 r.2) r.2,
       λ k. let r = closes_by w e.index i h may k.0 k.1 k.2 in tells.1 (r.0, plain_stays w e.index i (facts_after_add w e.index i) h addition may r.0 acyclic r.1, r.2),
     )
+
+-- an answer about the list that was found tells whether there will be a cycle
+pub cycle_by_found : (w : WorldState) (e : EntityId) (i : Id) → IsWellFormed w → is_dead w e i ≡ false → adds_built_in w e.index i ≡ false → changes_trait w e.index i ≡ false
+    → (items : List Key) → IsLeast (brought (ids_of w)) ((e.index, i) ∷ []) items
+    → (answer : Bool) → IsTrue answer ↔ ((k : Key) × Contains items k × ClosesAt (ids_of w) e.index k) → has_cycle (with_facts w (facts_after_add w e.index i)) ≡ answer
+cycle_by_found w e i h dead built fixed items least answer tells =
+    let mentions = (may_come w e i h dead built fixed).mentions in
+    let closes = added_pairs_close w e i h dead built fixed in
+    alike (has_cycle (with_facts w (facts_after_add w e.index i))) answer
+    (λ t. let k = closes.0 t in
+    tells.1 (k.0, (members w e.index i h mentions items least k.0).0 (key_there key_cmp key_cmp_same (added w e.index i) k.0 ((added_are_members w e.index i h mentions k.0).1 k.1)), k.2))
+    (λ t. let k = tells.0 t in
+    closes.1 (k.0, (added_are_members w e.index i h mentions k.0).0 (there_key key_cmp key_cmp_total (added w e.index i) k.0 ((members w e.index i h mentions items least k.0).1 k.1)), k.2))

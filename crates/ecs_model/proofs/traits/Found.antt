@@ -1,21 +1,26 @@
 -- Lists that were found, in the place of the added and of the deleted set: what counts is who is on them.
-use Rattle.std.specs.Prelude.{◌≡◌, ◌≢◌, ◌↔◌, ◌⊎◌, ℕ, ◌+◌, ◌==◌, ◌||◌, Bool, true, false, List, [], ◌∷◌, flat_map, fold, length, ℤ, Some, None, is_some, unwrap_or, cond}
-use Rattle.std.specs.List.{AllByRecursion, Contains, IsDistinct, list_all, list_any}
+use Rattle.std.specs.Cmp.{nat_cmp_total}
+use Rattle.std.specs.FinMap.{nat_cmp-IsAntisymmetric}
 use Rattle.std.specs.FinMap.Entries.{below_all, is_some-find, is_sorted, same_entries}
+use Rattle.std.specs.List.{AllByRecursion, Contains, IsDistinct, list_all, list_any}
 use Rattle.std.specs.Ordering.{nat_cmp}
+use Rattle.std.specs.Prelude.{◌≡◌, ◌≢◌, ◌↔◌, ◌⊎◌, ℕ, ◌+◌, ◌==◌, ◌||◌, ◌&&◌, Bool, true, false, not, List, [], ◌∷◌, flat_map, fold, length, ℤ, Some, None, is_some, unwrap_or, cond}
 use Rattle.std.proofs.Common.{refl, sym, ap, ◌∙◌, inl, inr, arith, true≢false}
 use Rattle.std.proofs.lemmas.Bool.Decides.{nat_tests}
 use Rattle.ecs_id.specs.Id.{Id, mentioned}
+use Rattle.ecs_model.specs.declared.faults.Refusal.TheVariants.{InUse, Panic, Full}
 use Rattle.ecs_model.specs.Added.{brought, displaced}
 use Rattle.ecs_model.specs.Changes.{with_new}
+use Rattle.ecs_model.specs.Command.{is_spent}
 use Rattle.ecs_model.specs.Falls.{falling}
 use Rattle.ecs_model.specs.Map.{Map, IsMap, count_at, has_key, keys, value_at, with_value, without}
 use Rattle.ecs_model.specs.Reach.{IsLeast, Reached}
+use Rattle.ecs_model.specs.Sets.{Set}
 use Rattle.ecs_model.specs.World.{WorldState, Key, key_cmp, key_eq, is_live, entities, ids_of, new_value}
 use Rattle.ecs_model.specs.traits.Changes.{added, replaced, deleted, mentions_gone, facts_after_add, facts_after_delete}
-use Rattle.ecs_model.specs.Sets.{Set}
-use Rattle.ecs_model.specs.traits.Command.{without_entities}
+use Rattle.ecs_model.specs.traits.Command.{delete_reasons, is_pinned, without_entities}
 use Rattle.ecs_model.specs.traits.Keeps.{IsWellFormed}
+use Rattle.ecs_model.specs.traits.Rules.{forbids}
 use Rattle.ecs_model.proofs.Maps.{absent_below, both_true, nat_value_at, key_cmp_same, key_cmp_total, to_T}
 use Rattle.ecs_model.proofs.Members.{alike, any_passes, eq_itself, eq_same, from_flat_map, head_or_tail, in_flat_map, passing}
 use Rattle.ecs_model.proofs.Removals.{IsMap-without}
@@ -24,12 +29,10 @@ use Rattle.ecs_model.proofs.traits.AfterAdd.{all_at, value_after_add}
 use Rattle.ecs_model.proofs.traits.Deleted.{deleted_is_least}
 use Rattle.ecs_model.proofs.traits.Deletions.{counted_up, IsMap-counted_up}
 use Rattle.ecs_model.proofs.traits.Differences.{without_alike}
-use Rattle.ecs_model.proofs.traits.Kept.{refuted}
-use Rattle.ecs_model.proofs.traits.SameKeys.{IsMap-within}
 use Rattle.ecs_model.proofs.traits.Facts.{key_there, there_key}
+use Rattle.ecs_model.proofs.traits.Kept.{refuted}
 use Rattle.ecs_model.proofs.traits.Replacing.{IsMap-add, IsMap-with_all, is_replaced}
-use Rattle.std.specs.Cmp.{nat_cmp_total}
-use Rattle.std.specs.FinMap.{nat_cmp-IsAntisymmetric}
+use Rattle.ecs_model.proofs.traits.SameKeys.{IsMap-within}
 
 -- lists with the same members pass alike
 pub any_alike : {A : Type 0} (p : A → Bool) (xs ys : List A) → ((x : A) → Contains xs x ↔ Contains ys x) → list_any p xs ≡ list_any p ys
@@ -110,6 +113,16 @@ module _ (w : WorldState) (e : ℕ) (live : is_live w e ≡ true) (found : List 
       (λ h. any_passes (λ x. x == y) found y ((among y).0 (key_there nat_cmp nat_cmp-IsAntisymmetric (deleted w e) y h)) (eq_itself y))
       (λ h. let x = passing (λ x. x == y) found h in there_key nat_cmp nat_cmp_total (deleted w e) y ((among y).1 (rw (eq_same x.0 y x.2) at x.1)))
 
+  -- the reasons against the deletion
+  pub reasons_by_found : delete_reasons w (deleted w e)
+      ≡ (list_any (is_pinned w) found, InUse)
+      ∷ (list_any (λ y. not (list_any (λ x. x == y) found) && list_any (λ i. list_any (λ x. forbids (ids_of w) x i) found) (ids_of w y)) (entities w), Panic)
+      ∷ (is_spent w, Full) ∷ []
+  reasons_by_found = λ j.
+      (any_deleted (is_pinned w) j, InUse)
+      ∷ (list_any (λ y. not (is_deleted y j) && list_any (λ i. any_deleted (λ x. forbids (ids_of w) x i) j) (ids_of w y)) (entities w), Panic)
+      ∷ (is_spent w, Full) ∷ []
+
   module _ (sound : IsWellFormed w) (once : IsDistinct ◌==◌ found) where
     -- in whatever order they go, their deletions are counted
     pub deletions_by_found : counted_up w.deletions (keys (deleted w e)) ≡ counted_up w.deletions found
@@ -147,7 +160,8 @@ module _ (w : WorldState) (e : ℕ) (live : is_live w e ≡ true) (found : List 
 
 -- what was found to come with a fact
 module _ (w : WorldState) (e : ℕ) (i : Id) (h : IsWellFormed w) (mentions : list_all (is_live w) (mentioned i) ≡ true) (items : List Key) (least : IsLeast (brought (ids_of w)) ((e, i) ∷ []) items) where
-  members : (k : Key) → Contains (keys (added w e i)) k ↔ Contains items k
+  -- it is the added set
+  pub members : (k : Key) → Contains (keys (added w e i)) k ↔ Contains items k
   members k = (
     λ c. (least k).1 ((e, i), (0, omega arith, refl), (added_are_members w e i h mentions k).0 (there_key key_cmp key_cmp_total (added w e i) k c)),
     λ c. key_there key_cmp key_cmp_same (added w e i) k ((added_are_members w e i h mentions k).1 (reached ((least k).0 c))),

@@ -1,18 +1,19 @@
 -- A world stays well formed where one stored query more or less mentions an entity.
-use Rattle.std.specs.Prelude.{◌≡◌, ◌⊎◌, ℕ, zero, suc, ◌+◌, ◌-◌, ◌^◌, ◌<◌, ◌==◌, Bool, true, false, Option, Some, None, cond, unwrap_or, Result, Ok, Err, if◌then◌else◌}
-use Rattle.std.specs.Ordering.{nat_cmp}
 use Rattle.std.specs.Cmp.{nat_cmp_total}
-use Rattle.std.proofs.Common.{refl, sym, ap, subst, ◌∙◌, inl, inr, arith}
+use Rattle.std.specs.Ordering.{nat_cmp}
+use Rattle.std.specs.Prelude.{◌≡◌, ◌≢◌, ◌⊎◌, ℕ, zero, suc, ◌+◌, ◌-◌, ◌^◌, ◌<◌, ◌==◌, Bool, true, false, not, Option, Some, None, cond, unwrap_or, Result, Ok, Err, if◌then◌else◌}
+use Rattle.std.proofs.Common.{refl, sym, ap, subst, ◌∙◌, inl, inr, arith, true≢false}
 use Rattle.std.proofs.lemmas.Bool.Decides.{nat_tests}
 use Rattle.ecs_id.specs.declared.EntityId.{EntityId}
 use Rattle.ecs_model.specs.declared.faults.Refusal.{Refusal}
 use Rattle.ecs_model.specs.declared.faults.Refusal.TheVariants.{Dead}
-use Rattle.ecs_model.specs.Map.{Map, IsMap, value_at, without, count_at}
+use Rattle.ecs_model.specs.Map.{Map, IsMap, value_at, with_value, without, count_at}
 use Rattle.ecs_model.specs.World.{WorldState, is_live, is_alive}
 use Rattle.ecs_model.specs.traits.Keeps.{IsWellFormed}
 use Rattle.ecs_model.specs.traits.Laws.{PinsKeep}
 use Rattle.ecs_model.specs.traits.Pins.{most_pins, with_count, one_more, one_less, with_pins, pin, unpin}
 use Rattle.ecs_model.proofs.Maps.{of_some, if_some, IsMap-with_value, nat_value_at}
+use Rattle.ecs_model.proofs.Members.{eq_itself, eq_same}
 use Rattle.ecs_model.proofs.Steps.{there}
 use Rattle.ecs_model.proofs.traits.Deletions.{nat_IsMap-without, nat_value_at-without, was}
 use Rattle.ecs_model.proofs.traits.NewEntities.{same_facts_keep}
@@ -30,6 +31,23 @@ value_at-with_count m i (suc n) j x f =
       | inl p ↦ let same : Some (suc n) ≡ Some x = sym p.1 ∙ f in let is : suc n ≡ x = cc in inl (p.0, is, omega arith)
       | inr p ↦ inr (sym p.1 ∙ f)
     ]
+
+-- the count at its number is the new one, and each other is as it was
+pub count-with_count : (m : Map ℕ ℕ) (i n j : ℕ) → count_at (with_count m i n) j ≡ cond (j == i) n (count_at m j)
+count-with_count m i zero j = ap (λ o. unwrap_or o 0) (nat_value_at-without m (λ k. k == i) j) ∙ by (j == i)
+  where
+    by : (b : Bool) → unwrap_or (cond (not b) (value_at nat_cmp m j) None) 0 ≡ cond b 0 (count_at m j)
+    by true = refl
+    by false = refl
+count-with_count m i (suc n) j = by (j == i) refl (nat_value_at m i (suc n) j)
+  where
+    by : (b : Bool) → (j == i) ≡ b
+        → ((j ≡ i) × (value_at nat_cmp (with_value nat_cmp m i (suc n)) j ≡ Some (suc n))) ⊎ ((j ≢ i) × (value_at nat_cmp (with_value nat_cmp m i (suc n)) j ≡ value_at nat_cmp m j))
+        → count_at (with_value nat_cmp m i (suc n)) j ≡ cond b (suc n) (count_at m j)
+    by true e (inl p) = ap (λ o. unwrap_or o 0) p.1
+    by true e (inr p) = absurd (p.0 (eq_same j i e))
+    by false e (inl p) = absurd (true≢false (sym (eq_itself i) ∙ (ap (λ x. x == i) (sym p.0) ∙ e)))
+    by false e (inr p) = ap (λ o. unwrap_or o 0) p.1
 
 module _ (w : WorldState) (h : IsWellFormed w) where
   count_small : (i : ℕ) → count_at w.pins i < 2 ^ 64
