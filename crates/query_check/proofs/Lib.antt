@@ -9,3 +9,4 @@ pub mod Binding
 pub mod Numbering
 pub mod Building
 pub mod Showing
+pub mod Entries

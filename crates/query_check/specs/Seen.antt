@@ -1,5 +1,6 @@
 -- References, variables and queries of the code, as the definitions see them.
-use Rattle.std.specs.Prelude.{◌≡◌, ⊤, ℕ, List, [], ◌∷◌, map, flat_map, Option, Some, None, Result, Ok, Err}
+use Rattle.std.specs.Prelude.{◌≡◌, ⊤, ℕ, Bool, false, List, [], ◌∷◌, map, flat_map, Option, Some, None, Result, Ok, Err}
+use Rattle.std.proofs.Common.{get_or}
 use Rattle.query_model.specs.declared.Span.{Span}
 use Rattle.query_model.specs.declared.faults.QueryFault.{QueryFault}
 use Rattle.query_model.specs.declared.faults.QueryFault.TheVariants.{Fault, Memory}
@@ -10,7 +11,7 @@ use Rattle.query_model.specs.Uses.{Use, uses_of}
 use Rattle.query_model.specs.Scope.{Sighting}
 use Rattle.query_model.specs.Numbers.{Variable}
 use Rattle.query_model.specs.Check.{Known}
-use Rattle.query_model.specs.Query.{Item, must, may, either, equal, differ, Piece, item, opening, closing, Query, check_of}
+use Rattle.query_model.specs.Query.{Item, must, may, either, equal, differ, Piece, item, opening, closing, Query, check_of, Entry, simple, group}
 use Rattle.query_check.specs.declared.uses.Use as code_use
 use Rattle.query_check.specs.declared.scope.Occurrence as code_occurrence
 use Rattle.query_check.specs.declared.numbers.Variable as code_variable
@@ -19,6 +20,9 @@ use Rattle.query_check.specs.declared.query.Item.TheVariants.{And, Optional, Equ
 use Rattle.query_check.specs.declared.query.Item.TheVariants as code_items
 use Rattle.query_model.specs.declared.syntax.Role.TheVariants.{Or}
 use Rattle.query_check.specs.declared.query.Piece as code_piece
+use Rattle.query_check.specs.declared.numbered.Entry as code_entry
+use Rattle.query_check.specs.declared.numbered.Entry.TheVariants as code_entries
+use Rattle.query_check.specs.declared.numbered.Numbered.{Numbered}
 use Rattle.query_check.specs.declared.query.Piece.TheVariants.{Opening, Closing}
 use Rattle.query_check.specs.declared.query.Piece.TheVariants as code_pieces
 
@@ -70,6 +74,19 @@ abbrev pub seen_piece : {A : Type 0} → code_piece.Piece A → Piece
 seen_piece (code_pieces.Item i) = item (seen_item i)
 seen_piece (Opening from_term own) = opening from_term own.items
 seen_piece Closing = closing
+
+-- an item or a group, and where the code finds it among the pieces
+abbrev pub seen_entry : {A : Type 0} → code_entry.Entry A → Entry
+seen_entry (code_entries.Item level i) = simple level (seen_item i.now)
+seen_entry (code_entries.Group level from_term own) = group level from_term own.now
+
+abbrev pub entry_of : ℕ → Piece → Entry
+entry_of level (item i) = simple level i
+entry_of level (opening from_term own) = group level from_term own
+entry_of level closing = group level false []
+
+abbrev pub entry_at : List Piece → Numbered → Entry
+entry_at pieces n = entry_of n.level (get_or pieces n.piece closing)
 
 -- the answer of the check; where memory is refused, it may say so in place of it
 abbrev pub AnswersCheck : Known → Syntax → Result Query QueryFault → Type 0

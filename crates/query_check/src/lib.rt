@@ -3,7 +3,9 @@
 
 mod checked;
 mod faults;
+mod local;
 mod lookup;
+mod numbered;
 mod numbers;
 mod places;
 mod query;
@@ -13,4 +15,5 @@ mod uses;
 
 pub use checked::check;
 pub use lookup::Lookup;
+pub use numbered::Entry;
 pub use query::{Item, Piece, Query};

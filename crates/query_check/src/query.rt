@@ -1,21 +1,28 @@
 //! The checked query, and how it is built from a syntax without faults.
 
-ghost use Rattle.std.specs.Prelude.{◌≡◌, ◌≤◌, ◌==◌, ◌++◌, [], flat_map, fold, length, map, option_map, option_to_list, IfOk};
+ghost use Rattle.std.specs.Prelude.{◌≡◌, ◌<◌, ◌≤◌, ◌==◌, ◌++◌, [], flat_map, fold, length, map, option_map, option_to_list, slice_get, IfOk, MatchOption, Some, Ok, Err};
 ghost use Rattle.std.specs.List.{list_all, list_any};
 ghost use Rattle.query_check.specs.Places.{IsRooted, IsTree, places_of};
-ghost use Rattle.query_check.specs.Seen.{level_uses, seen_item, seen_occurrence, seen_piece, seen_use, seen_variable, syntax_of};
+ghost use Rattle.query_check.specs.Seen.{level_uses, seen_entry, seen_item, seen_occurrence, seen_piece, seen_use, seen_variable, syntax_of};
 ghost use Rattle.query_model.specs.Levels.{Path, alternatives, followed, level_of, placed_parts};
-ghost use Rattle.query_model.specs.Query.{add_mention, chain_of, checked_equality, checked_query, checked_term, entity_of, follows, is_definite_target, on_source_of, pieces_of, pieces_of_part, ref_of, mention_of, mentioned_by, is_as_checked, is_current, shown, source_of, up_of, visible_names};
+ghost use Rattle.query_model.specs.Query.{add_mention, chain_of, checked_equality, checked_query, checked_term, entity_of, entries, follows, is_definite_target, on_source_of, pieces_of, pieces_of_part, ref_of, mention_of, mentioned_by, is_as_checked, is_current, shown, source_of, up_of, visible_names};
+ghost use Rattle.query_model.specs.Faults.{fault_at};
+ghost use Rattle.query_model.specs.Local.{is_local, is_simple};
+ghost use Rattle.query_model.specs.Observers.{monitored, observed, whole};
 ghost use Rattle.query_model.specs.Scope.{sightings};
 ghost use Rattle.query_model.specs.Seen.{seen_flags, seen_part, seen_reference, seen_term};
 
+use crate::local::{are_local, are_simple, has_must, is_one_term};
 use crate::lookup::Lookup;
+use crate::numbered::{Entry, Numbered, entry_in, places_of_entries};
 use crate::numbers::{Variable, has_this, number_of, own_numbers, variables};
 use crate::places::Place;
 use crate::scope::{Occurrence, alternative, name_of};
 use crate::shown::shown;
 use crate::uses::Use;
 use ecs_id::EntityId;
+use query_model::Span;
+use query_model::faults::{Fault, FaultKind};
 use query_model::query::{Mention, Ref, Term};
 use query_model::syntax::{Flags, Part, Reference, Rise, Role, Spoken, TermSyntax};
 use std::alloc::{AllocError, Allocator, Global};
@@ -57,6 +64,7 @@ pub struct Query<A: Allocator = Global> {
     variables: Vec<Vec<u8, A>, A>,
     has_this: bool,
     pieces: Vec<Piece<A>, A>,
+    numbered: Vec<Numbered, A>,
     shown: Vec<usize, A>,
     mentions: Vec<Mention, A>,
     length: usize,
@@ -66,7 +74,7 @@ impl<A: Allocator> Model for Query<A> {
     ghost use Rattle.std.specs.Prelude.{◌≡◌, [], map};
     ghost use Rattle.query_model.specs.Query as model;
     ghost use Rattle.query_model.specs.Query.{entries_from, shown_from};
-    ghost use Rattle.query_check.specs.Seen.{seen_piece};
+    ghost use Rattle.query_check.specs.Seen.{entry_at, seen_piece};
 
     ghost Value = { model.Query };
 
@@ -78,7 +86,7 @@ impl<A: Allocator> Model for Query<A> {
       length = q.length;
     } };
 
-    ghost invariant = { λ q. q.shown.items ≡ shown_from 0 (entries_from 0 [] (map seen_piece q.pieces.items)) };
+    ghost invariant = { λ q. (q.shown.items ≡ shown_from 0 (entries_from 0 [] (map seen_piece q.pieces.items))) × (map (entry_at (map seen_piece q.pieces.items)) q.numbered.items ≡ entries_from 0 [] (map seen_piece q.pieces.items)) };
 }
 
 impl<A: Allocator> Query<A> {
@@ -103,6 +111,22 @@ impl<A: Allocator> Query<A> {
         self.pieces.as_slice()
     }
 
+    /// How many items there are, groups and the items inside them among them. Their numbers are those below.
+    pub fn items(&self) -> usize
+        ensures { result ≡ length (entries self.now) }
+    {
+        self.numbered.len()
+    }
+
+    /// The item or the group with a number, and its level.
+    pub fn entry<'q>(&'q self, number: usize) -> Entry<'q, A>
+        requires { number < length (entries self.now) }
+        ensures { slice_get (entries self.now) number ≡ Some (seen_entry result) }
+    {
+        let at = self.numbered[number];
+        entry_in(at.level, self.pieces.get(at.piece))
+    }
+
     /// The numbers, ascending, of the items that give fields, outside all groups.
     pub fn shown(&self) -> &[usize]
         ensures { result.now ≡ shown self.now }
@@ -122,6 +146,60 @@ impl<A: Allocator> Query<A> {
         ensures { result ≡ (self.now).length }
     {
         self.length
+    }
+
+    /// The fault of a query whose matches are told when they come and go, which needs `$this`: NoThis at the whole text.
+    pub fn monitor_fault(&self) -> Option<Fault>
+        ensures { MatchOption result (monitored self.now ≡ Ok self.now) (λ fault. monitored self.now ≡ Err fault) }
+    {
+        if self.has_this {
+            None
+        } else {
+            Some(self.fault(FaultKind::NoThis))
+        }
+    }
+
+    /// The fault of a query whose ids are told when they are added, removed or set: NoThis, or NotOneTerm where it isn't one term
+    /// that must match, asks `$this` itself and names no other variable. Both are at the whole text.
+    pub fn observer_fault(&self) -> Option<Fault>
+        ensures { MatchOption result (observed self.now ≡ Ok self.now) (λ fault. observed self.now ≡ Err fault) }
+    {
+        if !self.has_this {
+            return Some(self.fault(FaultKind::NoThis));
+        }
+        if is_one_term(self.pieces.as_slice()) {
+            None
+        } else {
+            Some(self.fault(FaultKind::NotOneTerm))
+        }
+    }
+
+    /// A fault of the whole text.
+    fn fault(&self, kind: FaultKind) -> Fault
+        ensures { result ≡ fault_at kind (whole self.now) }
+    {
+        let span = Span {
+            start: 0,
+            end: self.length,
+        };
+        Fault { kind, span }
+    }
+
+    /// Whether the query is local: `$this` is its one variable, and every term, inside groups too, asks it itself, for stored ids.
+    /// Then an entity's own ids decide whether it is `$this` of an answer.
+    pub fn is_local(&self) -> bool
+        ensures { result ≡ is_local self.now }
+    {
+        self.has_this && self.variables.len() == 1 && are_local(self.pieces.as_slice())
+    }
+
+    /// Whether the query is simple: it has no groups and no equalities, every term asks `$this` itself for one stored id, and at least one
+    /// must match.
+    pub fn is_simple(&self) -> bool
+        ensures { result ≡ is_simple self.now }
+    {
+        let pieces = self.pieces.as_slice();
+        self.has_this && are_simple(pieces) && has_must(pieces)
     }
 
     /// Whether all that the text names is alive, with its traits as they were at the check.
@@ -177,10 +255,12 @@ pub(crate) fn build<'a, A: Allocator + Copy, W: Lookup>(
     let visible = visible_names(alloc, numbered)?;
     let mentions = mentions(alloc, world, uses)?;
     let shown = shown(alloc, pieces.as_slice())?;
+    let entries = places_of_entries(alloc, pieces.as_slice())?;
     Ok(Query {
         variables: visible,
         has_this: has_this(parts, found),
         pieces,
+        numbered: entries,
         shown,
         mentions,
         length: text_length,

@@ -14,3 +14,4 @@ pub mod Check
 pub mod Query
 pub mod FirstOccurrence
 pub mod Observers
+pub mod Local

@@ -1,0 +1,69 @@
+//! The items of a query by number.
+
+ghost use Rattle.std.specs.Prelude.{◌≡◌, ◌<◌, ◌≤◌, [], map, length, IfOk};
+ghost use Rattle.query_check.specs.Seen.{entry_at, entry_of, seen_entry, seen_piece};
+ghost use Rattle.query_check.specs.Numbered.{level_around, piece_or};
+ghost use Rattle.query_model.specs.Query.{entries_from};
+
+use crate::query::{Item, Piece};
+use std::alloc::{AllocError, Allocator, Global};
+
+/// An item or a group of a query, and the level in which it stands: 0 for the whole query, and `n + 1` for the group with the number `n`.
+#[derive(Clone, Copy)]
+pub enum Entry<'q, A: Allocator = Global> {
+    /// An item, in this level.
+    Item(usize, &'q Item<A>),
+    /// A negated group, in this level: whether it was written as one term, and the numbers of its own variables.
+    Group(usize, bool, &'q [usize]),
+}
+
+/// Where an item or a group stands: its level, and its place among the pieces.
+#[derive(Clone, Copy, Debug, PartialEq, Eq)]
+pub(crate) struct Numbered {
+    pub(crate) level: usize,
+    pub(crate) piece: usize,
+}
+
+/// The items and groups of a query's pieces, in the order of their numbers.
+pub(crate) fn places_of_entries<A: Allocator + Copy>(
+    alloc: A,
+    pieces: &[Piece<A>],
+) -> Result<Vec<Numbered, A>, AllocError>
+    ensures { IfOk result (λ all. map (entry_at (map seen_piece pieces.now)) all.items ≡ entries_from 0 [] (map seen_piece pieces.now)) }
+{
+    let mut all = Vec::new(alloc);
+    let mut level = 0;
+    for (i, piece) in pieces.iter().enumerate() {
+        match piece {
+            Piece::Item(_) => all.push(Numbered { level, piece: i })?,
+            Piece::Opening(_, _) => {
+                all.push(Numbered { level, piece: i })?;
+                level = all.as_slice().len();
+            }
+            Piece::Closing => level = around(all.as_slice(), level),
+        }
+    }
+    Ok(all)
+}
+
+/// The level around a level: that in which its group stands.
+fn around(all: &[Numbered], level: usize) -> usize
+    requires { level ≤ length all.now }
+    ensures { result ≡ level_around all.now level }
+{
+    if level == 0 {
+        return 0;
+    }
+    all[level - 1].level
+}
+
+/// The item or group that stands in a level.
+pub(crate) fn entry_in<'q, A: Allocator>(level: usize, piece: Option<&'q Piece<A>>) -> Entry<'q, A>
+    ensures { seen_entry result ≡ entry_of level (piece_or piece.entry) }
+{
+    match piece {
+        Some(Piece::Item(item)) => Entry::Item(level, item),
+        Some(Piece::Opening(from_term, own)) => Entry::Group(level, *from_term, own.as_slice()),
+        _ => Entry::Group(level, false, &[]),
+    }
+}
