@@ -24,4 +24,5 @@ pub mod AfterAdd
 pub mod Found
 pub mod Cycles
 pub mod TypesStay
+pub mod TraitsStay
 pub mod Crowding

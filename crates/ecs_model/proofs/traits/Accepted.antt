@@ -126,6 +126,7 @@ set_is_addition w e i facts vs a fits = record {
 -- an addition against which there is no reason: it may come, and what it leaves has no cycle and no entity with too many ids
 pub record IsAccepted (w : WorldState) (e : EntityId) (i : Id) : Type 0 where
   pub may : MayCome w e.index i
+  pub fixed : changes_trait w e.index i ≡ false
   acyclic : has_cycle (with_facts w (facts_after_add w e.index i)) ≡ false
   few : is_crowded (with_facts w (facts_after_add w e.index i)) ≡ false
   room : is_spent w ≡ false
@@ -136,7 +137,7 @@ accepted w e i h dead built r =
     let fixed = passed (changes_trait w e.index i) TraitFixed ((has_cycle left, Cycle) ∷ (is_crowded left, TooManyIds) ∷ (is_spent w, Full) ∷ []) r in
     let acyclic = passed (has_cycle left) Cycle ((is_crowded left, TooManyIds) ∷ (is_spent w, Full) ∷ []) fixed.1 in
     let few = passed (is_crowded left) TooManyIds ((is_spent w, Full) ∷ []) acyclic.1 in
-    record { may = may_come w e i h dead built fixed.0; acyclic = acyclic.0; few = few.0; room = (passed (is_spent w) Full [] few.1).0 }
+    record { may = may_come w e i h dead built fixed.0; fixed = fixed.0; acyclic = acyclic.0; few = few.0; room = (passed (is_spent w) Full [] few.1).0 }
 
 pub accepted_add : (w : WorldState) (e : EntityId) (i : Id) → IsWellFormed w → first_reason (reasons w (Add e i)) ≡ None → IsAccepted w e i
 unfolding reasons

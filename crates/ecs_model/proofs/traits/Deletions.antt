@@ -252,3 +252,13 @@ module _ (w : WorldState) (gone : Set ℕ) (h : IsWellFormed w) (may : MayGo w g
   pub deletion_types : (e : ℕ) (i : Id) → holds (counted (without_entities w gone)) e i ≡ true → type_of_id (counted (without_entities w gone)) i ≡ type_of_id w i
   unfolding without_entities facts_after_delete
   deletion_types e i f = type_stays i (neither (is_gone e) (list_any is_gone (mentioned i)) (held_was e i f).0).1
+
+  -- a plain trait of who stays is there as before
+  pub deletion_traits : (r c : ℕ) → is_gone r ≡ false → is_built_in c ≡ true → holds (counted (without_entities w gone)) r (plain c) ≡ holds w r (plain c)
+  unfolding without_entities facts_after_delete
+  deletion_traits r c g b = held_stays r (plain c) g (λ k. built_in_stays c b k || false)
+
+  -- who holds a pair that is left stays, and so does its relationship
+  pub relationship_stays : (f r t : ℕ) → holds (counted (without_entities w gone)) f (pair r t) ≡ true → is_gone r ≡ false
+  unfolding without_entities facts_after_delete
+  relationship_stays f r t p = (neither (is_gone r) (is_gone t || false) (neither (is_gone f) (list_any is_gone (r ∷ t ∷ [])) (held_was f (pair r t) p).0).1).0

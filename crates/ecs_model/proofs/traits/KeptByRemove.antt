@@ -139,6 +139,10 @@ module _ (w : WorldState) (e : ℕ) (i : Id) where
     unfolding facts_after_remove
     removal_types j = types_kept j
 
+    pub removal_traits : (r c : ℕ) → is_trait (plain c) ≡ true → holds (counted (with_facts w (facts_after_remove w e i))) r (plain c) ≡ holds w r (plain c)
+    unfolding facts_after_remove
+    removal_traits r c is = ap is_some (stays (r, plain c) (trait_stays r c is))
+
     still_typed : (f : ℕ) (j : Id) (x : List ℤ) → value_at key_cmp facts (f, j) ≡ Some x → IsTyped (type_of_id w j) x
     still_typed f j x found = of_some (IsTyped (type_of_id w j)) (value_of w f j) (h.typed f j) x (was (goes (f, j)) (value_at key_cmp facts (f, j)) (value_of w f j) (at (f, j)) x found).1
 

@@ -1,6 +1,6 @@
 -- The laws of what commands do to facts, as statements.
 use Rattle.std.specs.Prelude.{◌≡◌, ◌↔◌, ◌⊎◌, ℕ, ◌<◌, length, All, IsTrue, Some, Ok, if◌then◌else◌}
-use Rattle.ecs_id.specs.Id.{Id, plain, mentioned}
+use Rattle.ecs_id.specs.Id.{Id, plain, pair, mentioned}
 use Rattle.ecs_model.specs.Added.{IsAdded, IsReplaced}
 use Rattle.ecs_model.specs.BuiltIns.{acyclic}
 use Rattle.ecs_model.specs.Command.{Changed, is_crowded, with_facts}
@@ -9,8 +9,9 @@ use Rattle.ecs_model.specs.Links.{upward}
 use Rattle.ecs_model.specs.Map.{has_key, value_at}
 use Rattle.ecs_model.specs.World.{WorldState, Key, key_cmp, holds, ids_of, is_live, most_ids, new_value, type_of_id, value_of}
 use Rattle.ecs_model.specs.traits.Changes.{facts_after_add}
-use Rattle.ecs_model.specs.traits.Command.{Command, IsCommand, has_cycle, step}
+use Rattle.ecs_model.specs.traits.Command.{Command, IsCommand, has_cycle, is_pinned, step}
 use Rattle.ecs_model.specs.traits.Keeps.{IsWellFormed}
+use Rattle.ecs_model.specs.traits.Rules.{is_trait}
 
 -- what is said of a fact that is added to a live entity, with an id of live ones
 abbrev pub OfLive : (WorldState → ℕ → Id → Type 0) → Type 0
@@ -40,3 +41,8 @@ CrowdedIsTold = OfLive (λ w e i. let left = with_facts w (facts_after_add w e i
 abbrev pub HeldIdsKeepTypes : Type 0
 HeldIdsKeepTypes = (w v : WorldState) (c : Command) (changed : Changed) → IsWellFormed w → IsCommand c → step w c ≡ Ok (v, changed)
     → (e : ℕ) (i : Id) → IsTrue (holds v e i) → type_of_id v i ≡ type_of_id w i
+
+-- while a stored query mentions an entity or a pair of it as relationship is held, its plain traits stay as they are
+abbrev pub PlainTraitsStay : Type 0
+PlainTraitsStay = (w v : WorldState) (c : Command) (changed : Changed) → IsWellFormed w → IsCommand c → step w c ≡ Ok (v, changed)
+    → (r n : ℕ) → IsTrue (is_trait (plain n)) → IsTrue (is_pinned w r) ⊎ ((f : ℕ) × (t : ℕ) × IsTrue (holds v f (pair r t))) → holds v r (plain n) ≡ holds w r (plain n)
