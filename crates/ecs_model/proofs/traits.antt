@@ -25,4 +25,5 @@ pub mod Found
 pub mod Cycles
 pub mod TypesStay
 pub mod TraitsStay
+pub mod TypesChange
 pub mod Crowding

@@ -262,3 +262,12 @@ module _ (w : WorldState) (gone : Set ℕ) (h : IsWellFormed w) (may : MayGo w g
   pub relationship_stays : (f r t : ℕ) → holds (counted (without_entities w gone)) f (pair r t) ≡ true → is_gone r ≡ false
   unfolding without_entities facts_after_delete
   relationship_stays f r t p = (neither (is_gone r) (is_gone t || false) (neither (is_gone f) (list_any is_gone (r ∷ t ∷ [])) (held_was f (pair r t) p).0).1).0
+
+  -- who is live afterwards has not gone
+  pub left_stays : (j : ℕ) → is_live (counted (without_entities w gone)) j ≡ true → is_gone j ≡ false
+  unfolding without_entities
+  left_stays j l = (was_live j l).0
+
+  pub deletion_schemas : (j : ℕ) → is_gone j ≡ false → value_at nat_cmp (counted (without_entities w gone)).schemas j ≡ value_at nat_cmp w.schemas j
+  unfolding without_entities
+  deletion_schemas j g = schema_stays j g

@@ -36,17 +36,17 @@ use Rattle.ecs_model.proofs.traits.Order.{accepted_step}
 abbrev IsUsed : WorldState → WorldState → ℕ → Type 0
 IsUsed w v r = (is_pinned w r ≡ true) ⊎ ((f : ℕ) × (t : ℕ) × (holds v f (pair r t) ≡ true))
 
-born_traits : (w : WorldState) (o : Option EntityId) (r n : ℕ) → holds (counted (with_born w o)) r (plain n) ≡ holds w r (plain n)
+pub born_traits : (w : WorldState) (o : Option EntityId) (r n : ℕ) → holds (counted (with_born w o)) r (plain n) ≡ holds w r (plain n)
 unfolding with_born
 born_traits w None r n = refl
 born_traits w (Some e) r n = refl
 
-named_traits : (w : WorldState) (name : List ℕ) (o : Option EntityId) (r n : ℕ) → holds (counted (with_named w name o)) r (plain n) ≡ holds w r (plain n)
+pub named_traits : (w : WorldState) (name : List ℕ) (o : Option EntityId) (r n : ℕ) → holds (counted (with_named w name o)) r (plain n) ≡ holds w r (plain n)
 unfolding with_named
 named_traits w name None r n = refl
 named_traits w name (Some e) r n = refl
 
-component_traits : (w : WorldState) (name : List ℕ) (s : Schema) (o : Option EntityId) (r n : ℕ) → is_trait (plain n) ≡ true → holds (counted (with_component w name s o)) r (plain n) ≡ holds w r (plain n)
+pub component_traits : (w : WorldState) (name : List ℕ) (s : Schema) (o : Option EntityId) (r n : ℕ) → is_trait (plain n) ≡ true → holds (counted (with_component w name s o)) r (plain n) ≡ holds w r (plain n)
 unfolding with_component
 component_traits w name s None r n is = refl
 component_traits w name s (Some e) r n is =

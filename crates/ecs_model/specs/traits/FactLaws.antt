@@ -1,13 +1,13 @@
 -- The laws of what commands do to facts, as statements.
-use Rattle.std.specs.Prelude.{◌≡◌, ◌↔◌, ◌⊎◌, ℕ, ◌<◌, length, All, IsTrue, Some, Ok, if◌then◌else◌}
-use Rattle.ecs_id.specs.Id.{Id, plain, pair, mentioned}
+use Rattle.std.specs.Prelude.{◌≡◌, ◌↔◌, ◌⊎◌, ℕ, ◌<◌, length, All, Contains, IsTrue, Some, Ok, if◌then◌else◌}
+use Rattle.ecs_id.specs.Id.{Id, IsPair, plain, pair, first_of, mentioned}
 use Rattle.ecs_model.specs.Added.{IsAdded, IsReplaced}
 use Rattle.ecs_model.specs.BuiltIns.{acyclic}
 use Rattle.ecs_model.specs.Command.{Changed, is_crowded, with_facts}
 use Rattle.ecs_model.specs.Cycles.{HasCycle}
 use Rattle.ecs_model.specs.Links.{upward}
 use Rattle.ecs_model.specs.Map.{has_key, value_at}
-use Rattle.ecs_model.specs.World.{WorldState, Key, key_cmp, holds, ids_of, is_live, most_ids, new_value, type_of_id, value_of}
+use Rattle.ecs_model.specs.World.{WorldState, Key, key_cmp, holds, ids_of, is_live, most_ids, new_value, pair_is_tag, type_of_id, value_of}
 use Rattle.ecs_model.specs.traits.Changes.{facts_after_add}
 use Rattle.ecs_model.specs.traits.Command.{Command, IsCommand, has_cycle, is_pinned, step}
 use Rattle.ecs_model.specs.traits.Keeps.{IsWellFormed}
@@ -41,6 +41,12 @@ CrowdedIsTold = OfLive (λ w e i. let left = with_facts w (facts_after_add w e i
 abbrev pub HeldIdsKeepTypes : Type 0
 HeldIdsKeepTypes = (w v : WorldState) (c : Command) (changed : Changed) → IsWellFormed w → IsCommand c → step w c ≡ Ok (v, changed)
     → (e : ℕ) (i : Id) → IsTrue (holds v e i) → type_of_id v i ≡ type_of_id w i
+
+-- of live entities alone, an id gets another type only where PairIsTag comes to its relationship
+abbrev pub TypesChangeByTag : Type 0
+TypesChangeByTag = (w v : WorldState) (c : Command) (changed : Changed) → IsWellFormed w → IsCommand c → step w c ≡ Ok (v, changed)
+    → (i : Id) → All (λ x. IsTrue (is_live w x) × IsTrue (is_live v x)) (mentioned i)
+    → (type_of_id v i ≡ type_of_id w i) ⊎ (IsPair i × Contains changed.came (first_of i, plain pair_is_tag))
 
 -- while a stored query mentions an entity or a pair of it as relationship is held, its plain traits stay as they are
 abbrev pub PlainTraitsStay : Type 0
