@@ -7,6 +7,9 @@ use crate::element::{clear, copy};
 use crate::sizes::Sizes;
 use std::alloc::Allocator;
 
+// So many bytes are copied at once at most, which is a short loop over vectors.
+const RUN: usize = 1024;
+
 /// Fills the gap at `row` of each column with the value at `last`, which becomes zeros.
 #[inline(always)]
 pub(crate) fn remove_each<A: Allocator>(
@@ -87,7 +90,7 @@ fn shift_up(bytes: &mut [u8], to: usize, from: usize, size: usize)
     requires { (from < to) × (to + size ≤ length bytes.old) }
     ensures { bytes.new ≡ over to size bytes.old (take size (drop from bytes.old)) }
 {
-    let gap = to - from;
+    let gap = (to - from).min(RUN);
     let mut left = size;
     while 0 < left {
         let run = left.min(gap);
@@ -100,7 +103,7 @@ fn shift_down(bytes: &mut [u8], to: usize, from: usize, size: usize)
     requires { (to < from) × (from + size ≤ length bytes.old) }
     ensures { bytes.new ≡ over to size bytes.old (take size (drop from bytes.old)) }
 {
-    let gap = from - to;
+    let gap = (from - to).min(RUN);
     let mut done = 0;
     while done < size {
         let run = (size - done).min(gap);
