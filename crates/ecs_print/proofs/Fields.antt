@@ -1,7 +1,6 @@
 -- The numbers of a value as they are printed, one field more at a time, from the last on.
-use Rattle.std.specs.Prelude.{◌≡◌, ℕ, zero, suc, ◌+◌, ◌-◌, ◌^◌, ◌<◌, ◌≤◌, Bool, true, false, ◌&&◌, ℤ, pos, negsuc, int_le, unsigned_abs, IsTrue, List, [], ◌∷◌, ◌++◌, flat_map, drop, length, slice_get, codes, Option, Some, None, Result, Ok, Err, OnOk, is_ok, if◌then◌else◌}
+use Rattle.std.specs.Prelude.{◌≡◌, ℕ, zero, suc, ◌+◌, ◌^◌, ◌<◌, ◌≤◌, Bool, true, false, ◌&&◌, ℤ, pos, negsuc, int_le, unsigned_abs, IsTrue, List, [], ◌∷◌, ◌++◌, flat_map, drop, length, slice_get, Some, Result, Ok, Err, OnOk, is_ok, if◌then◌else◌}
 use Rattle.std.specs.Fmt.{decimal, signed_decimal}
-use Rattle.std.specs.List.{list_all, zip}
 use Rattle.std.proofs.Common.{refl, ap, sym, ◌∙◌, append-nil, arith}
 use Rattle.std.proofs.lemmas.Bool.Decides.{nat_tests}
 use Rattle.std.proofs.lemmas.Fmt.{length-decimal-le}

@@ -1,5 +1,5 @@
 -- The facts of an entity as they are printed, from the bytes of their values.
-use Rattle.std.specs.Prelude.{◌≡◌, ℕ, ℤ, codes, zero, suc, ◌+◌, ◌<◌, ◌≤◌, Bool, true, false, List, [], ◌∷◌, ◌++◌, flat_map, take, map, length, slice_get, if◌then◌else◌, IfSome, IsTrue, Option, Some, None, option_map}
+use Rattle.std.specs.Prelude.{◌≡◌, ℕ, codes, zero, suc, ◌+◌, ◌≤◌, Bool, true, false, List, [], ◌∷◌, ◌++◌, flat_map, take, length, slice_get, if◌then◌else◌, IfSome, IsTrue, Option, Some, None, option_map}
 use Rattle.std.specs.Option.{option_or}
 use Rattle.std.specs.Ordering.{nat_cmp}
 use Rattle.std.proofs.Common.{refl, ap, sym, ◌∙◌, add-one, append-nil, arith}
@@ -7,8 +7,6 @@ use Rattle.std.proofs.Math.Seq.{take-suc}
 use Rattle.std.proofs.lemmas.List.{flat_map_more}
 use Rattle.std.proofs.lemmas.Option.{get_or_from_slice_get, slice_get_within}
 use Rattle.ecs_id.specs.Id.{Id, plain, pair, id_cmp}
-use Rattle.ecs_model.specs.declared.faults.SchemaFault.{SchemaFault}
-use Rattle.ecs_model.specs.Bytes.{size_of}
 use Rattle.ecs_model.specs.Keeps.{IsWellFormed}
 use Rattle.ecs_model.specs.Map.{keys, value_at}
 use Rattle.ecs_model.specs.Output.{fact_text}
@@ -16,7 +14,7 @@ use Rattle.ecs_model.specs.Print.{id_text, value_text}
 use Rattle.ecs_model.specs.Schema.{Schema, schema_fault, width}
 use Rattle.ecs_model.specs.declared.Kind.{Kind}
 use Rattle.ecs_model.specs.declared.Kind.TheVariants.{I8, U8, I16, U16, I32, U32, I64, U64}
-use Rattle.ecs_model.specs.World.{WorldState, holds, ids_of, is_live, pair_is_tag, type_of_id, value_of}
+use Rattle.ecs_model.specs.World.{WorldState, holds, ids_of, is_live, pair_is_tag, type_of_id}
 use Rattle.ecs_schema.proofs.Packed.{size_of-first}
 use Rattle.ecs_world.specs.Holdings.{Cells}
 use Rattle.ecs_world.specs.State.{AreFactsOf, byte_count, value_in}

@@ -1,5 +1,4 @@
 -- A fact more at each turn.
-use Rattle.std.proofs.Common.{sym, ◌∙◌}
 use Rattle.ecs_model.proofs.Maps.{of_some}
 use Rattle.ecs_world.specs.State.{AreFactsOf}
 use Rattle.ecs_print.proofs.Held.{fact_more}
