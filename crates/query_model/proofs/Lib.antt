@@ -3,5 +3,6 @@ mod Sound
 pub mod SyntaxFaults
 pub mod FirstOccurrence
 pub mod Order
+pub mod SoundTerms
 pub mod Spelling
 mod Computed

@@ -15,3 +15,4 @@ pub mod Query
 pub mod FirstOccurrence
 pub mod Observers
 pub mod Local
+pub mod Sound

@@ -2,6 +2,7 @@
 
 ghost use Rattle.query_model.specs.FirstOccurrence.{FirstSuffices, FirstSufficesInTexts, VariablesAscend};
 ghost use Rattle.query_model.specs.Laws.{OneSpelling, OneSyntax, PartsAreGrammatical, TokensAreSpelled};
+ghost use Rattle.query_model.specs.Sound.{TermsAreSound};
 
 /// Law: a text spells at most one list of tokens.
 pub fn a_text_spells_at_most_one_token_list()
@@ -33,4 +34,10 @@ pub fn the_variables_of_a_text_ascend()
 pub fn a_variable_is_told_at_its_first_occurrence()
     ensures of_texts { FirstSufficesInTexts }
     ensures of_parts { FirstSuffices }
+{}
+
+/// Law: in a checked query no source and no side of an equality is a wildcard, and a term that follows its relationship as transitive or
+/// reflexive follows a name, to an entity or a variable, and asks no ancestors.
+pub fn terms_of_a_checked_query_are_sound()
+    ensures { TermsAreSound }
 {}
