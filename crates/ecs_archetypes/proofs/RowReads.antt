@@ -1,19 +1,20 @@
 -- What is read of an entity's row.
-use Rattle.std.proofs.Common.{◌≡◌, ◌<◌, ℕ, Bool, true, false, cond, ◌||◌, List, [], ◌∷◌, map, length, Option, Some, None, option_map, unwrap_or, is_some, refl, sym, ap, subst, ◌∙◌}
+use Rattle.std.proofs.Common.{◌≡◌, ◌<◌, ℕ, zero, suc, Bool, true, false, cond, ◌||◌, List, [], ◌∷◌, map, length, Option, Some, None, option_map, unwrap_or, is_some, refl, sym, ap, subst, ◌∙◌, get_or, arith}
 use Rattle.std.proofs.lemmas.List.{length-map}
 use Rattle.std.proofs.lemmas.Option.{slice_get_within}
-use Rattle.std.specs.List.{list_any}
+use Rattle.std.proofs.Math.Bool.{or-true}
+use Rattle.std.specs.List.{list_any, slice_get}
 use Rattle.std.specs.Ordering.{nat_cmp}
 use Rattle.std.specs.FinMap.Entries.{find}
 use Rattle.ecs_id.specs.declared.EntityId.{EntityId}
 use Rattle.ecs_id.specs.declared.Place.{Place}
-use Rattle.ecs_id.specs.Id.{Id, id_cmp, id_eq, id_eq_same, id_eq_turned}
+use Rattle.ecs_id.specs.Id.{Id, id_cmp, id_eq, id_eq_itself, id_eq_same, id_eq_turned}
 use Rattle.ecs_model.specs.Map.{keys}
 use Rattle.ecs_table.specs.Archetype.{Archetype, value_of}
 use Rattle.entity_index.specs.Entities.{Entities, is_alive, place_of}
 use Rattle.entity_index.specs.Entities as index
 use Rattle.ecs_archetypes.specs.Archetypes.{IsSound, cells_there, meaning}
-use Rattle.ecs_archetypes.specs.Holdings.{Holdings, bytes_at, cells_at, held_at, holds_id, lives}
+use Rattle.ecs_archetypes.specs.Holdings.{Cells, Holdings, bytes_at, cells_at, held_at, holds_id, lives}
 use Rattle.table_store.specs.Rows.{Row, cells_of, row_at}
 use Rattle.table_store.specs.Store.{Store, table_at}
 use Rattle.ecs_archetypes.proofs.Placings.{content}
@@ -46,6 +47,42 @@ module _ (t : Archetype) (r : ℕ) (i : Id) (ids : List Id) (same : ids ≡ t.id
 
   pub value_listed : b ≡ true → (o : Option (List ℕ)) → value_of t r i ≡ o → Some (unwrap_or o []) ≡ find id_cmp i (cells_of t r)
   value_listed within o e = sym (found_by ∙ ap (λ z. cond z (Some (unwrap_or (value_of t r i) [])) None) within ∙ ap (λ z. Some (unwrap_or z [])) e)
+
+-- the id at a place of a row
+at_place : (ids : List Id) (k : ℕ) (i : Id) → k < length ids → i ≡ get_or ids k i → slice_get ids k ≡ Some i
+at_place [] k i h e = absurd (omega arith)
+at_place (j ∷ ids) zero i h e = ap Some (sym e)
+at_place (j ∷ ids) (suc k) i h e = at_place ids k i (omega arith) e
+
+pub id_at : (t : Archetype) (r : ℕ) (ids : List Id) → ids ≡ t.ids → (cells : Cells) → cells_of t r ≡ cells → (k : ℕ) (i : Id) → k < length cells → i ≡ get_or ids k i → slice_get t.ids k ≡ Some i
+id_at t r ids same cells view k i h e =
+    let count : length t.ids ≡ length cells = ap (λ z. length z) (sym (keys_cells t r)) ∙ length-map (cells_of t r) (λ c. c.0) ∙ ap (λ z. length z) view in
+    let within : k < length ids = rw same (rw count h) in
+    ap (λ z. slice_get z k) (sym same) ∙ at_place ids k i within e
+
+abbrev cell : Id → List ℕ → Id × List ℕ
+cell i bytes = (i, bytes)
+
+-- the cell at a place of a row
+pub cell_at : (t : Archetype) (r k : ℕ) (i : Id) (o : Option (List ℕ)) → slice_get t.ids k ≡ Some i → value_of t r i ≡ o
+    → (slice_get (cells_of t r) k ≡ Some (cell i (unwrap_or o []))) × (find id_cmp i (cells_of t r) ≡ Some (unwrap_or o []))
+cell_at t r k i o at is = (made t.ids k at ∙ here, find_made g i t.ids ∙ ap (λ b. cond b (Some (g i)) None) (among t.ids k at) ∙ ap (λ z. Some (unwrap_or z [])) is)
+  where
+    g : Id → List ℕ
+    g i = unwrap_or (value_of t r i) []
+
+    here : Some (cell i (g i)) ≡ Some (cell i (unwrap_or o []))
+    here = ap (λ z. Some (cell i (unwrap_or z []))) is
+
+    made : (ids : List Id) (k : ℕ) → slice_get ids k ≡ Some i → slice_get (map (λ i. cell i (g i)) ids) k ≡ Some (cell i (g i))
+    made [] k h = cc
+    made (j ∷ ids) zero h = let same : j ≡ i = cc in ap (λ z. Some (cell z (g z))) same
+    made (j ∷ ids) (suc k) h = made ids k h
+
+    among : (ids : List Id) (k : ℕ) → slice_get ids k ≡ Some i → list_any (λ j. id_eq j i) ids ≡ true
+    among [] k h = cc
+    among (j ∷ ids) zero h = let same : j ≡ i = cc in ap (λ b. b || list_any (λ j. id_eq j i) ids) (ap (λ z. id_eq z i) same ∙ id_eq_itself i)
+    among (j ∷ ids) (suc k) h = ap (λ b. id_eq j i || b) (among ids k h) ∙ or-true (id_eq j i)
 
 some_of_cond : {X : Type 0} (b : Bool) (x : X) → is_some (cond b (Some x) None) ≡ b
 some_of_cond true x = refl
@@ -107,6 +144,9 @@ module _ (w : Entities) (s : Store) (sound : IsSound w s) (h : Holdings) (view :
       pub ids_read : Some t.ids ≡ cond (lives h e) (option_map (λ c. keys c) (cells_at h e.index)) None
       ids_read = sym (ap (λ b. cond b (option_map (λ c. keys c) (cells_at h e.index)) None) (lives_there e (placed_alive w e p at)) ∙ ap (option_map (λ c. keys c)) cells_read ∙ ap Some (keys_cells t p.row))
 
+      pub facts_read : Some (cells_of t p.row) ≡ cond (lives h e) (cells_at h e.index) None
+      facts_read = sym (ap (λ b. cond b (cells_at h e.index) None) (lives_there e (placed_alive w e p at)) ∙ cells_read)
+
       held_cells : held_at h e.index ≡ cells_of t p.row
       held_cells = ap (λ o. unwrap_or o []) cells_read
 
@@ -121,4 +161,11 @@ module _ (w : Entities) (s : Store) (sound : IsSound w s) (h : Holdings) (view :
     where
       by : (b : Bool) → lives h e ≡ b → None ≡ cond b (option_map (λ c. keys c) (cells_at h e.index)) None
       by true a = sym (ap (option_map (λ c. keys c)) (cells_view w s sound h view e a ∙ ap (content (row_at s)) none))
+      by false a = refl
+
+  pub no_facts : (e : EntityId) → place_of w e ≡ None → None ≡ cond (lives h e) (cells_at h e.index) None
+  no_facts e none = by (lives h e) refl
+    where
+      by : (b : Bool) → lives h e ≡ b → None ≡ cond b (cells_at h e.index) None
+      by true a = sym (cells_view w s sound h view e a ∙ ap (content (row_at s)) none)
       by false a = refl

@@ -6,6 +6,7 @@ ghost use Rattle.entity_index.specs.Entities.{place_of};
 ghost use Rattle.ecs_archetypes.specs.Holdings.{AreHoldings, bytes_at, cells_at, entity_at, live_entities, lives, upcoming};
 ghost use Rattle.ecs_archetypes.specs.Housing.{IsHoused, holdings_of};
 
+use crate::entity_facts::EntityFacts;
 use crate::rows::value_in;
 use crate::{Archetypes, Graph};
 use ecs_id::{EntityId, Id, TableKey};
@@ -30,6 +31,15 @@ impl<A: Allocator> Archetypes<A> {
         let place = self.entities.place(entity)?;
         let table = self.tables.get(place.table)?;
         Some(table.ids())
+    }
+
+    /// The facts of a settled entity.
+    pub fn facts(&self, entity: EntityId) -> Option<EntityFacts<'_, A>>
+        ensures { result ≡ (if lives (holdings_of self.now) entity then cells_at (holdings_of self.now) entity.index else None) }
+    {
+        let place = self.entities.place(entity)?;
+        let table = self.tables.get(place.table)?;
+        Some(EntityFacts::new(table, place.row))
     }
 
     /// The bytes of the value of an id that the entity of an index holds: none for a tag.

@@ -19,17 +19,16 @@ use Rattle.ecs_model.specs.Command.{Command, IsCommand, Fresh, Entity, Component
 use Rattle.ecs_model.specs.Command as model
 use Rattle.ecs_model.proofs.Answering.{effect_well_formed}
 use Rattle.ecs_model.proofs.Differences.{last_value}
-use Rattle.ecs_model.proofs.Maps.{key_cmp_total, of_some}
+use Rattle.ecs_model.proofs.Maps.{both_true, key_cmp_total, of_some}
 use Rattle.ecs_model.proofs.Removals.{removes_held_alone}
 use Rattle.name_index.specs.Names.{IsUnnamed, Names}
-use Rattle.ecs_world.specs.Holdings.{AreHoldings, HoldAlike, Holdings, KeepsSizes, Sizes, agrees, cells_at, held_at, holds_id, lives, place_in, upcoming, with_cells, with_entity}
+use Rattle.ecs_archetypes.specs.Holdings.{AreHoldings, HoldAlike, Holdings, KeepsSizes, Sizes, agrees, cells_at, held_at, holds_id, is_settled, lives, upcoming, with_cells, with_entity}
 use Rattle.ecs_world.specs.State.{IsWorld, Parts, parts_of, byte_count, is_known_rightly, state_of, type_of, value_in}
-use Rattle.ecs_world.proofs.ArchetypeCalls.{placed_lives}
 use Rattle.ecs_world.proofs.Births.{birth_left, component_known, effect-component, effect-entity, effect-fresh, none_live, other_schemas, state_component, state_fresh, state_named, tags_empty, tags_tagged}
 use Rattle.ecs_world.proofs.Judged.{CanBear, CanChange, add_of_set, judged-add, judged-remove}
 use Rattle.ecs_world.proofs.Left.{cells_left, effect-add, effect-remove, effect-set, facts_held, facts_new, held_world, recounted, state_gone, state_put, tags_gone, tags_put, there}
 use Rattle.ecs_world.proofs.NameLists.{AreNamed-bound, AreNamed-same, unnamed}
-use Rattle.ecs_world.proofs.States.{AreNamed-world, holds_is, ids_is, nowhere_dead, size_agrees, state_alike, type_is, world_alike, zeros_are_new}
+use Rattle.ecs_world.proofs.States.{AreNamed-world, holds_is, ids_is, unsettled_dead, size_agrees, state_alike, type_is, world_alike, zeros_are_new}
 
 pub refuted : (b : Bool) → not b ≡ true → b ≡ false
 refuted true h = absurd (true≢false (sym h))
@@ -98,11 +97,11 @@ module _ {parts : Parts} (world : IsWorld parts) {v : WorldState} (is : state_of
 
   -- what was found of an entity
   module _ (e : EntityId) where
-    pub found_alive : (p : Place) → place_in h e ≡ Some p → is_alive v e ≡ true
-    found_alive p at = ap (λ u. is_alive u e) (sym is) ∙ placed_lives h e p at
+    pub found_alive : true ≡ is_settled h e → is_alive v e ≡ true
+    found_alive settled = ap (λ u. is_alive u e) (sym is) ∙ (both_true (lives h e) (is_some (cells_at h e.index)) (sym settled)).0
 
-    pub found_dead : place_in h e ≡ None → is_alive v e ≡ false
-    found_dead none = ap (λ u. is_alive u e) (sym is) ∙ nowhere_dead world e none
+    pub found_dead : false ≡ is_settled h e → is_alive v e ≡ false
+    found_dead unsettled = ap (λ u. is_alive u e) (sym is) ∙ unsettled_dead world e unsettled
 
     pub found_held : (i : Id) (b : Bool) → b ≡ holds_id h e.index i → b ≡ holds v e.index i
     found_held i b held = held ∙ sym (holds_is world e.index i) ∙ ap (λ u. holds u e.index i) is

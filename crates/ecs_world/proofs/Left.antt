@@ -18,7 +18,7 @@ use Rattle.ecs_model.proofs.Maps.{key_cmp_same, keys-with_value}
 use Rattle.ecs_model.proofs.Additions.{not_spent}
 use Rattle.ecs_model.proofs.Answering.{effect_well_formed}
 use Rattle.name_index.specs.Names.{Names}
-use Rattle.ecs_world.specs.Holdings.{AreHoldings, Cells, HoldAlike, Holdings, KeepsSizes, Sizes, cells_at, held_at, holds_id, with_cells}
+use Rattle.ecs_archetypes.specs.Holdings.{AreHoldings, Cells, HoldAlike, Holdings, KeepsSizes, Sizes, cells_at, held_at, holds_id, with_cells}
 use Rattle.ecs_world.specs.State.{IsWorld, Parts, parts_of, all_facts, byte_count, is_known_rightly, names_of, state_of, type_of, value_in}
 use Rattle.ecs_world.proofs.Entities.{generation_of}
 use Rattle.ecs_world.proofs.Facts.{bytes_in}

@@ -13,12 +13,3 @@ pub mod Accepted
 pub mod Told
 pub mod Bound
 pub mod Ordered
-pub mod Placings
-pub mod MapLists
-pub mod Known
-pub mod Soundness
-pub mod RowChanges
-pub mod FirstHoldings
-pub mod Carried
-pub mod ArchetypeCalls
-pub mod RowReads

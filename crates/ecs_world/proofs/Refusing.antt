@@ -11,7 +11,7 @@ use Rattle.ecs_model.specs.Keeps.{IsWellFormed}
 use Rattle.ecs_model.specs.Map.{value_at}
 use Rattle.ecs_model.specs.World.{WorldState, holds, ids_of, is_alive, is_live, type_of_id}
 use Rattle.ecs_model.specs.Command.{Add, SetValue, reasons, is_dead, is_spent, changes_built_in, add_reasons, value_reasons}
-use Rattle.ecs_world.specs.declared.archetypes.Found.{Found}
+use Rattle.ecs_archetypes.specs.declared.facts.Found.{Found}
 use Rattle.ecs_world.specs.State.{growth_reasons}
 use Rattle.ecs_world.proofs.Crowding.{crowds}
 use Rattle.ecs_world.proofs.Entities.{generation_of}

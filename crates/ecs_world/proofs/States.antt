@@ -15,7 +15,7 @@ use Rattle.ecs_model.specs.World.{WorldState, pair_is_tag, holds, value_of, ids_
 use Rattle.ecs_model.proofs.Maps.{of_some, some_of, both_true}
 use Rattle.ecs_schema.proofs.Meaning.{values_in-zeros}
 use Rattle.name_index.specs.Names.{Names}
-use Rattle.ecs_world.specs.Holdings.{AreHoldings, Cells, HoldAlike, Holdings, KeepsSizes, Sizes, agrees, bytes_at, cells_at, entity_at, held_at, holds_id, lives, place_in, sizes_of}
+use Rattle.ecs_archetypes.specs.Holdings.{AreHoldings, Cells, HoldAlike, Holdings, KeepsSizes, Sizes, agrees, bytes_at, cells_at, entity_at, held_at, holds_id, is_settled, lives, sizes_of}
 use Rattle.ecs_world.specs.State.{AreFactsOf, IsWorld, Parts, parts_of, byte_count, is_known_rightly, name_in, state_of, type_in, type_of, value_in}
 use Rattle.ecs_world.proofs.Entities.{generation_of}
 use Rattle.ecs_world.proofs.Facts.{find-facts, ids-facts}
@@ -124,14 +124,14 @@ module _ {parts : Parts} (world : IsWorld parts) where
       none None p = refl
       none (Some c) p = absurd (true≢false p)
 
-  -- what has no place is not alive
-  pub nowhere_dead : (e : EntityId) → place_in h e ≡ None → lives h e ≡ false
-  nowhere_dead e none = by (lives h e) refl none
+  -- what is not settled is not alive
+  pub unsettled_dead : (e : EntityId) → false ≡ is_settled h e → lives h e ≡ false
+  unsettled_dead e not_settled = by (lives h e) refl not_settled
     where
-      by : (b : Bool) → lives h e ≡ b → (if b then value_at nat_cmp h.places e.index else None) ≡ None → b ≡ false
+      by : (b : Bool) → lives h e ≡ b → false ≡ (b && is_some (cells_at h e.index)) → b ≡ false
       by true alive gone =
           let settled = settled_at e.index (ap is_some (generation_of (value_at nat_cmp h.live e.index) e.generation alive)) in
-          absurd (true≢false (sym (same_keys h.places h.cells e.index (world.whole).placed ∙ ap is_some settled.1) ∙ ap is_some gone))
+          absurd (true≢false (sym (ap is_some settled.1) ∙ sym gone))
       by false dead gone = refl
 
   -- what is held has the size of its type, and mentions live entities
@@ -218,7 +218,7 @@ module _ {parts : Parts} (world : IsWorld parts) where
 
 -- the same in other tables is one state
 pub state_alike : (g h : Holdings) (names : Names) (schemas : Map ℕ Schema) (accepted : ℕ) → HoldAlike g h → state_of (parts_of g names schemas accepted) ≡ state_of (parts_of h names schemas accepted)
-state_alike g h names schemas accepted alike = λ k. state_of (parts_of (record { live = alike.live k; deletions = alike.deletions k; cells = alike.cells k; places = []; known = [] }) names schemas accepted)
+state_alike g h names schemas accepted alike = λ k. state_of (parts_of (record { live = alike.live k; deletions = alike.deletions k; cells = alike.cells k; known = [] }) names schemas accepted)
 
 -- a world whose entities hold the same in other tables
 pub world_alike : (g h : Holdings) (names : Names) (schemas : Map ℕ Schema) (accepted : ℕ) (added : Sizes) → IsWorld (parts_of h names schemas accepted) → AreHoldings g → HoldAlike g h

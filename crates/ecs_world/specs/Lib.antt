@@ -1,5 +1,2 @@
 pub mod BuiltIn
-pub mod Holdings
 pub mod State
-pub mod Archetypes
-pub mod Placings

@@ -19,8 +19,8 @@ use Rattle.ecs_model.specs.declared.faults.CommandError.TheVariants.{Refused, Me
 use Rattle.ecs_model.specs.World.{WorldState, Key, holds, ids_of, most_ids, pair_is_tag, type_of_id, value_of}
 use Rattle.ecs_model.specs.Command.{Changed}
 use Rattle.name_index.specs.Names.{Names, IsOneToOne, entity_eq}
-use Rattle.ecs_world.specs.declared.archetypes.Found.{Found}
-use Rattle.ecs_world.specs.Holdings.{AreHoldings, Cells, Holdings, holds_id, lives}
+use Rattle.ecs_archetypes.specs.declared.facts.Found.{Found}
+use Rattle.ecs_archetypes.specs.Holdings.{AreHoldings, Cells, Holdings, holds_id, lives}
 
 -- the fields of an id's values, by the components' fields and by whether a relationship keeps its pairs without data
 abbrev pub type_in : Map ℕ Schema → (ℕ → Bool) → Id → Option Schema

@@ -2,12 +2,13 @@
 
 ghost use Rattle.std.specs.Prelude.{◌≡◌, ◌+◌, ◌<◌, IfOk, OnOk, IsTrue, map};
 ghost use Rattle.std.specs.List.{list_all};
+ghost use Rattle.ecs_archetypes.specs.Housing.{holdings_of};
 ghost use Rattle.ecs_id.specs.Id.{id_cmp};
 ghost use Rattle.ecs_model.specs.Map.{IsMap};
 ghost use Rattle.ecs_model.specs.World.{built_in_names};
 ghost use Rattle.ecs_world.specs.BuiltIn.{AreFirstNames, IsSettled, is_first_tag, tags_of};
 
-use crate::archetypes::Archetypes;
+use ecs_archetypes::Archetypes;
 use ecs_id::{EntityId, Id};
 use ecs_model::LAST_BUILT_IN;
 use name_index::NameIndex;
@@ -71,10 +72,13 @@ const DELETE: u32 = 17;
 const ON_INSTANTIATE: u32 = 19;
 
 /// The built-in entities, each in its table.
-pub(crate) fn archetypes<A: Allocator + Copy>(alloc: A) -> Result<Archetypes<A>, Memory>
-    ensures { IfOk result (λ a. IsSettled a 22) }
+pub(crate) fn archetypes<A: Allocator + Copy>(
+    alloc: A,
+    random: RandomState,
+) -> Result<Archetypes<A>, Memory>
+    ensures { IfOk result (λ a. IsSettled (holdings_of a) 22) }
 {
-    let mut archetypes = Archetypes::new(alloc)?;
+    let mut archetypes = Archetypes::new(alloc, random)?;
     for settled in 0..LAST_BUILT_IN {
         settle(&mut archetypes, settled)?;
     }
@@ -84,8 +88,8 @@ pub(crate) fn archetypes<A: Allocator + Copy>(alloc: A) -> Result<Archetypes<A>,
 /// Puts the next built-in entity into its table, after so many.
 fn settle<A: Allocator + Copy>(archetypes: &mut Archetypes<A>, settled: u32) -> Result<(), Memory>
     requires few { settled < 22 }
-    requires before { IsSettled archetypes.old settled }
-    ensures { OnOk result (IsSettled archetypes.new (settled + 1)) }
+    requires before { IsSettled (holdings_of archetypes.old) settled }
+    ensures { OnOk result (IsSettled (holdings_of archetypes.new) (settled + 1)) }
 {
     let exclusive = SizedId::tag(Id::plain(EXCLUSIVE));
     let acyclic = SizedId::tag(Id::plain(ACYCLIC));
@@ -134,11 +138,11 @@ fn put<A: Allocator + Copy>(
     ids: &[SizedId],
 ) -> Result<(), Memory>
     requires few { settled < 22 }
-    requires before { IsSettled archetypes.old settled }
+    requires before { IsSettled (holdings_of archetypes.old) settled }
     requires tags { ids.now ≡ tags_of (settled + 1) }
     requires ascend { IsMap id_cmp ids.now }
     requires first { IsTrue (list_all is_first_tag ids.now) }
-    ensures { OnOk result (IsSettled archetypes.new (settled + 1)) }
+    ensures { OnOk result (IsSettled (holdings_of archetypes.new) (settled + 1)) }
 {
     let entity = EntityId {
         index: settled + 1,

@@ -29,21 +29,18 @@
 ghost use Rattle.std.specs.Prelude.{◌≡◌, IfOk};
 ghost use Rattle.ecs_model.specs.World.{first_world};
 
-mod archetypes;
 mod birth_commands;
 mod built_in;
 mod changes;
-mod entity_facts;
 mod fact_commands;
 mod readers;
 mod refusals;
-mod rows;
 
-use archetypes::Archetypes;
 pub use changes::Changes;
+use ecs_archetypes::Archetypes;
+pub use ecs_archetypes::EntityFacts;
 pub use ecs_model::FactKey;
 use ecs_schema::Schema;
-pub use entity_facts::EntityFacts;
 use name_index::NameIndex;
 pub use raw_column::Memory;
 use std::alloc::{Allocator, Global};
@@ -63,25 +60,26 @@ pub struct World<A: Allocator = Global> {
 }
 
 impl<A: Allocator> Model for World<A> {
+    ghost use Rattle.ecs_archetypes.specs.Housing.{holdings_of};
     ghost use Rattle.ecs_model.specs.World.{WorldState};
     ghost use Rattle.ecs_world.specs.State.{IsWorld, parts_of, state_of};
 
     ghost Value = { WorldState };
 
-    ghost view = { λ w. state_of (parts_of w.archetypes w.names w.schemas.entries w.accepted) };
+    ghost view = { λ w. state_of (parts_of (holdings_of w.archetypes) w.names w.schemas.entries w.accepted) };
 
-    ghost invariant = { λ w. IsWorld (parts_of w.archetypes w.names w.schemas.entries w.accepted) };
+    ghost invariant = { λ w. IsWorld (parts_of (holdings_of w.archetypes) w.names w.schemas.entries w.accepted) };
 }
 
 impl<A: Allocator + Copy> World<A> {
     /// The world before any command: the built-in entities and their facts.
     ///
-    /// The names are hashed with these random keys, so that nobody can choose names that make look-ups slow.
+    /// Names, ids and tables are hashed with these random keys, so that nobody can choose any that make look-ups slow.
     pub fn new(alloc: A, random: RandomState) -> Result<Self, Memory>
         ensures { IfOk result (λ w. w ≡ first_world) }
     {
         Ok(World {
-            archetypes: built_in::archetypes(alloc)?,
+            archetypes: built_in::archetypes(alloc, random)?,
             names: built_in::names(alloc, random)?,
             schemas: BTreeMap::new(alloc),
             accepted: 0,

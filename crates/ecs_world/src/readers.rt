@@ -11,7 +11,7 @@ ghost use Rattle.ecs_world.specs.State.{AreFactsOf, byte_count, value_in};
 
 use crate::World;
 use crate::built_in::PAIR_IS_TAG;
-use crate::entity_facts::EntityFacts;
+use ecs_archetypes::EntityFacts;
 use ecs_id::{EntityId, Id};
 use ecs_model::Value;
 use ecs_schema::Schema;

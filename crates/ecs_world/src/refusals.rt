@@ -10,7 +10,7 @@ ghost use Rattle.ecs_model.specs.World.{holds, ids_of, is_alive, is_built_in, is
 ghost use Rattle.ecs_world.specs.State.{IsEncoded, growth_reasons};
 
 use crate::World;
-use crate::archetypes::Found;
+use ecs_archetypes::Found;
 use ecs_id::{EntityId, Id};
 use ecs_model::faults::Refusal;
 use ecs_model::{LAST_BUILT_IN, MOST_IDS, is_name};

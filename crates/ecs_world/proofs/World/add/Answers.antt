@@ -1,4 +1,5 @@
 use Rattle.std.proofs.Common.{[], ◌∷◌, refl, sym, ap, ◌∙◌, arith, if◌then◌else◌}
+use Rattle.ecs_archetypes.specs.Housing.{holdings_of}
 use Rattle.ecs_model.specs.declared.faults.Refusal.TheVariants.{Dead}
 use Rattle.ecs_model.specs.Command.{Add, with_facts}
 use Rattle.ecs_model.proofs.Additions.{not_spent}
@@ -12,7 +13,7 @@ use Rattle.ecs_world.proofs.Told.{told_add}
 use Rattle.ecs_world.proofs.World.add.Goals as goal
 
 pub returns-in_default : goal.returns-in_default
-returns-in_default g c = (step-refused c.args.self.now (Add c.args.entity c.args.id) Dead (sym (add_dead c.args.self.now c.args.entity c.args.id (entity_dead c.args.self.now c.args.entity c.args.id (found_dead c.self.invariant c.self.view_is c.args.entity (sym c.in_default.ensures.place))))), refl)
+returns-in_default g c = (step-refused c.args.self.now (Add c.args.entity c.args.id) Dead (sym (add_dead c.args.self.now c.args.entity c.args.id (entity_dead c.args.self.now c.args.entity c.args.id (found_dead c.self.invariant c.self.view_is c.args.entity (c.in_default.ensures.settled))))), refl)
 
 pub add_refusal-requires-clause-held : goal.add_refusal-requires-clause-held
 add_refusal-requires-clause-held g c = found_held c.self.invariant c.self.view_is c.args.entity c.args.id c.in-Some.found.is_held c.in-Some.ensures.held
@@ -41,11 +42,11 @@ add-requires-clause-agree g c = size_there c.self.invariant c.self.view_is c.arg
 
 pub invariant_of-self-then-is_err : goal.invariant_of-self-then-is_err
 invariant_of-self-then-is_err g c = (failed c.self.invariant c.self.view_is ((c.args.id, c.size_of-size.result) ∷ []) (fits_there c.self.invariant c.self.view_is c.args.entity c.args.id (judged-add c.args.self.now c.args.entity c.args.id (sym c.in_default-add_refusal.ensures)) c.size_of-size.result c.size_of-size.ensures.value)
-    c.add.new.self c.add.ensures.whole (on_err c.add.result c.add.ensures.err (sym c.is_err.ensures.value ∙ c.if-is_err.true)) c.add.ensures.sizes).0
+    (holdings_of c.add.new.self) c.add.ensures.holdings (on_err c.add.result c.add.ensures.refused (sym c.is_err.ensures.value ∙ c.if-is_err.true)) c.add.ensures.sizes).0
 
 pub returns-then-is_err : goal.returns-then-is_err
 returns-then-is_err g c = (failed c.self.invariant c.self.view_is ((c.args.id, c.size_of-size.result) ∷ []) (fits_there c.self.invariant c.self.view_is c.args.entity c.args.id (judged-add c.args.self.now c.args.entity c.args.id (sym c.in_default-add_refusal.ensures)) c.size_of-size.result c.size_of-size.ensures.value)
-    c.add.new.self c.add.ensures.whole (on_err c.add.result c.add.ensures.err (sym c.is_err.ensures.value ∙ c.if-is_err.true)) c.add.ensures.sizes).1
+    (holdings_of c.add.new.self) c.add.ensures.holdings (on_err c.add.result c.add.ensures.refused (sym c.is_err.ensures.value ∙ c.if-is_err.true)) c.add.ensures.sizes).1
 
 pub overflow_add-self-2 : goal.overflow_add-self-2
 overflow_add-self-2 g c =
@@ -53,11 +54,11 @@ overflow_add-self-2 g c =
     omega (arith, not_spent c.self.inside.accepted spent)
 
 pub invariant_of-self-2 : goal.invariant_of-self-2
-invariant_of-self-2 g c = (added_left c.self.invariant c.self.view_is c.args.entity c.args.id (sym c.in_default-add_refusal.ensures) c.add.new.self c.size_of-size.result c.add.ensures.whole c.size_of-size.ensures.value (sym (found_held c.self.invariant c.self.view_is c.args.entity c.args.id c.in-Some.found.is_held c.in-Some.ensures.held) ∙ c.if-found.false)
+invariant_of-self-2 g c = (added_left c.self.invariant c.self.view_is c.args.entity c.args.id (sym c.in_default-add_refusal.ensures) (holdings_of c.add.new.self) c.size_of-size.result c.add.ensures.holdings c.size_of-size.ensures.value (sym (found_held c.self.invariant c.self.view_is c.args.entity c.args.id c.in-Some.found.is_held c.in-Some.ensures.held) ∙ c.if-found.false)
     (on_ok c.add.result c.add.ensures.added (sym c.is_err.ensures.value ∙ c.if-is_err.false)) c.add.ensures.sizes).0
 
 pub returns : goal.returns
 returns g c = told_add c.args.self.now _ c.with_came.result c.args.entity c.args.id (sym c.in_default-add_refusal.ensures)
-    (added_left c.self.invariant c.self.view_is c.args.entity c.args.id (sym c.in_default-add_refusal.ensures) c.add.new.self c.size_of-size.result c.add.ensures.whole c.size_of-size.ensures.value (sym (found_held c.self.invariant c.self.view_is c.args.entity c.args.id c.in-Some.found.is_held c.in-Some.ensures.held) ∙ c.if-found.false)
+    (added_left c.self.invariant c.self.view_is c.args.entity c.args.id (sym c.in_default-add_refusal.ensures) (holdings_of c.add.new.self) c.size_of-size.result c.add.ensures.holdings c.size_of-size.ensures.value (sym (found_held c.self.invariant c.self.view_is c.args.entity c.args.id c.in-Some.found.is_held c.in-Some.ensures.held) ∙ c.if-found.false)
     (on_ok c.add.result c.add.ensures.added (sym c.is_err.ensures.value ∙ c.if-is_err.false)) c.add.ensures.sizes).1
     (c.with_came.ensures ∙ (λ k. record (c.none-2.ensures k) { came = c.new-key.ensures k ∷ [] }) ∙ ap (λ b. record no_change { came = if b then [] else (c.args.entity.index, c.args.id) ∷ [] }) (sym (sym (found_held c.self.invariant c.self.view_is c.args.entity c.args.id c.in-Some.found.is_held c.in-Some.ensures.held) ∙ c.if-found.false)))

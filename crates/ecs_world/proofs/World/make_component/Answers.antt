@@ -1,10 +1,11 @@
 use Rattle.std.proofs.Common.{[], ◌∷◌, is_some, refl, sym, ap, subst, ◌∙◌, arith}
+use Rattle.ecs_archetypes.specs.Housing.{holdings_of}
 use Rattle.std.proofs.lemmas.Result.{err_from_is_err_and}
 use Rattle.ecs_id.specs.Id.{plain}
 use Rattle.ecs_model.specs.Keeps.{IsWellFormed}
 use Rattle.ecs_model.specs.World.{component}
 use Rattle.ecs_model.proofs.Additions.{not_spent}
-use Rattle.ecs_world.specs.Holdings.{HoldAlike, upcoming, with_cells, with_entity}
+use Rattle.ecs_archetypes.specs.Holdings.{HoldAlike, upcoming, with_cells, with_entity}
 use Rattle.ecs_world.specs.State.{birth}
 use Rattle.ecs_world.proofs.Accepted.{component_agrees, component_fits, component_left, failed, kept, made_is, next_of, next_plain, next_some, next_unnamed, on_err, on_ok, unchanged}
 use Rattle.ecs_world.proofs.Bound.{none_component, unbound_component}
@@ -24,12 +25,12 @@ bind-requires g c =
     next_unnamed c.self.invariant c.self.view_is c.unwrap-entity.result next
 
 pub invariant_of-self : goal.invariant_of-self
-invariant_of-self g c = (kept c.self.invariant c.self.view_is c.self.inside.archetypes c.bind.new.names c.self.inside.schemas.entries (unchanged c.self.invariant c.self.view_is) c.in_err-bind.ensures.err refl).0
+invariant_of-self g c = (kept c.self.invariant c.self.view_is (holdings_of c.self.inside.archetypes) c.bind.new.names c.self.inside.schemas.entries (unchanged c.self.invariant c.self.view_is) c.in_err-bind.ensures.err refl).0
 
 pub returns-in_err-bind : goal.returns-in_err-bind
 returns-in_err-bind g c =
     let p = err_from_is_err_and c.from_residual.result c.from_residual.ensures.1 in
-    rw (p.1, p.2) (unbound_component c.self.invariant c.self.view_is c.args.name.now c.args.schema _ c.in_err-bind.ensures.refused _ (kept c.self.invariant c.self.view_is c.self.inside.archetypes c.bind.new.names c.self.inside.schemas.entries (unchanged c.self.invariant c.self.view_is) c.in_err-bind.ensures.err refl).1)
+    rw (p.1, p.2) (unbound_component c.self.invariant c.self.view_is c.args.name.now c.args.schema _ c.in_err-bind.ensures.refused _ (kept c.self.invariant c.self.view_is (holdings_of c.self.inside.archetypes) c.bind.new.names c.self.inside.schemas.entries (unchanged c.self.invariant c.self.view_is) c.in_err-bind.ensures.err refl).1)
 
 pub same-schema : goal.same-schema
 same-schema g c = refl
@@ -37,14 +38,14 @@ same-schema g c = refl
 pub invariant_of-self-then-is_err : goal.invariant_of-self-then-is_err
 invariant_of-self-then-is_err g c =
     let w = c.self.inside in
-    (kept c.self.invariant c.self.view_is w.archetypes c.unbind.new.self c.insert.new.self.entries (unchanged c.self.invariant c.self.view_is)
+    (kept c.self.invariant c.self.view_is (holdings_of w.archetypes) c.unbind.new.self c.insert.new.self.entries (unchanged c.self.invariant c.self.view_is)
     (freed w.names c.bind.new.names c.unbind.new.self c.args.name.now c.unwrap-entity.result c.in_ok-bind.ensures.free.1 c.in_ok-bind.ensures.bound c.unbind.ensures.named)
     (on_err c.insert.result c.insert.ensures.err (sym c.is_err.ensures.value ∙ c.if-is_err.true))).0
 
 pub returns-then-is_err : goal.returns-then-is_err
 returns-then-is_err g c =
     let w = c.self.inside in
-    (kept c.self.invariant c.self.view_is w.archetypes c.unbind.new.self c.insert.new.self.entries (unchanged c.self.invariant c.self.view_is)
+    (kept c.self.invariant c.self.view_is (holdings_of w.archetypes) c.unbind.new.self c.insert.new.self.entries (unchanged c.self.invariant c.self.view_is)
     (freed w.names c.bind.new.names c.unbind.new.self c.args.name.now c.unwrap-entity.result c.in_ok-bind.ensures.free.1 c.in_ok-bind.ensures.bound c.unbind.ensures.named)
     (on_err c.insert.result c.insert.ensures.err (sym c.is_err.ensures.value ∙ c.if-is_err.true))).1
 
@@ -73,8 +74,8 @@ invariant_of-self-then-is_err-2 g c =
     let w = c.self.inside in
     let next = next_of c.self.invariant c.self.view_is c.unwrap-entity.result (sym c.upcoming.ensures ∙ c.unwrap-entity.ensures) in
     let inserted = on_ok c.insert.result c.insert.ensures.entries (sym c.is_err.ensures.value ∙ c.if-is_err.false) in
-    (kept c.self.invariant c.self.view_is c.create.new.self c.unbind-then-is_err-2.new.self c.remove.new.self.entries
-    (failed c.self.invariant c.self.view_is ((plain component, 0) ∷ []) (component_fits c.self.invariant c.self.view_is) c.create.new.self c.create.ensures.whole (on_err c.create.result c.create.ensures.err (sym c.is_err-2.ensures.value ∙ c.if-is_err-2.true)) (rw (c.tag.ensures, c.plain-component.ensures) at c.create.ensures.sizes))
+    (kept c.self.invariant c.self.view_is (holdings_of c.create.new.self) c.unbind-then-is_err-2.new.self c.remove.new.self.entries
+    (failed c.self.invariant c.self.view_is ((plain component, 0) ∷ []) (component_fits c.self.invariant c.self.view_is) (holdings_of c.create.new.self) c.create.ensures.holdings (on_err c.create.result c.create.ensures.refused (sym c.is_err-2.ensures.value ∙ c.if-is_err-2.true)) (rw (c.tag.ensures, c.plain-component.ensures) at c.create.ensures.sizes))
     (freed w.names c.bind.new.names c.unbind-then-is_err-2.new.self c.args.name.now c.unwrap-entity.result c.in_ok-bind.ensures.free.1 c.in_ok-bind.ensures.bound c.unbind-then-is_err-2.ensures.named)
     (rw (c.remove.ensures.entries, inserted) (removed_again w.schemas.entries c.unwrap-entity.result.index c.args.schema (next_plain c.self.invariant c.self.view_is c.unwrap-entity.result next)))).0
 
@@ -83,8 +84,8 @@ returns-then-is_err-2 g c =
     let w = c.self.inside in
     let next = next_of c.self.invariant c.self.view_is c.unwrap-entity.result (sym c.upcoming.ensures ∙ c.unwrap-entity.ensures) in
     let inserted = on_ok c.insert.result c.insert.ensures.entries (sym c.is_err.ensures.value ∙ c.if-is_err.false) in
-    (kept c.self.invariant c.self.view_is c.create.new.self c.unbind-then-is_err-2.new.self c.remove.new.self.entries
-    (failed c.self.invariant c.self.view_is ((plain component, 0) ∷ []) (component_fits c.self.invariant c.self.view_is) c.create.new.self c.create.ensures.whole (on_err c.create.result c.create.ensures.err (sym c.is_err-2.ensures.value ∙ c.if-is_err-2.true)) (rw (c.tag.ensures, c.plain-component.ensures) at c.create.ensures.sizes))
+    (kept c.self.invariant c.self.view_is (holdings_of c.create.new.self) c.unbind-then-is_err-2.new.self c.remove.new.self.entries
+    (failed c.self.invariant c.self.view_is ((plain component, 0) ∷ []) (component_fits c.self.invariant c.self.view_is) (holdings_of c.create.new.self) c.create.ensures.holdings (on_err c.create.result c.create.ensures.refused (sym c.is_err-2.ensures.value ∙ c.if-is_err-2.true)) (rw (c.tag.ensures, c.plain-component.ensures) at c.create.ensures.sizes))
     (freed w.names c.bind.new.names c.unbind-then-is_err-2.new.self c.args.name.now c.unwrap-entity.result c.in_ok-bind.ensures.free.1 c.in_ok-bind.ensures.bound c.unbind-then-is_err-2.ensures.named)
     (rw (c.remove.ensures.entries, inserted) (removed_again w.schemas.entries c.unwrap-entity.result.index c.args.schema (next_plain c.self.invariant c.self.view_is c.unwrap-entity.result next)))).1
 
@@ -98,18 +99,18 @@ invariant_of-self-2 g c =
     let w = c.self.inside in
     let next = next_of c.self.invariant c.self.view_is c.unwrap-entity.result (sym c.upcoming.ensures ∙ c.unwrap-entity.ensures) in
     let inserted = on_ok c.insert.result c.insert.ensures.entries (sym c.is_err.ensures.value ∙ c.if-is_err.false) in
-    let born = made_is (upcoming w.archetypes) (λ f. HoldAlike c.create.new.self (with_cells (with_entity w.archetypes f) f.index ((plain component, []) ∷ []))) c.create.result c.unwrap-entity.result c.create.ensures.next (rw (c.tag.ensures, c.plain-component.ensures) at c.create.ensures.born) (sym c.is_err-2.ensures.value ∙ c.if-is_err-2.false) (sym c.upcoming.ensures ∙ c.unwrap-entity.ensures) in
+    let born = made_is (upcoming (holdings_of w.archetypes)) (λ f. HoldAlike (holdings_of c.create.new.self) (with_cells (with_entity (holdings_of w.archetypes) f) f.index ((plain component, []) ∷ []))) c.create.result c.unwrap-entity.result c.create.ensures.next (rw (c.tag.ensures, c.plain-component.ensures) at c.create.ensures.born) (sym c.is_err-2.ensures.value ∙ c.if-is_err-2.false) (sym c.upcoming.ensures ∙ c.unwrap-entity.ensures) in
     (component_left c.self.invariant c.self.view_is c.unwrap-entity.result next c.args.name.now c.args.schema c.fields.ensures.sound (none_component c.self.invariant c.self.view_is c.args.name.now c.args.schema c.in_ok-bind.ensures.free c.requires) c.in_ok-bind.ensures.free.1 c.bind.new.names c.in_ok-bind.ensures.bound c.insert.new.self.entries (inserted ∙ insert_put w.schemas.entries c.unwrap-entity.result.index c.args.schema)
-    c.create.new.self c.create.ensures.whole born (rw (c.tag.ensures, c.plain-component.ensures) at c.create.ensures.sizes)).0
+    (holdings_of c.create.new.self) c.create.ensures.holdings born (rw (c.tag.ensures, c.plain-component.ensures) at c.create.ensures.sizes)).0
 
 pub returns : goal.returns
 returns g c =
     let w = c.self.inside in
     let next = next_of c.self.invariant c.self.view_is c.unwrap-entity.result (sym c.upcoming.ensures ∙ c.unwrap-entity.ensures) in
     let inserted = on_ok c.insert.result c.insert.ensures.entries (sym c.is_err.ensures.value ∙ c.if-is_err.false) in
-    let born = made_is (upcoming w.archetypes) (λ f. HoldAlike c.create.new.self (with_cells (with_entity w.archetypes f) f.index ((plain component, []) ∷ []))) c.create.result c.unwrap-entity.result c.create.ensures.next (rw (c.tag.ensures, c.plain-component.ensures) at c.create.ensures.born) (sym c.is_err-2.ensures.value ∙ c.if-is_err-2.false) (sym c.upcoming.ensures ∙ c.unwrap-entity.ensures) in
+    let born = made_is (upcoming (holdings_of w.archetypes)) (λ f. HoldAlike (holdings_of c.create.new.self) (with_cells (with_entity (holdings_of w.archetypes) f) f.index ((plain component, []) ∷ []))) c.create.result c.unwrap-entity.result c.create.ensures.next (rw (c.tag.ensures, c.plain-component.ensures) at c.create.ensures.born) (sym c.is_err-2.ensures.value ∙ c.if-is_err-2.false) (sym c.upcoming.ensures ∙ c.unwrap-entity.ensures) in
     let sound : IsWellFormed c.args.self.now = subst IsWellFormed c.self.view_is c.self.invariant.sound in
     told_component c.args.self.now _ c.with_came.result c.args.name.now c.args.schema c.unwrap-entity.result sound next (none_component c.self.invariant c.self.view_is c.args.name.now c.args.schema c.in_ok-bind.ensures.free c.requires)
     (component_left c.self.invariant c.self.view_is c.unwrap-entity.result next c.args.name.now c.args.schema c.fields.ensures.sound (none_component c.self.invariant c.self.view_is c.args.name.now c.args.schema c.in_ok-bind.ensures.free c.requires) c.in_ok-bind.ensures.free.1 c.bind.new.names c.in_ok-bind.ensures.bound c.insert.new.self.entries (inserted ∙ insert_put w.schemas.entries c.unwrap-entity.result.index c.args.schema)
-    c.create.new.self c.create.ensures.whole born (rw (c.tag.ensures, c.plain-component.ensures) at c.create.ensures.sizes)).1
+    (holdings_of c.create.new.self) c.create.ensures.holdings born (rw (c.tag.ensures, c.plain-component.ensures) at c.create.ensures.sizes)).1
     (c.with_came.ensures ∙ (λ k. record (c.of_birth.ensures k) { came = c.new-key.ensures k ∷ [] }) ∙ (λ k. record (birth c.unwrap-entity.result) { came = (c.unwrap-entity.result.index, c.plain-component.ensures k) ∷ [] }))

@@ -1,7 +1,8 @@
 use Rattle.std.proofs.Common.{[], is_some, refl, sym, ap, ◌∙◌, arith}
+use Rattle.ecs_archetypes.specs.Housing.{holdings_of}
 use Rattle.std.proofs.lemmas.Result.{err_from_is_err_and}
 use Rattle.ecs_model.proofs.Additions.{not_spent}
-use Rattle.ecs_world.specs.Holdings.{HoldAlike, upcoming, with_cells, with_entity}
+use Rattle.ecs_archetypes.specs.Holdings.{HoldAlike, upcoming, with_cells, with_entity}
 use Rattle.ecs_world.proofs.Accepted.{failed, kept, made_is, named_left, next_of, next_some, next_unnamed, on_err, unchanged}
 use Rattle.ecs_world.proofs.Bound.{none_entity, unbound_entity}
 use Rattle.ecs_world.proofs.Judged.{births}
@@ -19,12 +20,12 @@ bind-requires g c =
     next_unnamed c.self.invariant c.self.view_is c.unwrap-entity.result next
 
 pub invariant_of-self : goal.invariant_of-self
-invariant_of-self g c = (kept c.self.invariant c.self.view_is c.self.inside.archetypes c.bind.new.names c.self.inside.schemas.entries (unchanged c.self.invariant c.self.view_is) c.in_err-bind.ensures.err refl).0
+invariant_of-self g c = (kept c.self.invariant c.self.view_is (holdings_of c.self.inside.archetypes) c.bind.new.names c.self.inside.schemas.entries (unchanged c.self.invariant c.self.view_is) c.in_err-bind.ensures.err refl).0
 
 pub returns-in_err-bind : goal.returns-in_err-bind
 returns-in_err-bind g c =
     let p = err_from_is_err_and c.from_residual.result c.from_residual.ensures.1 in
-    rw (p.1, p.2) (unbound_entity c.self.invariant c.self.view_is c.args.name.now _ c.in_err-bind.ensures.refused _ (kept c.self.invariant c.self.view_is c.self.inside.archetypes c.bind.new.names c.self.inside.schemas.entries (unchanged c.self.invariant c.self.view_is) c.in_err-bind.ensures.err refl).1)
+    rw (p.1, p.2) (unbound_entity c.self.invariant c.self.view_is c.args.name.now _ c.in_err-bind.ensures.refused _ (kept c.self.invariant c.self.view_is (holdings_of c.self.inside.archetypes) c.bind.new.names c.self.inside.schemas.entries (unchanged c.self.invariant c.self.view_is) c.in_err-bind.ensures.err refl).1)
 
 pub slice_bounds-create-end : goal.slice_bounds-create-end
 slice_bounds-create-end g c = refl
@@ -45,15 +46,15 @@ create-requires-clause-agree g c = refl
 pub invariant_of-self-then-is_err : goal.invariant_of-self-then-is_err
 invariant_of-self-then-is_err g c =
     let w = c.self.inside in
-    (kept c.self.invariant c.self.view_is c.create.new.self c.unbind.new.self w.schemas.entries
-    (failed c.self.invariant c.self.view_is [] refl c.create.new.self c.create.ensures.whole (on_err c.create.result c.create.ensures.err (sym c.is_err.ensures.value ∙ c.if-is_err.true)) c.create.ensures.sizes)
+    (kept c.self.invariant c.self.view_is (holdings_of c.create.new.self) c.unbind.new.self w.schemas.entries
+    (failed c.self.invariant c.self.view_is [] refl (holdings_of c.create.new.self) c.create.ensures.holdings (on_err c.create.result c.create.ensures.refused (sym c.is_err.ensures.value ∙ c.if-is_err.true)) c.create.ensures.sizes)
     (freed w.names c.bind.new.names c.unbind.new.self c.args.name.now c.unwrap-entity.result c.in_ok-bind.ensures.free.1 c.in_ok-bind.ensures.bound c.unbind.ensures.named) refl).0
 
 pub returns-then-is_err : goal.returns-then-is_err
 returns-then-is_err g c =
     let w = c.self.inside in
-    (kept c.self.invariant c.self.view_is c.create.new.self c.unbind.new.self w.schemas.entries
-    (failed c.self.invariant c.self.view_is [] refl c.create.new.self c.create.ensures.whole (on_err c.create.result c.create.ensures.err (sym c.is_err.ensures.value ∙ c.if-is_err.true)) c.create.ensures.sizes)
+    (kept c.self.invariant c.self.view_is (holdings_of c.create.new.self) c.unbind.new.self w.schemas.entries
+    (failed c.self.invariant c.self.view_is [] refl (holdings_of c.create.new.self) c.create.ensures.holdings (on_err c.create.result c.create.ensures.refused (sym c.is_err.ensures.value ∙ c.if-is_err.true)) c.create.ensures.sizes)
     (freed w.names c.bind.new.names c.unbind.new.self c.args.name.now c.unwrap-entity.result c.in_ok-bind.ensures.free.1 c.in_ok-bind.ensures.bound c.unbind.ensures.named) refl).1
 
 pub overflow_add-self : goal.overflow_add-self
@@ -65,14 +66,14 @@ pub invariant_of-self-2 : goal.invariant_of-self-2
 invariant_of-self-2 g c =
     let w = c.self.inside in
     let next = next_of c.self.invariant c.self.view_is c.unwrap-entity.result (sym c.upcoming.ensures ∙ c.unwrap-entity.ensures) in
-    let born = made_is (upcoming w.archetypes) (λ f. HoldAlike c.create.new.self (with_cells (with_entity w.archetypes f) f.index [])) c.create.result c.unwrap-entity.result c.create.ensures.next c.create.ensures.born (sym c.is_err.ensures.value ∙ c.if-is_err.false) (sym c.upcoming.ensures ∙ c.unwrap-entity.ensures) in
-    (named_left c.self.invariant c.self.view_is c.unwrap-entity.result next c.args.name.now (none_entity c.self.invariant c.self.view_is c.args.name.now c.in_ok-bind.ensures.free c.requires) c.in_ok-bind.ensures.free.1 c.bind.new.names c.in_ok-bind.ensures.bound c.create.new.self c.create.ensures.whole born c.create.ensures.sizes).0
+    let born = made_is (upcoming (holdings_of w.archetypes)) (λ f. HoldAlike (holdings_of c.create.new.self) (with_cells (with_entity (holdings_of w.archetypes) f) f.index [])) c.create.result c.unwrap-entity.result c.create.ensures.next c.create.ensures.born (sym c.is_err.ensures.value ∙ c.if-is_err.false) (sym c.upcoming.ensures ∙ c.unwrap-entity.ensures) in
+    (named_left c.self.invariant c.self.view_is c.unwrap-entity.result next c.args.name.now (none_entity c.self.invariant c.self.view_is c.args.name.now c.in_ok-bind.ensures.free c.requires) c.in_ok-bind.ensures.free.1 c.bind.new.names c.in_ok-bind.ensures.bound (holdings_of c.create.new.self) c.create.ensures.holdings born c.create.ensures.sizes).0
 
 pub returns : goal.returns
 returns g c =
     let w = c.self.inside in
     let next = next_of c.self.invariant c.self.view_is c.unwrap-entity.result (sym c.upcoming.ensures ∙ c.unwrap-entity.ensures) in
-    let born = made_is (upcoming w.archetypes) (λ f. HoldAlike c.create.new.self (with_cells (with_entity w.archetypes f) f.index [])) c.create.result c.unwrap-entity.result c.create.ensures.next c.create.ensures.born (sym c.is_err.ensures.value ∙ c.if-is_err.false) (sym c.upcoming.ensures ∙ c.unwrap-entity.ensures) in
+    let born = made_is (upcoming (holdings_of w.archetypes)) (λ f. HoldAlike (holdings_of c.create.new.self) (with_cells (with_entity (holdings_of w.archetypes) f) f.index [])) c.create.result c.unwrap-entity.result c.create.ensures.next c.create.ensures.born (sym c.is_err.ensures.value ∙ c.if-is_err.false) (sym c.upcoming.ensures ∙ c.unwrap-entity.ensures) in
     told_entity c.args.self.now _ c.of_birth.result c.args.name.now c.unwrap-entity.result next (none_entity c.self.invariant c.self.view_is c.args.name.now c.in_ok-bind.ensures.free c.requires)
-    (named_left c.self.invariant c.self.view_is c.unwrap-entity.result next c.args.name.now (none_entity c.self.invariant c.self.view_is c.args.name.now c.in_ok-bind.ensures.free c.requires) c.in_ok-bind.ensures.free.1 c.bind.new.names c.in_ok-bind.ensures.bound c.create.new.self c.create.ensures.whole born c.create.ensures.sizes).1
+    (named_left c.self.invariant c.self.view_is c.unwrap-entity.result next c.args.name.now (none_entity c.self.invariant c.self.view_is c.args.name.now c.in_ok-bind.ensures.free c.requires) c.in_ok-bind.ensures.free.1 c.bind.new.names c.in_ok-bind.ensures.bound (holdings_of c.create.new.self) c.create.ensures.holdings born c.create.ensures.sizes).1
     c.of_birth.ensures

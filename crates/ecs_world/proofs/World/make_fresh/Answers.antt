@@ -1,4 +1,5 @@
 use Rattle.std.proofs.Common.{[], refl, sym, ◌∙◌, arith}
+use Rattle.ecs_archetypes.specs.Housing.{holdings_of}
 use Rattle.ecs_model.proofs.Additions.{not_spent}
 use Rattle.ecs_world.proofs.Accepted.{failed, fresh_left, next_of, next_some}
 use Rattle.ecs_world.proofs.Judged.{births, fresh_refusal}
@@ -23,11 +24,11 @@ create-requires-clause-agree g c = refl
 
 pub invariant_of-self : goal.invariant_of-self
 invariant_of-self g c =
-    (failed c.self.invariant c.self.view_is [] refl c.create.new.self c.create.ensures.whole c.in_default.ensures.err c.create.ensures.sizes).0
+    (failed c.self.invariant c.self.view_is [] refl (holdings_of c.create.new.self) c.create.ensures.holdings c.in_default.ensures.refused c.create.ensures.sizes).0
 
 pub returns-in_default : goal.returns-in_default
 returns-in_default g c =
-    (failed c.self.invariant c.self.view_is [] refl c.create.new.self c.create.ensures.whole c.in_default.ensures.err c.create.ensures.sizes).1
+    (failed c.self.invariant c.self.view_is [] refl (holdings_of c.create.new.self) c.create.ensures.holdings c.in_default.ensures.refused c.create.ensures.sizes).1
 
 pub overflow_add-self : goal.overflow_add-self
 overflow_add-self g c =
@@ -36,11 +37,11 @@ overflow_add-self g c =
 
 pub invariant_of-self-2 : goal.invariant_of-self-2
 invariant_of-self-2 g c =
-    (fresh_left c.self.invariant c.self.view_is c.in-Ok.entity (next_of c.self.invariant c.self.view_is c.in-Ok.entity c.in-Ok.ensures.next) (sym (fresh_refusal c.args.self.now) ∙ c.requires) c.create.new.self c.create.ensures.whole c.in-Ok.ensures.born c.create.ensures.sizes).0
+    (fresh_left c.self.invariant c.self.view_is c.in-Ok.entity (next_of c.self.invariant c.self.view_is c.in-Ok.entity c.in-Ok.ensures.next) (sym (fresh_refusal c.args.self.now) ∙ c.requires) (holdings_of c.create.new.self) c.create.ensures.holdings c.in-Ok.ensures.born c.create.ensures.sizes).0
 
 pub returns : goal.returns
 returns g c =
     let next = next_of c.self.invariant c.self.view_is c.in-Ok.entity c.in-Ok.ensures.next in
     told_fresh c.args.self.now _ c.of_birth.result c.in-Ok.entity next (sym (fresh_refusal c.args.self.now) ∙ c.requires)
-    (fresh_left c.self.invariant c.self.view_is c.in-Ok.entity next (sym (fresh_refusal c.args.self.now) ∙ c.requires) c.create.new.self c.create.ensures.whole c.in-Ok.ensures.born c.create.ensures.sizes).1
+    (fresh_left c.self.invariant c.self.view_is c.in-Ok.entity next (sym (fresh_refusal c.args.self.now) ∙ c.requires) (holdings_of c.create.new.self) c.create.ensures.holdings c.in-Ok.ensures.born c.create.ensures.sizes).1
     c.of_birth.ensures

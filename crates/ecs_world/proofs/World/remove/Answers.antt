@@ -1,4 +1,5 @@
 use Rattle.std.proofs.Common.{[], ◌∷◌, true, false, refl, sym, subst, ◌∙◌, arith}
+use Rattle.ecs_archetypes.specs.Housing.{holdings_of}
 use Rattle.ecs_model.specs.declared.faults.Refusal.TheVariants.{Dead}
 use Rattle.ecs_model.specs.Command.{Remove}
 use Rattle.ecs_model.specs.Keeps.{IsWellFormed}
@@ -12,7 +13,7 @@ use Rattle.ecs_world.proofs.Told.{told_remove}
 use Rattle.ecs_world.proofs.World.remove.Goals as goal
 
 pub returns-in_default : goal.returns-in_default
-returns-in_default g c = (step-refused c.args.self.now (Remove c.args.entity c.args.id) Dead (sym (remove_dead c.args.self.now c.args.entity c.args.id (entity_dead c.args.self.now c.args.entity c.args.id (found_dead c.self.invariant c.self.view_is c.args.entity (sym c.in_default.ensures.place))))), refl)
+returns-in_default g c = (step-refused c.args.self.now (Remove c.args.entity c.args.id) Dead (sym (remove_dead c.args.self.now c.args.entity c.args.id (entity_dead c.args.self.now c.args.entity c.args.id (found_dead c.self.invariant c.self.view_is c.args.entity (c.in_default.ensures.settled))))), refl)
 
 pub returns-in-Some-remove_refusal : goal.returns-in-Some-remove_refusal
 returns-in-Some-remove_refusal g c = (step-refused c.args.self.now (Remove c.args.entity c.args.id) c.in-Some-remove_refusal.refusal (sym c.in-Some-remove_refusal.ensures), refl)
@@ -32,10 +33,10 @@ returns-then-not-found g c =
     (counted_left c.self.invariant c.self.view_is (Remove c.args.entity c.args.id) tt (sym c.in_default-remove_refusal.ensures) (effect-remove-none c.args.self.now c.args.entity c.args.id (sym (found_held c.self.invariant c.self.view_is c.args.entity c.args.id c.in-Some.found.is_held c.in-Some.ensures.held) ∙ refuted c.in-Some.found.is_held c.if-not-found.true))).1 c.none.ensures
 
 pub invariant_of-self-then-is_err : goal.invariant_of-self-then-is_err
-invariant_of-self-then-is_err g c = (failed c.self.invariant c.self.view_is [] refl c.remove.new.self c.remove.ensures.whole (on_err c.remove.result c.remove.ensures.err (sym c.is_err.ensures.value ∙ c.if-is_err.true)) c.remove.ensures.sizes).0
+invariant_of-self-then-is_err g c = (failed c.self.invariant c.self.view_is [] refl (holdings_of c.remove.new.self) c.remove.ensures.holdings (on_err c.remove.result c.remove.ensures.refused (sym c.is_err.ensures.value ∙ c.if-is_err.true)) c.remove.ensures.sizes).0
 
 pub returns-then-is_err : goal.returns-then-is_err
-returns-then-is_err g c = (failed c.self.invariant c.self.view_is [] refl c.remove.new.self c.remove.ensures.whole (on_err c.remove.result c.remove.ensures.err (sym c.is_err.ensures.value ∙ c.if-is_err.true)) c.remove.ensures.sizes).1
+returns-then-is_err g c = (failed c.self.invariant c.self.view_is [] refl (holdings_of c.remove.new.self) c.remove.ensures.holdings (on_err c.remove.result c.remove.ensures.refused (sym c.is_err.ensures.value ∙ c.if-is_err.true)) c.remove.ensures.sizes).1
 
 pub overflow_add-self-2 : goal.overflow_add-self-2
 overflow_add-self-2 g c =
@@ -43,11 +44,11 @@ overflow_add-self-2 g c =
     omega (arith, not_spent c.self.inside.accepted spent)
 
 pub invariant_of-self-2 : goal.invariant_of-self-2
-invariant_of-self-2 g c = (go c.self.invariant c.self.view_is c.args.entity c.args.id (sym c.in_default-remove_refusal.ensures) c.remove.new.self c.remove.ensures.whole (on_ok c.remove.result c.remove.ensures.removed (sym c.is_err.ensures.value ∙ c.if-is_err.false)) c.remove.ensures.sizes).0
+invariant_of-self-2 g c = (go c.self.invariant c.self.view_is c.args.entity c.args.id (sym c.in_default-remove_refusal.ensures) (holdings_of c.remove.new.self) c.remove.ensures.holdings (on_ok c.remove.result c.remove.ensures.removed (sym c.is_err.ensures.value ∙ c.if-is_err.false)) c.remove.ensures.sizes).0
 
 pub returns : goal.returns
 returns g c =
     let sound : IsWellFormed c.args.self.now = subst IsWellFormed c.self.view_is c.self.invariant.sound in
     told_remove c.args.self.now _ c.with_went.result c.args.entity c.args.id true sound (sym (found_held c.self.invariant c.self.view_is c.args.entity c.args.id c.in-Some.found.is_held c.in-Some.ensures.held) ∙ denied c.in-Some.found.is_held c.if-not-found.false) (sym c.in_default-remove_refusal.ensures)
-    (go c.self.invariant c.self.view_is c.args.entity c.args.id (sym c.in_default-remove_refusal.ensures) c.remove.new.self c.remove.ensures.whole (on_ok c.remove.result c.remove.ensures.removed (sym c.is_err.ensures.value ∙ c.if-is_err.false)) c.remove.ensures.sizes).1
+    (go c.self.invariant c.self.view_is c.args.entity c.args.id (sym c.in_default-remove_refusal.ensures) (holdings_of c.remove.new.self) c.remove.ensures.holdings (on_ok c.remove.result c.remove.ensures.removed (sym c.is_err.ensures.value ∙ c.if-is_err.false)) c.remove.ensures.sizes).1
     (c.with_went.ensures ∙ (λ k. record (c.none-2.ensures k) { went = c.new-key.ensures k ∷ [] }))

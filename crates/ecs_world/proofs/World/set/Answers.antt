@@ -1,4 +1,5 @@
 use Rattle.std.proofs.Common.{[], ◌∷◌, take, length, refl, sym, ap, ◌∙◌, arith, if◌then◌else◌}
+use Rattle.ecs_archetypes.specs.Housing.{holdings_of}
 use Rattle.std.proofs.lemmas.List.{length-take-le}
 use Rattle.ecs_model.specs.declared.faults.Refusal.TheVariants.{Dead}
 use Rattle.ecs_model.specs.Command.{SetValue}
@@ -13,7 +14,7 @@ use Rattle.ecs_world.proofs.World.set.Goals.{then-found, else-found}
 use Rattle.ecs_world.proofs.World.set.Goals as goal
 
 pub returns-in_default : goal.returns-in_default
-returns-in_default g c = (step-refused c.args.self.now (SetValue c.args.entity c.args.id c.args.values.now) Dead (sym (set_dead c.args.self.now c.args.entity c.args.id c.args.values.now (entity_dead c.args.self.now c.args.entity c.args.id (found_dead c.self.invariant c.self.view_is c.args.entity (sym c.in_default.ensures.place))))), refl)
+returns-in_default g c = (step-refused c.args.self.now (SetValue c.args.entity c.args.id c.args.values.now) Dead (sym (set_dead c.args.self.now c.args.entity c.args.id c.args.values.now (entity_dead c.args.self.now c.args.entity c.args.id (found_dead c.self.invariant c.self.view_is c.args.entity (c.in_default.ensures.settled))))), refl)
 
 pub judge_set-requires-clause-held : goal.judge_set-requires-clause-held
 judge_set-requires-clause-held g c = found_held c.self.invariant c.self.view_is c.args.entity c.args.id c.in-Some.found.is_held c.in-Some.ensures.held
@@ -29,11 +30,11 @@ put-requires-clause-agree g c = size_there c.self.invariant c.self.view_is c.arg
 
 pub invariant_of-self : goal.invariant_of-self
 invariant_of-self g c = (failed c.self.invariant c.self.view_is ((c.args.id, length (take c.in-Ok.size c.judge_set.new.buffer)) ∷ []) (fits_there c.self.invariant c.self.view_is c.args.entity c.args.id (judged-add c.args.self.now c.args.entity c.args.id (add_of_set c.args.self.now c.args.entity c.args.id c.args.values.now c.in-Ok.ensures.judged).1) (length (take c.in-Ok.size c.judge_set.new.buffer)) (length-take-le c.in-Ok.size c.judge_set.new.buffer (omega (arith, c.in-Ok.ensures.encoded.few, c.judge_set.array_long)) ∙ c.in-Ok.ensures.encoded.sized))
-    c.put.new.self c.put.ensures.whole (on_err c.put.result c.put.ensures.err (sym c.is_err.ensures.value ∙ c.if-is_err.true)) c.put.ensures.sizes).0
+    (holdings_of c.put.new.self) c.put.ensures.holdings (on_err c.put.result c.put.ensures.refused (sym c.is_err.ensures.value ∙ c.if-is_err.true)) c.put.ensures.sizes).0
 
 pub returns-then-is_err : goal.returns-then-is_err
 returns-then-is_err g c = (failed c.self.invariant c.self.view_is ((c.args.id, length (take c.in-Ok.size c.judge_set.new.buffer)) ∷ []) (fits_there c.self.invariant c.self.view_is c.args.entity c.args.id (judged-add c.args.self.now c.args.entity c.args.id (add_of_set c.args.self.now c.args.entity c.args.id c.args.values.now c.in-Ok.ensures.judged).1) (length (take c.in-Ok.size c.judge_set.new.buffer)) (length-take-le c.in-Ok.size c.judge_set.new.buffer (omega (arith, c.in-Ok.ensures.encoded.few, c.judge_set.array_long)) ∙ c.in-Ok.ensures.encoded.sized))
-    c.put.new.self c.put.ensures.whole (on_err c.put.result c.put.ensures.err (sym c.is_err.ensures.value ∙ c.if-is_err.true)) c.put.ensures.sizes).1
+    (holdings_of c.put.new.self) c.put.ensures.holdings (on_err c.put.result c.put.ensures.refused (sym c.is_err.ensures.value ∙ c.if-is_err.true)) c.put.ensures.sizes).1
 
 pub overflow_add-self : goal.overflow_add-self
 overflow_add-self g c =
@@ -41,12 +42,12 @@ overflow_add-self g c =
     omega (arith, not_spent c.self.inside.accepted spent)
 
 pub invariant_of-self-2 : goal.invariant_of-self-2
-invariant_of-self-2 g c = (set_left c.self.invariant c.self.view_is c.args.entity c.args.id c.args.values.now c.in-Ok.ensures.judged c.put.new.self (take c.in-Ok.size c.judge_set.new.buffer) c.put.ensures.whole (length-take-le c.in-Ok.size c.judge_set.new.buffer (omega (arith, c.in-Ok.ensures.encoded.few, c.judge_set.array_long)) ∙ c.in-Ok.ensures.encoded.sized)
+invariant_of-self-2 g c = (set_left c.self.invariant c.self.view_is c.args.entity c.args.id c.args.values.now c.in-Ok.ensures.judged (holdings_of c.put.new.self) (take c.in-Ok.size c.judge_set.new.buffer) c.put.ensures.holdings (length-take-le c.in-Ok.size c.judge_set.new.buffer (omega (arith, c.in-Ok.ensures.encoded.few, c.judge_set.array_long)) ∙ c.in-Ok.ensures.encoded.sized)
     (on_ok c.put.result c.put.ensures.put (sym c.is_err.ensures.value ∙ c.if-is_err.false)) c.put.ensures.sizes c.in-Ok.ensures.encoded.value).0
 
 pub returns : goal.returns
 returns g c =
-    let left = (set_left c.self.invariant c.self.view_is c.args.entity c.args.id c.args.values.now c.in-Ok.ensures.judged c.put.new.self (take c.in-Ok.size c.judge_set.new.buffer) c.put.ensures.whole (length-take-le c.in-Ok.size c.judge_set.new.buffer (omega (arith, c.in-Ok.ensures.encoded.few, c.judge_set.array_long)) ∙ c.in-Ok.ensures.encoded.sized)
+    let left = (set_left c.self.invariant c.self.view_is c.args.entity c.args.id c.args.values.now c.in-Ok.ensures.judged (holdings_of c.put.new.self) (take c.in-Ok.size c.judge_set.new.buffer) c.put.ensures.holdings (length-take-le c.in-Ok.size c.judge_set.new.buffer (omega (arith, c.in-Ok.ensures.encoded.few, c.judge_set.array_long)) ∙ c.in-Ok.ensures.encoded.sized)
     (on_ok c.put.result c.put.ensures.put (sym c.is_err.ensures.value ∙ c.if-is_err.false)) c.put.ensures.sizes c.in-Ok.ensures.encoded.value).1 in
     elim c.if-found.branch [
       | then-found w ↦ rw w.result-is (told_set c.args.self.now _ c.with_written-changes.result c.args.entity c.args.id c.args.values.now c.in-Ok.ensures.judged left

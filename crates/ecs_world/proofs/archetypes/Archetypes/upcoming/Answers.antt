@@ -1,8 +1,0 @@
--- The index answers, which gives out the same indexes.
-use Rattle.std.proofs.Common.{◌∙◌, ap}
-use Rattle.ecs_world.specs.Holdings.{upcoming}
-use Rattle.ecs_world.proofs.FirstHoldings.{same_next}
-use Rattle.ecs_world.proofs.archetypes.Archetypes.upcoming.Goals as goal
-
-pub returns : goal.returns
-returns g c = c.upcoming.ensures.next ∙ same_next c.self.inside.entities c.self.inside.tables c.self.invariant.last ∙ ap upcoming c.self.view_is
