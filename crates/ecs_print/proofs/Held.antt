@@ -16,7 +16,7 @@ use Rattle.ecs_model.specs.declared.Kind.{Kind}
 use Rattle.ecs_model.specs.declared.Kind.TheVariants.{I8, U8, I16, U16, I32, U32, I64, U64}
 use Rattle.ecs_model.specs.World.{WorldState, holds, ids_of, is_live, pair_is_tag, type_of_id}
 use Rattle.ecs_schema.proofs.Packed.{size_of-first}
-use Rattle.ecs_world.specs.Holdings.{Cells}
+use Rattle.ecs_archetypes.specs.Holdings.{Cells}
 use Rattle.ecs_world.specs.State.{AreFactsOf, byte_count, value_in}
 use Rattle.ecs_print.specs.Values.{held_text}
 
