@@ -39,8 +39,12 @@ pub fn write_index<A: Allocator>(
 ) -> Result<(), AllocError>
     ensures { OnOk result (out.new.items ≡ out.old.items ++ index_text world.now index) }
 {
+    world.keeps();
+    if let Some(name) = world.name_of(index) {
+        return out.extend_from_slice(name.as_bytes());
+    }
     match world.at(index) {
-        Some(entity) => write_entity(world, entity, out),
+        Some(entity) => write_handle(entity, out),
         None => Ok(()),
     }
 }
