@@ -24,9 +24,9 @@ number_before (n ∷ ns) zero v at = let same : n ≡ v = cc in ap (λ z. behind
 number_before (n ∷ ns) (suc i) v at = number_before ns i v at
 
 -- all numbers, with `=` in place of the first comma
-pub value_written : (vs : List ℤ) (text : List ℕ) (start : ℕ) → 1 ≤ length vs → drop start text ≡ flat_map behind_comma vs → 61 ∷ drop (start + 1) text ≡ value_text (Some vs)
-value_written [] text start some h = absurd (omega arith)
-value_written (v ∷ vs) text start some h = ap (λ t. 61 ∷ t) (sym (drop-drop 1 start text) ∙ ap (λ t. drop 1 t) h ∙ sym (values_text-cons v vs))
+pub value_written : (vs : List ℤ) (text rest : List ℕ) (start : ℕ) → 1 ≤ length vs → drop start text ≡ flat_map behind_comma vs ++ rest → 61 ∷ drop (start + 1) text ≡ value_text (Some vs) ++ rest
+value_written [] text rest start some h = absurd (omega arith)
+value_written (v ∷ vs) text rest start some h = ap (λ t. 61 ∷ t) (sym (drop-drop 1 start text) ∙ ap (λ t. drop 1 t) h ∙ ap (λ t. t ++ rest) (sym (values_text-cons v vs)))
 
 -- a negative number is a minus and its absolute value
 pub minus_first : (z : ℤ) → int_le (pos 0) z ≡ false → 45 ∷ decimal (unsigned_abs z) ≡ signed_decimal z

@@ -2,7 +2,7 @@
 use Rattle.std.specs.Prelude.{◌≡◌, ℕ, codes, zero, suc, ◌+◌, ◌≤◌, Bool, true, false, List, [], ◌∷◌, ◌++◌, flat_map, take, length, slice_get, if◌then◌else◌, IfSome, IsTrue, Option, Some, None, option_map}
 use Rattle.std.specs.Option.{option_or}
 use Rattle.std.specs.Ordering.{nat_cmp}
-use Rattle.std.proofs.Common.{refl, ap, sym, ◌∙◌, add-one, append-nil, arith}
+use Rattle.std.proofs.Common.{refl, ap, sym, ◌∙◌, add-one, append_assoc, arith}
 use Rattle.std.proofs.Math.Seq.{take-suc}
 use Rattle.std.proofs.lemmas.List.{flat_map_more}
 use Rattle.std.proofs.lemmas.Option.{get_or_from_slice_get, slice_get_within}
@@ -14,16 +14,18 @@ use Rattle.ecs_model.specs.Print.{id_text, value_text}
 use Rattle.ecs_model.specs.Schema.{Schema, schema_fault, width}
 use Rattle.ecs_model.specs.declared.Kind.{Kind}
 use Rattle.ecs_model.specs.declared.Kind.TheVariants.{I8, U8, I16, U16, I32, U32, I64, U64}
-use Rattle.ecs_model.specs.World.{WorldState, holds, ids_of, is_live, pair_is_tag, type_of_id}
+use Rattle.ecs_model.specs.World.{WorldState, holds, ids_of, is_live, pair_is_tag, type_of_id, value_of}
 use Rattle.ecs_schema.proofs.Packed.{size_of-first}
 use Rattle.ecs_archetypes.specs.Holdings.{Cells}
 use Rattle.ecs_world.specs.State.{AreFactsOf, byte_count, value_in}
-use Rattle.ecs_print.specs.Values.{held_text}
+use Rattle.ecs_print.specs.Values.{ended_text, held_text}
 
 -- a fact is printed by the bytes of its value
-fact_by_bytes : (w : WorldState) (e : ℕ) (cells : Cells) (i : Id) (bytes : List ℕ) → AreFactsOf w e cells → value_at id_cmp cells i ≡ Some bytes → held_text w i bytes ≡ fact_text w e i
+fact_by_bytes : (w : WorldState) (e : ℕ) (cells : Cells) (i : Id) (bytes : List ℕ) → AreFactsOf w e cells → value_at id_cmp cells i ≡ Some bytes → codes " [" ++ held_text w i bytes ≡ fact_text w e i ++ codes " ["
 fact_by_bytes w e cells i bytes are at =
-    ap (λ v. codes " [" ++ id_text w i ++ value_text v ++ codes "]") (sym (ap (option_map (value_in (type_of_id w i))) at) ∙ are.value i)
+    let value = value_text (value_of w e i) in
+    ap (λ v. codes " [" ++ (id_text w i ++ (value_text v ++ codes "] ["))) (sym (ap (option_map (value_in (type_of_id w i))) at) ∙ are.value i)
+    ∙ sym (append_assoc (codes " [" ++ id_text w i ++ value) (codes "]") (codes " [") ∙ append_assoc (codes " [" ++ id_text w i) value (codes "] ["))
 
 abbrev pair_of : Id → List ℕ → Id × List ℕ
 pair_of i bytes = (i, bytes)
@@ -35,14 +37,18 @@ key_at (c ∷ cells) (suc k) i bytes h = key_at cells k i bytes h
 
 -- one fact more
 pub fact_more : (w : WorldState) (e : ℕ) (cells : Cells) (k : ℕ) (i : Id) (bytes start old new : List ℕ) → AreFactsOf w e cells → slice_get cells k ≡ Some (pair_of i bytes) → value_at id_cmp cells i ≡ Some bytes
-    → old ≡ start ++ flat_map (fact_text w e) (take k (ids_of w e)) → new ≡ old ++ held_text w i bytes → new ≡ start ++ flat_map (fact_text w e) (take (k + 1) (ids_of w e))
+    → old ≡ start ++ flat_map (fact_text w e) (take k (ids_of w e)) ++ codes " [" → new ≡ old ++ held_text w i bytes → new ≡ start ++ flat_map (fact_text w e) (take (k + 1) (ids_of w e)) ++ codes " ["
 fact_more w e cells k i bytes start old new are here at before now =
     let ids = ids_of w e in
+    let text = fact_text w e in
+    let done = flat_map text (take k ids) in
     let listed : slice_get ids k ≡ Some i = ap (λ z. slice_get z k) (sym are.ids) ∙ key_at cells k i bytes here in
-    now ∙ ap (λ t. t ++ held_text w i bytes) before ∙ ap (λ t. start ++ flat_map (fact_text w e) (take k ids) ++ t) (fact_by_bytes w e cells i bytes are at)
-    ∙ flat_map_more (fact_text w e) start (take k ids) i
-    ∙ ap (λ t. start ++ flat_map (fact_text w e) t)
-    (ap (λ x. take k ids ++ x ∷ []) (sym (get_or_from_slice_get ids k i i listed)) ∙ sym (take-suc ids k i (slice_get_within ids k i listed)) ∙ ap (λ n. take n ids) (sym (add-one k)))
+    let more : start ++ done ++ text i ≡ start ++ flat_map text (take (k + 1) ids) =
+    flat_map_more text start (take k ids) i
+    ∙ ap (λ t. start ++ flat_map text t)
+    (ap (λ x. take k ids ++ x ∷ []) (sym (get_or_from_slice_get ids k i i listed)) ∙ sym (take-suc ids k i (slice_get_within ids k i listed)) ∙ ap (λ n. take n ids) (sym (add-one k))) in
+    now ∙ ap (λ t. t ++ held_text w i bytes) before ∙ append_assoc (start ++ done) (codes " [") (held_text w i bytes)
+    ∙ ap (λ t. start ++ done ++ t) (fact_by_bytes w e cells i bytes are at) ∙ sym (append_assoc (start ++ done) (text i) (codes " [")) ∙ ap (λ t. t ++ codes " [") more
 
 -- the fields of a type are no fault
 sound_at : (w : WorldState) → IsWellFormed w → (c : ℕ) → IfSome (value_at nat_cmp w.schemas c) (λ fs. schema_fault fs ≡ None)
@@ -81,6 +87,5 @@ no_type w is i none = by (type_of_id w i) (sound_type w is i) none
     by (Some (f ∷ fs)) h n = absurd (omega (arith, size_of-first f fs, some_width f.kind))
 
 -- and its value is printed as nothing
-pub nothing_printed : (w : WorldState) → IsWellFormed w → (i : Id) (bytes out : List ℕ) → length bytes ≡ byte_count (type_of_id w i) → length bytes ≡ 0 → out ≡ out ++ value_text (Some (value_in (type_of_id w i) bytes))
-nothing_printed w is i bytes out size none =
-    sym (ap (λ o. out ++ value_text (Some (value_in o bytes))) (no_type w is i (sym size ∙ none)) ∙ append-nil out)
+pub nothing_printed : (w : WorldState) → IsWellFormed w → (i : Id) (bytes : List ℕ) → length bytes ≡ byte_count (type_of_id w i) → length bytes ≡ 0 → codes "] [" ≡ ended_text w i bytes
+nothing_printed w is i bytes size none = sym (ap (λ o. value_text (Some (value_in o bytes)) ++ codes "] [") (no_type w is i (sym size ∙ none)))

@@ -10,6 +10,10 @@ use Rattle.ecs_world.specs.State.{value_in}
 abbrev pub behind_comma : ℤ → List ℕ
 behind_comma n = 44 ∷ signed_decimal n
 
--- a fact whose value has these bytes
+-- the value that these bytes mean, and what stands between two facts
+abbrev pub ended_text : WorldState → Id → List ℕ → List ℕ
+ended_text w i bytes = value_text (Some (value_in (type_of_id w i) bytes)) ++ codes "] ["
+
+-- an id, its value by these bytes, and what stands between two facts
 abbrev pub held_text : WorldState → Id → List ℕ → List ℕ
-held_text w i bytes = codes " [" ++ id_text w i ++ value_text (Some (value_in (type_of_id w i) bytes)) ++ codes "]"
+held_text w i bytes = id_text w i ++ ended_text w i bytes

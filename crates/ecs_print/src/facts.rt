@@ -1,11 +1,11 @@
 //! The values of facts.
-ghost use Rattle.std.specs.Prelude.{◌≡◌, ◌++◌, IsTrue, OnOk, Some, flat_map, length};
+ghost use Rattle.std.specs.Prelude.{◌≡◌, ◌≤◌, ◌++◌, IsTrue, OnOk, Some, codes, drop, flat_map, length};
 ghost use Rattle.ecs_model.specs.Bytes.{size_of, values_in};
 ghost use Rattle.ecs_model.specs.Output.{fact_text};
 ghost use Rattle.ecs_model.specs.Print.{value_text};
 ghost use Rattle.ecs_model.specs.World.{ids_of, is_alive, type_of_id, value_of};
 ghost use Rattle.ecs_world.specs.State.{byte_count, value_in};
-ghost use Rattle.ecs_print.specs.Values.{held_text};
+ghost use Rattle.ecs_print.specs.Values.{ended_text, held_text};
 
 use crate::digits::write_next;
 use crate::entities::write_id;
@@ -28,10 +28,13 @@ pub fn write_facts<A: Allocator>(
     ensures { OnOk result (out.new.items ≡ out.old.items ++ flat_map (fact_text world.now entity.index) (ids_of world.now entity.index)) }
 {
     let facts = world.facts(entity).unwrap();
+    out.extend_from_slice(b" [")?;
     for place in 0..facts.len() {
         let (id, bytes) = facts.at(place);
         write_held(world, id, bytes, out)?;
     }
+    // Behind the last fact no other follows.
+    out.truncate(out.len() - 2);
     Ok(())
 }
 
@@ -69,7 +72,7 @@ pub fn write_value<A: Allocator>(
     }
 }
 
-/// Writes a fact of which the bytes of its value are given.
+/// Writes an id, the value that its bytes mean, and what stands between two facts.
 fn write_held<A: Allocator>(
     world: &World<A>,
     id: Id,
@@ -79,13 +82,11 @@ fn write_held<A: Allocator>(
     requires { length bytes.now ≡ byte_count (type_of_id world.now id) }
     ensures { OnOk result (out.new.items ≡ out.old.items ++ held_text world.now id bytes.now) }
 {
-    out.extend_from_slice(b" [")?;
     write_id(world, id, out)?;
-    write_bytes(world, id, bytes, out)?;
-    out.extend_from_slice(b"]")
+    write_bytes(world, id, bytes, out)
 }
 
-/// Writes the value that the bytes of a fact mean. Where there are none, its type needs no look-up.
+/// Writes the value that the bytes of a fact mean, and what stands between two facts. Where there are no bytes, their type needs no look-up.
 fn write_bytes<A: Allocator>(
     world: &World<A>,
     id: Id,
@@ -93,16 +94,32 @@ fn write_bytes<A: Allocator>(
     out: &mut Vec<u8, A>,
 ) -> Result<(), AllocError>
     requires { length bytes.now ≡ byte_count (type_of_id world.now id) }
-    ensures { OnOk result (out.new.items ≡ out.old.items ++ value_text (Some (value_in (type_of_id world.now id) bytes.now))) }
+    ensures { OnOk result (out.new.items ≡ out.old.items ++ ended_text world.now id bytes.now) }
 {
     world.keeps();
     if bytes.is_empty() {
-        return Ok(());
+        return out.extend_from_slice(b"] [");
     }
     match world.type_of(id) {
-        None => Ok(()),
-        Some(schema) => write_fields(schema, bytes, out),
+        None => out.extend_from_slice(b"] ["),
+        Some(schema) => write_ended(schema, bytes, out),
     }
+}
+
+/// Writes the value that bytes mean, and what stands between two facts.
+fn write_ended<A: Allocator>(
+    schema: &Schema<A>,
+    bytes: &[u8],
+    out: &mut Vec<u8, A>,
+) -> Result<(), AllocError>
+    requires { length bytes.now ≡ size_of schema.now }
+    ensures { OnOk result (out.new.items ≡ out.old.items ++ value_text (Some (values_in schema.now bytes.now)) ++ codes "] [") }
+{
+    let mut text = [b'['; MOST_TEXT + 3];
+    text[MOST_TEXT + 1] = b' ';
+    text[MOST_TEXT] = b']';
+    let start = put_fields(schema, bytes, &mut text);
+    out.extend_from_slice(&text[start..])
 }
 
 /// Writes the value that bytes mean: `=` and the number of each field, with commas between.
@@ -114,16 +131,27 @@ pub fn write_fields<A: Allocator>(
     requires { length bytes.now ≡ size_of schema.now }
     ensures { OnOk result (out.new.items ≡ out.old.items ++ value_text (Some (values_in schema.now bytes.now))) }
 {
+    let mut text = [0; MOST_TEXT];
+    let start = put_fields(schema, bytes, &mut text);
+    out.extend_from_slice(&text[start..])
+}
+
+/// Writes the value that bytes mean right before `MOST_TEXT`, and answers where it starts.
+fn put_fields<A: Allocator>(schema: &Schema<A>, bytes: &[u8], text: &mut [u8]) -> usize
+    requires size { length bytes.now ≡ size_of schema.now }
+    requires room { 176 ≤ length text.old }
+    ensures within { result ≤ 176 }
+    ensures written { drop result text.new ≡ value_text (Some (values_in schema.now bytes.now)) ++ drop 176 text.old }
+{
     bytes_are_a_value(schema, bytes);
     let count = schema.field_count();
-    let mut text = [0; MOST_TEXT];
     let mut start = MOST_TEXT;
     let mut field = count;
     while field > 0 {
         field -= 1;
-        start = write_next(schema.decode(bytes, field), &mut text, start);
+        start = write_next(schema.decode(bytes, field), text, start);
     }
     // Before the first number stands no comma.
     text[start] = b'=';
-    out.extend_from_slice(&text[start..])
+    start
 }
