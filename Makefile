@@ -3,7 +3,7 @@
 SCRIPT ?= examples/solar_system.flecsq
 PREFIX ?= $(HOME)/.local
 PROGRAM := crates/flecsq/out/flecsq
-BENCHMARKS := crates/bench_indexes/out/bench_indexes crates/bench_world/out/bench_world
+BENCHMARKS := crates/bench_indexes/out/bench_indexes crates/bench_query/out/bench_query crates/bench_world/out/bench_world
 SOURCES := crates.txt $(shell find crates -name out -prune -o -path '*/must-fail/*' -prune -o -type f \( -name '*.rt' -o -name '*.antt' \) -print)
 
 .PHONY: run install test edits bench check clean

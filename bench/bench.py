@@ -19,7 +19,7 @@ import time
 import workloads
 
 TOP = os.path.realpath(os.path.join(os.path.dirname(os.path.realpath(__file__)), ".."))
-PROGRAMS = [("bench_indexes", []), ("bench_world", ["10000"]), ("bench_world", ["100000"])]
+PROGRAMS = [("bench_indexes", []), ("bench_query", ["terms", "1000"]), ("bench_world", ["10000"]), ("bench_world", ["100000"])]
 RUNS = 3
 
 
@@ -88,7 +88,7 @@ def run_program(crate, words):
         print(f"{crate} is not built: make bench builds it")
         return False
     seconds, _ = timed([program(crate), *words], os.devnull)
-    row(crate, "".join(f"{int(it):,}" for it in words), seconds, counted([program(crate), *words], os.devnull))
+    row(crate, "".join(f"{int(it):,}" for it in words if it.isdecimal()), seconds, counted([program(crate), *words], os.devnull))
     return seconds is not None
 
 
