@@ -45,8 +45,8 @@ mod tables;
 
 use component_index::ComponentIndex;
 use ecs_id::LAST_INDEX;
-use entity_index::EntityIndex;
 pub use entity_facts::EntityFacts;
+use entity_index::EntityIndex;
 pub use facts::Found;
 pub use graph::Graph;
 pub use plans::{Move, Plan, Target};

@@ -4,8 +4,8 @@
 #![tactic(auto)]
 
 pub mod built_ins;
-pub mod facts;
 pub mod fact_laws;
+pub mod facts;
 pub mod faults;
 pub mod laws;
 pub mod names;
