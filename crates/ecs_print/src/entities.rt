@@ -32,6 +32,7 @@ pub fn write_entity<A: Allocator>(
 }
 
 /// Writes the live entity at an index, and nothing where none lives.
+#[inline(always)]
 pub fn write_index<A: Allocator>(
     world: &World<A>,
     index: u32,
@@ -50,6 +51,7 @@ pub fn write_index<A: Allocator>(
 }
 
 /// Writes an id: the entity of a component or tag, or `(R,T)` for a pair.
+#[inline(always)]
 pub fn write_id<A: Allocator>(
     world: &World<A>,
     id: Id,

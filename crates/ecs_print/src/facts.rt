@@ -73,6 +73,7 @@ pub fn write_value<A: Allocator>(
 }
 
 /// Writes an id, the value that its bytes mean, and what stands between two facts.
+#[inline(always)]
 fn write_held<A: Allocator>(
     world: &World<A>,
     id: Id,
@@ -87,6 +88,7 @@ fn write_held<A: Allocator>(
 }
 
 /// Writes the value that the bytes of a fact mean, and what stands between two facts. Where there are no bytes, their type needs no look-up.
+#[inline(always)]
 fn write_bytes<A: Allocator>(
     world: &World<A>,
     id: Id,
@@ -107,6 +109,7 @@ fn write_bytes<A: Allocator>(
 }
 
 /// Writes the value that bytes mean, and what stands between two facts.
+#[inline(always)]
 fn write_ended<A: Allocator>(
     schema: &Schema<A>,
     bytes: &[u8],
