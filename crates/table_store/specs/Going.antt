@@ -1,6 +1,6 @@
 -- What each call leaves of the tables that stood before.
 use Rattle.std.specs.Prelude.{◌≡◌, ◌≤◌, List, Some}
-use Rattle.std.proofs.Common.{arith, refl}
+use Rattle.std.proofs.Common.{arith}
 use Rattle.ecs_id.specs.declared.TableKey.{TableKey}
 use Rattle.ecs_id.specs.Id.{Id}
 use Rattle.table_store.specs.Store.{Store, ids_at}
