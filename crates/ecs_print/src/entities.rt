@@ -23,7 +23,7 @@ pub fn write_entity<A: Allocator>(
     entity: EntityId,
     out: &mut Vec<u8, A>,
 ) -> Result<(), AllocError>
-    ensures { OnOk result (out.new.items ≡ out.old.items ++ entity_text world.now entity) }
+    ensures { OnOk result (out.new.items ≡ out.old.items ++ entity_text world.now.state entity) }
 {
     match world.name_of(entity.index) {
         Some(name) => out.extend_from_slice(name.as_bytes()),
@@ -38,7 +38,7 @@ pub fn write_index<A: Allocator>(
     index: u32,
     out: &mut Vec<u8, A>,
 ) -> Result<(), AllocError>
-    ensures { OnOk result (out.new.items ≡ out.old.items ++ index_text world.now index) }
+    ensures { OnOk result (out.new.items ≡ out.old.items ++ index_text world.now.state index) }
 {
     world.keeps();
     if let Some(name) = world.name_of(index) {
@@ -57,7 +57,7 @@ pub fn write_id<A: Allocator>(
     id: Id,
     out: &mut Vec<u8, A>,
 ) -> Result<(), AllocError>
-    ensures { OnOk result (out.new.items ≡ out.old.items ++ id_text world.now id) }
+    ensures { OnOk result (out.new.items ≡ out.old.items ++ id_text world.now.state id) }
 {
     match id.second() {
         None => write_index(world, id.first(), out),

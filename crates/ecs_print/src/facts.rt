@@ -24,8 +24,8 @@ pub fn write_facts<A: Allocator>(
     entity: EntityId,
     out: &mut Vec<u8, A>,
 ) -> Result<(), AllocError>
-    requires { IsTrue (is_alive world.now entity) }
-    ensures { OnOk result (out.new.items ≡ out.old.items ++ flat_map (fact_text world.now entity.index) (ids_of world.now entity.index)) }
+    requires { IsTrue (is_alive world.now.state entity) }
+    ensures { OnOk result (out.new.items ≡ out.old.items ++ flat_map (fact_text world.now.state entity.index) (ids_of world.now.state entity.index)) }
 {
     let facts = world.facts(entity).unwrap();
     out.extend_from_slice(b" [")?;
@@ -45,7 +45,7 @@ pub fn write_fact<A: Allocator>(
     id: Id,
     out: &mut Vec<u8, A>,
 ) -> Result<(), AllocError>
-    ensures { OnOk result (out.new.items ≡ out.old.items ++ fact_text world.now entity id) }
+    ensures { OnOk result (out.new.items ≡ out.old.items ++ fact_text world.now.state entity id) }
 {
     out.extend_from_slice(b" [")?;
     write_id(world, id, out)?;
@@ -60,7 +60,7 @@ pub fn write_value<A: Allocator>(
     id: Id,
     out: &mut Vec<u8, A>,
 ) -> Result<(), AllocError>
-    ensures { OnOk result (out.new.items ≡ out.old.items ++ value_text (value_of world.now entity id)) }
+    ensures { OnOk result (out.new.items ≡ out.old.items ++ value_text (value_of world.now.state entity id)) }
 {
     world.keeps();
     let Some(schema) = world.type_of(id) else {
@@ -80,8 +80,8 @@ fn write_held<A: Allocator>(
     bytes: &[u8],
     out: &mut Vec<u8, A>,
 ) -> Result<(), AllocError>
-    requires { length bytes.now ≡ byte_count (type_of_id world.now id) }
-    ensures { OnOk result (out.new.items ≡ out.old.items ++ held_text world.now id bytes.now) }
+    requires { length bytes.now ≡ byte_count (type_of_id world.now.state id) }
+    ensures { OnOk result (out.new.items ≡ out.old.items ++ held_text world.now.state id bytes.now) }
 {
     write_id(world, id, out)?;
     write_bytes(world, id, bytes, out)
@@ -95,8 +95,8 @@ fn write_bytes<A: Allocator>(
     bytes: &[u8],
     out: &mut Vec<u8, A>,
 ) -> Result<(), AllocError>
-    requires { length bytes.now ≡ byte_count (type_of_id world.now id) }
-    ensures { OnOk result (out.new.items ≡ out.old.items ++ ended_text world.now id bytes.now) }
+    requires { length bytes.now ≡ byte_count (type_of_id world.now.state id) }
+    ensures { OnOk result (out.new.items ≡ out.old.items ++ ended_text world.now.state id bytes.now) }
 {
     world.keeps();
     if bytes.is_empty() {

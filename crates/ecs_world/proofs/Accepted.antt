@@ -7,7 +7,6 @@ use Rattle.std.specs.List.{list_all}
 use Rattle.std.specs.Option.{option_map_or}
 use Rattle.std.specs.Ordering.{nat_cmp}
 use Rattle.ecs_id.specs.declared.EntityId.{EntityId}
-use Rattle.ecs_id.specs.declared.Place.{Place}
 use Rattle.ecs_id.specs.Id.{Id, plain, mentioned, id_cmp, id_eq}
 use Rattle.ecs_model.specs.Map.{Map, value_at, has_key, with_value, without}
 use Rattle.ecs_model.specs.Schema.{Schema, schema_fault, zeros}

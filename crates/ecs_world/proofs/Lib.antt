@@ -6,6 +6,7 @@ pub mod NameLists
 pub mod Crowding
 pub mod Refusing
 pub mod States
+pub mod Standings
 pub mod Left
 pub mod Births
 pub mod First

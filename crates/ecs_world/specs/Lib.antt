@@ -1,2 +1,3 @@
 pub mod BuiltIn
+pub mod Standing
 pub mod State

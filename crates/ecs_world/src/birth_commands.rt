@@ -7,6 +7,7 @@ ghost use Rattle.ecs_model.specs.Refusal.{first_reason};
 ghost use Rattle.ecs_model.specs.Text.{is_name};
 ghost use Rattle.name_index.specs.Names.{IsUnnamed};
 ghost use Rattle.ecs_world.specs.State.{IsUnbound};
+ghost use Rattle.table_store.specs.Going.{TablesGoOn};
 
 use crate::built_in::COMPONENT;
 use crate::{Changes, World};
@@ -21,7 +22,8 @@ use table_store::SizedId;
 impl<A: Allocator + Copy> World<A> {
     /// Makes an entity without a name and without facts.
     pub fn fresh(&mut self) -> Result<Changes, CommandError>
-        ensures { AnswersStep result (step self.old Fresh) self.old self.new }
+        ensures answers { AnswersStep result (step self.old.state Fresh) self.old.state self.new.state }
+        ensures goes_on { TablesGoOn self.old.tables self.new.tables }
     {
         match self.birth_refusal() {
             None => self.make_fresh(),
@@ -31,7 +33,8 @@ impl<A: Allocator + Copy> World<A> {
 
     /// Makes an entity with a name and without facts.
     pub fn entity(&mut self, name: &str) -> Result<Changes, CommandError>
-        ensures { AnswersStep result (step self.old (Entity name.now)) self.old self.new }
+        ensures answers { AnswersStep result (step self.old.state (Entity name.now)) self.old.state self.new.state }
+        ensures goes_on { TablesGoOn self.old.tables self.new.tables }
     {
         match self.birth_refusal() {
             None => self.make_entity(name),
@@ -41,7 +44,8 @@ impl<A: Allocator + Copy> World<A> {
 
     /// Makes an entity with a name and fields, which holds the tag `Component`.
     pub fn component(&mut self, name: &str, schema: Schema<A>) -> Result<Changes, CommandError>
-        ensures { AnswersStep result (step self.old (Component name.now schema)) self.old self.new }
+        ensures answers { AnswersStep result (step self.old.state (Component name.now schema)) self.old.state self.new.state }
+        ensures goes_on { TablesGoOn self.old.tables self.new.tables }
     {
         match self.birth_refusal() {
             None => self.make_component(name, schema),
@@ -50,8 +54,9 @@ impl<A: Allocator + Copy> World<A> {
     }
 
     fn make_fresh(&mut self) -> Result<Changes, CommandError>
-        requires { first_reason (birth_reasons self.old) ≡ None }
-        ensures { AnswersStep result (step self.old Fresh) self.old self.new }
+        requires { first_reason (birth_reasons self.old.state) ≡ None }
+        ensures answers { AnswersStep result (step self.old.state Fresh) self.old.state self.new.state }
+        ensures goes_on { TablesGoOn self.old.tables self.new.tables }
     {
         let Ok(entity) = self.archetypes.create(&[]) else {
             return Err(CommandError::Memory);
@@ -61,8 +66,9 @@ impl<A: Allocator + Copy> World<A> {
     }
 
     fn make_entity(&mut self, name: &str) -> Result<Changes, CommandError>
-        requires { first_reason (birth_reasons self.old) ≡ None }
-        ensures { AnswersStep result (step self.old (Entity name.now)) self.old self.new }
+        requires { first_reason (birth_reasons self.old.state) ≡ None }
+        ensures answers { AnswersStep result (step self.old.state (Entity name.now)) self.old.state self.new.state }
+        ensures goes_on { TablesGoOn self.old.tables self.new.tables }
     {
         let entity = self.archetypes.upcoming().unwrap();
         bind(&mut self.names, name, entity)?;
@@ -75,8 +81,9 @@ impl<A: Allocator + Copy> World<A> {
     }
 
     fn make_component(&mut self, name: &str, schema: Schema<A>) -> Result<Changes, CommandError>
-        requires { first_reason (birth_reasons self.old) ≡ None }
-        ensures { AnswersStep result (step self.old (Component name.now schema)) self.old self.new }
+        requires { first_reason (birth_reasons self.old.state) ≡ None }
+        ensures answers { AnswersStep result (step self.old.state (Component name.now schema)) self.old.state self.new.state }
+        ensures goes_on { TablesGoOn self.old.tables self.new.tables }
     {
         let entity = self.archetypes.upcoming().unwrap();
         // What is known of it: it has no fault.

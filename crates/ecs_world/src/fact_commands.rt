@@ -1,6 +1,7 @@
 //! Commands on facts. Each finds the row of its entity once, judges, and then acts on what was found.
 
 ghost use Rattle.ecs_model.specs.Command.{Add, AnswersStep, Remove, SetValue, step};
+ghost use Rattle.table_store.specs.Going.{TablesGoOn};
 
 use crate::{Changes, World};
 use ecs_id::{EntityId, Id};
@@ -11,7 +12,8 @@ use std::alloc::Allocator;
 impl<A: Allocator + Copy> World<A> {
     /// Adds an id to an entity, with zeros as its value. A fact that is there already keeps its value.
     pub fn add(&mut self, entity: EntityId, id: Id) -> Result<Changes, CommandError>
-        ensures { AnswersStep result (step self.old (Add entity id)) self.old self.new }
+        ensures answers { AnswersStep result (step self.old.state (Add entity id)) self.old.state self.new.state }
+        ensures goes_on { TablesGoOn self.old.tables self.new.tables }
     {
         let Some(found) = self.archetypes.find(entity, id) else {
             return Err(CommandError::Refused(Refusal::Dead));
@@ -39,7 +41,8 @@ impl<A: Allocator + Copy> World<A> {
         id: Id,
         values: &[i128],
     ) -> Result<Changes, CommandError>
-        ensures { AnswersStep result (step self.old (SetValue entity id values.now)) self.old self.new }
+        ensures answers { AnswersStep result (step self.old.state (SetValue entity id values.now)) self.old.state self.new.state }
+        ensures goes_on { TablesGoOn self.old.tables self.new.tables }
     {
         let Some(found) = self.archetypes.find(entity, id) else {
             return Err(CommandError::Refused(Refusal::Dead));
@@ -65,7 +68,8 @@ impl<A: Allocator + Copy> World<A> {
 
     /// Takes an id from an entity. Where the entity doesn't hold it, nothing changes but the count of commands.
     pub fn remove(&mut self, entity: EntityId, id: Id) -> Result<Changes, CommandError>
-        ensures { AnswersStep result (step self.old (Remove entity id)) self.old self.new }
+        ensures answers { AnswersStep result (step self.old.state (Remove entity id)) self.old.state self.new.state }
+        ensures goes_on { TablesGoOn self.old.tables self.new.tables }
     {
         let Some(found) = self.archetypes.find(entity, id) else {
             return Err(CommandError::Refused(Refusal::Dead));

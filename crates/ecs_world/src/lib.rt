@@ -38,7 +38,7 @@ mod refusals;
 
 pub use changes::Changes;
 use ecs_archetypes::Archetypes;
-pub use ecs_archetypes::EntityFacts;
+pub use ecs_archetypes::{EntityFacts, Graph};
 pub use ecs_model::FactKey;
 use ecs_schema::Schema;
 use name_index::NameIndex;
@@ -61,12 +61,15 @@ pub struct World<A: Allocator = Global> {
 
 impl<A: Allocator> Model for World<A> {
     ghost use Rattle.ecs_archetypes.specs.Housing.{holdings_of};
-    ghost use Rattle.ecs_model.specs.World.{WorldState};
+    ghost use Rattle.ecs_world.specs.Standing.{Standing};
     ghost use Rattle.ecs_world.specs.State.{IsWorld, parts_of, state_of};
 
-    ghost Value = { WorldState };
+    ghost Value = { Standing };
 
-    ghost view = { λ w. state_of (parts_of (holdings_of w.archetypes) w.names w.schemas.entries w.accepted) };
+    ghost view = { λ w. record {
+      state = state_of (parts_of (holdings_of w.archetypes) w.names w.schemas.entries w.accepted);
+      tables = (w.archetypes).tables;
+    } };
 
     ghost invariant = { λ w. IsWorld (parts_of (holdings_of w.archetypes) w.names w.schemas.entries w.accepted) };
 }
@@ -76,7 +79,7 @@ impl<A: Allocator + Copy> World<A> {
     ///
     /// Names, ids and tables are hashed with these random keys, so that nobody can choose any that make look-ups slow.
     pub fn new(alloc: A, random: RandomState) -> Result<Self, Memory>
-        ensures { IfOk result (λ w. w ≡ first_world) }
+        ensures { IfOk result (λ w. w.state ≡ first_world) }
     {
         Ok(World {
             archetypes: built_in::archetypes(alloc, random)?,

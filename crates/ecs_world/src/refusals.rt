@@ -20,7 +20,7 @@ use std::alloc::Allocator;
 impl<A: Allocator> World<A> {
     /// Why no entity is made.
     pub(crate) fn birth_refusal(&self) -> Option<Refusal>
-        ensures { result ≡ first_reason (birth_reasons self.now) }
+        ensures { result ≡ first_reason (birth_reasons self.now.state) }
     {
         if self.upcoming().is_none() || self.is_spent() {
             Some(Refusal::Full)
@@ -31,8 +31,8 @@ impl<A: Allocator> World<A> {
 
     /// Why no entity is made with this name, where none is made with any.
     pub(crate) fn refusal_of(&self, name: &str, full: Refusal) -> Refusal
-        requires { first_reason (birth_reasons self.now) ≡ Some full }
-        ensures { Some result ≡ first_reason (name_reasons self.now name.now ++ birth_reasons self.now) }
+        requires { first_reason (birth_reasons self.now.state) ≡ Some full }
+        ensures { Some result ≡ first_reason (name_reasons self.now.state name.now ++ birth_reasons self.now.state) }
     {
         if !is_name(name.as_bytes()) {
             Refusal::BadName
@@ -45,10 +45,10 @@ impl<A: Allocator> World<A> {
 
     /// Why an id is not added to a live entity.
     pub(crate) fn add_refusal(&self, entity: EntityId, id: Id, found: &Found) -> Option<Refusal>
-        requires alive { IsTrue (is_alive self.now entity) }
-        requires held { (found.now).is_held ≡ holds self.now entity.index id }
-        requires count { (found.now).count ≡ length (ids_of self.now entity.index) }
-        ensures { result ≡ first_reason (reasons self.now (Add entity id)) }
+        requires alive { IsTrue (is_alive self.now.state entity) }
+        requires held { (found.now).is_held ≡ holds self.now.state entity.index id }
+        requires count { (found.now).count ≡ length (ids_of self.now.state entity.index) }
+        ensures { result ≡ first_reason (reasons self.now.state (Add entity id)) }
     {
         self.keeps();
         if !self.mentions_live(id) {
@@ -69,12 +69,12 @@ impl<A: Allocator> World<A> {
         found: &Found,
         buffer: &mut [u8; 64],
     ) -> Result<usize, Refusal>
-        requires alive { IsTrue (is_alive self.now entity) }
-        requires held { (found.now).is_held ≡ holds self.now entity.index id }
-        requires count { (found.now).count ≡ length (ids_of self.now entity.index) }
-        ensures judged { OnOk result (first_reason (reasons self.now (SetValue entity id values.now)) ≡ None) }
-        ensures encoded { IfOk result (λ size. IsEncoded (type_of_id self.now id) values.now size buffer.new) }
-        ensures refused { IfErr result (λ refusal. first_reason (reasons self.now (SetValue entity id values.now)) ≡ Some refusal) }
+        requires alive { IsTrue (is_alive self.now.state entity) }
+        requires held { (found.now).is_held ≡ holds self.now.state entity.index id }
+        requires count { (found.now).count ≡ length (ids_of self.now.state entity.index) }
+        ensures judged { OnOk result (first_reason (reasons self.now.state (SetValue entity id values.now)) ≡ None) }
+        ensures encoded { IfOk result (λ size. IsEncoded (type_of_id self.now.state id) values.now size buffer.new) }
+        ensures refused { IfErr result (λ refusal. first_reason (reasons self.now.state (SetValue entity id values.now)) ≡ Some refusal) }
     {
         self.keeps();
         if !self.mentions_live(id) {
@@ -92,8 +92,8 @@ impl<A: Allocator> World<A> {
 
     /// Why an id is not taken from a live entity.
     pub(crate) fn remove_refusal(&self, entity: EntityId, id: Id) -> Option<Refusal>
-        requires { IsTrue (is_alive self.now entity) }
-        ensures { result ≡ first_reason (reasons self.now (Remove entity id)) }
+        requires { IsTrue (is_alive self.now.state entity) }
+        ensures { result ≡ first_reason (reasons self.now.state (Remove entity id)) }
     {
         if !self.mentions_live(id) {
             Some(Refusal::Dead)
@@ -108,9 +108,9 @@ impl<A: Allocator> World<A> {
 
     /// Writes the bytes of a value to the front of the buffer, and tells how many they are, or why the numbers are no value of the id.
     fn encode(&self, id: Id, values: &[i128], buffer: &mut [u8; 64]) -> Result<usize, Refusal>
-        ensures judged { OnOk result (first_reason (value_reasons (type_of_id self.now id) values.now) ≡ None) }
-        ensures encoded { IfOk result (λ size. IsEncoded (type_of_id self.now id) values.now size buffer.new) }
-        ensures refused { IfErr result (λ refusal. first_reason (value_reasons (type_of_id self.now id) values.now) ≡ Some refusal) }
+        ensures judged { OnOk result (first_reason (value_reasons (type_of_id self.now.state id) values.now) ≡ None) }
+        ensures encoded { IfOk result (λ size. IsEncoded (type_of_id self.now.state id) values.now size buffer.new) }
+        ensures refused { IfErr result (λ refusal. first_reason (value_reasons (type_of_id self.now.state id) values.now) ≡ Some refusal) }
     {
         let Some(schema) = self.type_of(id) else {
             return Err(Refusal::NoData);
@@ -125,7 +125,7 @@ impl<A: Allocator> World<A> {
 
     /// Why an entity does not get one id more, if it gets one.
     fn growth_refusal(&self, found: &Found) -> Option<Refusal>
-        ensures { result ≡ first_reason (growth_reasons found.now (is_spent self.now)) }
+        ensures { result ≡ first_reason (growth_reasons found.now (is_spent self.now.state)) }
     {
         if !found.is_held && found.count >= MOST_IDS {
             Some(Refusal::TooManyIds)
@@ -138,21 +138,21 @@ impl<A: Allocator> World<A> {
 
     /// Whether all that an id mentions is live.
     fn mentions_live(&self, id: Id) -> bool
-        ensures { result ≡ list_all (is_live self.now) (mentioned id) }
+        ensures { result ≡ list_all (is_live self.now.state) (mentioned id) }
     {
         self.is_live(id.first()) && id.second().is_none_or(|target| self.is_live(target))
     }
 
     /// No further command is counted.
     fn is_spent(&self) -> bool
-        ensures { result ≡ is_spent self.now }
+        ensures { result ≡ is_spent self.now.state }
     {
         self.accepted == u64::MAX
     }
 
     /// The entity that the next birth makes, None where no index is left.
     pub(crate) fn upcoming(&self) -> Option<EntityId>
-        ensures { result ≡ next_entity self.now }
+        ensures { result ≡ next_entity self.now.state }
     {
         self.archetypes.upcoming()
     }

@@ -21,7 +21,7 @@ pub(crate) fn ids_of_query<A: Allocator + Copy>(
     world: &World<A>,
     text: &str,
 ) -> Result<Vec<Id, A>, QueryFault>
-    ensures { AnswersIds (λ ids. ids.items) (world.now) text.now result }
+    ensures { AnswersIds (λ ids. ids.items) (world.now.state) text.now result }
 {
     let tokens = match lex(alloc, text) {
         Ok(tokens) => tokens,
@@ -43,7 +43,7 @@ fn check<A: Allocator>(
     world: &World<A>,
     parts: &[Part<'_>],
 ) -> Result<Vec<Id, A>, QueryFault>
-    ensures { AnswersCheck (λ ids. ids.items) world.now (map seen_part parts.now) result }
+    ensures { AnswersCheck (λ ids. ids.items) world.now.state (map seen_part parts.now) result }
 {
     let mut ids = Vec::new(alloc);
     let mut least = None;
@@ -61,7 +61,7 @@ fn check<A: Allocator>(
 
 /// The id of the entity that a term's word names.
 fn id_of<A: Allocator>(world: &World<A>, part: &Part<'_>) -> Option<Id>
-    ensures { NamesId world.now (seen_part part.now) result }
+    ensures { NamesId world.now.state (seen_part part.now) result }
 {
     world.keeps();
     let Part::Term(reference) = part;

@@ -26,7 +26,7 @@ pub(crate) fn columns_of<'w, A: Allocator + Copy>(
     ids: &[Id],
 ) -> Result<Vec<Column<'w, A>, A>, AllocError>
     ensures ids { IfOk result (λ columns. map (λ c. c.id) columns.items ≡ ids.now) }
-    ensures columns { IfOk result (λ columns. All (IsColumn world.now) columns.items) }
+    ensures columns { IfOk result (λ columns. All (IsColumn world.now.state) columns.items) }
 {
     let mut columns = Vec::new(alloc);
     for id in ids {
@@ -42,7 +42,7 @@ fn column_of<'w, A: Allocator>(
     id: Id,
 ) -> Result<Column<'w, A>, AllocError>
     ensures id { IfOk result (λ column. column.id ≡ id) }
-    ensures column { IfOk result (IsColumn world.now) }
+    ensures column { IfOk result (IsColumn world.now.state) }
 {
     let mut label = Vec::new(alloc);
     write_id(world, id, &mut label)?;

@@ -24,7 +24,7 @@ pub fn ask<A: Allocator + Copy>(
     text: &str,
     out: &mut Vec<u8, A>,
 ) -> Result<(), QueryFault>
-    ensures { AnswersQuery world.now text.now out.old.items out.new.items result }
+    ensures { AnswersQuery world.now.state text.now out.old.items out.new.items result }
 {
     let ids = match ids_of_query(alloc, world, text) {
         Ok(ids) => ids,

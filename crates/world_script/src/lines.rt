@@ -26,9 +26,9 @@ pub(crate) fn run_lines<A: Allocator + Copy>(
     output: &mut Vec<u8, A>,
 ) -> Result<Summary, AllocError>
     ensures printed { OnOk result
-        (output.new.items ≡ output.old.items ++ printed_by (effects_from (session_of world.old) 1 script.now)) }
-    ensures lines { IfOk result (λ summary. summary.lines ≡ length (effects_from (session_of world.old) 1 script.now)) }
-    ensures refused { IfOk result (λ summary. summary.refused ≡ refused_among (effects_from (session_of world.old) 1 script.now)) }
+        (output.new.items ≡ output.old.items ++ printed_by (effects_from (session_of world.old.state) 1 script.now)) }
+    ensures lines { IfOk result (λ summary. summary.lines ≡ length (effects_from (session_of world.old.state) 1 script.now)) }
+    ensures refused { IfOk result (λ summary. summary.refused ≡ refused_among (effects_from (session_of world.old.state) 1 script.now)) }
 {
     let mut summary = Summary {
         lines: 0,

@@ -18,8 +18,8 @@ pub(crate) fn find_entity<A: Allocator>(
     world: &World<A>,
     entity: Reference<'_>,
 ) -> Result<EntityId, Refusal>
-    ensures value { result ≡ entity_found world.now (seen_reference entity.entry) }
-    ensures alive { IfOk result (λ e. IsTrue (is_alive world.now e)) }
+    ensures value { result ≡ entity_found world.now.state (seen_reference entity.entry) }
+    ensures alive { IfOk result (λ e. IsTrue (is_alive world.now.state e)) }
 {
     if is_dead_handle(world, entity) {
         return Err(Refusal::Dead);
@@ -36,7 +36,7 @@ pub(crate) fn find_both<A: Allocator>(
     entity: Reference<'_>,
     id: IdReference<'_>,
 ) -> Result<(EntityId, Id), Refusal>
-    ensures { FindsBoth world.now (seen_reference entity.entry) (seen_id id.entry) result }
+    ensures { FindsBoth world.now.state (seen_reference entity.entry) (seen_id id.entry) result }
 {
     if is_dead_handle(world, entity) || names_dead_handle(world, id) {
         return Err(Refusal::Dead);
@@ -52,7 +52,7 @@ pub(crate) fn find_both<A: Allocator>(
 
 /// Whether a reference is the handle of no live entity.
 fn is_dead_handle<A: Allocator>(world: &World<A>, reference: Reference<'_>) -> bool
-    ensures { result ≡ is_dead_handle world.now (seen_reference reference.entry) }
+    ensures { result ≡ is_dead_handle world.now.state (seen_reference reference.entry) }
 {
     match reference {
         Reference::Name(_) => false,
@@ -62,7 +62,7 @@ fn is_dead_handle<A: Allocator>(world: &World<A>, reference: Reference<'_>) -> b
 
 /// Whether some reference of an id is the handle of no live entity.
 fn names_dead_handle<A: Allocator>(world: &World<A>, id: IdReference<'_>) -> bool
-    ensures { result ≡ list_any (is_dead_handle world.now) (refs_of_id (seen_id id.entry)) }
+    ensures { result ≡ list_any (is_dead_handle world.now.state) (refs_of_id (seen_id id.entry)) }
 {
     match id {
         IdReference::Plain(reference) => is_dead_handle(world, reference),
@@ -75,7 +75,7 @@ fn names_dead_handle<A: Allocator>(world: &World<A>, id: IdReference<'_>) -> boo
 
 /// The live entity of a reference.
 fn live_entity<A: Allocator>(world: &World<A>, reference: Reference<'_>) -> Option<EntityId>
-    ensures value { result ≡ found world.now (seen_reference reference.entry) }
+    ensures value { result ≡ found world.now.state (seen_reference reference.entry) }
     ensures index { IfSome result (λ e. IsIndex e.index) }
 {
     world.keeps();
@@ -93,7 +93,7 @@ fn live_entity<A: Allocator>(world: &World<A>, reference: Reference<'_>) -> Opti
 
 /// The id of references, where each is that of a live entity.
 fn live_id<A: Allocator>(world: &World<A>, id: IdReference<'_>) -> Option<Id>
-    ensures { result ≡ id_found world.now (seen_id id.entry) }
+    ensures { result ≡ id_found world.now.state (seen_id id.entry) }
 {
     match id {
         IdReference::Plain(reference) => {

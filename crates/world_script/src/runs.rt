@@ -53,7 +53,7 @@ fn run_in<A: Allocator + Copy, R: Source, W: Sink>(
     reader: &mut R,
     writer: &mut W,
 ) -> Result<Summary, RunError>
-    requires { world.old ≡ first_world }
+    requires { world.old.state ≡ first_world }
     ensures output { OnOk result (IsOutput (R.remaining reader.old) (W.contents writer.old) (W.contents writer.new)) }
     ensures count { IfOk result (IsCount (R.remaining reader.old)) }
     ensures fits { OnOk result (FitsScript (R.remaining reader.old)) }

@@ -29,7 +29,7 @@ pub(crate) fn run_line<A: Allocator + Copy>(
     values: &mut Vec<i128, A>,
     output: &mut Vec<u8, A>,
 ) -> Result<bool, AllocError>
-    ensures { IfOk result (IsDone (line_effect (session_of world.old) number line.now) (session_of world.new) output.old.items output.new.items) }
+    ensures { IfOk result (IsDone (line_effect (session_of world.old.state) number line.now) (session_of world.new.state) output.old.items output.new.items) }
 {
     match read_line(alloc, line, values)? {
         Line::Nothing => Ok(false),
@@ -56,8 +56,8 @@ fn run_new<A: Allocator + Copy>(
     number: usize,
     output: &mut Vec<u8, A>,
 ) -> Result<bool, AllocError>
-    ensures { IfOk result (IsDone (effect_of (session_of world.old) number (Obey MakeFresh))
-        (session_of world.new) output.old.items output.new.items) }
+    ensures { IfOk result (IsDone (effect_of (session_of world.old.state) number (Obey MakeFresh))
+        (session_of world.new.state) output.old.items output.new.items) }
 {
     let answer = world.fresh();
     tell_born(number, answer, output)
@@ -70,8 +70,8 @@ fn run_entity<A: Allocator + Copy>(
     name: &str,
     output: &mut Vec<u8, A>,
 ) -> Result<bool, AllocError>
-    ensures { IfOk result (IsDone (effect_of (session_of world.old) number (Obey (MakeEntity name.now)))
-        (session_of world.new) output.old.items output.new.items) }
+    ensures { IfOk result (IsDone (effect_of (session_of world.old.state) number (Obey (MakeEntity name.now)))
+        (session_of world.new.state) output.old.items output.new.items) }
 {
     let answer = world.entity(name);
     tell_answer(number, answer, output)
@@ -86,8 +86,8 @@ fn run_component<A: Allocator + Copy>(
     fields: &[(&str, Kind)],
     output: &mut Vec<u8, A>,
 ) -> Result<bool, AllocError>
-    ensures { IfOk result (IsDone (effect_of (session_of world.old) number (Define name.now (map seen_field fields.now)))
-        (session_of world.new) output.old.items output.new.items) }
+    ensures { IfOk result (IsDone (effect_of (session_of world.old.state) number (Define name.now (map seen_field fields.now)))
+        (session_of world.new.state) output.old.items output.new.items) }
 {
     match Schema::new(alloc, fields) {
         Ok(schema) => {
@@ -107,8 +107,8 @@ fn run_add<A: Allocator + Copy>(
     id: IdReference<'_>,
     output: &mut Vec<u8, A>,
 ) -> Result<bool, AllocError>
-    ensures { IfOk result (IsDone (effect_of (session_of world.old) number (Obey (AddTo (seen_reference entity.entry) (seen_id id.entry))))
-        (session_of world.new) output.old.items output.new.items) }
+    ensures { IfOk result (IsDone (effect_of (session_of world.old.state) number (Obey (AddTo (seen_reference entity.entry) (seen_id id.entry))))
+        (session_of world.new.state) output.old.items output.new.items) }
 {
     match find_both(world, entity, id) {
         Err(refusal) => refuse_command(number, refusal, output),
@@ -128,8 +128,8 @@ fn run_set<A: Allocator + Copy>(
     values: &[i128],
     output: &mut Vec<u8, A>,
 ) -> Result<bool, AllocError>
-    ensures { IfOk result (IsDone (effect_of (session_of world.old) number (Obey (SetIn (seen_reference entity.entry) (seen_id id.entry) values.now)))
-        (session_of world.new) output.old.items output.new.items) }
+    ensures { IfOk result (IsDone (effect_of (session_of world.old.state) number (Obey (SetIn (seen_reference entity.entry) (seen_id id.entry) values.now)))
+        (session_of world.new.state) output.old.items output.new.items) }
 {
     match find_both(world, entity, id) {
         Err(refusal) => refuse_command(number, refusal, output),
@@ -148,8 +148,8 @@ fn run_remove<A: Allocator + Copy>(
     id: IdReference<'_>,
     output: &mut Vec<u8, A>,
 ) -> Result<bool, AllocError>
-    ensures { IfOk result (IsDone (effect_of (session_of world.old) number (Obey (RemoveFrom (seen_reference entity.entry) (seen_id id.entry))))
-        (session_of world.new) output.old.items output.new.items) }
+    ensures { IfOk result (IsDone (effect_of (session_of world.old.state) number (Obey (RemoveFrom (seen_reference entity.entry) (seen_id id.entry))))
+        (session_of world.new.state) output.old.items output.new.items) }
 {
     match find_both(world, entity, id) {
         Err(refusal) => refuse_command(number, refusal, output),
@@ -167,8 +167,8 @@ fn run_show<A: Allocator + Copy>(
     entity: Reference<'_>,
     output: &mut Vec<u8, A>,
 ) -> Result<bool, AllocError>
-    ensures { IfOk result (IsDone (effect_of (session_of world.now) number (Show (seen_reference entity.entry)))
-        (session_of world.now) output.old.items output.new.items) }
+    ensures { IfOk result (IsDone (effect_of (session_of world.now.state) number (Show (seen_reference entity.entry)))
+        (session_of world.now.state) output.old.items output.new.items) }
 {
     match find_entity(world, entity) {
         Err(refusal) => refuse_command(number, refusal, output),
@@ -187,8 +187,8 @@ fn run_query<A: Allocator + Copy>(
     text: &str,
     output: &mut Vec<u8, A>,
 ) -> Result<bool, AllocError>
-    ensures { IfOk result (IsDone (effect_of (session_of world.now) number (Ask text.now))
-        (session_of world.now) output.old.items output.new.items) }
+    ensures { IfOk result (IsDone (effect_of (session_of world.now.state) number (Ask text.now))
+        (session_of world.now.state) output.old.items output.new.items) }
 {
     match ask(alloc, world, text, output) {
         Ok(()) => Ok(false),

@@ -14,8 +14,8 @@ pub(crate) fn show_entity<A: Allocator>(
     entity: EntityId,
     output: &mut Vec<u8, A>,
 ) -> Result<(), AllocError>
-    requires { IsTrue (is_alive world.now entity) }
-    ensures { OnOk result (output.new.items ≡ output.old.items ++ show_text world.now entity) }
+    requires { IsTrue (is_alive world.now.state entity) }
+    ensures { OnOk result (output.new.items ≡ output.old.items ++ show_text world.now.state entity) }
 {
     output.extend_from_slice(b"show ")?;
     write_entity(world, entity, output)?;

@@ -11,5 +11,5 @@ pub returns-then-is_empty : goal.returns-then-is_empty
 returns-then-is_empty g c =
     let none : length c.args.bytes.now ≡ 0 = grind (arith, nat_tests) in
     let extended = c.extend_from_slice in
-    appended extended.result (c.args.out.now).items extended.new.self.items (codes "] [") (ended_text c.args.world.now c.args.id c.args.bytes.now) extended.ensures.items
-    (nothing_printed c.args.world.now c.keeps.ensures c.args.id c.args.bytes.now c.requires none)
+    appended extended.result (c.args.out.now).items extended.new.self.items (codes "] [") (ended_text c.args.world.now.state c.args.id c.args.bytes.now) extended.ensures.items
+    (nothing_printed c.args.world.now.state c.keeps.ensures c.args.id c.args.bytes.now c.requires none)

@@ -1,6 +1,7 @@
 use Rattle.std.proofs.Common.{refl, sym, ◌∙◌}
 use Rattle.ecs_model.specs.Command.{Entity}
 use Rattle.ecs_model.proofs.Answering.{step-refused}
+use Rattle.table_store.specs.Going.{goes_on_same}
 use Rattle.ecs_world.proofs.Judged.{entity_refusal}
 use Rattle.ecs_world.proofs.World.entity.Goals as goal
 
@@ -10,5 +11,8 @@ make_entity-requires g c = sym c.in-None.ensures
 pub refusal_of-requires : goal.refusal_of-requires
 refusal_of-requires g c = sym c.in-Some.ensures
 
-pub returns-in-Some : goal.returns-in-Some
-returns-in-Some g c = (step-refused c.args.self.now (Entity c.args.name.now) c.refusal_of.result (sym (c.refusal_of.ensures ∙ entity_refusal c.args.self.now c.args.name.now)), refl)
+pub returns-in-Some-clause-answers : goal.returns-in-Some-clause-answers
+returns-in-Some-clause-answers g c = (step-refused c.args.self.now.state (Entity c.args.name.now) c.refusal_of.result (sym (c.refusal_of.ensures ∙ entity_refusal c.args.self.now.state c.args.name.now)), refl)
+
+pub returns-in-Some-clause-goes_on : goal.returns-in-Some-clause-goes_on
+returns-in-Some-clause-goes_on g c = goes_on_same _

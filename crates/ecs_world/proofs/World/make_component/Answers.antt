@@ -6,6 +6,7 @@ use Rattle.ecs_model.specs.Keeps.{IsWellFormed}
 use Rattle.ecs_model.specs.World.{component}
 use Rattle.ecs_model.proofs.Additions.{not_spent}
 use Rattle.ecs_archetypes.specs.Holdings.{HoldAlike, upcoming, with_cells, with_entity}
+use Rattle.table_store.specs.Going.{goes_on_same}
 use Rattle.ecs_world.specs.State.{birth}
 use Rattle.ecs_world.proofs.Accepted.{component_agrees, component_fits, component_left, failed, kept, made_is, next_of, next_plain, next_some, next_unnamed, on_err, on_ok, unchanged}
 use Rattle.ecs_world.proofs.Bound.{none_component, unbound_component}
@@ -13,24 +14,28 @@ use Rattle.ecs_world.proofs.Judged.{births}
 use Rattle.ecs_world.proofs.NameLists.{freed}
 use Rattle.ecs_world.proofs.Ordered.{insert_put, removed_again}
 use Rattle.ecs_world.proofs.Told.{told_component}
+use Rattle.ecs_world.proofs.Standings.{going_on, state_is}
 use Rattle.ecs_world.proofs.World.make_component.Goals as goal
 
 pub unwrap-entity-requires : goal.unwrap-entity-requires
 unwrap-entity-requires g c =
-    ap is_some c.upcoming.ensures ∙ next_some c.self.invariant c.self.view_is (births c.args.self.now c.requires)
+    ap is_some c.upcoming.ensures ∙ next_some c.self.invariant (state_is c.self.view_is) (births c.args.self.now.state c.requires)
 
 pub bind-requires : goal.bind-requires
 bind-requires g c =
-    let next = next_of c.self.invariant c.self.view_is c.unwrap-entity.result (sym c.upcoming.ensures ∙ c.unwrap-entity.ensures) in
-    next_unnamed c.self.invariant c.self.view_is c.unwrap-entity.result next
+    let next = next_of c.self.invariant (state_is c.self.view_is) c.unwrap-entity.result (sym c.upcoming.ensures ∙ c.unwrap-entity.ensures) in
+    next_unnamed c.self.invariant (state_is c.self.view_is) c.unwrap-entity.result next
 
 pub invariant_of-self : goal.invariant_of-self
-invariant_of-self g c = (kept c.self.invariant c.self.view_is (holdings_of c.self.inside.archetypes) c.bind.new.names c.self.inside.schemas.entries (unchanged c.self.invariant c.self.view_is) c.in_err-bind.ensures.err refl).0
+invariant_of-self g c = (kept c.self.invariant (state_is c.self.view_is) (holdings_of c.self.inside.archetypes) c.bind.new.names c.self.inside.schemas.entries (unchanged c.self.invariant (state_is c.self.view_is)) c.in_err-bind.ensures.err refl).0
 
-pub returns-in_err-bind : goal.returns-in_err-bind
-returns-in_err-bind g c =
+pub returns-in_err-bind-clause-answers : goal.returns-in_err-bind-clause-answers
+returns-in_err-bind-clause-answers g c =
     let p = err_from_is_err_and c.from_residual.result c.from_residual.ensures.1 in
-    rw (p.1, p.2) (unbound_component c.self.invariant c.self.view_is c.args.name.now c.args.schema _ c.in_err-bind.ensures.refused _ (kept c.self.invariant c.self.view_is (holdings_of c.self.inside.archetypes) c.bind.new.names c.self.inside.schemas.entries (unchanged c.self.invariant c.self.view_is) c.in_err-bind.ensures.err refl).1)
+    rw (p.1, p.2) (unbound_component c.self.invariant (state_is c.self.view_is) c.args.name.now c.args.schema _ c.in_err-bind.ensures.refused _ (kept c.self.invariant (state_is c.self.view_is) (holdings_of c.self.inside.archetypes) c.bind.new.names c.self.inside.schemas.entries (unchanged c.self.invariant (state_is c.self.view_is)) c.in_err-bind.ensures.err refl).1)
+
+pub returns-in_err-bind-clause-goes_on : goal.returns-in_err-bind-clause-goes_on
+returns-in_err-bind-clause-goes_on g c = going_on c.self.view_is (goes_on_same _)
 
 pub same-schema : goal.same-schema
 same-schema g c = refl
@@ -38,16 +43,19 @@ same-schema g c = refl
 pub invariant_of-self-then-is_err : goal.invariant_of-self-then-is_err
 invariant_of-self-then-is_err g c =
     let w = c.self.inside in
-    (kept c.self.invariant c.self.view_is (holdings_of w.archetypes) c.unbind.new.self c.insert.new.self.entries (unchanged c.self.invariant c.self.view_is)
+    (kept c.self.invariant (state_is c.self.view_is) (holdings_of w.archetypes) c.unbind.new.self c.insert.new.self.entries (unchanged c.self.invariant (state_is c.self.view_is))
     (freed w.names c.bind.new.names c.unbind.new.self c.args.name.now c.unwrap-entity.result c.in_ok-bind.ensures.free.1 c.in_ok-bind.ensures.bound c.unbind.ensures.named)
     (on_err c.insert.result c.insert.ensures.err (sym c.is_err.ensures.value ∙ c.if-is_err.true))).0
 
-pub returns-then-is_err : goal.returns-then-is_err
-returns-then-is_err g c =
+pub returns-then-is_err-clause-answers : goal.returns-then-is_err-clause-answers
+returns-then-is_err-clause-answers g c =
     let w = c.self.inside in
-    (kept c.self.invariant c.self.view_is (holdings_of w.archetypes) c.unbind.new.self c.insert.new.self.entries (unchanged c.self.invariant c.self.view_is)
+    (kept c.self.invariant (state_is c.self.view_is) (holdings_of w.archetypes) c.unbind.new.self c.insert.new.self.entries (unchanged c.self.invariant (state_is c.self.view_is))
     (freed w.names c.bind.new.names c.unbind.new.self c.args.name.now c.unwrap-entity.result c.in_ok-bind.ensures.free.1 c.in_ok-bind.ensures.bound c.unbind.ensures.named)
     (on_err c.insert.result c.insert.ensures.err (sym c.is_err.ensures.value ∙ c.if-is_err.true))).1
+
+pub returns-then-is_err-clause-goes_on : goal.returns-then-is_err-clause-goes_on
+returns-then-is_err-clause-goes_on g c = going_on c.self.view_is (goes_on_same _)
 
 pub plain-component-requires : goal.plain-component-requires
 plain-component-requires g c = (omega arith, omega arith)
@@ -57,7 +65,7 @@ shared_whole_as_slice-create g c = omega arith
 
 pub create-requires-clause-left : goal.create-requires-clause-left
 create-requires-clause-left g c =
-    next_some c.self.invariant c.self.view_is (births c.args.self.now c.requires)
+    next_some c.self.invariant (state_is c.self.view_is) (births c.args.self.now.state c.requires)
 
 pub create-requires-clause-ascend : goal.create-requires-clause-ascend
 create-requires-clause-ascend g c = refl
@@ -67,50 +75,56 @@ create-requires-clause-small g c = rw (c.tag.ensures) refl
 
 pub create-requires-clause-agree : goal.create-requires-clause-agree
 create-requires-clause-agree g c =
-    rw (c.tag.ensures, c.plain-component.ensures) (component_agrees c.self.invariant c.self.view_is)
+    rw (c.tag.ensures, c.plain-component.ensures) (component_agrees c.self.invariant (state_is c.self.view_is))
 
 pub invariant_of-self-then-is_err-2 : goal.invariant_of-self-then-is_err-2
 invariant_of-self-then-is_err-2 g c =
     let w = c.self.inside in
-    let next = next_of c.self.invariant c.self.view_is c.unwrap-entity.result (sym c.upcoming.ensures ∙ c.unwrap-entity.ensures) in
+    let next = next_of c.self.invariant (state_is c.self.view_is) c.unwrap-entity.result (sym c.upcoming.ensures ∙ c.unwrap-entity.ensures) in
     let inserted = on_ok c.insert.result c.insert.ensures.entries (sym c.is_err.ensures.value ∙ c.if-is_err.false) in
-    (kept c.self.invariant c.self.view_is (holdings_of c.create.new.self) c.unbind-then-is_err-2.new.self c.remove.new.self.entries
-    (failed c.self.invariant c.self.view_is ((plain component, 0) ∷ []) (component_fits c.self.invariant c.self.view_is) (holdings_of c.create.new.self) c.create.ensures.holdings (on_err c.create.result c.create.ensures.refused (sym c.is_err-2.ensures.value ∙ c.if-is_err-2.true)) (rw (c.tag.ensures, c.plain-component.ensures) at c.create.ensures.sizes))
+    (kept c.self.invariant (state_is c.self.view_is) (holdings_of c.create.new.self) c.unbind-then-is_err-2.new.self c.remove.new.self.entries
+    (failed c.self.invariant (state_is c.self.view_is) ((plain component, 0) ∷ []) (component_fits c.self.invariant (state_is c.self.view_is)) (holdings_of c.create.new.self) c.create.ensures.holdings (on_err c.create.result c.create.ensures.refused (sym c.is_err-2.ensures.value ∙ c.if-is_err-2.true)) (rw (c.tag.ensures, c.plain-component.ensures) at c.create.ensures.sizes))
     (freed w.names c.bind.new.names c.unbind-then-is_err-2.new.self c.args.name.now c.unwrap-entity.result c.in_ok-bind.ensures.free.1 c.in_ok-bind.ensures.bound c.unbind-then-is_err-2.ensures.named)
-    (rw (c.remove.ensures.entries, inserted) (removed_again w.schemas.entries c.unwrap-entity.result.index c.args.schema (next_plain c.self.invariant c.self.view_is c.unwrap-entity.result next)))).0
+    (rw (c.remove.ensures.entries, inserted) (removed_again w.schemas.entries c.unwrap-entity.result.index c.args.schema (next_plain c.self.invariant (state_is c.self.view_is) c.unwrap-entity.result next)))).0
 
-pub returns-then-is_err-2 : goal.returns-then-is_err-2
-returns-then-is_err-2 g c =
+pub returns-then-is_err-2-clause-answers : goal.returns-then-is_err-2-clause-answers
+returns-then-is_err-2-clause-answers g c =
     let w = c.self.inside in
-    let next = next_of c.self.invariant c.self.view_is c.unwrap-entity.result (sym c.upcoming.ensures ∙ c.unwrap-entity.ensures) in
+    let next = next_of c.self.invariant (state_is c.self.view_is) c.unwrap-entity.result (sym c.upcoming.ensures ∙ c.unwrap-entity.ensures) in
     let inserted = on_ok c.insert.result c.insert.ensures.entries (sym c.is_err.ensures.value ∙ c.if-is_err.false) in
-    (kept c.self.invariant c.self.view_is (holdings_of c.create.new.self) c.unbind-then-is_err-2.new.self c.remove.new.self.entries
-    (failed c.self.invariant c.self.view_is ((plain component, 0) ∷ []) (component_fits c.self.invariant c.self.view_is) (holdings_of c.create.new.self) c.create.ensures.holdings (on_err c.create.result c.create.ensures.refused (sym c.is_err-2.ensures.value ∙ c.if-is_err-2.true)) (rw (c.tag.ensures, c.plain-component.ensures) at c.create.ensures.sizes))
+    (kept c.self.invariant (state_is c.self.view_is) (holdings_of c.create.new.self) c.unbind-then-is_err-2.new.self c.remove.new.self.entries
+    (failed c.self.invariant (state_is c.self.view_is) ((plain component, 0) ∷ []) (component_fits c.self.invariant (state_is c.self.view_is)) (holdings_of c.create.new.self) c.create.ensures.holdings (on_err c.create.result c.create.ensures.refused (sym c.is_err-2.ensures.value ∙ c.if-is_err-2.true)) (rw (c.tag.ensures, c.plain-component.ensures) at c.create.ensures.sizes))
     (freed w.names c.bind.new.names c.unbind-then-is_err-2.new.self c.args.name.now c.unwrap-entity.result c.in_ok-bind.ensures.free.1 c.in_ok-bind.ensures.bound c.unbind-then-is_err-2.ensures.named)
-    (rw (c.remove.ensures.entries, inserted) (removed_again w.schemas.entries c.unwrap-entity.result.index c.args.schema (next_plain c.self.invariant c.self.view_is c.unwrap-entity.result next)))).1
+    (rw (c.remove.ensures.entries, inserted) (removed_again w.schemas.entries c.unwrap-entity.result.index c.args.schema (next_plain c.self.invariant (state_is c.self.view_is) c.unwrap-entity.result next)))).1
+
+pub returns-then-is_err-2-clause-goes_on : goal.returns-then-is_err-2-clause-goes_on
+returns-then-is_err-2-clause-goes_on g c = going_on c.self.view_is c.create.ensures.goes_on
 
 pub overflow_add-self : goal.overflow_add-self
 overflow_add-self g c =
-    let spent = rw (← c.self.view_is) at ((births c.args.self.now c.requires).room) in
+    let spent = rw (← state_is c.self.view_is) at ((births c.args.self.now.state c.requires).room) in
     omega (arith, not_spent c.self.inside.accepted spent)
 
 pub invariant_of-self-2 : goal.invariant_of-self-2
 invariant_of-self-2 g c =
     let w = c.self.inside in
-    let next = next_of c.self.invariant c.self.view_is c.unwrap-entity.result (sym c.upcoming.ensures ∙ c.unwrap-entity.ensures) in
+    let next = next_of c.self.invariant (state_is c.self.view_is) c.unwrap-entity.result (sym c.upcoming.ensures ∙ c.unwrap-entity.ensures) in
     let inserted = on_ok c.insert.result c.insert.ensures.entries (sym c.is_err.ensures.value ∙ c.if-is_err.false) in
     let born = made_is (upcoming (holdings_of w.archetypes)) (λ f. HoldAlike (holdings_of c.create.new.self) (with_cells (with_entity (holdings_of w.archetypes) f) f.index ((plain component, []) ∷ []))) c.create.result c.unwrap-entity.result c.create.ensures.next (rw (c.tag.ensures, c.plain-component.ensures) at c.create.ensures.born) (sym c.is_err-2.ensures.value ∙ c.if-is_err-2.false) (sym c.upcoming.ensures ∙ c.unwrap-entity.ensures) in
-    (component_left c.self.invariant c.self.view_is c.unwrap-entity.result next c.args.name.now c.args.schema c.fields.ensures.sound (none_component c.self.invariant c.self.view_is c.args.name.now c.args.schema c.in_ok-bind.ensures.free c.requires) c.in_ok-bind.ensures.free.1 c.bind.new.names c.in_ok-bind.ensures.bound c.insert.new.self.entries (inserted ∙ insert_put w.schemas.entries c.unwrap-entity.result.index c.args.schema)
+    (component_left c.self.invariant (state_is c.self.view_is) c.unwrap-entity.result next c.args.name.now c.args.schema c.fields.ensures.sound (none_component c.self.invariant (state_is c.self.view_is) c.args.name.now c.args.schema c.in_ok-bind.ensures.free c.requires) c.in_ok-bind.ensures.free.1 c.bind.new.names c.in_ok-bind.ensures.bound c.insert.new.self.entries (inserted ∙ insert_put w.schemas.entries c.unwrap-entity.result.index c.args.schema)
     (holdings_of c.create.new.self) c.create.ensures.holdings born (rw (c.tag.ensures, c.plain-component.ensures) at c.create.ensures.sizes)).0
 
-pub returns : goal.returns
-returns g c =
+pub returns-clause-answers : goal.returns-clause-answers
+returns-clause-answers g c =
     let w = c.self.inside in
-    let next = next_of c.self.invariant c.self.view_is c.unwrap-entity.result (sym c.upcoming.ensures ∙ c.unwrap-entity.ensures) in
+    let next = next_of c.self.invariant (state_is c.self.view_is) c.unwrap-entity.result (sym c.upcoming.ensures ∙ c.unwrap-entity.ensures) in
     let inserted = on_ok c.insert.result c.insert.ensures.entries (sym c.is_err.ensures.value ∙ c.if-is_err.false) in
     let born = made_is (upcoming (holdings_of w.archetypes)) (λ f. HoldAlike (holdings_of c.create.new.self) (with_cells (with_entity (holdings_of w.archetypes) f) f.index ((plain component, []) ∷ []))) c.create.result c.unwrap-entity.result c.create.ensures.next (rw (c.tag.ensures, c.plain-component.ensures) at c.create.ensures.born) (sym c.is_err-2.ensures.value ∙ c.if-is_err-2.false) (sym c.upcoming.ensures ∙ c.unwrap-entity.ensures) in
-    let sound : IsWellFormed c.args.self.now = subst IsWellFormed c.self.view_is c.self.invariant.sound in
-    told_component c.args.self.now _ c.with_came.result c.args.name.now c.args.schema c.unwrap-entity.result sound next (none_component c.self.invariant c.self.view_is c.args.name.now c.args.schema c.in_ok-bind.ensures.free c.requires)
-    (component_left c.self.invariant c.self.view_is c.unwrap-entity.result next c.args.name.now c.args.schema c.fields.ensures.sound (none_component c.self.invariant c.self.view_is c.args.name.now c.args.schema c.in_ok-bind.ensures.free c.requires) c.in_ok-bind.ensures.free.1 c.bind.new.names c.in_ok-bind.ensures.bound c.insert.new.self.entries (inserted ∙ insert_put w.schemas.entries c.unwrap-entity.result.index c.args.schema)
+    let sound : IsWellFormed c.args.self.now.state = subst IsWellFormed (state_is c.self.view_is) c.self.invariant.sound in
+    told_component c.args.self.now.state _ c.with_came.result c.args.name.now c.args.schema c.unwrap-entity.result sound next (none_component c.self.invariant (state_is c.self.view_is) c.args.name.now c.args.schema c.in_ok-bind.ensures.free c.requires)
+    (component_left c.self.invariant (state_is c.self.view_is) c.unwrap-entity.result next c.args.name.now c.args.schema c.fields.ensures.sound (none_component c.self.invariant (state_is c.self.view_is) c.args.name.now c.args.schema c.in_ok-bind.ensures.free c.requires) c.in_ok-bind.ensures.free.1 c.bind.new.names c.in_ok-bind.ensures.bound c.insert.new.self.entries (inserted ∙ insert_put w.schemas.entries c.unwrap-entity.result.index c.args.schema)
     (holdings_of c.create.new.self) c.create.ensures.holdings born (rw (c.tag.ensures, c.plain-component.ensures) at c.create.ensures.sizes)).1
     (c.with_came.ensures ∙ (λ k. record (c.of_birth.ensures k) { came = c.new-key.ensures k ∷ [] }) ∙ (λ k. record (birth c.unwrap-entity.result) { came = (c.unwrap-entity.result.index, c.plain-component.ensures k) ∷ [] }))
+
+pub returns-clause-goes_on : goal.returns-clause-goes_on
+returns-clause-goes_on g c = going_on c.self.view_is c.create.ensures.goes_on

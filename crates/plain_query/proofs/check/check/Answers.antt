@@ -9,7 +9,7 @@ use Rattle.plain_query.proofs.check.check.Goals as goal
 
 pub returns-in-None-with_fault : goal.returns-in-None-with_fault
 returns-in-None-with_fault g c =
-    let w = c.args.world.now in
+    let w = c.args.world.now.state in
     let all = take_all c.loop-part.part-index c.args.parts.now c.loop-part-test.false in
     let least = all_judged w (map seen_part c.args.parts.now) c.loop-part.least _
     (c.loop-part.invariant.0 ∙ ap (λ xs. least_fault (flat_map (unknown_word w) (map seen_part xs))) all) c.one_too_many.ensures in
@@ -18,7 +18,7 @@ returns-in-None-with_fault g c =
 
 pub returns-in-Some-with_fault : goal.returns-in-Some-with_fault
 returns-in-Some-with_fault g c =
-    let w = c.args.world.now in
+    let w = c.args.world.now.state in
     let all = take_all c.loop-part.part-index c.args.parts.now c.loop-part-test.false in
     let least = all_judged w (map seen_part c.args.parts.now) c.loop-part.least _
     (c.loop-part.invariant.0 ∙ ap (λ xs. least_fault (flat_map (unknown_word w) (map seen_part xs))) all) c.one_too_many.ensures in

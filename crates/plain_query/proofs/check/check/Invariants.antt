@@ -7,4 +7,4 @@ use Rattle.plain_query.proofs.check.check.Given as goal
 abbrev pub invariant-loop-part : goal.invariant-loop-part
 invariant-loop-part g l =
     let seen = map seen_part (take l.part-index l.parts) in
-    (l.least ≡ least_fault (flat_map (unknown_word l.world) seen)) × (flat_map (unknown_word l.world) seen ≡ [] → l.ids.items ≡ map (id_of_term l.world) seen)
+    (l.least ≡ least_fault (flat_map (unknown_word l.world.state) seen)) × (flat_map (unknown_word l.world.state) seen ≡ [] → l.ids.items ≡ map (id_of_term l.world.state) seen)

@@ -10,12 +10,12 @@ use Rattle.plain_query.proofs.check.ids_of_query.Goals as goal
 
 pub returns-in-Err : goal.returns-in-Err
 returns-in-Err g c =
-    lex_fault {T = Vec Token g.row.A.Denot} {U = Vec Id g.row.A.Denot} (λ ids. ids.items) (c.args.world.now) c.args.text.now (λ tokens. map seen tokens.items) c.in-Err.fault c.in-Err.ensures.answers
+    lex_fault {T = Vec Token g.row.A.Denot} {U = Vec Id g.row.A.Denot} (λ ids. ids.items) (c.args.world.now.state) c.args.text.now (λ tokens. map seen tokens.items) c.in-Err.fault c.in-Err.ensures.answers
 
 pub returns-in-Err-parse : goal.returns-in-Err-parse
 returns-in-Err-parse g c =
     let tokens = c.as_slice.result.now in
-    syntax_fault {T = Syntax g.row.A.Denot} {U = Vec Id g.row.A.Denot} (λ ids. ids.items) (c.args.world.now) c.args.text.now (λ syntax. map seen_part (syntax.parts).items) (map seen tokens) c.in-Err-parse.fault
+    syntax_fault {T = Syntax g.row.A.Denot} {U = Vec Id g.row.A.Denot} (λ ids. ids.items) (c.args.world.now.state) c.args.text.now (λ syntax. map seen_part (syntax.parts).items) (map seen tokens) c.in-Err-parse.fault
     (c.in-Ok.ensures.answers ∙ ap (λ ts. Ok (map seen ts)) (sym c.as_slice.ensures.value))
     c.in-Err-parse.ensures.answers
 
@@ -23,7 +23,7 @@ pub returns : goal.returns
 returns g c =
     let tokens = c.as_slice.result.now in
     let parts = c.as_slice-2.result.now in
-    checked_ids (λ ids. ids.items) (c.args.world.now) c.args.text.now (map seen tokens) (map seen_part parts) c.check.result
+    checked_ids (λ ids. ids.items) (c.args.world.now.state) c.args.text.now (map seen tokens) (map seen_part parts) c.check.result
     (c.in-Ok.ensures.answers ∙ ap (λ ts. Ok (map seen ts)) (sym c.as_slice.ensures.value))
     (c.in-Ok-parse.ensures.answers ∙ ap (λ ps. Ok (map seen_part ps)) (sym c.as_slice-2.ensures.value))
     c.check.ensures

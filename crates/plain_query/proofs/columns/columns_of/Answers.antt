@@ -15,5 +15,5 @@ loop-id-preserved g c =
     rw c.in_ok-push.ensures.items (
       map-append (λ x. x.id) before (column ∷ []) ∙ ap (λ l. l ++ column.id ∷ []) c.loop-id.invariant.0
           ∙ ap (λ x. take i ids ++ x ∷ []) (c.in_ok-column_of.ensures.id ∙ c.id-item.is) ∙ sym (ap (λ n. take n ids) (add-one i) ∙ take-suc ids i c.id-item.result c.loop-id-test.true),
-      All-append (IsColumn c.args.world.now) before (column ∷ []) c.loop-id.invariant.1 (All-cons (IsColumn c.args.world.now) column [] c.in_ok-column_of.ensures.column (All-nil _)),
+      All-append (IsColumn c.args.world.now.state) before (column ∷ []) c.loop-id.invariant.1 (All-cons (IsColumn c.args.world.now.state) column [] c.in_ok-column_of.ensures.column (All-nil _)),
     )

@@ -8,8 +8,8 @@ abbrev pub invariant-loop-rest : goal.invariant-loop-rest
 invariant-loop-rest g l = record {
   lines_fit : l.summary.lines + length l.rest ≤ length l.script;
   refused_fit : l.summary.refused ≤ l.summary.lines;
-  so_far : SoFar (effects_from (session_of l.world) (l.summary.lines + 1) l.rest)
-      (effects_from (session_of l.initial.world) 1 l.script) l.initial.output.items l.output.items l.summary.lines l.summary.refused;
+  so_far : SoFar (effects_from (session_of l.world.state) (l.summary.lines + 1) l.rest)
+      (effects_from (session_of l.initial.world.state) 1 l.script) l.initial.output.items l.output.items l.summary.lines l.summary.refused;
 }
 
 abbrev pub decreases-loop-rest : goal.decreases-loop-rest

@@ -7,5 +7,5 @@ returns-in-Ok g c = let asked = c.in-Ok.ensures in IsDone-rows _ asked.0 _ _ _ _
 pub returns-in-Err-Fault : goal.returns-in-Err-Fault
 returns-in-Err-Fault g c =
     let asked = rw c.in-Err-Fault.field-0-is at c.in-Err-Fault.ensures in
-    IfOk-fault c.refuse_query.result c.args.world.now c.args.number c.args.output.now.items c.refuse_query.new.output.items
+    IfOk-fault c.refuse_query.result c.args.world.now.state c.args.number c.args.output.now.items c.refuse_query.new.output.items
     c.args.text.now c.in-Err-Fault.fault c.ask.new.out.items asked.0 asked.1 c.refuse_query.ensures

@@ -4,10 +4,10 @@ use Rattle.world_script.proofs.sessions.run_set.Goals as goal
 
 pub returns-in-Err : goal.returns-in-Err
 returns-in-Err g c =
-    IfOk-set_unfound c.refuse_command.result c.args.world.now c.args.number c.args.output.now.items c.refuse_command.new.output.items
+    IfOk-set_unfound c.refuse_command.result c.args.world.now.state c.args.number c.args.output.now.items c.refuse_command.new.output.items
     c.in-Err.refusal (seen_reference c.args.entity) (seen_id c.args.id) c.args.values.now c.in-Err.ensures c.refuse_command.ensures
 
 pub returns-in-Ok : goal.returns-in-Ok
 returns-in-Ok g c =
-    IfOk-set c.tell_answer.result c.args.world.now c.set-answer.new.self c.args.number c.args.output.now.items c.tell_answer.new.output.items
-    c.set-answer.result (seen_reference c.args.entity) (seen_id c.args.id) c.args.values.now c.in-Ok.both c.in-Ok.ensures c.set-answer.ensures c.tell_answer.ensures
+    IfOk-set c.tell_answer.result c.args.world.now.state c.set-answer.new.self.state c.args.number c.args.output.now.items c.tell_answer.new.output.items
+    c.set-answer.result (seen_reference c.args.entity) (seen_id c.args.id) c.args.values.now c.in-Ok.both c.in-Ok.ensures c.set-answer.ensures.answers c.tell_answer.ensures
