@@ -65,6 +65,9 @@ module _ {parts : Parts} (world : IsWorld parts) {v : WorldState} (is : state_of
   abbrev schemas : Map ℕ Schema
   schemas = parts.schemas
 
+  abbrev pins : Map ℕ ℕ
+  pins = parts.pins
+
   abbrev accepted : ℕ
   accepted = parts.accepted
 
@@ -81,18 +84,18 @@ module _ {parts : Parts} (world : IsWorld parts) {v : WorldState} (is : state_of
       λ k. ((Decides-eqb size (byte_count (type_of h schemas i))).1 same k && live k) && true
 
   -- the names and the schemas are as they were
-  pub kept : (h' : Holdings) (names' : Names) (schemas' : Map ℕ Schema) → IsWorld (parts_of h' names schemas accepted) × (state_of (parts_of h' names schemas accepted) ≡ v) → names' ≡ names → schemas' ≡ schemas
-      → IsWorld (parts_of h' names' schemas' accepted) × (state_of (parts_of h' names' schemas' accepted) ≡ v)
+  pub kept : (h' : Holdings) (names' : Names) (schemas' : Map ℕ Schema) → IsWorld (parts_of h' names schemas pins accepted) × (state_of (parts_of h' names schemas pins accepted) ≡ v) → names' ≡ names → schemas' ≡ schemas
+      → IsWorld (parts_of h' names' schemas' pins accepted) × (state_of (parts_of h' names' schemas' pins accepted) ≡ v)
   kept h' names' schemas' left same_names same_schemas =
-      subst (λ ns. IsWorld (parts_of h' ns schemas' accepted) × (state_of (parts_of h' ns schemas' accepted) ≡ v)) (sym same_names) (subst (λ ss. IsWorld (parts_of h' names ss accepted) × (state_of (parts_of h' names ss accepted) ≡ v)) (sym same_schemas) left)
+      subst (λ ns. IsWorld (parts_of h' ns schemas' pins accepted) × (state_of (parts_of h' ns schemas' pins accepted) ≡ v)) (sym same_names) (subst (λ ss. IsWorld (parts_of h' names ss pins accepted) × (state_of (parts_of h' names ss pins accepted) ≡ v)) (sym same_schemas) left)
 
   pub unchanged : IsWorld parts × (state_of parts ≡ v)
   unchanged = (world, is)
 
   -- a refusal of memory leaves the world as it was
   pub failed : (added : Sizes) → list_all (is_known_rightly h schemas) added ≡ true → (h' : Holdings) → AreHoldings h' → HoldAlike h' h → KeepsSizes h.known added h'.known
-      → IsWorld (parts_of h' names schemas accepted) × (state_of (parts_of h' names schemas accepted) ≡ v)
-  failed added fits h' whole' alike keeps = (world_alike h' h names schemas accepted added world whole' alike keeps fits, state_alike h' h names schemas accepted alike ∙ is)
+      → IsWorld (parts_of h' names schemas pins accepted) × (state_of (parts_of h' names schemas pins accepted) ≡ v)
+  failed added fits h' whole' alike keeps = (world_alike h' h names schemas pins accepted added world whole' alike keeps fits, state_alike h' h names schemas pins accepted alike ∙ is)
 
   -- what was found of an entity
   module _ (e : EntityId) where
@@ -128,9 +131,9 @@ module _ {parts : Parts} (world : IsWorld parts) {v : WorldState} (is : state_of
       -- a value is written
       pub written_left : (h' : Holdings) (bytes : List ℕ) (vs : List ℤ) → AreHoldings h' → HoldAlike h' (with_cells h e.index (with_value id_cmp (held_at h e.index) i bytes))
           → (added : Sizes) → KeepsSizes h.known added h'.known → list_all (is_known_rightly h schemas) added ≡ true → value_in (type_of_id v i) bytes ≡ vs → (accepted' : ℕ) (u : WorldState) → record v { facts = with_value key_cmp v.facts (e.index, i) vs; accepted = accepted' } ≡ u → IsWellFormed u
-          → IsWorld (parts_of h' names schemas accepted') × (state_of (parts_of h' names schemas accepted') ≡ u)
+          → IsWorld (parts_of h' names schemas pins accepted') × (state_of (parts_of h' names schemas pins accepted') ≡ u)
       written_left h' bytes vs whole' alike added keeps fits value accepted' u to sound =
-          let state : state_of (parts_of h' names schemas accepted') ≡ u =
+          let state : state_of (parts_of h' names schemas pins accepted') ≡ u =
           state_put world e i can h' whole' bytes alike accepted'
           ∙ (λ k. record (is k) { facts = with_value key_cmp (is k).facts (e.index, i) ((ap (λ t. value_in t bytes) (sym (type_is world i) ∙ ap (λ x. type_of_id x i) is) ∙ value) k); accepted = accepted' })
           ∙ to in (
@@ -142,13 +145,13 @@ module _ {parts : Parts} (world : IsWorld parts) {v : WorldState} (is : state_of
     module _ (none : first_reason (reasons v (Add e i)) ≡ None) where
       pub come : (h' : Holdings) (size : ℕ) → AreHoldings h' → size ≡ byte_count (type_of_id v i) → holds v e.index i ≡ false
           → HoldAlike h' (with_cells h e.index (with_value id_cmp (held_at h e.index) i (replicate size 0))) → KeepsSizes h.known ((i, size) ∷ []) h'.known
-          → IsWorld (parts_of h' names schemas accepted) × (state_of (parts_of h' names schemas accepted) ≡ with_facts v (facts_after_add v e.index i))
+          → IsWorld (parts_of h' names schemas pins accepted) × (state_of (parts_of h' names schemas pins accepted) ≡ with_facts v (facts_after_add v e.index i))
       come h' size whole' at absent alike keeps =
           let can' = judged-add v e i none in
           let value : value_in (type_of h schemas i) (replicate size 0) ≡ new_value v i =
           ap (λ n. value_in (type_of h schemas i) (replicate n 0)) (at ∙ ap (λ u. byte_count (type_of_id u i)) (sym is) ∙ ap byte_count (type_is world i))
           ∙ zeros_are_new (type_of h schemas i) ∙ ap (λ o. option_map_or zeros o []) (sym (type_is world i) ∙ ap (λ x. type_of_id x i) is) in
-          let state : state_of (parts_of h' names schemas accepted) ≡ with_facts v (facts_after_add v e.index i) =
+          let state : state_of (parts_of h' names schemas pins accepted) ≡ with_facts v (facts_after_add v e.index i) =
           state_put world e i (can can') h' whole' (replicate size 0) alike accepted
           ∙ (λ k. record (is k) { facts = with_value key_cmp (is k).facts (e.index, i) (value k) })
           ∙ ap (with_facts v) (sym (facts_new v e.index i absent)) in (
@@ -160,25 +163,25 @@ module _ {parts : Parts} (world : IsWorld parts) {v : WorldState} (is : state_of
     -- a fact goes
     module _ (none : first_reason (reasons v (Remove e i)) ≡ None) where
       pub go : (h' : Holdings) → AreHoldings h' → HoldAlike h' (with_cells h e.index (without id_cmp (held_at h e.index) (λ k. id_eq k i))) → KeepsSizes h.known [] h'.known
-          → IsWorld (parts_of h' names schemas (accepted + 1)) × (state_of (parts_of h' names schemas (accepted + 1)) ≡ counted (effect v (Remove e i)))
+          → IsWorld (parts_of h' names schemas pins (accepted + 1)) × (state_of (parts_of h' names schemas pins (accepted + 1)) ≡ counted (effect v (Remove e i)))
       go h' whole' alike keeps =
           let can' = judged-remove v e i none in
-          let state : state_of (parts_of h' names schemas (accepted + 1)) ≡ counted (effect v (Remove e i)) =
+          let state : state_of (parts_of h' names schemas pins (accepted + 1)) ≡ counted (effect v (Remove e i)) =
           state_gone world e i (can can') h' whole' alike (accepted + 1)
           ∙ (λ k. record (is k) { facts = facts_after_remove (is k) e.index i; accepted = (is k).accepted + 1 })
           ∙ ap counted (sym (effect-remove v e i)) in (
             cells_left world e i (can can') h' whole' (without id_cmp (held_at h e.index) (λ k. id_eq k i)) alike [] keeps refl (tags_gone world e i (can can') h' whole' alike)
-                (accepted + 1) (sound_after v (state_of (parts_of h' names schemas (accepted + 1))) (Remove e i) sound_v tt none state),
+                (accepted + 1) (sound_after v (state_of (parts_of h' names schemas pins (accepted + 1))) (Remove e i) sound_v tt none state),
             state,
           )
 
   -- the command is counted, and nothing else changes
-  pub counted_left : (c : Command) → IsCommand c → first_reason (reasons v c) ≡ None → effect v c ≡ v → IsWorld (parts_of h names schemas (accepted + 1)) × (state_of (parts_of h names schemas (accepted + 1)) ≡ counted (effect v c))
+  pub counted_left : (c : Command) → IsCommand c → first_reason (reasons v c) ≡ None → effect v c ≡ v → IsWorld (parts_of h names schemas pins (accepted + 1)) × (state_of (parts_of h names schemas pins (accepted + 1)) ≡ counted (effect v c))
   counted_left c command none same =
-      let state : state_of (parts_of h names schemas (accepted + 1)) ≡ counted (effect v c) = ap counted is ∙ ap counted (sym same) in (
+      let state : state_of (parts_of h names schemas pins (accepted + 1)) ≡ counted (effect v c) = ap counted is ∙ ap counted (sym same) in (
         record {
           whole = world.whole;
-          sound = sound_after v (state_of (parts_of h names schemas (accepted + 1))) c sound_v command none state;
+          sound = sound_after v (state_of (parts_of h names schemas pins (accepted + 1))) c sound_v command none state;
           settled = world.settled;
           known = world.known;
           named = world.named;
@@ -188,9 +191,9 @@ module _ {parts : Parts} (world : IsWorld parts) {v : WorldState} (is : state_of
       )
 
   -- where the world is that of a command's effect, it is counted
-  pub counted_from : (u : WorldState) (c : Command) → effect u c ≡ v → is_spent v ≡ false → IsWorld (parts_of h names schemas (accepted + 1)) × (state_of (parts_of h names schemas (accepted + 1)) ≡ counted (effect u c))
+  pub counted_from : (u : WorldState) (c : Command) → effect u c ≡ v → is_spent v ≡ false → IsWorld (parts_of h names schemas pins (accepted + 1)) × (state_of (parts_of h names schemas pins (accepted + 1)) ≡ counted (effect u c))
   counted_from u c same room =
-      let state : state_of (parts_of h names schemas (accepted + 1)) ≡ counted (effect u c) = ap counted is ∙ ap counted (sym same) in (
+      let state : state_of (parts_of h names schemas pins (accepted + 1)) ≡ counted (effect u c) = ap counted is ∙ ap counted (sym same) in (
         record {
           whole = world.whole;
           sound = recounted w world.sound (ap is_spent is ∙ room);
@@ -238,29 +241,29 @@ module _ {parts : Parts} (world : IsWorld parts) {v : WorldState} (is : state_of
 
     -- an entity without a name
     pub fresh_left : first_reason (reasons v Fresh) ≡ None → (h' : Holdings) → AreHoldings h' → HoldAlike h' (with_cells (with_entity h e) e.index []) → KeepsSizes h.known [] h'.known
-        → IsWorld (parts_of h' names schemas (accepted + 1)) × (state_of (parts_of h' names schemas (accepted + 1)) ≡ counted (effect v Fresh))
+        → IsWorld (parts_of h' names schemas pins (accepted + 1)) × (state_of (parts_of h' names schemas pins (accepted + 1)) ≡ counted (effect v Fresh))
     fresh_left none h' whole' alike keeps =
-        let state : state_of (parts_of h' names schemas (accepted + 1)) ≡ counted (effect v Fresh) =
+        let state : state_of (parts_of h' names schemas pins (accepted + 1)) ≡ counted (effect v Fresh) =
         state_fresh world e next_w h' whole' alike (accepted + 1)
         ∙ (λ k. record (is k) { live = with_value nat_cmp (is k).live e.index e.generation; accepted = (is k).accepted + 1 }) ∙ ap counted (sym (effect-fresh v e next)) in (
           birth_left world e next_w h' whole' [] alike schemas (λ j d. refl) (tags_empty world e next_w h' whole' alike) names
               (AreNamed-same names h.live (AreNamed-world world) e (none_live world e next_w)) [] keeps refl (accepted + 1)
-              (sound_after v (state_of (parts_of h' names schemas (accepted + 1))) Fresh sound_v tt none state),
+              (sound_after v (state_of (parts_of h' names schemas pins (accepted + 1))) Fresh sound_v tt none state),
           state,
         )
 
     -- an entity with a name
     pub named_left : (n : List ℕ) → first_reason (reasons v (Entity n)) ≡ None → finite.get names n ≡ None → (names' : Names) → names' ≡ finite.insert names n e
         → (h' : Holdings) → AreHoldings h' → HoldAlike h' (with_cells (with_entity h e) e.index []) → KeepsSizes h.known [] h'.known
-        → IsWorld (parts_of h' names' schemas (accepted + 1)) × (state_of (parts_of h' names' schemas (accepted + 1)) ≡ counted (effect v (Entity n)))
+        → IsWorld (parts_of h' names' schemas pins (accepted + 1)) × (state_of (parts_of h' names' schemas pins (accepted + 1)) ≡ counted (effect v (Entity n)))
     named_left n none free names' bound h' whole' alike keeps =
-        subst (λ ns. IsWorld (parts_of h' ns schemas (accepted + 1)) × (state_of (parts_of h' ns schemas (accepted + 1)) ≡ counted (effect v (Entity n)))) (sym bound)
-        (let state : state_of (parts_of h' (finite.insert names n e) schemas (accepted + 1)) ≡ counted (effect v (Entity n)) =
+        subst (λ ns. IsWorld (parts_of h' ns schemas pins (accepted + 1)) × (state_of (parts_of h' ns schemas pins (accepted + 1)) ≡ counted (effect v (Entity n)))) (sym bound)
+        (let state : state_of (parts_of h' (finite.insert names n e) schemas pins (accepted + 1)) ≡ counted (effect v (Entity n)) =
         state_named world e next_w h' whole' alike n free (accepted + 1)
         ∙ (λ k. record (is k) { live = with_value nat_cmp (is k).live e.index e.generation; names = with_value nat_cmp (is k).names e.index n; accepted = (is k).accepted + 1 }) ∙ ap counted (sym (effect-entity v n e next)) in (
           birth_left world e next_w h' whole' [] alike schemas (λ j d. refl) (tags_empty world e next_w h' whole' alike) (finite.insert names n e)
               (AreNamed-bound names h.live (AreNamed-world world) e (none_live world e next_w) n free) [] keeps refl (accepted + 1)
-              (sound_after v (state_of (parts_of h' (finite.insert names n e) schemas (accepted + 1))) (Entity n) sound_v tt none state),
+              (sound_after v (state_of (parts_of h' (finite.insert names n e) schemas pins (accepted + 1))) (Entity n) sound_v tt none state),
           state,
         ))
 
@@ -268,11 +271,11 @@ module _ {parts : Parts} (world : IsWorld parts) {v : WorldState} (is : state_of
     pub component_left : (n : List ℕ) (s : Schema) → schema_fault s ≡ None → first_reason (reasons v (Component n s)) ≡ None → finite.get names n ≡ None → (names' : Names) → names' ≡ finite.insert names n e
         → (schemas' : Map ℕ Schema) → schemas' ≡ with_value nat_cmp schemas e.index s
         → (h' : Holdings) → AreHoldings h' → HoldAlike h' (with_cells (with_entity h e) e.index ((plain component, []) ∷ [])) → KeepsSizes h.known ((plain component, 0) ∷ []) h'.known
-        → IsWorld (parts_of h' names' schemas' (accepted + 1)) × (state_of (parts_of h' names' schemas' (accepted + 1)) ≡ counted (effect v (Component n s)))
+        → IsWorld (parts_of h' names' schemas' pins (accepted + 1)) × (state_of (parts_of h' names' schemas' pins (accepted + 1)) ≡ counted (effect v (Component n s)))
     component_left n s proper none free names' bound schemas' typed h' whole' alike keeps =
-        subst (λ ns. IsWorld (parts_of h' ns schemas' (accepted + 1)) × (state_of (parts_of h' ns schemas' (accepted + 1)) ≡ counted (effect v (Component n s)))) (sym bound)
-        (subst (λ ss. IsWorld (parts_of h' (finite.insert names n e) ss (accepted + 1)) × (state_of (parts_of h' (finite.insert names n e) ss (accepted + 1)) ≡ counted (effect v (Component n s)))) (sym typed)
-        (let state : state_of (parts_of h' (finite.insert names n e) (with_value nat_cmp schemas e.index s) (accepted + 1)) ≡ counted (effect v (Component n s)) =
+        subst (λ ns. IsWorld (parts_of h' ns schemas' pins (accepted + 1)) × (state_of (parts_of h' ns schemas' pins (accepted + 1)) ≡ counted (effect v (Component n s)))) (sym bound)
+        (subst (λ ss. IsWorld (parts_of h' (finite.insert names n e) ss pins (accepted + 1)) × (state_of (parts_of h' (finite.insert names n e) ss pins (accepted + 1)) ≡ counted (effect v (Component n s)))) (sym typed)
+        (let state : state_of (parts_of h' (finite.insert names n e) (with_value nat_cmp schemas e.index s) pins (accepted + 1)) ≡ counted (effect v (Component n s)) =
         state_component world e next_w h' whole' alike s n free (accepted + 1)
         ∙ (λ k. record (is k) {
           live = with_value nat_cmp (is k).live e.index e.generation;
@@ -285,7 +288,7 @@ module _ {parts : Parts} (world : IsWorld parts) {v : WorldState} (is : state_of
               (tags_tagged world e next_w h' whole' alike s) (finite.insert names n e)
               (AreNamed-bound names h.live (AreNamed-world world) e (none_live world e next_w) n free) ((plain component, 0) ∷ []) keeps
               (component_known world e next_w h' whole' alike s) (accepted + 1)
-              (sound_after v (state_of (parts_of h' (finite.insert names n e) (with_value nat_cmp schemas e.index s) (accepted + 1))) (Component n s) sound_v proper none state),
+              (sound_after v (state_of (parts_of h' (finite.insert names n e) (with_value nat_cmp schemas e.index s) pins (accepted + 1))) (Component n s) sound_v proper none state),
           state,
         )))
 
@@ -301,7 +304,7 @@ module _ {parts : Parts} (world : IsWorld parts) {v : WorldState} (is : state_of
   -- an id comes, and the command is counted
   pub added_left : first_reason (reasons v (Add e i)) ≡ None → (h' : Holdings) (size : ℕ) → AreHoldings h' → size ≡ byte_count (type_of_id v i) → holds v e.index i ≡ false
       → HoldAlike h' (with_cells parts.holdings e.index (with_value id_cmp (held_at parts.holdings e.index) i (replicate size 0))) → KeepsSizes (parts.holdings).known ((i, size) ∷ []) h'.known
-      → IsWorld (parts_of h' parts.names parts.schemas (parts.accepted + 1)) × (state_of (parts_of h' parts.names parts.schemas (parts.accepted + 1)) ≡ counted (effect v (Add e i)))
+      → IsWorld (parts_of h' parts.names parts.schemas parts.pins (parts.accepted + 1)) × (state_of (parts_of h' parts.names parts.schemas parts.pins (parts.accepted + 1)) ≡ counted (effect v (Add e i)))
   added_left none h' size whole' at absent alike keeps =
       let left = come world is e i none h' size whole' at absent alike keeps in
       counted_from left.0 left.1 v (Add e i) (effect-add v e i) (judged-add v e i none).room
@@ -309,7 +312,7 @@ module _ {parts : Parts} (world : IsWorld parts) {v : WorldState} (is : state_of
   -- a value is set, and the command is counted
   pub set_left : (vs : List ℤ) → first_reason (reasons v (SetValue e i vs)) ≡ None → (h' : Holdings) (bytes : List ℕ) → AreHoldings h' → length bytes ≡ byte_count (type_of_id v i)
       → HoldAlike h' (with_cells parts.holdings e.index (with_value id_cmp (held_at parts.holdings e.index) i bytes)) → KeepsSizes (parts.holdings).known ((i, length bytes) ∷ []) h'.known → value_in (type_of_id v i) bytes ≡ vs
-      → IsWorld (parts_of h' parts.names parts.schemas (parts.accepted + 1)) × (state_of (parts_of h' parts.names parts.schemas (parts.accepted + 1)) ≡ counted (effect v (SetValue e i vs)))
+      → IsWorld (parts_of h' parts.names parts.schemas parts.pins (parts.accepted + 1)) × (state_of (parts_of h' parts.names parts.schemas parts.pins (parts.accepted + 1)) ≡ counted (effect v (SetValue e i vs)))
   set_left vs none h' bytes whole' at alike keeps value =
       let can = judged-add v e i (add_of_set v e i vs none).1 in
       let to : record v { facts = with_value key_cmp v.facts (e.index, i) vs; accepted = parts.accepted + 1 } ≡ counted (effect v (SetValue e i vs)) =

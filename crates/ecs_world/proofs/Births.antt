@@ -70,6 +70,9 @@ module _ {parts : Parts} (world : IsWorld parts) (e : EntityId) (next : model.ne
   abbrev schemas : Map ℕ Schema
   schemas = parts.schemas
 
+  abbrev pins : Map ℕ ℕ
+  pins = parts.pins
+
   abbrev accepted : ℕ
   accepted = parts.accepted
 
@@ -110,7 +113,7 @@ module _ {parts : Parts} (world : IsWorld parts) (e : EntityId) (next : model.ne
         λ i. size i && live i
 
     pub birth_left : (names' : Names) → AreNamed names' born → (added : Sizes) → KeepsSizes h.known added h'.known → list_all (is_known_rightly h' schemas') added ≡ true
-        → (accepted' : ℕ) → IsWellFormed (state_of (parts_of h' names' schemas' accepted')) → IsWorld (parts_of h' names' schemas' accepted')
+        → (accepted' : ℕ) → IsWellFormed (state_of (parts_of h' names' schemas' pins accepted')) → IsWorld (parts_of h' names' schemas' pins accepted')
     birth_left names' named' added keeps fits accepted' sound = record {
       whole = whole';
       sound = sound;
@@ -132,26 +135,26 @@ module _ {parts : Parts} (world : IsWorld parts) (e : EntityId) (next : model.ne
     facts_empty = facts_same (type_of h schemas) (type_of h' schemas) h.cells h'.cells (AreCells-world world) (AreCells-whole h' whole')
         (types_held h' whole' [] alike schemas (λ j d. refl) tags_empty) now_empty
 
-    pub state_fresh : (accepted' : ℕ) → state_of (parts_of h' names schemas accepted') ≡ record w { live = born; accepted = accepted' }
+    pub state_fresh : (accepted' : ℕ) → state_of (parts_of h' names schemas pins accepted') ≡ record w { live = born; accepted = accepted' }
     state_fresh accepted' = λ k. record {
       live = alike.live k;
       facts = facts_empty k;
       names = (ap (names_of names) alike.live ∙ names_same names h.live (AreNamed-world world) e none_live) k;
       schemas = schemas;
       deletions = alike.deletions k;
-      pins = [];
+      pins = pins;
       accepted = accepted';
     }
 
     pub state_named : (n : List ℕ) (free : finite.get names n ≡ None) (accepted' : ℕ)
-        → state_of (parts_of h' (finite.insert names n e) schemas accepted') ≡ record w { live = born; names = with_value nat_cmp w.names e.index n; accepted = accepted' }
+        → state_of (parts_of h' (finite.insert names n e) schemas pins accepted') ≡ record w { live = born; names = with_value nat_cmp w.names e.index n; accepted = accepted' }
     state_named n free accepted' = λ k. record {
       live = alike.live k;
       facts = facts_empty k;
       names = (ap (names_of (finite.insert names n e)) alike.live ∙ names_bound names h.live (AreNamed-world world) e none_live n free) k;
       schemas = schemas;
       deletions = alike.deletions k;
-      pins = [];
+      pins = pins;
       accepted = accepted';
     }
 
@@ -186,7 +189,7 @@ module _ {parts : Parts} (world : IsWorld parts) (e : EntityId) (next : model.ne
         λ i. ((0 == byte_count (no_fields i)) && (live i && true)) && true
 
     pub state_component : (n : List ℕ) (free : finite.get names n ≡ None) (accepted' : ℕ)
-        → state_of (parts_of h' (finite.insert names n e) typed accepted')
+        → state_of (parts_of h' (finite.insert names n e) typed pins accepted')
         ≡ record w { live = born; names = with_value nat_cmp w.names e.index n; schemas = typed; facts = with_value key_cmp w.facts (e.index, plain component) []; accepted = accepted' }
     state_component n free accepted' = λ k. record {
       live = alike.live k;
@@ -194,7 +197,7 @@ module _ {parts : Parts} (world : IsWorld parts) (e : EntityId) (next : model.ne
       names = (ap (names_of (finite.insert names n e)) alike.live ∙ names_bound names h.live (AreNamed-world world) e none_live n free) k;
       schemas = typed;
       deletions = alike.deletions k;
-      pins = [];
+      pins = pins;
       accepted = accepted';
     }
 

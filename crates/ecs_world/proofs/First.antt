@@ -199,12 +199,12 @@ computed : record { live = first_live 22; facts = all_facts (type_of (settled_to
 unfolding first_world id_cmp key_cmp
 computed = refl
 
-first_is : (names : Names) → names_of names (first_live 22) ≡ enumerate_from 1 built_in_names → state_of (parts_of (settled_to 22) names [] 0) ≡ first_world
+first_is : (names : Names) → names_of names (first_live 22) ≡ enumerate_from 1 built_in_names → state_of (parts_of (settled_to 22) names [] [] 0) ≡ first_world
 unfolding first_world
-first_is names told = (λ k. record (state_of (parts_of (settled_to 22) names [] 0)) { names = told k }) ∙ computed
+first_is names told = (λ k. record (state_of (parts_of (settled_to 22) names [] [] 0)) { names = told k }) ∙ computed
 
-pub first_state : (h : Holdings) (names : Names) → IsSettled h 22 → AreFirstNames names 22 → state_of (parts_of h names [] 0) ≡ first_world
-first_state h names settled first = state_alike h (settled_to 22) names [] 0 settled.alike ∙ first_is names first.told
+pub first_state : (h : Holdings) (names : Names) → IsSettled h 22 → AreFirstNames names 22 → state_of (parts_of h names [] [] 0) ≡ first_world
+first_state h names settled first = state_alike h (settled_to 22) names [] [] 0 settled.alike ∙ first_is names first.told
 
 built_in_live : (i : ℕ) → is_built_in i ≡ true → has_key nat_cmp (first_live 22) i ≡ true
 built_in_live i h = ap is_some (row_at (λ i. 0) 1 22 i (low i h) (high i h))
@@ -215,7 +215,7 @@ built_in_live i h = ap is_some (row_at (λ i. 0) 1 22 i (low i h) (high i h))
     high : (i : ℕ) → is_built_in i ≡ true → i < 23
     high i h = grind (arith, nat_tests)
 
-pub first_is_world : (h : Holdings) (names : Names) → IsSettled h 22 → AreFirstNames names 22 → IsWorld (parts_of h names [] 0)
+pub first_is_world : (h : Holdings) (names : Names) → IsSettled h 22 → AreFirstNames names 22 → IsWorld (parts_of h names [] [] 0)
 first_is_world h names settled first = record {
   whole = settled.whole;
   sound = subst IsWellFormed (sym (first_state h names settled first)) first_world_is_sound;

@@ -108,6 +108,9 @@ module _ {parts : Parts} (world : IsWorld parts) (e : EntityId) (i : Id) (can : 
   abbrev schemas : Map ℕ Schema
   schemas = parts.schemas
 
+  abbrev pins : Map ℕ ℕ
+  pins = parts.pins
+
   abbrev accepted : ℕ
   accepted = parts.accepted
 
@@ -122,7 +125,7 @@ module _ {parts : Parts} (world : IsWorld parts) (e : EntityId) (i : Id) (can : 
     pub types_left : (j : Id) → type_of h' schemas j ≡ type_of h schemas j
     types_left j = type_in-same schemas schemas (λ r. holds_id h r (plain pair_is_tag)) (λ r. holds_id h' r (plain pair_is_tag)) (λ x. true) j (all_true (mentioned j)) (λ k t. refl) tags
 
-    pub cells_left : (accepted' : ℕ) → IsWellFormed (state_of (parts_of h' names schemas accepted')) → IsWorld (parts_of h' names schemas accepted')
+    pub cells_left : (accepted' : ℕ) → IsWellFormed (state_of (parts_of h' names schemas pins accepted')) → IsWorld (parts_of h' names schemas pins accepted')
     cells_left accepted' sound = record {
       whole = whole';
       sound = sound;
@@ -147,14 +150,14 @@ module _ {parts : Parts} (world : IsWorld parts) (e : EntityId) (i : Id) (can : 
     facts_left = facts_put (type_of h schemas) (type_of h' schemas) h.cells h'.cells (AreCells-world world) (AreCells-whole h' whole') (λ d j bs p. types_put j) e.index i bytes now_put
         ∙ ap (λ t. with_value key_cmp w.facts (e.index, i) (value_in t bytes)) (types_put i)
 
-    pub state_put : (accepted' : ℕ) → state_of (parts_of h' names schemas accepted') ≡ record w { facts = with_value key_cmp w.facts (e.index, i) (value_in (type_of h schemas i) bytes); accepted = accepted' }
+    pub state_put : (accepted' : ℕ) → state_of (parts_of h' names schemas pins accepted') ≡ record w { facts = with_value key_cmp w.facts (e.index, i) (value_in (type_of h schemas i) bytes); accepted = accepted' }
     state_put accepted' = λ k. record {
       live = alike.live k;
       facts = facts_left k;
       names = names_of names (alike.live k);
       schemas = schemas;
       deletions = alike.deletions k;
-      pins = [];
+      pins = pins;
       accepted = accepted';
     }
 
@@ -173,14 +176,14 @@ module _ {parts : Parts} (world : IsWorld parts) (e : EntityId) (i : Id) (can : 
     unfolding facts_after_remove
     gone_left = facts_gone (type_of h schemas) (type_of h' schemas) h.cells h'.cells (AreCells-world world) (AreCells-whole h' whole') (λ d j bs p. types_gone j) e.index i now_gone
 
-    pub state_gone : (accepted' : ℕ) → state_of (parts_of h' names schemas accepted') ≡ record w { facts = facts_after_remove w e.index i; accepted = accepted' }
+    pub state_gone : (accepted' : ℕ) → state_of (parts_of h' names schemas pins accepted') ≡ record w { facts = facts_after_remove w e.index i; accepted = accepted' }
     state_gone accepted' = λ k. record {
       live = alike.live k;
       facts = gone_left k;
       names = names_of names (alike.live k);
       schemas = schemas;
       deletions = alike.deletions k;
-      pins = [];
+      pins = pins;
       accepted = accepted';
     }
 

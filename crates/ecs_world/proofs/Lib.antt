@@ -7,6 +7,7 @@ pub mod Crowding
 pub mod Refusing
 pub mod States
 pub mod Standings
+pub mod Pinned
 pub mod Left
 pub mod Births
 pub mod First

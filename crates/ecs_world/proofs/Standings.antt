@@ -45,6 +45,6 @@ module _ {parts : Parts} (world : IsWorld parts) where
   }
 
 -- the entities of a world in its tables
-pub graph_told : (g : Housing) (names : Names) (schemas : Map ℕ Schema) (accepted : ℕ) → IsWorld (parts_of (holdings_of g) names schemas accepted)
-    → IsGraphOf (record { state = state_of (parts_of (holdings_of g) names schemas accepted); tables = g.tables }) g
-graph_told g names schemas accepted world = record { tables = refl; live = refl; settled = alive_settled world; facts = held_facts world }
+pub graph_told : (g : Housing) (names : Names) (schemas : Map ℕ Schema) (pins : Map ℕ ℕ) (accepted : ℕ) → IsWorld (parts_of (holdings_of g) names schemas pins accepted)
+    → IsGraphOf (record { state = state_of (parts_of (holdings_of g) names schemas pins accepted); tables = g.tables }) g
+graph_told g names schemas pins accepted world = record { tables = refl; live = refl; settled = alive_settled world; facts = held_facts world }

@@ -85,6 +85,9 @@ module _ {parts : Parts} (world : IsWorld parts) where
   abbrev schemas : Map ℕ Schema
   schemas = parts.schemas
 
+  abbrev pins : Map ℕ ℕ
+  pins = parts.pins
+
   abbrev accepted : ℕ
   accepted = parts.accepted
 
@@ -217,15 +220,15 @@ module _ {parts : Parts} (world : IsWorld parts) where
       by (Some g) p = let same : e ≡ record { index = i; generation = g } = cc in is ∙ ap (name_in names) same
 
 -- the same in other tables is one state
-pub state_alike : (g h : Holdings) (names : Names) (schemas : Map ℕ Schema) (accepted : ℕ) → HoldAlike g h → state_of (parts_of g names schemas accepted) ≡ state_of (parts_of h names schemas accepted)
-state_alike g h names schemas accepted alike = λ k. state_of (parts_of (record { live = alike.live k; deletions = alike.deletions k; cells = alike.cells k; known = [] }) names schemas accepted)
+pub state_alike : (g h : Holdings) (names : Names) (schemas : Map ℕ Schema) (pins : Map ℕ ℕ) (accepted : ℕ) → HoldAlike g h → state_of (parts_of g names schemas pins accepted) ≡ state_of (parts_of h names schemas pins accepted)
+state_alike g h names schemas pins accepted alike = λ k. state_of (parts_of (record { live = alike.live k; deletions = alike.deletions k; cells = alike.cells k; known = [] }) names schemas pins accepted)
 
 -- a world whose entities hold the same in other tables
-pub world_alike : (g h : Holdings) (names : Names) (schemas : Map ℕ Schema) (accepted : ℕ) (added : Sizes) → IsWorld (parts_of h names schemas accepted) → AreHoldings g → HoldAlike g h
-    → KeepsSizes h.known added g.known → list_all (is_known_rightly h schemas) added ≡ true → IsWorld (parts_of g names schemas accepted)
-world_alike g h names schemas accepted added world whole alike keeps fits = record {
+pub world_alike : (g h : Holdings) (names : Names) (schemas : Map ℕ Schema) (pins : Map ℕ ℕ) (accepted : ℕ) (added : Sizes) → IsWorld (parts_of h names schemas pins accepted) → AreHoldings g → HoldAlike g h
+    → KeepsSizes h.known added g.known → list_all (is_known_rightly h schemas) added ≡ true → IsWorld (parts_of g names schemas pins accepted)
+world_alike g h names schemas pins accepted added world whole alike keeps fits = record {
   whole = whole;
-  sound = subst IsWellFormed (sym (state_alike g h names schemas accepted alike)) world.sound;
+  sound = subst IsWellFormed (sym (state_alike g h names schemas pins accepted alike)) world.sound;
   settled = ap keys alike.cells ∙ world.settled ∙ ap keys (sym alike.live);
   known = subst (λ live. list_all (λ c. (c.1 == byte_count (type_in schemas (λ r. holds_id g r (plain pair_is_tag)) c.0)) && list_all (has_key nat_cmp live) (mentioned c.0)) g.known ≡ true) (sym alike.live)
       (subst (λ cells. list_all (λ c. (c.1 == byte_count (type_in schemas (λ r. is_some (value_at id_cmp (unwrap_or (value_at nat_cmp cells r) []) (plain pair_is_tag))) c.0)) && list_all (has_key nat_cmp h.live) (mentioned c.0)) g.known ≡ true) (sym alike.cells)

@@ -1,6 +1,9 @@
 -- What is seen of a world: its state, and the tables that stand.
-use Rattle.std.specs.Prelude.{◌≡◌, ℕ}
+use Rattle.std.specs.Prelude.{◌≡◌, ℕ, Result, Ok, Err, IsOk}
 use Rattle.ecs_id.specs.declared.EntityId.{EntityId}
+use Rattle.ecs_model.specs.declared.faults.CommandError.{CommandError}
+use Rattle.ecs_model.specs.declared.faults.CommandError.TheVariants.{Refused, Memory}
+use Rattle.ecs_model.specs.declared.faults.Refusal.{Refusal}
 use Rattle.ecs_model.specs.World.{WorldState, is_alive}
 use Rattle.table_store.specs.Store.{Store}
 use Rattle.ecs_archetypes.specs.Holdings.{held_at, is_settled}
@@ -18,3 +21,9 @@ pub record IsGraphOf (w : Standing) (g : Housing) : Type 0 where
   pub live : (holdings_of g).live ≡ (w.state).live
   pub settled : (e : EntityId) → is_settled (holdings_of g) e ≡ is_alive w.state e
   pub facts : (e : ℕ) → AreFactsOf w.state e (held_at (holdings_of g) e)
+
+-- a call answers as the definition and leaves its state, and a refusal leaves the state as it was; so does refused memory, where nothing else is against it
+abbrev pub AnswersPin : {T : Type 0} → Result T CommandError → Result WorldState Refusal → WorldState → WorldState → Type 0
+AnswersPin (Ok _) pinned old new = pinned ≡ Ok new
+AnswersPin (Err (Refused reason)) pinned old new = (pinned ≡ Err reason) × (new ≡ old)
+AnswersPin (Err Memory) pinned old new = IsOk pinned × (new ≡ old)

@@ -55,15 +55,16 @@ name_in names e = option_map (λ p. p.0) (find (λ p. entity_eq p.1 e) (finite.e
 abbrev pub names_of : Names → Map ℕ ℕ → Map ℕ (List ℕ)
 names_of names live = filter_map (λ e. option_map (λ n. (e.0, n)) (name_in names (record { index = e.0; generation = e.1 }))) live
 
--- the parts of a world: who holds what, the names, the fields of components, and how many commands were accepted
+-- the parts of a world: who holds what, the names, the fields of components, how many stored queries mention each entity, and how many commands were accepted
 pub record Parts : Type 0 where
   pub holdings : Holdings
   pub names : Names
   pub schemas : Map ℕ Schema
+  pub pins : Map ℕ ℕ
   pub accepted : ℕ
 
-abbrev pub parts_of : Holdings → Names → Map ℕ Schema → ℕ → Parts
-parts_of h names schemas accepted = record { holdings = h; names = names; schemas = schemas; accepted = accepted }
+abbrev pub parts_of : Holdings → Names → Map ℕ Schema → Map ℕ ℕ → ℕ → Parts
+parts_of h names schemas pins accepted = record { holdings = h; names = names; schemas = schemas; pins = pins; accepted = accepted }
 
 -- the state of a world of these parts
 abbrev pub state_of : Parts → WorldState
@@ -73,7 +74,7 @@ state_of p = record {
   names = names_of p.names (p.holdings).live;
   schemas = p.schemas;
   deletions = (p.holdings).deletions;
-  pins = [];
+  pins = p.pins;
   accepted = p.accepted;
 }
 

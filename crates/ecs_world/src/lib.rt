@@ -33,6 +33,7 @@ mod birth_commands;
 mod built_in;
 mod changes;
 mod fact_commands;
+mod pins;
 mod readers;
 mod refusals;
 
@@ -55,6 +56,8 @@ pub struct World<A: Allocator = Global> {
     names: NameIndex<A>,
     /// By the component's index.
     schemas: BTreeMap<u32, Schema<A>, A>,
+    /// How many stored queries mention an entity, by its index. No count is 0.
+    pins: BTreeMap<u32, u64, A>,
     /// How many commands were accepted.
     accepted: u64,
 }
@@ -67,11 +70,11 @@ impl<A: Allocator> Model for World<A> {
     ghost Value = { Standing };
 
     ghost view = { λ w. record {
-      state = state_of (parts_of (holdings_of w.archetypes) w.names w.schemas.entries w.accepted);
+      state = state_of (parts_of (holdings_of w.archetypes) w.names w.schemas.entries w.pins.entries w.accepted);
       tables = (w.archetypes).tables;
     } };
 
-    ghost invariant = { λ w. IsWorld (parts_of (holdings_of w.archetypes) w.names w.schemas.entries w.accepted) };
+    ghost invariant = { λ w. IsWorld (parts_of (holdings_of w.archetypes) w.names w.schemas.entries w.pins.entries w.accepted) };
 }
 
 impl<A: Allocator + Copy> World<A> {
@@ -85,6 +88,7 @@ impl<A: Allocator + Copy> World<A> {
             archetypes: built_in::archetypes(alloc, random)?,
             names: built_in::names(alloc, random)?,
             schemas: BTreeMap::new(alloc),
+            pins: BTreeMap::new(alloc),
             accepted: 0,
         })
     }

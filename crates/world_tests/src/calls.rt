@@ -33,6 +33,7 @@ fn expect_sun(rt: &impl Abort, world: &World, position: Id) {
     assert!(rt; world.type_of(position).is_some());
     assert!(rt; world.bytes(64, position) == Some([253, 255, 255, 255, 200].as_slice()));
     assert!(rt; world.value(64, position) == Some(Value::new(&[-3, 200])));
+    assert!(rt; world.graph().index().place(SUN).is_some());
 }
 
 /// Gives the sun a position and a tag, and takes the tag away again.
@@ -56,6 +57,21 @@ fn each_call_has_memory_and_each_reader_answers(rt: HostRuntime) -> Result<(), F
     assert!(rt; world.fresh()?.born() == world.at(66));
     move_sun(&rt, &mut world, position, Id::plain(66))?;
     expect_sun(&rt, &world, position);
+    Ok(())
+}
+
+#[test]
+fn stored_queries_are_counted(rt: HostRuntime) -> Result<(), Fail> {
+    let mut world = World::new(rt.alloc(), RandomState::new(&rt)?)?;
+    assert!(rt; world.pin(SUN) == Err(CommandError::Refused(Refusal::Dead)));
+    world.entity("Sun")?;
+    world.pin(SUN)?;
+    world.pin(SUN)?;
+    assert!(rt; world.pin_count(SUN.index) == 2);
+    for left in [1, 0, 0] {
+        world.unpin(SUN);
+        assert!(rt; world.pin_count(SUN.index) == left);
+    }
     Ok(())
 }
 

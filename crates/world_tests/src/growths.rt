@@ -22,6 +22,7 @@ enum Call {
     Add,
     Set,
     Remove,
+    Pin,
 }
 
 fn fields<A: Allocator + Copy>(alloc: A) -> Result<Schema<A>, SchemaError> {
@@ -53,14 +54,21 @@ fn carry_out<A: Allocator + Copy>(
         Call::Add => world.add(SHIP, Id::pair(65, 65))?,
         Call::Set => world.set(SHIP, Id::pair(65, 64), &[8])?,
         Call::Remove => world.remove(SHIP, Id::plain(64))?,
+        Call::Pin => return world.pin(SHIP),
     };
     Ok(())
 }
 
-/// Whether the next entity of a new world and that of a filled one are there, and how many ids the ship has.
-fn seen<A: Allocator>(world: &World<A>) -> (bool, bool, usize) {
+/// Whether the next entity of a new world and that of a filled one are there, how many ids the ship has, and how often it is pinned.
+fn seen<A: Allocator>(world: &World<A>) -> (bool, bool, usize, u64) {
     let ids = world.ids_of(SHIP).unwrap_or(&[]);
-    (world.at(64).is_some(), world.at(67).is_some(), ids.len())
+    let pins = world.pin_count(SHIP.index);
+    (
+        world.at(64).is_some(),
+        world.at(67).is_some(),
+        ids.len(),
+        pins,
+    )
 }
 
 /// Gives out so many blocks and no more, and tells whether the call was refused. If so, all is as before, and the next try is accepted.
@@ -120,6 +128,7 @@ fn a_refused_call_changes_nothing(rt: HostRuntime) -> Result<(), Fail> {
         Call::Add,
         Call::Set,
         Call::Remove,
+        Call::Pin,
     ] {
         refuse_each(&rt, &heap, random, call)?;
     }

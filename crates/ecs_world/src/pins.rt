@@ -1,0 +1,74 @@
+//! How many stored queries mention an entity. No command is counted for it.
+
+ghost use Rattle.std.specs.Prelude.{◌≡◌};
+ghost use Rattle.ecs_model.specs.Map.{count_at};
+ghost use Rattle.ecs_model.specs.traits.Pins.{one_less, one_more, pin, unpin};
+ghost use Rattle.ecs_world.specs.Standing.{AnswersPin};
+
+use crate::World;
+use ecs_id::EntityId;
+use ecs_model::faults::{CommandError, Refusal};
+use std::alloc::Allocator;
+
+impl<A: Allocator> World<A> {
+    /// How many stored queries mention the entity of an index.
+    pub fn pin_count(&self, index: u32) -> u64
+        ensures { result ≡ count_at self.now.state.pins index }
+    {
+        self.pins.get(&index).copied().unwrap_or(0)
+    }
+}
+
+impl<A: Allocator + Copy> World<A> {
+    /// Counts one stored query more that mentions an entity. A count that reaches 2^64 - 1 stays for good.
+    ///
+    /// Fails of a dead entity, and where memory is refused. Then nothing changes.
+    pub fn pin(&mut self, entity: EntityId) -> Result<(), CommandError>
+        ensures answers { AnswersPin result (pin self.old.state entity) self.old.state self.new.state }
+        ensures tables { self.new.tables ≡ self.old.tables }
+    {
+        if !self.is_alive(entity) {
+            return Err(CommandError::Refused(Refusal::Dead));
+        }
+        let count = one_more(self.pin_count(entity.index));
+        if self.pins.insert(entity.index, count).is_err() {
+            return Err(CommandError::Memory);
+        }
+        Ok(())
+    }
+
+    /// Counts one stored query less that mentions an entity. Nothing changes where none does, or of a dead entity.
+    pub fn unpin(&mut self, entity: EntityId)
+        ensures state { self.new.state ≡ unpin self.old.state entity }
+        ensures tables { self.new.tables ≡ self.old.tables }
+    {
+        if !self.is_alive(entity) {
+            return;
+        }
+        let count = one_less(self.pin_count(entity.index));
+        if count == 0 {
+            self.pins.remove(&entity.index);
+        } else {
+            // This takes no memory: another count stands there already.
+            let _ = self.pins.insert(entity.index, count);
+        }
+    }
+}
+
+/// The count after one query more.
+fn one_more(count: u64) -> u64
+    ensures { result ≡ one_more count }
+{
+    count.saturating_add(1)
+}
+
+/// The count after one query less.
+fn one_less(count: u64) -> u64
+    ensures { result ≡ one_less count }
+{
+    if count == u64::MAX {
+        count
+    } else {
+        count.saturating_sub(1)
+    }
+}
