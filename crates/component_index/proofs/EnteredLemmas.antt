@@ -2,14 +2,14 @@
 use Rattle.std.proofs.Common.{◌≡◌, ◌&&◌, ◌||◌, ◌↔◌, not, Bool, true, false, cond, true≢false, List, [], ◌∷◌, map, Option, Some, None, Contains, refl, sym, ap, subst, ◌∙◌}
 use Rattle.std.specs.declared.vec.Vec.{Vec}
 use Rattle.std.specs.Option.{option_map_or, option_map}
-use Rattle.std.specs.Ordering.{eq_by_cmp}
+use Rattle.std.specs.Ordering.{eq_by_cmp, is_eq}
 use Rattle.std.specs.Map.{lookup}
 use Rattle.std.specs.HashMap.{HashMap, get, Updates}
 use Rattle.std.specs.HashSet.{HashSet, contains}
 use Rattle.std.specs.List.{list_any, IsDistinct}
 use Rattle.std.specs.Cmp.{IsEquivalence}
 use Rattle.std.specs.FinMap as finite
-use Rattle.std.specs.FinMap.{find}
+use Rattle.std.specs.FinMap.{find, IsAntisymmetric}
 use Rattle.std.proofs.lemmas.Cmp.{eq_by_cmp_equiv}
 use Rattle.std.proofs.lemmas.Map.Views.{list_any-from_Contains, Contains-from_any}
 use Rattle.ecs_id.specs.Id.{Id}
@@ -17,10 +17,14 @@ use Rattle.ecs_id.specs.declared.TableKey.{TableKey}
 use Rattle.component_index.specs.declared.pattern.Pattern.{Pattern}
 use Rattle.component_index.specs.Patterns.{matches}
 use Rattle.component_index.specs.Entered.{Entered, IsMatched, table_cmp, table_eq, table_cmp_total, eq_by-table_cmp, same_table}
-use Rattle.component_index.specs.Listed.{pattern_eq, is_listed, is_matched, entered_in, Adds, Drops, AreListed}
-use Rattle.component_index.proofs.Same.{same_tied}
+use Rattle.component_index.specs.Listed.{is_listed, is_matched, entered_in, Adds, Drops, AreListed}
+use Rattle.component_index.specs.SamePattern.{pattern_eq}
 
 -- ---- the map of the entered tables
+-- the order of the keys ties where they are one
+same_tied : IsAntisymmetric table_cmp
+same_tied x y e = same_table x y (sym (eq_by-table_cmp x y) ∙ ap is_eq e)
+
 module _ {Y : Type 0} where
   find-entered : (es : List (TableKey × Vec Id Y)) (q : TableKey) → find table_cmp q (map (λ p. (p.0, p.1.items)) es) ≡ option_map (λ ids. ids.items) (lookup (table_eq q) es)
   find-entered [] q = refl

@@ -1,3 +1,2 @@
 mod EnteredLemmas
 mod ListedLemmas
-mod Same

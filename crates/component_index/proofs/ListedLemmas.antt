@@ -9,8 +9,8 @@ use Rattle.std.proofs.lemmas.List.Folds.{list_any_more}
 use Rattle.ecs_id.specs.declared.TableKey.{TableKey}
 use Rattle.component_index.specs.declared.pattern.Pattern.{Pattern}
 use Rattle.component_index.specs.Entered.{table_eq}
-use Rattle.component_index.specs.Listed.{pattern_eq, is_listed, Adds, Drops, Keeps}
-use Rattle.component_index.proofs.Same.{same_pattern}
+use Rattle.component_index.specs.Listed.{is_listed, Adds, Drops, Keeps}
+use Rattle.component_index.specs.SamePattern.{pattern_eq, same_pattern}
 
 or_none : (b : Bool) → b ≡ (b || false)
 or_none true = refl
@@ -143,6 +143,22 @@ or_first : (a b : Bool) → b ≡ true → (a || b) ≡ true
 or_first true b h = refl
 or_first false b h = h
 
+or_new : (f t h : Bool) → (h ≡ true → f ≡ true) → (f || t) ≡ (f || (t && not h))
+or_new true t h k = refl
+or_new false t true k = absurd (true≢false (sym (k refl)))
+or_new false true false k = refl
+or_new false false false k = refl
+
+left_of : (a b : Bool) → (a && b) ≡ true → a ≡ true
+left_of true b h = refl
+left_of false b h = h
+
+and_or : (a b c : Bool) → ((a || b) && c) ≡ ((a && c) || (b && c))
+and_or true b true = refl
+and_or true true false = refl
+and_or true false false = refl
+and_or false b c = refl
+
 module _ {X : Type 0} (test : X → Pattern → Bool) (xs : List X) where
   -- the pattern passes the test of one of the first
   abbrev pub of_first : ℕ → Pattern → Bool
@@ -178,6 +194,55 @@ module _ {X : Type 0} (test : X → Pattern → Bool) (xs : List X) where
       pub Keeps-more : Adds m n (of_first i) key → Keeps n o (test x) key → Keeps m o of_each key
       Keeps-more f g = Keeps-steps m n o (of_first i) (test x) of_each key (λ p h. any-take (λ y. test y p) xs i h)
           (λ p h. any-take (λ y. test y p) xs (i + 1) (more p ∙ or_first (of_first i p) _ h)) f g
+
+      -- what matches the id before is among the first already
+      module _ (h : Pattern → Bool) (had : (p : Pattern) → h p ≡ true → of_first i p ≡ true) where
+        pub Adds-new : Adds m n (of_first i) key → Adds n o (λ p. test x p && not (h p)) key → Adds m o (of_first (i + 1)) key
+        Adds-new f g = Adds-steps m n o (of_first i) (λ p. test x p && not (h p)) (of_first (i + 1)) key (λ p. more p ∙ or_new (of_first i p) (test x p) (h p) (had p)) f g
+
+        pub Keeps-new : Adds m n (of_first i) key → Keeps n o (λ p. test x p && not (h p)) key → Keeps m o of_each key
+        Keeps-new f g = Keeps-steps m n o (of_first i) (λ p. test x p && not (h p)) of_each key (λ p e. any-take (λ y. test y p) xs i e)
+            (λ p e. any-take (λ y. test y p) xs (i + 1) (more p ∙ or_first (of_first i p) _ (left_of (test x p) _ e))) f g
+
+      pub had-next : (p : Pattern) → test x p ≡ true → of_first (i + 1) p ≡ true
+      had-next p e = more p ∙ or_first (of_first i p) _ e
+
+-- ---- one pattern, but where the id before has it
+module _ {T S : Type 0} (m n : HashMap Pattern (HashSet TableKey T) S) (pattern : Pattern) (key : TableKey) (h : Pattern → Bool) where
+  new_test : h pattern ≡ false → (p : Pattern) → pattern_eq pattern p ≡ (pattern_eq pattern p && not (h p))
+  new_test out p = by (pattern_eq pattern p) refl
+    where
+      by : (b : Bool) → pattern_eq pattern p ≡ b → b ≡ (b && not (h p))
+      by true e = λ i. not (sym (ap h (sym (same_pattern pattern p e)) ∙ out) i)
+      by false e = refl
+
+  no_test : h pattern ≡ true → (p : Pattern) → (pattern_eq pattern p && not (h p)) ≡ false
+  no_test here p = by (pattern_eq pattern p) refl
+    where
+      by : (b : Bool) → pattern_eq pattern p ≡ b → (b && not (h p)) ≡ false
+      by true e = λ i. not ((ap h (sym (same_pattern pattern p e)) ∙ here) i)
+      by false e = refl
+
+  pub Adds-not_before : h pattern ≡ false → Adds m n (pattern_eq pattern) key → Adds m n (λ p. pattern_eq pattern p && not (h p)) key
+  Adds-not_before out f p k = f p k ∙ (λ i. is_listed m p k || (new_test out p i && table_eq key k))
+
+  pub Keeps-not_before : h pattern ≡ false → Keeps m n (pattern_eq pattern) key → Keeps m n (λ p. pattern_eq pattern p && not (h p)) key
+  Keeps-not_before out f p k e = f p k ((λ i. new_test out p i && table_eq key k) ∙ e)
+
+  pub Adds-before : h pattern ≡ true → Adds m m (λ p. pattern_eq pattern p && not (h p)) key
+  Adds-before here p k = or_none (is_listed m p k) ∙ (λ i. is_listed m p k || (sym (no_test here p) i && table_eq key k))
+
+-- ---- what holds of each of a list, and of one more
+any_and : {X : Type 0} (f : X → Bool) (b : Bool) (xs : List X) → list_any (λ x. f x && b) xs ≡ (list_any f xs && b)
+any_and f b [] = refl
+any_and f b (x ∷ xs) = (λ i. (f x && b) || any_and f b xs i) ∙ sym (and_or (f x) (list_any f xs) b)
+
+module _ {X : Type 0} (f : X → Pattern → Bool) (h : Pattern → Bool) (xs : List X) {T S : Type 0} (key : TableKey) (m n : HashMap Pattern (HashSet TableKey T) S) where
+  pub Adds-each_new : Adds m n (of_each (λ x p. f x p && not (h p)) xs) key → Adds m n (λ p. of_each f xs p && not (h p)) key
+  Adds-each_new g p k = g p k ∙ (λ i. is_listed m p k || (any_and (λ x. f x p) (not (h p)) xs i && table_eq key k))
+
+  pub Keeps-each_new : Keeps m n (of_each (λ x p. f x p && not (h p)) xs) key → Keeps m n (λ p. of_each f xs p && not (h p)) key
+  Keeps-each_new g p k e = g p k ((λ i. any_and (λ x. f x p) (not (h p)) xs i && table_eq key k) ∙ e)
 
 -- what holds holds of an error
 pub on_err : {X E : Type 0} {P : Type 0} (r : Result X E) → P → OnErr r P

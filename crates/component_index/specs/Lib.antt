@@ -1,3 +1,4 @@
 pub mod Entered
 pub mod Listed
 pub mod Patterns
+pub mod SamePattern

@@ -1,5 +1,5 @@
 -- The lists of tables, one for each pattern, and what they have to do with the tables that are entered.
-use Rattle.std.specs.Prelude.{◌≡◌, Bool, false, not, ◌&&◌, ◌||◌, List, [], ◌∷◌, Some, None, map}
+use Rattle.std.specs.Prelude.{◌≡◌, Bool, false, not, ◌&&◌, ◌||◌, List, [], ◌∷◌, Option, Some, None, map}
 use Rattle.std.specs.declared.vec.Vec.{Vec}
 use Rattle.std.specs.Option.{option_map_or}
 use Rattle.std.specs.List.{list_any}
@@ -10,17 +10,17 @@ use Rattle.ecs_id.specs.Id.{Id, plain, pair}
 use Rattle.ecs_id.specs.declared.TableKey.{TableKey}
 use Rattle.component_index.specs.declared.pattern.Part.TheVariants.{Is, Any}
 use Rattle.component_index.specs.declared.pattern.Pattern.{Pattern}
-use Rattle.component_index.specs.contracts.pattern.PatternPartialEq.TheImpl as same_patterns
-use Rattle.component_index.specs.Patterns.{matches}
+use Rattle.component_index.specs.Patterns.{matches, matches_some}
+use Rattle.component_index.specs.SamePattern.{pattern_eq}
 use Rattle.component_index.specs.Entered.{Entered, table_eq}
-
--- whether two patterns are the same
-abbrev pub pattern_eq : Pattern → Pattern → Bool
-pattern_eq = same_patterns.ghosts.eq
 
 -- the pattern is one of these
 abbrev pub is_among : List Pattern → Pattern → Bool
 is_among patterns pattern = list_any (λ one. pattern_eq one pattern) patterns
+
+-- the pattern matches this id, and not the one before it
+abbrev pub is_new : Option Id → Id → Pattern → Bool
+is_new before id pattern = matches pattern id && not (matches_some pattern before)
 
 -- the patterns that match the id
 abbrev pub patterns_of : Id → List Pattern

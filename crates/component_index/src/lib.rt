@@ -8,9 +8,11 @@ ghost use Rattle.indexmap.specs.IndexMap.{IsUnchanged, spare};
 ghost use Rattle.ecs_id.specs.declared.TableKey.{TableKey};
 ghost use Rattle.component_index.specs.Entered.{table_eq, IsMatched};
 
+mod hashing;
 mod lists;
 mod pattern;
 
+use crate::hashing::TableHashing;
 use crate::lists::{Lists, list_all, unlist_all};
 use ecs_id::{Id, TableKey};
 use indexmap::IndexMap;
@@ -19,7 +21,7 @@ use std::alloc::{AllocError, Allocator, Global};
 use std::hash::RandomState;
 use std::marker::Model;
 
-type Entered<A> = IndexMap<TableKey, Vec<Id, A>, RandomState, A>;
+type Entered<A> = IndexMap<TableKey, Vec<Id, A>, TableHashing, A>;
 
 /// For each pattern, the tables that have an id that it matches.
 ///
@@ -30,7 +32,7 @@ type Entered<A> = IndexMap<TableKey, Vec<Id, A>, RandomState, A>;
 pub struct ComponentIndex<A: Allocator = Global> {
     entered: Entered<A>,
     lists: Lists<A>,
-    random: RandomState,
+    hashing: TableHashing,
 }
 
 impl<A: Allocator> Model for ComponentIndex<A> {
@@ -54,10 +56,11 @@ impl<A: Allocator + Copy> ComponentIndex<A> {
     pub fn new(alloc: A, random: RandomState) -> Self
         ensures empty { result ≡ finite.empty }
     {
+        let hashing = TableHashing::new(random);
         ComponentIndex {
-            entered: IndexMap::with_hasher(alloc, random),
+            entered: IndexMap::with_hasher(alloc, hashing),
             lists: IndexMap::with_hasher(alloc, random),
-            random,
+            hashing,
         }
     }
 
@@ -70,7 +73,7 @@ impl<A: Allocator + Copy> ComponentIndex<A> {
         ensures refused { OnErr result (self.new ≡ self.old) }
     {
         let own = all_ids(&mut self.entered, ids)?;
-        if let Err(error) = list_all(&mut self.lists, self.random, ids, key) {
+        if let Err(error) = list_all(&mut self.lists, self.hashing, ids, key) {
             unlist_all(&mut self.lists, ids, key);
             return Err(error);
         }

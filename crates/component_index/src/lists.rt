@@ -1,17 +1,19 @@
 //! The list of tables of each pattern.
-ghost use Rattle.std.specs.Prelude.{◌≡◌, OnErr, OnOk};
+ghost use Rattle.std.specs.Prelude.{◌≡◌, ◌&&◌, not, OnErr, OnOk};
 ghost use Rattle.std.specs.List.{list_any};
 ghost use Rattle.ecs_id.specs.Id.{pair, plain};
-ghost use Rattle.component_index.specs.Patterns.{matches};
-ghost use Rattle.component_index.specs.Listed.{is_among, pattern_eq, patterns_of, Adds, Drops, Keeps};
+ghost use Rattle.component_index.specs.Patterns.{matches, matches_some};
+ghost use Rattle.component_index.specs.SamePattern.{pattern_eq};
+ghost use Rattle.component_index.specs.Listed.{is_among, is_new, patterns_of, Adds, Drops, Keeps};
 
+use crate::hashing::TableHashing;
 use crate::pattern::{Part, Pattern};
 use ecs_id::{Id, TableKey};
 use indexmap::{IndexMap, IndexSet};
 use std::alloc::{AllocError, Allocator};
 use std::hash::RandomState;
 
-pub type List<A> = IndexSet<TableKey, RandomState, A>;
+pub type List<A> = IndexSet<TableKey, TableHashing, A>;
 
 // No list is empty: the entry of a pattern goes with the last table of its list.
 pub type Lists<A> = IndexMap<Pattern, List<A>, RandomState, A>;
@@ -19,7 +21,7 @@ pub type Lists<A> = IndexMap<Pattern, List<A>, RandomState, A>;
 /// Puts the table into the list of the pattern, where it isn't in it.
 fn list<A: Allocator + Copy>(
     lists: &mut Lists<A>,
-    random: RandomState,
+    hashing: TableHashing,
     pattern: Pattern,
     key: TableKey,
 ) -> Result<(), AllocError>
@@ -30,7 +32,7 @@ fn list<A: Allocator + Copy>(
         list.insert(key)?;
         return Ok(());
     }
-    let mut list = IndexSet::with_hasher(*lists.allocator(), random);
+    let mut list = IndexSet::with_hasher(*lists.allocator(), hashing);
     list.insert(key)?;
     lists.insert(pattern, list)?;
     Ok(())
@@ -49,17 +51,35 @@ fn unlist<A: Allocator>(lists: &mut Lists<A>, pattern: Pattern, key: TableKey)
     }
 }
 
+/// Puts the table into the list of the pattern, but for one that matches the id before, in whose list the table is.
+fn list_new<A: Allocator + Copy>(
+    lists: &mut Lists<A>,
+    hashing: TableHashing,
+    before: &Option<Id>,
+    pattern: Pattern,
+    key: TableKey,
+) -> Result<(), AllocError>
+    ensures listed { OnOk result (Adds lists.old lists.new (λ p. pattern_eq pattern p && not (matches_some p before.now)) key) }
+    ensures refused { OnErr result (Keeps lists.old lists.new (λ p. pattern_eq pattern p && not (matches_some p before.now)) key) }
+{
+    if pattern.matches_some(before) {
+        return Ok(());
+    }
+    list(lists, hashing, pattern, key)
+}
+
 fn list_each<A: Allocator + Copy>(
     lists: &mut Lists<A>,
-    random: RandomState,
+    hashing: TableHashing,
+    before: &Option<Id>,
     patterns: &[Pattern],
     key: TableKey,
 ) -> Result<(), AllocError>
-    ensures listed { OnOk result (Adds lists.old lists.new (is_among patterns.now) key) }
-    ensures refused { OnErr result (Keeps lists.old lists.new (is_among patterns.now) key) }
+    ensures listed { OnOk result (Adds lists.old lists.new (λ p. is_among patterns.now p && not (matches_some p before.now)) key) }
+    ensures refused { OnErr result (Keeps lists.old lists.new (λ p. is_among patterns.now p && not (matches_some p before.now)) key) }
 {
     for pattern in patterns {
-        list(lists, random, *pattern, key)?;
+        list_new(lists, hashing, before, *pattern, key)?;
     }
     Ok(())
 }
@@ -72,19 +92,20 @@ fn unlist_each<A: Allocator>(lists: &mut Lists<A>, patterns: &[Pattern], key: Ta
     }
 }
 
-/// Puts the table into the lists of the patterns that match the id.
+/// Puts the table into the lists of the patterns that match the id, but for those that match the id before.
 fn list_id<A: Allocator + Copy>(
     lists: &mut Lists<A>,
-    random: RandomState,
+    hashing: TableHashing,
+    before: &Option<Id>,
     id: Id,
     key: TableKey,
 ) -> Result<(), AllocError>
-    ensures listed { OnOk result (Adds lists.old lists.new (λ pattern. matches pattern id) key) }
-    ensures refused { OnErr result (Keeps lists.old lists.new (λ pattern. matches pattern id) key) }
+    ensures listed { OnOk result (Adds lists.old lists.new (is_new before.now id) key) }
+    ensures refused { OnErr result (Keeps lists.old lists.new (is_new before.now id) key) }
 {
     match id.second() {
-        None => list_each(lists, random, &of_plain(id.first()), key),
-        Some(target) => list_each(lists, random, &of_pair(id.first(), target), key),
+        None => list_each(lists, hashing, before, &of_plain(id.first()), key),
+        Some(target) => list_each(lists, hashing, before, &of_pair(id.first(), target), key),
     }
 }
 
@@ -101,15 +122,17 @@ fn unlist_id<A: Allocator>(lists: &mut Lists<A>, id: Id, key: TableKey)
 /// Puts the table into the lists of the patterns that match one of the ids. After an error it is in some of them.
 pub fn list_all<A: Allocator + Copy>(
     lists: &mut Lists<A>,
-    random: RandomState,
+    hashing: TableHashing,
     ids: &[Id],
     key: TableKey,
 ) -> Result<(), AllocError>
     ensures listed { OnOk result (Adds lists.old lists.new (λ pattern. list_any (matches pattern) ids.now) key) }
     ensures refused { OnErr result (Keeps lists.old lists.new (λ pattern. list_any (matches pattern) ids.now) key) }
 {
+    let mut before = None;
     for id in ids {
-        list_id(lists, random, *id, key)?;
+        list_id(lists, hashing, &before, *id, key)?;
+        before = Some(*id);
     }
     Ok(())
 }

@@ -1,6 +1,6 @@
 use Rattle.std.proofs.Common.{rules, ◌≡◌, Some, sym}
 use Rattle.std.specs.HashMap.{get}
-use Rattle.component_index.specs.Listed.{pattern_eq}
+use Rattle.component_index.specs.SamePattern.{pattern_eq}
 use Rattle.component_index.proofs.ListedLemmas.{Adds-one}
 use Rattle.component_index.proofs.lists.list.Goals as goal
 

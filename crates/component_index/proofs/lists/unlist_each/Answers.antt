@@ -1,5 +1,5 @@
 use Rattle.std.proofs.Common.{arith, refl}
-use Rattle.component_index.specs.Listed.{pattern_eq}
+use Rattle.component_index.specs.SamePattern.{pattern_eq}
 use Rattle.component_index.proofs.ListedLemmas.{Drops-begin, Drops-more, Drops-end}
 use Rattle.component_index.proofs.lists.unlist_each.Goals as goal
 

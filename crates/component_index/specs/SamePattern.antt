@@ -1,13 +1,14 @@
--- When two patterns are the same, and two keys of tables.
-use Rattle.std.proofs.Common.{◌≡◌, ℕ, ◌==◌, ◌&&◌, Bool, true, false, true≢false, Option, Some, None, refl, sym, ap, ◌∙◌}
+-- When two patterns are the same.
+use Rattle.std.proofs.Common.{◌≡◌, ℕ, ◌==◌, ◌&&◌, Bool, true, false, true≢false, Option, Some, None, refl, sym, ap}
 use Rattle.std.proofs.lemmas.Bool.Decides.{Decides-eqb}
-use Rattle.std.specs.Ordering.{is_eq}
-use Rattle.std.specs.FinMap.{IsAntisymmetric}
 use Rattle.component_index.specs.declared.pattern.Part.{Part}
 use Rattle.component_index.specs.declared.pattern.Part.TheVariants.{Is, Any}
 use Rattle.component_index.specs.declared.pattern.Pattern.{Pattern}
-use Rattle.component_index.specs.Entered.{table_cmp, eq_by-table_cmp, same_table}
-use Rattle.component_index.specs.Listed.{pattern_eq}
+use Rattle.component_index.specs.contracts.pattern.PatternPartialEq.TheImpl as same_patterns
+
+-- whether two patterns are the same
+abbrev pub pattern_eq : Pattern → Pattern → Bool
+pattern_eq = same_patterns.ghosts.eq
 
 both : (a b : Bool) → (a && b) ≡ true → (a ≡ true) × (b ≡ true)
 both true b h = (refl, h)
@@ -50,7 +51,3 @@ same_pattern p q h =
     let a = same_first p.first q.first (first_alone p.first q.first p.second q.second h) in
     let s = same_second p.second q.second (second_alone p.first q.first p.second q.second h) in
     λ i. record { first = a i; second = s i }
-
--- the order of the keys ties where they are one
-pub same_tied : IsAntisymmetric table_cmp
-same_tied x y e = same_table x y (sym (eq_by-table_cmp x y) ∙ ap is_eq e)
