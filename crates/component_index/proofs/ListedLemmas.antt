@@ -204,6 +204,9 @@ module _ {X : Type 0} (test : X → Pattern → Bool) (xs : List X) where
         Keeps-new f g = Keeps-steps m n o (of_first i) (λ p. test x p && not (h p)) of_each key (λ p e. any-take (λ y. test y p) xs i e)
             (λ p e. any-take (λ y. test y p) xs (i + 1) (more p ∙ or_first (of_first i p) _ (left_of (test x p) _ e))) f g
 
+        pub Drops-new : Drops m n (of_first i) key → Drops n o (λ p. test x p && not (h p)) key → Drops m o (of_first (i + 1)) key
+        Drops-new f g = Drops-steps m n o (of_first i) (λ p. test x p && not (h p)) (of_first (i + 1)) key (λ p. more p ∙ or_new (of_first i p) (test x p) (h p) (had p)) f g
+
       pub had-next : (p : Pattern) → test x p ≡ true → of_first (i + 1) p ≡ true
       had-next p e = more p ∙ or_first (of_first i p) _ e
 
@@ -232,6 +235,12 @@ module _ {T S : Type 0} (m n : HashMap Pattern (HashSet TableKey T) S) (pattern 
   pub Adds-before : h pattern ≡ true → Adds m m (λ p. pattern_eq pattern p && not (h p)) key
   Adds-before here p k = or_none (is_listed m p k) ∙ (λ i. is_listed m p k || (sym (no_test here p) i && table_eq key k))
 
+  pub Drops-not_before : h pattern ≡ false → Drops m n (pattern_eq pattern) key → Drops m n (λ p. pattern_eq pattern p && not (h p)) key
+  Drops-not_before out f p k = f p k ∙ (λ i. is_listed m p k && not (new_test out p i && table_eq key k))
+
+  pub Drops-before : h pattern ≡ true → Drops m m (λ p. pattern_eq pattern p && not (h p)) key
+  Drops-before here p k = and_all (is_listed m p k) ∙ (λ i. is_listed m p k && not (sym (no_test here p) i && table_eq key k))
+
 -- ---- what holds of each of a list, and of one more
 any_and : {X : Type 0} (f : X → Bool) (b : Bool) (xs : List X) → list_any (λ x. f x && b) xs ≡ (list_any f xs && b)
 any_and f b [] = refl
@@ -240,6 +249,9 @@ any_and f b (x ∷ xs) = (λ i. (f x && b) || any_and f b xs i) ∙ sym (and_or 
 module _ {X : Type 0} (f : X → Pattern → Bool) (h : Pattern → Bool) (xs : List X) {T S : Type 0} (key : TableKey) (m n : HashMap Pattern (HashSet TableKey T) S) where
   pub Adds-each_new : Adds m n (of_each (λ x p. f x p && not (h p)) xs) key → Adds m n (λ p. of_each f xs p && not (h p)) key
   Adds-each_new g p k = g p k ∙ (λ i. is_listed m p k || (any_and (λ x. f x p) (not (h p)) xs i && table_eq key k))
+
+  pub Drops-each_new : Drops m n (of_each (λ x p. f x p && not (h p)) xs) key → Drops m n (λ p. of_each f xs p && not (h p)) key
+  Drops-each_new g p k = g p k ∙ (λ i. is_listed m p k && not (any_and (λ x. f x p) (not (h p)) xs i && table_eq key k))
 
   pub Keeps-each_new : Keeps m n (of_each (λ x p. f x p && not (h p)) xs) key → Keeps m n (λ p. of_each f xs p && not (h p)) key
   Keeps-each_new g p k e = g p k ((λ i. any_and (λ x. f x p) (not (h p)) xs i && table_eq key k) ∙ e)

@@ -84,11 +84,30 @@ fn list_each<A: Allocator + Copy>(
     Ok(())
 }
 
-fn unlist_each<A: Allocator>(lists: &mut Lists<A>, patterns: &[Pattern], key: TableKey)
-    ensures { Drops lists.old lists.new (is_among patterns.now) key }
+/// Takes the table out of the list of the pattern, but for one that matches the id before, out of whose list the table is.
+fn unlist_new<A: Allocator>(
+    lists: &mut Lists<A>,
+    before: &Option<Id>,
+    pattern: Pattern,
+    key: TableKey,
+)
+    ensures { Drops lists.old lists.new (λ p. pattern_eq pattern p && not (matches_some p before.now)) key }
+{
+    if !pattern.matches_some(before) {
+        unlist(lists, pattern, key);
+    }
+}
+
+fn unlist_each<A: Allocator>(
+    lists: &mut Lists<A>,
+    before: &Option<Id>,
+    patterns: &[Pattern],
+    key: TableKey,
+)
+    ensures { Drops lists.old lists.new (λ p. is_among patterns.now p && not (matches_some p before.now)) key }
 {
     for pattern in patterns {
-        unlist(lists, *pattern, key);
+        unlist_new(lists, before, *pattern, key);
     }
 }
 
@@ -109,13 +128,13 @@ fn list_id<A: Allocator + Copy>(
     }
 }
 
-/// Takes the table out of the lists of the patterns that match the id.
-fn unlist_id<A: Allocator>(lists: &mut Lists<A>, id: Id, key: TableKey)
-    ensures { Drops lists.old lists.new (λ pattern. matches pattern id) key }
+/// Takes the table out of the lists of the patterns that match the id, but for those that match the id before.
+fn unlist_id<A: Allocator>(lists: &mut Lists<A>, before: &Option<Id>, id: Id, key: TableKey)
+    ensures { Drops lists.old lists.new (is_new before.now id) key }
 {
     match id.second() {
-        None => unlist_each(lists, &of_plain(id.first()), key),
-        Some(target) => unlist_each(lists, &of_pair(id.first(), target), key),
+        None => unlist_each(lists, before, &of_plain(id.first()), key),
+        Some(target) => unlist_each(lists, before, &of_pair(id.first(), target), key),
     }
 }
 
@@ -141,8 +160,10 @@ pub fn list_all<A: Allocator + Copy>(
 pub fn unlist_all<A: Allocator>(lists: &mut Lists<A>, ids: &[Id], key: TableKey)
     ensures { Drops lists.old lists.new (λ pattern. list_any (matches pattern) ids.now) key }
 {
+    let mut before = None;
     for id in ids {
-        unlist_id(lists, *id, key);
+        unlist_id(lists, &before, *id, key);
+        before = Some(*id);
     }
 }
 

@@ -1,7 +1,10 @@
+use Rattle.std.proofs.Common.{◌≡◌, true}
+use Rattle.component_index.specs.declared.pattern.Pattern.{Pattern}
 use Rattle.component_index.specs.Listed.{Drops}
-use Rattle.component_index.specs.Patterns.{matches}
+use Rattle.component_index.specs.Patterns.{matches, matches_some}
 use Rattle.component_index.proofs.ListedLemmas.{of_first}
 use Rattle.component_index.proofs.lists.unlist_all.Given as goal
 
 abbrev pub invariant-loop-id : goal.invariant-loop-id
 invariant-loop-id g l = Drops l.initial.lists l.lists (of_first (λ id pattern. matches pattern id) l.ids l.id-index) l.key
+    × ((p : Pattern) → matches_some p l.before ≡ true → of_first (λ id pattern. matches pattern id) l.ids l.id-index p ≡ true)

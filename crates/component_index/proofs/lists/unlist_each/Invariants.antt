@@ -1,6 +1,9 @@
-use Rattle.std.proofs.Common.{take}
-use Rattle.component_index.specs.Listed.{is_among, Drops}
+use Rattle.std.proofs.Common.{◌&&◌, not}
+use Rattle.component_index.specs.Patterns.{matches_some}
+use Rattle.component_index.specs.SamePattern.{pattern_eq}
+use Rattle.component_index.specs.Listed.{Drops}
+use Rattle.component_index.proofs.ListedLemmas.{of_first}
 use Rattle.component_index.proofs.lists.unlist_each.Given as goal
 
 abbrev pub invariant-loop-pattern : goal.invariant-loop-pattern
-invariant-loop-pattern g l = Drops l.initial.lists l.lists (is_among (take l.pattern-index l.patterns)) l.key
+invariant-loop-pattern g l = Drops l.initial.lists l.lists (of_first (λ one p. pattern_eq one p && not (matches_some p l.before)) l.patterns l.pattern-index) l.key
