@@ -12,7 +12,7 @@ mod hashing;
 mod lists;
 mod pattern;
 
-use crate::hashing::TableHashing;
+use crate::hashing::Hashing;
 use crate::lists::{Lists, list_all, unlist_all};
 use ecs_id::{Id, TableKey};
 use indexmap::IndexMap;
@@ -21,7 +21,7 @@ use std::alloc::{AllocError, Allocator, Global};
 use std::hash::RandomState;
 use std::marker::Model;
 
-type Entered<A> = IndexMap<TableKey, Vec<Id, A>, TableHashing, A>;
+type Entered<A> = IndexMap<TableKey, Vec<Id, A>, Hashing, A>;
 
 /// For each pattern, the tables that have an id that it matches.
 ///
@@ -32,7 +32,7 @@ type Entered<A> = IndexMap<TableKey, Vec<Id, A>, TableHashing, A>;
 pub struct ComponentIndex<A: Allocator = Global> {
     entered: Entered<A>,
     lists: Lists<A>,
-    hashing: TableHashing,
+    hashing: Hashing,
 }
 
 impl<A: Allocator> Model for ComponentIndex<A> {
@@ -56,10 +56,10 @@ impl<A: Allocator + Copy> ComponentIndex<A> {
     pub fn new(alloc: A, random: RandomState) -> Self
         ensures empty { result ≡ finite.empty }
     {
-        let hashing = TableHashing::new(random);
+        let hashing = Hashing::new(random);
         ComponentIndex {
             entered: IndexMap::with_hasher(alloc, hashing),
-            lists: IndexMap::with_hasher(alloc, random),
+            lists: IndexMap::with_hasher(alloc, hashing),
             hashing,
         }
     }
