@@ -52,6 +52,22 @@ fn ask(alloc: Global, text: &str) -> Result<Query, QueryFault> {
     check(alloc, &Words, &syntax)
 }
 
+/// Reads a text up to a phase: its tokens, or their syntax too.
+fn ask_phase(alloc: Global, text: &str, phase: &str) -> Result<usize, QueryFault> {
+    let tokens = match lex(alloc, text) {
+        Ok(tokens) => tokens,
+        Err(fault) => return Err(fault),
+    };
+    if phase == "lex" {
+        return Ok(tokens.len());
+    }
+    let syntax = match parse(alloc, tokens.as_slice()) {
+        Ok(syntax) => syntax,
+        Err(fault) => return Err(fault),
+    };
+    Ok(syntax.parts.len())
+}
+
 fn told(rt: &HostRuntime, name: &str, answer: Result<Query, QueryFault>) -> io::Result<()> {
     match answer {
         Ok(query) => println!(rt;
@@ -76,13 +92,17 @@ fn main(rt: HostRuntime) -> io::Result<()> {
         Some(word) => word.parse().unwrap_or(1),
         None => 1,
     };
+    let phase = words.next();
     for name in TEXTS {
         if chosen.as_ref().is_some_and(|word| word.as_str() != name) {
             continue;
         }
         let text = text_of(alloc, name)?;
         for _ in 1..times {
-            ask(alloc, &text).is_ok();
+            match &phase {
+                Some(phase) => ask_phase(alloc, &text, phase).is_ok(),
+                None => ask(alloc, &text).is_ok(),
+            };
         }
         told(&rt, name, ask(alloc, &text))?;
     }

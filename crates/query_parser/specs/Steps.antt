@@ -4,37 +4,67 @@ use Rattle.query_model.specs.Machine as machine
 use Rattle.query_model.specs.Syntax as syntax
 use Rattle.query_model.specs.Tokens as tokens
 use Rattle.query_model.specs.declared.syntax.Role.{Role}
-use Rattle.query_model.specs.declared.syntax.Part as code
+use Rattle.query_parser.specs.declared.machine.Draft.{Draft}
 use Rattle.query_parser.specs.declared.machine.State.{State}
 use Rattle.query_parser.specs.declared.machine.State.TheVariants.{TermNext, AccessNext, BehindAccessWord, BodyNext, PairNext, BehindPairFirst, TargetNext, BehindTarget, BehindFlags, BehindAlong, BehindFirst, SourceNext, BehindSource, FlagsNext, BehindSelf, RiseNext, BehindUp, AlongNext, BehindVariable, OtherSide, BehindItem, Finished}
 use Rattle.query_parser.specs.declared.machine.Move.{Move}
+use Rattle.query_parser.specs.declared.machine.Completed.{Completed}
+use Rattle.query_parser.specs.declared.machine.Completed.TheVariants.{Nothing, Term, Equality, Opening}
 use Rattle.query_parser.specs.declared.machine.Nesting.{Nesting}
 use Rattle.query_parser.specs.declared.machine.Nesting.TheVariants.{Same, Opens, Closes}
-use Rattle.query_model.specs.Seen.{seen_reference, seen_term, seen_part}
+use Rattle.query_model.specs.Seen.{seen_reference, seen_term}
 
-abbrev pub seen_state : State → machine.State
-seen_state (TermNext role) = machine.term_next role
-seen_state (AccessNext role) = machine.access_next role
-seen_state (BehindAccessWord role v) = machine.behind_access_word role v
-seen_state (BodyNext role v) = machine.body_next role v
-seen_state (PairNext role v s) = machine.pair_next role v s
-seen_state (BehindPairFirst role t) = machine.behind_pair_first role (seen_term t)
-seen_state (TargetNext role t) = machine.target_next role (seen_term t)
-seen_state (BehindTarget role t) = machine.behind_target role (seen_term t)
-seen_state (BehindFlags role t) = machine.behind_flags role (seen_term t)
-seen_state (BehindAlong role t) = machine.behind_along role (seen_term t)
-seen_state (BehindFirst h) = machine.behind_first h.role h.valued (seen_reference h.first)
-seen_state (SourceNext h) = machine.source_next h.role h.valued (seen_reference h.first)
-seen_state (BehindSource h r) = machine.behind_source h.role h.valued (seen_reference h.first) (seen_reference r)
-seen_state (FlagsNext h source) = machine.flags_next h.role h.valued (seen_reference h.first) (option_map seen_reference source)
-seen_state (BehindSelf h source) = machine.behind_self h.role h.valued (seen_reference h.first) (option_map seen_reference source)
-seen_state (RiseNext h source) = machine.rise_next h.role h.valued (seen_reference h.first) (option_map seen_reference source)
-seen_state (BehindUp h source own) = machine.behind_up h.role h.valued (seen_reference h.first) (option_map seen_reference source) own
-seen_state (AlongNext h source own) = machine.along_next h.role h.valued (seen_reference h.first) (option_map seen_reference source) own
-seen_state (BehindVariable v s) = machine.behind_variable (drop 1 v.now) s
-seen_state (OtherSide r same) = machine.other_side (seen_reference r) same
-seen_state (BehindItem joined) = machine.behind_item joined
-seen_state Finished = machine.finished
+-- a state, with what was read of the item
+module _ (d : Draft) where
+  abbrev pub first_of : syntax.Reference
+  first_of = seen_reference (d.term).first
+
+  abbrev pub source_of : Option syntax.Reference
+  source_of = option_map seen_reference (d.term).source
+
+  abbrev pub seen_state : State → machine.State
+  seen_state (TermNext role) = machine.term_next role
+  seen_state (AccessNext role) = machine.access_next role
+  seen_state (BehindAccessWord role v) = machine.behind_access_word role v
+  seen_state (BodyNext role v) = machine.body_next role v
+  seen_state (PairNext role v) = machine.pair_next role v (d.term).span
+  seen_state BehindPairFirst = machine.behind_pair_first d.role (seen_term d.term)
+  seen_state TargetNext = machine.target_next d.role (seen_term d.term)
+  seen_state BehindTarget = machine.behind_target d.role (seen_term d.term)
+  seen_state BehindFlags = machine.behind_flags d.role (seen_term d.term)
+  seen_state BehindAlong = machine.behind_along d.role (seen_term d.term)
+  seen_state BehindFirst = machine.behind_first d.role (d.term).valued first_of
+  seen_state SourceNext = machine.source_next d.role (d.term).valued first_of
+  seen_state BehindSource = machine.behind_source d.role (d.term).valued first_of (seen_reference d.last)
+  seen_state FlagsNext = machine.flags_next d.role (d.term).valued first_of source_of
+  seen_state BehindSelf = machine.behind_self d.role (d.term).valued first_of source_of
+  seen_state RiseNext = machine.rise_next d.role (d.term).valued first_of source_of
+  seen_state (BehindUp own) = machine.behind_up d.role (d.term).valued first_of source_of own
+  seen_state (AlongNext own) = machine.along_next d.role (d.term).valued first_of source_of own
+  seen_state BehindVariable = machine.behind_variable (drop 1 d.name.now) (d.term).span
+  seen_state (OtherSide same) = machine.other_side first_of same
+  seen_state (BehindItem joined) = machine.behind_item joined
+  seen_state Finished = machine.finished
+
+  -- the part that a step completes
+  abbrev pub seen_part_of : Completed → List syntax.Part
+  seen_part_of Nothing = []
+  seen_part_of Term = syntax.term d.role (seen_term d.term) ∷ []
+  seen_part_of (Equality same) = syntax.equality first_of same (seen_reference d.last) ∷ []
+  seen_part_of (Opening s) = syntax.opened s ∷ []
+
+  -- and the end of a group, where the step closes one
+  abbrev pub completed : Completed → Nesting → List syntax.Part
+  completed p Same = seen_part_of p
+  completed p Opens = seen_part_of p
+  completed p Closes = seen_part_of p ++ syntax.closed ∷ []
+
+  -- a step that completes a part too
+  abbrev pub put_first : Completed → Option machine.Move → Option machine.Move
+  put_first Nothing o = o
+  put_first Term o = machine.emit (syntax.term d.role (seen_term d.term)) o
+  put_first (Equality same) o = machine.emit (syntax.equality first_of same (seen_reference d.last)) o
+  put_first (Opening s) o = machine.emit (syntax.opened s) o
 
 -- the groups that are open behind a step
 abbrev pub nested : ℕ → Nesting → ℕ
@@ -42,23 +72,8 @@ nested d Same = d
 nested d Opens = d + 1
 nested d Closes = d - 1
 
--- the parts that a step completes
-abbrev pub some_part : Option code.Part → List syntax.Part
-some_part None = []
-some_part (Some p) = seen_part p ∷ []
-
-abbrev pub completed : Option code.Part → Nesting → List syntax.Part
-completed p Same = some_part p
-completed p Opens = some_part p
-completed p Closes = some_part p ++ syntax.closed ∷ []
-
-abbrev pub seen_step : ℕ → Move → machine.Move
-seen_step d m = record { depth = nested d m.nesting; state = seen_state m.state; parts = completed m.part m.nesting }
-
--- a step that completes a part too
-abbrev pub put_first : Option code.Part → Option machine.Move → Option machine.Move
-put_first None o = o
-put_first (Some p) o = machine.emit (seen_part p) o
+abbrev pub seen_step : ℕ → Draft → Move → machine.Move
+seen_step depth d m = record { depth = nested depth m.nesting; state = seen_state d m.state; parts = completed d m.part m.nesting }
 
 -- `up`, perhaps behind a source and `self`
 abbrev pub rise_step : ℕ → Role → Bool → syntax.Reference → Option syntax.Reference → Bool → tokens.Token → Option machine.Move

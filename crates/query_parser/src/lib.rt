@@ -12,7 +12,7 @@ ghost use Rattle.query_lexer.specs.Token.{seen, text_length};
 ghost use Rattle.query_model.specs.Seen.{seen_part};
 ghost use Rattle.query_parser.specs.Steps.{completed, nested};
 
-use crate::machine::{Move, Nesting, State, step};
+use crate::machine::{Completed, Draft, Move, Nesting, State, blank, step};
 use query_lexer::Token;
 use query_model::Span;
 use query_model::faults::{Fault, FaultKind, QueryFault};
@@ -39,13 +39,13 @@ pub fn parse<'a, A: Allocator + Copy>(
     let mut parts = Vec::new(alloc);
     let mut depth = 0;
     let mut state = State::TermNext(Role::And);
+    // (a term is large, so it grows where it stands)
+    let mut draft = blank();
     for token in tokens {
-        // (a move is large, so it stays where it is)
-        let next = step(depth, state, *token);
-        let Some(go) = &next else {
+        let Some(go) = step(depth, state, &mut draft, token) else {
             return Err(unexpected(token.span));
         };
-        complete(&mut parts, go).map_err(|_| QueryFault::Memory)?;
+        complete(&mut parts, &draft, go).map_err(|_| QueryFault::Memory)?;
         depth = nested(depth, go.nesting);
         state = go.state;
     }
@@ -68,12 +68,18 @@ fn text_length(tokens: &[Token<'_>]) -> usize
 /// Puts the parts that a step completes behind those before them.
 fn complete<'a, A: Allocator + Copy>(
     parts: &mut Vec<Part<'a>, A>,
-    go: &Move<'a>,
+    draft: &Draft<'a>,
+    go: Move,
 ) -> Result<(), AllocError>
-    ensures { IfOk result (λ _. map seen_part parts.new.items ≡ map seen_part parts.old.items ++ completed go.now.part go.now.nesting) }
+    ensures { IfOk result (λ _. map seen_part parts.new.items ≡ map seen_part parts.old.items ++ completed draft.now go.part go.nesting) }
 {
-    if let Some(part) = go.part {
-        parts.push(part)?;
+    match go.part {
+        Completed::Nothing => {}
+        Completed::Term => parts.push(Part::Term(draft.role, draft.term))?,
+        Completed::Equality(same) => {
+            parts.push(Part::Equality(draft.term.first, same, draft.last))?;
+        }
+        Completed::Opening(span) => parts.push(Part::Opened(span))?,
     }
     if let Nesting::Closes = go.nesting {
         parts.push(Part::Closed)?;

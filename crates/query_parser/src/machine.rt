@@ -7,45 +7,52 @@ ghost use Rattle.query_model.specs.Machine as machine;
 ghost use Rattle.query_model.specs.Syntax as syntax;
 ghost use Rattle.query_lexer.specs.Token.{seen};
 ghost use Rattle.query_model.specs.Seen.{seen_flags, seen_reference, seen_term};
+ghost use Rattle.query_parser.specs.declared.machine.Draft as item;
 ghost use Rattle.query_parser.specs.Steps.{seen_state, seen_step, plain_up_step, put_first, rise_step};
 
 use query_lexer::{Token, TokenKind};
-use query_model::syntax::{Flags, Part, Reference, Rise, Role, Spoken, TermSyntax};
+use query_model::syntax::{Flags, Reference, Rise, Role, Spoken, TermSyntax};
 use query_model::{Mark, Span};
 
-/// How a term began: its role, whether its values are shown, and its component.
+/// What was read of the present item. Which of it is read, the state tells.
 #[derive(Clone, Copy)]
-pub struct Head<'a> {
+pub struct Draft<'a> {
     pub role: Role,
-    pub valued: bool,
-    pub first: Reference<'a>,
+    /// The term, or an equality's left side as its first reference; its span begins where the item does.
+    pub term: TermSyntax<'a>,
+    /// A variable at the front of the item, with its `$`.
+    pub name: &'a str,
+    /// The source behind which the machine stands, or the right side of an equality.
+    pub last: Reference<'a>,
 }
 
-/// What is to come, or behind what the machine stands, with what was read of the item.
+/// What is to come, or behind what the machine stands.
 #[derive(Clone, Copy)]
-pub enum State<'a> {
+pub enum State {
     /// A term is to come; in the role And an item, since nothing stands before it.
     TermNext(Role),
     AccessNext(Role),
+    /// With whether values are shown.
     BehindAccessWord(Role, bool),
     BodyNext(Role, bool),
-    PairNext(Role, bool, Span),
-    BehindPairFirst(Role, TermSyntax<'a>),
-    TargetNext(Role, TermSyntax<'a>),
-    BehindTarget(Role, TermSyntax<'a>),
-    BehindFlags(Role, TermSyntax<'a>),
-    BehindAlong(Role, TermSyntax<'a>),
-    BehindFirst(Head<'a>),
-    SourceNext(Head<'a>),
-    BehindSource(Head<'a>, Reference<'a>),
-    FlagsNext(Head<'a>, Option<Reference<'a>>),
-    BehindSelf(Head<'a>, Option<Reference<'a>>),
-    RiseNext(Head<'a>, Option<Reference<'a>>),
+    PairNext(Role, bool),
+    BehindPairFirst,
+    TargetNext,
+    BehindTarget,
+    BehindFlags,
+    BehindAlong,
+    BehindFirst,
+    SourceNext,
+    BehindSource,
+    FlagsNext,
+    BehindSelf,
+    RiseNext,
     /// Behind `up`, and whether `self` stands before it.
-    BehindUp(Head<'a>, Option<Reference<'a>>, bool),
-    AlongNext(Head<'a>, Option<Reference<'a>>, bool),
-    BehindVariable(&'a str, Span),
-    OtherSide(Reference<'a>, bool),
+    BehindUp(bool),
+    AlongNext(bool),
+    BehindVariable,
+    /// With whether the sign is `==`.
+    OtherSide(bool),
     /// Behind an item, and whether an alternative to it may follow.
     BehindItem(bool),
     Finished,
@@ -59,53 +66,110 @@ pub enum Nesting {
     Closes,
 }
 
+/// The part that a step completes.
+#[derive(Clone, Copy)]
+pub enum Completed {
+    Nothing,
+    /// The term that was read.
+    Term,
+    /// The equality that was read, and whether its sign is `==`.
+    Equality(bool),
+    /// The `{` of a group.
+    Opening(Span),
+}
+
 /// A step: the state behind it, the part that was completed, and whether a group was opened or closed.
 #[derive(Clone, Copy)]
-pub struct Move<'a> {
-    pub state: State<'a>,
-    pub part: Option<Part<'a>>,
+pub struct Move {
+    pub state: State,
+    pub part: Completed,
     pub nesting: Nesting,
 }
 
-/// The step at a token, if some query goes on with it.
-pub fn step<'a>(depth: usize, state: State<'a>, token: Token<'a>) -> Option<Move<'a>>
-    ensures { option_map (seen_step depth) result ≡ machine.step depth (seen_state state.entry) (seen token.entry) }
+/// Nothing of an item.
+pub fn blank<'a>() -> Draft<'a> {
+    let span = Span { start: 0, end: 0 };
+    let none = Reference {
+        spoken: Spoken::Any,
+        span,
+    };
+    Draft {
+        role: Role::And,
+        term: TermSyntax {
+            valued: false,
+            first: none,
+            target: None,
+            source: None,
+            flags: None,
+            span,
+        },
+        name: "",
+        last: none,
+    }
+}
+
+/// The step at a token, if some query goes on with it. What it reads of an item it puts into the draft.
+pub fn step<'a>(
+    depth: usize,
+    state: State,
+    draft: &mut Draft<'a>,
+    token: &Token<'a>,
+) -> Option<Move>
+    ensures { option_map (seen_step depth draft.new) result ≡ machine.step depth (seen_state draft.old state) (seen token.now) }
 {
     match state {
-        State::TermNext(role) => term_step(depth, role, token),
+        State::TermNext(role) => term_step(depth, role, draft, token),
         State::AccessNext(role) => access_step(depth, role, token),
         State::BehindAccessWord(role, valued) => bracket_step(depth, role, valued, token),
-        State::BodyNext(role, valued) => body_step(depth, role, valued, token),
-        State::PairNext(role, valued, from) => pair_step(depth, role, valued, from, token),
-        State::BehindPairFirst(role, term) => comma_step(depth, role, term, token),
-        State::TargetNext(role, term) => target_step(depth, role, term, token),
-        State::BehindTarget(role, term) => close_step(depth, role, term, token),
-        State::BehindFlags(role, term) => args_step(depth, role, term, token),
-        State::BehindAlong(role, term) => behind_along_step(depth, role, term, token),
-        State::BehindFirst(head) => first_step(depth, head, token),
-        State::SourceNext(head) => source_step(depth, head, token),
-        State::BehindSource(head, source) => behind_source_step(depth, head, source, token),
-        State::FlagsNext(head, source) => flags_step(depth, head, source, token),
-        State::BehindSelf(head, source) => self_step(depth, head, source, token),
-        State::RiseNext(head, source) => rise_step(depth, head, source, true, token),
-        State::BehindUp(head, source, own) => up_step(depth, head, source, own, token),
-        State::AlongNext(head, source, own) => along_step(depth, head, source, own, token),
-        State::BehindVariable(name, span) => variable_step(depth, name, span, token),
-        State::OtherSide(left, same) => other_step(depth, left, same, token),
-        State::BehindItem(joined) => item_step(depth, joined, None, token),
+        State::BodyNext(role, valued) => body_step(depth, role, valued, draft, token),
+        State::PairNext(role, valued) => pair_step(depth, role, valued, draft, token),
+        State::BehindPairFirst => comma_step(depth, token),
+        State::TargetNext => target_step(depth, draft, token),
+        State::BehindTarget => close_step(depth, draft, token),
+        State::BehindFlags => args_step(depth, draft, token),
+        State::BehindAlong => behind_along_step(depth, token),
+        State::BehindFirst => first_step(depth, draft, token),
+        State::SourceNext => source_step(depth, draft, token),
+        State::BehindSource => behind_source_step(depth, draft, token),
+        State::FlagsNext => flags_step(depth, token),
+        State::BehindSelf => self_step(depth, draft, token),
+        State::RiseNext => rise_step(depth, true, token),
+        State::BehindUp(own) => up_step(depth, own, draft, token),
+        State::AlongNext(own) => along_step(depth, own, draft, token),
+        State::BehindVariable => variable_step(depth, draft, token),
+        State::OtherSide(same) => other_step(depth, same, draft, token),
+        State::BehindItem(joined) => item_step(depth, joined, Completed::Nothing, token),
         State::Finished => None,
     }
 }
 
 /// A step to a state that completes no part.
-fn to<'a>(state: State<'a>) -> Move<'a>
-    ensures { result ≡ record { state = state.entry; part = None; nesting = Nesting.Same } }
+fn to(state: State) -> Move
+    ensures { result ≡ record { state = state; part = Completed.Nothing; nesting = Nesting.Same } }
 {
     Move {
         state,
-        part: None,
+        part: Completed::Nothing,
         nesting: Nesting::Same,
     }
+}
+
+/// Begins a term. Its span and what else was written of it stay.
+fn begin<'a>(draft: &mut Draft<'a>, role: Role, valued: bool, first: Reference<'a>)
+    ensures { draft.new ≡ record draft.old { role = role; term = record (draft.old).term { valued = valued; first = first.entry } } }
+{
+    draft.role = role;
+    draft.term.valued = valued;
+    draft.term.first = first;
+}
+
+/// Gives a term flags, and neither a target nor more than its first reference's span.
+fn apply<'a>(term: &mut TermSyntax<'a>, flags: Option<Flags<'a>>)
+    ensures { term.new ≡ record term.old { target = None; flags = flags.entry; span = ((term.old).first).span } }
+{
+    term.target = None;
+    term.flags = flags;
+    term.span = term.first.span;
 }
 
 /// Whether alternatives may follow a term in a role.
@@ -115,14 +179,46 @@ fn joins(role: Role) -> bool
     matches!(role, Role::And | Role::Or)
 }
 
+/// A reference: a word, a variable, `*` or `_`.
+fn reference<'a>(token: &Token<'a>) -> Option<Reference<'a>>
+    ensures { option_map seen_reference result ≡ machine.reference_of (seen token.now) }
+{
+    let spoken = match token.kind {
+        TokenKind::Name => return word(token),
+        TokenKind::Variable => Spoken::Variable(token.text),
+        TokenKind::Mark(Mark::Star) => Spoken::Any,
+        TokenKind::Mark(Mark::Underscore) => Spoken::One,
+        _ => return None,
+    };
+    Some(Reference {
+        spoken,
+        span: token.span,
+    })
+}
+
+/// A word that can name an entity.
+fn word<'a>(token: &Token<'a>) -> Option<Reference<'a>>
+    ensures { option_map seen_reference result ≡ machine.word_of (seen token.now) }
+{
+    match token.kind {
+        TokenKind::Name if !is_reserved(token.text) => Some(Reference {
+            spoken: Spoken::Word(token.text),
+            span: token.span,
+        }),
+        _ => None,
+    }
+}
+
+/// Whether a word names nothing, since it is one of the query language.
+fn is_reserved(word: &str) -> bool
+    ensures { result ≡ is_reserved word.now }
+{
+    query_model::is_reserved(word.as_bytes())
+}
+
 /// Behind an item, of which a part may be completed by what follows it.
-fn item_step<'a>(
-    depth: usize,
-    joined: bool,
-    part: Option<Part<'a>>,
-    token: Token<'a>,
-) -> Option<Move<'a>>
-    ensures { option_map (seen_step depth) result ≡ put_first part.entry (machine.item_step depth joined (seen token.entry)) }
+fn item_step(depth: usize, joined: bool, part: Completed, token: &Token<'_>) -> Option<Move>
+    ensures { (draft : item.Draft) → option_map (seen_step depth draft) result ≡ put_first draft part (machine.item_step depth joined (seen token.now)) }
 {
     match token.kind {
         TokenKind::Mark(Mark::OrOr) if joined => Some(Move {
@@ -147,310 +243,189 @@ fn item_step<'a>(
 }
 
 /// Behind a target: the bracket that ends the term.
-fn close_step<'a>(
-    depth: usize,
-    role: Role,
-    term: TermSyntax<'a>,
-    token: Token<'a>,
-) -> Option<Move<'a>>
-    ensures { option_map (seen_step depth) result ≡ machine.close_step depth role (seen_term term.entry) (seen token.entry) }
+fn close_step<'a>(depth: usize, draft: &mut Draft<'a>, token: &Token<'a>) -> Option<Move>
+    ensures { option_map (seen_step depth draft.new) result ≡ machine.close_step depth (draft.old).role (seen_term (draft.old).term) (seen token.now) }
 {
     match token.kind {
         TokenKind::Mark(Mark::CloseParen) => {
-            let part = Part::Term(
-                role,
-                TermSyntax {
-                    span: Span {
-                        start: term.span.start,
-                        end: token.span.end,
-                    },
-                    ..term
-                },
-            );
+            draft.term.span.end = token.span.end;
             Some(Move {
-                part: Some(part),
-                ..to(State::BehindItem(joins(role)))
+                part: Completed::Term,
+                ..to(State::BehindItem(joins(draft.role)))
             })
         }
         _ => None,
     }
 }
 
-/// A reference: a word, a variable, `*` or `_`.
-fn reference<'a>(token: Token<'a>) -> Option<Reference<'a>>
-    ensures { option_map seen_reference result ≡ machine.reference_of (seen token.entry) }
-{
-    let spoken = match token.kind {
-        TokenKind::Name => return word(token),
-        TokenKind::Variable => Spoken::Variable(token.text),
-        TokenKind::Mark(Mark::Star) => Spoken::Any,
-        TokenKind::Mark(Mark::Underscore) => Spoken::One,
-        _ => return None,
-    };
-    Some(Reference {
-        spoken,
-        span: token.span,
-    })
-}
-
-/// A word that can name an entity.
-fn word<'a>(token: Token<'a>) -> Option<Reference<'a>>
-    ensures { option_map seen_reference result ≡ machine.word_of (seen token.entry) }
-{
-    match token.kind {
-        TokenKind::Name if !is_reserved(token.text) => Some(Reference {
-            spoken: Spoken::Word(token.text),
-            span: token.span,
-        }),
-        _ => None,
-    }
-}
-
-/// Whether a word names nothing, since it is one of the query language.
-fn is_reserved(word: &str) -> bool
-    ensures { result ≡ is_reserved word.now }
-{
-    query_model::is_reserved(word.as_bytes())
-}
-
-/// A term with a source or flags, without a target.
-fn applied<'a>(
-    head: Head<'a>,
-    source: Option<Reference<'a>>,
-    flags: Option<Flags<'a>>,
-) -> TermSyntax<'a>
-    ensures { seen_term result ≡ syntax.applied head.entry.valued (seen_reference head.entry.first) (option_map seen_reference source.entry) (option_map seen_flags flags.entry) }
-{
-    TermSyntax {
-        valued: head.valued,
-        first: head.first,
-        target: None,
-        source,
-        flags,
-        span: head.first.span,
-    }
-}
-
 /// The target of a term.
-fn target_step<'a>(
-    depth: usize,
-    role: Role,
-    term: TermSyntax<'a>,
-    token: Token<'a>,
-) -> Option<Move<'a>>
-    ensures { option_map (seen_step depth) result ≡ machine.target_step depth role (seen_term term.entry) (seen token.entry) }
+fn target_step<'a>(depth: usize, draft: &mut Draft<'a>, token: &Token<'a>) -> Option<Move>
+    ensures { option_map (seen_step depth draft.new) result ≡ machine.target_step depth (draft.old).role (seen_term (draft.old).term) (seen token.now) }
 {
     let target = reference(token)?;
-    Some(to(State::BehindTarget(
-        role,
-        TermSyntax {
-            target: Some(target),
-            ..term
-        },
-    )))
+    draft.term.target = Some(target);
+    Some(to(State::BehindTarget))
 }
 
 /// Behind the first side of a pair: its comma.
-fn comma_step<'a>(
-    depth: usize,
-    role: Role,
-    term: TermSyntax<'a>,
-    token: Token<'a>,
-) -> Option<Move<'a>>
-    ensures { option_map (seen_step depth) result ≡ machine.comma_step depth role (seen_term term.entry) (seen token.entry) }
+fn comma_step(depth: usize, token: &Token<'_>) -> Option<Move>
+    ensures { (draft : item.Draft) → option_map (seen_step depth draft) result ≡ machine.comma_step depth draft.role (seen_term draft.term) (seen token.now) }
 {
     match token.kind {
-        TokenKind::Mark(Mark::Comma) => Some(to(State::TargetNext(role, term))),
+        TokenKind::Mark(Mark::Comma) => Some(to(State::TargetNext)),
         _ => None,
     }
 }
 
 /// Behind a source or flags: a target, or the end of the term.
-fn args_step<'a>(
-    depth: usize,
-    role: Role,
-    term: TermSyntax<'a>,
-    token: Token<'a>,
-) -> Option<Move<'a>>
-    ensures { option_map (seen_step depth) result ≡ machine.args_step depth role (seen_term term.entry) (seen token.entry) }
+fn args_step<'a>(depth: usize, draft: &mut Draft<'a>, token: &Token<'a>) -> Option<Move>
+    ensures { option_map (seen_step depth draft.new) result ≡ machine.args_step depth (draft.old).role (seen_term (draft.old).term) (seen token.now) }
 {
     match token.kind {
-        TokenKind::Mark(Mark::Comma) => Some(to(State::TargetNext(role, term))),
-        _ => close_step(depth, role, term, token),
+        TokenKind::Mark(Mark::Comma) => Some(to(State::TargetNext)),
+        _ => close_step(depth, draft, token),
     }
 }
 
 /// Behind the relationship of `up(R)`: its bracket.
-fn behind_along_step<'a>(
-    depth: usize,
-    role: Role,
-    term: TermSyntax<'a>,
-    token: Token<'a>,
-) -> Option<Move<'a>>
-    ensures { option_map (seen_step depth) result ≡ machine.along_step depth role (seen_term term.entry) (seen token.entry) }
+fn behind_along_step(depth: usize, token: &Token<'_>) -> Option<Move>
+    ensures { (draft : item.Draft) → option_map (seen_step depth draft) result ≡ machine.along_step depth draft.role (seen_term draft.term) (seen token.now) }
 {
     match token.kind {
-        TokenKind::Mark(Mark::CloseParen) => Some(to(State::BehindFlags(role, term))),
+        TokenKind::Mark(Mark::CloseParen) => Some(to(State::BehindFlags)),
         _ => None,
     }
 }
 
 /// Behind the first reference of a term: its arguments, or what follows the term.
-fn first_step<'a>(depth: usize, head: Head<'a>, token: Token<'a>) -> Option<Move<'a>>
-    ensures { option_map (seen_step depth) result ≡ machine.first_step depth head.entry.role head.entry.valued (seen_reference head.entry.first) (seen token.entry) }
+fn first_step<'a>(depth: usize, draft: &mut Draft<'a>, token: &Token<'a>) -> Option<Move>
+    ensures { option_map (seen_step depth draft.new) result ≡ machine.first_step depth (draft.old).role ((draft.old).term).valued (seen_reference ((draft.old).term).first) (seen token.now) }
 {
     match token.kind {
-        TokenKind::Mark(Mark::OpenParen) => Some(to(State::SourceNext(head))),
+        TokenKind::Mark(Mark::OpenParen) => Some(to(State::SourceNext)),
         _ => {
-            let part = Part::Term(head.role, applied(head, None, None));
-            item_step(depth, joins(head.role), Some(part), token)
+            draft.term.source = None;
+            apply(&mut draft.term, None);
+            item_step(depth, joins(draft.role), Completed::Term, token)
         }
     }
 }
 
 /// Flags, perhaps behind a source: `self` or `up`.
-fn flags_step<'a>(
-    depth: usize,
-    head: Head<'a>,
-    source: Option<Reference<'a>>,
-    token: Token<'a>,
-) -> Option<Move<'a>>
-    ensures { option_map (seen_step depth) result ≡ machine.flags_step depth head.entry.role head.entry.valued (seen_reference head.entry.first) (option_map seen_reference source.entry) (seen token.entry) }
+fn flags_step(depth: usize, token: &Token<'_>) -> Option<Move>
+    ensures { (draft : item.Draft) → option_map (seen_step depth draft) result ≡ machine.flags_step depth draft.role (draft.term).valued (seen_reference (draft.term).first) (option_map seen_reference (draft.term).source) (seen token.now) }
 {
     match token.kind {
-        TokenKind::Name if token.text == "self" => Some(to(State::BehindSelf(head, source))),
-        _ => rise_step(depth, head, source, false, token),
+        TokenKind::Name if token.text == "self" => Some(to(State::BehindSelf)),
+        _ => rise_step(depth, false, token),
     }
 }
 
 /// `up`, perhaps behind a source and `self`.
-fn rise_step<'a>(
-    depth: usize,
-    head: Head<'a>,
-    source: Option<Reference<'a>>,
-    own: bool,
-    token: Token<'a>,
-) -> Option<Move<'a>>
-    ensures { option_map (seen_step depth) result ≡ rise_step depth head.entry.role head.entry.valued (seen_reference head.entry.first) (option_map seen_reference source.entry) own (seen token.entry) }
+fn rise_step(depth: usize, own: bool, token: &Token<'_>) -> Option<Move>
+    ensures { (draft : item.Draft) → option_map (seen_step depth draft) result ≡ rise_step depth draft.role (draft.term).valued (seen_reference (draft.term).first) (option_map seen_reference (draft.term).source) own (seen token.now) }
 {
     match token.kind {
-        TokenKind::Name if token.text == "up" => Some(to(State::BehindUp(head, source, own))),
+        TokenKind::Name if token.text == "up" => Some(to(State::BehindUp(own))),
         _ => None,
     }
 }
 
 /// Behind `self`: `|` and `up`, or what follows flags.
-fn self_step<'a>(
-    depth: usize,
-    head: Head<'a>,
-    source: Option<Reference<'a>>,
-    token: Token<'a>,
-) -> Option<Move<'a>>
-    ensures { option_map (seen_step depth) result ≡ machine.self_step depth head.entry.role head.entry.valued (seen_reference head.entry.first) (option_map seen_reference source.entry) (seen token.entry) }
+fn self_step<'a>(depth: usize, draft: &mut Draft<'a>, token: &Token<'a>) -> Option<Move>
+    ensures { option_map (seen_step depth draft.new) result ≡ machine.self_step depth (draft.old).role ((draft.old).term).valued (seen_reference ((draft.old).term).first) (option_map seen_reference ((draft.old).term).source) (seen token.now) }
 {
     match token.kind {
-        TokenKind::Mark(Mark::Bar) => Some(to(State::RiseNext(head, source))),
+        TokenKind::Mark(Mark::Bar) => Some(to(State::RiseNext)),
         _ => {
             let flags = Flags {
                 on_source: true,
                 rise: Rise::No,
             };
-            args_step(depth, head.role, applied(head, source, Some(flags)), token)
+            apply(&mut draft.term, Some(flags));
+            args_step(depth, draft, token)
         }
     }
 }
 
-/// A term with `up` and a relationship, if one is written.
-fn rising<'a>(
-    head: Head<'a>,
-    source: Option<Reference<'a>>,
-    own: bool,
-    along: Option<Reference<'a>>,
-) -> TermSyntax<'a>
-    ensures { seen_term result ≡ syntax.rising head.entry.valued (seen_reference head.entry.first)
-        (option_map seen_reference source.entry) own (option_map seen_reference along.entry) }
+/// Gives a term `up` and a relationship, if one is written.
+fn raise<'a>(term: &mut TermSyntax<'a>, own: bool, along: Option<Reference<'a>>)
+    ensures { term.new ≡ record term.old { target = None; flags = Some (record { on_source = own; rise = Rise.Up along.entry }); span = ((term.old).first).span } }
 {
-    applied(
-        head,
-        source,
-        Some(Flags {
-            on_source: own,
-            rise: Rise::Up(along),
-        }),
-    )
+    let flags = Flags {
+        on_source: own,
+        rise: Rise::Up(along),
+    };
+    apply(term, Some(flags));
 }
 
 /// Behind `up`: its relationship, or what follows flags.
-fn up_step<'a>(
-    depth: usize,
-    head: Head<'a>,
-    source: Option<Reference<'a>>,
-    own: bool,
-    token: Token<'a>,
-) -> Option<Move<'a>>
-    ensures { option_map (seen_step depth) result ≡ machine.up_step depth head.entry.role head.entry.valued (seen_reference head.entry.first) (option_map seen_reference source.entry) own (seen token.entry) }
+fn up_step<'a>(depth: usize, own: bool, draft: &mut Draft<'a>, token: &Token<'a>) -> Option<Move>
+    ensures { option_map (seen_step depth draft.new) result ≡ machine.up_step depth (draft.old).role ((draft.old).term).valued (seen_reference ((draft.old).term).first) (option_map seen_reference ((draft.old).term).source) own (seen token.now) }
 {
     match token.kind {
-        TokenKind::Mark(Mark::OpenParen) => Some(to(State::AlongNext(head, source, own))),
-        _ => plain_up_step(depth, head, source, own, token),
+        TokenKind::Mark(Mark::OpenParen) => Some(to(State::AlongNext(own))),
+        _ => plain_up_step(depth, own, draft, token),
     }
 }
 
 /// Behind `up`: a relationship without brackets, or what follows flags.
 fn plain_up_step<'a>(
     depth: usize,
-    head: Head<'a>,
-    source: Option<Reference<'a>>,
     own: bool,
-    token: Token<'a>,
-) -> Option<Move<'a>>
-    ensures { option_map (seen_step depth) result ≡ plain_up_step depth head.entry.role head.entry.valued (seen_reference head.entry.first) (option_map seen_reference source.entry) own (seen token.entry) }
+    draft: &mut Draft<'a>,
+    token: &Token<'a>,
+) -> Option<Move>
+    ensures { option_map (seen_step depth draft.new) result ≡ plain_up_step depth (draft.old).role ((draft.old).term).valued (seen_reference ((draft.old).term).first) (option_map seen_reference ((draft.old).term).source) own (seen token.now) }
 {
     match word(token) {
-        Some(along) => Some(to(State::BehindFlags(
-            head.role,
-            rising(head, source, own, Some(along)),
-        ))),
-        None => args_step(depth, head.role, rising(head, source, own, None), token),
+        Some(along) => {
+            raise(&mut draft.term, own, Some(along));
+            Some(to(State::BehindFlags))
+        }
+        None => {
+            raise(&mut draft.term, own, None);
+            args_step(depth, draft, token)
+        }
     }
 }
 
 /// The relationship of `up(R)`.
-fn along_step<'a>(
-    depth: usize,
-    head: Head<'a>,
-    source: Option<Reference<'a>>,
-    own: bool,
-    token: Token<'a>,
-) -> Option<Move<'a>>
-    ensures { option_map (seen_step depth) result ≡ machine.along_next_step depth head.entry.role head.entry.valued (seen_reference head.entry.first) (option_map seen_reference source.entry) own (seen token.entry) }
+fn along_step<'a>(depth: usize, own: bool, draft: &mut Draft<'a>, token: &Token<'a>) -> Option<Move>
+    ensures { option_map (seen_step depth draft.new) result ≡ machine.along_next_step depth (draft.old).role ((draft.old).term).valued (seen_reference ((draft.old).term).first) (option_map seen_reference ((draft.old).term).source) own (seen token.now) }
 {
     let along = word(token)?;
-    Some(to(State::BehindAlong(head.role, rising(head, source, own, Some(along)))))
+    raise(&mut draft.term, own, Some(along));
+    Some(to(State::BehindAlong))
 }
 
 /// Behind a source: `|` and flags, or what follows a source.
-fn behind_source_step<'a>(
-    depth: usize,
-    head: Head<'a>,
-    source: Reference<'a>,
-    token: Token<'a>,
-) -> Option<Move<'a>>
-    ensures { option_map (seen_step depth) result ≡ machine.behind_source_step depth head.entry.role head.entry.valued (seen_reference head.entry.first) (seen_reference source.entry) (seen token.entry) }
+fn behind_source_step<'a>(depth: usize, draft: &mut Draft<'a>, token: &Token<'a>) -> Option<Move>
+    ensures { option_map (seen_step depth draft.new) result ≡ machine.behind_source_step depth (draft.old).role ((draft.old).term).valued (seen_reference ((draft.old).term).first) (seen_reference (draft.old).last) (seen token.now) }
 {
+    draft.term.source = Some(draft.last);
     match token.kind {
-        TokenKind::Mark(Mark::Bar) => Some(to(State::FlagsNext(head, Some(source)))),
-        _ => args_step(depth, head.role, applied(head, Some(source), None), token),
+        TokenKind::Mark(Mark::Bar) => Some(to(State::FlagsNext)),
+        _ => {
+            apply(&mut draft.term, None);
+            args_step(depth, draft, token)
+        }
     }
 }
 
 /// The arguments of a term: a source or flags.
-fn source_step<'a>(depth: usize, head: Head<'a>, token: Token<'a>) -> Option<Move<'a>>
-    ensures { option_map (seen_step depth) result ≡ machine.source_step depth head.entry.role head.entry.valued (seen_reference head.entry.first) (seen token.entry) }
+fn source_step<'a>(depth: usize, draft: &mut Draft<'a>, token: &Token<'a>) -> Option<Move>
+    ensures { option_map (seen_step depth draft.new) result ≡ machine.source_step depth (draft.old).role ((draft.old).term).valued (seen_reference ((draft.old).term).first) (seen token.now) }
 {
     match reference(token) {
-        Some(source) => Some(to(State::BehindSource(head, source))),
-        None => flags_step(depth, head, None, token),
+        Some(source) => {
+            draft.last = source;
+            Some(to(State::BehindSource))
+        }
+        None => {
+            draft.term.source = None;
+            flags_step(depth, token)
+        }
     }
 }
 
@@ -459,41 +434,41 @@ fn pair_step<'a>(
     depth: usize,
     role: Role,
     valued: bool,
-    from: Span,
-    token: Token<'a>,
-) -> Option<Move<'a>>
-    ensures { option_map (seen_step depth) result ≡ machine.pair_step depth role valued from (seen token.entry) }
+    draft: &mut Draft<'a>,
+    token: &Token<'a>,
+) -> Option<Move>
+    ensures { option_map (seen_step depth draft.new) result ≡ machine.pair_step depth role valued ((draft.old).term).span (seen token.now) }
 {
     let first = reference(token)?;
-    let term = TermSyntax {
-        valued,
-        first,
-        target: None,
-        source: None,
-        flags: None,
-        span: from,
-    };
-    Some(to(State::BehindPairFirst(role, term)))
+    begin(draft, role, valued, first);
+    draft.term.target = None;
+    draft.term.source = None;
+    draft.term.flags = None;
+    Some(to(State::BehindPairFirst))
 }
 
 /// The first token of a body.
-fn start_step<'a>(depth: usize, role: Role, valued: bool, token: Token<'a>) -> Option<Move<'a>>
-    ensures { option_map (seen_step depth) result ≡ machine.start_step depth role valued (seen token.entry) }
+fn start_step<'a>(
+    depth: usize,
+    role: Role,
+    valued: bool,
+    draft: &mut Draft<'a>,
+    token: &Token<'a>,
+) -> Option<Move>
+    ensures { option_map (seen_step depth draft.new) result ≡ machine.start_step depth role valued (seen token.now) }
 {
     if let TokenKind::Mark(Mark::OpenParen) = token.kind {
-        return Some(to(State::PairNext(role, valued, token.span)));
+        draft.term.span = token.span;
+        return Some(to(State::PairNext(role, valued)));
     }
     let first = reference(token)?;
-    Some(to(State::BehindFirst(Head {
-        role,
-        valued,
-        first,
-    })))
+    begin(draft, role, valued, first);
+    Some(to(State::BehindFirst))
 }
 
 /// Behind the word of an access: its bracket.
-fn bracket_step<'a>(depth: usize, role: Role, valued: bool, token: Token<'a>) -> Option<Move<'a>>
-    ensures { option_map (seen_step depth) result ≡ machine.bracket_step depth role valued (seen token.entry) }
+fn bracket_step(depth: usize, role: Role, valued: bool, token: &Token<'_>) -> Option<Move>
+    ensures { (draft : item.Draft) → option_map (seen_step depth draft) result ≡ machine.bracket_step depth role valued (seen token.now) }
 {
     match token.kind {
         TokenKind::Mark(Mark::CloseBracket) => Some(to(State::BodyNext(role, valued))),
@@ -502,8 +477,14 @@ fn bracket_step<'a>(depth: usize, role: Role, valued: bool, token: Token<'a>) ->
 }
 
 /// A body behind an access; where nothing stands before that, perhaps an operator.
-fn body_step<'a>(depth: usize, role: Role, valued: bool, token: Token<'a>) -> Option<Move<'a>>
-    ensures { option_map (seen_step depth) result ≡ machine.body_step depth role valued (seen token.entry) }
+fn body_step<'a>(
+    depth: usize,
+    role: Role,
+    valued: bool,
+    draft: &mut Draft<'a>,
+    token: &Token<'a>,
+) -> Option<Move>
+    ensures { option_map (seen_step depth draft.new) result ≡ machine.body_step depth role valued (seen token.now) }
 {
     match (role, token.kind) {
         (Role::And, TokenKind::Mark(Mark::Bang)) => Some(to(State::BodyNext(Role::Not, valued))),
@@ -511,13 +492,13 @@ fn body_step<'a>(depth: usize, role: Role, valued: bool, token: Token<'a>) -> Op
             Role::Optional,
             valued,
         ))),
-        _ => start_step(depth, role, valued, token),
+        _ => start_step(depth, role, valued, draft, token),
     }
 }
 
 /// The word of an access.
-fn access_step<'a>(depth: usize, role: Role, token: Token<'a>) -> Option<Move<'a>>
-    ensures { option_map (seen_step depth) result ≡ machine.access_step depth role (seen token.entry) }
+fn access_step(depth: usize, role: Role, token: &Token<'_>) -> Option<Move>
+    ensures { (draft : item.Draft) → option_map (seen_step depth draft) result ≡ machine.access_step depth role (seen token.now) }
 {
     match token.kind {
         TokenKind::Name if is_access(token.text) => Some(to(State::BehindAccessWord(
@@ -536,77 +517,75 @@ fn is_access(word: &str) -> bool
 }
 
 /// A term; where nothing stands before it, perhaps an operator or an equality; behind `!` perhaps a group.
-fn term_step<'a>(depth: usize, role: Role, token: Token<'a>) -> Option<Move<'a>>
-    ensures { option_map (seen_step depth) result ≡ machine.term_step depth role (seen token.entry) }
+fn term_step<'a>(depth: usize, role: Role, draft: &mut Draft<'a>, token: &Token<'a>) -> Option<Move>
+    ensures { option_map (seen_step depth draft.new) result ≡ machine.term_step depth role (seen token.now) }
 {
     match role {
         Role::And => match token.kind {
-            TokenKind::Variable => Some(to(State::BehindVariable(token.text, token.span))),
+            TokenKind::Variable => {
+                draft.name = token.text;
+                draft.term.span = token.span;
+                Some(to(State::BehindVariable))
+            }
             TokenKind::Mark(Mark::Bang) => Some(to(State::TermNext(Role::Not))),
             TokenKind::Mark(Mark::Question) => Some(to(State::TermNext(Role::Optional))),
-            _ => plain_term_step(depth, role, token),
+            _ => plain_term_step(depth, role, draft, token),
         },
         Role::Not => match token.kind {
-            TokenKind::Mark(Mark::OpenBrace) => {
-                let group = Part::Opened(token.span);
-                Some(Move {
-                    state: State::TermNext(Role::And),
-                    part: Some(group),
-                    nesting: Nesting::Opens,
-                })
-            }
-            _ => plain_term_step(depth, role, token),
+            TokenKind::Mark(Mark::OpenBrace) => Some(Move {
+                state: State::TermNext(Role::And),
+                part: Completed::Opening(token.span),
+                nesting: Nesting::Opens,
+            }),
+            _ => plain_term_step(depth, role, draft, token),
         },
-        Role::Or | Role::Optional => plain_term_step(depth, role, token),
+        Role::Or | Role::Optional => plain_term_step(depth, role, draft, token),
     }
 }
 
 /// A term, perhaps with an access.
-fn plain_term_step<'a>(depth: usize, role: Role, token: Token<'a>) -> Option<Move<'a>>
-    ensures { option_map (seen_step depth) result ≡ machine.plain_term_step depth role (seen token.entry) }
+fn plain_term_step<'a>(
+    depth: usize,
+    role: Role,
+    draft: &mut Draft<'a>,
+    token: &Token<'a>,
+) -> Option<Move>
+    ensures { option_map (seen_step depth draft.new) result ≡ machine.plain_term_step depth role (seen token.now) }
 {
     match token.kind {
         TokenKind::Mark(Mark::OpenBracket) => Some(to(State::AccessNext(role))),
-        _ => start_step(depth, role, true, token),
+        _ => start_step(depth, role, true, draft, token),
     }
 }
 
 /// Behind a variable at the front of an item: `==`, `!=`, or what follows a term's first reference.
-fn variable_step<'a>(depth: usize, name: &'a str, span: Span, token: Token<'a>) -> Option<Move<'a>>
-    ensures { option_map (seen_step depth) result ≡ machine.variable_step depth (drop 1 name.now) span (seen token.entry) }
+fn variable_step<'a>(depth: usize, draft: &mut Draft<'a>, token: &Token<'a>) -> Option<Move>
+    ensures { option_map (seen_step depth draft.new) result ≡ machine.variable_step depth (drop 1 ((draft.old).name).now) ((draft.old).term).span (seen token.now) }
 {
     let variable = Reference {
-        spoken: Spoken::Variable(name),
-        span,
+        spoken: Spoken::Variable(draft.name),
+        span: draft.term.span,
     };
+    begin(draft, Role::And, true, variable);
     match token.kind {
-        TokenKind::Mark(Mark::EqualEqual) => Some(to(State::OtherSide(variable, true))),
-        TokenKind::Mark(Mark::NotEqual) => Some(to(State::OtherSide(variable, false))),
-        _ => first_step(
-            depth,
-            Head {
-                role: Role::And,
-                valued: true,
-                first: variable,
-            },
-            token,
-        ),
+        TokenKind::Mark(Mark::EqualEqual) => Some(to(State::OtherSide(true))),
+        TokenKind::Mark(Mark::NotEqual) => Some(to(State::OtherSide(false))),
+        _ => first_step(depth, draft, token),
     }
 }
 
 /// The right side of an equality.
 fn other_step<'a>(
     depth: usize,
-    left: Reference<'a>,
     same: bool,
-    token: Token<'a>,
-) -> Option<Move<'a>>
-    ensures { option_map (seen_step depth) result ≡ machine.other_step depth (seen_reference left.entry) same (seen token.entry) }
+    draft: &mut Draft<'a>,
+    token: &Token<'a>,
+) -> Option<Move>
+    ensures { option_map (seen_step depth draft.new) result ≡ machine.other_step depth (seen_reference ((draft.old).term).first) same (seen token.now) }
 {
-    let right = reference(token)?;
-    let part = Part::Equality(left, same, right);
+    draft.last = reference(token)?;
     Some(Move {
-        part: Some(part),
+        part: Completed::Equality(same),
         ..to(State::BehindItem(false))
     })
 }

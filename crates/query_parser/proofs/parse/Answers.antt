@@ -12,7 +12,7 @@ use Rattle.query_parser.proofs.Progress.{if_both, refused, goes_on, finished, un
 use Rattle.query_parser.proofs.parse.Goals as goal
 
 pub returns-in_default-clause-answers : goal.returns-in_default-clause-answers
-returns-in_default-clause-answers g c = rw c.unexpected.ensures (ap (as_fault Syntax) (refused c.args.tokens.now c.loop-token.parts.items c.loop-token.token-index c.loop-token.depth c.loop-token.state c.loop-token.invariant _ c.loop-token-test.true c.step-next.result c.step-next.ensures c.in_default.is))
+returns-in_default-clause-answers g c = rw c.unexpected.ensures (ap (as_fault Syntax) (refused c.args.tokens.now c.loop-token.parts.items c.loop-token.token-index c.loop-token.depth c.loop-token.state c.loop-token.draft c.loop-token.invariant _ c.loop-token-test.true c.step.result c.step.new.draft c.step.ensures c.in_default.is))
 
 pub returns-in_default-clause-meaning : goal.returns-in_default-clause-meaning
 returns-in_default-clause-meaning g c =
@@ -23,17 +23,17 @@ returns-in_default-clause-meaning g c =
 
 pub loop-token-preserved : goal.loop-token-preserved
 loop-token-preserved g c =
-    goes_on c.args.tokens.now c.loop-token.parts.items c.loop-token.token-index c.loop-token.depth c.loop-token.state c.loop-token.invariant _ c.loop-token-test.true c.step-next.result c.step-next.ensures c.in-Some.go c.in-Some.is _
+    goes_on c.args.tokens.now c.loop-token.parts.items c.loop-token.token-index c.loop-token.depth c.loop-token.state c.loop-token.draft c.loop-token.invariant _ c.loop-token-test.true c.step.result c.step.new.draft c.step.ensures c.in-Some.go c.in-Some.is _
     (if_both c.complete.result c.map_err.result _ c.map_err.ensures.variant c.in_ok-map_err.was c.complete.ensures) _ c.nested-depth.ensures
 
 pub returns-in-Finished-clause-answers : goal.returns-in-Finished-clause-answers
-returns-in-Finished-clause-answers g c = finished c.args.tokens.now c.loop-token.parts.items c.loop-token.token-index c.loop-token.depth c.loop-token.state c.loop-token.invariant c.loop-token-test.false c.in-Finished.is
+returns-in-Finished-clause-answers g c = finished c.args.tokens.now c.loop-token.parts.items c.loop-token.token-index c.loop-token.depth c.loop-token.state c.loop-token.draft c.loop-token.invariant c.loop-token-test.false c.in-Finished.is
 
 pub returns-in-Finished-clause-meaning : goal.returns-in-Finished-clause-meaning
 returns-in-Finished-clause-meaning g c = ((parts_are_grammatical (map seen c.args.tokens.now) c.requires).0 (map seen_part c.loop-token.parts.items)).0 (returns-in-Finished-clause-answers g c)
 
 pub returns-clause-answers : goal.returns-clause-answers
-returns-clause-answers g c = rw c.unexpected-in_default-state.ensures (ap (as_fault Syntax) (unfinished c.args.tokens.now c.loop-token.parts.items c.loop-token.token-index c.loop-token.depth c.loop-token.state c.loop-token.invariant c.loop-token-test.false c.in_default-state.not-Finished))
+returns-clause-answers g c = rw c.unexpected-in_default-state.ensures (ap (as_fault Syntax) (unfinished c.args.tokens.now c.loop-token.parts.items c.loop-token.token-index c.loop-token.depth c.loop-token.state c.loop-token.draft c.loop-token.invariant c.loop-token-test.false c.in_default-state.not-Finished))
 
 pub returns-clause-meaning : goal.returns-clause-meaning
 returns-clause-meaning g c =
