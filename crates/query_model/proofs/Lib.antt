@@ -4,5 +4,7 @@ pub mod SyntaxFaults
 pub mod FirstOccurrence
 pub mod Order
 pub mod SoundTerms
+pub mod NumberedVariables
+pub mod Scoping
 pub mod Spelling
 mod Computed

@@ -16,3 +16,4 @@ pub mod FirstOccurrence
 pub mod Observers
 pub mod Local
 pub mod Sound
+pub mod Scopes

@@ -2,6 +2,7 @@
 
 ghost use Rattle.query_model.specs.FirstOccurrence.{FirstSuffices, FirstSufficesInTexts, VariablesAscend};
 ghost use Rattle.query_model.specs.Laws.{OneSpelling, OneSyntax, PartsAreGrammatical, TokensAreSpelled};
+ghost use Rattle.query_model.specs.Scopes.{QueriesAreScoped, QueriesOfTextsAreScoped};
 ghost use Rattle.query_model.specs.Sound.{TermsAreSound};
 
 /// Law: a text spells at most one list of tokens.
@@ -40,4 +41,11 @@ pub fn a_variable_is_told_at_its_first_occurrence()
 /// reflexive follows a name, to an entity or a variable, and asks no ancestors.
 pub fn terms_of_a_checked_query_are_sound()
     ensures { TermsAreSound }
+{}
+
+/// Law: each item of a checked query uses only variables that are in scope where it stands, visible ones and those of the groups around it:
+/// for each syntax of tokens, and for each query that a text asks.
+pub fn a_checked_query_uses_variables_in_scope()
+    ensures of_syntaxes { QueriesAreScoped }
+    ensures of_texts { QueriesOfTextsAreScoped }
 {}
