@@ -1,8 +1,9 @@
 //! Checked queries, and what they tell.
 use crate::sky::Sky;
-use query_check::{Item, Piece, Query, check};
+use query_check::{Entry, Item, Piece, Query, check};
 use query_lexer::lex;
-use query_model::faults::QueryFault;
+use query_model::Span;
+use query_model::faults::{Fault, FaultKind, QueryFault};
 use query_model::query::{Ref, Term};
 use query_parser::parse;
 use std::alloc::Global;
@@ -77,5 +78,55 @@ fn pieces_stand_in_order(rt: HostRuntime) -> Result<(), Fail> {
         matches!(&pieces[6], Piece::Item(Item::And(t)) if *t == asked(64, Ref::Var(1), false))
     );
     assert!(rt; matches!(&pieces[7], Piece::Closing));
+    Ok(())
+}
+
+#[test]
+fn items_go_by_number(rt: HostRuntime) -> Result<(), Fail> {
+    let query = ask(rt.alloc(), "Sun, !{ Moon, !{ (IsA,$x) }, ?Planet }, Likes")?;
+    assert_eq!(rt; query.items(), 7);
+    assert!(rt; matches!(query.entry(1), Entry::Group(0, false, own) if own.is_empty()));
+    assert!(rt; matches!(query.entry(2), Entry::Item(2, Item::And(t)) if t.first == Ref::Is(65)));
+    assert!(rt; matches!(query.entry(3), Entry::Group(2, false, own) if own == [1].as_slice()));
+    assert!(rt; matches!(query.entry(4), Entry::Item(4, Item::And(_))));
+    assert!(rt; matches!(query.entry(5), Entry::Item(2, Item::Optional(_))));
+    assert!(rt; matches!(query.entry(6), Entry::Item(0, Item::And(_))));
+    Ok(())
+}
+
+fn whole(kind: FaultKind, end: usize) -> Option<Fault> {
+    let span = Span { start: 0, end };
+    Some(Fault { kind, span })
+}
+
+#[test]
+fn observers_have_faults(rt: HostRuntime) -> Result<(), Fail> {
+    let one = ask(rt.alloc(), "(Likes,*)")?;
+    assert_eq!(rt; one.monitor_fault(), None);
+    assert_eq!(rt; one.observer_fault(), None);
+    let two = ask(rt.alloc(), "Sun, Moon")?;
+    assert_eq!(rt; two.monitor_fault(), None);
+    assert_eq!(rt; two.observer_fault(), whole(FaultKind::NotOneTerm, 9));
+    let without = ask(rt.alloc(), "Sun(Moon) ")?;
+    assert_eq!(rt; without.monitor_fault(), whole(FaultKind::NoThis, 10));
+    assert_eq!(rt; without.observer_fault(), whole(FaultKind::NoThis, 10));
+    Ok(())
+}
+
+#[test]
+fn queries_are_local_or_simple(rt: HostRuntime) -> Result<(), Fail> {
+    for (text, local, simple) in [
+        ("Sun, ?Moon, Planet || Likes", true, true),
+        ("Sun, !Moon, (Likes,*)", true, false),
+        ("?Sun", true, false),
+        ("(IsA,Sun)", false, false),
+        ("Sun(up)", false, false),
+        ("Sun, (Likes,$x)", false, false),
+        ("Sun(Moon)", false, false),
+    ] {
+        let query = ask(rt.alloc(), text)?;
+        assert_eq!(rt; query.is_local(), local);
+        assert_eq!(rt; query.is_simple(), simple);
+    }
     Ok(())
 }
