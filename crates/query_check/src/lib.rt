@@ -2,6 +2,7 @@
 #![tactic(auto)]
 
 mod checked;
+mod copies;
 mod faults;
 mod local;
 mod lookup;

@@ -12,6 +12,7 @@ ghost use Rattle.query_model.specs.Observers.{monitored, observed, whole};
 ghost use Rattle.query_model.specs.Scope.{sightings};
 ghost use Rattle.query_model.specs.Seen.{seen_flags, seen_part, seen_reference, seen_term};
 
+use crate::copies::{copy_of_names, copy_of_pieces};
 use crate::local::{are_local, are_simple, has_must, is_one_term};
 use crate::lookup::Lookup;
 use crate::numbered::{Entry, Numbered, entry_in, places_of_entries};
@@ -207,6 +208,23 @@ impl<A: Allocator> Query<A> {
         ensures { result ≡ is_current (W.known world.now) self.now }
     {
         are_as_checked(world, self.mentions.as_slice())
+    }
+}
+
+impl<A: Allocator + Copy> Query<A> {
+    /// The same query in memory of its own. Fails where memory is refused.
+    pub fn try_clone(&self, alloc: A) -> Result<Self, AllocError>
+        ensures { IfOk result (λ copy. copy ≡ self.now) }
+    {
+        Ok(Query {
+            variables: copy_of_names(alloc, self.variables.as_slice())?,
+            has_this: self.has_this,
+            pieces: copy_of_pieces(alloc, self.pieces.as_slice())?,
+            numbered: Vec::from_slice(alloc, self.numbered.as_slice())?,
+            shown: Vec::from_slice(alloc, self.shown.as_slice())?,
+            mentions: Vec::from_slice(alloc, self.mentions.as_slice())?,
+            length: self.length,
+        })
     }
 }
 
