@@ -1,0 +1,7 @@
+//! Plans from steps: which are accepted, and why others are not.
+#![tactic(auto)]
+
+#[cfg(test)]
+mod sky;
+#[cfg(test)]
+mod steps;

@@ -1,0 +1,116 @@
+//! Steps of a few queries, with the answers that rules written apart from the code give.
+
+use crate::sky::Sky;
+use query_check::{Query, check};
+use query_lexer::lex;
+use query_meaning::PlanRefusal::{MissingItem, RepeatedItem, UnboundMode};
+use query_meaning::Step::{Above, Check, Close, Each, Open, Scan, Targets};
+use query_meaning::{PlanRefusal, Step};
+use query_model::faults::QueryFault;
+use query_parser::parse;
+use query_plan::{Plan, PlanFault};
+use refusing_alloc::Refusing;
+use std::alloc::{Allocator, Global};
+use std::test::Fail;
+
+fn ask<A: Allocator + Copy>(alloc: A, text: &str) -> Result<Query<A>, QueryFault> {
+    let tokens = match lex(alloc, text) {
+        Ok(tokens) => tokens,
+        Err(fault) => return Err(fault),
+    };
+    let syntax = match parse(alloc, tokens.as_slice()) {
+        Ok(syntax) => syntax,
+        Err(fault) => return Err(fault),
+    };
+    check(alloc, &Sky, &syntax)
+}
+
+/// Why steps are no plan, if they are none.
+fn reason(alloc: Global, query: &Query, steps: &[Step]) -> Result<Option<PlanRefusal>, PlanFault> {
+    match Plan::from_steps(alloc, query, steps) {
+        Ok(_) => Ok(None),
+        Err(PlanFault::Refused(reason)) => Ok(Some(reason)),
+        Err(PlanFault::Memory) => Err(PlanFault::Memory),
+    }
+}
+
+#[test]
+fn a_group_waits_for_its_variables(rt: HostRuntime) -> Result<(), Fail> {
+    let alloc = rt.alloc();
+    let query = ask(alloc, "!(Likes,$x), (ChildOf,$x)")?;
+    let plan = [Scan(2), Open(0), Check(1), Close];
+    assert_eq!(rt; reason(alloc, &query, &plan)?, None);
+    let early = [Open(0), Scan(1), Close, Scan(2)];
+    assert_eq!(rt; reason(alloc, &query, &early)?, Some(UnboundMode));
+    assert_eq!(rt; reason(alloc, &query, &[Scan(2)])?, Some(MissingItem));
+    let twice = [Scan(2), Check(2), Open(0), Check(1), Close];
+    assert_eq!(rt; reason(alloc, &query, &twice)?, Some(RepeatedItem));
+    let outside = [Scan(2), Check(1), Open(0), Close];
+    assert_eq!(rt; reason(alloc, &query, &outside)?, Some(MissingItem));
+    let unended = [Scan(2), Open(0), Check(1)];
+    assert_eq!(rt; reason(alloc, &query, &unended)?, Some(MissingItem));
+    Ok(())
+}
+
+#[test]
+fn closed_terms_lead_from_either_end(rt: HostRuntime) -> Result<(), Fail> {
+    let alloc = rt.alloc();
+    let query = ask(alloc, "IsA(D,$x)")?;
+    assert_eq!(rt; reason(alloc, &query, &[Above(0)])?, None);
+    assert_eq!(rt; reason(alloc, &query, &[Each(0), Check(0)])?, None);
+    assert_eq!(rt; reason(alloc, &query, &[Scan(0)])?, Some(UnboundMode));
+    Ok(())
+}
+
+#[test]
+fn terms_are_scanned_in_either_order(rt: HostRuntime) -> Result<(), Fail> {
+    let alloc = rt.alloc();
+    let query = ask(alloc, "(ChildOf,$p), Planet($p)")?;
+    assert_eq!(rt; reason(alloc, &query, &[Scan(1), Scan(0)])?, None);
+    assert_eq!(rt; reason(alloc, &query, &[Scan(0), Check(1)])?, None);
+    let no_item = [Scan(1), Scan(0), Check(7)];
+    assert_eq!(rt; reason(alloc, &query, &no_item)?, Some(MissingItem));
+    let no_variable = [Scan(0), Targets(1)];
+    assert_eq!(rt; reason(alloc, &query, &no_variable)?, Some(UnboundMode));
+    let missing_and_twice = [Scan(1), Scan(1)];
+    assert_eq!(rt;
+        reason(alloc, &query, &missing_and_twice)?,
+        Some(MissingItem)
+    );
+    Ok(())
+}
+
+#[test]
+fn a_plan_owns_what_it_tells(rt: HostRuntime) -> Result<(), Fail> {
+    let alloc = rt.alloc();
+    let steps = [Scan(0), Open(1), Check(2), Close];
+    let plan = {
+        let query = ask(alloc, "(ChildOf,$x), !(Likes,$x)")?;
+        Plan::from_steps(alloc, &query, &steps)?
+    };
+    assert!(rt; plan.steps() == steps.as_slice());
+    assert_eq!(rt; plan.query().items(), 3);
+    let names = plan.query().variables();
+    assert_eq!(rt; names.len(), 2);
+    assert_eq!(rt; names[1].as_slice(), b"x".as_slice());
+    Ok(())
+}
+
+#[test]
+fn refused_memory_is_told(rt: HostRuntime) -> Result<(), Fail> {
+    let heap = Refusing::new(rt.alloc());
+    let query = ask(&heap, "(ChildOf,$x), !{ (Likes,$x), Planet || D }")?;
+    let steps = [Scan(0), Open(1), Check(2), Check(3), Close];
+    let mut refusals = 0u64;
+    for allowed in 0..64u64 {
+        heap.refuse_after(allowed);
+        match Plan::from_steps(&heap, &query, &steps) {
+            Ok(_) => break,
+            Err(fault) => assert_eq!(rt; fault, PlanFault::Memory),
+        }
+        refusals = allowed + 1;
+    }
+    heap.refuse_none();
+    assert!(rt; 5 < refusals && refusals < 64);
+    Ok(())
+}
