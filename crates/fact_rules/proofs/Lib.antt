@@ -1,0 +1,4 @@
+mod OneList
+mod Pushed
+mod Seen
+mod Falling

@@ -1,0 +1,38 @@
+-- What follows for a world that a graph shows.
+use Rattle.std.proofs.Common.{◌≡◌, ◌↔◌, ◌∙◌, ℕ, ◌<◌, ◌≤◌, Bool, IsTrue, List, sym, subst, arith}
+use Rattle.std.specs.Prelude.{filter, not}
+use Rattle.std.specs.List.{All, Contains}
+use Rattle.std.specs.List.Sorted.{IsStrictlySortedBy}
+use Rattle.ecs_id.specs.Id.{Id, mentioned}
+use Rattle.ecs_model.specs.Links.{AreLinks}
+use Rattle.ecs_model.specs.Map.{keys, without}
+use Rattle.ecs_model.specs.World.{WorldState, Key, key_cmp, entities, holds, ids_of}
+use Rattle.ecs_model.proofs.Maps.{key_cmp_same, key_cmp_total}
+use Rattle.ecs_model.proofs.Members.{filtered}
+use Rattle.ecs_model.proofs.Removals.{IsMap-without}
+use Rattle.ecs_model.proofs.traits.Differences.{keys-without}
+use Rattle.ecs_model.proofs.traits.Facts.{key_there, there_key}
+use Rattle.ecs_model.specs.traits.Keeps.{IsWellFormed}
+use Rattle.fact_rules.specs.Sees.{Sees}
+use Rattle.fact_rules.proofs.OneList.{is_keys}
+
+-- what is said of the live entities and their ids, is said of the world's
+pub of_world : {w : WorldState} {live : List ℕ} {ids : ℕ → List Id} → Sees w live ids → (Q : List ℕ → (ℕ → List Id) → Type 0) → Q live ids → Q (entities w) (ids_of w)
+of_world {w = w} {live = live} {ids = ids} sees Q q =
+    let same : ids_of w ≡ ids = λ j e. sees.ids_are e j in
+    subst (λ es. Q es (ids_of w)) (sym sees.live_are) (subst (λ f. Q live f) (sym same) q)
+
+-- what an id of someone mentions is below the size
+pub mentioned_below : {n : ℕ} {live : List ℕ} {ids : ℕ → List Id} → AreLinks n live ids → (m : ℕ) → n ≤ m → (e : ℕ) (i : Id) → Contains (ids e) i → All (λ x. x < m) (mentioned i)
+mentioned_below links m l e i h k d inside = let below = links.below _ (links.live e i h k d inside) in omega (arith, below)
+
+-- a list that rises, of the held facts that pass a test
+pub is_filter : (w : WorldState) → IsWellFormed w → (p : Key → Bool) (ks : List Key) → IsStrictlySortedBy key_cmp ks → ((k : Key) → Contains ks k ↔ (IsTrue (holds w k.0 k.1) × IsTrue (p k)))
+    → ks ≡ filter p (keys w.facts)
+is_filter w h p ks s exact =
+    is_keys key_cmp key_cmp_total key_cmp_same (without key_cmp w.facts (λ k. not (p k))) (IsMap-without w.facts (λ k. not (p k)) (h.in_order).facts) ks s
+    (λ k. (
+      λ c. let f = (exact k).0 c in subst (λ xs. Contains xs k) (sym (keys-without key_cmp w.facts p)) ((filtered p (keys w.facts) k).1 (key_there key_cmp key_cmp_same w.facts k f.0, f.1)),
+      λ c. let f = (filtered p (keys w.facts) k).0 (subst (λ xs. Contains xs k) (keys-without key_cmp w.facts p) c) in (exact k).1 (there_key key_cmp key_cmp_total w.facts k f.0, f.1),
+    ))
+    ∙ keys-without key_cmp w.facts p

@@ -1,0 +1,2 @@
+pub mod Sees
+pub mod Deletions

@@ -1,0 +1,29 @@
+//! Whether a stored query mentions an entity.
+ghost use Rattle.std.specs.Prelude.{◌≡◌, nat_lt};
+ghost use Rattle.std.specs.List.{list_any};
+ghost use Rattle.ecs_model.specs.Map.{count_at};
+
+use std::alloc::Allocator;
+use std::collections::BTreeMap;
+
+/// Whether one does, by how many mention each.
+pub fn is_pinned<A: Allocator>(pins: &BTreeMap<u32, u64, A>, index: u32) -> bool
+    ensures { result ≡ nat_lt 0 (count_at pins.now.entries index) }
+{
+    match pins.get(&index) {
+        Some(count) => *count > 0,
+        None => false,
+    }
+}
+
+/// Whether one mentions any of these.
+pub fn any_pinned<A: Allocator>(pins: &BTreeMap<u32, u64, A>, indexes: &[u32]) -> bool
+    ensures { result ≡ list_any (λ i. nat_lt 0 (count_at pins.now.entries i)) indexes.now }
+{
+    for index in indexes {
+        if is_pinned(pins, *index) {
+            return true;
+        }
+    }
+    false
+}
