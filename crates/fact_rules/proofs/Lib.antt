@@ -2,3 +2,6 @@ mod OneList
 mod Pushed
 mod Seen
 mod Falling
+mod Counting
+mod Coming
+mod Going

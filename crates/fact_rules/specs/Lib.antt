@@ -1,2 +1,3 @@
 pub mod Sees
 pub mod Deletions
+pub mod Additions
