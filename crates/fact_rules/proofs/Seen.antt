@@ -3,7 +3,7 @@ use Rattle.std.proofs.Common.{◌≡◌, ◌↔◌, ◌∙◌, ℕ, ◌<◌, ◌
 use Rattle.std.specs.Prelude.{filter, not}
 use Rattle.std.specs.List.{All, Contains}
 use Rattle.std.specs.List.Sorted.{IsStrictlySortedBy}
-use Rattle.ecs_id.specs.Id.{Id, mentioned}
+use Rattle.ecs_id.specs.Id.{Id, plain, pair, first_of, mentioned}
 use Rattle.ecs_model.specs.Links.{AreLinks}
 use Rattle.ecs_model.specs.Map.{keys, without}
 use Rattle.ecs_model.specs.World.{WorldState, Key, key_cmp, entities, holds, ids_of}
@@ -25,6 +25,11 @@ of_world {w = w} {live = live} {ids = ids} sees Q q =
 -- what an id of someone mentions is below the size
 pub mentioned_below : {n : ℕ} {live : List ℕ} {ids : ℕ → List Id} → AreLinks n live ids → (m : ℕ) → n ≤ m → (e : ℕ) (i : Id) → Contains (ids e) i → All (λ x. x < m) (mentioned i)
 mentioned_below links m l e i h k d inside = let below = links.below _ (links.live e i h k d inside) in omega (arith, below)
+
+-- the component or relationship is mentioned
+pub of_first : (P : ℕ → Type 0) (i : Id) → All P (mentioned i) → P (first_of i)
+of_first P (plain c) a = a 0 c (omega arith)
+of_first P (pair r t) a = a 0 r (omega arith)
 
 -- a list that rises, of the held facts that pass a test
 pub is_filter : (w : WorldState) → IsWellFormed w → (p : Key → Bool) (ks : List Key) → IsStrictlySortedBy key_cmp ks → ((k : Key) → Contains ks k ↔ (IsTrue (holds w k.0 k.1) × IsTrue (p k)))

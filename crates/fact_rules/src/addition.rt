@@ -1,5 +1,5 @@
 //! What comes and goes with an added fact.
-ghost use Rattle.std.specs.Prelude.{◌≡◌, ◌++◌, ◌≤◌, All, Contains, IfOk, OnOk, filter, not};
+ghost use Rattle.std.specs.Prelude.{◌≡◌, ◌≤◌, All, Contains, OnOk, filter, not};
 ghost use Rattle.ecs_id.specs.Id.{mentioned};
 ghost use Rattle.ecs_model.specs.World.{WorldState};
 ghost use Rattle.rel_traits.specs.FactLists.{IsOfLive, is_fact as is_fact_of};
@@ -22,40 +22,51 @@ pub struct Additions<A: Allocator = Global> {
     pub went: Vec<FactKey, A>,
 }
 
-/// Lists what comes and goes with a fact that is added to a live entity, with an id of live ones.
-///
-/// It takes time in what With leads to, and in the ids of the entities of the added facts and of their mirrors, besides the time to
-/// sort the lists.
-pub fn gather_add<G: Graph, A: Allocator + Copy>(
-    alloc: A,
-    graph: &G,
-    fact: FactKey,
-    scratch: &mut Scratch<A>,
-) -> Result<Additions<A>, AllocError>
-    requires covered { G.size graph.now ≤ scratch.old.size }
-    requires entity { Contains (G.entities graph.now) fact.0 }
-    requires mentions { All (Contains (G.entities graph.now)) (mentioned fact.1) }
-    ensures size { scratch.new.size ≡ scratch.old.size }
-    ensures tells { IfOk result (λ a. (w : WorldState) → Sees w (G.entities graph.now) (G.ids graph.now) → TellsAddition w fact a.added.items a.came.items a.went.items) }
-    ensures live { IfOk result (λ a. All (IsOfLive (G.entities graph.now)) a.added.items) }
-{
-    let mut added = Vec::new(alloc);
-    closure_add(graph, fact, scratch, &mut added)?;
-    let mut came = Vec::new(alloc);
-    list_new(graph, &added, &mut came)?;
-    let mut went = Vec::new(alloc);
-    replaced_by(graph, &added, &mut went)?;
-    Ok(Additions { added, came, went })
+impl<A: Allocator + Copy> Additions<A> {
+    /// Empty lists, which take no memory.
+    pub fn new(alloc: A) -> Additions<A> {
+        Additions {
+            added: Vec::new(alloc),
+            came: Vec::new(alloc),
+            went: Vec::new(alloc),
+        }
+    }
 }
 
-/// Adds those of the facts that aren't held.
+impl<A: Allocator> Additions<A> {
+    /// Lists what comes and goes with a fact that is added to a live entity, with an id of live ones, in place of what was listed before.
+    ///
+    /// It takes time in what With leads to, and in the ids of the entities of the added facts and of their mirrors, besides the time to
+    /// sort the lists. Memory can be refused only where a list has no room.
+    pub fn gather<G: Graph>(
+        &mut self,
+        graph: &G,
+        fact: FactKey,
+        scratch: &mut Scratch<A>,
+    ) -> Result<(), AllocError>
+        requires covered { G.size graph.now ≤ scratch.old.size }
+        requires entity { Contains (G.entities graph.now) fact.0 }
+        requires mentions { All (Contains (G.entities graph.now)) (mentioned fact.1) }
+        ensures size { scratch.new.size ≡ scratch.old.size }
+        ensures tells { OnOk result ((w : WorldState) → Sees w (G.entities graph.now) (G.ids graph.now) → TellsAddition w fact self.new.added.items self.new.came.items self.new.went.items) }
+        ensures live { OnOk result (All (IsOfLive (G.entities graph.now)) self.new.added.items) }
+    {
+        closure_add(graph, fact, scratch, &mut self.added)?;
+        list_new(graph, &self.added, &mut self.came)?;
+        replaced_by(graph, &self.added, &mut self.went)?;
+        Ok(())
+    }
+}
+
+/// Makes the list that of those of the facts that aren't held.
 fn list_new<G: Graph, A: Allocator>(
     graph: &G,
     facts: &[FactKey],
     came: &mut Vec<FactKey, A>,
 ) -> Result<(), AllocError>
-    ensures { OnOk result (came.new.items ≡ came.old.items ++ filter (λ k. not (is_fact_of (G.ids graph.now) k)) facts.now) }
+    ensures { OnOk result (came.new.items ≡ filter (λ k. not (is_fact_of (G.ids graph.now) k)) facts.now) }
 {
+    came.clear();
     for fact in facts {
         if !is_fact(graph, *fact) {
             came.push(*fact)?;

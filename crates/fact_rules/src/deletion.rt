@@ -1,5 +1,5 @@
 //! What goes with deleted entities.
-ghost use Rattle.std.specs.Prelude.{◌≡◌, ◌↔◌, ◌++◌, ◌≤◌, ◌<◌, ℕ, All, Contains, IfOk, OnOk, filter, flat_map, map};
+ghost use Rattle.std.specs.Prelude.{◌≡◌, ◌↔◌, ◌++◌, ◌≤◌, ◌<◌, ℕ, All, Contains, OnOk, filter, flat_map, map};
 ghost use Rattle.std.specs.List.Sorted.{IsStrictlySortedBy};
 ghost use Rattle.std.specs.Ordering.{nat_cmp};
 ghost use Rattle.ecs_id.specs.Id.{mentioned};
@@ -25,51 +25,61 @@ pub struct Deletion<A: Allocator = Global> {
     pub went: Vec<FactKey, A>,
 }
 
-/// Lists what the deletion takes that `judge_delete` found.
-///
-/// It takes time in the ids of the deleted entities and of those that refer to them, besides the time to sort the lists.
-pub fn gather_delete<G: Graph, A: Allocator + Copy>(
-    alloc: A,
-    graph: &G,
-    scratch: &Scratch<A>,
-) -> Result<Deletion<A>, AllocError>
-    requires { G.size graph.now ≤ scratch.now.size }
-    ensures dead { IfOk result (λ d. OfDeletion (G.entities graph.now) (G.ids graph.now) scratch.now (λ w e. d.dead.items ≡ keys (deleted w e))) }
-    ensures lost { IfOk result (λ d. OfDeletion (G.entities graph.now) (G.ids graph.now) scratch.now (λ w e. d.lost.items ≡ filter (is_lost w e) (keys w.facts))) }
-    ensures went { IfOk result (λ d. OfDeletion (G.entities graph.now) (G.ids graph.now) scratch.now (λ w e. d.went.items ≡ filter (mentions_gone w (deleted w e)) (keys w.facts))) }
-{
-    let dead = in_order(alloc, scratch.found())?;
-    let mut lost = Vec::new(alloc);
-    list_lost(graph, scratch, &mut lost)?;
-    let mut went = Vec::new(alloc);
-    went.extend_from_slice(&lost)?;
-    list_dead(graph, scratch, &mut went)?;
-    put_in_order(&mut lost);
-    put_in_order(&mut went);
-    Ok(Deletion { dead, lost, went })
+impl<A: Allocator + Copy> Deletion<A> {
+    /// Empty lists, which take no memory.
+    pub fn new(alloc: A) -> Deletion<A> {
+        Deletion {
+            dead: Vec::new(alloc),
+            lost: Vec::new(alloc),
+            went: Vec::new(alloc),
+        }
+    }
 }
 
-/// These numbers in order, each once.
-fn in_order<A: Allocator>(alloc: A, numbers: &[u32]) -> Result<Vec<u32, A>, AllocError>
-    ensures ascend { IfOk result (λ v. IsStrictlySortedBy nat_cmp v.items) }
-    ensures same { IfOk result (λ v. (y : ℕ) → Contains v.items y ↔ Contains numbers.now y) }
+impl<A: Allocator> Deletion<A> {
+    /// Lists what the deletion takes that `judge_delete` found, in place of what was listed before.
+    ///
+    /// It takes time in the ids of the deleted entities and of those that refer to them, besides the time to sort the lists. Memory can be
+    /// refused only where a list has no room.
+    pub fn gather<G: Graph>(&mut self, graph: &G, scratch: &Scratch<A>) -> Result<(), AllocError>
+        requires { G.size graph.now ≤ scratch.now.size }
+        ensures dead { OnOk result (OfDeletion (G.entities graph.now) (G.ids graph.now) scratch.now (λ w e. self.new.dead.items ≡ keys (deleted w e))) }
+        ensures lost { OnOk result (OfDeletion (G.entities graph.now) (G.ids graph.now) scratch.now (λ w e. self.new.lost.items ≡ filter (is_lost w e) (keys w.facts))) }
+        ensures went { OnOk result (OfDeletion (G.entities graph.now) (G.ids graph.now) scratch.now (λ w e. self.new.went.items ≡ filter (mentions_gone w (deleted w e)) (keys w.facts))) }
+    {
+        copy_in_order(scratch.found(), &mut self.dead)?;
+        list_lost(graph, scratch, &mut self.lost)?;
+        self.went.clear();
+        self.went.extend_from_slice(&self.lost)?;
+        list_dead(graph, scratch, &mut self.went)?;
+        put_in_order(&mut self.lost);
+        put_in_order(&mut self.went);
+        Ok(())
+    }
+}
+
+/// Makes the list that of these numbers in order, each once.
+fn copy_in_order<A: Allocator>(numbers: &[u32], ordered: &mut Vec<u32, A>) -> Result<(), AllocError>
+    ensures ascend { OnOk result (IsStrictlySortedBy nat_cmp ordered.new.items) }
+    ensures same { OnOk result ((y : ℕ) → Contains ordered.new.items y ↔ Contains numbers.now y) }
 {
-    let mut ordered = Vec::new(alloc);
+    ordered.clear();
     ordered.extend_from_slice(numbers)?;
     ordered.sort_unstable();
     ordered.dedup();
-    Ok(ordered)
+    Ok(())
 }
 
-/// Adds the facts of those who refer to the found, where they mention one of these.
+/// Makes the list that of the facts of those who refer to the found, where they mention one of these.
 fn list_lost<G: Graph, A: Allocator>(
     graph: &G,
     scratch: &Scratch<A>,
     facts: &mut Vec<FactKey, A>,
 ) -> Result<(), AllocError>
     requires { G.size graph.now ≤ scratch.now.size }
-    ensures { OnOk result (facts.new.items ≡ facts.old.items ++ flat_map (λ y. map (λ i. (y, i)) (filter (mentions_any scratch.now.found) (G.ids graph.now y))) scratch.now.referrers) }
+    ensures { OnOk result (facts.new.items ≡ flat_map (λ y. map (λ i. (y, i)) (filter (mentions_any scratch.now.found) (G.ids graph.now y))) scratch.now.referrers) }
 {
+    facts.clear();
     for entity in scratch.referrers() {
         push_lost(graph, *entity, scratch, facts)?;
     }

@@ -10,8 +10,8 @@ mod removal;
 mod stored_queries;
 mod traits;
 
-pub use addition::{Additions, gather_add};
-pub use deletion::{Deletion, gather_delete};
+pub use addition::Additions;
+pub use deletion::Deletion;
 pub use refused_addition::judge_add;
 pub use refused_deletion::judge_delete;
 pub use removal::{gather_remove, judge_remove};

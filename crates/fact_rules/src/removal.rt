@@ -1,5 +1,5 @@
 //! What goes with a removed fact, and why it can't be removed.
-ghost use Rattle.std.specs.Prelude.{◌≡◌, [], ◌∷◌, IfOk, filter};
+ghost use Rattle.std.specs.Prelude.{◌≡◌, [], ◌∷◌, OnOk, filter};
 ghost use Rattle.std.specs.List.{list_any};
 ghost use Rattle.ecs_id.specs.Id.{IsIndex};
 ghost use Rattle.ecs_model.specs.Map.{keys};
@@ -17,20 +17,19 @@ use rel_traits::closure_remove;
 use rel_travel::Graph;
 use std::alloc::{AllocError, Allocator};
 
-/// Lists the facts that go with a removed one, ascending: the fact and its mirror, where they are held.
+/// Makes the list that of the facts which go with a removed one, ascending: the fact and its mirror, where they are held.
 ///
-/// It takes time in the ids of the fact's entity and of its target.
+/// It takes time in the ids of the fact's entity and of its target. Memory can be refused only where the list has no room.
 pub fn gather_remove<G: Graph, A: Allocator>(
-    alloc: A,
     graph: &G,
     fact: FactKey,
-) -> Result<Vec<FactKey, A>, AllocError>
+    removed: &mut Vec<FactKey, A>,
+) -> Result<(), AllocError>
     requires { IsIndex fact.0 }
-    ensures { IfOk result (λ v. (w : WorldState) → Sees w (G.entities graph.now) (G.ids graph.now) → v.items ≡ filter (λ k. list_any (key_eq k) (all_removed w fact.0 fact.1)) (keys w.facts)) }
+    ensures { OnOk result ((w : WorldState) → Sees w (G.entities graph.now) (G.ids graph.now) → removed.new.items ≡ filter (λ k. list_any (key_eq k) (all_removed w fact.0 fact.1)) (keys w.facts)) }
 {
-    let mut removed = Vec::new(alloc);
-    closure_remove(graph, fact, &mut removed)?;
-    Ok(removed)
+    closure_remove(graph, fact, removed)?;
+    Ok(())
 }
 
 /// Why a fact of live entities can't be removed: it is of a built-in entity or is the tag of components, it is a trait, or no further
