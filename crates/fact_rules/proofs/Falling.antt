@@ -59,6 +59,10 @@ not_both : (a m : Bool) → not a ≡ true → (a || m) ≡ m
 not_both true m n = absurd (true≢false (sym n))
 not_both false m n = refl
 
+pub IsMap-deleted : (w : WorldState) (e : ℕ) → IsMap nat_cmp (deleted w e)
+unfolding deleted
+IsMap-deleted w e = IsMap-within nat_cmp nat_cmp_total (falling (ids_of w) (entities w)) (length (entities w)) e
+
 module _ (w : WorldState) (e : ℕ) (s : Work) (h : IsWellFormed w) (live : Contains (entities w) e) (d : IsDeletion (entities w) (ids_of w) s e) where
   lives : is_live w e ≡ true
   lives = listed_live w e live
@@ -72,13 +76,9 @@ module _ (w : WorldState) (e : ℕ) (s : Work) (h : IsWellFormed w) (live : Cont
   mentions_is : (i : Id) → list_any gone (mentioned i) ≡ refer.mentions_any s.found i
   mentions_is i = λ j. list_any (λ x. gone_is x j) (mentioned i)
 
-  IsMap-deleted : IsMap nat_cmp (deleted w e)
-  unfolding deleted
-  IsMap-deleted = IsMap-within nat_cmp nat_cmp_total (falling (ids_of w) (entities w)) (length (entities w)) e
-
   pub dead_are : (ks : List ℕ) → IsStrictlySortedBy nat_cmp ks → ((y : ℕ) → Contains ks y ↔ Contains s.found y) → ks ≡ keys (deleted w e)
   dead_are ks rises same =
-      is_keys nat_cmp nat_cmp_total nat_cmp-IsAntisymmetric (deleted w e) IsMap-deleted ks rises
+      is_keys nat_cmp nat_cmp_total nat_cmp-IsAntisymmetric (deleted w e) (IsMap-deleted w e) ks rises
       (λ y. (
         λ c. key_there nat_cmp nat_cmp-IsAntisymmetric (deleted w e) y ((deleted_is_least w e lives y).1 ((d.fall y).0 ((same y).0 c))),
         λ c. (same y).1 ((d.fall y).1 ((deleted_is_least w e lives y).0 (there_key nat_cmp nat_cmp_total (deleted w e) y c))),

@@ -5,3 +5,4 @@ mod Falling
 mod Counting
 mod Coming
 mod Going
+pub mod Dying
