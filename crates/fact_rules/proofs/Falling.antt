@@ -73,7 +73,7 @@ module _ (w : WorldState) (e : ℕ) (s : Work) (h : IsWellFormed w) (live : Cont
   gone_is : (y : ℕ) → gone y ≡ is_among s.found y
   gone_is y = is_deleted w e lives s.found d.fall y ∙ among_alike y s.found
 
-  mentions_is : (i : Id) → list_any gone (mentioned i) ≡ refer.mentions_any s.found i
+  pub mentions_is : (i : Id) → list_any gone (mentioned i) ≡ refer.mentions_any s.found i
   mentions_is i = λ j. list_any (λ x. gone_is x j) (mentioned i)
 
   pub dead_are : (ks : List ℕ) → IsStrictlySortedBy nat_cmp ks → ((y : ℕ) → Contains ks y ↔ Contains s.found y) → ks ≡ keys (deleted w e)

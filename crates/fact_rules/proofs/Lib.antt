@@ -5,4 +5,5 @@ mod Falling
 mod Counting
 mod Coming
 mod Going
+mod Staying
 pub mod Dying

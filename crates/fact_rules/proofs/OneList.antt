@@ -47,6 +47,10 @@ module _ {K : Type 0} (R : K → K → Ordering) (o : IsTotalOrder R) (exact : (
       (λ t. there_key R o m k ((same k).0 (subst (λ xs. Contains xs k) (keys-as_set ks) (key_there R exact (as_set ks) k t))))
       (λ t. there_key R o (as_set ks) k (subst (λ xs. Contains xs k) (sym (keys-as_set ks)) ((same k).1 (key_there R exact m k t)))))
 
+  -- and so are two that rise and have the same items
+  pub one_list : (xs ys : List K) → IsStrictlySortedBy R xs → IsStrictlySortedBy R ys → ((k : K) → Contains xs k ↔ Contains ys k) → xs ≡ ys
+  one_list xs ys s t same = is_keys (as_set ys) (IsMap-as_set ys t) xs s (λ k. rw (keys-as_set ys) (same k)) ∙ keys-as_set ys
+
 -- a list of facts that was sorted, and of which each was kept once
 pub fact_rises : (mid new : List Key) → new ≡ dedup key_eq mid → IsSorted key_cmp mid → IsStrictlySortedBy key_cmp new
 fact_rises mid new is sorted = rw is (IsStrictlySortedBy-dedup key_cmp_total (λ x y. refl) mid sorted)

@@ -1,3 +1,4 @@
 pub mod Sees
 pub mod Deletions
 pub mod Additions
+pub mod Left

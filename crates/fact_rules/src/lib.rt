@@ -4,6 +4,7 @@
 mod addition;
 mod deletion;
 mod fact_lists;
+mod left;
 mod refused_addition;
 mod refused_deletion;
 mod removal;
@@ -12,6 +13,7 @@ mod traits;
 
 pub use addition::Additions;
 pub use deletion::Deletion;
+pub use left::{ids_after, ids_left};
 pub use refused_addition::judge_add;
 pub use refused_deletion::judge_delete;
 pub use removal::{gather_remove, judge_remove};
