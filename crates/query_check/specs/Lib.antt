@@ -1,3 +1,4 @@
 pub mod Places
 pub mod Seen
 pub mod Numbered
+pub mod Found

@@ -1,5 +1,5 @@
 -- References, variables and queries of the code, as the definitions see them.
-use Rattle.std.specs.Prelude.{◌≡◌, ⊤, ℕ, Bool, false, List, [], ◌∷◌, map, flat_map, Option, Some, None, Result, Ok, Err}
+use Rattle.std.specs.Prelude.{◌≡◌, ⊤, ℕ, false, List, [], ◌∷◌, map, flat_map, Option, Some, None, Result, Ok, Err}
 use Rattle.std.proofs.Common.{get_or}
 use Rattle.query_model.specs.declared.Span.{Span}
 use Rattle.query_model.specs.declared.faults.QueryFault.{QueryFault}

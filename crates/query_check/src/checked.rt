@@ -1,6 +1,7 @@
 //! The check of a query's syntax: its least fault, or the checked query.
 
 ghost use Rattle.std.specs.Prelude.{◌≡◌, length, map, None, IfOk};
+ghost use Rattle.query_check.specs.Found.{AreFound};
 ghost use Rattle.query_check.specs.Places.{IsTree, places_of};
 ghost use Rattle.query_check.specs.Seen.{AnswersCheck, level_uses, seen_occurrence, seen_use, syntax_of};
 ghost use Rattle.query_model.specs.Check.{faults};
@@ -47,7 +48,7 @@ fn answer<'a, A: Allocator + Copy, W: Lookup>(
 {
     let places = places(alloc, parts)?;
     let places = places.as_slice();
-    let uses = uses(alloc, parts, places)?;
+    let uses = uses(alloc, world, parts, places)?;
     let uses = uses.as_slice();
     let found = occurrences(alloc, uses)?;
     let found = found.as_slice();
@@ -71,6 +72,7 @@ fn least_fault<A: Allocator + Copy, W: Lookup>(
     requires length { length places.now ≡ length parts.now }
     requires tree { IsTree places.now }
     requires uses { map seen_use uses.now ≡ level_uses (map seen_part parts.now) }
+    requires found { AreFound (W.known world.now) uses.now }
     requires occurrences { map seen_occurrence found.now ≡ sightings (map seen_part parts.now) }
     ensures { IfOk result (λ least. least ≡ least_from None (faults (W.known world.now) (map seen_part parts.now))) }
 {

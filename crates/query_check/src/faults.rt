@@ -2,9 +2,10 @@
 
 ghost use Rattle.std.specs.Prelude.{◌≡◌, ◌≤◌, [], ◌∷◌, if◌then◌else◌, ◌++◌, bytes_eq, flat_map, length, map, option_map, option_to_list, IfOk};
 ghost use Rattle.std.specs.List.{list_any};
+ghost use Rattle.query_check.specs.Found.{AreFound, IsFound};
 ghost use Rattle.query_check.specs.Places.{IsRooted, IsTree, places_of};
 ghost use Rattle.query_check.specs.Seen.{seen_use, seen_occurrence};
-ghost use Rattle.query_model.specs.Check.{counted_spans, faults_of_position, faults_of_use, item_at, most_names, most_terms, new_names, not_traversable, too_deep, too_deep_part, unbound, unknown_word, wildcard};
+ghost use Rattle.query_model.specs.Check.{Known, counted_spans, faults_of_position, faults_of_use, item_at, most_names, most_terms, new_names, not_traversable, too_deep, too_deep_part, unbound, unknown_word, wildcard};
 ghost use Rattle.query_model.specs.Faults.{is_before, kind_number, fault_at, least_from, lesser};
 ghost use Rattle.query_model.specs.Levels.{Path, placed_parts};
 ghost use Rattle.query_model.specs.Scope.{occurrences, sighting, sightings, this};
@@ -32,6 +33,7 @@ const MOST_GROUPS: usize = 4;
 
 /// The least fault of references.
 pub(crate) fn of_uses<W: Lookup>(world: &W, uses: &[Use<'_>], found: Option<Fault>) -> Option<Fault>
+    requires { AreFound (W.known world.now) uses.now }
     ensures { result ≡ least_from found (flat_map (λ u. faults_of_use (W.known world.now) u.1) (map seen_use uses.now)) }
 {
     let mut least = found;
@@ -42,10 +44,11 @@ pub(crate) fn of_uses<W: Lookup>(world: &W, uses: &[Use<'_>], found: Option<Faul
 }
 
 fn of_use<W: Lookup>(world: &W, used: &Use<'_>, found: Option<Fault>) -> Option<Fault>
+    requires { IsFound (W.known world.now) used.now }
     ensures { result ≡ least_from found (faults_of_use (W.known world.now) (seen_use used.now).1) }
 {
-    let found = with_fault(found, unknown_word(world, &used.reference));
-    with_fault(found, of_position(world, used.position, &used.reference))
+    let found = with_fault(found, unknown_word(used));
+    with_fault(found, of_position(world, used))
 }
 
 /// The lesser of the fault that was found and another, if there is another.
@@ -77,41 +80,40 @@ fn number_of(kind: FaultKind) -> u8
 }
 
 /// The fault of a word that names no entity.
-fn unknown_word<W: Lookup>(world: &W, reference: &Reference<'_>) -> Option<Fault>
-    ensures { let r = seen_reference reference.now in option_to_list result ≡ unknown_word (W.known world.now) r.spoken r.span }
+fn unknown_word(used: &Use<'_>) -> Option<Fault>
+    ensures { let r = seen_reference (used.now).reference in (k : Known) → IsFound k used.now → option_to_list result ≡ unknown_word k r.spoken r.span }
 {
-    match reference.spoken {
-        Spoken::Word(word) if world.find(word).is_none() => Some(Fault {
+    match used.reference.spoken {
+        Spoken::Word(_) if used.entity.is_none() => Some(Fault {
             kind: FaultKind::UnknownName,
-            span: reference.span,
+            span: used.reference.span,
         }),
         _ => None,
     }
 }
 
 /// The fault that a reference has for what it is to its part.
-fn of_position<W: Lookup>(world: &W, position: Position, reference: &Reference<'_>) -> Option<Fault>
-    ensures { let r = seen_reference reference.now in option_to_list result ≡ faults_of_position (W.known world.now) position r.spoken r.span }
+fn of_position<W: Lookup>(world: &W, used: &Use<'_>) -> Option<Fault>
+    requires { IsFound (W.known world.now) used.now }
+    ensures { let r = seen_reference (used.now).reference in option_to_list result ≡ faults_of_position (W.known world.now) (used.now).position r.spoken r.span }
 {
-    match position {
-        Position::Risen => not_traversable(world, reference),
-        Position::Source => wildcard(FaultKind::WildcardSource, reference),
-        Position::Right => wildcard(FaultKind::WildcardEquality, reference),
+    match used.position {
+        Position::Risen => not_traversable(world, used),
+        Position::Source => wildcard(FaultKind::WildcardSource, &used.reference),
+        Position::Right => wildcard(FaultKind::WildcardEquality, &used.reference),
         _ => None,
     }
 }
 
 /// The fault of a relationship behind `up` that can't be traversed.
-fn not_traversable<W: Lookup>(world: &W, reference: &Reference<'_>) -> Option<Fault>
-    ensures { let r = seen_reference reference.now in option_to_list result ≡ not_traversable (W.known world.now) r.spoken r.span }
+fn not_traversable<W: Lookup>(world: &W, used: &Use<'_>) -> Option<Fault>
+    requires { IsFound (W.known world.now) used.now }
+    ensures { let r = seen_reference (used.now).reference in option_to_list result ≡ not_traversable (W.known world.now) r.spoken r.span }
 {
-    let Spoken::Word(word) = reference.spoken else {
-        return None;
-    };
-    match world.find(word) {
+    match used.entity {
         Some(entity) if !world.is_traversable(entity.index) => Some(Fault {
             kind: FaultKind::NotTraversable,
-            span: reference.span,
+            span: used.reference.span,
         }),
         _ => None,
     }

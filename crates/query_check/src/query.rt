@@ -2,10 +2,11 @@
 
 ghost use Rattle.std.specs.Prelude.{◌≡◌, ◌<◌, ◌≤◌, ◌==◌, ◌++◌, [], flat_map, fold, length, map, option_map, option_to_list, slice_get, IfOk, MatchOption, Some, Ok, Err};
 ghost use Rattle.std.specs.List.{list_all, list_any};
+ghost use Rattle.query_check.specs.Found.{AreFound, IsFound, follows_ref};
 ghost use Rattle.query_check.specs.Places.{IsRooted, IsTree, places_of};
 ghost use Rattle.query_check.specs.Seen.{level_uses, seen_entry, seen_item, seen_occurrence, seen_piece, seen_use, seen_variable, syntax_of};
 ghost use Rattle.query_model.specs.Levels.{Path, alternatives, followed, level_of, placed_parts};
-ghost use Rattle.query_model.specs.Query.{add_mention, chain_of, checked_equality, checked_query, checked_term, entity_of, entries, follows, is_definite_target, on_source_of, pieces_of, pieces_of_part, ref_of, mention_of, mentioned_by, is_as_checked, is_current, shown, source_of, up_of, visible_names};
+ghost use Rattle.query_model.specs.Query.{add_mention, chain_of, checked_equality, checked_query, checked_term, entity_of, entries, is_definite_target, on_source_of, pieces_of, pieces_of_part, ref_of, mention_of, mentioned_by, is_as_checked, is_current, shown, source_of, up_of, visible_names};
 ghost use Rattle.query_model.specs.Faults.{fault_at};
 ghost use Rattle.query_model.specs.Local.{is_local, is_simple};
 ghost use Rattle.query_model.specs.Observers.{monitored, observed, whole};
@@ -259,6 +260,7 @@ pub(crate) fn build<'a, A: Allocator + Copy, W: Lookup>(
     requires length { length places.now ≡ length parts.now }
     requires tree { IsTree places.now }
     requires uses { map seen_use uses.now ≡ level_uses (map seen_part parts.now) }
+    requires found { AreFound (W.known world.now) uses.now }
     requires occurrences { map seen_occurrence found.now ≡ sightings (map seen_part parts.now) }
     ensures { IfOk result (λ query. query ≡ checked_query (W.known world.now) (syntax_of (map seen_part parts.now) text_length)) }
 {
@@ -315,6 +317,7 @@ fn mentions<A: Allocator, W: Lookup>(
     world: &W,
     uses: &[Use<'_>],
 ) -> Result<Vec<Mention, A>, AllocError>
+    requires { AreFound (W.known world.now) uses.now }
     ensures { IfOk result (λ mentions. mentions.items ≡ fold (add_mention (W.known world.now)) [] (flat_map (λ u. mentioned_by (W.known world.now) u.1) (map seen_use uses.now))) }
 {
     let mut mentions = Vec::new(alloc);
@@ -330,9 +333,10 @@ fn add_named<A: Allocator, W: Lookup>(
     used: &Use<'_>,
     mentions: &mut Vec<Mention, A>,
 ) -> Result<(), AllocError>
+    requires { IsFound (W.known world.now) used.now }
     ensures { IfOk result (λ _. mentions.new.items ≡ fold (add_mention (W.known world.now)) mentions.old.items (mentioned_by (W.known world.now) (seen_use used.now).1)) }
 {
-    match named_by(world, used) {
+    match used.entity {
         Some(entity) => add_mention(world, entity, mentions),
         None => Ok(()),
     }
@@ -349,16 +353,6 @@ fn add_mention<A: Allocator, W: Lookup>(
         mentions.push(mention_of(world, entity))?;
     }
     Ok(())
-}
-
-/// The entity that a reference names.
-fn named_by<W: Lookup>(world: &W, used: &Use<'_>) -> Option<EntityId>
-    ensures { option_to_list result ≡ mentioned_by (W.known world.now) (seen_use used.now).1 }
-{
-    match used.reference.spoken {
-        Spoken::Word(word) => world.find(word),
-        _ => None,
-    }
 }
 
 fn is_mentioned(mentions: &[Mention], index: u32) -> bool
@@ -510,9 +504,10 @@ fn term_of<W: Lookup>(world: &W, scope: &Scope<'_, '_>, level: usize, term: &Ter
         → result ≡ checked_term (W.known world.now) (map seen_occurrence scope.now.found.now) (map seen_variable scope.now.numbered.now) path (seen_term term.now) }
 {
     let up = up_of(world, &term.flags);
-    let follows = follows(world, &term.first) && is_definite_target(&term.target);
+    let first = ref_of(world, scope, level, &term.first);
+    let follows = follows(world, first) && is_definite_target(&term.target);
     Term {
-        first: ref_of(world, scope, level, &term.first),
+        first,
         target: target_of(world, scope, level, &term.target),
         source: source_of(world, scope, level, &term.source),
         on_source: on_source_of(&term.flags),
@@ -590,15 +585,12 @@ fn entity_of<W: Lookup>(world: &W, word: &str) -> u32
     world.find(word).map_or(0, |entity| entity.index)
 }
 
-/// Whether a relationship is a name with Transitive or Reflexive.
-fn follows<W: Lookup>(world: &W, first: &Reference<'_>) -> bool
-    ensures { result ≡ follows (W.known world.now) (seen_reference first.now).spoken }
+/// Whether a relationship is an entity with Transitive or Reflexive.
+fn follows<W: Lookup>(world: &W, first: Ref) -> bool
+    ensures { result ≡ follows_ref (W.known world.now) first }
 {
-    match first.spoken {
-        Spoken::Word(word) => {
-            let entity = entity_of(world, word);
-            world.is_transitive(entity) || world.is_reflexive(entity)
-        }
+    match first {
+        Ref::Is(entity) => world.is_transitive(entity) || world.is_reflexive(entity),
         _ => false,
     }
 }

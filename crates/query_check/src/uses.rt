@@ -1,90 +1,114 @@
 //! The references of a query, in the order of the text.
 
 ghost use Rattle.std.specs.Prelude.{◌≡◌, ◌++◌, length, map, option_map, IfOk};
+ghost use Rattle.query_check.specs.Found.{AreFound, found_of};
 ghost use Rattle.query_check.specs.Places.{places_of};
 ghost use Rattle.query_check.specs.Seen.{at_level, level_uses, seen_use};
 ghost use Rattle.query_model.specs.Seen.{seen_part, seen_reference, seen_term};
 ghost use Rattle.query_model.specs.Uses.{risen, uses_of, uses_of_term, written};
 
+use crate::lookup::Lookup;
 use crate::places::Place;
+use ecs_id::EntityId;
 use query_model::query::Position;
-use query_model::syntax::{Flags, Part, Reference, Rise, TermSyntax};
+use query_model::syntax::{Flags, Part, Reference, Rise, Spoken, TermSyntax};
 use std::alloc::{AllocError, Allocator};
 
-/// A reference, what it is to its part, and the level in which it stands.
+/// A reference, what it is to its part, the level in which it stands, and the entity that it names, if it names one.
 #[derive(Clone, Copy, Debug, PartialEq, Eq)]
 pub(crate) struct Use<'a> {
     pub(crate) level: usize,
     pub(crate) position: Position,
     pub(crate) reference: Reference<'a>,
+    pub(crate) entity: Option<EntityId>,
 }
 
 /// The references of a query's parts.
-pub(crate) fn uses<'a, A: Allocator + Copy>(
+pub(crate) fn uses<'a, A: Allocator + Copy, W: Lookup>(
     alloc: A,
+    world: &W,
     parts: &[Part<'a>],
     places: &[Place],
 ) -> Result<Vec<Use<'a>, A>, AllocError>
     requires places { places.now ≡ places_of (map seen_part parts.now) }
     requires length { length places.now ≡ length parts.now }
-    ensures { IfOk result (λ uses. map seen_use uses.items ≡ level_uses (map seen_part parts.now)) }
+    ensures uses { IfOk result (λ uses. map seen_use uses.items ≡ level_uses (map seen_part parts.now)) }
+    ensures found { IfOk result (λ uses. AreFound (W.known world.now) uses.items) }
 {
     let mut uses = Vec::new(alloc);
     for (i, part) in parts.iter().enumerate() {
-        add_part(&mut uses, places[i].level, part)?;
+        add_part(world, places[i].level, part, &mut uses)?;
     }
     Ok(uses)
 }
 
 /// Adds the references of a part.
-fn add_part<'a, A: Allocator>(
-    uses: &mut Vec<Use<'a>, A>,
+fn add_part<'a, A: Allocator, W: Lookup>(
+    world: &W,
     level: usize,
     part: &Part<'a>,
+    uses: &mut Vec<Use<'a>, A>,
 ) -> Result<(), AllocError>
-    ensures { IfOk result (λ _. map seen_use uses.new.items ≡ map seen_use uses.old.items ++ map (at_level level) (uses_of (seen_part part.now))) }
+    ensures uses { IfOk result (λ _. map seen_use uses.new.items ≡ map seen_use uses.old.items ++ map (at_level level) (uses_of (seen_part part.now))) }
+    ensures found { AreFound (W.known world.now) uses.old.items → IfOk result (λ _. AreFound (W.known world.now) uses.new.items) }
 {
     match part {
-        Part::Term(_, term) => add_term(uses, level, term),
+        Part::Term(_, term) => add_term(world, level, term, uses),
         Part::Opened(_) | Part::Closed => Ok(()),
         Part::Equality(left, _, right) => {
-            add(uses, level, Position::Left, Some(*left))?;
-            add(uses, level, Position::Right, Some(*right))
+            add(world, level, Position::Left, Some(*left), uses)?;
+            add(world, level, Position::Right, Some(*right), uses)
         }
     }
 }
 
 /// Adds the references of a term.
-fn add_term<'a, A: Allocator>(
-    uses: &mut Vec<Use<'a>, A>,
+fn add_term<'a, A: Allocator, W: Lookup>(
+    world: &W,
     level: usize,
     term: &TermSyntax<'a>,
+    uses: &mut Vec<Use<'a>, A>,
 ) -> Result<(), AllocError>
-    ensures { IfOk result (λ _. map seen_use uses.new.items ≡ map seen_use uses.old.items ++ map (at_level level) (uses_of_term (seen_term term.now))) }
+    ensures uses { IfOk result (λ _. map seen_use uses.new.items ≡ map seen_use uses.old.items ++ map (at_level level) (uses_of_term (seen_term term.now))) }
+    ensures found { AreFound (W.known world.now) uses.old.items → IfOk result (λ _. AreFound (W.known world.now) uses.new.items) }
 {
-    add(uses, level, Position::Component, Some(term.first))?;
-    add(uses, level, Position::Source, term.source)?;
-    add(uses, level, Position::Risen, risen(term))?;
-    add(uses, level, Position::Target, term.target)
+    add(world, level, Position::Component, Some(term.first), uses)?;
+    add(world, level, Position::Source, term.source, uses)?;
+    add(world, level, Position::Risen, risen(term), uses)?;
+    add(world, level, Position::Target, term.target, uses)
 }
 
 /// Adds a reference, if it is written.
-fn add<'a, A: Allocator>(
-    uses: &mut Vec<Use<'a>, A>,
+fn add<'a, A: Allocator, W: Lookup>(
+    world: &W,
     level: usize,
     position: Position,
     reference: Option<Reference<'a>>,
+    uses: &mut Vec<Use<'a>, A>,
 ) -> Result<(), AllocError>
-    ensures { IfOk result (λ _. map seen_use uses.new.items ≡ map seen_use uses.old.items ++ map (at_level level) (written position (option_map seen_reference reference.entry))) }
+    ensures uses { IfOk result (λ _. map seen_use uses.new.items ≡ map seen_use uses.old.items ++ map (at_level level) (written position (option_map seen_reference reference.entry))) }
+    ensures found { AreFound (W.known world.now) uses.old.items → IfOk result (λ _. AreFound (W.known world.now) uses.new.items) }
 {
     if let Some(reference) = reference {
+        let entity = entity_named(world, &reference);
         uses.push(Use {
             level,
             position,
             reference,
+            entity,
         })?;
     }
     Ok(())
+}
+
+/// The entity that a reference names.
+fn entity_named<W: Lookup>(world: &W, reference: &Reference<'_>) -> Option<EntityId>
+    ensures { result ≡ found_of (W.known world.now) (seen_reference reference.now).spoken }
+{
+    match reference.spoken {
+        Spoken::Word(word) => world.find(word),
+        _ => None,
+    }
 }
 
 /// The relationship behind a term's `up`, if it is written.
