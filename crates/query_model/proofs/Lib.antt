@@ -6,5 +6,6 @@ pub mod Order
 pub mod SoundTerms
 pub mod NumberedVariables
 pub mod Scoping
+pub mod FreshVariables
 pub mod Spelling
 mod Computed

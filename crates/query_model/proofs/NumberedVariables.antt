@@ -181,7 +181,7 @@ none_visible (g ∷ gs) e = by (none_visible gs (second_of (is_whole false g) _ 
     by rest true n = absurd (cc)
     by rest false n = rest
 
-count_visible : (ws gs : List Variable) → list_all (is_whole true) ws ≡ true → list_all (is_whole false) gs ≡ true → length (visible_names (ws ++ gs)) ≡ length ws
+pub count_visible : (ws gs : List Variable) → list_all (is_whole true) ws ≡ true → list_all (is_whole false) gs ≡ true → length (visible_names (ws ++ gs)) ≡ length ws
 count_visible [] gs e f = ap length (none_visible gs f)
 count_visible (w ∷ ws) gs e f = by (count_visible ws gs (second_of (is_whole true w) _ e) f) (w.1 == 0) (first_of (is_whole true w) _ e)
   where

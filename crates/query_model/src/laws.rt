@@ -2,7 +2,7 @@
 
 ghost use Rattle.query_model.specs.FirstOccurrence.{FirstSuffices, FirstSufficesInTexts, VariablesAscend};
 ghost use Rattle.query_model.specs.Laws.{OneSpelling, OneSyntax, PartsAreGrammatical, TokensAreSpelled};
-ghost use Rattle.query_model.specs.Scopes.{QueriesAreScoped, QueriesOfTextsAreScoped};
+ghost use Rattle.query_model.specs.Scopes.{OwnVariablesAreNew, QueriesAreScoped, QueriesOfTextsAreScoped};
 ghost use Rattle.query_model.specs.Sound.{TermsAreSound};
 
 /// Law: a text spells at most one list of tokens.
@@ -48,4 +48,9 @@ pub fn terms_of_a_checked_query_are_sound()
 pub fn a_checked_query_uses_variables_in_scope()
     ensures of_syntaxes { QueriesAreScoped }
     ensures of_texts { QueriesOfTextsAreScoped }
+{}
+
+/// Law: in a checked query the variables of a group's own are in no scope around it.
+pub fn variables_of_a_groups_own_are_new()
+    ensures { OwnVariablesAreNew }
 {}
