@@ -23,7 +23,7 @@ use Rattle.ecs_archetypes.proofs.Leaving.{found_without, without_index}
 use Rattle.ecs_archetypes.proofs.MapLists.{both, nat_same}
 use Rattle.ecs_archetypes.proofs.Moving.{alike_then, still_settled}
 
-without_alike : (es : List EntityId) (a b : Holdings) → HoldAlike a b → HoldAlike (without_each es a) (without_each es b)
+pub without_alike : (es : List EntityId) (a b : Holdings) → HoldAlike a b → HoldAlike (without_each es a) (without_each es b)
 without_alike [] a b x = x
 without_alike (e ∷ es) a b x = without_alike es (without_entity a e.index) (without_entity b e.index) (record {
   live = ap (without_index e.index) x.live;
@@ -112,7 +112,7 @@ all_moved_deletable [] h es was = was
 all_moved_deletable (t ∷ ts) h es was =
     all_moved_deletable ts (with_moved h t.entity (asked_of t)) es (moved_deletable h (with_moved h t.entity (asked_of t)) t.entity.index (carried (asked_of t) (held_at h t.entity.index)) (alike_self (with_moved h t.entity (asked_of t))) es was)
 
-deletable_alike : (a b : Holdings) → HoldAlike a b → (es : List EntityId) → are_deletable a es ≡ are_deletable b es
+pub deletable_alike : (a b : Holdings) → HoldAlike a b → (es : List EntityId) → are_deletable a es ≡ are_deletable b es
 deletable_alike a b x es = λ k. list_all (λ d. (option_eq ◌==◌ (find nat_cmp d.index (x.live k)) (Some d.generation) && is_some (find nat_cmp d.index (x.cells k))) && not (is_built_in d.index)) es && are_apart es
 
 -- after the targets were moved, the dead can be deleted

@@ -11,7 +11,12 @@ pub mod Standing
 pub mod Moving
 pub mod Leaving
 pub mod Planning
+pub mod FactLists
+pub mod Merging
+pub mod FactTables
+pub mod FactSections
 pub mod Scanning
 pub mod Deleting
+pub mod FactPlanning
 pub mod Releases
 pub mod Counting

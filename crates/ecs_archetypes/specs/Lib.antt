@@ -4,5 +4,6 @@ pub mod Archetypes
 pub mod Housing
 pub mod Tables
 pub mod Moves
+pub mod FactChanges
 pub mod Plans
 pub mod Scans

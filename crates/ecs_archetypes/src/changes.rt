@@ -5,7 +5,7 @@ ghost use Rattle.std.specs.List.{list_all};
 ghost use Rattle.ecs_id.specs.Id.{Id, id_cmp};
 ghost use Rattle.ecs_model.specs.Map.{IsMap};
 ghost use Rattle.ecs_archetypes.specs.Archetypes.{known_in};
-ghost use Rattle.ecs_archetypes.specs.Holdings.{HoldAlike, KeepsSizes, agrees, is_settled};
+ghost use Rattle.ecs_archetypes.specs.Holdings.{AreHoldings, HoldAlike, KeepsSizes, agrees, is_settled};
 ghost use Rattle.ecs_archetypes.specs.Housing.{IsHoused, holdings_of};
 ghost use Rattle.ecs_archetypes.specs.Moves.{AreReady, AreTargets, IsPlanned, are_deletable, moves_to, with_all_moved, with_each_moved, with_moved, without_each};
 ghost use Rattle.ecs_archetypes.specs.Tables.{HasGrown, StandAlike, TakesRoom};
@@ -73,6 +73,8 @@ impl<A: Allocator + Copy> Archetypes<A> {
         ensures grown { HasGrown self.old.tables self.new.tables }
         ensures held { HoldAlike (holdings_of self.new) (holdings_of self.old) }
         ensures sizes { KeepsSizes (known_in self.old.tables) ids.now (known_in self.new.tables) }
+        ensures holdings { AreHoldings (holdings_of self.new) }
+        ensures whole { IsHoused self.new }
     {
         let to = self.prepare_beside(ids, plan)?;
         let from = self.table_of(entity).unwrap_or(to);
@@ -88,6 +90,8 @@ impl<A: Allocator + Copy> Archetypes<A> {
         ensures moved { OnOk result (HoldAlike (holdings_of self.new) (with_each_moved targets.now (holdings_of self.old))) }
         ensures refused { OnErr result (HoldAlike (holdings_of self.new) (holdings_of self.old)) }
         ensures goes_on { TablesGoOn self.old.tables self.new.tables }
+        ensures holdings { AreHoldings (holdings_of self.new) }
+        ensures whole { IsHoused self.new }
     {
         let mut plan = Plan::new(alloc);
         for target in targets {
@@ -109,6 +113,8 @@ impl<A: Allocator + Copy> Archetypes<A> {
         ensures changed { OnOk result (HoldAlike (holdings_of self.new) (without_each dead.now (with_each_moved targets.now (holdings_of self.old)))) }
         ensures refused { OnErr result (HoldAlike (holdings_of self.new) (holdings_of self.old)) }
         ensures goes_on { TablesGoOn self.old.tables self.new.tables }
+        ensures holdings { AreHoldings (holdings_of self.new) }
+        ensures whole { IsHoused self.new }
     {
         self.move_each(alloc, targets)?;
         self.delete_each(dead);
@@ -137,6 +143,7 @@ impl<A: Allocator + Copy> Archetypes<A> {
         requires ready { AreReady self.old plan.now }
         ensures held { HoldAlike (holdings_of self.new) (with_all_moved self.old.tables plan.now (holdings_of self.old)) }
         ensures alike { StandAlike self.old.tables self.new.tables }
+        ensures holdings { AreHoldings (holdings_of self.new) }
         ensures whole { IsHoused self.new }
     {
         let moves = plan.moves();

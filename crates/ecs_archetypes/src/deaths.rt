@@ -3,7 +3,7 @@ ghost use Rattle.std.specs.Prelude.{◌≡◌, ◌==◌, not, List, false, IsSom
 ghost use Rattle.std.specs.List.{list_all};
 ghost use Rattle.ecs_id.specs.declared.TableKey.{TableKey};
 ghost use Rattle.ecs_archetypes.specs.declared.plans.Move.{Move};
-ghost use Rattle.ecs_archetypes.specs.Holdings.{HoldAlike, is_settled, without_entity};
+ghost use Rattle.ecs_archetypes.specs.Holdings.{AreHoldings, HoldAlike, is_settled, without_entity};
 ghost use Rattle.ecs_archetypes.specs.Housing.{IsHoused, holdings_of};
 ghost use Rattle.ecs_archetypes.specs.Moves.{AreReady, are_deletable, without_each};
 ghost use Rattle.ecs_archetypes.specs.Scans.{HasMatch, StandApart};
@@ -40,10 +40,13 @@ impl<A: Allocator + Copy> Archetypes<A> {
         requires deletable { IsTrue (are_deletable (holdings_of self.old) dead.now) }
         ensures held { HoldAlike (holdings_of self.new) (without_each dead.now (holdings_of self.old)) }
         ensures alike { StandAlike self.old.tables self.new.tables }
+        ensures holdings { AreHoldings (holdings_of self.new) }
+        ensures whole { IsHoused self.new }
     {
         for entity in dead {
             self.delete_alone(*entity);
         }
+        let _ = &self.entities;
     }
 
     // `delete`, after which the table gives memory back.

@@ -14,6 +14,11 @@
 //! entities.plan(&mut plan, earth, &[position, likes])?;
 //! let moon = entities.create_and_move(&[likes], &plan)?;
 //!
+//! // facts that come and go of several entities, and deaths: all of it or nothing
+//! let mut facts = FactPlan::new(rt.alloc());
+//! let came = [SizedFact::new(FactKey::new(moon.index, position.id()), 8)];
+//! entities.change_facts(&mut facts, &came, &[FactKey::new(earth.index, likes.id())], &[])?;
+//!
 //! // what queries read: the tables that have an id which a pattern matches, with their rows
 //! let any = Pattern { first: Part::Is(65), second: Some(Part::Any) };
 //! for key in entities.graph().tables_of(any) { .. }
@@ -36,6 +41,8 @@ mod births;
 mod changes;
 mod deaths;
 mod entity_facts;
+mod fact_changes;
+mod fact_plan;
 mod facts;
 mod graph;
 mod plans;
@@ -47,6 +54,7 @@ use component_index::ComponentIndex;
 use ecs_id::LAST_INDEX;
 pub use entity_facts::EntityFacts;
 use entity_index::EntityIndex;
+pub use fact_plan::{FactPlan, SizedFact};
 pub use facts::Found;
 pub use graph::Graph;
 pub use plans::{Move, Plan, Target};

@@ -56,6 +56,14 @@ impl<A: Allocator + Copy> Plan<A> {
         }
     }
 
+    /// Lets all moves go. The memory of the list is kept.
+    pub(crate) fn clear(&mut self)
+        ensures { self.new ≡ [] }
+    {
+        self.moves.clear();
+        self.counts.clear();
+    }
+
     /// One move more, at the end.
     pub(crate) fn push(&mut self, one: Move) -> Result<(), Memory>
         ensures pushed { OnOk result (self.new ≡ self.old ++ one ∷ []) }

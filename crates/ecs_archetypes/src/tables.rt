@@ -116,6 +116,53 @@ pub fn narrower<A: Allocator + Copy>(
     Ok(to)
 }
 
+/// The table with one id more than this one, with room for the planned moves to it and for a row more.
+pub fn wider_beside<A: Allocator + Copy>(
+    tables: &mut TableStore<A>,
+    components: &mut ComponentIndex<A>,
+    key: TableKey,
+    id: Id,
+    size: usize,
+    plan: &Plan<A>,
+) -> Result<TableKey, Memory>
+    requires entered { AreEntered tables.old components.old }
+    requires stands { IsSome (table_at tables.old key) }
+    requires small { size ≤ 64 }
+    requires agree { IsTrue (agrees (known_in tables.old) id size) }
+    ensures shape { (f : Shape) → shape_at tables.old key ≡ Some f → IfOk result (λ to. shape_at tables.new to ≡ Some (with_id f id size)) }
+    ensures room { IfOk result (λ to. moves_to to plan.now + 1 ≤ room_at tables.new to) }
+    ensures grown { HasGrown tables.old tables.new }
+    ensures sizes { KeepsSizes (known_in tables.old) ((id, size) ∷ []) (known_in tables.new) }
+    ensures entered { AreEntered tables.new components.new }
+    ensures whole { IsStored tables.new }
+{
+    let to = entered_wider(tables, components, key, id, size)?;
+    tables.reserve(to, plan.rows_with_one_more(to))?;
+    Ok(to)
+}
+
+/// The table with one id less than this one, with room for the planned moves to it and for a row more.
+pub fn narrower_beside<A: Allocator + Copy>(
+    tables: &mut TableStore<A>,
+    components: &mut ComponentIndex<A>,
+    key: TableKey,
+    id: Id,
+    plan: &Plan<A>,
+) -> Result<TableKey, Memory>
+    requires entered { AreEntered tables.old components.old }
+    requires stands { IsSome (table_at tables.old key) }
+    ensures shape { (f : Shape) → shape_at tables.old key ≡ Some f → IfOk result (λ to. shape_at tables.new to ≡ Some (without_id f id)) }
+    ensures room { IfOk result (λ to. moves_to to plan.now + 1 ≤ room_at tables.new to) }
+    ensures grown { HasGrown tables.old tables.new }
+    ensures sizes { KeepsSizes (known_in tables.old) [] (known_in tables.new) }
+    ensures entered { AreEntered tables.new components.new }
+    ensures whole { IsStored tables.new }
+{
+    let to = entered_narrower(tables, components, key, id)?;
+    tables.reserve(to, plan.rows_with_one_more(to))?;
+    Ok(to)
+}
+
 // The table with one id more than this one.
 fn entered_wider<A: Allocator + Copy>(
     tables: &mut TableStore<A>,

@@ -1,0 +1,56 @@
+-- Each entity's move does what its facts ask, and leaves the others.
+use Rattle.std.proofs.Common.{◌≡◌, ◌≤◌, ◌==◌, ◌∙◌, length, subst, sym}
+use Rattle.std.specs.List.{prefix_len}
+use Rattle.ecs_archetypes.specs.Housing.{IsHoused}
+use Rattle.ecs_archetypes.proofs.FactPlanning.{facts_planned, facts_planned_more, facts_planned_none, front_agrees, front_among, front_rises, front_small, front_unheld, these_rise}
+use Rattle.ecs_archetypes.proofs.FactSections.{prefix_within}
+use Rattle.ecs_archetypes.proofs.Archetypes.plan_facts.Goals as goal
+
+pub loop-entity-init : goal.loop-entity-init
+loop-entity-init g c = facts_planned_none c.args.self.now c.args.came.now c.args.went.now (subst IsHoused c.self.view_is c.self.invariant.sound) c.requires.came_ascend c.requires.went_ascend c.requires.settled c.requires.unheld c.requires.small c.requires.agree
+    c.clear.new.self c.clear.ensures
+
+pub split_at-requires : goal.split_at-requires
+split_at-requires g c = subst (λ n. n ≤ length c.loop-entity.came.now) (sym c.count_coming.ensures) (prefix_within (λ e. e.0.0 == c.in-Some.entity) c.loop-entity.came.now)
+
+pub split_at-requires-in-Some : goal.split_at-requires-in-Some
+split_at-requires-in-Some g c = subst (λ n. n ≤ length c.loop-entity.went.now) (sym c.count_going.ensures) (prefix_within (λ k. k.0 == c.in-Some.entity) c.loop-entity.went.now)
+
+pub plan_entity-requires-clause-came_ascend : goal.plan_entity-requires-clause-came_ascend
+plan_entity-requires-clause-came_ascend g c = front_rises c.args.self.now c.loop-entity.self c.args.came.now c.args.went.now c.loop-entity.plan.moves c.loop-entity.came.now c.loop-entity.went.now c.loop-entity.invariant c.in-Some.entity (sym c.first_entity.ensures ∙ c.in-Some.is)
+    c.count_coming.result c.count_going.result c.split_at.result.0.now c.split_at.result.1.now c.split_at-in-Some.result.0.now c.split_at-in-Some.result.1.now c.count_coming.ensures c.count_going.ensures
+    c.split_at.ensures.front c.split_at.ensures.back c.split_at-in-Some.ensures.front c.split_at-in-Some.ensures.back
+
+pub plan_entity-requires-clause-went_ascend : goal.plan_entity-requires-clause-went_ascend
+plan_entity-requires-clause-went_ascend g c = these_rise c.args.self.now c.loop-entity.self c.args.came.now c.args.went.now c.loop-entity.plan.moves c.loop-entity.came.now c.loop-entity.went.now c.loop-entity.invariant c.in-Some.entity (sym c.first_entity.ensures ∙ c.in-Some.is)
+    c.count_coming.result c.count_going.result c.split_at.result.0.now c.split_at.result.1.now c.split_at-in-Some.result.0.now c.split_at-in-Some.result.1.now c.count_coming.ensures c.count_going.ensures
+    c.split_at.ensures.front c.split_at.ensures.back c.split_at-in-Some.ensures.front c.split_at-in-Some.ensures.back
+
+pub plan_entity-requires-clause-unheld : goal.plan_entity-requires-clause-unheld
+plan_entity-requires-clause-unheld g c = front_unheld c.args.self.now c.loop-entity.self c.args.came.now c.args.went.now c.loop-entity.plan.moves c.loop-entity.came.now c.loop-entity.went.now c.loop-entity.invariant c.in-Some.entity (sym c.first_entity.ensures ∙ c.in-Some.is)
+    c.count_coming.result c.count_going.result c.split_at.result.0.now c.split_at.result.1.now c.split_at-in-Some.result.0.now c.split_at-in-Some.result.1.now c.count_coming.ensures c.count_going.ensures
+    c.split_at.ensures.front c.split_at.ensures.back c.split_at-in-Some.ensures.front c.split_at-in-Some.ensures.back
+
+pub plan_entity-requires-clause-small : goal.plan_entity-requires-clause-small
+plan_entity-requires-clause-small g c = front_small c.args.self.now c.loop-entity.self c.args.came.now c.args.went.now c.loop-entity.plan.moves c.loop-entity.came.now c.loop-entity.went.now c.loop-entity.invariant c.in-Some.entity (sym c.first_entity.ensures ∙ c.in-Some.is)
+    c.count_coming.result c.count_going.result c.split_at.result.0.now c.split_at.result.1.now c.split_at-in-Some.result.0.now c.split_at-in-Some.result.1.now c.count_coming.ensures c.count_going.ensures
+    c.split_at.ensures.front c.split_at.ensures.back c.split_at-in-Some.ensures.front c.split_at-in-Some.ensures.back
+
+pub plan_entity-requires-clause-agree : goal.plan_entity-requires-clause-agree
+plan_entity-requires-clause-agree g c = front_agrees c.args.self.now c.loop-entity.self c.args.came.now c.args.went.now c.loop-entity.plan.moves c.loop-entity.came.now c.loop-entity.went.now c.loop-entity.invariant c.in-Some.entity (sym c.first_entity.ensures ∙ c.in-Some.is)
+    c.count_coming.result c.count_going.result c.split_at.result.0.now c.split_at.result.1.now c.split_at-in-Some.result.0.now c.split_at-in-Some.result.1.now c.count_coming.ensures c.count_going.ensures
+    c.split_at.ensures.front c.split_at.ensures.back c.split_at-in-Some.ensures.front c.split_at-in-Some.ensures.back
+
+pub returns-in_err-plan_entity-clause-sizes : goal.returns-in_err-plan_entity-clause-sizes
+returns-in_err-plan_entity-clause-sizes g c = λ test old new. c.plan_entity.ensures.sizes test (c.loop-entity.invariant.sizes test old new) (front_among c.args.self.now c.loop-entity.self c.args.came.now c.args.went.now c.loop-entity.plan.moves c.loop-entity.came.now c.loop-entity.went.now c.loop-entity.invariant c.in-Some.entity (sym c.first_entity.ensures ∙ c.in-Some.is)
+    c.count_coming.result c.count_going.result c.split_at.result.0.now c.split_at.result.1.now c.split_at-in-Some.result.0.now c.split_at-in-Some.result.1.now c.count_coming.ensures c.count_going.ensures
+    c.split_at.ensures.front c.split_at.ensures.back c.split_at-in-Some.ensures.front c.split_at-in-Some.ensures.back test new)
+
+pub loop-entity-preserved : goal.loop-entity-preserved
+loop-entity-preserved g c = facts_planned_more c.args.self.now c.loop-entity.self c.args.came.now c.args.went.now c.loop-entity.plan.moves c.loop-entity.came.now c.loop-entity.went.now c.loop-entity.invariant c.in-Some.entity (sym c.first_entity.ensures ∙ c.in-Some.is)
+    c.count_coming.result c.count_going.result c.split_at.result.0.now c.split_at.result.1.now c.split_at-in-Some.result.0.now c.split_at-in-Some.result.1.now c.count_coming.ensures c.count_going.ensures
+    c.split_at.ensures.front c.split_at.ensures.back c.split_at-in-Some.ensures.front c.split_at-in-Some.ensures.back
+    c.plan_entity.new.self c.plan_entity.new.plan.moves c.in_ok-plan_entity.ensures.planned c.in_ok-plan_entity.ensures.ready c.plan_entity.ensures.held c.plan_entity.ensures.grown c.plan_entity.ensures.sizes c.plan_entity.ensures.whole
+
+pub returns-clause-planned : goal.returns-clause-planned
+returns-clause-planned g c = facts_planned c.args.self.now c.loop-entity.self c.args.came.now c.args.went.now c.loop-entity.plan.moves c.loop-entity.came.now c.loop-entity.went.now c.loop-entity.invariant (sym c.first_entity.ensures ∙ c.in_default.is)

@@ -1,0 +1,48 @@
+-- One fact follows an edge, and more of them make a list of ids.
+use Rattle.std.proofs.Common.{◌≡◌, ◌∙◌, Some, ap, length, subst, sym}
+use Rattle.std.proofs.lemmas.Bool.Decides.{Decides-eqb}
+use Rattle.std.proofs.lemmas.List.{nil_from_length}
+use Rattle.std.specs.Result.{IfOk}
+use Rattle.table_store.specs.Store.{shape_at}
+use Rattle.table_store.specs.Rows.{shape_of_cells}
+use Rattle.ecs_archetypes.specs.Holdings.{held_at}
+use Rattle.ecs_archetypes.specs.FactChanges.{ids_among, is_among}
+use Rattle.ecs_archetypes.specs.Housing.{IsHoused, holdings_of}
+use Rattle.ecs_archetypes.proofs.FactTables.{facts_rise, ids_agree, ids_kept, ids_rise, ids_small, one_comes, one_leaves}
+use Rattle.ecs_archetypes.proofs.Archetypes.table_after.Goals as goal
+
+pub returns-then-came-eq1-clause-shape : goal.returns-then-came-eq1-clause-shape
+returns-then-came-eq1-clause-shape g c =
+    let none = nil_from_length c.args.went.now ((Decides-eqb (length c.args.went.now) 0).0 (sym c.is_empty.ensures ∙ c.if-is_empty.true)) in
+    subst (λ f. IfOk c.wider_beside.result (λ key. shape_at c.wider_beside.new.self.tables key ≡ Some f))
+    (one_comes c.args.came.now c.args.went.now (shape_of_cells (held_at (holdings_of c.args.self.now) c.args.entity.index)) c.id.result c.size.result c.index-came-0.result c.index-came-0-then-came-eq1.result none
+    c.if-came-eq1.true c.index-came-0.is c.index-came-0-then-came-eq1.is (c.id.ensures ∙ ap (λ z. z.1) c.key.ensures) c.size.ensures)
+    (c.wider_beside.ensures.shape (shape_of_cells (held_at (holdings_of c.args.self.now) c.args.entity.index)) c.requires.there)
+
+pub returns-then-went-eq1-clause-shape : goal.returns-then-went-eq1-clause-shape
+returns-then-went-eq1-clause-shape g c =
+    let none = nil_from_length c.args.came.now ((Decides-eqb (length c.args.came.now) 0).0 (sym c.is_empty-2.ensures ∙ c.if-is_empty-2.true)) in
+    subst (λ f. IfOk c.narrower_beside.result (λ key. shape_at c.narrower_beside.new.self.tables key ≡ Some f))
+    (one_leaves c.args.came.now c.args.went.now (shape_of_cells (held_at (holdings_of c.args.self.now) c.args.entity.index)) c.id-then-went-eq1.result c.index-went-0.result none
+    c.if-went-eq1.true c.index-went-0.is c.id-then-went-eq1.ensures)
+    (c.narrower_beside.ensures.shape (shape_of_cells (held_at (holdings_of c.args.self.now) c.args.entity.index)) c.requires.there)
+
+pub merge_ids-requires-clause-held_ascend : goal.merge_ids-requires-clause-held_ascend
+merge_ids-requires-clause-held_ascend g c = facts_rise c.args.self.now (subst IsHoused c.self.view_is c.self.invariant.sound) c.args.entity c.unwrap-facts.result c.requires.settled (sym c.facts.ensures ∙ c.unwrap-facts.ensures)
+
+pub prepare_beside-requires-clause-ascend : goal.prepare_beside-requires-clause-ascend
+prepare_beside-requires-clause-ascend g c = ids_rise c.args.self.now (subst IsHoused c.self.view_is c.self.invariant.sound) c.args.entity c.unwrap-facts.result c.requires.settled (sym c.facts.ensures ∙ c.unwrap-facts.ensures)
+    c.args.from c.requires.there c.args.came.now (is_among (ids_among c.args.went.now)) c.as_slice.result.now (c.as_slice.ensures.value ∙ c.in_ok-merge_ids.ensures)
+
+pub prepare_beside-requires-clause-small : goal.prepare_beside-requires-clause-small
+prepare_beside-requires-clause-small g c = ids_small c.args.self.now (subst IsHoused c.self.view_is c.self.invariant.sound) c.args.entity c.unwrap-facts.result c.requires.settled (sym c.facts.ensures ∙ c.unwrap-facts.ensures)
+    c.args.from c.requires.there c.args.came.now (is_among (ids_among c.args.went.now)) c.as_slice.result.now (c.as_slice.ensures.value ∙ c.in_ok-merge_ids.ensures) c.requires.small
+
+pub prepare_beside-requires-clause-agree : goal.prepare_beside-requires-clause-agree
+prepare_beside-requires-clause-agree g c = ids_agree c.args.self.now (subst IsHoused c.self.view_is c.self.invariant.sound) c.args.entity c.unwrap-facts.result c.requires.settled (sym c.facts.ensures ∙ c.unwrap-facts.ensures)
+    c.args.from c.requires.there c.args.came.now (is_among (ids_among c.args.went.now)) c.as_slice.result.now (c.as_slice.ensures.value ∙ c.in_ok-merge_ids.ensures) c.requires.agree
+
+pub returns-clause-sizes : goal.returns-clause-sizes
+returns-clause-sizes g c = ids_kept c.args.self.now (subst IsHoused c.self.view_is c.self.invariant.sound) c.args.entity c.unwrap-facts.result c.requires.settled (sym c.facts.ensures ∙ c.unwrap-facts.ensures)
+    c.args.from c.requires.there c.args.came.now (is_among (ids_among c.args.went.now)) c.as_slice.result.now (c.as_slice.ensures.value ∙ c.in_ok-merge_ids.ensures)
+    c.prepare_beside.new.self.tables c.prepare_beside.ensures.sizes
