@@ -12,7 +12,7 @@ pub(crate) fn copy_of_names<A: Allocator + Copy>(
 ) -> Result<Vec<Vec<u8, A>, A>, AllocError>
     ensures { IfOk result (λ copy. map (λ n. n.items) copy.items ≡ map (λ n. n.items) names.now) }
 {
-    let mut copy = Vec::new(alloc);
+    let mut copy = Vec::with_capacity(alloc, names.len())?;
     for name in names {
         copy.push(Vec::from_slice(alloc, name.as_slice())?)?;
     }
@@ -25,7 +25,7 @@ pub(crate) fn copy_of_pieces<A: Allocator + Copy>(
 ) -> Result<Vec<Piece<A>, A>, AllocError>
     ensures { IfOk result (λ copy. map seen_piece copy.items ≡ map seen_piece pieces.now) }
 {
-    let mut copy = Vec::new(alloc);
+    let mut copy = Vec::with_capacity(alloc, pieces.len())?;
     for piece in pieces {
         copy.push(copy_of_piece(alloc, piece)?)?;
     }
