@@ -80,6 +80,42 @@ fn terms_are_scanned_in_either_order(rt: HostRuntime) -> Result<(), Fail> {
     Ok(())
 }
 
+/// The steps of the planner's plan, where an item has a list of so many tables.
+fn planned(alloc: Global, text: &str, lists: &[usize], steps: &[Step]) -> Result<bool, Fail> {
+    let query = ask(alloc, text)?;
+    let plan = Plan::of_lists(alloc, &query, lists)?;
+    Ok(plan.steps() == steps)
+}
+
+#[test]
+fn the_shortest_list_comes_first(rt: HostRuntime) -> Result<(), Fail> {
+    let alloc = rt.alloc();
+    let text = "(ChildOf,$p), Planet($p)";
+    assert!(rt; planned(alloc, text, &[5, 1], &[Scan(1), Scan(0)])?);
+    assert!(rt; planned(alloc, text, &[1, 5], &[Scan(0), Check(1)])?);
+    assert!(rt; planned(alloc, text, &[1, 1], &[Scan(0), Check(1)])?);
+    let text = "!(Likes,$x), (ChildOf,$x)";
+    assert!(rt;
+        planned(
+            alloc,
+            text,
+            &[0, 1, 2],
+            &[Scan(2), Open(0), Check(1), Close]
+        )?
+    );
+    assert!(rt; planned(alloc, "IsA(D,$x)", &[7], &[Above(0)])?);
+    assert!(rt;
+        planned(
+            alloc,
+            "!Planet",
+            &[0, 0],
+            &[Each(0), Open(0), Check(1), Close]
+        )?
+    );
+    assert!(rt; planned(alloc, "Planet, Planet", &[1, 1], &[Scan(0), Check(1)])?);
+    Ok(())
+}
+
 #[test]
 fn a_plan_owns_what_it_tells(rt: HostRuntime) -> Result<(), Fail> {
     let alloc = rt.alloc();
