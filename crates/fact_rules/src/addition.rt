@@ -1,5 +1,5 @@
 //! What comes and goes with an added fact.
-ghost use Rattle.std.specs.Prelude.{◌≡◌, ◌≤◌, All, Contains, OnOk, filter, not};
+ghost use Rattle.std.specs.Prelude.{◌≡◌, ◌≤◌, [], All, Contains, OnOk, filter, not};
 ghost use Rattle.ecs_id.specs.Id.{mentioned};
 ghost use Rattle.ecs_model.specs.World.{WorldState};
 ghost use Rattle.rel_traits.specs.FactLists.{IsOfLive, is_fact as is_fact_of};
@@ -24,7 +24,11 @@ pub struct Additions<A: Allocator = Global> {
 
 impl<A: Allocator + Copy> Additions<A> {
     /// Empty lists, which take no memory.
-    pub fn new(alloc: A) -> Additions<A> {
+    pub fn new(alloc: A) -> Additions<A>
+        ensures added { result.added.items ≡ [] }
+        ensures came { result.came.items ≡ [] }
+        ensures went { result.went.items ≡ [] }
+    {
         Additions {
             added: Vec::new(alloc),
             came: Vec::new(alloc),

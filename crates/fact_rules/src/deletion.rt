@@ -1,5 +1,5 @@
 //! What goes with deleted entities.
-ghost use Rattle.std.specs.Prelude.{◌≡◌, ◌↔◌, ◌++◌, ◌≤◌, ◌<◌, ℕ, All, Contains, OnOk, filter, flat_map, map};
+ghost use Rattle.std.specs.Prelude.{◌≡◌, ◌↔◌, ◌++◌, ◌≤◌, ◌<◌, [], ℕ, All, Contains, OnOk, filter, flat_map, map};
 ghost use Rattle.std.specs.List.Sorted.{IsStrictlySortedBy};
 ghost use Rattle.std.specs.Ordering.{nat_cmp};
 ghost use Rattle.ecs_id.specs.Id.{mentioned};
@@ -27,7 +27,11 @@ pub struct Deletion<A: Allocator = Global> {
 
 impl<A: Allocator + Copy> Deletion<A> {
     /// Empty lists, which take no memory.
-    pub fn new(alloc: A) -> Deletion<A> {
+    pub fn new(alloc: A) -> Deletion<A>
+        ensures dead { result.dead.items ≡ [] }
+        ensures lost { result.lost.items ≡ [] }
+        ensures went { result.went.items ≡ [] }
+    {
         Deletion {
             dead: Vec::new(alloc),
             lost: Vec::new(alloc),
