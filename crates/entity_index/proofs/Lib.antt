@@ -10,3 +10,4 @@ pub mod NextEntity
 pub mod Created
 pub mod Deleted
 pub mod NextLaws
+pub mod Tops

@@ -1,2 +1,3 @@
 pub mod Entities
 pub mod Slots
+pub mod Sizes

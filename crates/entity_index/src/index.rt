@@ -37,16 +37,9 @@ impl From<AllocError> for CreateError {
     }
 }
 
-/// The entities that live, their generations, and where their rows stand.
-///
-/// The indexes 1 to 22 are those of the built-in entities, which always live. New entities get indexes from 64 on, always the
-/// smallest that is free. An index whose generation 65,535 was deleted is never given out again. (That a stale id is not alive
-/// is as in Flecs; which index comes next is this profile's own rule.)
-///
-/// But for growth, `create` and `delete` take logarithmic time in the number of free indexes and the other calls constant time;
-/// the iterator passes each index that was used. Only `new` and `create` take memory, which grows with the greatest index used.
+/// The entities that live, their generations, and where their rows stand: see `EntityIndex`.
 #[derive(Drop)]
-pub struct EntityIndex<A: Allocator = Global> {
+pub struct SlotIndex<A: Allocator = Global> {
     // by index, up to the greatest that was used
     slots: Vec<Slot, A>,
     // by index too, apart from the slots so that these stay small
@@ -56,7 +49,7 @@ pub struct EntityIndex<A: Allocator = Global> {
     last: u32,
 }
 
-impl<A: Allocator> Model for EntityIndex<A> {
+impl<A: Allocator> Model for SlotIndex<A> {
     ghost use Rattle.entity_index.specs.Entities.{Entities};
 
     ghost Value = { Entities };
@@ -68,7 +61,7 @@ impl<A: Allocator> Model for EntityIndex<A> {
     ghost invariant = { λ x. IsSound x.slots.items x.places.items x.free x.last };
 }
 
-impl<A: Allocator + Copy> EntityIndex<A> {
+impl<A: Allocator + Copy> SlotIndex<A> {
     /// An index of the built-in entities alone, which gives out indexes from 64 to `last`, which is at most 16,777,215.
     pub fn new(alloc: A, last: u32) -> Result<Self, AllocError>
         requires least { first_index ≤ last }
@@ -79,7 +72,7 @@ impl<A: Allocator + Copy> EntityIndex<A> {
         let slots = first_slots(alloc)?;
         let places = first_places(alloc)?;
         let free = BinaryHeap::with_capacity(alloc, FIRST_INDEX as usize)?;
-        Ok(EntityIndex {
+        Ok(SlotIndex {
             slots,
             places,
             free,
@@ -88,7 +81,7 @@ impl<A: Allocator + Copy> EntityIndex<A> {
     }
 }
 
-impl<A: Allocator> EntityIndex<A> {
+impl<A: Allocator> SlotIndex<A> {
     /// Makes a new entity at the smallest index of 64 or more that is neither live nor retired.
     ///
     /// It makes room for the place and for the later `delete`. After an error the index is as it was.

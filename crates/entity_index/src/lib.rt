@@ -4,7 +4,9 @@
 mod index;
 mod live;
 mod packed;
+mod sized;
 mod slot;
 
-pub use index::{CreateError, EntityIndex};
+pub use index::CreateError;
 pub use live::Live;
+pub use sized::EntityIndex;

@@ -6,7 +6,7 @@ use Rattle.entity_index.proofs.EntryLists.{Changes-set}
 use Rattle.entity_index.proofs.Meanings.{meaning-placed}
 use Rattle.entity_index.proofs.Readings.{alive_within, alive_is_live}
 use Rattle.entity_index.proofs.Soundness.{IsSound-place, IsWellFormed-sound}
-use Rattle.entity_index.proofs.index.EntityIndex.set_place.Goals as goal
+use Rattle.entity_index.proofs.index.SlotIndex.set_place.Goals as goal
 
 pub index_mut-requires : goal.index_mut-requires
 index_mut-requires g c =

@@ -2,7 +2,7 @@
 use Rattle.std.proofs.Common.{arith}
 use Rattle.entity_index.proofs.FirstSlots.{meaning-first, IsSound-first}
 use Rattle.entity_index.proofs.Soundness.{IsWellFormed-sound}
-use Rattle.entity_index.proofs.index.EntityIndex.new.Goals as goal
+use Rattle.entity_index.proofs.index.SlotIndex.new.Goals as goal
 
 pub invariant_of-result : goal.invariant_of-result
 invariant_of-result g c =

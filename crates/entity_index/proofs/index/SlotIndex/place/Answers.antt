@@ -4,7 +4,7 @@ use Rattle.std.proofs.lemmas.List.{get_or_default}
 use Rattle.entity_index.specs.Entities.{is_alive}
 use Rattle.entity_index.specs.Slots.{meaning}
 use Rattle.entity_index.proofs.Readings.{alive_within, place_at_slot}
-use Rattle.entity_index.proofs.index.EntityIndex.place.Goals as goal
+use Rattle.entity_index.proofs.index.SlotIndex.place.Goals as goal
 
 pub index-requires : goal.index-requires
 index-requires g c =

@@ -2,7 +2,7 @@
 use Rattle.std.proofs.Common.{refl, ◌∙◌}
 use Rattle.entity_index.specs.Slots.{unused}
 use Rattle.entity_index.proofs.Readings.{slot_read, slot_missed, entity_live, entity_dead}
-use Rattle.entity_index.proofs.index.EntityIndex.at.Goals as goal
+use Rattle.entity_index.proofs.index.SlotIndex.at.Goals as goal
 
 pub returns-in_err-slot : goal.returns-in_err-slot
 returns-in_err-slot g c =

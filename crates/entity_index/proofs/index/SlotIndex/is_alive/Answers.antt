@@ -3,7 +3,7 @@ use Rattle.std.proofs.Common.{sym, ◌∙◌, ap, eqb, ◌&&◌}
 use Rattle.entity_index.specs.Slots.{unused}
 use Rattle.entity_index.proofs.Readings.{slot_read, slot_missed, alive_at_slot}
 use Rattle.entity_index.proofs.Soundness.{IsWellFormed-sound}
-use Rattle.entity_index.proofs.index.EntityIndex.is_alive.Goals as goal
+use Rattle.entity_index.proofs.index.SlotIndex.is_alive.Goals as goal
 
 pub returns-then-slot-clause-answer : goal.returns-then-slot-clause-answer
 returns-then-slot-clause-answer g c =

@@ -7,7 +7,7 @@ use Rattle.entity_index.specs.Slots.{meaning}
 use Rattle.entity_index.proofs.Created.{popped_fits, popped_next, popped_born, popped_sound, fresh_next, fresh_none, fresh_born, fresh_well, refused_well, no_place_after, full_is_none, ok_is_some, memory_is_some, push_failed, push_done}
 use Rattle.entity_index.proofs.NextLaws.{IsNext-from_next, full_where_none}
 use Rattle.entity_index.proofs.Soundness.{IsWellFormed-sound}
-use Rattle.entity_index.proofs.index.EntityIndex.create.Goals as goal
+use Rattle.entity_index.proofs.index.SlotIndex.create.Goals as goal
 
 pub overflow_cast-generation : goal.overflow_cast-generation
 overflow_cast-generation g c = omega (arith, popped_fits c.self.inside.slots.items c.self.inside.places.items c.self.inside.free c.pop.new.self c.self.inside.last c.self.invariant c.in-Some.field-0 c.in-Some.ensures.permutation c.in-Some.ensures.heap_order c.index_mut-slot.result.now c.index_mut-slot.ensures.value)
