@@ -18,5 +18,6 @@ pub mod FactSections
 pub mod Scanning
 pub mod Deleting
 pub mod FactPlanning
+pub mod FactReads
 pub mod Releases
 pub mod Counting

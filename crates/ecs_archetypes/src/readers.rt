@@ -3,6 +3,7 @@ ghost use Rattle.std.specs.Prelude.{◌≡◌, None, option_map, if◌then◌els
 ghost use Rattle.std.specs.Option.{option_copied};
 ghost use Rattle.ecs_model.specs.Map.{keys};
 ghost use Rattle.entity_index.specs.Entities.{place_of};
+ghost use Rattle.entity_index.specs.Sizes.{live_size};
 ghost use Rattle.ecs_archetypes.specs.Holdings.{AreHoldings, bytes_at, cells_at, entity_at, live_entities, lives, upcoming};
 ghost use Rattle.ecs_archetypes.specs.Housing.{IsHoused, holdings_of};
 
@@ -80,6 +81,13 @@ impl<A: Allocator> Archetypes<A> {
         ensures { result ≡ live_entities (holdings_of self.now) }
     {
         self.entities.live()
+    }
+
+    /// The greatest live index plus 1.
+    pub fn size(&self) -> u32
+        ensures { result ≡ live_size (holdings_of self.now).live }
+    {
+        self.entities.size()
     }
 
     /// What queries and traversal read.
