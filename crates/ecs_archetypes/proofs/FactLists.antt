@@ -1,20 +1,18 @@
 -- Lists of facts that ascend, and the ids of an entity after some have come and gone.
-use Rattle.std.proofs.Common.{◌≡◌, ◌≢◌, ℕ, zero, suc, ◌+◌, ◌<◌, ◌≤◌, ◌==◌, Bool, true, false, true≢false, cond, not, ◌&&◌, ◌||◌, List, [], ◌∷◌, ◌++◌, map, length, take, drop, replicate, Option, Some, None, is_some, option_map, unwrap_or, refl, sym, ap, subst, ◌∙◌, arith, append_assoc}
+use Rattle.std.proofs.Common.{◌≡◌, ◌≢◌, ℕ, Bool, true, false, true≢false, cond, not, ◌&&◌, ◌||◌, List, [], ◌∷◌, map, refl, sym, ap, ◌∙◌}
 use Rattle.std.specs.Prelude.{fold}
-use Rattle.std.specs.List.{AllByRecursion, filter, list_all, list_any, prefix_len}
+use Rattle.std.specs.List.{AllByRecursion, filter, list_all}
 use Rattle.std.specs.List.Sorted.{IsStrictlySortedBy}
-use Rattle.std.specs.Ordering.{eq_by_cmp, is_eq, is_lt, ordering_reverse}
+use Rattle.std.specs.Ordering.{is_eq, is_lt, ordering_reverse}
 use Rattle.std.specs.declared.cmp.Ordering.{Ordering}
 use Rattle.std.specs.declared.cmp.Ordering.TheVariants.{Less, Equal, Greater}
-use Rattle.std.specs.FinMap.Entries.{find, put, is_sorted, below_all, by_order, is_sorted-put, is_sorted-where_key}
-use Rattle.ecs_id.specs.Id.{Id, id_cmp, id_cmp_same, id_cmp_total, id_eq, id_eq_itself, id_eq_same}
-use Rattle.ecs_model.proofs.Maps.{both_true, from_T, to_T}
-use Rattle.table_store.specs.Rows.{Cells, carried, shape_of_cells}
+use Rattle.std.specs.FinMap.Entries.{put, is_sorted, below_all, by_order}
+use Rattle.ecs_id.specs.Id.{Id, id_cmp, id_cmp_total, id_eq, id_eq_itself, id_eq_same}
+use Rattle.ecs_model.proofs.Maps.{both_true}
 use Rattle.table_store.specs.Store.{Shape}
-use Rattle.ecs_archetypes.specs.FactChanges.{begins_before, begins_with, changed_cells, changed_shape, is_among}
+use Rattle.ecs_archetypes.specs.FactChanges.{begins_before, begins_with, changed_shape, is_among}
 use Rattle.ecs_archetypes.specs.Holdings.{Sizes}
-use Rattle.ecs_archetypes.proofs.Carried.{carried_self}
-use Rattle.ecs_archetypes.proofs.MapLists.{both, list_all_filter, list_all_put}
+use Rattle.ecs_archetypes.proofs.MapLists.{both}
 
 -- an order read from its two sides
 turned : (x y : Id) → id_cmp x y ≡ Less → id_cmp y x ≡ Greater

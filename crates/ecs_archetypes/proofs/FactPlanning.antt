@@ -1,9 +1,8 @@
 -- Facts that come and go, planned one entity after another.
-use Rattle.std.proofs.Common.{◌≡◌, ℕ, zero, suc, ◌+◌, ◌<◌, ◌≤◌, ◌==◌, Bool, true, false, true≢false, cond, not, ◌&&◌, ◌||◌, List, [], ◌∷◌, ◌++◌, map, length, take, drop, Option, Some, None, is_some, option_map, unwrap_or, refl, sym, ap, subst, ◌∙◌, arith}
+use Rattle.std.proofs.Common.{◌≡◌, ℕ, ◌+◌, ◌<◌, ◌≤◌, ◌==◌, Bool, true, false, true≢false, cond, not, ◌&&◌, ◌||◌, List, [], ◌∷◌, ◌++◌, map, length, take, drop, Option, Some, None, is_some, option_map, unwrap_or, refl, sym, ap, subst, ◌∙◌, arith}
 use Rattle.std.specs.Prelude.{nat_le, nat_lt}
 use Rattle.std.specs.List.{filter, list_all, prefix_len}
 use Rattle.std.specs.List.Sorted.{IsStrictlySortedBy}
-use Rattle.std.specs.Option.{option_eq}
 use Rattle.std.specs.Cmp.{nat_cmp_total}
 use Rattle.std.specs.Ordering.{eq_by_cmp, nat_cmp}
 use Rattle.std.specs.FinMap.{nat_cmp-IsAntisymmetric}
@@ -20,7 +19,7 @@ use Rattle.ecs_model.proofs.Maps.{both_true, from_T, of_some, to_T}
 use Rattle.table_store.specs.Rows.{Cells, carried, shape_of_cells}
 use Rattle.table_store.specs.Store.{Shape, Store, room_at, shape_at}
 use Rattle.ecs_archetypes.specs.declared.plans.Move.{Move}
-use Rattle.ecs_archetypes.specs.Archetypes.{IsSound, known_in, meaning}
+use Rattle.ecs_archetypes.specs.Archetypes.{known_in}
 use Rattle.ecs_archetypes.specs.FactChanges.{Coming, changed_cells, changed_shape, coming_to, first_entity, goes_from, ids_among, ids_coming, is_among, with_facts_changed}
 use Rattle.ecs_archetypes.specs.Holdings.{AreHoldings, HoldAlike, Holdings, KeepsSizes, agrees, cells_at, held_at, holds_id, is_settled, lives, sizes_of, with_cells}
 use Rattle.ecs_archetypes.specs.Housing.{Housing, IsHoused, holdings_of}

@@ -1,9 +1,8 @@
 -- The shape of an entity's table after facts of it have come and gone.
-use Rattle.std.proofs.Common.{◌≡◌, ℕ, ◌+◌, ◌<◌, ◌≤◌, Bool, true, false, cond, not, ◌&&◌, ◌||◌, List, [], ◌∷◌, ◌++◌, map, length, get_or, replicate, Option, Some, None, is_some, option_map, unwrap_or, refl, sym, ap, subst, ◌∙◌, arith}
+use Rattle.std.proofs.Common.{◌≡◌, ℕ, Bool, true, false, cond, not, ◌||◌, List, [], ◌∷◌, length, get_or, replicate, Option, Some, None, is_some, option_map, unwrap_or, refl, sym, ap, subst, ◌∙◌, arith}
 use Rattle.std.specs.Prelude.{fold, nat_le}
 use Rattle.std.specs.List.{filter, list_all}
-use Rattle.std.specs.Option.{IsSome}
-use Rattle.std.specs.Ordering.{nat_cmp, is_eq}
+use Rattle.std.specs.Ordering.{nat_cmp}
 use Rattle.std.specs.declared.cmp.Ordering.{Ordering}
 use Rattle.std.specs.declared.cmp.Ordering.TheVariants.{Less, Equal, Greater}
 use Rattle.std.specs.FinMap.Entries.{find, put, is_sorted, by_order, is_sorted-put, is_sorted-where_key}
@@ -14,13 +13,13 @@ use Rattle.ecs_id.specs.Id.{Id, id_cmp, id_cmp_same, id_cmp_total, id_eq}
 use Rattle.ecs_model.specs.World.{Key}
 use Rattle.ecs_model.proofs.Maps.{both_true, from_T, of_some, some_of, to_T}
 use Rattle.entity_index.specs.Entities.{Entities, entity_at, place_of}
-use Rattle.table_store.specs.Rows.{Cells, carried, row_at, shape_of_cells}
+use Rattle.table_store.specs.Rows.{Cells, carried, shape_of_cells}
 use Rattle.table_store.specs.Store.{Shape, Store, shape_at, with_id, without_id}
 use Rattle.ecs_archetypes.specs.Archetypes.{IsSound, known_in, meaning}
 use Rattle.ecs_archetypes.specs.FactChanges.{Coming, changed_cells, changed_shape, ids_among, ids_coming, is_among}
 use Rattle.ecs_archetypes.specs.Holdings.{AreHoldings, Holdings, KeepsSizes, Sizes, agrees, cells_at, held_at, is_settled, lives, sizes_of}
 use Rattle.ecs_archetypes.specs.Housing.{Housing, IsHoused, holdings_of}
-use Rattle.ecs_archetypes.proofs.ArchetypeCalls.{found_lives, found_settled}
+use Rattle.ecs_archetypes.proofs.ArchetypeCalls.{found_settled}
 use Rattle.ecs_archetypes.proofs.Carried.{carried_self}
 use Rattle.ecs_archetypes.proofs.FactLists.{put_size}
 use Rattle.ecs_archetypes.proofs.Known.{of_shape}

@@ -28,7 +28,8 @@ use std::alloc::Allocator;
 impl<A: Allocator + Copy> Archetypes<A> {
     /// Takes the facts that went, brings those that came, with zeros as their values, and then deletes the dead; or does nothing of it.
     ///
-    /// Both lists ascend by entity, then by id. Each entity moves once. What the plan had is let go.
+    /// Both lists ascend by entity, then by id, and no fact comes that is held. Each entity moves once. What the plan had is let go.
+    /// `Memory` where a growth is refused: each entity then holds what it held, and a table that was made on the way may stay.
     pub fn change_facts(
         &mut self,
         plan: &mut FactPlan<A>,

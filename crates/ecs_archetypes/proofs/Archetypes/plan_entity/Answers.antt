@@ -1,6 +1,6 @@
 -- The entity stands in a table, and the next one has room for its move and for all that were planned before.
-use Rattle.std.proofs.Common.{◌≡◌, ◌≤◌, ◌+◌, ◌++◌, ◌∷◌, [], ◌∙◌, Some, ap, refl, subst, sym}
-use Rattle.std.specs.Option.{IsSome, is_some}
+use Rattle.std.proofs.Common.{◌≡◌, ◌≤◌, ◌+◌, ◌++◌, ◌∷◌, [], ◌∙◌, Some, ap, subst, sym}
+use Rattle.std.specs.Option.{is_some}
 use Rattle.table_store.specs.Store.{room_at, shape_at}
 use Rattle.table_store.specs.Rows.{shape_of_cells}
 use Rattle.ecs_archetypes.specs.declared.plans.Move.{Move}

@@ -1,6 +1,5 @@
 -- Each entity's move does what its facts ask, and leaves the others.
-use Rattle.std.proofs.Common.{◌≡◌, ◌≤◌, ◌==◌, ◌∙◌, length, subst, sym}
-use Rattle.std.specs.List.{prefix_len}
+use Rattle.std.proofs.Common.{◌≤◌, ◌==◌, ◌∙◌, length, subst, sym}
 use Rattle.ecs_archetypes.specs.Housing.{IsHoused}
 use Rattle.ecs_archetypes.proofs.FactPlanning.{facts_planned, facts_planned_more, facts_planned_none, front_agrees, front_among, front_rises, front_small, front_unheld, these_rise}
 use Rattle.ecs_archetypes.proofs.FactSections.{prefix_within}
