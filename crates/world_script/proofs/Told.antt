@@ -6,9 +6,10 @@ use Rattle.std.proofs.lemmas.Grind.{common_steps}
 use Rattle.std.proofs.Math.Seq.{take-add}
 use Rattle.std.proofs.KnownBytes.{Consumes-trans, Appends-trans}
 use Rattle.std.specs.Io.KnownBytes.{Consumes, Appends}
-use Rattle.world_script.specs.declared.streams.Calls.{Calls}
-use Rattle.world_script.specs.Streams.{IsStopped, StopsBetween, after_write}
-use Rattle.world_script.specs.Whole.{most_bytes, IsTooLong}
+use Rattle.script_streams.specs.declared.streams.Calls.{Calls}
+use Rattle.script_streams.specs.Streams.{IsStopped, StopsBetween, after_write}
+use Rattle.script_streams.specs.Lines.{most_bytes}
+use Rattle.world_script.specs.Whole.{IsTooLong}
 
 -- a call that gave nothing
 pub Consumes-none_more : (a b c : Option (List ℕ)) (read piece : List ℕ) (n : ℕ) → n ≡ 0 → Consumes a b read → Consumes b c (take n piece) → Consumes a c read
@@ -27,13 +28,6 @@ IsTooLong-consumed (Some x) (Some z) bytes more h = omega (arith, ap length h, l
 pub IsTooLong-read : (a b c : Option (List ℕ)) (read piece : List ℕ) (n : ℕ) → Consumes a b read → Consumes b c (take n piece) → n ≤ length piece → most_bytes < length read + n → IsTooLong a
 IsTooLong-read a b c read piece n first second fits more =
     IsTooLong-consumed a c (read ++ take n piece) (omega (arith, length-append read (take n piece), length-take-le n piece fits)) (Consumes-trans a b c read (take n piece) first second)
-
--- a call that took a front of what was left
-pub Appends-more : (a b c : Option (List ℕ)) (bytes : List ℕ) (at n : ℕ) → Appends a b (take at bytes) → Appends b c (take n (take (length bytes - at) (drop at bytes))) → Appends a c (take (at + n) bytes)
-Appends-more a b c bytes at n first second =
-    let P : List ℕ → Type 0 = λ l. Appends a c l in
-    let Q : List ℕ → Type 0 = λ l. Appends b c (take n l) in
-    subst P (sym (take-add at n bytes)) (Appends-trans a b c (take at bytes) (take n (drop at bytes)) first (subst Q (take_rest bytes at) second))
 
 -- where no call has failed yet
 pub calm_at : (a : Calls) → ¬ StopsBetween a a

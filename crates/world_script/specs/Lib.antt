@@ -1,5 +1,3 @@
-pub mod Streams
 pub mod Whole
 pub mod Run
 pub mod Told
-pub mod Turns

@@ -1,12 +1,10 @@
 -- A whole script, and a whole output.
-use Rattle.std.specs.Prelude.{◌≡◌, ℕ, ◌<◌, ◌≤◌, List, length, take, Option, IfSome}
+use Rattle.std.specs.Prelude.{◌≡◌, ℕ, ◌<◌, ◌≤◌, List, length, Option, IfSome}
 use Rattle.std.specs.Io.KnownBytes.{Appends}
 use Rattle.ecs_model.specs.Output.{output_of, count_of}
+use Rattle.script_streams.specs.Lines.{most_bytes}
+use Rattle.script_streams.specs.Streams.{TakesFront}
 use Rattle.world_script.specs.declared.lines.Summary.{Summary}
-
--- a script has at most so many bytes
-abbrev pub most_bytes : ℕ
-most_bytes = 16777216
 
 -- the bytes, where they are told, are no more than a script may have
 abbrev pub FitsScript : Option (List ℕ) → Type 0
@@ -16,17 +14,13 @@ FitsScript told = IfSome told (λ bytes. length bytes ≤ most_bytes)
 abbrev pub IsTooLong : Option (List ℕ) → Type 0
 IsTooLong told = IfSome told (λ bytes. most_bytes < length bytes)
 
--- what has been taken grew by a front of the bytes
-abbrev pub AppendsFront : Option (List ℕ) → Option (List ℕ) → List ℕ → Type 0
-AppendsFront old new bytes = (n : ℕ) × (n ≤ length bytes) × Appends old new (take n bytes)
-
 -- what the writer holds grew by the output of the script
 abbrev pub IsOutput : Option (List ℕ) → Option (List ℕ) → Option (List ℕ) → Type 0
 IsOutput told old new = IfSome told (λ script. Appends old new (output_of script))
 
 -- what the writer holds grew by a front of the output of the script
 abbrev pub IsFrontOfOutput : Option (List ℕ) → Option (List ℕ) → Option (List ℕ) → Type 0
-IsFrontOfOutput told old new = IfSome told (λ script. AppendsFront old new (output_of script))
+IsFrontOfOutput told old new = IfSome told (λ script. TakesFront old new (output_of script))
 
 -- the lines of the script, and those of them that are refused, are counted
 abbrev pub IsCount : Option (List ℕ) → Summary → Type 0

@@ -8,16 +8,10 @@ mod reading;
 mod runs;
 mod sessions;
 mod showing;
-mod std_streams;
-mod streams;
-mod tapes;
 mod telling;
 mod writing;
 
 pub use errors::RunError;
 pub use lines::Summary;
-pub use reading::MOST_BYTES;
 pub use runs::run;
-pub use std_streams::{FromRead, ToWrite};
-pub use streams::{Calls, Sink, Source, Stop};
-pub use tapes::{Tape, Turn};
+pub use script_streams::{Calls, FromRead, MOST_BYTES, Sink, Source, Stop, Tape, ToWrite, Turn};

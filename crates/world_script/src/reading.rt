@@ -1,15 +1,13 @@
 //! Reading a whole script.
 ghost use Rattle.std.specs.Prelude.{◌≡◌, ℕ, ◌<◌, ◌≤◌, ◌++◌, take, length, vec_len, Ok, IfOk, OnOk, IfErr, Err};
 ghost use Rattle.std.specs.Io.KnownBytes.{Consumes, Keeps, IsAtEnd};
-ghost use Rattle.world_script.specs.Streams.{IsStopped, StopsBetween};
-ghost use Rattle.world_script.specs.Whole.{most_bytes, IsTooLong};
+ghost use Rattle.script_streams.specs.Streams.{IsStopped, StopsBetween};
+ghost use Rattle.script_streams.specs.Lines.{most_bytes};
+ghost use Rattle.world_script.specs.Whole.{IsTooLong};
 
 use crate::errors::RunError;
-use crate::streams::Source;
+use script_streams::{MOST_BYTES, Source};
 use std::alloc::Allocator;
-
-/// A script has at most so many bytes.
-pub const MOST_BYTES: usize = 16_777_216;
 
 /// So many bytes are asked for at once.
 const PIECE: usize = 65_536;

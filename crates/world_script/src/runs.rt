@@ -2,13 +2,13 @@
 ghost use Rattle.std.specs.Prelude.{◌≡◌, IfOk, OnOk, Err};
 ghost use Rattle.std.specs.Io.KnownBytes.{IsAtEnd};
 ghost use Rattle.ecs_model.specs.World.{first_world};
-ghost use Rattle.world_script.specs.Streams.{IsStopped, StopsBetween};
+ghost use Rattle.script_streams.specs.Streams.{IsStopped, StopsBetween};
 ghost use Rattle.world_script.specs.Whole.{FitsScript, IsTooLong, IsOutput, IsFrontOfOutput, IsCount};
 
 use crate::errors::RunError;
 use crate::lines::{Summary, run_lines};
 use crate::reading::read_script;
-use crate::streams::{Sink, Source};
+use script_streams::{Sink, Source};
 use crate::writing::write_all;
 use ecs_world::World;
 use std::alloc::Allocator;

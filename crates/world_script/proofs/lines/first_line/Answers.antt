@@ -2,7 +2,9 @@ use Rattle.std.proofs.Common.{◌+◌, take, drop, sym, ◌∙◌, ap, arith}
 use Rattle.std.proofs.lemmas.List.{take_all, take_rest}
 use Rattle.std.specs.Prelude.{length}
 use Rattle.ecs_model.specs.Script.{lines_of}
-use Rattle.world_script.proofs.FirstLine.{lines_of-line, lines_of-last, HasNoEnd, HasNoEnd-before, parts_round}
+use Rattle.script_streams.specs.Lines.{HasNoEnd}
+use Rattle.script_streams.proofs.Ends.{HasNoEnd-before, parts_round}
+use Rattle.world_script.proofs.FirstLine.{lines_of-line, lines_of-last}
 use Rattle.world_script.proofs.lines.first_line.Goals as goal
 
 pub returns-in-Some-clause-lines : goal.returns-in-Some-clause-lines

@@ -1,7 +1,7 @@
 use Rattle.std.proofs.Common.{◌+◌, ◌-◌, ◌<◌, ◌≤◌, vec_len}
 use Rattle.std.specs.Io.KnownBytes.{Consumes}
-use Rattle.world_script.specs.Streams.{StopsBetween}
-use Rattle.world_script.specs.Whole.{most_bytes}
+use Rattle.script_streams.specs.Streams.{StopsBetween}
+use Rattle.script_streams.specs.Lines.{most_bytes}
 use Rattle.world_script.proofs.reading.read_script.Given as goal
 
 abbrev pub invariant-loop-script : goal.invariant-loop-script

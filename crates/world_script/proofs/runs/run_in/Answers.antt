@@ -1,6 +1,6 @@
 use Rattle.std.proofs.Common.{List, ℕ, ap, subst}
 use Rattle.world_script.specs.Told.{session_of}
-use Rattle.world_script.specs.Whole.{AppendsFront}
+use Rattle.script_streams.specs.Streams.{TakesFront}
 use Rattle.world_script.proofs.Outcome.{IfSome-read, printed_whole, counted_whole}
 use Rattle.world_script.proofs.runs.run_in.Goals as goal
 
@@ -22,5 +22,5 @@ returns-in_err-write_all-clause-front g c = λ _.
     let script = c.in_ok-script.script.items in
     let lines = c.in_ok-summary.ensures in
     let written = printed_whole _ script _ _ _ _ (ap session_of c.requires) c.as_slice.ensures.value c.new-output.ensures.items lines.printed c.as_slice-2.ensures.value in
-    let P : List ℕ → Type 0 = λ output. AppendsFront (g.W.Sink.contents c.args.writer.now) (g.W.Sink.contents c.write_all.new.writer) output in
+    let P : List ℕ → Type 0 = λ output. TakesFront (g.W.Sink.contents c.args.writer.now) (g.W.Sink.contents c.write_all.new.writer) output in
     IfSome-read _ _ _ script c.in_ok-script.ensures.bytes c.in_ok-script.ensures.end (subst P written c.in_err-write_all.ensures.front)

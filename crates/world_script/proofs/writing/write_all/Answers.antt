@@ -1,5 +1,6 @@
 use Rattle.std.proofs.Common.{rules}
-use Rattle.world_script.proofs.Told.{Appends-more, calm_on, calm_write}
+use Rattle.script_streams.proofs.Appended.{Appends-more}
+use Rattle.world_script.proofs.Told.{calm_on, calm_write}
 use Rattle.world_script.proofs.writing.write_all.Goals as goal
 
 pub loop-at-preserved : goal.loop-at-preserved

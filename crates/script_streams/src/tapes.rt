@@ -1,6 +1,6 @@
 //! A reader and a writer for tests, which does as it is told.
 ghost use Rattle.std.specs.Prelude.{◌≡◌, ◌+◌, ◌-◌, ◌<◌, ◌≤◌, IfOk, length, take, drop};
-ghost use Rattle.world_script.specs.Turns.{next_turn, new_tape, passed};
+ghost use Rattle.script_streams.specs.Turns.{next_turn, new_tape, passed};
 
 use crate::streams::{Calls, Sink, Source, Stop};
 use std::alloc::{AllocError, Allocator, Global};
@@ -29,7 +29,7 @@ pub struct Tape<'a, A: Allocator = Global> {
 
 impl<'a, A: Allocator> Model for Tape<'a, A> {
     ghost use Rattle.std.specs.Prelude.{◌≤◌, length};
-    ghost use Rattle.world_script.specs.Turns.{TapeState};
+    ghost use Rattle.script_streams.specs.Turns.{TapeState};
 
     ghost Value = { TapeState };
 
@@ -96,7 +96,7 @@ fn give(bytes: &[u8], given: usize, most: usize, buffer: &mut [u8]) -> usize
 
 impl<A: Allocator> Source for Tape<'_, A> {
     ghost use Rattle.std.specs.Prelude.{◌-◌, Some, drop, length};
-    ghost use Rattle.world_script.specs.Turns.{ReadsInTurn};
+    ghost use Rattle.script_streams.specs.Turns.{ReadsInTurn};
 
     ghost remaining = { λ t. Some (drop t.given t.bytes) };
 
@@ -120,7 +120,7 @@ impl<A: Allocator> Source for Tape<'_, A> {
 
 impl<A: Allocator> Sink for Tape<'_, A> {
     ghost use Rattle.std.specs.Prelude.{Some};
-    ghost use Rattle.world_script.specs.Turns.{WritesInTurn};
+    ghost use Rattle.script_streams.specs.Turns.{WritesInTurn};
 
     ghost contents = { λ t. Some t.bytes };
 

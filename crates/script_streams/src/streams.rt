@@ -22,7 +22,7 @@ pub struct Calls {
 }
 
 impl Calls {
-    ghost use Rattle.world_script.specs.Streams.{after_read, after_write};
+    ghost use Rattle.script_streams.specs.Streams.{after_read, after_write};
 
     /// No call so far.
     pub const NONE: Calls = Calls {
@@ -69,9 +69,9 @@ impl Calls {
 /// Gives bytes.
 pub trait Source {
     ghost use Rattle.std.specs.Prelude.{⊤, ℕ, List, Option, None, Result, length};
-    ghost use Rattle.world_script.specs.declared.streams.Calls.{Calls};
-    ghost use Rattle.world_script.specs.declared.streams.Stop.{Stop};
-    ghost use Rattle.world_script.specs.Streams.{after_read};
+    ghost use Rattle.script_streams.specs.declared.streams.Calls.{Calls};
+    ghost use Rattle.script_streams.specs.declared.streams.Stop.{Stop};
+    ghost use Rattle.script_streams.specs.Streams.{after_read};
 
     // The bytes that reads will give from here on, where they are told.
     ghost remaining: { Self → Option (List ℕ) } = { λ _. None };
@@ -93,9 +93,9 @@ pub trait Source {
 /// Takes bytes.
 pub trait Sink {
     ghost use Rattle.std.specs.Prelude.{⊤, ℕ, List, Option, None, Result, length};
-    ghost use Rattle.world_script.specs.declared.streams.Calls.{Calls};
-    ghost use Rattle.world_script.specs.declared.streams.Stop.{Stop};
-    ghost use Rattle.world_script.specs.Streams.{after_write};
+    ghost use Rattle.script_streams.specs.declared.streams.Calls.{Calls};
+    ghost use Rattle.script_streams.specs.declared.streams.Stop.{Stop};
+    ghost use Rattle.script_streams.specs.Streams.{after_write};
 
     // The bytes taken so far, where they are told.
     ghost contents: { Self → Option (List ℕ) } = { λ _. None };

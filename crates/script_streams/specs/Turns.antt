@@ -1,10 +1,10 @@
 -- What a tape holds, and what its calls do, turn by turn.
 use Rattle.std.specs.Prelude.{◌≡◌, ◌⊎◌, ℕ, ◌^◌, ◌-◌, min, max, false, List, [], ◌∷◌, drop, Result, Ok, Err}
-use Rattle.world_script.specs.declared.streams.Calls.{Calls}
-use Rattle.world_script.specs.declared.streams.Stop.{Stop}
-use Rattle.world_script.specs.declared.streams.Stop.TheVariants.{Failed}
-use Rattle.world_script.specs.declared.tapes.Turn.{Turn}
-use Rattle.world_script.specs.declared.tapes.Turn.TheVariants as turn
+use Rattle.script_streams.specs.declared.streams.Calls.{Calls}
+use Rattle.script_streams.specs.declared.streams.Stop.{Stop}
+use Rattle.script_streams.specs.declared.streams.Stop.TheVariants.{Failed}
+use Rattle.script_streams.specs.declared.tapes.Turn.{Turn}
+use Rattle.script_streams.specs.declared.tapes.Turn.TheVariants as turn
 
 -- a tape: all its bytes, how many of them were given to reads, the turns to come, and what is told of the calls so far
 pub record TapeState : Type 0 where
