@@ -1,5 +1,5 @@
 //! The lines of a script, as its bytes come.
-ghost use Rattle.std.specs.Prelude.{◌≡◌, ◌+◌, ◌≤◌, ◌<◌, [], ◌∷◌, ◌++◌, ℕ, false, length, take, Err, IfOk, IfSome, None, OnErr, OnOk, Ok};
+ghost use Rattle.std.specs.Prelude.{◌≡◌, ◌+◌, ◌≤◌, ◌<◌, [], ◌∷◌, ◌++◌, ℕ, false, length, take, Err, IfOk, IfSome, None, OnErr, OnOk, Ok, true};
 ghost use Rattle.std.specs.Io.KnownBytes.{Consumes, IsAtEnd, Keeps};
 ghost use Rattle.script_streams.specs.Lines.{HasNoEnd, TakesLine, kept, most_bytes, part};
 ghost use Rattle.script_streams.specs.Streams.{IsCalm, IsFaulty, StaysCalm};
@@ -136,12 +136,14 @@ impl<A: Allocator> Lines<A> {
         ensures counted { OnOk result (self.new.read ≡ self.old.read + length self.new.unread) }
         ensures front { self.new.front ≡ self.old.front }
         ensures end { result ≡ Ok false → (self.new.unread ≡ []) × IsAtEnd (R.remaining reader.new) }
+        ensures some { result ≡ Ok true → 0 < length self.new.unread }
         ensures few { self.new.read ≤ most_bytes }
         ensures stopped { result ≡ Err FillError.Read → Keeps (R.remaining reader.old) (R.remaining reader.new) }
         ensures too_long { result ≡ Err FillError.TooLong → (self.old.read ≡ most_bytes) × ((byte : ℕ) × Consumes (R.remaining reader.old) (R.remaining reader.new) (byte ∷ [])) }
         ensures uncounted { OnErr result (self.new.read ≡ self.old.read) }
         ensures calm { IsCalm (R.calls reader.old) → OnOk result (IsCalm (R.calls reader.new)) }
         ensures fault { IsCalm (R.calls reader.old) → result ≡ Err FillError.Read → IsFaulty (R.calls reader.new) }
+        ensures calm_too_long { IsCalm (R.calls reader.old) → result ≡ Err FillError.TooLong → IsCalm (R.calls reader.new) }
     {
         let room = PIECE.min(MOST_BYTES - self.read);
         if room == 0 {
@@ -193,6 +195,7 @@ fn find_end<R: Source>(reader: &mut R) -> Result<bool, FillError>
     ensures too_long { result ≡ Err FillError.TooLong → ((byte : ℕ) × Consumes (R.remaining reader.old) (R.remaining reader.new) (byte ∷ [])) }
     ensures calm { IsCalm (R.calls reader.old) → OnOk result (IsCalm (R.calls reader.new)) }
     ensures fault { IsCalm (R.calls reader.old) → result ≡ Err FillError.Read → IsFaulty (R.calls reader.new) }
+    ensures calm_too_long { IsCalm (R.calls reader.old) → result ≡ Err FillError.TooLong → IsCalm (R.calls reader.new) }
 {
     let mut byte = [0];
     match read_patiently(reader, &mut byte) {
