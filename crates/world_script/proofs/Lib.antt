@@ -1,5 +1,8 @@
-pub mod Told
+pub mod Answered
+pub mod Effects
+pub mod Ended
+pub mod Faults
 pub mod FirstLine
-pub mod SoFar
-pub mod Outcome
+pub mod Kept
 pub mod Orders
+pub mod Running

@@ -1,3 +1,4 @@
 pub mod Whole
 pub mod Run
+pub mod Running
 pub mod Told

@@ -1,15 +1,16 @@
 //! Why a script was not run to its end.
 use ecs_world::Memory;
+use script_streams::{Fault, FillError};
 use std::alloc::AllocError;
 use thiserror::Error;
 
 /// Why a script was not run to its end.
 #[derive(Clone, Copy, Debug, PartialEq, Eq, Error)]
 pub enum RunError {
-    /// A read failed or was interrupted.
+    /// A read failed, or 65 in a row were interrupted.
     #[error("read fault")]
     Read,
-    /// A write failed or was interrupted, or took no byte.
+    /// A write failed or took no byte, or 65 in a row were interrupted.
     #[error("write fault")]
     Write,
     /// Memory was refused.
@@ -39,5 +40,31 @@ impl From<Memory> for RunError {
 
     fn from(_error: Memory) -> RunError {
         RunError::Memory
+    }
+}
+
+impl From<Fault> for RunError {
+    ghost use Rattle.std.specs.Prelude.{◌≡◌};
+    ghost use Rattle.world_script.specs.declared.errors.RunError.TheVariants.{Write};
+
+    ghost from_gives = { λ _ e. e ≡ Write };
+
+    /// The fault of a write.
+    fn from(_fault: Fault) -> RunError {
+        RunError::Write
+    }
+}
+
+impl From<FillError> for RunError {
+    ghost use Rattle.std.specs.Prelude.{◌≡◌};
+    ghost use Rattle.world_script.specs.Running.{run_error};
+
+    ghost from_gives = { λ error e. e ≡ run_error error };
+
+    fn from(error: FillError) -> RunError {
+        match error {
+            FillError::Read => RunError::Read,
+            FillError::TooLong => RunError::TooLong,
+        }
     }
 }

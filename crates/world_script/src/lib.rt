@@ -4,12 +4,11 @@
 mod errors;
 mod lines;
 mod lookup;
-mod reading;
+mod runners;
 mod runs;
 mod sessions;
 mod showing;
 mod telling;
-mod writing;
 
 pub use errors::RunError;
 pub use lines::Summary;

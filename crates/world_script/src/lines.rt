@@ -1,12 +1,12 @@
-//! Running a script line by line.
-ghost use Rattle.std.specs.Prelude.{◌≡◌, ◌<◌, ◌≤◌, ◌∷◌, ◌++◌, length, IfOk, OnOk};
-ghost use Rattle.ecs_model.specs.Script.{lines_of};
-ghost use Rattle.world_script.specs.Run.{effects_from, printed_by, refused_among};
+//! Running one line, and counting it.
+ghost use Rattle.std.specs.Prelude.{◌≡◌, ◌+◌, ◌<◌, ◌≤◌, OnOk};
+ghost use Rattle.script_streams.specs.Lines.{most_bytes};
+ghost use Rattle.world_script.specs.Run.{line_effect};
+ghost use Rattle.world_script.specs.Running.{RunsLine};
 ghost use Rattle.world_script.specs.Told.{session_of};
 
 use crate::sessions::run_line;
 use ecs_world::World;
-use memchr::memchr;
 use std::alloc::{AllocError, Allocator};
 
 /// What was run.
@@ -18,44 +18,25 @@ pub struct Summary {
     pub refused: usize,
 }
 
-/// Runs the lines of a script in a world, and adds what they print to the output.
-pub(crate) fn run_lines<A: Allocator + Copy>(
+/// Runs a line under the next number, adds what it prints to the output, and counts it. What stands in `values` is lost.
+pub(crate) fn run_next<A: Allocator + Copy>(
     alloc: A,
     world: &mut World<A>,
-    script: &[u8],
+    summary: &mut Summary,
+    line: &[u8],
+    values: &mut Vec<i128, A>,
     output: &mut Vec<u8, A>,
-) -> Result<Summary, AllocError>
-    ensures printed { OnOk result
-        (output.new.items ≡ output.old.items ++ printed_by (effects_from (session_of world.old.state) 1 script.now)) }
-    ensures lines { IfOk result (λ summary. summary.lines ≡ length (effects_from (session_of world.old.state) 1 script.now)) }
-    ensures refused { IfOk result (λ summary. summary.refused ≡ refused_among (effects_from (session_of world.old.state) 1 script.now)) }
+) -> Result<(), AllocError>
+    requires room { summary.old.lines ≤ most_bytes }
+    requires few { summary.old.refused ≤ summary.old.lines }
+    ensures { OnOk result (RunsLine (line_effect (session_of world.old.state) (summary.old.lines + 1) line.now)
+        (session_of world.new.state) output.old.items output.new.items summary.old summary.new) }
 {
-    let mut summary = Summary {
-        lines: 0,
-        refused: 0,
-    };
-    let mut values = Vec::new(alloc);
-    let mut rest = script;
-    while !rest.is_empty() {
-        let (line, later) = first_line(rest);
-        summary.lines += 1;
-        let is_refused = run_line(alloc, world, summary.lines, line, &mut values, output)?;
-        if is_refused {
-            summary.refused += 1;
-        }
-        rest = later;
+    let number = summary.lines + 1;
+    let is_refused = run_line(alloc, world, number, line, values, output)?;
+    summary.lines = number;
+    if is_refused {
+        summary.refused += 1;
     }
-    Ok(summary)
-}
-
-/// The first line, and what stands behind its line feed.
-fn first_line(script: &[u8]) -> (&[u8], &[u8])
-    requires { 0 < length script.now }
-    ensures lines { lines_of script.now ≡ result.0.now ∷ lines_of result.1.now }
-    ensures shorter { length result.1.now < length script.now }
-{
-    match memchr(b'\n', script) {
-        Some(end) => (&script[..end], &script[end + 1..]),
-        None => (script, &[]),
-    }
+    Ok(())
 }

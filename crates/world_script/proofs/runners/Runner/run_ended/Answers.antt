@@ -1,0 +1,67 @@
+use Rattle.std.proofs.Common.{◌∙◌}
+use Rattle.std.proofs.lemmas.Result.{on_err_weaker}
+use Rattle.world_script.proofs.Answered.{FaultyAt-ok, on_err_anyway, on_ok_two}
+use Rattle.world_script.proofs.Faults.{TakesFront-none, WroteFront-at}
+use Rattle.world_script.proofs.Running.{IsRunning-front, IsRunning-line, IsRunning-written, few-line, room-line}
+use Rattle.world_script.proofs.runners.Runner.run_ended.Goals as goal
+
+pub returns-in_err-take_line-clause-front : goal.returns-in_err-take_line-clause-front
+returns-in_err-take_line-clause-front g c = λ told left old so.
+    let at = c.loop-self.invariant.running told left old so in
+    on_err_anyway c.from_residual.result (WroteFront-at _ _ _ _ _ c.loop-self.self.lines _ _ _ at (TakesFront-none _ _))
+
+pub returns-in_err-run_next-clause-front : goal.returns-in_err-run_next-clause-front
+returns-in_err-run_next-clause-front g c = λ told left old so.
+    let at = c.loop-self.invariant.running told left old so in
+    on_err_anyway c.from_residual-in_err-run_next.result (WroteFront-at _ _ _ _ _ c.loop-self.self.lines _ _ _ at (TakesFront-none _ _))
+
+pub loop-self-preserved-in-Continue-branch-3 : goal.loop-self-preserved-in-Continue-branch-3
+loop-self-preserved-in-Continue-branch-3 g c =
+    let taken = rw c.if-branch.true at c.in_ok-take_line.ensures.taken in
+    let run = rw c.line.ensures at c.in_ok-run_next.ensures in
+    let wrote = c.in_ok-write_out.ensures in
+    record {
+      running = λ told left old so.
+          let at = c.loop-self.invariant.running told left old so in
+          IsRunning-written _ _ _ _ _ c.take_line.new.self _ _ _ _ wrote.ok wrote.empty (IsRunning-line _ _ _ _ c.loop-self.self.lines c.take_line.new.self _ _ _ _ _ _ taken c.take_line.ensures.read run at);
+      room = room-line c.loop-self.self.lines c.take_line.new.self _ _ _ _ _ _ taken run c.loop-self.invariant.room;
+      few = few-line _ _ _ _ _ _ run c.loop-self.invariant.few;
+      read = c.take_line.ensures.read ∙ c.loop-self.invariant.read;
+      writes = λ calm. FaultyAt-ok _ _ _ _ wrote.writes (c.loop-self.invariant.writes calm);
+    }
+
+pub returns-in_err-write_out-clause-front : goal.returns-in_err-write_out-clause-front
+returns-in_err-write_out-clause-front g c = λ told left old so.
+    let taken = rw c.if-branch.true at c.in_ok-take_line.ensures.taken in
+    let run = rw c.line.ensures at c.in_ok-run_next.ensures in
+    let at = c.loop-self.invariant.running told left old so in
+    let line = IsRunning-line _ _ _ _ c.loop-self.self.lines c.take_line.new.self _ _ _ _ _ _ taken c.take_line.ensures.read run at in
+    on_err_anyway c.from_residual-in_err-write_out.result (WroteFront-at _ _ _ _ _ c.take_line.new.self _ _ _ line c.in_err-write_out.ensures.front)
+
+pub loop-self-preserved : goal.loop-self-preserved
+loop-self-preserved g c =
+    let taken = rw c.if-branch.true at c.in_ok-take_line.ensures.taken in
+    let run = rw c.line.ensures at c.in_ok-run_next.ensures in
+    record {
+      running = λ told left old so.
+          let at = c.loop-self.invariant.running told left old so in
+          IsRunning-line _ _ _ _ c.loop-self.self.lines c.take_line.new.self _ _ _ _ _ _ taken c.take_line.ensures.read run at;
+      room = room-line c.loop-self.self.lines c.take_line.new.self _ _ _ _ _ _ taken run c.loop-self.invariant.room;
+      few = few-line _ _ _ _ _ _ run c.loop-self.invariant.few;
+      read = c.take_line.ensures.read ∙ c.loop-self.invariant.read;
+      writes = c.loop-self.invariant.writes;
+    }
+
+pub returns-clause-ran : goal.returns-clause-ran
+returns-clause-ran g c = λ told left old so.
+    let taken = rw c.if-branch.false at c.in_ok-take_line.ensures.taken in
+    let at = c.loop-self.invariant.running told left old so in
+    let front = IsRunning-front _ _ _ _ c.loop-self.self.lines c.take_line.new.self _ _ _ taken c.take_line.ensures.read at in
+    on_ok_two c.write_out-2.result (λ wrote none. IsRunning-written _ _ _ _ _ c.take_line.new.self _ _ _ _ wrote none front) c.write_out-2.ensures.ok c.write_out-2.ensures.empty
+
+pub returns-clause-front : goal.returns-clause-front
+returns-clause-front g c = λ told left old so.
+    let taken = rw c.if-branch.false at c.in_ok-take_line.ensures.taken in
+    let at = c.loop-self.invariant.running told left old so in
+    let front = IsRunning-front _ _ _ _ c.loop-self.self.lines c.take_line.new.self _ _ _ taken c.take_line.ensures.read at in
+    on_err_weaker c.write_out-2.result (λ wrote. WroteFront-at _ _ _ _ _ c.take_line.new.self _ _ _ front wrote) c.write_out-2.ensures.front

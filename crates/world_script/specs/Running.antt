@@ -1,0 +1,60 @@
+-- How far a run has come.
+use Rattle.std.specs.Prelude.{◌≡◌, ◌+◌, ◌≤◌, ℕ, List, ◌++◌, length, Option, cond}
+use Rattle.std.specs.Io.KnownBytes.{Appends, Consumes}
+use Rattle.ecs_model.specs.Output.{Effect, effects_of, output_of}
+use Rattle.ecs_model.specs.Session.{SessionState}
+use Rattle.script_streams.specs.Lines.{Held, HasNoEnd, kept, most_bytes}
+use Rattle.script_streams.specs.declared.lines.FillError.{FillError}
+use Rattle.script_streams.specs.declared.lines.FillError.TheVariants as fill
+use Rattle.world_script.specs.declared.errors.RunError.{RunError}
+use Rattle.world_script.specs.declared.errors.RunError.TheVariants as run
+use Rattle.world_script.specs.declared.lines.Summary.{Summary}
+use Rattle.world_script.specs.Run.{effects_from, refused_among}
+use Rattle.world_script.specs.Whole.{EndsInFeed}
+
+-- the lines of a script were run: so much was printed and counted
+pub record HasRun (script printed : List ℕ) (summary : Summary) : Type 0 where
+  pub printed_is : printed ≡ output_of script
+  pub lines_are : summary.lines ≡ length (effects_of script)
+  pub refused_are : summary.refused ≡ refused_among (effects_of script)
+  pub few : summary.lines ≤ length script
+  pub few_refused : summary.refused ≤ summary.lines
+
+-- whatever stands behind these lines is run from this session on
+abbrev pub GoesOn : List ℕ → SessionState → Summary → Type 0
+GoesOn whole s summary = (rest : List ℕ) → effects_of (whole ++ rest) ≡ effects_of whole ++ effects_from s (summary.lines + 1) rest
+
+-- of the bytes that were read, the whole lines were run but for those in bytes that are unread, and what they printed was written but for the output
+pub record IsRunning (told left old new : Option (List ℕ)) (held : Held) (session : SessionState) (summary : Summary) (output : List ℕ) : Type 0 where
+  pub whole : List ℕ
+  pub part : List ℕ
+  pub written : List ℕ
+  pub bytes : Consumes told left (whole ++ part ++ held.unread)
+  pub counted : held.read ≡ length (whole ++ part ++ held.unread)
+  pub fits : held.read ≤ most_bytes
+  pub ends : EndsInFeed whole
+  pub inside : HasNoEnd part
+  pub front : held.front ≡ kept part
+  pub wrote : Appends old new written
+  pub goes_on : GoesOn whole session summary
+  pub has_run : HasRun whole (written ++ output) summary
+
+-- a line was run: the session is as it leaves it, what it prints was added to the output, and it was counted
+pub record RunsLine (e : Effect) (session : SessionState) (before after : List ℕ) (old new : Summary) : Type 0 where
+  pub session_left : session ≡ e.session
+  pub printed : after ≡ before ++ e.printed
+  pub counted : new ≡ record { lines = old.lines + 1; refused = old.refused + cond e.refused 1 0 }
+
+-- all lines were run, and what they printed was written but for the output
+pub record HasEnded (told left old new : Option (List ℕ)) (summary : Summary) (output : List ℕ) : Type 0 where
+  pub script : List ℕ
+  pub written : List ℕ
+  pub bytes : Consumes told left script
+  pub fits : length script ≤ most_bytes
+  pub wrote : Appends old new written
+  pub has_run : HasRun script (written ++ output) summary
+
+-- how a run answers where no more bytes came
+abbrev pub run_error : FillError → RunError
+run_error fill.Read = run.Read
+run_error fill.TooLong = run.TooLong

@@ -1,0 +1,163 @@
+//! Running the lines of a script as they come.
+ghost use Rattle.std.specs.Prelude.{◌≡◌, ◌+◌, ◌≤◌, ◌⊎◌, List, Option, ℕ, [], Err, IfErr, IfOk, OnErr, OnOk, length};
+ghost use Rattle.std.specs.Io.KnownBytes.{Appends, IsAtEnd};
+ghost use Rattle.ecs_model.specs.Session.{first_session};
+ghost use Rattle.script_streams.specs.Lines.{most_bytes};
+ghost use Rattle.script_streams.specs.Streams.{TakesFront};
+ghost use Rattle.world_script.specs.Running.{HasEnded, IsRunning};
+ghost use Rattle.world_script.specs.Told.{session_of};
+ghost use Rattle.world_script.specs.Whole.{FaultyAt, FitsScript, IsCount, IsOutput, WroteFront, WroteFull, WroteToEnd, WroteWhole};
+
+use crate::errors::RunError;
+use crate::lines::{Summary, run_next};
+use ecs_world::World;
+use script_streams::{Lines, Sink, Source, write_all};
+use std::alloc::{AllocError, Allocator};
+use std::hash::RandomState;
+
+/// Output that is longer is written before the next line is run.
+const MOST_OUTPUT: usize = 65_536;
+
+/// A script as it runs: the world, the lines that come, and the output that isn't written yet.
+#[derive(Drop)]
+pub(crate) struct Runner<A: Allocator> {
+    world: World<A>,
+    lines: Lines<A>,
+    summary: Summary,
+    /// The values of a line.
+    values: Vec<i128, A>,
+    output: Vec<u8, A>,
+}
+
+impl<A: Allocator + Copy> Runner<A> {
+    /// A new world, and no line yet.
+    pub(crate) fn new(alloc: A, random: RandomState) -> Result<Self, RunError>
+        ensures lines { IfOk result (λ r. r.lines ≡ record { line = []; front = []; unread = []; read = 0 }) }
+        ensures world { IfOk result (λ r. session_of (r.world).state ≡ first_session) }
+        ensures summary { IfOk result (λ r. r.summary ≡ record { lines = 0; refused = 0 }) }
+        ensures output { IfOk result (λ r. (r.output).items ≡ []) }
+        ensures memory { IfErr result (λ error. error ≡ RunError.Memory) }
+    {
+        Ok(Runner {
+            world: World::new(alloc, random)?,
+            lines: Lines::new(alloc)?,
+            summary: Summary {
+                lines: 0,
+                refused: 0,
+            },
+            values: Vec::new(alloc),
+            output: Vec::new(alloc),
+        })
+    }
+
+    /// Runs a script to its end. Output is written before each read, and where much of it has come together.
+    pub(crate) fn run_script<R: Source, W: Sink>(
+        &mut self,
+        alloc: A,
+        reader: &mut R,
+        writer: &mut W,
+    ) -> Result<(), RunError>
+        requires { IsRunning (R.remaining reader.old) (R.remaining reader.old) (W.contents writer.old) (W.contents writer.old)
+            self.old.lines (session_of self.old.world.state) self.old.summary self.old.output.items }
+        ensures output { OnOk result (IsOutput (R.remaining reader.old) (W.contents writer.old) (W.contents writer.new)) }
+        ensures count { OnOk result (IsCount (R.remaining reader.old) self.new.summary) }
+        ensures fits { OnOk result (FitsScript (R.remaining reader.old)) }
+        ensures read_whole { OnOk result (IsAtEnd (R.remaining reader.new)) }
+
+        ensures read { result ≡ Err RunError.Read
+            → WroteWhole (R.remaining reader.old) (R.remaining reader.new) (W.contents writer.old) (W.contents writer.new) }
+        ensures too_long { result ≡ Err RunError.TooLong
+            → WroteFull (R.remaining reader.old) (R.remaining reader.new) (W.contents writer.old) (W.contents writer.new) }
+        ensures memory { result ≡ Err RunError.Memory
+            → WroteFront (R.remaining reader.old) (R.remaining reader.new) (W.contents writer.old) (W.contents writer.new) }
+        ensures write { result ≡ Err RunError.Write
+            → WroteFront (R.remaining reader.old) (R.remaining reader.new) (W.contents writer.old) (W.contents writer.new)
+            ⊎ WroteToEnd (R.remaining reader.old) (R.remaining reader.new) (W.contents writer.old) (W.contents writer.new) }
+
+        ensures reads { FaultyAt RunError.Read (R.calls reader.old) result (R.calls reader.new) }
+        ensures writes { FaultyAt RunError.Write (W.calls writer.old) result (W.calls writer.new) }
+    {
+        let mut has_more = true;
+        while has_more {
+            self.run_ended(alloc, writer)?;
+            has_more = self.lines.fill(reader)?;
+        }
+        self.run_last(alloc)?;
+        write_out(&mut self.output, writer)
+    }
+
+    /// Runs the lines whose ends have come, and writes what they print.
+    fn run_ended<W: Sink>(&mut self, alloc: A, writer: &mut W) -> Result<(), RunError>
+        requires room { self.old.summary.lines + length self.old.lines.unread ≤ most_bytes }
+        requires few { self.old.summary.refused ≤ self.old.summary.lines }
+        ensures ran { (told left old : Option (List ℕ))
+            → IsRunning told left old (W.contents writer.old) self.old.lines (session_of self.old.world.state) self.old.summary self.old.output.items
+            → OnOk result (IsRunning told left old (W.contents writer.new)
+            self.new.lines (session_of self.new.world.state) self.new.summary self.new.output.items) }
+        ensures taken { OnOk result (self.new.lines.unread ≡ []) }
+        ensures written { OnOk result (self.new.output.items ≡ []) }
+        ensures read { self.new.lines.read ≡ self.old.lines.read }
+        ensures fault { IfErr result (λ error. (error ≡ RunError.Memory) ⊎ (error ≡ RunError.Write)) }
+        ensures front { (told left old : Option (List ℕ))
+            → IsRunning told left old (W.contents writer.old) self.old.lines (session_of self.old.world.state) self.old.summary self.old.output.items
+            → OnErr result (WroteFront told left old (W.contents writer.new)) }
+        ensures writes { FaultyAt RunError.Write (W.calls writer.old) result (W.calls writer.new) }
+    {
+        while self.lines.take_line()? {
+            run_next(
+                alloc,
+                &mut self.world,
+                &mut self.summary,
+                self.lines.line(),
+                &mut self.values,
+                &mut self.output,
+            )?;
+            if self.output.len() > MOST_OUTPUT {
+                write_out(&mut self.output, writer)?;
+            }
+        }
+        write_out(&mut self.output, writer)
+    }
+
+    /// Runs the line behind the last line feed, if it isn't empty.
+    fn run_last(&mut self, alloc: A) -> Result<(), AllocError>
+        requires room { self.old.summary.lines ≤ most_bytes }
+        requires few { self.old.summary.refused ≤ self.old.summary.lines }
+        requires taken { self.old.lines.unread ≡ [] }
+        ensures { (told left old new : Option (List ℕ))
+            → IsRunning told left old new self.old.lines (session_of self.old.world.state) self.old.summary self.old.output.items
+            → OnOk result (HasEnded told left old new self.new.summary self.new.output.items) }
+    {
+        if self.lines.front().is_empty() {
+            return Ok(());
+        }
+        run_next(
+            alloc,
+            &mut self.world,
+            &mut self.summary,
+            self.lines.front(),
+            &mut self.values,
+            &mut self.output,
+        )
+    }
+
+    /// What was run so far.
+    pub(crate) fn summary(&self) -> Summary
+        ensures { result ≡ self.now.summary }
+    {
+        self.summary
+    }
+}
+
+/// Writes the output, and empties it.
+fn write_out<A: Allocator, W: Sink>(output: &mut Vec<u8, A>, writer: &mut W) -> Result<(), RunError>
+    ensures ok { OnOk result (Appends (W.contents writer.old) (W.contents writer.new) output.old.items) }
+    ensures empty { OnOk result (output.new.items ≡ []) }
+    ensures front { OnErr result (TakesFront (W.contents writer.old) (W.contents writer.new) output.old.items) }
+    ensures fault { IfErr result (λ error. error ≡ RunError.Write) }
+    ensures writes { FaultyAt RunError.Write (W.calls writer.old) result (W.calls writer.new) }
+{
+    write_all(writer, output.as_slice())?;
+    output.clear();
+    Ok(())
+}
