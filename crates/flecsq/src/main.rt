@@ -7,7 +7,7 @@ use std::alloc::{AllocError, Global};
 use std::env;
 use std::fs::File;
 use std::hash::RandomState;
-use std::io::{self, BufReader, BufWriter, Read, Write};
+use std::io::{self, Read};
 use std::process::ExitCode;
 use world_script::{FromRead, RunError, Summary, ToWrite, run};
 
@@ -85,27 +85,20 @@ fn command<'a>(alloc: Global) -> Result<Command<'a>, AllocError> {
         .arg(file)
 }
 
-/// Runs what the reader gives, buffered both ways.
-fn run_buffered<R: Read + Drop>(rt: &HostRuntime, reader: R) -> Result<Summary, Fault> {
-    let alloc = rt.alloc();
-    let reader = BufReader::new(alloc, reader).map_err(|_| Fault::Memory)?;
-    let mut writer = BufWriter::new(alloc, io::writer(rt)).map_err(|_| Fault::Memory)?;
+/// Runs what the reader gives. `run` reads and writes in pieces, so nothing else is buffered.
+fn run_reader<R: Read + Drop>(rt: &HostRuntime, reader: R) -> Result<Summary, Fault> {
     let random = RandomState::new(rt).map_err(|_| Fault::Read)?;
-    let summary = run(
-        alloc,
-        random,
-        &mut FromRead::new(reader),
-        &mut ToWrite::new(&mut writer),
-    )?;
-    writer.flush().map_err(|_| Fault::Write)?;
+    let mut reader = FromRead::new(reader);
+    let mut writer = ToWrite::new(io::writer(rt));
+    let summary = run(rt.alloc(), random, &mut reader, &mut writer)?;
     Ok(summary)
 }
 
 /// Opens the script and runs it. A file that can't be opened is a read fault.
 fn run_script(rt: &HostRuntime, file: Option<&str>) -> Result<Summary, Fault> {
     match file {
-        Some(path) => run_buffered(rt, File::open(rt, path).map_err(|_| Fault::Read)?),
-        None => run_buffered(rt, rt.stdin()),
+        Some(path) => run_reader(rt, File::open(rt, path).map_err(|_| Fault::Read)?),
+        None => run_reader(rt, rt.stdin()),
     }
 }
 

@@ -17,11 +17,9 @@ const SUMMARY: Summary = Summary {
     refused: 0,
 };
 
-const INTERRUPTED: [Turn; 2] = [Turn::Pass(10), Turn::Stop(Stop::Interrupted)];
+const FAILED: Turn = Turn::Stop(Stop::Failed);
 
-const FAILED: [Turn; 2] = [Turn::Pass(10), Turn::Stop(Stop::Failed)];
-
-const STALLED: [Turn; 2] = [Turn::Pass(10), Turn::Pass(0)];
+const INTERRUPTED: Turn = Turn::Stop(Stop::Interrupted);
 
 /// Runs a script from a tape onto a tape, and compares what was answered and what was written.
 fn expect(
@@ -60,35 +58,81 @@ fn a_script_is_read_and_its_output_written_in_any_pieces(rt: HostRuntime) -> Res
 }
 
 #[test]
-fn faults_of_reads_and_writes_are_answered(rt: HostRuntime) -> Result<(), Fail> {
+fn a_read_that_fails_is_told_behind_the_output_of_whole_lines(rt: HostRuntime) -> Result<(), Fail> {
     let random = RandomState::new(&rt)?;
+    let whole = [Turn::Pass(SCRIPT.len()), FAILED];
     expect(
         &rt,
         random,
         SCRIPT,
-        &INTERRUPTED,
+        &whole,
         &[],
         Err(RunError::Read),
-        b"",
+        OUTPUT,
     )?;
-    expect(&rt, random, SCRIPT, &FAILED, &[], Err(RunError::Read), b"")?;
+    let part = [Turn::Pass(SCRIPT.len() - 5), FAILED];
+    expect(&rt, random, SCRIPT, &part, &[], Err(RunError::Read), b"")
+}
+
+#[test]
+fn a_write_fails_at_any_byte(rt: HostRuntime) -> Result<(), Fail> {
+    let random = RandomState::new(&rt)?;
+    for count in 0..OUTPUT.len() {
+        let written = &OUTPUT[..count];
+        let fails = [Turn::Pass(count.max(1)), FAILED];
+        let stalls = [Turn::Pass(count), Turn::Pass(0)];
+        if count > 0 {
+            expect(
+                &rt,
+                random,
+                SCRIPT,
+                &[],
+                &fails,
+                Err(RunError::Write),
+                written,
+            )?;
+        }
+        expect(
+            &rt,
+            random,
+            SCRIPT,
+            &[],
+            &stalls,
+            Err(RunError::Write),
+            written,
+        )?;
+    }
+    Ok(())
+}
+
+#[test]
+fn the_sixty_fifth_interruption_in_a_row_is_a_fault(rt: HostRuntime) -> Result<(), Fail> {
+    let random = RandomState::new(&rt)?;
+    let turns = Vec::from_elem(rt.alloc(), INTERRUPTED, 65)?;
+    let many = turns.as_slice();
+    let few = &turns[..64];
+    expect(&rt, random, SCRIPT, few, few, Ok(SUMMARY), OUTPUT)?;
+    expect(&rt, random, SCRIPT, many, &[], Err(RunError::Read), b"")?;
+    expect(&rt, random, SCRIPT, &[], many, Err(RunError::Write), b"")
+}
+
+#[test]
+fn a_script_without_end_is_too_long_behind_its_output(rt: HostRuntime) -> Result<(), Fail> {
+    let random = RandomState::new(&rt)?;
+    let mut script = Vec::from_slice(rt.alloc(), SCRIPT)?;
+    let slashes = Vec::from_elem(rt.alloc(), b'/', 65_536)?;
+    for _ in 0..256 {
+        script.extend_from_slice(slashes.as_slice())?;
+    }
+    let script = script.as_slice();
     expect(
         &rt,
         random,
-        SCRIPT,
+        script,
         &[],
-        &FAILED,
-        Err(RunError::Write),
-        b"row $this=",
-    )?;
-    expect(
-        &rt,
-        random,
-        SCRIPT,
         &[],
-        &STALLED,
-        Err(RunError::Write),
-        b"row $this=",
+        Err(RunError::TooLong),
+        OUTPUT,
     )
 }
 
@@ -96,10 +140,10 @@ fn faults_of_reads_and_writes_are_answered(rt: HostRuntime) -> Result<(), Fail> 
 fn refused_lines_are_told_and_counted(rt: HostRuntime) -> Result<(), Fail> {
     let random = RandomState::new(&rt)?;
     let summary = Summary {
-        lines: 3,
-        refused: 2,
+        lines: 4,
+        refused: 3,
     };
-    let script = b"entity Sun\nentity Sun\nfly";
+    let script = b"\xff\nentity Sun\nentity Sun\nfly";
     expect(
         &rt,
         random,
@@ -107,7 +151,7 @@ fn refused_lines_are_told_and_counted(rt: HostRuntime) -> Result<(), Fail> {
         &[],
         &[],
         Ok(summary),
-        b"error 2 NameTaken\nerror 3 BadLine\n",
+        b"error 1 BadLine\nerror 3 NameTaken\nerror 4 BadLine\n",
     )
 }
 
