@@ -6,9 +6,10 @@ use Rattle.ecs_model.specs.declared.faults.Refusal.{Refusal}
 use Rattle.ecs_model.specs.declared.faults.CommandError.TheVariants.{Refused}
 use Rattle.ecs_model.specs.Refusal.{first_reason}
 use Rattle.ecs_model.specs.World.{WorldState}
-use Rattle.ecs_model.specs.Command.{Command, Changed, IsCommand, reasons, effect, counted, differences, written_by, step, AnswersStep}
-use Rattle.ecs_model.specs.Keeps.{IsWellFormed}
-use Rattle.ecs_model.proofs.Steps.{step_keeps}
+use Rattle.ecs_model.specs.Command.{Changed, counted, differences, AnswersStep}
+use Rattle.ecs_model.specs.traits.Command.{Command, IsCommand, reasons, effect, written_by, step}
+use Rattle.ecs_model.specs.traits.Keeps.{IsWellFormed}
+use Rattle.ecs_model.proofs.traits.Steps.{effect_keeps}
 
 -- what a command changes where no reason is against it
 abbrev pub changes_of : WorldState → Command → Changed
@@ -33,4 +34,4 @@ module _ (w : WorldState) (c : Command) where
   answers_refused r v some is = (step-refused r some, is)
 
   pub effect_well_formed : IsWellFormed w → IsCommand c → first_reason (reasons w c) ≡ None → IsWellFormed (counted (effect w c))
-  effect_well_formed h command none = step_keeps w (counted (effect w c)) c (changes_of w c) h command (step-accepted none)
+  effect_well_formed h command none = effect_keeps w c h command none

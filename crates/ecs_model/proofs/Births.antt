@@ -1,4 +1,4 @@
--- A world stays well formed when an entity or a component is made.
+-- A world stays well formed with a new entity, where what traits ask stays so.
 use Rattle.std.specs.Prelude.{◌≡◌, ◌≢◌, ◌⊎◌, ℕ, ◌+◌, ◌^◌, ◌<◌, ◌≤◌, ◌==◌, Bool, true, false, ◌&&◌, List, [], ◌∷◌, filter_map, length, ℤ, Some, None, is_some, option_map, cond, bytes_eq, if◌then◌else◌}
 use Rattle.std.specs.List.{list_all, find}
 use Rattle.std.specs.Ordering.{nat_cmp, eq_by_cmp}
@@ -12,7 +12,7 @@ use Rattle.ecs_model.specs.Text.{is_name}
 use Rattle.ecs_model.specs.Schema.{Schema, schema_fault}
 use Rattle.ecs_model.specs.World.{WorldState, Key, key_cmp, component, is_live, is_built_in, holds, value_of, name_of, named, type_of_id, pair_is_tag, first_index, last_index}
 use Rattle.ecs_model.specs.Command.{is_spent}
-use Rattle.ecs_model.specs.Keeps.{IsWellFormed}
+use Rattle.ecs_model.specs.traits.Keeps.{IsWellFormed, KeepsTraits}
 use Rattle.ecs_model.proofs.Maps.{of_some, if_some, both_true, nat_value_at, IsMap-with_value}
 use Rattle.ecs_model.proofs.Reasons.{IsFree}
 use Rattle.ecs_model.proofs.Typing.{IsTyped, same_type}
@@ -210,8 +210,8 @@ module _ (w : WorldState) (i g : ℕ) (names : Map ℕ (List ℕ)) (schemas : Ma
       let old = of_some (λ y. (is_live w j ≡ true) × (0 < y) × (y < 2 ^ 64)) (value_at nat_cmp w.pins j) ((h.live).pins j) x found in
       (still_live j old.0, old.1, old.2)
 
-  pub birth_keeps : is_spent w ≡ false → IsWellFormed (with_birth w i g names schemas facts)
-  birth_keeps spent = record {
+  pub birth_keeps : is_spent w ≡ false → KeepsTraits after → IsWellFormed (with_birth w i g names schemas facts)
+  birth_keeps spent traits = record {
     in_order = record {
       live = IsMap-with_value nat_cmp nat_cmp_total w.live i g (h.in_order).live;
       facts = b.facts_in_order;
@@ -240,4 +240,5 @@ module _ (w : WorldState) (i g : ℕ) (names : Map ℕ (List ℕ)) (schemas : Ma
     typed = λ f k. if_some (IsTyped (type_of_id after k)) (value_of after f k) (typed f k);
     few_ids = b.few;
     counted = not_spent w.accepted spent;
+    traits = traits;
   }

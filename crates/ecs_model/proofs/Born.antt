@@ -1,4 +1,4 @@
--- The entity born is the one that the command makes.
+-- The entity that is live in a world and was not in the one before.
 use Rattle.std.specs.Prelude.{◌≡◌, ℕ, Bool, true, false, not, ◌&&◌, List, [], ◌∷◌, Option, Some, None, is_some, option_map, cond}
 use Rattle.std.specs.List.{find, list_all}
 use Rattle.std.specs.FinMap.Entries.{by_order}
@@ -12,11 +12,10 @@ use Rattle.std.proofs.Common.{refl, sym, ap, subst, ◌∙◌, inl, inr, true≢
 use Rattle.ecs_id.specs.declared.EntityId.{EntityId}
 use Rattle.ecs_model.specs.Map.{Map, value_at, has_key, with_value, keys}
 use Rattle.ecs_model.specs.Schema.{Schema}
-use Rattle.ecs_model.specs.World.{WorldState, Key, is_live, entities, entity_at}
-use Rattle.ecs_model.specs.Command.{Command, Fresh, Entity, Component, Add, SetValue, Remove, next_entity, counted, effect, with_born, with_named, with_component, differences, written_by}
-use Rattle.ecs_model.specs.Laws.{BornIsMade, made_by}
+use Rattle.ecs_model.specs.World.{WorldState, is_live, entities, entity_at}
+use Rattle.ecs_model.specs.Command.{next_entity, counted, with_born, with_named, with_component}
 use Rattle.ecs_model.proofs.Maps.{both_true, nat_value_at, eq_itself}
-use Rattle.ecs_model.proofs.Reasons.{next_is_free, accepted_changes}
+use Rattle.ecs_model.proofs.Reasons.{next_is_free}
 use Rattle.ecs_model.proofs.Births.{all_more}
 
 still_there : {X : Type 0} (e : ℕ × X) (m : Map ℕ X) (j : ℕ) → has_key nat_cmp m j ≡ true → has_key nat_cmp (e ∷ m) j ≡ true
@@ -88,16 +87,3 @@ pub component_born : (w : WorldState) (n : List ℕ) (s : Schema) (o : Option En
 unfolding with_component
 component_born w n s None next = none_born w (counted w) refl
 component_born w n s (Some e) next = one_born w (counted (with_component w n s (Some e))) e (next_is_free w e next).fresh refl
-
--- of the changes that a step tells, too
-pub born_of_effect : (w : WorldState) (c : Command) (written : List Key) → (differences w (counted (effect w c)) written).born ≡ made_by w c
-unfolding differences effect
-born_of_effect w Fresh written = fresh_born w (next_entity w) refl
-born_of_effect w (Entity n) written = named_born w n (next_entity w) refl
-born_of_effect w (Component n s) written = component_born w n s (next_entity w) refl
-born_of_effect w (Add e i) written = none_born w (counted (effect w (Add e i))) refl
-born_of_effect w (SetValue e i vs) written = none_born w (counted (effect w (SetValue e i vs))) refl
-born_of_effect w (Remove e i) written = none_born w (counted (effect w (Remove e i))) refl
-
-pub born_is_made : BornIsMade
-born_is_made w v c changed e = ap (λ d. d.born) (accepted_changes w v c changed e) ∙ born_of_effect w c (written_by c)

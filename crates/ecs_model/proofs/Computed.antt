@@ -15,17 +15,19 @@ use Rattle.ecs_model.specs.declared.faults.FaultKind.TheVariants.{Lex, Syntax, U
 use Rattle.ecs_model.specs.declared.faults.Refusal.{Refusal}
 use Rattle.ecs_model.specs.declared.faults.Refusal.TheVariants.{Dead, UnknownName, BadName, NameTaken, BuiltIn, NoData, Count, Range, Full}
 use Rattle.ecs_model.specs.declared.faults.CommandError.TheVariants.{Refused}
-use Rattle.ecs_model.specs.Map.{value_at}
+use Rattle.ecs_model.specs.Map.{keys, value_at}
 use Rattle.ecs_model.specs.Schema.{Schema, fits_kind}
 use Rattle.ecs_model.specs.Refusal.{first_reason}
 use Rattle.ecs_model.specs.World.{WorldState, key_cmp, first_world, next_among, type_of_id}
-use Rattle.ecs_model.specs.Changes.{added, facts_after_add, facts_after_remove}
-use Rattle.ecs_model.specs.Command.{Command, Changed, Fresh, Entity, Component, Add, SetValue, Remove, next_entity, with_born, with_component, reasons, effect, differences, step, AnswersStep}
+use Rattle.ecs_model.specs.Sets.{has_chain, within}
+use Rattle.ecs_model.specs.Command.{Changed, next_entity, with_born, with_component, differences, AnswersStep}
+use Rattle.ecs_model.specs.traits.Changes.{added, replaced, facts_after_add, facts_after_remove}
+use Rattle.ecs_model.specs.traits.Command.{Command, Fresh, Entity, Component, Add, SetValue, Remove, reasons, effect, step}
 use Rattle.ecs_model.specs.Tokens.{tokens_from, tokens_of}
 use Rattle.ecs_model.specs.Query.{Query, least_fault, faults, query_of}
-use Rattle.ecs_model.specs.Meaning.{Shown, rows}
-use Rattle.ecs_model.specs.Session.{EntityRef, by_name, by_handle, pair_of, with_both, entity_found}
-use Rattle.ecs_model.specs.Script.{BadLine, handle_of, id_and_rest, forms, form_among, form_of}
+use Rattle.ecs_model.specs.Meaning.{Shown, rows, is_answer}
+use Rattle.ecs_model.specs.Session.{EntityRef, by_name, by_handle, pair_of, DeleteOne, with_both, entity_found}
+use Rattle.ecs_model.specs.Script.{BadLine, Obey, handle_of, id_and_rest, forms, form_among, form_of}
 use Rattle.ecs_model.specs.Output.{show_text}
 
 -- A world of a component and a tag, Position and Planet at 64 and 65, and of Sun and Earth, both planets. Earth has a position.
@@ -61,19 +63,20 @@ refusal_of c = first_reason (reasons sky c)
 
 -- facts that come
 
-one_add_adds_one_fact : added sky 66 position ≡ (66, position) ∷ []
-one_add_adds_one_fact = refl
+an_add_without_traits_adds_one_fact : keys (added sky 66 position) ≡ (66, position) ∷ []
+unfolding id_cmp key_cmp within added
+an_add_without_traits_adds_one_fact = refl
 
 a_new_fact_of_a_component_has_zeros : value_at key_cmp (facts_after_add sky 66 position) (66, position) ≡ Some (pos 0 ∷ pos 0 ∷ [])
-unfolding id_cmp key_cmp facts_after_add
+unfolding id_cmp key_cmp within added replaced facts_after_add
 a_new_fact_of_a_component_has_zeros = refl
 
 a_new_fact_of_a_tag_has_no_value : value_at key_cmp (facts_after_add sky 64 planet) (64, planet) ≡ Some []
-unfolding id_cmp key_cmp facts_after_add
+unfolding id_cmp key_cmp within added replaced facts_after_add
 a_new_fact_of_a_tag_has_no_value = refl
 
 a_fact_that_is_held_keeps_its_value : facts_after_add sky 67 position ≡ sky.facts
-unfolding id_cmp key_cmp facts_after_add
+unfolding id_cmp key_cmp within added replaced facts_after_add
 a_fact_that_is_held_keeps_its_value = refl
 
 -- facts that go
@@ -121,27 +124,27 @@ no_negative_number_fits_an_unsigned_field = refl
 -- refusals
 
 no_data_is_told_before_count : refusal_of (SetValue sun planet (pos 1 ∷ pos 2 ∷ [])) ≡ Some NoData
-unfolding id_cmp key_cmp facts_after_add reasons
+unfolding id_cmp key_cmp within has_chain added replaced facts_after_add reasons
 no_data_is_told_before_count = refl
 
 count_is_told_before_range : refusal_of (SetValue sun position (pos (2 ^ 40) ∷ [])) ≡ Some Count
-unfolding id_cmp key_cmp facts_after_add reasons
+unfolding id_cmp key_cmp within has_chain added replaced facts_after_add reasons
 count_is_told_before_range = refl
 
 each_value_is_measured_by_its_own_field : refusal_of (SetValue sun position (pos 1 ∷ pos 1000 ∷ [])) ≡ Some Range
-unfolding id_cmp key_cmp facts_after_add reasons
+unfolding id_cmp key_cmp within has_chain added replaced facts_after_add reasons
 each_value_is_measured_by_its_own_field = refl
 
 an_old_generation_is_dead : refusal_of (Add (record earth { generation = 1 }) planet) ≡ Some Dead
-unfolding id_cmp key_cmp facts_after_add reasons
+unfolding id_cmp key_cmp within has_chain added replaced facts_after_add reasons
 an_old_generation_is_dead = refl
 
 an_id_of_no_live_index_is_dead : refusal_of (Add earth (pair 65 70)) ≡ Some Dead
-unfolding id_cmp key_cmp facts_after_add reasons
+unfolding id_cmp key_cmp within has_chain added replaced facts_after_add reasons
 an_id_of_no_live_index_is_dead = refl
 
 dead_is_told_before_values : refusal_of (SetValue (record earth { generation = 1 }) planet []) ≡ Some Dead
-unfolding id_cmp key_cmp facts_after_add reasons
+unfolding id_cmp key_cmp within has_chain added replaced facts_after_add reasons
 dead_is_told_before_values = refl
 
 removing_what_is_not_held_is_accepted : refusal_of (Remove sun (pair 64 65)) ≡ None
@@ -152,7 +155,7 @@ an_old_generation_has_nothing_removed : refusal_of (Remove (record earth { gener
 unfolding id_cmp key_cmp reasons
 an_old_generation_has_nothing_removed = refl
 
-dead_is_told_before_built_in : refusal_of (Remove (record earth { generation = 1 }) (plain 1)) ≡ Some Dead
+dead_is_told_before_built_in : refusal_of (Remove (record earth { generation = 1 }) (plain 3)) ≡ Some Dead
 unfolding id_cmp key_cmp reasons
 dead_is_told_before_built_in = refl
 
@@ -163,7 +166,7 @@ an_index_that_is_no_built_in_entity_is_dead_in_an_id = refl
 abbrev spent_sky : WorldState
 spent_sky = record sky { live = (3, 0) ∷ (64, 0) ∷ (65, 0) ∷ (66, 0) ∷ []; accepted = 2 ^ 64 - 1 }
 
-built_in_is_told_before_full : first_reason (reasons spent_sky (Remove sun (pair 65 3))) ≡ Some BuiltIn
+built_in_is_told_before_full : first_reason (reasons spent_sky (Remove sun (plain 3))) ≡ Some BuiltIn
 unfolding id_cmp key_cmp reasons
 built_in_is_told_before_full = refl
 
@@ -220,11 +223,11 @@ changes_of c = elim (step sky c) [ Ok a ↦ Some a.1 | Err r ↦ None ]
 
 a_fact_that_is_set_comes_and_is_written : changes_of (SetValue sun position (pos 5 ∷ pos 6 ∷ []))
     ≡ Some (record { born = None; died = []; came = (66, position) ∷ []; went = []; written = (66, position) ∷ [] })
-unfolding id_cmp key_cmp facts_after_add reasons effect differences step
+unfolding id_cmp key_cmp within has_chain added replaced facts_after_add reasons effect differences step
 a_fact_that_is_set_comes_and_is_written = refl
 
 a_fact_that_was_held_does_not_come : changes_of (Add earth planet) ≡ Some (record { born = None; died = []; came = []; went = []; written = [] })
-unfolding id_cmp key_cmp facts_after_add reasons effect differences step
+unfolding id_cmp key_cmp within has_chain added replaced facts_after_add reasons effect differences step
 a_fact_that_was_held_does_not_come = refl
 
 a_component_is_born_with_its_tag : changes_of (Component (codes "Mass") mass)
@@ -304,6 +307,11 @@ nothing_stands_behind_new : form_of (codes "new Mars") ≡ BadLine
 unfolding forms form_among is_utf8 chars encode
 nothing_stands_behind_new = refl
 
+delete_takes_one_reference : map form_of (codes "delete Sun" ∷ codes "delete #66.0 " ∷ codes "delete" ∷ codes "delete Sun Earth" ∷ codes "delete (Sun,Earth)" ∷ [])
+    ≡ Obey (DeleteOne (by_name (codes "Sun"))) ∷ Obey (DeleteOne (by_handle 66 0)) ∷ BadLine ∷ BadLine ∷ BadLine ∷ []
+unfolding forms form_among is_utf8 chars encode
+delete_takes_one_reference = refl
+
 an_entity_is_shown_with_its_facts_in_order : show_text sky earth ≡ codes "show Earth [Position=10,-3] [Planet]\n"
 unfolding id_cmp key_cmp digits
 an_entity_is_shown_with_its_facts_in_order = refl
@@ -322,6 +330,23 @@ a_row_has_a_field_for_each_term : rows sky (asks (position ∷ planet ∷ positi
     ≡ record { bindings = 67 ∷ []; fields = Shown 67 position (Some (pos 10 ∷ negsuc 2 ∷ [])) ∷ Shown 67 planet None ∷ Shown 67 position (Some (pos 10 ∷ negsuc 2 ∷ [])) ∷ [] } ∷ []
 unfolding id_cmp key_cmp rows
 a_row_has_a_field_for_each_term = refl
+
+-- Sun and Earth, the one with Disabled, the other with Prefab
+
+abbrev veiled : WorldState
+veiled = record sky { facts = ((66, plain 5), []) ∷ ((66, planet), []) ∷ ((67, plain 4), []) ∷ ((67, planet), []) ∷ ((67, pair 5 66), []) ∷ [] }
+
+an_entity_with_prefab_or_disabled_is_passed_over : rows veiled (asks (planet ∷ [])) ≡ []
+unfolding id_cmp key_cmp rows
+an_entity_with_prefab_or_disabled_is_passed_over = refl
+
+a_query_that_mentions_the_tag_passes_none_over_for_it : map (is_answer veiled (planet ∷ plain 5 ∷ [])) (66 ∷ 67 ∷ []) ≡ true ∷ false ∷ []
+unfolding id_cmp key_cmp
+a_query_that_mentions_the_tag_passes_none_over_for_it = refl
+
+a_pair_with_the_tag_is_no_mention : is_answer veiled (planet ∷ pair 5 66 ∷ []) 67 ≡ false
+unfolding id_cmp key_cmp
+a_pair_with_the_tag_is_no_mention = refl
 
 -- faults of a text
 

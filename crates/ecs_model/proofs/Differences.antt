@@ -1,26 +1,25 @@
--- What an accepted command has changed, as the few entries that it is.
-use Rattle.std.specs.Prelude.{◌≡◌, ℕ, Bool, true, false, not, ◌||◌, List, [], ◌∷◌, map, ℤ, Option, Some, None, is_some, option_map, cond, if◌then◌else◌}
-use Rattle.std.specs.List.{list_any, find}
+-- What a command that makes an entity or a component has changed, as the few entries that it is.
+use Rattle.std.specs.Prelude.{◌≡◌, ℕ, Bool, true, false, not, List, [], ◌∷◌, map, ℤ, Option, Some, None, is_some, option_map, cond}
+use Rattle.std.specs.List.{find}
 use Rattle.std.specs.Option.{option_map_or}
-use Rattle.std.specs.FinMap.Entries.{by_order, below_all, is_sorted}
+use Rattle.std.specs.FinMap.Entries.{by_order}
 use Rattle.std.specs.Ordering.{nat_cmp, eq_by_cmp, is_eq}
 use Rattle.std.specs.declared.cmp.Ordering.{Ordering}
 use Rattle.std.specs.declared.cmp.Ordering.TheVariants.{Less, Equal, Greater}
-use Rattle.std.specs.Cmp.{IsTotalOrder, nat_cmp_total, Equal-is, eq_by_cmp_equiv, tied_itself}
+use Rattle.std.specs.Cmp.{IsTotalOrder, nat_cmp_total, tied_itself}
 use Rattle.std.specs.FinMap.{nat_cmp-IsAntisymmetric}
-use Rattle.std.proofs.Common.{refl, sym, ap, subst, ◌∙◌, inl, inr, true≢false}
+use Rattle.std.proofs.Common.{refl, sym, ap, ◌∙◌, inl, inr, true≢false}
 use Rattle.ecs_id.specs.declared.EntityId.{EntityId}
-use Rattle.ecs_id.specs.Id.{Id, plain}
-use Rattle.ecs_model.specs.Map.{Map, IsMap, value_at, has_key, with_value, without, keys}
+use Rattle.ecs_id.specs.Id.{plain}
+use Rattle.ecs_model.specs.Map.{Map, value_at, has_key, with_value, without, keys}
 use Rattle.ecs_model.specs.Schema.{Schema}
-use Rattle.ecs_model.specs.World.{WorldState, Key, key_cmp, key_eq, component, is_live, entity_at, entities, holds, name_of, new_value}
-use Rattle.ecs_model.specs.Changes.{facts_after_add, facts_after_remove}
-use Rattle.ecs_model.specs.Command.{Fresh, Entity, Component, Add, SetValue, Remove, next_entity, with_facts, with_born, with_named, with_component, counted, effect, written_by, differences}
-use Rattle.ecs_model.specs.Keeps.{IsWellFormed}
-use Rattle.ecs_model.proofs.Maps.{both_true, key_cmp_total, key_cmp_same, eq_itself, absent_below, value_at-with_value}
+use Rattle.ecs_model.specs.World.{WorldState, Key, key_cmp, component, is_live, entity_at, entities, name_of}
+use Rattle.ecs_model.specs.Command.{next_entity, with_born, with_named, with_component, counted, differences}
+use Rattle.ecs_model.specs.traits.Command.{Fresh, Entity, Component, effect, written_by}
+use Rattle.ecs_model.specs.traits.Keeps.{IsWellFormed}
+use Rattle.ecs_model.proofs.Maps.{key_cmp_total, key_cmp_same, eq_itself, value_at-with_value}
 use Rattle.ecs_model.proofs.Reasons.{next_is_free}
 use Rattle.ecs_model.proofs.Births.{with_birth}
-use Rattle.ecs_model.proofs.Removals.{value_at-without}
 use Rattle.ecs_model.proofs.Steps.{no_fact}
 
 module _ {K : Type 0} (R : K → K → Ordering) (o : IsTotalOrder R) where
@@ -40,11 +39,6 @@ module _ {K : Type 0} (R : K → K → Ordering) (o : IsTotalOrder R) where
   without_all [] test h = refl
   without_all (x ∷ xs) test h =
       ap (λ b. cond (not b) (x ∷ without R xs test) (without R xs test)) (h x.0 (first_held x xs)) ∙ without_all xs test (λ q t. h q (held_behind x xs q t))
-
-  -- and where no key passes a test, none is found
-  pub find_none : {X : Type 0} (m : Map K X) (test : K → Bool) → ((q : K) → has_key R m q ≡ true → test q ≡ false) → find test (keys m) ≡ None
-  find_none [] test h = refl
-  find_none (x ∷ xs) test h = ap (λ b. cond b (Some x.0) (find test (keys xs))) (h x.0 (first_held x xs)) ∙ find_none xs test (λ q t. h q (held_behind x xs q t))
 
   -- a key that ties with the first is there
   tied_held : {X : Type 0} (k : K) (x : K × X) (xs : Map K X) → R k x.0 ≡ Equal → has_key R (x ∷ xs) k ≡ true
@@ -91,54 +85,6 @@ module _ {K : Type 0} (R : K → K → Ordering) (o : IsTotalOrder R) where
     -- a key that was there is there with one value more
     pub still_held : {X : Type 0} (m : Map K X) (k : K) (x : X) (q : K) → has_key R m q ≡ true → has_key R (with_value R m k x) q ≡ true
     still_held m k x q h = elim (value_at-with_value R o same m k x q) [ inl p ↦ ap is_some p.1 | inr p ↦ ap is_some p.1 ∙ h ]
-
-    -- a new value at a key that is there brings no key
-    pub held_before : {X : Type 0} (m : Map K X) (k : K) (x : X) (q : K) → has_key R m k ≡ true → has_key R (with_value R m k x) q ≡ true → has_key R m q ≡ true
-    held_before m k x q there h =
-        elim (value_at-with_value R o same m k x q) [ inl p ↦ ap (has_key R m) p.0 ∙ there | inr p ↦ sym (ap is_some p.1) ∙ h ]
-
-    -- where one key alone passes a test, it is left alone, if it is there
-    pub one_key : {X : Type 0} (m : Map K X) (k : K) (test : K → Bool) → IsMap R m → ((q : K) → has_key R m q ≡ true → test q ≡ not (eq_by_cmp R q k))
-        → keys (without R m test) ≡ (if has_key R m k then k ∷ [] else [])
-    one_key [] k test s h = refl
-    one_key (y ∷ ys) k test s h =
-        let parts = both_true (below_all R y.0 ys) (is_sorted R ys) s in
-        by (eq_by_cmp R y.0 k) refl parts.0 (one_key ys k test parts.1 (λ q t. h q (held_behind y ys q t)))
-      where
-        passes : (b : Bool) → eq_by_cmp R y.0 k ≡ b → test y.0 ≡ not b
-        passes b p = h y.0 (first_held y ys) ∙ ap not p
-
-        turned : (b : Bool) → eq_by_cmp R y.0 k ≡ b → eq_by_cmp R k y.0 ≡ b
-        turned b p = (eq_by_cmp_equiv o).symm k y.0 ∙ p
-
-        alone : y.0 ≡ k → below_all R y.0 ys ≡ true → has_key R ys k ≡ false
-        alone is low = ap is_some (absent_below R o k ys (subst (λ x. below_all R x ys ≡ true) is low))
-
-        by : (b : Bool) → eq_by_cmp R y.0 k ≡ b → below_all R y.0 ys ≡ true → keys (without R ys test) ≡ (if has_key R ys k then k ∷ [] else [])
-            → keys (without R (y ∷ ys) test) ≡ (if has_key R (y ∷ ys) k then k ∷ [] else [])
-        by true p low rest =
-            let is : y.0 ≡ k = same y.0 k ((Equal-is (R y.0 k)).0 p) in
-            let none : keys (without R ys test) ≡ [] = rest ∙ ap (λ b. if b then k ∷ [] else []) (alone is low) in
-            ap (λ b. keys (cond (not b) (y ∷ without R ys test) (without R ys test))) (passes true p)
-            ∙ (λ i. is i ∷ none i)
-            ∙ sym (ap (λ b. if is_some (cond b (Some y.1) (value_at R ys k)) then k ∷ [] else []) (turned true p))
-        by false p low rest =
-            ap (λ b. keys (cond (not b) (y ∷ without R ys test) (without R ys test))) (passes false p)
-            ∙ rest
-            ∙ sym (ap (λ b. if is_some (cond b (Some y.1) (value_at R ys k)) then k ∷ [] else []) (turned false p))
-
--- a world with other facts alone
-of_facts : (w : WorldState) (facts : Map Key (List ℤ)) (written came went : List Key) → keys (without key_cmp facts (has_key key_cmp w.facts)) ≡ came
-    → keys (without key_cmp w.facts (has_key key_cmp facts)) ≡ went
-    → differences w (counted (with_facts w facts)) written ≡ record { born = None; died = []; came = came; went = went; written = written }
-unfolding differences
-of_facts w facts written came went c g = λ i. record {
-  born = option_map_or (entity_at w) (find_none nat_cmp nat_cmp_total w.live (λ j. not (is_live w j)) (λ j l. ap not l) i) None;
-  died = map (λ e. (record { index = e.0; generation = e.1 }, name_of w e.0)) (without_all nat_cmp nat_cmp_total w.live (is_live w) (λ j l. l) i);
-  came = c i;
-  went = g i;
-  written = written;
-}
 
 -- a world with a new entity
 of_birth : (w : WorldState) (e : EntityId) (names : Map ℕ (List ℕ)) (schemas : Map ℕ Schema) (facts : Map Key (List ℤ)) (came : List Key) → is_live w e.index ≡ false
@@ -212,76 +158,3 @@ differences_of_component w n fs e sound next =
     ap (λ o. differences w (counted (with_component w n fs o)) []) next
     ∙ of_birth w e (with_value nat_cmp w.names e.index n) (with_value nat_cmp w.schemas e.index fs) (with_value key_cmp w.facts k []) (k ∷ []) free.fresh
     (new_fact w k [] (no_fact w e.index sound free.fresh (plain component))) (none_goes w k [])
-
--- `add` brings the fact, if it isn't held
-pub differences_of_add : (w : WorldState) (e : EntityId) (i : Id)
-    → differences w (counted (effect w (Add e i))) (written_by (Add e i))
-    ≡ record { born = None; died = []; came = if holds w e.index i then [] else (e.index, i) ∷ []; went = []; written = [] }
-unfolding effect facts_after_add
-differences_of_add w e i = by (holds w e.index i) refl
-  where
-    more : Map Key (List ℤ)
-    more = with_value key_cmp w.facts (e.index, i) (new_value w i)
-
-    by : (b : Bool) → holds w e.index i ≡ b
-        → differences w (counted (with_facts w (if b then w.facts else more))) []
-        ≡ record { born = None; died = []; came = if b then [] else (e.index, i) ∷ []; went = []; written = [] }
-    by true held = of_facts w w.facts [] [] [] (same_facts w) (same_facts w)
-    by false held = of_facts w more [] ((e.index, i) ∷ []) [] (new_fact w (e.index, i) (new_value w i) held) (none_goes w (e.index, i) (new_value w i))
-
--- and so does `set`, which writes the value
-pub differences_of_set : (w : WorldState) (e : EntityId) (i : Id) (vs : List ℤ)
-    → differences w (counted (effect w (SetValue e i vs))) (written_by (SetValue e i vs))
-    ≡ record { born = None; died = []; came = if holds w e.index i then [] else (e.index, i) ∷ []; went = []; written = (e.index, i) ∷ [] }
-unfolding effect facts_after_add
-differences_of_set w e i vs = by (holds w e.index i) refl
-  where
-    k : Key
-    k = (e.index, i)
-
-    more : Map Key (List ℤ)
-    more = with_value key_cmp w.facts k (new_value w i)
-
-    by : (b : Bool) → holds w e.index i ≡ b
-        → differences w (counted (with_facts w (with_value key_cmp (if b then w.facts else more) k vs))) (k ∷ [])
-        ≡ record { born = None; died = []; came = if b then [] else k ∷ []; went = []; written = k ∷ [] }
-    by true held =
-        of_facts w (with_value key_cmp w.facts k vs) (k ∷ []) [] []
-        (ap keys (without_all key_cmp key_cmp_total (with_value key_cmp w.facts k vs) (has_key key_cmp w.facts) (λ q l. held_before key_cmp key_cmp_total key_cmp_same w.facts k vs q held l)))
-        (none_goes w k vs)
-    by false held =
-        ap (λ facts. differences w (counted (with_facts w facts)) (k ∷ [])) (last_value key_cmp key_cmp_total w.facts k (new_value w i) vs)
-        ∙ of_facts w (with_value key_cmp w.facts k vs) (k ∷ []) (k ∷ []) [] (new_fact w k vs held) (none_goes w k vs)
-
--- `remove` takes the fact, if it is held
-pub differences_of_remove : (w : WorldState) (e : EntityId) (i : Id) → IsWellFormed w
-    → differences w (counted (effect w (Remove e i))) (written_by (Remove e i))
-    ≡ record { born = None; died = []; came = []; went = if holds w e.index i then (e.index, i) ∷ [] else []; written = [] }
-unfolding effect facts_after_remove
-differences_of_remove w e i sound = of_facts w left [] [] (if holds w e.index i then k ∷ [] else []) none_comes one_goes
-  where
-    k : Key
-    k = (e.index, i)
-
-    test : Key → Bool
-    test q = list_any (key_eq q) (k ∷ [])
-
-    left : Map Key (List ℤ)
-    left = without key_cmp w.facts test
-
-    kept : (b : Bool) (q : Key) → is_some (cond (not b) (value_at key_cmp w.facts q) None) ≡ true → has_key key_cmp w.facts q ≡ true
-    kept true q h = absurd (true≢false (sym h))
-    kept false q h = h
-
-    none_comes : keys (without key_cmp left (has_key key_cmp w.facts)) ≡ []
-    none_comes =
-        ap keys (without_all key_cmp key_cmp_total left (has_key key_cmp w.facts) (λ q l. kept (test q) q (sym (ap is_some (value_at-without w.facts test q)) ∙ l)))
-
-    stays : (b : Bool) (v : Option (List ℤ)) → is_some v ≡ true → is_some (cond (not (b || false)) v None) ≡ not b
-    stays true v h = refl
-    stays false v h = h
-
-    one_goes : keys (without key_cmp w.facts (has_key key_cmp left)) ≡ (if holds w e.index i then k ∷ [] else [])
-    one_goes =
-        one_key key_cmp key_cmp_total key_cmp_same w.facts k (has_key key_cmp left) (sound.in_order).facts
-        (λ q l. ap is_some (value_at-without w.facts test q) ∙ stays (key_eq q k) (value_at key_cmp w.facts q) l)

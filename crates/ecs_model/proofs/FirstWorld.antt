@@ -1,4 +1,4 @@
--- The first world is well formed: its entries are few, and each is looked at.
+-- The first world is well formed, where it has what traits ask: its entries are few, and each is looked at.
 use Rattle.std.specs.Prelude.{◌≡◌, ◌≢◌, ℕ, zero, suc, ◌+◌, ◌^◌, ◌<◌, ◌≤◌, ◌==◌, Bool, true, false, ◌&&◌, List, [], ◌∷◌, filter_map, length, ℤ, Option, Some, None, cond, if◌then◌else◌}
 use Rattle.std.specs.List.{list_all, cons_option}
 use Rattle.std.specs.Option.{option_eq, option_or}
@@ -13,7 +13,7 @@ use Rattle.ecs_id.specs.Id.{Id, plain, pair, mentioned, id_cmp}
 use Rattle.ecs_model.specs.Map.{Map, value_at, keys, count_at}
 use Rattle.ecs_model.specs.Text.{is_name}
 use Rattle.ecs_model.specs.World.{Key, key_cmp, first_world, is_live, is_built_in, holds, value_of, name_of, named, ids_of, type_of_id, pair_is_tag}
-use Rattle.ecs_model.specs.Laws.{FirstWorldIsWellFormed}
+use Rattle.ecs_model.specs.traits.Keeps.{IsWellFormed, KeepsTraits}
 use Rattle.ecs_model.proofs.Maps.{if_some, some_of, both_true, key_cmp_same}
 use Rattle.ecs_model.proofs.Typing.{IsTyped}
 
@@ -115,9 +115,9 @@ few_ids : (e : ℕ) → length (ids_of first_world e) ≤ 64
 unfolding first_world
 few_ids e = let few = few_made (λ (k : Key). if k.0 == e then Some k.1 else None) (keys first_world.facts) in omega (arith, few)
 
-pub first_world_is_sound : FirstWorldIsWellFormed
+pub first_world_is_sound : KeepsTraits first_world → IsWellFormed first_world
 unfolding first_world key_cmp id_cmp
-first_world_is_sound = record {
+first_world_is_sound traits = record {
   in_order = record { live = refl; facts = refl; names = refl; schemas = refl; deletions = refl; pins = refl };
   indexes = record {
     given_out = λ i l. inl (live_is_built_in i l);
@@ -134,4 +134,5 @@ first_world_is_sound = record {
   typed = λ e i. if_some (IsTyped (type_of_id first_world i)) (value_of first_world e i) (λ x found. subst (λ o. IsTyped o x) (sym (no_type i)) (no_values e i x found));
   few_ids = few_ids;
   counted = omega arith;
+  traits = traits;
 }

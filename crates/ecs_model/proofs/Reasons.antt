@@ -1,46 +1,14 @@
--- What is known of a command that was accepted.
-use Rattle.std.specs.Prelude.{◌≡◌, ℕ, zero, suc, ◌+◌, ◌-◌, ◌<◌, ◌≤◌, Bool, true, false, ◌||◌, not, List, ◌∷◌, Option, Some, None, option_map, Result, Ok, Err, nat_lt}
-use Rattle.std.specs.Option.{option_map_or}
-use Rattle.std.proofs.Common.{refl, sym, ap, subst, arith, true≢false}
+-- What is known where no reason applied.
+use Rattle.std.specs.Prelude.{◌≡◌, ℕ, zero, suc, ◌+◌, ◌-◌, ◌<◌, ◌≤◌, Bool, true, false, ◌||◌, not, List, ◌∷◌, Option, Some, None, option_map, nat_lt}
+use Rattle.std.proofs.Common.{refl, sym, subst, arith, true≢false}
 use Rattle.std.proofs.lemmas.Bool.Decides.{nat_tests}
 use Rattle.ecs_id.specs.declared.EntityId.{EntityId}
 use Rattle.ecs_model.specs.declared.faults.Refusal.{Refusal}
 use Rattle.ecs_model.specs.Map.{count_at}
 use Rattle.ecs_model.specs.Refusal.{first_reason}
 use Rattle.ecs_model.specs.World.{WorldState, is_live, first_index, last_index, first_passing, is_free, next_among}
-use Rattle.ecs_model.specs.Command.{Command, Changed, reasons, effect, counted, differences, written_by, step, next_entity}
+use Rattle.ecs_model.specs.Command.{next_entity}
 use Rattle.ecs_model.proofs.Maps.{both_true}
-
--- an accepted command has no reason against it, its world is that of its effect, counted, and it has changed what differs
-accepted_step : (w v : WorldState) (c : Command) (changed : Changed) → step w c ≡ Ok (v, changed)
-    → (first_reason (reasons w c) ≡ None) × (v ≡ counted (effect w c)) × (changed ≡ differences w (counted (effect w c)) (written_by c))
-unfolding step
-accepted_step w v c changed e = by (first_reason (reasons w c)) refl e
-  where
-    next : WorldState
-    next = counted (effect w c)
-
-    pair : WorldState × Changed
-    pair = (next, differences w next (written_by c))
-
-    answer : Result (WorldState × Changed) Refusal
-    answer = Ok pair
-
-    asked : WorldState × Changed
-    asked = (v, changed)
-
-    by : (o : Option Refusal) → first_reason (reasons w c) ≡ o → option_map_or Err o answer ≡ Ok asked
-        → (first_reason (reasons w c) ≡ None) × (v ≡ next) × (changed ≡ differences w next (written_by c))
-    by None p q = let same : pair ≡ asked = cc in (p, sym (ap (λ a. a.0) same), sym (ap (λ a. a.1) same))
-    by (Some r) p q = cc
-
-pub accepted_command : (w v : WorldState) (c : Command) (changed : Changed) → step w c ≡ Ok (v, changed)
-    → (first_reason (reasons w c) ≡ None) × (v ≡ counted (effect w c))
-accepted_command w v c changed e = let all = accepted_step w v c changed e in (all.0, all.1)
-
-pub accepted_changes : (w v : WorldState) (c : Command) (changed : Changed) → step w c ≡ Ok (v, changed)
-    → changed ≡ differences w (counted (effect w c)) (written_by c)
-accepted_changes w v c changed e = (accepted_step w v c changed e).2
 
 -- the first reason does not apply, nor those behind it
 pub passed : (b : Bool) (r : Refusal) (rs : List (Bool × Refusal)) → first_reason ((b, r) ∷ rs) ≡ None → (b ≡ false) × (first_reason rs ≡ None)

@@ -1,37 +1,16 @@
 -- The order of refusals is their number.
-use Rattle.std.specs.Prelude.{◌≡◌, ℕ, zero, suc, ◌<◌, ◌≤◌, Bool, true, false, List, [], ◌∷◌, ◌++◌, map, length, slice_index_or, ℤ, Option, Some, None}
+use Rattle.std.specs.Prelude.{◌≡◌, ℕ, zero, suc, ◌<◌, ◌≤◌, Bool, true, false, List, [], ◌∷◌, map, length, slice_index_or, Some}
 use Rattle.std.specs.List.{AllByRecursion}
 use Rattle.std.specs.List.Sorted.{IsStrictlySortedBy}
 use Rattle.std.specs.Ordering.{nat_cmp}
 use Rattle.std.specs.declared.cmp.Ordering.TheVariants.{Less}
-use Rattle.std.proofs.Common.{rules, sym, ap, subst, arith, true≢false}
+use Rattle.std.proofs.Common.{sym, ap, subst, arith, true≢false}
 use Rattle.std.proofs.lemmas.Bool.Decides.{nat_tests}
-use Rattle.ecs_id.specs.Id.{Id}
 use Rattle.ecs_model.specs.declared.faults.Refusal.{Refusal}
-use Rattle.ecs_model.specs.Schema.{Schema}
 use Rattle.ecs_model.specs.Refusal.{first_reason, refusal_number}
-use Rattle.ecs_model.specs.World.{WorldState, type_of_id}
-use Rattle.ecs_model.specs.Command.{Fresh, Entity, Component, Add, SetValue, Remove, add_reasons, value_reasons, reasons}
-use Rattle.ecs_model.specs.Laws.{ReasonsAscend, FirstReasonIsLeast}
 
 abbrev pub numbers : List (Bool × Refusal) → List ℕ
 numbers rs = map (λ r. refusal_number r.1) rs
-
--- the reasons against `set`, by whether its id has fields
-values_ascend : (o : Option Schema) (vs : List ℤ) (w : WorldState) (e : ℕ) (i : Id)
-    → IsStrictlySortedBy nat_cmp (1 ∷ 5 ∷ numbers (value_reasons o vs ++ add_reasons w e i))
-unfolding IsStrictlySortedBy
-values_ascend None vs w e i = search rules
-values_ascend (Some fs) vs w e i = search rules
-
-pub reasons_ascend : ReasonsAscend
-unfolding reasons IsStrictlySortedBy
-reasons_ascend w Fresh = search rules
-reasons_ascend w (Entity n) = search rules
-reasons_ascend w (Component n s) = search rules
-reasons_ascend w (Add e i) = search rules
-reasons_ascend w (SetValue e i vs) = values_ascend (type_of_id w i) vs w e.index i
-reasons_ascend w (Remove e i) = search rules
 
 -- all numbers behind the first are greater
 behind : (n : ℕ) (rs : List (Bool × Refusal)) (b : Bool) (s : Refusal) (k : ℕ) → AllByRecursion (λ m. nat_cmp n m ≡ Less) (numbers rs) → k < length rs
@@ -58,6 +37,3 @@ least ((true, x) ∷ rs) rise r s first (suc k) within at =
     subst (λ q. refusal_number q ≤ refusal_number s) same below
 least ((false, x) ∷ rs) rise r s first zero within at = absurd (true≢false (sym (ap (λ p. p.0) at)))
 least ((false, x) ∷ rs) rise r s first (suc k) within at = least rs rise.1 r s first k (omega arith) at
-
-pub first_reason_is_least : FirstReasonIsLeast
-first_reason_is_least w c r s first (k, within, at) = least (reasons w c) (reasons_ascend w c) r s first k within at

@@ -1,16 +1,15 @@
 -- Values and the types of their ids.
-use Rattle.std.specs.Prelude.{◌≡◌, ℕ, Bool, true, ◌&&◌, List, [], ◌∷◌, length, ℤ, pos, Option, Some, None, IsTrue, IfSome, if◌then◌else◌}
+use Rattle.std.specs.Prelude.{◌≡◌, ℕ, Bool, true, ◌&&◌, List, [], ◌∷◌, length, ℤ, pos, Option, Some, None, IsTrue, if◌then◌else◌}
 use Rattle.std.specs.List.{list_all}
 use Rattle.std.specs.Option.{option_map_or, option_or}
 use Rattle.std.specs.Ordering.{nat_cmp}
-use Rattle.std.proofs.Common.{refl, sym, subst}
+use Rattle.std.proofs.Common.{refl}
 use Rattle.ecs_id.specs.Id.{Id, plain, pair, mentioned}
 use Rattle.ecs_model.specs.declared.Kind.{Kind}
 use Rattle.ecs_model.specs.declared.Kind.TheVariants.{I8, U8, I16, U16, I32, U32, I64, U64}
 use Rattle.ecs_model.specs.Map.{value_at}
 use Rattle.ecs_model.specs.Schema.{Schema, zeros, all_fit, fits_kind}
-use Rattle.ecs_model.specs.World.{WorldState, holds, value_of, type_of_id, pair_is_tag}
-use Rattle.ecs_model.specs.Keeps.{HasTypes}
+use Rattle.ecs_model.specs.World.{WorldState, holds, type_of_id, pair_is_tag}
 use Rattle.ecs_model.proofs.Maps.{both_true}
 
 -- the value is one of this type
@@ -45,9 +44,3 @@ same_type w v p (pair r t) h s k =
     let first = both_true (p r) (p t && true) h in
     let second = both_true (p t) true first.1 in
     λ i. if k r i then None else option_or (s r first.0 i) (s t second.0 i)
-
--- what a fact keeps of its type
-pub typed_still : (w v : WorldState) (e : ℕ) (id : Id) → HasTypes w → value_of v e id ≡ value_of w e id → type_of_id v id ≡ type_of_id w id
-    → IfSome (value_of v e id) (IsTyped (type_of_id v id))
-typed_still w v e id h same is =
-    subst (λ o. IfSome o (IsTyped (type_of_id v id))) (sym same) (subst (λ o. IfSome (value_of w e id) (IsTyped o)) (sym is) (h e id))

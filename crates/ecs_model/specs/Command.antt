@@ -1,35 +1,18 @@
--- One command of a world: its refusal, or the world that it leaves and what has changed.
-use Rattle.std.specs.Prelude.{◌≡◌, ℕ, ◌+◌, ◌-◌, ◌^◌, ◌==◌, Bool, true, not, ◌||◌, List, [], ◌∷◌, ◌++◌, map, length, ℤ, nat_lt, nat_le, Option, Some, None, is_some, is_none, Result, Ok, Err}
+-- What commands of a world are told by: reasons against them, the worlds that they leave and what has changed.
+use Rattle.std.specs.Prelude.{◌≡◌, ℕ, ◌+◌, ◌-◌, ◌^◌, ◌==◌, Bool, true, not, ◌||◌, List, [], ◌∷◌, map, length, ℤ, nat_lt, nat_le, Option, Some, None, is_some, is_none, Result, Ok, Err}
 use Rattle.std.specs.List.{list_any, list_all, find}
 use Rattle.std.specs.Option.{option_map_or}
 use Rattle.std.specs.Ordering.{nat_cmp}
 use Rattle.ecs_id.specs.declared.EntityId.{EntityId}
 use Rattle.ecs_id.specs.Id.{Id, plain, mentioned}
 use Rattle.ecs_model.specs.declared.faults.Refusal.{Refusal}
-use Rattle.ecs_model.specs.declared.faults.Refusal.TheVariants.{Dead, BadName, NameTaken, BuiltIn, NoData, Count, Range, TooManyIds, Full}
+use Rattle.ecs_model.specs.declared.faults.Refusal.TheVariants.{BadName, NameTaken, NoData, Count, Range, Full}
 use Rattle.ecs_model.specs.declared.faults.CommandError.{CommandError}
 use Rattle.ecs_model.specs.declared.faults.CommandError.TheVariants.{Refused, Memory}
 use Rattle.ecs_model.specs.Map.{Map, keys, has_key, with_value, without}
 use Rattle.ecs_model.specs.Text.{is_name}
-use Rattle.ecs_model.specs.Schema.{Schema, all_fit, schema_fault}
-use Rattle.ecs_model.specs.World.{WorldState, Key, key_cmp, component, is_live, is_alive, entity_at, entities, ids_of, named, name_of, type_of_id, is_built_in, last_index, most_ids, next_among}
-use Rattle.ecs_model.specs.Changes.{facts_after_add, facts_after_remove}
-use Rattle.ecs_model.specs.Provisional.{is_not_yet_changed}
-use Rattle.ecs_model.specs.Refusal.{first_reason}
-
--- the calls that change a world
-pub data Command : Type 0 where
-  Fresh : Command
-  Entity : List ℕ → Command
-  Component : List ℕ → Schema → Command
-  Add : EntityId → Id → Command
-  SetValue : EntityId → Id → List ℤ → Command
-  Remove : EntityId → Id → Command
-
--- a new component has fields that make a schema
-abbrev pub IsCommand : Command → Type 0
-IsCommand (Component n s) = schema_fault s ≡ None
-IsCommand _ = Unit {0}
+use Rattle.ecs_model.specs.Schema.{Schema, all_fit}
+use Rattle.ecs_model.specs.World.{WorldState, Key, key_cmp, component, is_live, is_alive, entity_at, entities, ids_of, named, name_of, last_index, most_ids, next_among}
 
 -- what a command has changed
 pub record Changed : Type 0 where
@@ -53,10 +36,6 @@ module _ (w : WorldState) where
   -- whether an entity handed in is dead, or the id mentions an index that is not live
   abbrev pub is_dead : EntityId → Id → Bool
   is_dead e i = not (is_alive w e) || not (list_all (is_live w) (mentioned i))
-
-  -- whether `add`, `set` or `remove` would change a fact of a built-in entity
-  abbrev pub changes_built_in : ℕ → Id → Bool
-  changes_built_in e i = is_built_in e || is_not_yet_changed i
 
   -- whether an entity has more ids than it may have
   abbrev pub is_crowded : Bool
@@ -98,37 +77,10 @@ name_reasons w n = (not (is_name n), BadName) ∷ (is_some (named w n), NameTake
 abbrev pub birth_reasons : WorldState → List (Bool × Refusal)
 birth_reasons w = (is_none (next_entity w) || is_spent w, Full) ∷ []
 
--- the reasons against what `add` would leave
-abbrev pub add_reasons : WorldState → ℕ → Id → List (Bool × Refusal)
-add_reasons w e i = (is_crowded (with_facts w (facts_after_add w e i)), TooManyIds) ∷ (is_spent w, Full) ∷ []
-
 -- the reasons against values of an id
 abbrev pub value_reasons : Option Schema → List ℤ → List (Bool × Refusal)
 value_reasons None vs = (true, NoData) ∷ []
 value_reasons (Some fs) vs = (not (length vs == length fs), Count) ∷ (not (all_fit fs vs), Range) ∷ []
-
--- the reasons against a command, in the order in which they are judged
-unfoldable pub reasons : WorldState → Command → List (Bool × Refusal)
-reasons w Fresh = birth_reasons w
-reasons w (Entity n) = name_reasons w n ++ birth_reasons w
-reasons w (Component n s) = name_reasons w n ++ birth_reasons w
-reasons w (Add e i) = (is_dead w e i, Dead) ∷ (changes_built_in w e.index i, BuiltIn) ∷ add_reasons w e.index i
-reasons w (SetValue e i vs) = (is_dead w e i, Dead) ∷ (changes_built_in w e.index i, BuiltIn) ∷ (value_reasons (type_of_id w i) vs ++ add_reasons w e.index i)
-reasons w (Remove e i) = (is_dead w e i, Dead) ∷ (changes_built_in w e.index i, BuiltIn) ∷ (is_spent w, Full) ∷ []
-
--- the world that an accepted command leaves, but for its count
-unfoldable pub effect : WorldState → Command → WorldState
-effect w Fresh = with_born w (next_entity w)
-effect w (Entity n) = with_named w n (next_entity w)
-effect w (Component n s) = with_component w n s (next_entity w)
-effect w (Add e i) = with_facts w (facts_after_add w e.index i)
-effect w (SetValue e i vs) = with_facts w (with_value key_cmp (facts_after_add w e.index i) (e.index, i) vs)
-effect w (Remove e i) = with_facts w (facts_after_remove w e.index i)
-
--- the fact whose value a command sets
-abbrev pub written_by : Command → List Key
-written_by (SetValue e i vs) = (e.index, i) ∷ []
-written_by _ = []
 
 -- what differs between two worlds: the entities and the facts that stand in one alone
 unfoldable pub differences : WorldState → WorldState → List Key → Changed
@@ -139,12 +91,6 @@ differences w v written = record {
   went = keys (without key_cmp w.facts (has_key key_cmp v.facts));
   written = written;
 }
-
--- the answer to a command: the first reason against it, or the new world and what has changed
-unfoldable pub step : WorldState → Command → Result (WorldState × Changed) Refusal
-step w c =
-    let v = counted (effect w c) in
-    option_map_or Err (first_reason (reasons w c)) (Ok (v, differences w v (written_by c)))
 
 -- a call answers as the step does and leaves what the step says: an accepted one answers what has changed, a refusal leaves the world as it was, and so does refused memory, which may stand in place of any answer
 abbrev pub AnswersStep : Result Changed CommandError → Result (WorldState × Changed) Refusal → WorldState → WorldState → Type 0

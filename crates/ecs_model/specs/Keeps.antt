@@ -1,4 +1,4 @@
--- What every world has and every command keeps.
+-- What every world has and every command keeps, but for what traits ask of the facts.
 use Rattle.std.specs.Prelude.{◌≡◌, ℕ, ◌^◌, ◌<◌, ◌≤◌, ◌⊎◌, true, List, length, IsTrue, Some, None, IfSome}
 use Rattle.std.specs.List.{list_all}
 use Rattle.std.specs.Option.{option_map_or}
@@ -7,7 +7,7 @@ use Rattle.ecs_id.specs.Id.{Id, mentioned}
 use Rattle.ecs_model.specs.Map.{IsMap, count_at, value_at}
 use Rattle.ecs_model.specs.Text.{is_name}
 use Rattle.ecs_model.specs.Schema.{all_fit, schema_fault}
-use Rattle.ecs_model.specs.World.{WorldState, key_cmp, first_world, is_live, holds, ids_of, value_of, name_of, new_value, is_built_in, first_index, last_index, most_ids, type_of_id}
+use Rattle.ecs_model.specs.World.{WorldState, key_cmp, first_world, is_live, holds, value_of, name_of, new_value, is_built_in, first_index, last_index, type_of_id}
 
 -- each of the maps has its keys in order, once each
 pub record IsInOrder (w : WorldState) : Type 0 where
@@ -41,13 +41,3 @@ pub record MentionsLive (w : WorldState) : Type 0 where
 -- each fact has a value of its id's type: as many numbers as the type has fields, each in its range
 abbrev pub HasTypes : WorldState → Type 0
 HasTypes w = (e : ℕ) (i : Id) → IfSome (value_of w e i) (λ v. (length v ≡ length (new_value w i)) × IsTrue (option_map_or (λ fs. all_fit fs v) (type_of_id w i) true))
-
--- what every world has
-pub record IsWellFormed (w : WorldState) : Type 0 where
-  pub in_order : IsInOrder w
-  pub indexes : HasIndexes w
-  pub built_in : KeepsBuiltIn w
-  pub live : MentionsLive w
-  pub typed : HasTypes w
-  pub few_ids : (e : ℕ) → length (ids_of w e) ≤ most_ids
-  pub counted : w.accepted < 2 ^ 64

@@ -6,7 +6,6 @@ pub mod World
 pub mod FactOrder
 pub mod Values
 pub mod Refusal
-pub mod Provisional
 pub mod Changes
 pub mod Command
 pub mod Keeps

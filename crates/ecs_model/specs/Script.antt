@@ -6,7 +6,7 @@ use Rattle.ecs_model.specs.Text.{is_blank, trim_front, trimmed, words, is_number
 use Rattle.ecs_model.specs.declared.Kind.{Kind}
 use Rattle.ecs_model.specs.declared.Kind.TheVariants.{I8, U8, I16, U16, I32, U32, I64, U64}
 use Rattle.ecs_model.specs.Schema.{Field, Schema}
-use Rattle.ecs_model.specs.Session.{EntityRef, by_name, by_handle, IdRef, plain_of, pair_of, Order, MakeFresh, MakeEntity, AddTo, SetIn, RemoveFrom}
+use Rattle.ecs_model.specs.Session.{EntityRef, by_name, by_handle, IdRef, plain_of, pair_of, Order, MakeFresh, MakeEntity, AddTo, SetIn, RemoveFrom, DeleteOne}
 
 -- what a line asks
 pub data Form : Type 0 where
@@ -146,6 +146,7 @@ forms =
     ∷ (codes "new", λ rest. nothing_more (Obey MakeFresh) (words rest))
     ∷ (codes "remove", fact_line (λ r i. nothing_more (Obey (RemoveFrom r i))))
     ∷ (codes "show", entity_line Show)
+    ∷ (codes "delete", entity_line (λ r. Obey (DeleteOne r)))
     ∷ []
 
 -- whether a line is blank or a comment

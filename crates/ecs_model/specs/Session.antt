@@ -2,6 +2,7 @@
 use Rattle.std.specs.Prelude.{ℕ, Bool, false, not, List, [], ◌∷◌, ℤ, Option, Some, None, is_none, option_map, option_and_then, Result, Ok, Err, if◌then◌else◌}
 use Rattle.std.specs.List.{list_any}
 use Rattle.std.specs.Option.{option_map_or}
+use Rattle.std.specs.Result.{result_map_both}
 use Rattle.ecs_id.specs.declared.EntityId.{EntityId}
 use Rattle.ecs_id.specs.Id.{Id, plain, pair}
 use Rattle.ecs_model.specs.Schema.{Schema}
@@ -9,7 +10,8 @@ use Rattle.ecs_model.specs.World.{WorldState, first_world, is_alive, entity_at, 
 use Rattle.ecs_model.specs.declared.faults.Refusal.{Refusal}
 use Rattle.ecs_model.specs.declared.faults.Refusal.TheVariants.{Dead, UnknownName}
 use Rattle.ecs_model.specs.Refusal.{first_reason}
-use Rattle.ecs_model.specs.Command.{Command, Changed, Fresh, Entity, Component, Add, SetValue, Remove, step}
+use Rattle.ecs_model.specs.Command.{Changed}
+use Rattle.ecs_model.specs.traits.Command.{Command, Fresh, Entity, Component, Add, SetValue, Remove, Delete, step}
 
 -- the state of a session
 pub record SessionState : Type 0 where
@@ -37,6 +39,7 @@ pub data Order : Type 0 where
   AddTo : EntityRef → IdRef → Order
   SetIn : EntityRef → IdRef → List ℤ → Order
   RemoveFrom : EntityRef → IdRef → Order
+  DeleteOne : EntityRef → Order
 
 -- the references in an id
 abbrev pub refs_of_id : IdRef → List EntityRef
@@ -95,3 +98,4 @@ apply s (MakeComponent n fs) = world_order s (Ok (Component n fs))
 apply s (AddTo r i) = world_order s (with_both s.world Add r i)
 apply s (SetIn r i vs) = world_order s (with_both s.world (λ e j. SetValue e j vs) r i)
 apply s (RemoveFrom r i) = world_order s (with_both s.world Remove r i)
+apply s (DeleteOne r) = world_order s (result_map_both Delete (λ reason. reason) (entity_found s.world r))

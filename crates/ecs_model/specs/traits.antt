@@ -1,4 +1,4 @@
--- What the commands of a world mean with traits: a world is not proved against these yet.
+-- What the commands of a world mean, with traits and deletion.
 pub mod Rules
 pub mod Changes
 pub mod Command

@@ -1,36 +1,6 @@
-//! What is proved of the definitions alone: each function's contract is a law, and its body does nothing.
+//! What is proved of lines of scripts and of rows: each function's contract is a law, and its body does nothing.
 
-ghost use Rattle.ecs_model.specs.Laws.{BornIsMade, EqualRowsAreOne, FirstReasonIsLeast, FirstWorldIsWellFormed, ReasonsAscend, RefusedLinesChangeNothing, RemovesHeldAlone, RowsAreDistinct, StepKeeps};
-
-/// Law: the world before any command is well formed.
-pub fn first_world_is_well_formed()
-    ensures { FirstWorldIsWellFormed }
-{}
-
-/// Law: each accepted command leaves a well-formed world.
-pub fn every_step_keeps_the_world_well_formed()
-    ensures { StepKeeps }
-{}
-
-/// Law: the reasons against a command are judged in ascending order of their numbers.
-pub fn the_order_of_refusals_is_their_number()
-    ensures { ReasonsAscend }
-{}
-
-/// Law: of the reasons against a command that apply, the one that is told has the least number.
-pub fn the_least_reason_is_told()
-    ensures { FirstReasonIsLeast }
-{}
-
-/// Law: the entity that an accepted command tells as born is the next entity, of the commands that make one, and else there is none.
-pub fn the_entity_born_is_the_next()
-    ensures { BornIsMade }
-{}
-
-/// Law: removing what isn't held leaves the facts as they were.
-pub fn removing_what_is_not_held_takes_nothing()
-    ensures { RemovesHeldAlone }
-{}
+ghost use Rattle.ecs_model.specs.Laws.{EqualRowsAreOne, RefusedLinesChangeNothing, RowsAreDistinct};
 
 /// Law: a refused line of a script changes nothing.
 pub fn a_refused_line_changes_nothing()

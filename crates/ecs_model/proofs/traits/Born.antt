@@ -1,4 +1,4 @@
--- The entity born is the one that the command makes, with traits too.
+-- The entity born is the one that the command makes.
 use Rattle.std.specs.Prelude.{◌≡◌, ℕ, true, List, None}
 use Rattle.std.specs.List.{Contains}
 use Rattle.std.specs.Option.{option_map_or}

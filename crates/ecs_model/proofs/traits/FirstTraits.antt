@@ -10,7 +10,6 @@ use Rattle.ecs_model.proofs.FirstWorld.{entries_pass, first_world_is_sound}
 use Rattle.ecs_model.proofs.Maps.{key_cmp_same, some_of}
 use Rattle.ecs_model.proofs.Members.{eq_itself, eq_same}
 use Rattle.ecs_model.proofs.traits.Facts.{leads_holds}
-use Rattle.ecs_model.proofs.traits.Kept.{and_traits}
 
 -- what each entry of the first world passes, a fact passes
 fact_passes : (p : Key → Bool) → list_all (λ e. p e.0) first_world.facts ≡ true → (e : ℕ) (i : Id) → holds first_world e i ≡ true → p (e, i) ≡ true
@@ -50,4 +49,4 @@ first_traits = record {
 }
 
 pub first_world_keeps_traits : FirstWorldIsWellFormed
-first_world_keeps_traits = and_traits first_world first_world_is_sound first_traits
+first_world_keeps_traits = first_world_is_sound first_traits

@@ -1,23 +1,16 @@
--- A well-formed world but for what traits ask, and what follows of its entities and ids.
+-- What follows of the entities and ids of a well-formed world.
 use Rattle.std.specs.List.{All, Contains, list_all, list_any}
 use Rattle.std.proofs.Common.{◌≡◌, ℕ, suc, ◌<◌, Bool, true, false, ◌&&◌, ◌||◌, List, [], ◌∷◌, get_or, is_some, refl, sym, ap, ◌∙◌, inl, inr, arith}
 use Rattle.std.proofs.lemmas.Bool.Decides.{nat_tests}
 use Rattle.std.proofs.lemmas.List.Elements.{Contains-append_right, Contains-get_or}
 use Rattle.ecs_id.specs.Id.{Id, IsIndex, mentioned, last_index}
-use Rattle.ecs_model.specs.Keeps as bare
 use Rattle.ecs_model.specs.Links.{AreLinks}
 use Rattle.ecs_model.specs.World.{WorldState, first_world, is_built_in, is_live, entities, holds, ids_of}
-use Rattle.ecs_model.specs.traits.Keeps.{KeepsTraits, IsWellFormed}
+use Rattle.ecs_model.specs.traits.Keeps.{IsWellFormed}
 use Rattle.ecs_model.specs.traits.Laws.{ZeroIsNothing}
 use Rattle.ecs_model.proofs.FirstWorld.{facts_live, live_is_built_in}
 use Rattle.ecs_model.proofs.Members.{both, head_or_tail}
 use Rattle.ecs_model.proofs.traits.Facts.{listed_live, live_listed, listed_held}
-
-pub but_traits : (w : WorldState) → IsWellFormed w → bare.IsWellFormed w
-but_traits w h = record { in_order = h.in_order; indexes = h.indexes; built_in = h.built_in; live = h.live; typed = h.typed; few_ids = h.few_ids; counted = h.counted }
-
-pub and_traits : (w : WorldState) → bare.IsWellFormed w → KeepsTraits w → IsWellFormed w
-and_traits w h t = record { in_order = h.in_order; indexes = h.indexes; built_in = h.built_in; live = h.live; typed = h.typed; few_ids = h.few_ids; counted = h.counted; traits = t }
 
 -- what all pass, each passes
 pub each_passes : {A : Type 0} (p : A → Bool) (xs : List A) → list_all p xs ≡ true → (x : A) → Contains xs x → p x ≡ true

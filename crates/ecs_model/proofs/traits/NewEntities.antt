@@ -1,4 +1,4 @@
--- What traits ask stays so where an entity or a component is made.
+-- What traits ask stays so where an entity or a component is made, and so the world stays well formed.
 use Rattle.std.specs.Prelude.{◌≡◌, ◌≢◌, ℕ, Bool, true, false, not, ◌||◌, List, [], ◌∷◌, Option, Some, None, is_some, is_none}
 use Rattle.std.proofs.Common.{refl, sym, ap, ◌∙◌, inl, inr, true≢false}
 use Rattle.ecs_id.specs.declared.EntityId.{EntityId}
@@ -15,9 +15,8 @@ use Rattle.ecs_model.specs.traits.Keeps.{KeepsTraits, IsWellFormed}
 use Rattle.ecs_model.specs.traits.Rules.{is_trait}
 use Rattle.ecs_model.proofs.Maps.{fact_value_at}
 use Rattle.ecs_model.proofs.Reasons.{passed, neither, denied}
-use Rattle.ecs_model.proofs.Steps as bare
+use Rattle.ecs_model.proofs.Steps as made
 use Rattle.ecs_model.proofs.traits.Fewer.{fewer_keep}
-use Rattle.ecs_model.proofs.traits.Kept.{but_traits, and_traits}
 
 -- they speak of facts alone
 pub same_facts_keep : (w v : WorldState) → KeepsTraits w → v.facts ≡ w.facts → KeepsTraits v
@@ -77,7 +76,7 @@ pub fresh_keeps : (w : WorldState) → IsWellFormed w → first_reason (reasons 
 unfolding reasons effect
 fresh_keeps w h r =
     let room = neither (is_none (next_entity w)) (is_spent w) (passed (is_none (next_entity w) || is_spent w) Full [] r).0 in
-    and_traits (counted (with_born w (next_entity w))) (bare.fresh_keeps w (next_entity w) (but_traits w h) refl room.0 room.1) (born_traits w (next_entity w) h.traits)
+    made.fresh_keeps w (next_entity w) h refl room.0 room.1 (born_traits w (next_entity w) h.traits)
 
 pub entity_keeps : (w : WorldState) (n : List ℕ) → IsWellFormed w → first_reason (reasons w (Entity n)) ≡ None → IsWellFormed (counted (effect w (Entity n)))
 unfolding reasons effect
@@ -85,9 +84,7 @@ entity_keeps w n h r =
     let name = passed (not (is_name n)) BadName ((is_some (named w n), NameTaken) ∷ birth_reasons w) r in
     let free = passed (is_some (named w n)) NameTaken (birth_reasons w) name.1 in
     let room = neither (is_none (next_entity w)) (is_spent w) (passed (is_none (next_entity w) || is_spent w) Full [] free.1).0 in
-    and_traits (counted (with_named w n (next_entity w)))
-    (bare.entity_keeps w n (next_entity w) (but_traits w h) refl (denied (is_name n) name.0) free.0 room.0 room.1)
-    (named_traits w n (next_entity w) h.traits)
+    made.entity_keeps w n (next_entity w) h refl (denied (is_name n) name.0) free.0 room.0 room.1 (named_traits w n (next_entity w) h.traits)
 
 pub component_keeps : (w : WorldState) (n : List ℕ) (s : Schema) → IsWellFormed w → schema_fault s ≡ None → first_reason (reasons w (Component n s)) ≡ None
     → IsWellFormed (counted (effect w (Component n s)))
@@ -96,6 +93,4 @@ component_keeps w n s h ok r =
     let name = passed (not (is_name n)) BadName ((is_some (named w n), NameTaken) ∷ birth_reasons w) r in
     let free = passed (is_some (named w n)) NameTaken (birth_reasons w) name.1 in
     let room = neither (is_none (next_entity w)) (is_spent w) (passed (is_none (next_entity w) || is_spent w) Full [] free.1).0 in
-    and_traits (counted (with_component w n s (next_entity w)))
-    (bare.component_keeps w n s (next_entity w) (but_traits w h) ok refl (denied (is_name n) name.0) free.0 room.0 room.1)
-    (component_traits w n s (next_entity w) h.traits)
+    made.component_keeps w n s (next_entity w) h ok refl (denied (is_name n) name.0) free.0 room.0 room.1 (component_traits w n s (next_entity w) h.traits)

@@ -1,4 +1,4 @@
--- Each accepted command leaves a well-formed world, with traits too.
+-- Each accepted command leaves a well-formed world.
 use Rattle.std.specs.Prelude.{◌≡◌, None}
 use Rattle.std.proofs.Common.{sym, subst}
 use Rattle.ecs_model.specs.Command.{counted}
@@ -12,7 +12,7 @@ use Rattle.ecs_model.proofs.traits.Deleted.{delete_keeps}
 use Rattle.ecs_model.proofs.traits.NewEntities.{fresh_keeps, entity_keeps, component_keeps}
 use Rattle.ecs_model.proofs.traits.Order.{accepted_step}
 
-effect_keeps : (w : WorldState) (c : Command) → IsWellFormed w → IsCommand c → first_reason (reasons w c) ≡ None → IsWellFormed (counted (effect w c))
+pub effect_keeps : (w : WorldState) (c : Command) → IsWellFormed w → IsCommand c → first_reason (reasons w c) ≡ None → IsWellFormed (counted (effect w c))
 effect_keeps w Fresh h ok r = fresh_keeps w h r
 effect_keeps w (Entity n) h ok r = entity_keeps w n h r
 effect_keeps w (Component n s) h ok r = component_keeps w n s h ok r

@@ -1,6 +1,0 @@
--- By cases of the commands.
-use Rattle.ecs_model.proofs.Steps.{step_keeps}
-use Rattle.ecs_model.proofs.laws.every_step_keeps_the_world_well_formed.Goals as goal
-
-pub returns : goal.returns
-returns c = step_keeps

@@ -1,6 +1,0 @@
--- The numbers rise behind the first reason that applies.
-use Rattle.ecs_model.proofs.RefusalOrder.{first_reason_is_least}
-use Rattle.ecs_model.proofs.laws.the_least_reason_is_told.Goals as goal
-
-pub returns : goal.returns
-returns c = first_reason_is_least
