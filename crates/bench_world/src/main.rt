@@ -1,23 +1,30 @@
-//! Makes entities with three components, whose values are set, and then moves each to another table and on to a third.
+//! Carries out many commands on a world. Time it from outside.
 //!
-//! How many entities is its argument, 10,000 where there is none. It prints the sum of all values that are read back, and how
-//! many ids all of these entities hold. Time it from outside.
+//! Its first argument names a workload, `values` where there is none, and its second says how large it is, 10,000 where there is none;
+//! the first may be left out. It prints two numbers that the commands have led to.
+//!
+//! - `values`: entities with three components, whose values are set; each moves to another table and on to a third
+//! - `tree`: each entity is a child of one of those before it, chosen at random
+//! - `felled`: the same, and then the first is deleted, and all with it
+//! - `pairs`: pairs of a symmetric and exclusive relationship come and go among a hundred entities
+//! - `chain`: each entity is a child of the one before it, and it is asked first whether this would close a cycle
 #![tactic(auto)]
 
-use ecs_id::{EntityId, Id};
+mod relations;
+mod values;
+
 use ecs_model::faults::CommandError;
-use ecs_schema::{Kind, Schema, SchemaError};
-use ecs_world::World;
-use std::alloc::Global;
+use ecs_schema::SchemaError;
+use std::alloc::{AllocError, Global};
 use std::env;
 use std::hash::RandomState;
 
-/// How many entities are made where no argument says it.
+/// How large a workload is where no argument says it.
 const COUNT: u32 = 10_000;
 
 /// Why the world wasn't made, or a command not carried out.
 #[derive(Clone, Copy, Debug)]
-enum Fault {
+pub(crate) enum Fault {
     World,
     Schema(SchemaError),
     Command(CommandError),
@@ -35,130 +42,35 @@ impl From<CommandError> for Fault {
     }
 }
 
-/// A world with three components and a tag, and how many entities were made after them.
-#[derive(Drop)]
-struct Bench {
-    world: World,
-    position: Id,
-    velocity: Id,
-    mass: Id,
-    tag: Id,
-    count: u32,
-}
-
-/// The id of an entity that is used as component or tag.
-fn id_of(born: Option<EntityId>) -> Result<Id, Fault> {
-    let packed = born.ok_or(Fault::World)?.packed();
-    Id::unpack(packed).ok_or(Fault::World)
-}
-
-fn component(
-    alloc: Global,
-    world: &mut World,
-    name: &str,
-    fields: &[(&str, Kind)],
-) -> Result<Id, Fault> {
-    let schema = Schema::new(alloc, fields)?;
-    let changes = world.component(name, schema)?;
-    id_of(changes.born())
-}
-
-fn tag(world: &mut World, name: &str) -> Result<Id, Fault> {
-    let changes = world.entity(name)?;
-    id_of(changes.born())
-}
-
-impl Bench {
-    fn new(alloc: Global, random: RandomState, count: u32) -> Result<Bench, Fault> {
-        let mut world = World::new(alloc, random).or(Err(Fault::World))?;
-        let plane = [("x", Kind::I32), ("y", Kind::I32)];
-        let position = component(alloc, &mut world, "Position", &plane)?;
-        let velocity = component(alloc, &mut world, "Velocity", &plane)?;
-        let mass = component(alloc, &mut world, "Mass", &[("value", Kind::U64)])?;
-        let tag = tag(&mut world, "Moved")?;
-        Ok(Bench {
-            world,
-            position,
-            velocity,
-            mass,
-            tag,
-            count,
-        })
-    }
-
-    /// Makes an entity whose values come from its number.
-    fn make(&mut self, number: u32) -> Result<(), Fault> {
-        let born = self.world.fresh()?.born();
-        let entity = born.ok_or(Fault::World)?;
-        for id in [self.position, self.velocity, self.mass] {
-            self.world.add(entity, id)?;
-        }
-        let (x, y) = (i128::from(number % 1000), i128::from(number % 7));
-        self.world.set(entity, self.position, &[x, -y])?;
-        self.world.set(entity, self.velocity, &[y, x])?;
-        self.world.set(entity, self.mass, &[i128::from(number)])?;
-        Ok(())
-    }
-
-    /// The entity that was made with this number: the tag was born last before them. No list of them is kept, as the memory measured
-    /// is to be the world's.
-    fn entity(&self, number: u32) -> Result<EntityId, Fault> {
-        let index = self.tag.first().wrapping_add(1).wrapping_add(number);
-        self.world.at(index).ok_or(Fault::World)
-    }
-
-    /// Moves each entity to the table with the tag, and then each to the one without its velocity.
-    fn move_all(&mut self) -> Result<(), Fault> {
-        for number in 0..self.count {
-            let entity = self.entity(number)?;
-            self.world.add(entity, self.tag)?;
-        }
-        for number in 0..self.count {
-            let entity = self.entity(number)?;
-            self.world.remove(entity, self.velocity)?;
-        }
-        Ok(())
-    }
-
-    /// The sum of the entities' values, and how many ids they hold.
-    fn sums(&self) -> Result<(i128, u64), Fault> {
-        let (mut sum, mut count) = (0i128, 0u64);
-        for number in 0..self.count {
-            let entity = self.entity(number)?;
-            for id in self.world.ids_of(entity).unwrap_or(&[]) {
-                count = count.wrapping_add(1);
-                sum = sum.wrapping_add(self.sum_of(entity.index, *id));
-            }
-        }
-        Ok((sum, count))
-    }
-
-    fn sum_of(&self, index: u32, id: Id) -> i128 {
-        let mut sum = 0i128;
-        if let Some(value) = self.world.value(index, id) {
-            for number in value.as_slice() {
-                sum = sum.wrapping_add(*number);
-            }
-        }
-        sum
+impl From<AllocError> for Fault {
+    fn from(_: AllocError) -> Fault {
+        Fault::Command(CommandError::Memory)
     }
 }
 
-fn run(alloc: Global, random: RandomState, count: u32) -> Result<(i128, u64), Fault> {
-    let mut bench = Bench::new(alloc, random, count)?;
-    for number in 0..count {
-        bench.make(number)?;
+/// Carries out a workload, by its name.
+fn run(alloc: Global, random: RandomState, name: &str, count: u32) -> Result<(i128, u64), Fault> {
+    match name {
+        "tree" => relations::tree(alloc, random, count),
+        "felled" => relations::felled(alloc, random, count),
+        "pairs" => relations::pairs(alloc, random, count),
+        "chain" => relations::chain(alloc, random, count),
+        _ => values::run(alloc, random, count),
     }
-    bench.move_all()?;
-    bench.sums()
 }
 
 fn main(rt: HostRuntime) -> std::io::Result<()> {
-    let count = match env::args(&rt)?.nth(1) {
+    let mut words = env::args(&rt)?.skip(1);
+    let (first, second) = (words.next(), words.next());
+    let name = match &first {
+        Some(word) => word.as_str(),
+        None => "values",
+    };
+    let count = match second.as_ref().or(first.as_ref()) {
         Some(word) => word.parse().unwrap_or(COUNT),
         None => COUNT,
     };
-    match run(rt.alloc(), RandomState::new(&rt)?, count) {
+    match run(rt.alloc(), RandomState::new(&rt)?, name, count) {
         Ok((sum, ids)) => println!(rt; "{sum} {ids}")?,
         Err(fault) => println!(rt; "{fault:?}")?,
     }

@@ -12,10 +12,10 @@ use Rattle.ecs_id.specs.declared.EntityId.{EntityId}
 use Rattle.ecs_id.specs.Id.{Id, plain, mentioned, first_of}
 use Rattle.ecs_model.specs.Map.{Map, value_at, has_key, keys, with_value}
 use Rattle.ecs_model.specs.Schema.{Schema}
-use Rattle.ecs_model.specs.Keeps.{IsWellFormed}
+use Rattle.ecs_model.specs.traits.Keeps.{IsWellFormed}
 use Rattle.ecs_model.specs.World.{WorldState, key_cmp, component, pair_is_tag}
-use Rattle.ecs_model.specs.Command.{Fresh, Entity, Component, effect, counted, with_born, with_named, with_component}
-use Rattle.ecs_model.specs.Command as model
+use Rattle.ecs_model.specs.Command.{counted, next_entity, with_born, with_named, with_component}
+use Rattle.ecs_model.specs.traits.Command.{Fresh, Entity, Component, effect}
 use Rattle.ecs_model.proofs.Maps.{both_true, key_cmp_same, nat_value_at}
 use Rattle.ecs_model.proofs.Reasons.{next_is_free}
 use Rattle.name_index.specs.Names.{Names}
@@ -60,7 +60,7 @@ no_tag e r = by (eq_by_cmp key_cmp (r, plain pair_is_tag) (e, plain component)) 
     by true p = absurd (true≢false (ap (λ k. first_of k.1 == pair_is_tag) (key_cmp_same (r, plain pair_is_tag) (e, plain component) ((Equal-is (key_cmp (r, plain pair_is_tag) (e, plain component))).0 p))))
     by false p = refl
 
-module _ {parts : Parts} (world : IsWorld parts) (e : EntityId) (next : model.next_entity (state_of parts) ≡ Some e) where
+module _ {parts : Parts} (world : IsWorld parts) (e : EntityId) (next : next_entity (state_of parts) ≡ Some e) where
   abbrev h : Holdings
   h = parts.holdings
 
@@ -201,15 +201,15 @@ module _ {parts : Parts} (world : IsWorld parts) (e : EntityId) (next : model.ne
       accepted = accepted';
     }
 
-pub effect-fresh : (w : WorldState) (e : EntityId) → model.next_entity w ≡ Some e → effect w Fresh ≡ record w { live = with_value nat_cmp w.live e.index e.generation }
+pub effect-fresh : (w : WorldState) (e : EntityId) → next_entity w ≡ Some e → effect w Fresh ≡ record w { live = with_value nat_cmp w.live e.index e.generation }
 unfolding effect with_born
 effect-fresh w e next = ap (with_born w) next
 
-pub effect-entity : (w : WorldState) (n : List ℕ) (e : EntityId) → model.next_entity w ≡ Some e → effect w (Entity n) ≡ record w { live = with_value nat_cmp w.live e.index e.generation; names = with_value nat_cmp w.names e.index n }
+pub effect-entity : (w : WorldState) (n : List ℕ) (e : EntityId) → next_entity w ≡ Some e → effect w (Entity n) ≡ record w { live = with_value nat_cmp w.live e.index e.generation; names = with_value nat_cmp w.names e.index n }
 unfolding effect with_named
 effect-entity w n e next = ap (with_named w n) next
 
-pub effect-component : (w : WorldState) (n : List ℕ) (s : Schema) (e : EntityId) → model.next_entity w ≡ Some e → effect w (Component n s) ≡ record w {
+pub effect-component : (w : WorldState) (n : List ℕ) (s : Schema) (e : EntityId) → next_entity w ≡ Some e → effect w (Component n s) ≡ record w {
   live = with_value nat_cmp w.live e.index e.generation;
   names = with_value nat_cmp w.names e.index n;
   schemas = with_value nat_cmp w.schemas e.index s;

@@ -8,11 +8,11 @@ use Rattle.std.specs.List.{cons_option, list_any}
 use Rattle.std.specs.Ordering.{nat_cmp, is_eq, eq_by_cmp}
 use Rattle.ecs_id.specs.Id.{Id}
 use Rattle.ecs_model.specs.Map.{Map, has_key, keys, value_at, with_value}
-use Rattle.ecs_model.specs.Changes.{facts_after_add}
 use Rattle.ecs_model.specs.Command.{is_crowded, with_facts}
-use Rattle.ecs_model.specs.Keeps.{IsWellFormed}
+use Rattle.ecs_model.specs.traits.Keeps.{IsWellFormed}
 use Rattle.ecs_model.specs.World.{WorldState, Key, key_cmp, holds, ids_of, is_live, new_value}
 use Rattle.ecs_model.proofs.Maps.{key_cmp_total, filter_map-with_value}
+use Rattle.ecs_world.specs.Singles.{with_one}
 
 behind : {A : Type 0} (o : Option A) (xs ys : List A) → length xs ≡ suc (length ys) → length (cons_option o xs) ≡ suc (length (cons_option o ys))
 behind None xs ys h = h
@@ -68,12 +68,11 @@ module _ (w : WorldState) (e : ℕ) (i : Id) (h : IsWellFormed w) where
   abbrev grown : Map Key (List ℤ)
   grown = with_value key_cmp w.facts (e, i) (new_value w i)
 
-  after_add : (b : Bool) → holds w e i ≡ b → is_crowded (with_facts w (facts_after_add w e i)) ≡ is_crowded (with_facts w (if b then w.facts else grown))
-  unfolding facts_after_add
+  after_add : (b : Bool) → holds w e i ≡ b → is_crowded (with_facts w (with_one w e i)) ≡ is_crowded (with_facts w (if b then w.facts else grown))
   after_add b held = ap (λ b. is_crowded (with_facts w (if b then w.facts else grown))) held
 
   -- who holds the id stays as it is
-  pub not_crowded_held : holds w e i ≡ true → is_crowded (with_facts w (facts_after_add w e i)) ≡ false
+  pub not_crowded_held : holds w e i ≡ true → is_crowded (with_facts w (with_one w e i)) ≡ false
   not_crowded_held held = after_add true held ∙ none_pass (λ f. nat_lt 64 (length (ids_of w f))) (keys w.live) (λ f. few (length (ids_of w f)) (h.few_ids f))
 
   own_count : holds w e i ≡ false → length (ids_of (with_facts w grown) e) ≡ suc (length (ids_of w e))
@@ -83,7 +82,7 @@ module _ (w : WorldState) (e : ℕ) (i : Id) (h : IsWellFormed w) where
   other_count f apart = filter_map-with_value key_cmp key_cmp_total (id_at f) w.facts (e, i) (new_value w i) (other_id e f i apart)
 
   -- with fewer than 64 ids there is room for one
-  pub not_crowded : holds w e i ≡ false → length (ids_of w e) < 64 → is_crowded (with_facts w (facts_after_add w e i)) ≡ false
+  pub not_crowded : holds w e i ≡ false → length (ids_of w e) < 64 → is_crowded (with_facts w (with_one w e i)) ≡ false
   not_crowded absent room =
       after_add false absent ∙ none_pass (λ f. nat_lt 64 (length (ids_of (with_facts w grown) f))) (keys w.live) (λ f. each f (e == f) refl)
     where
@@ -92,19 +91,19 @@ module _ (w : WorldState) (e : ℕ) (i : Id) (h : IsWellFormed w) where
       each f false p = few _ (rw (other_count f p) (h.few_ids f))
 
   -- a live entity with 64 ids has none for another
-  pub crowded : is_live w e ≡ true → holds w e i ≡ false → 64 ≤ length (ids_of w e) → is_crowded (with_facts w (facts_after_add w e i)) ≡ true
+  pub crowded : is_live w e ≡ true → holds w e i ≡ false → 64 ≤ length (ids_of w e) → is_crowded (with_facts w (with_one w e i)) ≡ true
   crowded alive absent full =
       after_add false absent ∙ any_passes (λ f. nat_lt 64 (length (ids_of (with_facts w grown) f))) w.live e alive (many _ (rw (own_count absent) (omega arith)))
 
   -- the test by the count
-  pub full_by_count : (n : ℕ) → is_live w e ≡ true → holds w e i ≡ false → n ≡ length (ids_of w e) → nat_le 64 n ≡ is_crowded (with_facts w (facts_after_add w e i))
+  pub full_by_count : (n : ℕ) → is_live w e ≡ true → holds w e i ≡ false → n ≡ length (ids_of w e) → nat_le 64 n ≡ is_crowded (with_facts w (with_one w e i))
   full_by_count n alive absent counted = by (nat_le 64 n) refl
     where
-      by : (b : Bool) → nat_le 64 n ≡ b → b ≡ is_crowded (with_facts w (facts_after_add w e i))
+      by : (b : Bool) → nat_le 64 n ≡ b → b ≡ is_crowded (with_facts w (with_one w e i))
       by true p = sym (crowded alive absent (rw (← counted) (grind (arith, nat_tests))))
       by false p = sym (not_crowded absent (rw (← counted) (grind (arith, nat_tests))))
 
   -- the test on what was found
-  pub crowds : (b : Bool) (n : ℕ) → is_live w e ≡ true → b ≡ holds w e i → n ≡ length (ids_of w e) → (not b && nat_le 64 n) ≡ is_crowded (with_facts w (facts_after_add w e i))
+  pub crowds : (b : Bool) (n : ℕ) → is_live w e ≡ true → b ≡ holds w e i → n ≡ length (ids_of w e) → (not b && nat_le 64 n) ≡ is_crowded (with_facts w (with_one w e i))
   crowds true n alive held counted = sym (not_crowded_held (sym held))
   crowds false n alive held counted = full_by_count n alive (sym held) counted

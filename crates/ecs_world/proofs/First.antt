@@ -13,9 +13,9 @@ use Rattle.ecs_id.specs.declared.EntityId.{EntityId}
 use Rattle.ecs_id.specs.Id.{Id, plain, pair, mentioned, id_cmp, id_eq}
 use Rattle.ecs_model.specs.Map.{Map, IsMap, value_at, has_key, keys, with_value}
 use Rattle.ecs_model.specs.Schema.{Schema}
-use Rattle.ecs_model.specs.Keeps.{IsWellFormed}
+use Rattle.ecs_model.specs.traits.Keeps.{IsWellFormed}
 use Rattle.ecs_model.specs.World.{built_in_names, first_world, is_built_in, key_cmp, pair_is_tag}
-use Rattle.ecs_model.proofs.FirstWorld.{first_world_is_sound}
+use Rattle.ecs_model.proofs.traits.FirstTraits.{first_world_keeps_traits}
 use Rattle.ecs_model.proofs.Maps.{both_true}
 use Rattle.name_index.specs.Names.{IsUnnamed, Names}
 use Rattle.ecs_archetypes.specs.Holdings.{AreHoldings, HoldAlike, Holdings, KeepsSizes, Sizes, agrees, cells_at, first_holdings, holds_id, lives, with_cells, zero_cells}
@@ -218,7 +218,7 @@ built_in_live i h = ap is_some (row_at (λ i. 0) 1 22 i (low i h) (high i h))
 pub first_is_world : (h : Holdings) (names : Names) → IsSettled h 22 → AreFirstNames names 22 → IsWorld (parts_of h names [] [] 0)
 first_is_world h names settled first = record {
   whole = settled.whole;
-  sound = subst IsWellFormed (sym (first_state h names settled first)) first_world_is_sound;
+  sound = subst IsWellFormed (sym (first_state h names settled first)) first_world_keeps_traits;
   settled = ap keys (settled.alike).cells ∙ ap keys (sym (settled.alike).live);
   known = all_implied is_first_tag (is_known_rightly h []) each h.known settled.tags;
   named = λ n e g. ap (λ live. option_eq ◌==◌ (value_at nat_cmp live e.index) (Some e.generation)) (settled.alike).live ∙ ap (λ o. option_eq ◌==◌ o (Some e.generation)) (first.named n e g) ∙ (Decides-eqb e.generation e.generation).1 refl;

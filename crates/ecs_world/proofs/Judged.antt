@@ -4,13 +4,15 @@ use Rattle.std.specs.List.{list_all}
 use Rattle.ecs_id.specs.declared.EntityId.{EntityId}
 use Rattle.ecs_id.specs.Id.{Id, mentioned}
 use Rattle.ecs_model.specs.declared.faults.Refusal.{Refusal}
-use Rattle.ecs_model.specs.declared.faults.Refusal.TheVariants.{Dead, BuiltIn, TooManyIds, Full}
+use Rattle.ecs_model.specs.declared.faults.Refusal.TheVariants.{Dead, BuiltIn, TraitFixed, Cycle, TooManyIds, Full}
 use Rattle.ecs_model.specs.Refusal.{first_reason}
-use Rattle.ecs_model.specs.Provisional.{is_not_yet_changed}
-use Rattle.ecs_model.specs.Changes.{facts_after_add}
 use Rattle.ecs_model.specs.Schema.{Schema}
-use Rattle.ecs_model.specs.World.{WorldState, type_of_id, is_alive, is_live, is_built_in}
-use Rattle.ecs_model.specs.Command.{Fresh, Entity, Component, Add, SetValue, Remove, reasons, is_dead, is_spent, is_crowded, with_facts, changes_built_in, add_reasons, value_reasons, birth_reasons, name_reasons, next_entity}
+use Rattle.ecs_model.specs.World.{WorldState, type_of_id, is_alive, is_live}
+use Rattle.ecs_model.specs.Command.{is_dead, is_spent, is_crowded, with_facts, value_reasons, birth_reasons, name_reasons, next_entity}
+use Rattle.ecs_model.specs.traits.Changes.{facts_after_add}
+use Rattle.ecs_model.specs.traits.Command.{Fresh, Entity, Component, Add, SetValue, Remove, reasons, add_reasons, adds_built_in, changes_trait, has_cycle}
+use Rattle.ecs_model.specs.traits.Rules.{is_trait}
+use Rattle.fact_rules.specs.Additions.{is_of_built_in}
 use Rattle.ecs_model.proofs.Reasons.{passed, neither, denied}
 use Rattle.ecs_world.proofs.Refusing.{passed_over}
 
@@ -20,11 +22,11 @@ none_of_both [] ss h = (refl, h)
 none_of_both ((true, q) ∷ rs) ss h = (h, absurd (true≢false (ap is_some h)))
 none_of_both ((false, q) ∷ rs) ss h = none_of_both rs ss h
 
--- the fact of a live entity, with an id of live indexes that are no traits
+-- the fact of a live entity, with an id of live indexes that is no trait
 pub record CanChange (w : WorldState) (e : EntityId) (i : Id) : Type 0 where
   pub alive : is_alive w e ≡ true
   pub mentions : list_all (is_live w) (mentioned i) ≡ true
-  pub no_trait : is_not_yet_changed i ≡ false
+  pub no_trait : is_trait i ≡ false
   pub room : is_spent w ≡ false
 
 module _ (w : WorldState) (e : EntityId) (i : Id) where
@@ -33,52 +35,54 @@ module _ (w : WorldState) (e : EntityId) (i : Id) where
       let parts = neither (not (is_alive w e)) (not (list_all (is_live w) (mentioned i))) dead in
       (denied (is_alive w e) parts.0, denied (list_all (is_live w) (mentioned i)) parts.1)
 
-  judged : is_dead w e i ≡ false → changes_built_in w e.index i ≡ false → is_spent w ≡ false → CanChange w e i
-  judged dead built spent =
-      let live = living dead in
-      record { alive = live.0; mentions = live.1; no_trait = (neither (is_built_in e.index) (is_not_yet_changed i) built).1; room = spent }
+  judged : is_dead w e i ≡ false → is_trait i ≡ false → is_spent w ≡ false → CanChange w e i
+  judged dead no_trait spent = let live = living dead in record { alive = live.0; mentions = live.1; no_trait = no_trait; room = spent }
 
-  add_parts : (rs : List (Bool × Refusal)) → first_reason ((is_dead w e i, Dead) ∷ (changes_built_in w e.index i, BuiltIn) ∷ rs) ≡ None
-      → (is_dead w e i ≡ false) × (changes_built_in w e.index i ≡ false) × (first_reason rs ≡ None)
-  add_parts rs none =
-      let live = passed (is_dead w e i) Dead ((changes_built_in w e.index i, BuiltIn) ∷ rs) none in
-      let own = passed (changes_built_in w e.index i) BuiltIn rs live.1 in
-      (live.0, own.0, own.1)
+  add_parts : (own : Bool) (rs : List (Bool × Refusal)) → first_reason ((is_dead w e i, Dead) ∷ (own, BuiltIn) ∷ rs) ≡ None → (is_dead w e i ≡ false) × (own ≡ false) × (first_reason rs ≡ None)
+  add_parts own rs none =
+      let live = passed (is_dead w e i) Dead ((own, BuiltIn) ∷ rs) none in
+      let rest = passed own BuiltIn rs live.1 in
+      (live.0, rest.0, rest.1)
 
   unspent : first_reason (add_reasons w e.index i) ≡ None → is_spent w ≡ false
   unspent none =
-      let few = passed (is_crowded (with_facts w (facts_after_add w e.index i))) TooManyIds ((is_spent w, Full) ∷ []) none in
+      let left : WorldState = with_facts w (facts_after_add w e.index i) in
+      let fixed = passed (changes_trait w e.index i) TraitFixed ((has_cycle left, Cycle) ∷ (is_crowded left, TooManyIds) ∷ (is_spent w, Full) ∷ []) none in
+      let acyclic = passed (has_cycle left) Cycle ((is_crowded left, TooManyIds) ∷ (is_spent w, Full) ∷ []) fixed.1 in
+      let few = passed (is_crowded left) TooManyIds ((is_spent w, Full) ∷ []) acyclic.1 in
       (passed (is_spent w) Full [] few.1).0
 
-  pub judged-add : first_reason (reasons w (Add e i)) ≡ None → CanChange w e i
+  pub judged-add : is_trait i ≡ false → first_reason (reasons w (Add e i)) ≡ None → CanChange w e i
   unfolding reasons
-  judged-add none = let parts = add_parts (add_reasons w e.index i) none in judged parts.0 parts.1 (unspent parts.2)
+  judged-add no_trait none = let parts = add_parts (adds_built_in w e.index i) (add_reasons w e.index i) none in judged parts.0 no_trait (unspent parts.2)
+
+  abbrev fixed_reasons : List (Bool × Refusal)
+  fixed_reasons = (is_trait i, TraitFixed) ∷ (is_spent w, Full) ∷ []
 
   pub judged-remove : first_reason (reasons w (Remove e i)) ≡ None → CanChange w e i
   unfolding reasons
-  judged-remove none = let parts = add_parts ((is_spent w, Full) ∷ []) none in judged parts.0 parts.1 (passed (is_spent w) Full [] parts.2).0
+  judged-remove none =
+      let parts = add_parts (is_of_built_in (e.index, i)) fixed_reasons none in
+      let fixed = passed (is_trait i) TraitFixed ((is_spent w, Full) ∷ []) parts.2 in
+      judged parts.0 fixed.0 (passed (is_spent w) Full [] fixed.1).0
 
   -- what may be set may be added
   pub add_of_set : (vs : List ℤ) → first_reason (reasons w (SetValue e i vs)) ≡ None → (first_reason (value_reasons (type_of_id w i) vs) ≡ None) × (first_reason (reasons w (Add e i)) ≡ None)
   unfolding reasons
   add_of_set vs none =
-      let parts = add_parts (value_reasons (type_of_id w i) vs ++ add_reasons w e.index i) none in
+      let parts = add_parts (adds_built_in w e.index i) (value_reasons (type_of_id w i) vs ++ add_reasons w e.index i) none in
       let both = none_of_both (value_reasons (type_of_id w i) vs) (add_reasons w e.index i) parts.2 in (
         both.0,
-        sym (sym both.1 ∙ passed_over (changes_built_in w e.index i) BuiltIn (add_reasons w e.index i) parts.1 ∙ passed_over (is_dead w e i) Dead ((changes_built_in w e.index i, BuiltIn) ∷ add_reasons w e.index i) parts.0),
+        sym (sym both.1 ∙ passed_over (adds_built_in w e.index i) BuiltIn (add_reasons w e.index i) parts.1 ∙ passed_over (is_dead w e i) Dead ((adds_built_in w e.index i, BuiltIn) ∷ add_reasons w e.index i) parts.0),
       )
 
   pub remove_dead : is_dead w e i ≡ true → Some Dead ≡ first_reason (reasons w (Remove e i))
   unfolding reasons
-  remove_dead d = ap (λ b. first_reason ((b, Dead) ∷ (changes_built_in w e.index i, BuiltIn) ∷ (is_spent w, Full) ∷ [])) (sym d)
+  remove_dead d = ap (λ b. first_reason ((b, Dead) ∷ (is_of_built_in (e.index, i), BuiltIn) ∷ fixed_reasons)) (sym d)
 
-  pub remove_built_in : is_dead w e i ≡ false → changes_built_in w e.index i ≡ true → Some BuiltIn ≡ first_reason (reasons w (Remove e i))
+  pub remove_later : (o : Option Refusal) → is_dead w e i ≡ false → o ≡ first_reason ((is_of_built_in (e.index, i), BuiltIn) ∷ fixed_reasons) → o ≡ first_reason (reasons w (Remove e i))
   unfolding reasons
-  remove_built_in d b = (λ k. first_reason ((sym d k, Dead) ∷ (sym b k, BuiltIn) ∷ (is_spent w, Full) ∷ []))
-
-  pub remove_later : (o : Option Refusal) → is_dead w e i ≡ false → changes_built_in w e.index i ≡ false → o ≡ first_reason ((is_spent w, Full) ∷ []) → o ≡ first_reason (reasons w (Remove e i))
-  unfolding reasons
-  remove_later o d b is = is ∙ (λ k. first_reason ((sym d k, Dead) ∷ (sym b k, BuiltIn) ∷ (is_spent w, Full) ∷ []))
+  remove_later o d is = is ∙ ap (λ b. first_reason ((b, Dead) ∷ (is_of_built_in (e.index, i), BuiltIn) ∷ fixed_reasons)) (sym d)
 
 -- an entity can be made
 pub record CanBear (w : WorldState) : Type 0 where

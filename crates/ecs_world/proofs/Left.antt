@@ -8,22 +8,26 @@ use Rattle.ecs_id.specs.declared.EntityId.{EntityId}
 use Rattle.ecs_id.specs.Id.{Id, plain, pair, mentioned, id_cmp, id_eq}
 use Rattle.ecs_model.specs.Map.{Map, value_at, has_key, keys, with_value, without}
 use Rattle.ecs_model.specs.Schema.{Schema, zeros, all_fit}
-use Rattle.ecs_model.specs.Keeps.{IsWellFormed}
-use Rattle.ecs_model.specs.Provisional.{is_not_yet_changed}
+use Rattle.ecs_model.specs.traits.Keeps.{IsWellFormed}
 use Rattle.ecs_model.specs.Refusal.{first_reason}
-use Rattle.ecs_model.specs.Changes.{facts_after_add, facts_after_remove}
-use Rattle.ecs_model.specs.World.{WorldState, Key, key_cmp, pair_is_tag, holds, type_of_id, new_value, value_of}
-use Rattle.ecs_model.specs.Command.{Add, SetValue, Remove, reasons, effect, counted, is_spent, with_facts}
+use Rattle.ecs_model.specs.traits.Changes.{facts_after_add, facts_after_remove}
+use Rattle.ecs_model.specs.traits.Rules.{is_trait}
+use Rattle.ecs_model.specs.World.{WorldState, Key, key_cmp, pair_is_tag, holds, ids_of, type_of_id, new_value, value_of}
+use Rattle.ecs_model.specs.Command.{counted, is_spent, with_facts}
+use Rattle.ecs_model.specs.traits.Command.{Add, SetValue, Remove, reasons, effect}
 use Rattle.ecs_model.proofs.Maps.{key_cmp_same, keys-with_value}
 use Rattle.ecs_model.proofs.Additions.{not_spent}
 use Rattle.ecs_model.proofs.Answering.{effect_well_formed}
+use Rattle.fact_rules.specs.Simple.{is_simple, is_unmirrored}
 use Rattle.name_index.specs.Names.{Names}
 use Rattle.ecs_archetypes.specs.Holdings.{AreHoldings, Cells, HoldAlike, Holdings, KeepsSizes, Sizes, cells_at, held_at, holds_id, with_cells}
+use Rattle.ecs_world.specs.Singles.{with_one, without_one}
 use Rattle.ecs_world.specs.State.{IsWorld, Parts, parts_of, all_facts, byte_count, is_known_rightly, names_of, state_of, type_of, value_in}
 use Rattle.ecs_world.proofs.Entities.{generation_of}
 use Rattle.ecs_world.proofs.Facts.{bytes_in}
 use Rattle.ecs_world.proofs.FactChanges.{bytes_put, bytes_gone, facts_put, facts_gone}
 use Rattle.ecs_world.proofs.Judged.{CanChange}
+use Rattle.ecs_world.proofs.Simple.{after_add, after_remove}
 use Rattle.ecs_world.proofs.States.{AreCells-whole, AreCells-world, all_true, settled_at, type_in-same}
 
 -- a world is well formed before it is counted
@@ -48,6 +52,7 @@ uncounted w h = record {
   typed = λ e i. typed e i;
   few_ids = h.few_ids;
   counted = omega (arith, h.counted);
+  traits = record { one_target = (h.traits).one_target; mirrored = (h.traits).mirrored; traversable_acyclic = (h.traits).traversable_acyclic; no_cycle = (h.traits).no_cycle };
 }
   where
     types : (i : Id) → type_of_id (counted w) i ≡ type_of_id w i
@@ -79,6 +84,7 @@ recounted w h room = record {
   typed = λ e i. typed e i;
   few_ids = h.few_ids;
   counted = not_spent w.accepted room;
+  traits = record { one_target = (h.traits).one_target; mirrored = (h.traits).mirrored; traversable_acyclic = (h.traits).traversable_acyclic; no_cycle = (h.traits).no_cycle };
 }
   where
     types : (i : Id) → type_of_id w i ≡ type_of_id (counted w) i
@@ -89,13 +95,13 @@ recounted w h room = record {
     typed e i = subst (λ o. IfSome (value_of w e i) (λ v. (length v ≡ length (option_map_or zeros o [])) × IsTrue (option_map_or (λ fs. all_fit fs v) o true))) (types i) (h.typed e i)
 
 -- the key of the trait is not that of a fact which may change
-no_tag_key : (e r : ℕ) (i : Id) → is_not_yet_changed i ≡ false → eq_by_cmp key_cmp (r, plain pair_is_tag) (e, i) ≡ false
+no_tag_key : (e r : ℕ) (i : Id) → is_trait i ≡ false → eq_by_cmp key_cmp (r, plain pair_is_tag) (e, i) ≡ false
 no_tag_key e r i h = by (eq_by_cmp key_cmp (r, plain pair_is_tag) (e, i)) refl
   where
     by : (b : Bool) → eq_by_cmp key_cmp (r, plain pair_is_tag) (e, i) ≡ b → b ≡ false
     by true p =
         let same : ◌≡◌ {A = Key} (r, plain pair_is_tag) (e, i) = key_cmp_same (r, plain pair_is_tag) (e, i) ((Equal-is (key_cmp (r, plain pair_is_tag) (e, i))).0 p) in
-        absurd (true≢false (ap (λ k. is_not_yet_changed k.1) same ∙ h))
+        absurd (true≢false (ap (λ k. is_trait k.1) same ∙ h))
     by false p = refl
 
 module _ {parts : Parts} (world : IsWorld parts) (e : EntityId) (i : Id) (can : CanChange (state_of parts) e i) where
@@ -172,14 +178,16 @@ module _ {parts : Parts} (world : IsWorld parts) (e : EntityId) (i : Id) (can : 
     types_gone : (j : Id) → type_of h' schemas j ≡ type_of h schemas j
     types_gone j = type_in-same schemas schemas (λ r. holds_id h r (plain pair_is_tag)) (λ r. holds_id h' r (plain pair_is_tag)) (λ x. true) j (all_true (mentioned j)) (λ k t. refl) tags_gone
 
-    gone_left : all_facts (type_of h' schemas) h'.cells ≡ facts_after_remove w e.index i
-    unfolding facts_after_remove
-    gone_left = facts_gone (type_of h schemas) (type_of h' schemas) h.cells h'.cells (AreCells-world world) (AreCells-whole h' whole') (λ d j bs p. types_gone j) e.index i now_gone
+    gone_alone : all_facts (type_of h' schemas) h'.cells ≡ without_one w e.index i
+    gone_alone = facts_gone (type_of h schemas) (type_of h' schemas) h.cells h'.cells (AreCells-world world) (AreCells-whole h' whole') (λ d j bs p. types_gone j) e.index i now_gone
 
-    pub state_gone : (accepted' : ℕ) → state_of (parts_of h' names schemas pins accepted') ≡ record w { facts = facts_after_remove w e.index i; accepted = accepted' }
-    state_gone accepted' = λ k. record {
+    gone_left : is_unmirrored (ids_of w) i ≡ true → all_facts (type_of h' schemas) h'.cells ≡ facts_after_remove w e.index i
+    gone_left alone = gone_alone ∙ sym (after_remove w e.index i alone)
+
+    pub state_gone : is_unmirrored (ids_of w) i ≡ true → (accepted' : ℕ) → state_of (parts_of h' names schemas pins accepted') ≡ record w { facts = facts_after_remove w e.index i; accepted = accepted' }
+    state_gone alone accepted' = λ k. record {
       live = alike.live k;
-      facts = gone_left k;
+      facts = gone_left alone k;
       names = names_of names (alike.live k);
       schemas = schemas;
       deletions = alike.deletions k;
@@ -188,14 +196,19 @@ module _ {parts : Parts} (world : IsWorld parts) (e : EntityId) (i : Id) (can : 
     }
 
 -- a new fact has a new value
-pub facts_new : (w : WorldState) (e : ℕ) (i : Id) → holds w e i ≡ false → facts_after_add w e i ≡ with_value key_cmp w.facts (e, i) (new_value w i)
-unfolding facts_after_add
-facts_new w e i absent = ap (λ b. if b then w.facts else with_value key_cmp w.facts (e, i) (new_value w i)) absent
+new_alone : (w : WorldState) (e : ℕ) (i : Id) → holds w e i ≡ false → with_one w e i ≡ with_value key_cmp w.facts (e, i) (new_value w i)
+new_alone w e i absent = ap (λ b. if b then w.facts else with_value key_cmp w.facts (e, i) (new_value w i)) absent
 
 -- a fact that is held stays as it is
-pub facts_held : (w : WorldState) (e : ℕ) (i : Id) → holds w e i ≡ true → facts_after_add w e i ≡ w.facts
-unfolding facts_after_add
-facts_held w e i held = ap (λ b. if b then w.facts else with_value key_cmp w.facts (e, i) (new_value w i)) held
+held_alone : (w : WorldState) (e : ℕ) (i : Id) → holds w e i ≡ true → with_one w e i ≡ w.facts
+held_alone w e i held = ap (λ b. if b then w.facts else with_value key_cmp w.facts (e, i) (new_value w i)) held
+
+-- and nothing else comes or goes with an id without traits
+pub facts_new : (w : WorldState) (e : ℕ) (i : Id) → is_simple (ids_of w) i ≡ true → holds w e i ≡ false → facts_after_add w e i ≡ with_value key_cmp w.facts (e, i) (new_value w i)
+facts_new w e i simple absent = after_add w e i simple ∙ new_alone w e i absent
+
+pub facts_held : (w : WorldState) (e : ℕ) (i : Id) → is_simple (ids_of w) i ≡ true → holds w e i ≡ true → facts_after_add w e i ≡ w.facts
+facts_held w e i simple held = after_add w e i simple ∙ held_alone w e i held
 
 pub effect-add : (w : WorldState) (e : EntityId) (i : Id) → effect w (Add e i) ≡ with_facts w (facts_after_add w e.index i)
 unfolding effect

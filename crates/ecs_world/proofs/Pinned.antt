@@ -7,7 +7,7 @@ use Rattle.std.specs.BTreeMap.{insert_entry, is_at}
 use Rattle.std.specs.Map.{remove_entry}
 use Rattle.ecs_id.specs.declared.EntityId.{EntityId}
 use Rattle.ecs_model.specs.declared.faults.Refusal.TheVariants.{Dead}
-use Rattle.ecs_model.specs.Keeps.{IsWellFormed}
+use Rattle.ecs_model.specs.traits.Keeps.{IsWellFormed}
 use Rattle.ecs_model.specs.Map.{Map, IsMap, count_at, value_at}
 use Rattle.ecs_model.specs.World.{WorldState, is_alive, is_live}
 use Rattle.ecs_model.specs.traits.Pins.{most_pins, one_less, one_more, pin, unpin, with_count, with_pins}
@@ -60,6 +60,7 @@ module _ (w : WorldState) (h : IsWellFormed w) where
     typed = h.typed;
     few_ids = h.few_ids;
     counted = h.counted;
+    traits = record { one_target = (h.traits).one_target; mirrored = (h.traits).mirrored; traversable_acyclic = (h.traits).traversable_acyclic; no_cycle = (h.traits).no_cycle };
   }
 
 -- the count that was put in, and the count of 0 that was taken out

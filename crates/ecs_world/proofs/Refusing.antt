@@ -7,14 +7,17 @@ use Rattle.ecs_id.specs.Id.{Id, mentioned}
 use Rattle.std.specs.List.{list_all}
 use Rattle.std.specs.Ordering.{nat_cmp}
 use Rattle.ecs_model.specs.Refusal.{first_reason}
-use Rattle.ecs_model.specs.Keeps.{IsWellFormed}
+use Rattle.ecs_model.specs.traits.Keeps.{IsWellFormed}
 use Rattle.ecs_model.specs.Map.{value_at}
 use Rattle.ecs_model.specs.World.{WorldState, holds, ids_of, is_alive, is_live, type_of_id}
-use Rattle.ecs_model.specs.Command.{Add, SetValue, reasons, is_dead, is_spent, changes_built_in, add_reasons, value_reasons}
+use Rattle.ecs_model.specs.Command.{is_dead, is_spent, value_reasons}
+use Rattle.ecs_model.specs.traits.Command.{Add, SetValue, reasons, add_reasons, adds_built_in}
 use Rattle.ecs_archetypes.specs.declared.facts.Found.{Found}
 use Rattle.ecs_world.specs.State.{growth_reasons}
 use Rattle.ecs_world.proofs.Crowding.{crowds}
+use Rattle.fact_rules.specs.Simple.{is_simple}
 use Rattle.ecs_world.proofs.Entities.{generation_of}
+use Rattle.ecs_world.proofs.Simple.{growth_alone}
 
 pub told : (b : Bool) (r : Refusal) (rs : List (Bool × Refusal)) → b ≡ true → Some r ≡ first_reason ((b, r) ∷ rs)
 told b r rs h = ap (λ b. first_reason ((b, r) ∷ rs)) (sym h)
@@ -48,25 +51,27 @@ module _ (w : WorldState) (e : EntityId) (i : Id) where
   pub not_dead : is_alive w e ≡ true → list_all (is_live w) (mentioned i) ≡ true → is_dead w e i ≡ false
   not_dead alive mentions = λ k. not (alive k) || not (mentions k)
 
-  -- of an entity of which this was found
-  pub growth_told : (found : Found) → IsWellFormed w → is_alive w e ≡ true → found.is_held ≡ holds w e.index i → found.count ≡ length (ids_of w e.index)
-      → first_reason (growth_reasons found (is_spent w)) ≡ first_reason (add_reasons w e.index i)
-  growth_told found sound alive held counted = ap (λ b. first_reason ((b, TooManyIds) ∷ (is_spent w, Full) ∷ []))
+  -- of an entity of which this was found, where nothing else comes with the id
+  pub growth_told : (found : Found) → is_simple (ids_of w) i ≡ true → IsWellFormed w → is_alive w e ≡ true → found.is_held ≡ holds w e.index i → found.count ≡ length (ids_of w e.index)
+      → is_dead w e i ≡ false → adds_built_in w e.index i ≡ false → first_reason (growth_reasons found (is_spent w)) ≡ first_reason (add_reasons w e.index i)
+  growth_told found simple sound alive held counted dead own =
+      ap (λ b. first_reason ((b, TooManyIds) ∷ (is_spent w, Full) ∷ []))
       (crowds w e.index i sound found.is_held found.count (ap is_some (generation_of (value_at nat_cmp w.live e.index) e.generation alive)) held counted)
+      ∙ sym (growth_alone w e i simple sound dead own)
 
   pub add_dead : is_dead w e i ≡ true → Some Dead ≡ first_reason (reasons w (Add e i))
   unfolding reasons
-  add_dead d = told (is_dead w e i) Dead ((changes_built_in w e.index i, BuiltIn) ∷ add_reasons w e.index i) d
+  add_dead d = told (is_dead w e i) Dead ((adds_built_in w e.index i, BuiltIn) ∷ add_reasons w e.index i) d
 
-  pub add_built_in : is_dead w e i ≡ false → changes_built_in w e.index i ≡ true → Some BuiltIn ≡ first_reason (reasons w (Add e i))
+  pub add_built_in : is_dead w e i ≡ false → adds_built_in w e.index i ≡ true → Some BuiltIn ≡ first_reason (reasons w (Add e i))
   unfolding reasons
   add_built_in d b =
-      told (changes_built_in w e.index i) BuiltIn (add_reasons w e.index i) b ∙ passed_over (is_dead w e i) Dead ((changes_built_in w e.index i, BuiltIn) ∷ add_reasons w e.index i) d
+      told (adds_built_in w e.index i) BuiltIn (add_reasons w e.index i) b ∙ passed_over (is_dead w e i) Dead ((adds_built_in w e.index i, BuiltIn) ∷ add_reasons w e.index i) d
 
-  pub add_grown : (o : Option Refusal) → is_dead w e i ≡ false → changes_built_in w e.index i ≡ false → o ≡ first_reason (add_reasons w e.index i) → o ≡ first_reason (reasons w (Add e i))
+  pub add_grown : (o : Option Refusal) → is_dead w e i ≡ false → adds_built_in w e.index i ≡ false → o ≡ first_reason (add_reasons w e.index i) → o ≡ first_reason (reasons w (Add e i))
   unfolding reasons
   add_grown o d b g =
-      g ∙ passed_over (changes_built_in w e.index i) BuiltIn (add_reasons w e.index i) b ∙ passed_over (is_dead w e i) Dead ((changes_built_in w e.index i, BuiltIn) ∷ add_reasons w e.index i) d
+      g ∙ passed_over (adds_built_in w e.index i) BuiltIn (add_reasons w e.index i) b ∙ passed_over (is_dead w e i) Dead ((adds_built_in w e.index i, BuiltIn) ∷ add_reasons w e.index i) d
 
   module _ (vs : List ℤ) where
     abbrev value_first : List (Bool × Refusal)
@@ -77,21 +82,21 @@ module _ (w : WorldState) (e : EntityId) (i : Id) where
 
     pub set_dead : is_dead w e i ≡ true → Some Dead ≡ first_reason (reasons w (SetValue e i vs))
     unfolding reasons
-    set_dead d = told (is_dead w e i) Dead ((changes_built_in w e.index i, BuiltIn) ∷ later) d
+    set_dead d = told (is_dead w e i) Dead ((adds_built_in w e.index i, BuiltIn) ∷ later) d
 
-    pub set_built_in : is_dead w e i ≡ false → changes_built_in w e.index i ≡ true → Some BuiltIn ≡ first_reason (reasons w (SetValue e i vs))
+    pub set_built_in : is_dead w e i ≡ false → adds_built_in w e.index i ≡ true → Some BuiltIn ≡ first_reason (reasons w (SetValue e i vs))
     unfolding reasons
-    set_built_in d b = told (changes_built_in w e.index i) BuiltIn later b ∙ passed_over (is_dead w e i) Dead ((changes_built_in w e.index i, BuiltIn) ∷ later) d
+    set_built_in d b = told (adds_built_in w e.index i) BuiltIn later b ∙ passed_over (is_dead w e i) Dead ((adds_built_in w e.index i, BuiltIn) ∷ later) d
 
-    set_later : (o : Option Refusal) → is_dead w e i ≡ false → changes_built_in w e.index i ≡ false → o ≡ first_reason later → o ≡ first_reason (reasons w (SetValue e i vs))
+    set_later : (o : Option Refusal) → is_dead w e i ≡ false → adds_built_in w e.index i ≡ false → o ≡ first_reason later → o ≡ first_reason (reasons w (SetValue e i vs))
     unfolding reasons
-    set_later o d b g = g ∙ passed_over (changes_built_in w e.index i) BuiltIn later b ∙ passed_over (is_dead w e i) Dead ((changes_built_in w e.index i, BuiltIn) ∷ later) d
+    set_later o d b g = g ∙ passed_over (adds_built_in w e.index i) BuiltIn later b ∙ passed_over (is_dead w e i) Dead ((adds_built_in w e.index i, BuiltIn) ∷ later) d
 
-    pub set_grown : (o : Option Refusal) → is_dead w e i ≡ false → changes_built_in w e.index i ≡ false → None ≡ first_reason value_first → o ≡ first_reason (add_reasons w e.index i)
+    pub set_grown : (o : Option Refusal) → is_dead w e i ≡ false → adds_built_in w e.index i ≡ false → None ≡ first_reason value_first → o ≡ first_reason (add_reasons w e.index i)
         → o ≡ first_reason (reasons w (SetValue e i vs))
     set_grown o d b n g = set_later o d b (g ∙ none_first value_first (add_reasons w e.index i) n)
 
-    pub set_valued : (o : Option Refusal) → is_dead w e i ≡ false → changes_built_in w e.index i ≡ false → o ≢ None → o ≡ first_reason value_first
+    pub set_valued : (o : Option Refusal) → is_dead w e i ≡ false → adds_built_in w e.index i ≡ false → o ≢ None → o ≡ first_reason value_first
         → o ≡ first_reason (reasons w (SetValue e i vs))
     set_valued None d b some v = absurd (some refl)
     set_valued (Some r) d b some v = set_later (Some r) d b (told_first value_first (add_reasons w e.index i) r v)

@@ -8,11 +8,13 @@ use Rattle.ecs_model.specs.World.{WorldState, is_alive}
 use Rattle.name_index.specs.Names.{Names}
 use Rattle.ecs_archetypes.specs.Holdings.{Holdings, bytes_at, cells_at, held_at, is_settled, lives}
 use Rattle.ecs_archetypes.specs.Housing.{Housing, holdings_of}
+use Rattle.entity_index.specs.Sizes.{live_size}
 use Rattle.table_store.specs.Going.{TablesGoOn}
 use Rattle.table_store.specs.Store.{Store}
-use Rattle.ecs_world.specs.Standing.{IsGraphOf, Standing}
+use Rattle.ecs_world.specs.Standing.{IsGraphOf, IsLinksOf, Standing}
 use Rattle.ecs_world.specs.State.{AreFactsOf, IsWorld, Parts, parts_of, state_of}
 use Rattle.ecs_world.proofs.Entities.{generation_of}
+use Rattle.ecs_world.proofs.Seen.{sees}
 use Rattle.ecs_world.proofs.States.{bytes_told, ids_is, settled_at}
 
 pub state_is : {s t : Standing} → s ≡ t → s.state ≡ t.state
@@ -48,3 +50,8 @@ module _ {parts : Parts} (world : IsWorld parts) where
 pub graph_told : (g : Housing) (names : Names) (schemas : Map ℕ Schema) (pins : Map ℕ ℕ) (accepted : ℕ) → IsWorld (parts_of (holdings_of g) names schemas pins accepted)
     → IsGraphOf (record { state = state_of (parts_of (holdings_of g) names schemas pins accepted); tables = g.tables }) g
 graph_told g names schemas pins accepted world = record { tables = refl; live = refl; settled = alive_settled world; facts = held_facts world }
+
+-- and so do the searches along relationships
+pub links_told : (g : Housing) (names : Names) (schemas : Map ℕ Schema) (pins : Map ℕ ℕ) (accepted : ℕ) → IsWorld (parts_of (holdings_of g) names schemas pins accepted) → (n : ℕ) → n ≡ live_size (holdings_of g).live
+    → IsLinksOf (record { state = state_of (parts_of (holdings_of g) names schemas pins accepted); tables = g.tables }) (record { housing = g; size = n })
+links_told g names schemas pins accepted world n is = record { sees = sees world; tables = refl; size = is }

@@ -1,40 +1,116 @@
 -- What accepted commands tell is what has changed.
-use Rattle.std.proofs.Common.{◌≡◌, ℕ, Bool, ℤ, List, [], ◌∷◌, Some, None, Ok, if◌then◌else◌, sym, ap, ◌∙◌}
+use Rattle.std.proofs.Common.{◌≡◌, ℕ, Bool, true, false, cond, not, ◌||◌, ℤ, List, [], ◌∷◌, Some, None, is_some, Ok, if◌then◌else◌, refl, sym, ap, subst, ◌∙◌}
+use Rattle.std.specs.Prelude.{filter}
+use Rattle.std.specs.List.{list_any}
+use Rattle.std.specs.FinMap.Entries.{below_all, is_sorted}
+use Rattle.std.specs.Cmp.{Equal-is, eq_by_cmp_equiv}
 use Rattle.ecs_id.specs.declared.EntityId.{EntityId}
 use Rattle.ecs_id.specs.Id.{Id, plain}
 use Rattle.ecs_model.specs.Schema.{Schema}
-use Rattle.ecs_model.specs.Keeps.{IsWellFormed}
+use Rattle.ecs_model.specs.traits.Keeps.{IsWellFormed}
+use Rattle.ecs_model.specs.Map.{IsMap, Map, has_key, keys, value_at}
 use Rattle.ecs_model.specs.Refusal.{first_reason}
-use Rattle.ecs_model.specs.World.{WorldState, component, holds}
-use Rattle.ecs_model.specs.Command.{Command, Changed, AnswersStep, Fresh, Entity, Component, Add, SetValue, Remove, reasons, effect, counted, step}
-use Rattle.ecs_model.specs.Command as model
-use Rattle.ecs_model.proofs.Answering.{answers_accepted, changes_of}
-use Rattle.ecs_model.proofs.Differences.{differences_of_birth, differences_of_named_birth, differences_of_component, differences_of_add, differences_of_set, differences_of_remove}
+use Rattle.ecs_model.specs.World.{WorldState, Key, component, holds, ids_of, key_cmp, key_eq}
+use Rattle.ecs_model.specs.traits.Changes.{added, removed}
+use Rattle.ecs_model.specs.Command.{Changed, AnswersStep, counted, differences, next_entity}
+use Rattle.ecs_model.specs.traits.Command.{Command, Fresh, Entity, Component, Add, SetValue, Remove, reasons, effect, step, written_by}
+use Rattle.ecs_model.proofs.Answering.{answers_accepted}
+use Rattle.ecs_model.proofs.Differences.{differences_of_birth, differences_of_named_birth, differences_of_component}
+use Rattle.ecs_model.proofs.Maps.{absent_below, both_true, key_cmp_same, key_cmp_total}
+use Rattle.ecs_model.proofs.traits.AfterAdd.{differences_of_add, differences_of_set}
+use Rattle.ecs_model.proofs.traits.Differences.{differences_of_remove}
+use Rattle.ecs_model.proofs.traits.Replacing.{is_replaced}
+use Rattle.ecs_world.proofs.Judged.{add_of_set, judged-add}
+use Rattle.ecs_world.proofs.Simple.{added_alone, removed_alone, replaced_none, simple_no_trait}
+use Rattle.fact_rules.specs.Simple.{is_simple, is_unmirrored}
 use Rattle.ecs_world.specs.State.{birth, coming, no_change}
 
+-- where none passes, none is left
+filter_none : {A : Type 0} (xs : List A) → filter (λ x. false) xs ≡ []
+filter_none [] = refl
+filter_none (x ∷ xs) = filter_none xs
+
+-- of the keys of a map one alone passes a test for it, if it is there
+one_passes : {X : Type 0} (m : Map Key X) (k : Key) → IsMap key_cmp m → filter (λ q. list_any (key_eq q) (k ∷ [])) (keys m) ≡ (if has_key key_cmp m k then k ∷ [] else [])
+one_passes [] k sorted = refl
+one_passes (y ∷ ys) k sorted =
+    let parts = both_true (below_all key_cmp y.0 ys) (is_sorted key_cmp ys) sorted in
+    by (key_eq y.0 k) refl parts.0 (one_passes ys k parts.1)
+  where
+    rest : List Key
+    rest = filter (λ q. list_any (key_eq q) (k ∷ [])) (keys ys)
+
+    turned : (b : Bool) → key_eq y.0 k ≡ b → key_eq k y.0 ≡ b
+    turned b p = (eq_by_cmp_equiv key_cmp_total).symm k y.0 ∙ p
+
+    alone : y.0 ≡ k → below_all key_cmp y.0 ys ≡ true → has_key key_cmp ys k ≡ false
+    alone is low = ap is_some (absent_below key_cmp key_cmp_total k ys (subst (λ x. below_all key_cmp x ys ≡ true) is low))
+
+    by : (b : Bool) → key_eq y.0 k ≡ b → below_all key_cmp y.0 ys ≡ true → rest ≡ (if has_key key_cmp ys k then k ∷ [] else [])
+        → filter (λ q. list_any (key_eq q) (k ∷ [])) (keys (y ∷ ys)) ≡ (if has_key key_cmp (y ∷ ys) k then k ∷ [] else [])
+    by true p low left =
+        let is : y.0 ≡ k = key_cmp_same y.0 k ((Equal-is (key_cmp y.0 k)).0 p) in
+        let none : rest ≡ [] = left ∙ ap (λ b. if b then k ∷ [] else []) (alone is low) in
+        ap (λ b. cond (b || false) (y.0 ∷ rest) rest) p ∙ (λ j. is j ∷ none j) ∙ sym (ap (λ b. if is_some (cond b (Some y.1) (value_at key_cmp ys k)) then k ∷ [] else []) (turned true p))
+    by false p low left =
+        ap (λ b. cond (b || false) (y.0 ∷ rest) rest) p ∙ left ∙ sym (ap (λ b. if is_some (cond b (Some y.1) (value_at key_cmp ys k)) then k ∷ [] else []) (turned false p))
+
+module _ (v : WorldState) (e : EntityId) (i : Id) where
+  -- with an id without traits its fact comes alone, if it isn't held
+  comes_alone : is_simple (ids_of v) i ≡ true → filter (λ k. not (holds v k.0 k.1)) (keys (added v e.index i)) ≡ (if holds v e.index i then [] else (e.index, i) ∷ [])
+  comes_alone simple = ap (filter (λ k. not (holds v k.0 k.1))) (added_alone v e.index i simple) ∙ by (holds v e.index i)
+    where
+      by : (b : Bool) → cond {A = List Key} (not b) ((e.index, i) ∷ []) [] ≡ (if b then [] else (e.index, i) ∷ [])
+      by true = refl
+      by false = refl
+
+  -- and nothing gives way
+  none_goes : is_simple (ids_of v) i ≡ true → filter (is_replaced v e.index i) (keys v.facts) ≡ []
+  none_goes simple = ap (λ ks. filter (λ k. list_any (key_eq k) ks) (keys v.facts)) (replaced_none v e.index i simple) ∙ filter_none (keys v.facts)
+
+  -- a fact without mirror goes alone, if it is held
+  goes_alone : IsWellFormed v → is_unmirrored (ids_of v) i ≡ true
+      → filter (λ k. list_any (key_eq k) (removed v e.index i)) (keys v.facts) ≡ (if holds v e.index i then (e.index, i) ∷ [] else [])
+  goes_alone sound alone = ap (λ ks. filter (λ k. list_any (key_eq k) ks) (keys v.facts)) (removed_alone v e.index i alone) ∙ one_passes v.facts (e.index, i) (sound.in_order).facts
+
+  abbrev with_changes : List Key → List Key → List Key → Changed
+  with_changes came went written = record { born = None; died = []; came = came; went = went; written = written }
+
+  alone_added : IsWellFormed v → is_simple (ids_of v) i ≡ true → first_reason (reasons v (Add e i)) ≡ None
+      → differences v (counted (effect v (Add e i))) (written_by (Add e i)) ≡ coming v e.index i
+  alone_added sound simple none =
+      let can = judged-add v e i (simple_no_trait v i simple) none in
+      differences_of_add v e i sound can.mentions ∙ (λ j. with_changes (comes_alone simple j) (none_goes simple j) [])
+
+  alone_set : (vs : List ℤ) → IsWellFormed v → is_simple (ids_of v) i ≡ true → first_reason (reasons v (SetValue e i vs)) ≡ None
+      → differences v (counted (effect v (SetValue e i vs))) (written_by (SetValue e i vs)) ≡ record (coming v e.index i) { written = (e.index, i) ∷ [] }
+  alone_set vs sound simple none =
+      let can = judged-add v e i (simple_no_trait v i simple) (add_of_set v e i vs none).1 in
+      differences_of_set v e i vs sound can.mentions ∙ (λ j. with_changes (comes_alone simple j) (none_goes simple j) ((e.index, i) ∷ []))
+
 module _ (v u : WorldState) (told : Changed) where
-  answers : (c : Command) → first_reason (reasons v c) ≡ None → u ≡ counted (effect v c) → told ≡ changes_of v c → AnswersStep (Ok told) (step v c) v u
-  answers c none left is = answers_accepted v c told u none left is
+  pub told_fresh : (e : EntityId) → next_entity v ≡ Some e → first_reason (reasons v Fresh) ≡ None → u ≡ counted (effect v Fresh) → told ≡ birth e → AnswersStep (Ok told) (step v Fresh) v u
+  told_fresh e next none left is = answers_accepted v Fresh told u none left (is ∙ sym (differences_of_birth v e next))
 
-  pub told_fresh : (e : EntityId) → model.next_entity v ≡ Some e → first_reason (reasons v Fresh) ≡ None → u ≡ counted (effect v Fresh) → told ≡ birth e → AnswersStep (Ok told) (step v Fresh) v u
-  told_fresh e next none left is = answers Fresh none left (is ∙ sym (differences_of_birth v e next))
-
-  pub told_entity : (n : List ℕ) (e : EntityId) → model.next_entity v ≡ Some e → first_reason (reasons v (Entity n)) ≡ None → u ≡ counted (effect v (Entity n)) → told ≡ birth e
+  pub told_entity : (n : List ℕ) (e : EntityId) → next_entity v ≡ Some e → first_reason (reasons v (Entity n)) ≡ None → u ≡ counted (effect v (Entity n)) → told ≡ birth e
       → AnswersStep (Ok told) (step v (Entity n)) v u
-  told_entity n e next none left is = answers (Entity n) none left (is ∙ sym (differences_of_named_birth v n e next))
+  told_entity n e next none left is = answers_accepted v (Entity n) told u none left (is ∙ sym (differences_of_named_birth v n e next))
 
-  pub told_component : (n : List ℕ) (s : Schema) (e : EntityId) → IsWellFormed v → model.next_entity v ≡ Some e → first_reason (reasons v (Component n s)) ≡ None → u ≡ counted (effect v (Component n s))
+  pub told_component : (n : List ℕ) (s : Schema) (e : EntityId) → IsWellFormed v → next_entity v ≡ Some e → first_reason (reasons v (Component n s)) ≡ None → u ≡ counted (effect v (Component n s))
       → told ≡ record (birth e) { came = (e.index, plain component) ∷ [] } → AnswersStep (Ok told) (step v (Component n s)) v u
-  told_component n s e sound next none left is = answers (Component n s) none left (is ∙ sym (differences_of_component v n s e sound next))
+  told_component n s e sound next none left is = answers_accepted v (Component n s) told u none left (is ∙ sym (differences_of_component v n s e sound next))
 
-  pub told_add : (e : EntityId) (i : Id) → first_reason (reasons v (Add e i)) ≡ None → u ≡ counted (effect v (Add e i)) → told ≡ coming v e.index i → AnswersStep (Ok told) (step v (Add e i)) v u
-  told_add e i none left is = answers (Add e i) none left (is ∙ sym (differences_of_add v e i))
+  module _ (e : EntityId) (i : Id) (sound : IsWellFormed v) where
+    pub told_add : is_simple (ids_of v) i ≡ true → first_reason (reasons v (Add e i)) ≡ None → u ≡ counted (effect v (Add e i)) → told ≡ coming v e.index i → AnswersStep (Ok told) (step v (Add e i)) v u
+    told_add simple none left is = answers_accepted v (Add e i) told u none left (is ∙ sym (alone_added v e i sound simple none))
 
-  pub told_set : (e : EntityId) (i : Id) (vs : List ℤ) → first_reason (reasons v (SetValue e i vs)) ≡ None → u ≡ counted (effect v (SetValue e i vs))
-      → told ≡ record (coming v e.index i) { written = (e.index, i) ∷ [] } → AnswersStep (Ok told) (step v (SetValue e i vs)) v u
-  told_set e i vs none left is = answers (SetValue e i vs) none left (is ∙ sym (differences_of_set v e i vs))
+    pub told_set : (vs : List ℤ) → is_simple (ids_of v) i ≡ true → first_reason (reasons v (SetValue e i vs)) ≡ None → u ≡ counted (effect v (SetValue e i vs))
+        → told ≡ record (coming v e.index i) { written = (e.index, i) ∷ [] } → AnswersStep (Ok told) (step v (SetValue e i vs)) v u
+    told_set vs simple none left is = answers_accepted v (SetValue e i vs) told u none left (is ∙ sym (alone_set v e i vs sound simple none))
 
-  pub told_remove : (e : EntityId) (i : Id) (b : Bool) → IsWellFormed v → holds v e.index i ≡ b → first_reason (reasons v (Remove e i)) ≡ None → u ≡ counted (effect v (Remove e i))
-      → told ≡ record no_change { went = if b then (e.index, i) ∷ [] else [] } → AnswersStep (Ok told) (step v (Remove e i)) v u
-  told_remove e i b sound held none left is =
-      answers (Remove e i) none left (is ∙ ap (λ c. record no_change { went = if c then (e.index, i) ∷ [] else [] }) (sym held) ∙ sym (differences_of_remove v e i sound))
+    pub told_remove : (b : Bool) → is_unmirrored (ids_of v) i ≡ true → holds v e.index i ≡ b → first_reason (reasons v (Remove e i)) ≡ None → u ≡ counted (effect v (Remove e i))
+        → told ≡ record no_change { went = if b then (e.index, i) ∷ [] else [] } → AnswersStep (Ok told) (step v (Remove e i)) v u
+    told_remove b alone held none left is =
+        answers_accepted v (Remove e i) told u none left
+        (is ∙ ap (λ c. record no_change { went = if c then (e.index, i) ∷ [] else [] }) (sym held)
+        ∙ sym (differences_of_remove v e i ∙ ap (λ went. record no_change { went = went }) (goes_alone v e i sound alone)))

@@ -1,3 +1,6 @@
 pub mod BuiltIn
+pub mod Changes
+pub mod Releases
+pub mod Singles
 pub mod Standing
 pub mod State

@@ -5,9 +5,12 @@ use Rattle.ecs_model.specs.declared.faults.CommandError.{CommandError}
 use Rattle.ecs_model.specs.declared.faults.CommandError.TheVariants.{Refused, Memory}
 use Rattle.ecs_model.specs.declared.faults.Refusal.{Refusal}
 use Rattle.ecs_model.specs.World.{WorldState, is_alive}
+use Rattle.entity_index.specs.Sizes.{live_size}
 use Rattle.table_store.specs.Store.{Store}
 use Rattle.ecs_archetypes.specs.Holdings.{held_at, is_settled}
 use Rattle.ecs_archetypes.specs.Housing.{Housing, holdings_of}
+use Rattle.ecs_links.specs.Linked.{Linked, ids_at_index, indexes}
+use Rattle.fact_rules.specs.Sees.{Sees}
 use Rattle.ecs_world.specs.State.{AreFactsOf}
 
 pub record Standing : Type 0 where
@@ -21,6 +24,13 @@ pub record IsGraphOf (w : Standing) (g : Housing) : Type 0 where
   pub live : (holdings_of g).live ≡ (w.state).live
   pub settled : (e : EntityId) → is_settled (holdings_of g) e ≡ is_alive w.state e
   pub facts : (e : ℕ) → AreFactsOf w.state e (held_at (holdings_of g) e)
+
+-- what searches along relationships see of a world: its live entities with their ids, and its tables
+pub record IsLinksOf (w : Standing) (l : Linked) : Type 0 where
+  pub sees : Sees w.state (indexes l) (ids_at_index l)
+  pub tables : (l.housing).tables ≡ w.tables
+  -- the greatest live index plus 1
+  pub size : l.size ≡ live_size (w.state).live
 
 -- a call answers as the definition and leaves its state, and a refusal leaves the state as it was; so does refused memory, where nothing else is against it
 abbrev pub AnswersPin : {T : Type 0} → Result T CommandError → Result WorldState Refusal → WorldState → WorldState → Type 0

@@ -2,7 +2,8 @@
 
 ghost use Rattle.std.specs.Prelude.{◌≡◌, IfErr, None, OnErr, OnOk, true};
 ghost use Rattle.std.specs.FinMap as finite;
-ghost use Rattle.ecs_model.specs.Command.{AnswersStep, Component, Entity, Fresh, birth_reasons, step};
+ghost use Rattle.ecs_model.specs.Command.{AnswersStep, birth_reasons};
+ghost use Rattle.ecs_model.specs.traits.Command.{Component, Entity, Fresh, step};
 ghost use Rattle.ecs_model.specs.Refusal.{first_reason};
 ghost use Rattle.ecs_model.specs.Text.{is_name};
 ghost use Rattle.name_index.specs.Names.{IsUnnamed};
@@ -21,7 +22,7 @@ use table_store::SizedId;
 
 impl<A: Allocator + Copy> World<A> {
     /// Makes an entity without a name and without facts.
-    pub fn fresh(&mut self) -> Result<Changes, CommandError>
+    pub fn fresh(&mut self) -> Result<Changes<A>, CommandError>
         ensures answers { AnswersStep result (step self.old.state Fresh) self.old.state self.new.state }
         ensures goes_on { TablesGoOn self.old.tables self.new.tables }
     {
@@ -32,7 +33,7 @@ impl<A: Allocator + Copy> World<A> {
     }
 
     /// Makes an entity with a name and without facts.
-    pub fn entity(&mut self, name: &str) -> Result<Changes, CommandError>
+    pub fn entity(&mut self, name: &str) -> Result<Changes<A>, CommandError>
         ensures answers { AnswersStep result (step self.old.state (Entity name.now)) self.old.state self.new.state }
         ensures goes_on { TablesGoOn self.old.tables self.new.tables }
     {
@@ -43,7 +44,7 @@ impl<A: Allocator + Copy> World<A> {
     }
 
     /// Makes an entity with a name and fields, which holds the tag `Component`.
-    pub fn component(&mut self, name: &str, schema: Schema<A>) -> Result<Changes, CommandError>
+    pub fn component(&mut self, name: &str, schema: Schema<A>) -> Result<Changes<A>, CommandError>
         ensures answers { AnswersStep result (step self.old.state (Component name.now schema)) self.old.state self.new.state }
         ensures goes_on { TablesGoOn self.old.tables self.new.tables }
     {
@@ -53,7 +54,7 @@ impl<A: Allocator + Copy> World<A> {
         }
     }
 
-    fn make_fresh(&mut self) -> Result<Changes, CommandError>
+    fn make_fresh(&mut self) -> Result<Changes<A>, CommandError>
         requires { first_reason (birth_reasons self.old.state) ≡ None }
         ensures answers { AnswersStep result (step self.old.state Fresh) self.old.state self.new.state }
         ensures goes_on { TablesGoOn self.old.tables self.new.tables }
@@ -62,10 +63,10 @@ impl<A: Allocator + Copy> World<A> {
             return Err(CommandError::Memory);
         };
         self.accepted += 1;
-        Ok(Changes::of_birth(entity))
+        Ok(Changes::of_birth(self.alloc, entity))
     }
 
-    fn make_entity(&mut self, name: &str) -> Result<Changes, CommandError>
+    fn make_entity(&mut self, name: &str) -> Result<Changes<A>, CommandError>
         requires { first_reason (birth_reasons self.old.state) ≡ None }
         ensures answers { AnswersStep result (step self.old.state (Entity name.now)) self.old.state self.new.state }
         ensures goes_on { TablesGoOn self.old.tables self.new.tables }
@@ -77,10 +78,10 @@ impl<A: Allocator + Copy> World<A> {
             return Err(CommandError::Memory);
         }
         self.accepted += 1;
-        Ok(Changes::of_birth(entity))
+        Ok(Changes::of_birth(self.alloc, entity))
     }
 
-    fn make_component(&mut self, name: &str, schema: Schema<A>) -> Result<Changes, CommandError>
+    fn make_component(&mut self, name: &str, schema: Schema<A>) -> Result<Changes<A>, CommandError>
         requires { first_reason (birth_reasons self.old.state) ≡ None }
         ensures answers { AnswersStep result (step self.old.state (Component name.now schema)) self.old.state self.new.state }
         ensures goes_on { TablesGoOn self.old.tables self.new.tables }
@@ -101,7 +102,7 @@ impl<A: Allocator + Copy> World<A> {
         }
         self.accepted += 1;
         let key = FactKey::new(entity.index, component);
-        Ok(Changes::of_birth(entity).with_came(key))
+        Ok(Changes::of_birth(self.alloc, entity).with_came(key))
     }
 }
 

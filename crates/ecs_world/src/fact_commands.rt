@@ -1,91 +1,148 @@
-//! Commands on facts. Each finds the row of its entity once, judges, and then acts on what was found.
+//! Commands on facts.
 
-ghost use Rattle.ecs_model.specs.Command.{Add, AnswersStep, Remove, SetValue, step};
+ghost use Rattle.ecs_model.specs.Command.{AnswersStep};
+ghost use Rattle.ecs_model.specs.traits.Command.{Add, Remove, SetValue, step};
 ghost use Rattle.table_store.specs.Going.{TablesGoOn};
 
 use crate::{Changes, World};
 use ecs_id::{EntityId, Id};
 use ecs_model::FactKey;
 use ecs_model::faults::{CommandError, Refusal};
+use fact_rules::{Additions, adds_built_in};
 use std::alloc::Allocator;
 
 impl<A: Allocator + Copy> World<A> {
     /// Adds an id to an entity, with zeros as its value. A fact that is there already keeps its value.
-    pub fn add(&mut self, entity: EntityId, id: Id) -> Result<Changes, CommandError>
+    ///
+    /// With it come the facts of With and the mirror of a Symmetric relationship, and the other targets of an Exclusive one go.
+    pub fn add(&mut self, entity: EntityId, id: Id) -> Result<Changes<A>, CommandError>
         ensures answers { AnswersStep result (step self.old.state (Add entity id)) self.old.state self.new.state }
         ensures goes_on { TablesGoOn self.old.tables self.new.tables }
     {
-        let Some(found) = self.archetypes.find(entity, id) else {
-            return Err(CommandError::Refused(Refusal::Dead));
-        };
-        if let Some(refusal) = self.add_refusal(entity, id, &found) {
-            return Err(CommandError::Refused(refusal));
+        if self.is_simple(id) {
+            self.add_single(entity, id)
+        } else {
+            self.add_all(entity, id)
         }
-        if found.is_held {
-            self.accepted += 1;
-            return Ok(Changes::none());
-        }
-        let size = self.size_of(id);
-        if self.archetypes.add(entity, found.place, id, size).is_err() {
-            return Err(CommandError::Memory);
-        }
-        self.accepted += 1;
-        let key = FactKey::new(entity.index, id);
-        Ok(Changes::none().with_came(key))
     }
 
-    /// Gives a fact a value, a number for each field of its id. A fact that isn't there comes first.
+    /// Gives a fact a value, a number for each field of its id. A fact that isn't there comes first, as by `add`.
     pub fn set(
         &mut self,
         entity: EntityId,
         id: Id,
         values: &[i128],
-    ) -> Result<Changes, CommandError>
+    ) -> Result<Changes<A>, CommandError>
         ensures answers { AnswersStep result (step self.old.state (SetValue entity id values.now)) self.old.state self.new.state }
         ensures goes_on { TablesGoOn self.old.tables self.new.tables }
     {
-        let Some(found) = self.archetypes.find(entity, id) else {
-            return Err(CommandError::Refused(Refusal::Dead));
-        };
-        let mut buffer = [0; 64];
-        let size = match self.judge_set(entity, id, values, &found, &mut buffer) {
-            Ok(size) => size,
-            Err(refusal) => return Err(CommandError::Refused(refusal)),
-        };
-        let bytes = &buffer[..size];
-        if self.archetypes.put(entity, &found, id, bytes).is_err() {
-            return Err(CommandError::Memory);
-        }
-        self.accepted += 1;
-        let key = FactKey::new(entity.index, id);
-        let changes = Changes::none().with_written(key);
-        if found.is_held {
-            Ok(changes)
+        if self.is_simple(id) {
+            self.set_single(entity, id, values)
         } else {
-            Ok(changes.with_came(key))
+            self.set_all(entity, id, values)
         }
     }
 
-    /// Takes an id from an entity. Where the entity doesn't hold it, nothing changes but the count of commands.
-    pub fn remove(&mut self, entity: EntityId, id: Id) -> Result<Changes, CommandError>
+    /// Takes an id from an entity, with the mirror of a Symmetric relationship. Where the entity doesn't hold it, nothing changes but the
+    /// count of commands.
+    pub fn remove(&mut self, entity: EntityId, id: Id) -> Result<Changes<A>, CommandError>
         ensures answers { AnswersStep result (step self.old.state (Remove entity id)) self.old.state self.new.state }
         ensures goes_on { TablesGoOn self.old.tables self.new.tables }
     {
-        let Some(found) = self.archetypes.find(entity, id) else {
+        if self.is_unmirrored(id) {
+            self.remove_single(entity, id)
+        } else {
+            self.remove_both(entity, id)
+        }
+    }
+
+    /// `add` with all that traits bring and take.
+    fn add_all(&mut self, entity: EntityId, id: Id) -> Result<Changes<A>, CommandError>
+        ensures answers { AnswersStep result (step self.old.state (Add entity id)) self.old.state self.new.state }
+        ensures goes_on { TablesGoOn self.old.tables self.new.tables }
+    {
+        if !self.is_alive(entity) || !self.mentions_live(id) {
             return Err(CommandError::Refused(Refusal::Dead));
+        }
+        let mut additions = Additions::new(self.alloc);
+        if self.list_additions(entity, id, &mut additions).is_err() {
+            return Err(CommandError::Memory);
+        }
+        if adds_built_in(&additions.added) {
+            return Err(CommandError::Refused(Refusal::BuiltIn));
+        }
+        let Ok(judged) = self.addition_refusal(entity, id, &additions) else {
+            return Err(CommandError::Memory);
         };
-        if let Some(refusal) = self.remove_refusal(entity, id) {
+        if let Some(refusal) = judged {
             return Err(CommandError::Refused(refusal));
         }
-        if !found.is_held {
-            self.accepted += 1;
-            return Ok(Changes::none());
-        }
-        if self.archetypes.remove(entity, found.place, id).is_err() {
+        if self.bring(entity, id, &additions).is_err() {
             return Err(CommandError::Memory);
         }
         self.accepted += 1;
-        let key = FactKey::new(entity.index, id);
-        Ok(Changes::none().with_went(key))
+        Ok(Changes::none(self.alloc).with_facts(additions.came, additions.went))
+    }
+
+    /// `set` with all that traits bring and take.
+    fn set_all(
+        &mut self,
+        entity: EntityId,
+        id: Id,
+        values: &[i128],
+    ) -> Result<Changes<A>, CommandError>
+        ensures answers { AnswersStep result (step self.old.state (SetValue entity id values.now)) self.old.state self.new.state }
+        ensures goes_on { TablesGoOn self.old.tables self.new.tables }
+    {
+        if !self.is_alive(entity) || !self.mentions_live(id) {
+            return Err(CommandError::Refused(Refusal::Dead));
+        }
+        let mut additions = Additions::new(self.alloc);
+        if self.list_additions(entity, id, &mut additions).is_err() {
+            return Err(CommandError::Memory);
+        }
+        if adds_built_in(&additions.added) {
+            return Err(CommandError::Refused(Refusal::BuiltIn));
+        }
+        let mut buffer = [0; 64];
+        let size = match self.encode(id, values, &mut buffer) {
+            Ok(size) => size,
+            Err(refusal) => return Err(CommandError::Refused(refusal)),
+        };
+        let Ok(judged) = self.addition_refusal(entity, id, &additions) else {
+            return Err(CommandError::Memory);
+        };
+        if let Some(refusal) = judged {
+            return Err(CommandError::Refused(refusal));
+        }
+        if self.bring(entity, id, &additions).is_err() {
+            return Err(CommandError::Memory);
+        }
+        self.write(entity, id, &buffer[..size]);
+        self.accepted += 1;
+        let changes = Changes::none(self.alloc).with_facts(additions.came, additions.went);
+        Ok(changes.with_written(FactKey::new(entity.index, id)))
+    }
+
+    /// `remove` with the mirror.
+    fn remove_both(&mut self, entity: EntityId, id: Id) -> Result<Changes<A>, CommandError>
+        ensures answers { AnswersStep result (step self.old.state (Remove entity id)) self.old.state self.new.state }
+        ensures goes_on { TablesGoOn self.old.tables self.new.tables }
+    {
+        if !self.is_alive(entity) {
+            return Err(CommandError::Refused(Refusal::Dead));
+        }
+        if let Some(refusal) = self.remove_refusal(entity, id) {
+            return Err(CommandError::Refused(refusal));
+        }
+        let mut went = Vec::new(self.alloc);
+        if self.list_removals(entity, id, &mut went).is_err() {
+            return Err(CommandError::Memory);
+        }
+        if self.take(entity, id, &went).is_err() {
+            return Err(CommandError::Memory);
+        }
+        self.accepted += 1;
+        Ok(Changes::none(self.alloc).with_facts(Vec::new(self.alloc), went))
     }
 }

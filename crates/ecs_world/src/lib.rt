@@ -29,21 +29,27 @@
 ghost use Rattle.std.specs.Prelude.{◌≡◌, IfOk};
 ghost use Rattle.ecs_model.specs.World.{first_world};
 
+mod additions;
 mod birth_commands;
 mod built_in;
 mod changes;
+mod deletion;
 mod fact_commands;
 mod pins;
 mod readers;
 mod refusals;
+mod releases;
+mod single_facts;
 
-pub use changes::Changes;
-use ecs_archetypes::Archetypes;
+pub use changes::{Changes, Death};
+use ecs_archetypes::{Archetypes, FactPlan};
 pub use ecs_archetypes::{EntityFacts, Graph};
+pub use ecs_links::Links;
 pub use ecs_model::FactKey;
 use ecs_schema::Schema;
 use name_index::NameIndex;
 pub use raw_column::Memory;
+use rel_travel::Scratch;
 use std::alloc::{Allocator, Global};
 use std::collections::BTreeMap;
 use std::hash::RandomState;
@@ -60,6 +66,11 @@ pub struct World<A: Allocator = Global> {
     pins: BTreeMap<u32, u64, A>,
     /// How many commands were accepted.
     accepted: u64,
+    /// Room for the searches along relationships.
+    scratch: Scratch<A>,
+    /// Room for the moves of one command.
+    plan: FactPlan<A>,
+    alloc: A,
 }
 
 impl<A: Allocator> Model for World<A> {
@@ -90,6 +101,9 @@ impl<A: Allocator + Copy> World<A> {
             schemas: BTreeMap::new(alloc),
             pins: BTreeMap::new(alloc),
             accepted: 0,
+            scratch: Scratch::new(alloc),
+            plan: FactPlan::new(alloc),
+            alloc,
         })
     }
 }

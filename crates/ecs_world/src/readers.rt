@@ -4,16 +4,17 @@ ghost use Rattle.std.specs.Prelude.{◌≡◌, ◌<◌, ◌≤◌, IfSome, IsTru
 ghost use Rattle.std.specs.Option.{option_copied};
 ghost use Rattle.std.specs.Ordering.{nat_cmp};
 ghost use Rattle.ecs_model.specs.Bytes.{size_of, values_in};
-ghost use Rattle.ecs_model.specs.Keeps.{IsWellFormed};
 ghost use Rattle.ecs_model.specs.Map.{value_at};
+ghost use Rattle.ecs_model.specs.traits.Keeps.{IsWellFormed};
 ghost use Rattle.ecs_model.specs.World.{entity_at, holds, ids_of, is_alive, is_live, name_of, named, type_of_id, value_of};
-ghost use Rattle.ecs_world.specs.Standing.{IsGraphOf};
+ghost use Rattle.ecs_world.specs.Standing.{IsGraphOf, IsLinksOf};
 ghost use Rattle.ecs_world.specs.State.{AreFactsOf, byte_count, value_in};
 
 use crate::World;
 use crate::built_in::PAIR_IS_TAG;
 use ecs_archetypes::{EntityFacts, Graph};
 use ecs_id::{EntityId, Id};
+use ecs_links::Links;
 use ecs_model::Value;
 use ecs_schema::Schema;
 use entity_index::Live;
@@ -108,6 +109,19 @@ impl<A: Allocator> World<A> {
         self.archetypes.ids_of(entity)
     }
 
+    /// The ids of the entity at an index, in order: none where no entity lives there.
+    pub(crate) fn ids_at(&self, index: u32) -> &[Id]
+        ensures { result.now ≡ ids_of self.now.state index }
+    {
+        let Some(entity) = self.archetypes.at(index) else {
+            return &[];
+        };
+        match self.archetypes.ids_of(entity) {
+            Some(ids) => ids,
+            None => &[],
+        }
+    }
+
     /// The facts of a live entity, in the order of ids, and None of one that is not alive.
     pub fn facts(&self, entity: EntityId) -> Option<EntityFacts<'_, A>>
         ensures alive { is_some result ≡ is_alive self.now.state entity }
@@ -121,6 +135,13 @@ impl<A: Allocator> World<A> {
         ensures { IsGraphOf self.now result }
     {
         self.archetypes.graph()
+    }
+
+    /// What searches along relationships go through: the live entities with their ids, in their tables.
+    pub fn links(&self) -> Links<'_, A>
+        ensures { IsLinksOf self.now result }
+    {
+        Links::new(&self.archetypes, self.archetypes.size())
     }
 
     /// The fields of a component.

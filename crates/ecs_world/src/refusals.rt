@@ -1,20 +1,26 @@
 //! Why commands are refused. All is judged before anything is changed.
 
-ghost use Rattle.std.specs.Prelude.{◌≡◌, ◌++◌, ◌||◌, IfErr, IfOk, IsTrue, None, OnOk, Some, length};
-ghost use Rattle.std.specs.List.{list_all};
+ghost use Rattle.std.specs.Prelude.{◌≡◌, ◌++◌, ◌||◌, IfErr, IfOk, IsTrue, None, OnOk, Some, length, true};
+ghost use Rattle.std.specs.List.{list_all, list_any};
 ghost use Rattle.ecs_id.specs.Id.{mentioned};
-ghost use Rattle.ecs_model.specs.Command.{Add, Remove, SetValue, birth_reasons, is_spent, name_reasons, next_entity, reasons, value_reasons};
-ghost use Rattle.ecs_model.specs.Provisional.{is_not_yet_changed};
+ghost use Rattle.ecs_model.specs.Command.{birth_reasons, is_spent, name_reasons, next_entity, value_reasons};
 ghost use Rattle.ecs_model.specs.Refusal.{first_reason};
 ghost use Rattle.ecs_model.specs.World.{holds, ids_of, is_alive, is_built_in, is_live, type_of_id};
+ghost use Rattle.ecs_model.specs.traits.Command.{Add, Remove, SetValue, reasons};
+ghost use Rattle.ecs_model.specs.traits.Rules.{is_trait as is_trait_id};
+ghost use Rattle.fact_rules.specs.Additions.{is_of_built_in};
+ghost use Rattle.fact_rules.specs.Simple.{is_simple, is_unmirrored};
 ghost use Rattle.ecs_world.specs.State.{IsEncoded, growth_reasons};
 
 use crate::World;
+use crate::built_in::COMPONENT;
 use ecs_archetypes::Found;
 use ecs_id::{EntityId, Id};
+use ecs_model::built_ins::SYMMETRIC;
 use ecs_model::faults::Refusal;
-use ecs_model::{LAST_BUILT_IN, MOST_IDS, is_name};
+use ecs_model::{FactKey, LAST_BUILT_IN, MOST_IDS, is_name};
 use ecs_schema::ValueFault;
+use fact_rules::{is_trait, judge_remove};
 use std::alloc::Allocator;
 
 impl<A: Allocator> World<A> {
@@ -43,8 +49,9 @@ impl<A: Allocator> World<A> {
         }
     }
 
-    /// Why an id is not added to a live entity.
-    pub(crate) fn add_refusal(&self, entity: EntityId, id: Id, found: &Found) -> Option<Refusal>
+    /// Why an id without traits is not added to a live entity.
+    pub(crate) fn single_refusal(&self, entity: EntityId, id: Id, found: &Found) -> Option<Refusal>
+        requires simple { is_simple (ids_of self.now.state) id ≡ true }
         requires alive { IsTrue (is_alive self.now.state entity) }
         requires held { (found.now).is_held ≡ holds self.now.state entity.index id }
         requires count { (found.now).count ≡ length (ids_of self.now.state entity.index) }
@@ -53,15 +60,16 @@ impl<A: Allocator> World<A> {
         self.keeps();
         if !self.mentions_live(id) {
             Some(Refusal::Dead)
-        } else if changes_built_in(entity, id) {
+        } else if is_fixed(entity, id) {
             Some(Refusal::BuiltIn)
         } else {
             self.growth_refusal(found)
         }
     }
 
-    /// Writes the bytes of a value for a live entity to the front of the buffer, and tells how many they are, or why it is not set.
-    pub(crate) fn judge_set(
+    /// Writes the bytes of a value of an id without traits, for a live entity, to the front of the buffer, and tells how many they are, or
+    /// why it is not set.
+    pub(crate) fn judge_single(
         &self,
         entity: EntityId,
         id: Id,
@@ -69,6 +77,7 @@ impl<A: Allocator> World<A> {
         found: &Found,
         buffer: &mut [u8; 64],
     ) -> Result<usize, Refusal>
+        requires simple { is_simple (ids_of self.now.state) id ≡ true }
         requires alive { IsTrue (is_alive self.now.state entity) }
         requires held { (found.now).is_held ≡ holds self.now.state entity.index id }
         requires count { (found.now).count ≡ length (ids_of self.now.state entity.index) }
@@ -80,7 +89,7 @@ impl<A: Allocator> World<A> {
         if !self.mentions_live(id) {
             return Err(Refusal::Dead);
         }
-        if changes_built_in(entity, id) {
+        if is_fixed(entity, id) {
             return Err(Refusal::BuiltIn);
         }
         let size = self.encode(id, values, buffer)?;
@@ -96,18 +105,32 @@ impl<A: Allocator> World<A> {
         ensures { result ≡ first_reason (reasons self.now.state (Remove entity id)) }
     {
         if !self.mentions_live(id) {
-            Some(Refusal::Dead)
-        } else if changes_built_in(entity, id) {
-            Some(Refusal::BuiltIn)
-        } else if self.is_spent() {
-            Some(Refusal::Full)
-        } else {
-            None
+            return Some(Refusal::Dead);
         }
+        judge_remove(FactKey::new(entity.index, id), self.is_spent())
+    }
+
+    /// Whether an id is no trait, and its component or relationship has none: then nothing comes or goes with it.
+    pub(crate) fn is_simple(&self, id: Id) -> bool
+        ensures { result ≡ is_simple (ids_of self.now.state) id }
+    {
+        !is_trait(id) && !has_trait(self.ids_at(id.first()))
+    }
+
+    /// Whether a fact of an id has no mirror.
+    pub(crate) fn is_unmirrored(&self, id: Id) -> bool
+        ensures { result ≡ is_unmirrored (ids_of self.now.state) id }
+    {
+        id.second().is_none() || !self.ids_at(id.first()).contains(&Id::plain(SYMMETRIC))
     }
 
     /// Writes the bytes of a value to the front of the buffer, and tells how many they are, or why the numbers are no value of the id.
-    fn encode(&self, id: Id, values: &[i128], buffer: &mut [u8; 64]) -> Result<usize, Refusal>
+    pub(crate) fn encode(
+        &self,
+        id: Id,
+        values: &[i128],
+        buffer: &mut [u8; 64],
+    ) -> Result<usize, Refusal>
         ensures judged { OnOk result (first_reason (value_reasons (type_of_id self.now.state id) values.now) ≡ None) }
         ensures encoded { IfOk result (λ size. IsEncoded (type_of_id self.now.state id) values.now size buffer.new) }
         ensures refused { IfErr result (λ refusal. first_reason (value_reasons (type_of_id self.now.state id) values.now) ≡ Some refusal) }
@@ -137,14 +160,14 @@ impl<A: Allocator> World<A> {
     }
 
     /// Whether all that an id mentions is live.
-    fn mentions_live(&self, id: Id) -> bool
+    pub(crate) fn mentions_live(&self, id: Id) -> bool
         ensures { result ≡ list_all (is_live self.now.state) (mentioned id) }
     {
         self.is_live(id.first()) && id.second().is_none_or(|target| self.is_live(target))
     }
 
     /// No further command is counted.
-    fn is_spent(&self) -> bool
+    pub(crate) fn is_spent(&self) -> bool
         ensures { result ≡ is_spent self.now.state }
     {
         self.accepted == u64::MAX
@@ -158,14 +181,26 @@ impl<A: Allocator> World<A> {
     }
 }
 
-/// Whether a fact of a built-in entity would change, or one whose id mentions a built-in entity.
-fn changes_built_in(entity: EntityId, id: Id) -> bool
-    ensures { result ≡ (is_built_in entity.index || is_not_yet_changed id) }
+/// Whether one of the ids is a trait.
+fn has_trait(ids: &[Id]) -> bool
+    ensures { result ≡ list_any is_trait_id ids.now }
 {
-    is_built_in(entity.index) || is_built_in(id.first()) || id.second().is_some_and(is_built_in)
+    for id in ids {
+        if is_trait(*id) {
+            return true;
+        }
+    }
+    false
 }
 
-fn is_built_in(index: u32) -> bool
+/// Whether a fact is of a built-in entity, or is the tag of components.
+fn is_fixed(entity: EntityId, id: Id) -> bool
+    ensures { result ≡ is_of_built_in (entity.index, id) }
+{
+    is_built_in(entity.index) || id == Id::plain(COMPONENT)
+}
+
+pub(crate) fn is_built_in(index: u32) -> bool
     ensures { result ≡ is_built_in index }
 {
     1 <= index && index <= LAST_BUILT_IN

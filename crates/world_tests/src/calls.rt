@@ -61,6 +61,42 @@ fn each_call_has_memory_and_each_reader_answers(rt: HostRuntime) -> Result<(), F
 }
 
 #[test]
+fn a_new_target_takes_the_place_of_the_old(rt: HostRuntime) -> Result<(), Fail> {
+    let mut world = World::new(rt.alloc(), RandomState::new(&rt)?)?;
+    for name in ["Sun", "Earth", "Moon"] {
+        world.entity(name)?;
+    }
+    world.add(SUN, Id::pair(1, 65))?;
+    let moved = world.add(SUN, Id::pair(1, 66))?;
+    assert!(rt; is_of_sun(moved.came(), Id::pair(1, 66)));
+    assert!(rt; is_of_sun(moved.went(), Id::pair(1, 65)));
+    let freed = world.remove(SUN, Id::pair(1, 66))?;
+    assert!(rt; is_of_sun(freed.went(), Id::pair(1, 66)) && freed.died().is_empty());
+    Ok(())
+}
+
+#[test]
+fn a_deletion_tells_who_died(rt: HostRuntime) -> Result<(), Fail> {
+    let mut world = World::new(rt.alloc(), RandomState::new(&rt)?)?;
+    world.entity("Sun")?;
+    world.fresh()?;
+    if let Some(moon) = world.at(65) {
+        world.add(moon, Id::pair(1, 64))?;
+    }
+    let gone = world.delete(SUN)?;
+    assert!(rt; gone.went().len() == 1 && gone.came().is_empty() && gone.written().is_empty());
+    match gone.died() {
+        [sun, moon] => {
+            assert!(rt; sun.entity() == SUN && sun.name() == Some("Sun"));
+            assert!(rt; moon.entity().index == 65 && moon.name().is_none());
+        }
+        _ => assert!(rt; false),
+    }
+    assert!(rt; !world.is_alive(SUN) && world.find("Sun").is_none() && world.at(65).is_none());
+    Ok(())
+}
+
+#[test]
 fn stored_queries_are_counted(rt: HostRuntime) -> Result<(), Fail> {
     let mut world = World::new(rt.alloc(), RandomState::new(&rt)?)?;
     assert!(rt; world.pin(SUN) == Err(CommandError::Refused(Refusal::Dead)));

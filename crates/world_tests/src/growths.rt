@@ -1,4 +1,6 @@
 use ecs_id::{EntityId, Id};
+use ecs_model::FactKey;
+use ecs_model::built_ins::{EXCLUSIVE, SYMMETRIC, WITH};
 use ecs_model::faults::CommandError;
 use ecs_schema::{Kind, Schema, SchemaError};
 use ecs_world::World;
@@ -8,11 +10,32 @@ use std::hash::RandomState;
 use std::process::Abort;
 use std::test::Fail;
 
-/// The entity with facts, after a component and a tag.
-const SHIP: EntityId = EntityId {
-    index: 66,
-    generation: 0,
-};
+const CHILD_OF: u32 = 1;
+
+/// The component, and then the entities in the order of `NAMES`.
+const POSITION: u32 = 64;
+
+const TAG: u32 = 65;
+
+const SHIP: u32 = 66;
+
+const HOLDS: u32 = 67;
+
+const SOLID: u32 = 68;
+
+const MARRIED: u32 = 69;
+
+const ANN: u32 = 70;
+
+const BOB: u32 = 71;
+
+const CY: u32 = 72;
+
+const KID: u32 = 73;
+
+const NAMES: [&str; 9] = [
+    "Tag", "Ship", "Holds", "Solid", "Married", "Ann", "Bob", "Cy", "Kid",
+];
 
 #[derive(Clone, Copy)]
 enum Call {
@@ -23,22 +46,52 @@ enum Call {
     Set,
     Remove,
     Pin,
+    /// A fact and its mirror come, and another with its mirror goes.
+    Marry,
+    /// A component comes with the one that it brings.
+    Harden,
+    /// A pair comes with a value, and another goes.
+    Hold,
+    /// A fact goes with its mirror.
+    Part,
+    /// A child falls too, and the spouse loses a fact.
+    Delete,
 }
 
 fn fields<A: Allocator + Copy>(alloc: A) -> Result<Schema<A>, SchemaError> {
     Schema::new(alloc, &[("x", Kind::I32)])
 }
 
-/// Makes a component, a tag, and an entity with both.
+/// The entity that first stands at an index.
+fn first_at(index: u32) -> EntityId {
+    EntityId {
+        index,
+        generation: 0,
+    }
+}
+
+/// Makes a component, a ship with a value, a tag and a pair, and Ann, who is married to Bob and has a child.
 fn fill<A: Allocator + Copy>(
     world: &mut World<A>,
     position: Schema<A>,
 ) -> Result<(), CommandError> {
     world.component("Position", position)?;
-    world.entity("Tag")?;
-    world.entity("Ship")?;
-    world.set(SHIP, Id::plain(64), &[7])?;
-    world.add(SHIP, Id::plain(65))?;
+    for name in NAMES {
+        world.entity(name)?;
+    }
+    world.set(first_at(SHIP), Id::plain(POSITION), &[7])?;
+    for fact in [
+        FactKey::new(HOLDS, Id::plain(EXCLUSIVE)),
+        FactKey::new(SOLID, Id::pair(WITH, POSITION)),
+        FactKey::new(MARRIED, Id::plain(EXCLUSIVE)),
+        FactKey::new(MARRIED, Id::plain(SYMMETRIC)),
+        FactKey::new(SHIP, Id::plain(TAG)),
+        FactKey::new(SHIP, Id::pair(HOLDS, TAG)),
+        FactKey::new(ANN, Id::pair(MARRIED, BOB)),
+        FactKey::new(KID, Id::pair(CHILD_OF, ANN)),
+    ] {
+        world.add(first_at(fact.entity()), fact.id())?;
+    }
     Ok(())
 }
 
@@ -47,28 +100,66 @@ fn carry_out<A: Allocator + Copy>(
     call: Call,
     mass: Schema<A>,
 ) -> Result<(), CommandError> {
+    let ship = first_at(SHIP);
     match call {
         Call::Fresh => world.fresh()?,
         Call::Entity => world.entity("Moon")?,
         Call::Component => world.component("Mass", mass)?,
-        Call::Add => world.add(SHIP, Id::pair(65, 65))?,
-        Call::Set => world.set(SHIP, Id::pair(65, 64), &[8])?,
-        Call::Remove => world.remove(SHIP, Id::plain(64))?,
-        Call::Pin => return world.pin(SHIP),
+        Call::Add => world.add(ship, Id::pair(TAG, TAG))?,
+        Call::Set => world.set(ship, Id::pair(TAG, POSITION), &[8])?,
+        Call::Remove => world.remove(ship, Id::plain(POSITION))?,
+        Call::Pin => return world.pin(ship),
+        Call::Marry => world.add(first_at(ANN), Id::pair(MARRIED, CY))?,
+        Call::Harden => world.add(first_at(CY), Id::plain(SOLID))?,
+        Call::Hold => world.set(ship, Id::pair(HOLDS, POSITION), &[8])?,
+        Call::Part => world.remove(first_at(BOB), Id::pair(MARRIED, ANN))?,
+        Call::Delete => world.delete(first_at(ANN))?,
     };
     Ok(())
 }
 
-/// Whether the next entity of a new world and that of a filled one are there, how many ids the ship has, and how often it is pinned.
-fn seen<A: Allocator>(world: &World<A>) -> (bool, bool, usize, u64) {
-    let ids = world.ids_of(SHIP).unwrap_or(&[]);
-    let pins = world.pin_count(SHIP.index);
-    (
-        world.at(64).is_some(),
-        world.at(67).is_some(),
-        ids.len(),
-        pins,
-    )
+/// Whether the same stands at an index: an entity with its name, its ids and their values, and its count of stored queries.
+fn are_same_at<A: Allocator, B: Allocator>(one: &World<A>, other: &World<B>, index: u32) -> bool {
+    let Some(entity) = one.at(index) else {
+        return other.at(index).is_none();
+    };
+    let ids = one.ids_of(entity).unwrap_or(&[]);
+    for id in ids {
+        if one.value(index, *id) != other.value(index, *id) {
+            return false;
+        }
+    }
+    other.ids_of(entity) == Some(ids)
+        && one.name_of(index) == other.name_of(index)
+        && one.pin_count(index) == other.pin_count(index)
+}
+
+/// Whether the two worlds have the same at all indexes that they give out here, and both names or none.
+fn are_same<A: Allocator, B: Allocator>(one: &World<A>, other: &World<B>) -> bool {
+    for index in 1..80u32 {
+        if !are_same_at(one, other, index) {
+            return false;
+        }
+    }
+    for name in ["Moon", "Mass", "Ann", "Kid"] {
+        if one.find(name) != other.find(name) {
+            return false;
+        }
+    }
+    true
+}
+
+/// The world in which a call is carried out. In a new one the next index needs room.
+fn world_for<A: Allocator + Copy>(
+    alloc: A,
+    random: RandomState,
+    call: Call,
+) -> Result<World<A>, Fail> {
+    let mut world = World::new(alloc, random)?;
+    if !matches!(call, Call::Fresh) {
+        fill(&mut world, fields(alloc)?)?;
+    }
+    Ok(world)
 }
 
 /// Gives out so many blocks and no more, and tells whether the call was refused. If so, all is as before, and the next try is accepted.
@@ -78,13 +169,9 @@ fn is_refused(
     random: RandomState,
     call: Call,
     allowed: u64,
+    before: &World,
 ) -> Result<bool, Fail> {
-    let mut world = World::new(heap, random)?;
-    // In a new world the next index needs room.
-    if !matches!(call, Call::Fresh) {
-        fill(&mut world, fields(heap)?)?;
-    }
-    let before = seen(&world);
+    let mut world = world_for(heap, random, call)?;
     let (first, second) = (fields(heap)?, fields(heap)?);
     heap.refuse_after(allowed);
     let done = carry_out(&mut world, call, first);
@@ -93,9 +180,9 @@ fn is_refused(
         return Ok(false);
     }
     assert!(rt; matches!(done, Err(CommandError::Memory)));
-    assert!(rt; seen(&world) == before);
+    assert!(rt; are_same(before, &world));
     assert!(rt; carry_out(&mut world, call, second).is_ok());
-    assert!(rt; seen(&world) != before);
+    assert!(rt; !are_same(before, &world));
     Ok(true)
 }
 
@@ -105,10 +192,11 @@ fn refuse_each(
     heap: &Refusing<Global>,
     random: RandomState,
     call: Call,
+    before: &World,
 ) -> Result<(), Fail> {
     let mut refusals = 0;
     for allowed in 0..64u64 {
-        if !is_refused(rt, heap, random, call, allowed)? {
+        if !is_refused(rt, heap, random, call, allowed, before)? {
             break;
         }
         refusals = allowed + 1;
@@ -129,8 +217,14 @@ fn a_refused_call_changes_nothing(rt: HostRuntime) -> Result<(), Fail> {
         Call::Set,
         Call::Remove,
         Call::Pin,
+        Call::Marry,
+        Call::Harden,
+        Call::Hold,
+        Call::Part,
+        Call::Delete,
     ] {
-        refuse_each(&rt, &heap, random, call)?;
+        let before = world_for(rt.alloc(), random, call)?;
+        refuse_each(&rt, &heap, random, call, &before)?;
     }
     Ok(())
 }

@@ -5,3 +5,6 @@
 mod calls;
 #[cfg(test)]
 mod growths;
+pub mod searches;
+#[cfg(test)]
+mod traits;

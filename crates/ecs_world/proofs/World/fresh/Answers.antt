@@ -1,5 +1,5 @@
 use Rattle.std.proofs.Common.{refl, sym, ◌∙◌}
-use Rattle.ecs_model.specs.Command.{Fresh}
+use Rattle.ecs_model.specs.traits.Command.{Fresh}
 use Rattle.ecs_model.proofs.Answering.{step-refused}
 use Rattle.table_store.specs.Going.{goes_on_same}
 use Rattle.ecs_world.proofs.Judged.{fresh_refusal}

@@ -1,16 +1,17 @@
-use Rattle.std.proofs.Common.{rules, sym, ◌∙◌}
-use Rattle.ecs_world.proofs.Judged.{remove_dead, remove_built_in, remove_later}
+use Rattle.std.proofs.Common.{[], ◌∷◌, sym, ◌∙◌}
+use Rattle.ecs_model.specs.declared.faults.Refusal.TheVariants.{BuiltIn, TraitFixed, Full}
+use Rattle.ecs_model.specs.Refusal.{first_reason}
+use Rattle.ecs_model.specs.traits.Rules.{is_trait}
+use Rattle.fact_rules.specs.Additions.{is_of_built_in}
+use Rattle.ecs_world.proofs.Judged.{remove_dead, remove_later}
 use Rattle.ecs_world.proofs.Refusing.{mention_dead, not_dead}
 use Rattle.ecs_world.proofs.World.remove_refusal.Goals as goal
 
 pub returns-then-not-mentions_live : goal.returns-then-not-mentions_live
 returns-then-not-mentions_live g c = remove_dead c.args.self.now.state c.args.entity c.args.id (mention_dead c.args.self.now.state c.args.entity c.args.id (sym c.mentions_live.ensures ∙ c.if-not-mentions_live.true))
 
-pub returns-then-changes_built_in : goal.returns-then-changes_built_in
-returns-then-changes_built_in g c = remove_built_in c.args.self.now.state c.args.entity c.args.id (not_dead c.args.self.now.state c.args.entity c.args.id c.requires (sym c.mentions_live.ensures ∙ c.if-not-mentions_live.false)) (sym c.changes_built_in.ensures ∙ c.if-changes_built_in.true)
-
-pub returns-then-is_spent : goal.returns-then-is_spent
-returns-then-is_spent g c = remove_later c.args.self.now.state c.args.entity c.args.id _ (not_dead c.args.self.now.state c.args.entity c.args.id c.requires (sym c.mentions_live.ensures ∙ c.if-not-mentions_live.false)) (sym c.changes_built_in.ensures ∙ c.if-changes_built_in.false) (search rules)
-
-pub returns-else-is_spent : goal.returns-else-is_spent
-returns-else-is_spent g c = remove_later c.args.self.now.state c.args.entity c.args.id _ (not_dead c.args.self.now.state c.args.entity c.args.id c.requires (sym c.mentions_live.ensures ∙ c.if-not-mentions_live.false)) (sym c.changes_built_in.ensures ∙ c.if-changes_built_in.false) (search rules)
+pub returns : goal.returns
+returns g c =
+    remove_later c.args.self.now.state c.args.entity c.args.id c.judge_remove.result
+    (not_dead c.args.self.now.state c.args.entity c.args.id c.requires (sym c.mentions_live.ensures ∙ c.if-not-mentions_live.false))
+    (c.judge_remove.ensures ∙ (λ k. first_reason ((is_of_built_in (c.new.ensures k), BuiltIn) ∷ (is_trait (c.new.ensures k).1, TraitFixed) ∷ (c.is_spent.ensures k, Full) ∷ [])))

@@ -1,0 +1,59 @@
+use Rattle.std.proofs.Common.{◌||◌, refl, sym, ◌∙◌}
+use Rattle.ecs_archetypes.specs.Housing.{holdings_of}
+use Rattle.ecs_archetypes.proofs.Moving.{alike_then}
+use Rattle.ecs_world.specs.Releases.{mentions_one}
+use Rattle.ecs_world.proofs.Buried.{buried_is, dead_can_go, losing_rise, losing_settled, none_rise, unburied, unheld, whatever}
+use Rattle.ecs_world.proofs.Standings.{state_is}
+use Rattle.ecs_world.proofs.World.bury.Goals as goal
+
+pub change_facts-requires-clause-came_ascend : goal.change_facts-requires-clause-came_ascend
+change_facts-requires-clause-came_ascend g c = none_rise
+
+pub change_facts-requires-clause-went_ascend : goal.change_facts-requires-clause-went_ascend
+change_facts-requires-clause-went_ascend g c =
+    losing_rise c.self.invariant (state_is c.self.view_is) c.args.entity c.requires.judged c.deref.result.now (c.deref.ensures.value ∙ c.requires.dead) c.deref-2.result.now (c.deref-2.ensures.value ∙ c.requires.lost)
+    c.deref-3.result.now (c.deref-3.ensures.value ∙ c.in_ok-list_entities.ensures)
+
+pub change_facts-requires-clause-settled : goal.change_facts-requires-clause-settled
+change_facts-requires-clause-settled g c =
+    losing_settled c.self.invariant (state_is c.self.view_is) c.args.entity c.requires.judged c.deref.result.now (c.deref.ensures.value ∙ c.requires.dead) c.deref-2.result.now (c.deref-2.ensures.value ∙ c.requires.lost)
+    c.deref-3.result.now (c.deref-3.ensures.value ∙ c.in_ok-list_entities.ensures)
+
+pub change_facts-requires-clause-dead : goal.change_facts-requires-clause-dead
+change_facts-requires-clause-dead g c =
+    dead_can_go c.self.invariant (state_is c.self.view_is) c.args.entity c.requires.judged c.deref.result.now (c.deref.ensures.value ∙ c.requires.dead) c.deref-2.result.now (c.deref-2.ensures.value ∙ c.requires.lost)
+    c.deref-3.result.now (c.deref-3.ensures.value ∙ c.in_ok-list_entities.ensures)
+
+pub invariant_of-self : goal.invariant_of-self
+invariant_of-self g c =
+    (unburied c.self.invariant (state_is c.self.view_is) (holdings_of c.change_facts.new.self) c.change_facts.ensures.holdings c.in_err-change_facts.ensures.refused c.change_facts.ensures.sizes).0
+
+pub returns-in_err-change_facts-clause-refused : goal.returns-in_err-change_facts-clause-refused
+returns-in_err-change_facts-clause-refused g c =
+    whatever c.from_residual-in_err-change_facts.result
+    (unburied c.self.invariant (state_is c.self.view_is) (holdings_of c.change_facts.new.self) c.change_facts.ensures.holdings c.in_err-change_facts.ensures.refused c.change_facts.ensures.sizes).1
+
+pub release_dead-requires : goal.release_dead-requires
+release_dead-requires g c = record {
+  unheld = unheld c.self.invariant (state_is c.self.view_is) c.args.entity c.requires.judged c.deref.result.now (c.deref.ensures.value ∙ c.requires.dead) c.deref-2.result.now (c.deref-2.ensures.value ∙ c.requires.lost)
+      c.deref-3.result.now (c.deref-3.ensures.value ∙ c.in_ok-list_entities.ensures)
+      (holdings_of c.change_facts.new.self) c.change_facts.ensures.holdings c.in_ok-change_facts.ensures.changed c.deref-4.result.now (c.deref-4.ensures.value ∙ sym c.deref.ensures.value);
+}
+
+pub invariant_of-self-2 : goal.invariant_of-self-2
+invariant_of-self-2 g c =
+    (buried_is c.self.invariant (state_is c.self.view_is) c.args.entity c.requires.judged c.deref.result.now (c.deref.ensures.value ∙ c.requires.dead) c.deref-2.result.now (c.deref-2.ensures.value ∙ c.requires.lost)
+    c.deref-3.result.now (c.deref-3.ensures.value ∙ c.in_ok-list_entities.ensures)
+    (holdings_of c.release_dead.new.archetypes) c.release_dead.ensures.holdings (alike_then _ _ _ c.release_dead.ensures.held c.in_ok-change_facts.ensures.changed)
+    c.deref-4.result.now (c.deref-4.ensures.value ∙ sym c.deref.ensures.value) c.deref-5.result.now (c.deref-5.ensures.value ∙ sym c.deref-3.ensures.value)
+    c.forget.new.schemas.entries c.forget.ensures.schemas c.forget.new.names c.forget.ensures.names
+    (λ test t. c.release_dead.ensures.sizes test (c.change_facts.ensures.sizes (λ x. mentions_one c.deref-4.result.now x.0 || test x) t refl))).0
+
+pub returns-clause-buried : goal.returns-clause-buried
+returns-clause-buried g c =
+    (buried_is c.self.invariant (state_is c.self.view_is) c.args.entity c.requires.judged c.deref.result.now (c.deref.ensures.value ∙ c.requires.dead) c.deref-2.result.now (c.deref-2.ensures.value ∙ c.requires.lost)
+    c.deref-3.result.now (c.deref-3.ensures.value ∙ c.in_ok-list_entities.ensures)
+    (holdings_of c.release_dead.new.archetypes) c.release_dead.ensures.holdings (alike_then _ _ _ c.release_dead.ensures.held c.in_ok-change_facts.ensures.changed)
+    c.deref-4.result.now (c.deref-4.ensures.value ∙ sym c.deref.ensures.value) c.deref-5.result.now (c.deref-5.ensures.value ∙ sym c.deref-3.ensures.value)
+    c.forget.new.schemas.entries c.forget.ensures.schemas c.forget.new.names c.forget.ensures.names
+    (λ test t. c.release_dead.ensures.sizes test (c.change_facts.ensures.sizes (λ x. mentions_one c.deref-4.result.now x.0 || test x) t refl))).1

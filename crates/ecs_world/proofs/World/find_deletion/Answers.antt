@@ -1,0 +1,39 @@
+use Rattle.std.proofs.Common.{sym, ◌∙◌}
+use Rattle.ecs_world.proofs.Accepted.{on_ok}
+use Rattle.ecs_world.proofs.Seen.{alive_shown, has_counts, linked, sees}
+use Rattle.ecs_world.proofs.Standings.{state_is}
+use Rattle.ecs_world.proofs.World.find_deletion.Goals as goal
+
+pub new-links-requires : goal.new-links-requires
+new-links-requires g c = record { linked = linked c.self.invariant c.size-size.result c.size-size.ensures }
+
+pub judge_delete-requires-clause-lives : goal.judge_delete-requires-clause-lives
+judge_delete-requires-clause-lives g c = rw c.new-links.ensures (alive_shown c.self.invariant c.args.entity (rw (← state_is c.self.view_is) at c.requires.alive))
+
+pub returns-in-Some-clause-refused : goal.returns-in-Some-clause-refused
+returns-in-Some-clause-refused g c =
+    let lives = alive_shown c.self.invariant c.args.entity (rw (← state_is c.self.view_is) at c.requires.alive) in
+    rw (← state_is c.self.view_is) (sym (c.judge_delete.ensures.judged _ c.args.entity.index (rw c.new-links.ensures (sees c.self.invariant)) (rw c.new-links.ensures lives) c.judge_delete.ensures.found (has_counts c.self.invariant c.is_spent-is_spent.result c.is_spent-is_spent.ensures)) ∙ c.in-Some.is)
+
+pub returns-clause-dead : goal.returns-clause-dead
+returns-clause-dead g c =
+    let lives = alive_shown c.self.invariant c.args.entity (rw (← state_is c.self.view_is) at c.requires.alive) in
+    let tells = on_ok c.gather.result c.gather.ensures.dead (sym c.is_err-2.ensures.value ∙ c.if-is_err-2.false) in
+    rw (← state_is c.self.view_is) (tells _ c.args.entity.index (rw c.new-links.ensures (sees c.self.invariant)) (rw c.new-links.ensures lives) c.judge_delete.ensures.found)
+
+pub returns-clause-lost : goal.returns-clause-lost
+returns-clause-lost g c =
+    let lives = alive_shown c.self.invariant c.args.entity (rw (← state_is c.self.view_is) at c.requires.alive) in
+    let tells = on_ok c.gather.result c.gather.ensures.lost (sym c.is_err-2.ensures.value ∙ c.if-is_err-2.false) in
+    rw (← state_is c.self.view_is) (tells _ c.args.entity.index (rw c.new-links.ensures (sees c.self.invariant)) (rw c.new-links.ensures lives) c.judge_delete.ensures.found)
+
+pub returns-clause-went : goal.returns-clause-went
+returns-clause-went g c =
+    let lives = alive_shown c.self.invariant c.args.entity (rw (← state_is c.self.view_is) at c.requires.alive) in
+    let tells = on_ok c.gather.result c.gather.ensures.went (sym c.is_err-2.ensures.value ∙ c.if-is_err-2.false) in
+    rw (← state_is c.self.view_is) (tells _ c.args.entity.index (rw c.new-links.ensures (sees c.self.invariant)) (rw c.new-links.ensures lives) c.judge_delete.ensures.found)
+
+pub returns-clause-judged : goal.returns-clause-judged
+returns-clause-judged g c =
+    let lives = alive_shown c.self.invariant c.args.entity (rw (← state_is c.self.view_is) at c.requires.alive) in
+    rw (← state_is c.self.view_is) (sym (c.judge_delete.ensures.judged _ c.args.entity.index (rw c.new-links.ensures (sees c.self.invariant)) (rw c.new-links.ensures lives) c.judge_delete.ensures.found (has_counts c.self.invariant c.is_spent-is_spent.result c.is_spent-is_spent.ensures)) ∙ c.in_default.is)

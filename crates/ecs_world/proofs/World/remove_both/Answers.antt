@@ -1,0 +1,44 @@
+use Rattle.std.proofs.Common.{refl, sym, ap, subst, ◌∙◌, arith}
+use Rattle.ecs_model.specs.declared.faults.Refusal.TheVariants.{Dead}
+use Rattle.ecs_model.specs.traits.Command.{Remove}
+use Rattle.ecs_model.specs.traits.Keeps.{IsWellFormed}
+use Rattle.ecs_world.proofs.Accepted.{on_ok}
+use Rattle.ecs_model.proofs.Answering.{answers_refused}
+use Rattle.ecs_world.proofs.Counting.{counted_state, counted_world}
+use Rattle.ecs_world.proofs.FirstReasons.{remove_of_dead}
+use Rattle.ecs_world.proofs.Left.{effect-remove}
+use Rattle.ecs_world.proofs.Refusing.{entity_dead}
+use Rattle.ecs_world.proofs.Standings.{state_is}
+use Rattle.ecs_world.proofs.ToldRemovals.{removal_told}
+use Rattle.ecs_world.proofs.World.remove_both.Goals as goal
+
+pub returns-then-not-is_alive-clause-answers : goal.returns-then-not-is_alive-clause-answers
+returns-then-not-is_alive-clause-answers g c =
+    answers_refused c.args.self.now.state (Remove c.args.entity c.args.id) Dead c.args.self.now.state (remove_of_dead c.args.self.now.state c.args.entity c.args.id (entity_dead c.args.self.now.state c.args.entity c.args.id (sym c.is_alive.ensures ∙ c.if-not-is_alive.true))) refl
+
+pub returns-in-Some-clause-answers : goal.returns-in-Some-clause-answers
+returns-in-Some-clause-answers g c =
+    answers_refused c.args.self.now.state (Remove c.args.entity c.args.id) c.in-Some.refusal c.args.self.now.state (sym c.remove_refusal.ensures ∙ c.in-Some.is) refl
+
+pub overflow_add-self : goal.overflow_add-self
+overflow_add-self g c =
+    let none = sym c.remove_refusal.ensures ∙ c.in_default.is in
+    let sound = subst IsWellFormed (state_is c.self.view_is) c.self.invariant.sound in
+    let left = state_is c.self-2.view_is ∙ on_ok c.take.result c.take.ensures.taken (sym c.is_err-2.ensures.value ∙ c.if-is_err-2.false) ∙ sym (effect-remove c.args.self.now.state c.args.entity c.args.id) in
+    omega (arith, ((counted_world c.self-2.invariant c.args.self.now.state (Remove c.args.entity c.args.id) left sound tt none).sound).counted)
+
+pub invariant_of-self : goal.invariant_of-self
+invariant_of-self g c =
+    let none = sym c.remove_refusal.ensures ∙ c.in_default.is in
+    let sound = subst IsWellFormed (state_is c.self.view_is) c.self.invariant.sound in
+    let left = state_is c.self-2.view_is ∙ on_ok c.take.result c.take.ensures.taken (sym c.is_err-2.ensures.value ∙ c.if-is_err-2.false) ∙ sym (effect-remove c.args.self.now.state c.args.entity c.args.id) in
+    counted_world c.self-2.invariant c.args.self.now.state (Remove c.args.entity c.args.id) left sound tt none
+
+pub returns-clause-answers : goal.returns-clause-answers
+returns-clause-answers g c =
+    let none = sym c.remove_refusal.ensures ∙ c.in_default.is in
+    let sound = subst IsWellFormed (state_is c.self.view_is) c.self.invariant.sound in
+    let left = state_is c.self-2.view_is ∙ on_ok c.take.result c.take.ensures.taken (sym c.is_err-2.ensures.value ∙ c.if-is_err-2.false) ∙ sym (effect-remove c.args.self.now.state c.args.entity c.args.id) in
+    let listed = on_ok c.list_removals.result c.list_removals.ensures (sym c.is_err.ensures.value ∙ c.if-is_err.false) in
+    removal_told c.args.self.now.state _ c.with_facts.result c.args.entity c.args.id none (counted_state c.self-2.invariant c.args.self.now.state (Remove c.args.entity c.args.id) left sound tt none)
+    (c.with_facts.ensures ∙ (λ k. record (c.none.ensures k) { came = c.new.ensures.items k; went = listed k }))

@@ -1,0 +1,168 @@
+//! Facts that come and go with an added one, and those that go with a removed one.
+
+ghost use Rattle.std.specs.Prelude.{◌≡◌, ◌<◌, false, true, None, All, IfOk, IsTrue, OnErr, OnOk, filter, length, nat_le};
+ghost use Rattle.std.specs.List.{list_all, list_any};
+ghost use Rattle.ecs_id.specs.Id.{mentioned};
+ghost use Rattle.ecs_model.specs.Command.{with_facts};
+ghost use Rattle.ecs_model.specs.Map.{keys};
+ghost use Rattle.ecs_model.specs.Refusal.{first_reason};
+ghost use Rattle.ecs_model.specs.World.{entities, holds, is_alive, is_live, key_eq, type_of_id};
+ghost use Rattle.ecs_model.specs.traits.Changes.{facts_after_add, facts_after_remove, removed};
+ghost use Rattle.ecs_model.specs.traits.Command.{Add, Remove, add_reasons, adds_built_in as brings_built_in, reasons};
+ghost use Rattle.ecs_model.specs.traits.Keeps.{IsWellFormed};
+ghost use Rattle.ecs_world.specs.Changes.{sized_by, with_bytes};
+ghost use Rattle.ecs_world.specs.State.{byte_count};
+ghost use Rattle.fact_rules.specs.Additions.{TellsAddition};
+ghost use Rattle.rel_traits.specs.FactLists.{IsOfLive};
+ghost use Rattle.table_store.specs.Going.{TablesGoOn};
+
+use crate::releases::release_tag_pairs;
+use crate::{Memory, World};
+use ecs_archetypes::SizedFact;
+use ecs_id::{EntityId, Id};
+use ecs_links::Links;
+use ecs_model::FactKey;
+use ecs_model::faults::Refusal;
+use fact_rules::{Additions, gather_remove, judge_add};
+use std::alloc::Allocator;
+
+impl<A: Allocator + Copy> World<A> {
+    /// Lists what comes and goes with a fact of live entities. The world stays as it is.
+    pub(crate) fn list_additions(
+        &mut self,
+        entity: EntityId,
+        id: Id,
+        additions: &mut Additions<A>,
+    ) -> Result<(), Memory>
+        requires alive { is_alive self.old.state entity ≡ true }
+        requires mentions { list_all (is_live self.old.state) (mentioned id) ≡ true }
+        ensures same { self.new ≡ self.old }
+        ensures tells { OnOk result (TellsAddition self.old.state (entity.index, id) additions.new.added.items additions.new.came.items additions.new.went.items) }
+        ensures live { OnOk result (All (IsOfLive (entities self.old.state)) additions.new.added.items) }
+    {
+        let size = self.archetypes.size();
+        if self.scratch.reserve(size).is_err() {
+            return Err(Memory);
+        }
+        let links = Links::new(&self.archetypes, size);
+        let fact = FactKey::new(entity.index, id);
+        if additions.gather(&links, fact, &mut self.scratch).is_err() {
+            return Err(Memory);
+        }
+        Ok(())
+    }
+
+    /// Why a fact of live entities is not added with what it brings, where nothing comes to what is built in. The world stays as it is, and
+    /// where memory is refused nothing is told.
+    pub(crate) fn addition_refusal(
+        &mut self,
+        entity: EntityId,
+        id: Id,
+        additions: &Additions<A>,
+    ) -> Result<Option<Refusal>, Memory>
+        requires alive { is_alive self.old.state entity ≡ true }
+        requires mentions { list_all (is_live self.old.state) (mentioned id) ≡ true }
+        requires tells { TellsAddition self.old.state (entity.index, id) additions.now.added.items additions.now.came.items additions.now.went.items }
+        requires live { All (IsOfLive (entities self.old.state)) additions.now.added.items }
+        requires others { brings_built_in self.old.state entity.index id ≡ false }
+        ensures same { self.new ≡ self.old }
+        ensures judged { IfOk result (λ refusal. refusal ≡ first_reason (add_reasons self.old.state entity.index id)) }
+    {
+        let size = self.archetypes.size();
+        if self.scratch.reserve(size).is_err() {
+            return Err(Memory);
+        }
+        let is_spent = self.is_spent();
+        let links = Links::new(&self.archetypes, size);
+        let fact = FactKey::new(entity.index, id);
+        Ok(judge_add(
+            &links,
+            fact,
+            additions,
+            &self.pins,
+            is_spent,
+            &mut self.scratch,
+        ))
+    }
+
+    /// Brings what comes with an added fact, and takes what gives way to it. The command is not counted yet.
+    pub(crate) fn bring(
+        &mut self,
+        entity: EntityId,
+        id: Id,
+        additions: &Additions<A>,
+    ) -> Result<(), Memory>
+        requires judged { first_reason (reasons self.old.state (Add entity id)) ≡ None }
+        requires tells { TellsAddition self.old.state (entity.index, id) additions.now.added.items additions.now.came.items additions.now.went.items }
+        ensures brought { OnOk result (self.new.state ≡ with_facts self.old.state (facts_after_add self.old.state entity.index id)) }
+        ensures refused { OnErr result (self.new.state ≡ self.old.state) }
+        ensures goes_on { TablesGoOn self.old.tables self.new.tables }
+    {
+        let _ = (entity, id);
+        let mut came = Vec::new(self.alloc);
+        self.size_facts(&additions.came, &mut came)?;
+        self.archetypes
+            .change_facts(&mut self.plan, &came, &additions.went, &[])?;
+        release_tag_pairs(&mut self.archetypes, &came);
+        Ok(())
+    }
+
+    /// Makes the list that of these facts, each with the bytes of its values.
+    fn size_facts(&self, facts: &[FactKey], sized: &mut Vec<SizedFact, A>) -> Result<(), Memory>
+        ensures sized { OnOk result (sized.new.items ≡ sized_by self.now.state facts.now) }
+        ensures small { OnOk result (IsTrue (list_all (λ c. nat_le c.1 64) sized.new.items)) }
+    {
+        sized.clear();
+        for fact in facts {
+            let sized_fact = SizedFact::new(*fact, self.size_of(fact.id()));
+            if sized.push(sized_fact).is_err() {
+                return Err(Memory);
+            }
+        }
+        Ok(())
+    }
+
+    /// Writes a value of an id with data that the entity holds.
+    pub(crate) fn write(&mut self, entity: EntityId, id: Id, bytes: &[u8])
+        requires alive { is_alive self.old.state entity ≡ true }
+        requires held { holds self.old.state entity.index id ≡ true }
+        requires data { 0 < length bytes.now }
+        requires size { length bytes.now ≡ byte_count (type_of_id self.old.state id) }
+        requires sound { IsWellFormed (with_bytes self.old.state entity.index id bytes.now) }
+        ensures state { self.new.state ≡ with_bytes self.old.state entity.index id bytes.now }
+        ensures goes_on { TablesGoOn self.old.tables self.new.tables }
+    {
+        let found = self.archetypes.find(entity, id).unwrap();
+        self.archetypes.set_value(entity, found.place, id, bytes);
+    }
+
+    /// Lists the facts that go with a removed one. The world stays as it is.
+    pub(crate) fn list_removals(
+        &self,
+        entity: EntityId,
+        id: Id,
+        went: &mut Vec<FactKey, A>,
+    ) -> Result<(), Memory>
+        requires alive { is_alive self.now.state entity ≡ true }
+        ensures { OnOk result (went.new.items ≡ filter (λ k. list_any (key_eq k) (removed self.now.state entity.index id)) (keys self.now.state.facts)) }
+    {
+        let links = Links::new(&self.archetypes, self.archetypes.size());
+        let fact = FactKey::new(entity.index, id);
+        if gather_remove(&links, fact, went).is_err() {
+            return Err(Memory);
+        }
+        Ok(())
+    }
+
+    /// Takes the facts that go with a removed one. The command is not counted yet.
+    pub(crate) fn take(&mut self, entity: EntityId, id: Id, went: &[FactKey]) -> Result<(), Memory>
+        requires judged { first_reason (reasons self.old.state (Remove entity id)) ≡ None }
+        requires listed { went.now ≡ filter (λ k. list_any (key_eq k) (removed self.old.state entity.index id)) (keys self.old.state.facts) }
+        ensures taken { OnOk result (self.new.state ≡ with_facts self.old.state (facts_after_remove self.old.state entity.index id)) }
+        ensures refused { OnErr result (self.new.state ≡ self.old.state) }
+        ensures goes_on { TablesGoOn self.old.tables self.new.tables }
+    {
+        let _ = (entity, id);
+        self.archetypes.change_facts(&mut self.plan, &[], went, &[])
+    }
+}

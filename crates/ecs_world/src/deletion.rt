@@ -1,0 +1,172 @@
+//! `delete`, with all who fall with an entity and all facts that mention these.
+
+ghost use Rattle.std.specs.Prelude.{◌≡◌, ◌==◌, ◌↔◌, ℕ, List, None, Some, true, Contains, IfErr, IfOk, OnErr, OnOk, filter};
+ghost use Rattle.std.specs.List.{list_any};
+ghost use Rattle.std.specs.Ordering.{nat_cmp};
+ghost use Rattle.std.specs.String.{string_bytes};
+ghost use Rattle.std.specs.FinMap as finite;
+ghost use Rattle.ecs_id.specs.declared.EntityId.{EntityId};
+ghost use Rattle.ecs_model.specs.Command.{AnswersStep};
+ghost use Rattle.ecs_model.specs.Map.{IsMap, keys, without};
+ghost use Rattle.ecs_model.specs.Refusal.{first_reason};
+ghost use Rattle.ecs_model.specs.World.{is_alive};
+ghost use Rattle.ecs_model.specs.traits.Changes.{deleted, mentions_gone};
+ghost use Rattle.ecs_model.specs.traits.Command.{Delete, delete_reasons, reasons, step, without_entities};
+ghost use Rattle.ecs_world.specs.Changes.{TellsRefusal, deaths_of, entities_at};
+ghost use Rattle.fact_rules.specs.Deletions.{is_lost};
+ghost use Rattle.table_store.specs.Going.{TablesGoOn};
+
+use crate::refusals::is_built_in;
+use crate::releases::release_dead;
+use crate::{Changes, Death, Memory, World};
+use ecs_id::EntityId;
+use ecs_links::Links;
+use ecs_model::faults::{CommandError, Refusal};
+use ecs_schema::Schema;
+use fact_rules::{Deletion, judge_delete};
+use name_index::NameIndex;
+use std::alloc::Allocator;
+use std::collections::BTreeMap;
+
+impl<A: Allocator + Copy> World<A> {
+    /// Deletes an entity, and with it all who fall by the cleanup rules of what they hold: OnDelete and OnDeleteTarget with Delete. All facts
+    /// that mention one of these go, and so do their names and fields.
+    pub fn delete(&mut self, entity: EntityId) -> Result<Changes<A>, CommandError>
+        ensures answers { AnswersStep result (step self.old.state (Delete entity)) self.old.state self.new.state }
+        ensures goes_on { TablesGoOn self.old.tables self.new.tables }
+    {
+        if !self.is_alive(entity) {
+            return Err(CommandError::Refused(Refusal::Dead));
+        }
+        if is_built_in(entity.index) {
+            return Err(CommandError::Refused(Refusal::BuiltIn));
+        }
+        let mut deletion = Deletion::new(self.alloc);
+        self.find_deletion(entity, &mut deletion)?;
+        let mut died = Vec::new(self.alloc);
+        if self.list_deaths(&deletion.dead, &mut died).is_err() {
+            return Err(CommandError::Memory);
+        }
+        if self.bury(entity, &deletion).is_err() {
+            return Err(CommandError::Memory);
+        }
+        self.accepted += 1;
+        let changes = Changes::none(self.alloc).with_facts(Vec::new(self.alloc), deletion.went);
+        Ok(changes.with_died(died))
+    }
+
+    /// Finds all who are deleted with an entity and what goes with them, or why they can't be deleted. The world stays as it is.
+    fn find_deletion(
+        &mut self,
+        entity: EntityId,
+        deletion: &mut Deletion<A>,
+    ) -> Result<(), CommandError>
+        requires alive { is_alive self.old.state entity ≡ true }
+        ensures same { self.new ≡ self.old }
+        ensures dead { OnOk result (deletion.new.dead.items ≡ keys (deleted self.old.state entity.index)) }
+        ensures lost { OnOk result (deletion.new.lost.items ≡ filter (is_lost self.old.state entity.index) (keys self.old.state.facts)) }
+        ensures went { OnOk result (deletion.new.went.items ≡ filter (mentions_gone self.old.state (deleted self.old.state entity.index)) (keys self.old.state.facts)) }
+        ensures judged { OnOk result (first_reason (delete_reasons self.old.state (deleted self.old.state entity.index)) ≡ None) }
+        ensures refused { IfErr result (TellsRefusal (first_reason (delete_reasons self.old.state (deleted self.old.state entity.index)))) }
+    {
+        let size = self.archetypes.size();
+        if self.scratch.reserve(size).is_err() {
+            return Err(CommandError::Memory);
+        }
+        let is_spent = self.is_spent();
+        let links = Links::new(&self.archetypes, size);
+        let index = entity.index;
+        if let Some(refusal) = judge_delete(
+            &links,
+            index,
+            &self.pins,
+            is_spent,
+            &mut self.scratch,
+        ) {
+            return Err(CommandError::Refused(refusal));
+        }
+        if deletion.gather(&links, &self.scratch).is_err() {
+            return Err(CommandError::Memory);
+        }
+        Ok(())
+    }
+
+    /// Lists the live entities of these indexes with their names.
+    fn list_deaths(&self, indexes: &[u32], died: &mut Vec<Death<A>, A>) -> Result<(), Memory>
+        ensures { OnOk result (died.new.items ≡ deaths_of self.now.state indexes.now) }
+    {
+        died.clear();
+        for index in indexes {
+            if let Some(entity) = self.at(*index) {
+                let name = match self.name_of(*index) {
+                    None => None,
+                    Some(name) => Some(owned(self.alloc, name)?),
+                };
+                if died.push(Death::new(entity, name)).is_err() {
+                    return Err(Memory);
+                }
+            }
+        }
+        Ok(())
+    }
+
+    /// Deletes the entities that were found, with all facts that mention them. The command is not counted yet.
+    fn bury(&mut self, entity: EntityId, deletion: &Deletion<A>) -> Result<(), Memory>
+        requires judged { first_reason (reasons self.old.state (Delete entity)) ≡ None }
+        requires dead { deletion.now.dead.items ≡ keys (deleted self.old.state entity.index) }
+        requires lost { deletion.now.lost.items ≡ filter (is_lost self.old.state entity.index) (keys self.old.state.facts) }
+        ensures buried { OnOk result (self.new.state ≡ without_entities self.old.state (deleted self.old.state entity.index)) }
+        ensures refused { OnErr result (self.new.state ≡ self.old.state) }
+        ensures goes_on { TablesGoOn self.old.tables self.new.tables }
+    {
+        let _ = entity;
+        let mut dead = Vec::new(self.alloc);
+        self.list_entities(&deletion.dead, &mut dead)?;
+        self.archetypes
+            .change_facts(&mut self.plan, &[], &deletion.lost, &dead)?;
+        release_dead(&mut self.archetypes, &deletion.dead);
+        forget(&mut self.names, &mut self.schemas, &dead);
+        Ok(())
+    }
+
+    /// Lists the live entities of these indexes.
+    fn list_entities(&self, indexes: &[u32], entities: &mut Vec<EntityId, A>) -> Result<(), Memory>
+        ensures { OnOk result (entities.new.items ≡ entities_at self.now.state indexes.now) }
+    {
+        entities.clear();
+        for index in indexes {
+            if let Some(entity) = self.at(*index) {
+                if entities.push(entity).is_err() {
+                    return Err(Memory);
+                }
+            }
+        }
+        Ok(())
+    }
+}
+
+/// A copy of a name.
+fn owned<A: Allocator + Copy>(alloc: A, name: &str) -> Result<String<A>, Memory>
+    ensures { IfOk result (λ copy. string_bytes copy ≡ name.now) }
+{
+    let mut copy = String::new(alloc);
+    if copy.push_str(name).is_err() {
+        return Err(Memory);
+    }
+    Ok(copy)
+}
+
+/// Forgets the names of the dead, and the fields of those that were components.
+fn forget<A: Allocator + Copy>(
+    names: &mut NameIndex<A>,
+    schemas: &mut BTreeMap<u32, Schema<A>, A>,
+    dead: &[EntityId],
+)
+    ensures names { (n : List ℕ) (e : EntityId) → (finite.get names.new n ≡ Some e) ↔ ((finite.get names.old n ≡ Some e) × (Contains dead.now e → ⊥)) }
+    ensures schemas { IsMap nat_cmp schemas.old.entries → schemas.new.entries ≡ without nat_cmp schemas.old.entries (λ i. list_any (λ e. e.index == i) dead.now) }
+{
+    for entity in dead {
+        names.unbind(*entity);
+        schemas.remove(&entity.index);
+    }
+}

@@ -1,0 +1,105 @@
+//! Commands on facts with which no others come or go: each moves one row along an edge of its table, or none.
+
+ghost use Rattle.std.specs.Prelude.{◌≡◌, true};
+ghost use Rattle.ecs_model.specs.Command.{AnswersStep};
+ghost use Rattle.ecs_model.specs.World.{ids_of};
+ghost use Rattle.ecs_model.specs.traits.Command.{Add, Remove, SetValue, step};
+ghost use Rattle.fact_rules.specs.Simple.{is_simple, is_unmirrored};
+ghost use Rattle.table_store.specs.Going.{TablesGoOn};
+
+use crate::{Changes, World};
+use ecs_id::{EntityId, Id};
+use ecs_model::FactKey;
+use ecs_model::faults::{CommandError, Refusal};
+use std::alloc::Allocator;
+
+impl<A: Allocator + Copy> World<A> {
+    /// `add` of an id without traits.
+    pub(crate) fn add_single(
+        &mut self,
+        entity: EntityId,
+        id: Id,
+    ) -> Result<Changes<A>, CommandError>
+        requires simple { is_simple (ids_of self.old.state) id ≡ true }
+        ensures answers { AnswersStep result (step self.old.state (Add entity id)) self.old.state self.new.state }
+        ensures goes_on { TablesGoOn self.old.tables self.new.tables }
+    {
+        let Some(found) = self.archetypes.find(entity, id) else {
+            return Err(CommandError::Refused(Refusal::Dead));
+        };
+        if let Some(refusal) = self.single_refusal(entity, id, &found) {
+            return Err(CommandError::Refused(refusal));
+        }
+        if found.is_held {
+            self.accepted += 1;
+            return Ok(Changes::none(self.alloc));
+        }
+        let size = self.size_of(id);
+        if self.archetypes.add(entity, found.place, id, size).is_err() {
+            return Err(CommandError::Memory);
+        }
+        self.accepted += 1;
+        let key = FactKey::new(entity.index, id);
+        Ok(Changes::of_came(self.alloc, key))
+    }
+
+    /// `set` of an id without traits.
+    pub(crate) fn set_single(
+        &mut self,
+        entity: EntityId,
+        id: Id,
+        values: &[i128],
+    ) -> Result<Changes<A>, CommandError>
+        requires simple { is_simple (ids_of self.old.state) id ≡ true }
+        ensures answers { AnswersStep result (step self.old.state (SetValue entity id values.now)) self.old.state self.new.state }
+        ensures goes_on { TablesGoOn self.old.tables self.new.tables }
+    {
+        let Some(found) = self.archetypes.find(entity, id) else {
+            return Err(CommandError::Refused(Refusal::Dead));
+        };
+        let mut buffer = [0; 64];
+        let size = match self.judge_single(entity, id, values, &found, &mut buffer) {
+            Ok(size) => size,
+            Err(refusal) => return Err(CommandError::Refused(refusal)),
+        };
+        let bytes = &buffer[..size];
+        if self.archetypes.put(entity, &found, id, bytes).is_err() {
+            return Err(CommandError::Memory);
+        }
+        self.accepted += 1;
+        let key = FactKey::new(entity.index, id);
+        if found.is_held {
+            Ok(Changes::of_written(self.alloc, key, None))
+        } else {
+            Ok(Changes::of_written(self.alloc, key, Some(key)))
+        }
+    }
+
+    /// `remove` of an id without mirror.
+    pub(crate) fn remove_single(
+        &mut self,
+        entity: EntityId,
+        id: Id,
+    ) -> Result<Changes<A>, CommandError>
+        requires unmirrored { is_unmirrored (ids_of self.old.state) id ≡ true }
+        ensures answers { AnswersStep result (step self.old.state (Remove entity id)) self.old.state self.new.state }
+        ensures goes_on { TablesGoOn self.old.tables self.new.tables }
+    {
+        let Some(found) = self.archetypes.find(entity, id) else {
+            return Err(CommandError::Refused(Refusal::Dead));
+        };
+        if let Some(refusal) = self.remove_refusal(entity, id) {
+            return Err(CommandError::Refused(refusal));
+        }
+        if !found.is_held {
+            self.accepted += 1;
+            return Ok(Changes::none(self.alloc));
+        }
+        if self.archetypes.remove(entity, found.place, id).is_err() {
+            return Err(CommandError::Memory);
+        }
+        self.accepted += 1;
+        let key = FactKey::new(entity.index, id);
+        Ok(Changes::of_went(self.alloc, key))
+    }
+}
