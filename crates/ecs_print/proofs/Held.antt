@@ -7,11 +7,11 @@ use Rattle.std.proofs.Math.Seq.{take-suc}
 use Rattle.std.proofs.lemmas.List.{flat_map_more}
 use Rattle.std.proofs.lemmas.Option.{get_or_from_slice_get, slice_get_within}
 use Rattle.ecs_id.specs.Id.{Id, plain, pair, id_cmp}
-use Rattle.ecs_model.specs.Keeps.{IsWellFormed}
 use Rattle.ecs_model.specs.Map.{keys, value_at}
 use Rattle.ecs_model.specs.Output.{fact_text}
 use Rattle.ecs_model.specs.Print.{id_text, value_text}
 use Rattle.ecs_model.specs.Schema.{Schema, schema_fault, width}
+use Rattle.ecs_model.specs.traits.Keeps.{IsWellFormed}
 use Rattle.ecs_model.specs.declared.Kind.{Kind}
 use Rattle.ecs_model.specs.declared.Kind.TheVariants.{I8, U8, I16, U16, I32, U32, I64, U64}
 use Rattle.ecs_model.specs.World.{WorldState, holds, ids_of, is_live, pair_is_tag, type_of_id, value_of}

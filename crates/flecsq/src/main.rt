@@ -20,6 +20,7 @@ const SCRIPTS: &str = "A script is lines of these forms:
   add ENTITY ID                 Adds an id to an entity, its values zeros
   set ENTITY ID VALUE ..        Adds an id, and gives it these values
   remove ENTITY ID              Takes an id from an entity
+  delete ENTITY                 Deletes an entity, and all facts that mention it
   show ENTITY                   Prints an entity with all that it holds
   query NAME, ..                Prints each entity that holds all of these
   // ..                         Does nothing, as an empty line

@@ -1,13 +1,13 @@
 -- Lists of faults: what the least says of the others.
-use Rattle.std.specs.Prelude.{◌≡◌, ◌≢◌, ℕ, ◌+◌, ◌<◌, ◌≤◌, zero, suc, List, [], ◌∷◌, ◌++◌, map, flat_map, fold, take, drop, length, Option, Some, None}
-use Rattle.std.proofs.Common.{ap, sym, ◌∙◌, refl, get_or, add-one, arith}
-use Rattle.std.proofs.Math.Seq.{drop-cons, take-suc}
-use Rattle.std.proofs.lemmas.List.{drop_all, get_or-map, length-map, map-append}
+use Rattle.std.specs.Prelude.{◌≡◌, ◌≢◌, ◌<◌, ◌≤◌, List, [], ◌∷◌, ◌++◌, map, flat_map, fold, take, drop, length, Option, Some, None}
+use Rattle.std.proofs.Common.{ap, sym, ◌∙◌, refl, get_or}
+use Rattle.std.proofs.Math.Seq.{drop-cons}
+use Rattle.std.proofs.lemmas.List.{drop_all, get_or-map, length-map}
 use Rattle.std.proofs.lemmas.List.Sums.{fold-append}
 use Rattle.ecs_model.specs.declared.faults.Fault.{Fault}
 use Rattle.ecs_model.specs.World.{WorldState}
 use Rattle.ecs_model.specs.Grammar.{Part}
-use Rattle.ecs_model.specs.Query.{faults, id_of_term, least_fault, too_many, unknown_word}
+use Rattle.ecs_model.specs.Query.{faults, least_fault, too_many, unknown_word}
 use Rattle.plain_query.specs.Check.{lesser}
 
 -- one more fault that is judged

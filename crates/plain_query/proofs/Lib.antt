@@ -2,3 +2,4 @@ mod Printed
 mod Lines
 mod Faults
 mod Asked
+mod Matching

@@ -15,7 +15,8 @@ use query_rows::write_rows;
 use std::alloc::Allocator;
 
 /// Asks a query's text in a world, and writes its rows behind what was written: a line for each entity that holds all ids that
-/// the text names, in the order of indexes, and then `rows COUNT`.
+/// the text names, in the order of indexes, and then `rows COUNT`. Entities with Prefab or Disabled are passed over, unless the text names
+/// the tag.
 ///
 /// Fails with the first fault of the text, and then nothing is written, or where memory is refused.
 pub fn ask<A: Allocator + Copy>(

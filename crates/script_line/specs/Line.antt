@@ -4,11 +4,11 @@ use denote.Ref.{Bor}
 use Rattle.ecs_id.specs.declared.EntityId.{EntityId}
 use Rattle.ecs_model.specs.declared.Kind.{Kind}
 use Rattle.ecs_model.specs.Schema.{Field}
-use Rattle.ecs_model.specs.Session.{EntityRef, by_name, by_handle, IdRef, plain_of, pair_of, MakeFresh, MakeEntity, AddTo, SetIn, RemoveFrom}
+use Rattle.ecs_model.specs.Session.{EntityRef, by_name, by_handle, IdRef, plain_of, pair_of, MakeFresh, MakeEntity, AddTo, SetIn, RemoveFrom, DeleteOne}
 use Rattle.ecs_model.specs.Script.{Form, LongLine, BadLine, Obey, Define, Ask, form_or_bad, forms, looked_up, word_and_rest}
 use Rattle.ecs_model.specs.Script
 use Rattle.script_line.specs.declared.Line.{Line}
-use Rattle.script_line.specs.declared.Line.TheVariants.{Nothing, TooLong, Bad, New, Entity, Component, Add, Set, Remove, Show, Query}
+use Rattle.script_line.specs.declared.Line.TheVariants.{Nothing, TooLong, Bad, New, Entity, Component, Add, Set, Remove, Delete, Show, Query}
 use Rattle.script_line.specs.declared.references.Reference.{Reference}
 use Rattle.script_line.specs.declared.references.Reference.TheVariants.{Name, Handle}
 use Rattle.script_line.specs.declared.references.IdReference.{IdReference}
@@ -47,6 +47,7 @@ seen values (Component name fields) = Define name.now (map seen_field fields.ite
 seen values (Add entity id) = Obey (AddTo (seen_reference entity) (seen_id id))
 seen values (Set entity id) = Obey (SetIn (seen_reference entity) (seen_id id) values)
 seen values (Remove entity id) = Obey (RemoveFrom (seen_reference entity) (seen_id id))
+seen values (Delete entity) = Obey (DeleteOne (seen_reference entity))
 seen values (Show entity) = Script.Show (seen_reference entity)
 seen values (Query text) = Ask text.now
 

@@ -57,6 +57,10 @@ pub enum Line<'a, A: Allocator = Global> {
         entity: Reference<'a>,
         id: IdReference<'a>,
     },
+    /// `delete E`: an entity goes.
+    Delete {
+        entity: Reference<'a>,
+    },
     /// `show E`: the facts of an entity are told.
     Show {
         entity: Reference<'a>,

@@ -2,7 +2,7 @@
 ghost use Rattle.std.specs.Prelude.{◌≡◌, ℕ, ℤ, List, map, IfOk, None, Some, option_map, if◌then◌else◌};
 ghost use Rattle.ecs_model.specs.Text.{trim_front, words};
 ghost use Rattle.ecs_model.specs.Script.{Form, Obey, Show, all_of, component_line, entity_line, fact_line, field_of_word, form_or_bad, nothing_more, one_word, says_nothing, set_line, value_of_word};
-ghost use Rattle.ecs_model.specs.Session.{EntityRef, IdRef, AddTo, MakeEntity, MakeFresh, RemoveFrom};
+ghost use Rattle.ecs_model.specs.Session.{EntityRef, IdRef, AddTo, DeleteOne, MakeEntity, MakeFresh, RemoveFrom};
 ghost use Rattle.script_line.specs.Line.{by_first_word, seen, seen_field, seen_id, seen_reference};
 
 use crate::blanks::{blanks_at_front, next_word, trim_front, trimmed, word_and_rest};
@@ -47,6 +47,7 @@ pub(crate) fn read_form<'a, A: Allocator + Copy>(
         "add" => Ok(add_line(rest)),
         "set" => set_line(rest, values),
         "remove" => Ok(remove_line(rest)),
+        "delete" => Ok(delete_line(rest)),
         "show" => Ok(show_line(rest)),
         "query" => Ok(Line::Query {
             text: trimmed(rest),
@@ -71,6 +72,16 @@ fn entity_line<'a, A: Allocator>(rest: &'a str) -> Line<'a, A>
 {
     match only_word(rest) {
         Some(name) => Line::Entity { name },
+        None => Line::Bad,
+    }
+}
+
+/// Reads what stands behind `delete`: an entity.
+fn delete_line<'a, A: Allocator>(rest: &'a str) -> Line<'a, A>
+    ensures { (values : List ℤ) → seen values result ≡ entity_line (λ r. Obey (DeleteOne r)) rest.now }
+{
+    match only_word(rest).and_then(|word| reference_of(word)) {
+        Some(entity) => Line::Delete { entity },
         None => Line::Bad,
     }
 }

@@ -27,16 +27,20 @@ TakesLine true old new =
     (rest : List ℕ) × (old.unread ≡ rest ++ 10 ∷ new.unread) × HasNoEnd rest × (kept new.line ≡ kept (old.front ++ rest)) × (new.front ≡ [])
 TakesLine false old new = HasNoEnd old.unread × (new.unread ≡ []) × (new.front ≡ kept (old.front ++ old.unread))
 
+-- how many bytes are read at once at most
+abbrev pub piece_size : ℕ
+piece_size = 16384
+
 -- the bytes between two places
 abbrev pub part : ℕ → ℕ → List ℕ → List ℕ
 part begin end bytes = take (end - begin) (drop begin bytes)
 
 -- places in a piece of bytes, the front of a line, and a count fit
 pub record IsHeld (begin end line_begin line_end : ℕ) (piece front : List ℕ) (read : ℕ) : Type 0 where
-  pub whole : length piece ≡ 65536
+  pub whole : length piece ≡ piece_size
   pub ascends : begin ≤ end
-  pub within : end ≤ 65536
+  pub within : end ≤ piece_size
   pub line_ascends : line_begin ≤ line_end
-  pub line_within : line_end ≤ 65536
+  pub line_within : line_end ≤ piece_size
   pub few : length front ≤ 4097
   pub fits : read ≤ most_bytes

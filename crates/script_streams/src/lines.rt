@@ -15,7 +15,7 @@ use std::mem::swap;
 pub const MOST_BYTES: usize = 16_777_216;
 
 /// So many bytes are asked for at once.
-const PIECE: usize = 65_536;
+const PIECE: usize = 16_384;
 
 /// So many bytes of a line are kept: a longer line is too long, whatever else it has.
 const MOST_KEPT: usize = 4_097;

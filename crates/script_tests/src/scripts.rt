@@ -194,3 +194,23 @@ fn a_dead_handle_comes_before_an_unknown_name(rt: HostRuntime) -> Result<(), Fai
         b"error 2 Dead\nerror 3 UnknownName\nshow Box\nerror 7 Dead\n",
     )
 }
+
+#[test]
+fn children_are_deleted_and_an_index_is_given_out_again(rt: HostRuntime) -> Result<(), Fail> {
+    let random = RandomState::new(&rt)?;
+    let summary = Summary {
+        lines: 7,
+        refused: 2,
+    };
+    let script =
+        b"entity Sun\nentity Earth\nadd Earth (ChildOf,Sun)\ndelete Sun\nnew\nshow Earth\ndelete ChildOf\n";
+    expect(
+        &rt,
+        random,
+        script,
+        &[],
+        &[],
+        Ok(summary),
+        b"#64.1\nerror 6 UnknownName\nerror 7 BuiltIn\n",
+    )
+}

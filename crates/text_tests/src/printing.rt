@@ -54,3 +54,21 @@ fn a_query_prints_its_rows_or_its_first_fault(rt: HostRuntime) -> Result<(), Fai
     assert_eq!(rt; answer, Err(QueryFault::Fault(unknown)));
     Ok(())
 }
+
+#[test]
+fn a_disabled_entity_is_passed_over_unless_the_tag_is_named(rt: HostRuntime) -> Result<(), Fail> {
+    let mut world = World::new(rt.alloc(), RandomState::new(&rt)?)?;
+    world.entity("Planet")?;
+    let mut out = Vec::new(rt.alloc());
+    if let Some(moon) = world.entity("Moon")?.born() {
+        world.add(moon, Id::plain(64))?;
+        world.add(moon, Id::plain(5))?;
+    }
+    ask(rt.alloc(), &world, "Planet", &mut out)?;
+    ask(rt.alloc(), &world, "Planet, Disabled", &mut out)?;
+    assert_eq!(rt;
+        out.as_slice(),
+        b"rows 0\nrow $this=Moon [Planet@Moon] [Disabled@Moon]\nrows 1\n".as_slice()
+    );
+    Ok(())
+}

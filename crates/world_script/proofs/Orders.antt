@@ -1,6 +1,7 @@
 -- What lines do, by what the world answered and what was told of it.
 use Rattle.std.proofs.Common.{◌≡◌, ℕ, ℤ, Bool, false, List, [], ◌++◌, Option, None, Some, Result, Ok, Err, refl, sym, ◌∙◌, ap, subst, append-nil}
 use Rattle.std.specs.Prelude.{IfOk, codes}
+use Rattle.std.specs.Result.{result_map_both}
 use Rattle.std.specs.declared.alloc.AllocError.{AllocError}
 use Rattle.std.proofs.lemmas.Result.{IfOk-weaker}
 use Rattle.ecs_id.specs.declared.EntityId.{EntityId}
@@ -14,9 +15,10 @@ use Rattle.ecs_model.specs.Schema.{Schema, schema_fault}
 use Rattle.ecs_model.specs.Refusal.{refusal_text, schema_fault_text}
 use Rattle.ecs_model.specs.Print.{fault_text}
 use Rattle.ecs_model.specs.World.{WorldState}
-use Rattle.ecs_model.specs.Command.{Command, Changed, Fresh, Entity, Component, Add, SetValue, Remove, step, AnswersStep}
+use Rattle.ecs_model.specs.Command.{Changed, AnswersStep}
+use Rattle.ecs_model.specs.traits.Command.{Command, Fresh, Entity, Component, Add, SetValue, Remove, Delete, step}
 use Rattle.ecs_model.specs.Query.{Query, query_of}
-use Rattle.ecs_model.specs.Session.{SessionState, EntityRef, IdRef, Order, MakeFresh, MakeEntity, MakeComponent, AddTo, SetIn, RemoveFrom, entity_found, with_both, session_answer, world_order, apply}
+use Rattle.ecs_model.specs.Session.{SessionState, EntityRef, IdRef, Order, MakeFresh, MakeEntity, MakeComponent, AddTo, SetIn, RemoveFrom, DeleteOne, entity_found, with_both, session_answer, world_order, apply}
 use Rattle.ecs_model.specs.Script.{Form, Nothing, LongLine, BadLine, Obey, Define, Show, Ask, form_of}
 use Rattle.ecs_model.specs.Output.{effect_of, own_text, order_effect, define_effect, show_effect, ask_effect, refused_line, accepted_line, rows_text, show_text}
 use Rattle.world_script.specs.Run.{IsDone, line_effect}
@@ -74,6 +76,10 @@ IsDone-unfound : (w : WorldState) (n : ℕ) (before after : List ℕ) (refused :
 IsDone-unfound w n before after refused order asked reason e told =
     let P : Result Command Refusal → Type 0 = λ o. IsDone (order_effect (session_of w) n order (world_order (session_of w) o)) (session_of w) before after refused in
     subst P (sym e) (IsDone-refused (session_of w) n (refusal_text reason) before after refused told)
+
+-- the command of a line that names an entity to be deleted
+abbrev asked_to_delete : Result EntityId Refusal → Result Command Refusal
+asked_to_delete = result_map_both Delete (λ reason. reason)
 
 -- an entity whose facts were shown
 pub IsDone-shown : (r : EntityRef) (e : EntityId) (w : WorldState) (n : ℕ) (before after : List ℕ) → entity_found w r ≡ Ok e → after ≡ before ++ show_text w e
@@ -145,6 +151,13 @@ module _ (r : Result Bool AllocError) (w v : WorldState) (n : ℕ) (before after
   unfolding effect_of apply
   IfOk-remove answer entity id both = IfOk-fact (RemoveFrom entity id) (λ _. refl) Remove answer entity id both
 
+  -- an entity that goes
+  pub IfOk-delete : (answer : Result Changed CommandError) (entity : EntityRef) (e : EntityId) → entity_found w entity ≡ Ok e → AnswersStep answer (step w (Delete e)) w v
+      → IfOk r (TellsAnswer answer n before after) → IfOk r (IsDone (effect_of (session_of w) n (Obey (DeleteOne entity))) (session_of v) before after)
+  unfolding effect_of apply
+  IfOk-delete answer entity e found answered =
+      IfOk-weaker r _ _ (λ refused told. IsDone-order w v n before after refused (DeleteOne entity) (λ _. refl) answer _ (Delete e) (ap asked_to_delete found) answered told)
+
 module _ (r : Result Bool AllocError) (w : WorldState) (n : ℕ) (before after : List ℕ) (reason : Refusal) where
   IfOk-unfound : (order : Order) (f : EntityId → Id → Command) (entity : EntityRef) (id : IdRef) → FindsBoth w entity id (Err reason) → IfOk r (TellsRefusal n (refusal_text reason) before after)
       → IfOk r (IsDone (order_effect (session_of w) n order (world_order (session_of w) (with_both w f entity id))) (session_of w) before after)
@@ -164,6 +177,11 @@ module _ (r : Result Bool AllocError) (w : WorldState) (n : ℕ) (before after :
       → IfOk r (IsDone (effect_of (session_of w) n (Obey (RemoveFrom entity id))) (session_of w) before after)
   unfolding effect_of apply
   IfOk-remove_unfound entity id = IfOk-unfound (RemoveFrom entity id) Remove entity id
+
+  pub IfOk-delete_unfound : (entity : EntityRef) → entity_found w entity ≡ Err reason → IfOk r (TellsRefusal n (refusal_text reason) before after)
+      → IfOk r (IsDone (effect_of (session_of w) n (Obey (DeleteOne entity))) (session_of w) before after)
+  unfolding effect_of apply
+  IfOk-delete_unfound entity unfound = IfOk-weaker r _ _ (λ refused told. IsDone-unfound w n before after refused (DeleteOne entity) _ reason (ap asked_to_delete unfound) told)
 
   pub IfOk-unshown : (entity : EntityRef) → entity_found w entity ≡ Err reason → IfOk r (TellsRefusal n (refusal_text reason) before after)
       → IfOk r (IsDone (effect_of (session_of w) n (Show entity)) (session_of w) before after)

@@ -1,24 +1,20 @@
 -- From one step of a run to the next.
-use Rattle.std.proofs.Common.{◌≡◌, ℕ, ◌+◌, ◌<◌, ◌≤◌, ◌==◌, Bool, true, false, List, [], ◌∷◌, ◌++◌, length, take, Option, None, Some, IfSome, refl, sym, ◌∙◌, ap, subst, inl, inr, arith, append_assoc, append-nil, length-append, cond}
-use Rattle.std.specs.Io.KnownBytes.{Appends, Consumes, IsAtEnd, Keeps}
-use Rattle.std.proofs.KnownBytes.{Appends-nil, Appends-trans, Consumes-kept, Consumes-nil, Consumes-trans}
-use Rattle.std.proofs.lemmas.Grind.{flat_map-append}
-use Rattle.std.proofs.lemmas.List.{flat_map_more, take-append-le}
+use Rattle.std.proofs.Common.{◌≡◌, ℕ, ◌+◌, ◌<◌, ◌≤◌, ◌==◌, Bool, true, false, List, [], ◌∷◌, ◌++◌, length, Option, refl, sym, ◌∙◌, ap, subst, inl, inr, arith, append_assoc, append-nil, length-append, cond}
+use Rattle.std.specs.Io.KnownBytes.{Appends, Consumes}
+use Rattle.std.proofs.KnownBytes.{Appends-nil, Appends-trans, Consumes-nil, Consumes-trans}
+use Rattle.std.proofs.lemmas.List.{flat_map_more}
 use Rattle.std.proofs.lemmas.List.Elements.{All-append, All-nil}
 use Rattle.std.proofs.lemmas.List.Sums.{sum_by-append, sum_by-cons}
-use Rattle.std.proofs.Math.Seq.{take-append-add, take-append_seam}
-use Rattle.ecs_model.specs.Output.{Effect, count_of, effect_of, effects_of, output_of}
-use Rattle.ecs_model.specs.Script.{Form, form_of, lines_of}
+use Rattle.ecs_model.specs.Output.{Effect, effect_of, effects_of}
+use Rattle.ecs_model.specs.Script.{Form}
 use Rattle.ecs_model.specs.Session.{SessionState, first_session}
 use Rattle.script_streams.specs.Lines.{Held, HasNoEnd, TakesLine, kept, most_bytes}
-use Rattle.script_streams.specs.Streams.{TakesFront}
 use Rattle.world_script.specs.declared.lines.Summary.{Summary}
 use Rattle.world_script.specs.Run.{effects_from, line_effect, printed_by, refused_among}
-use Rattle.world_script.specs.Running.{GoesOn, HasEnded, HasRun, IsRunning, RunsLine}
-use Rattle.world_script.specs.Whole.{EndsInFeed, FitsScript, IsCount, IsOutput, WroteFront, WroteFull, WroteToEnd, WroteWhole}
+use Rattle.world_script.specs.Running.{GoesOn, HasRun, IsRunning, RunsLine}
 use Rattle.world_script.proofs.Effects.{effects_from-first, effects_from-line, effects_from-nil}
 use Rattle.world_script.proofs.FirstLine.{lines_of-last, lines_of-line}
-use Rattle.world_script.proofs.Kept.{Cut, EndsInFeed-more, cut, form_of-kept, kept-empty, kept-some, kept_front}
+use Rattle.world_script.proofs.Kept.{form_of-kept, kept_front}
 
 -- ---- one line more, of what was run
 

@@ -7,7 +7,8 @@ use Rattle.ecs_model.specs.declared.faults.CommandError.TheVariants.{Refused, Me
 use Rattle.ecs_model.specs.declared.faults.Refusal.{Refusal}
 use Rattle.ecs_model.specs.Refusal.{refusal_text}
 use Rattle.ecs_model.specs.World.{WorldState}
-use Rattle.ecs_model.specs.Command.{Command, Changed}
+use Rattle.ecs_model.specs.Command.{Changed}
+use Rattle.ecs_model.specs.traits.Command.{Command}
 use Rattle.ecs_model.specs.Session.{SessionState, EntityRef, IdRef, MakeFresh, with_both}
 use Rattle.ecs_model.specs.Output.{own_text}
 

@@ -1,7 +1,7 @@
 //! What a session does with a line.
 ghost use Rattle.std.specs.Prelude.{map, IfOk};
 ghost use Rattle.ecs_model.specs.Script.{Obey, Define, Show, Ask};
-ghost use Rattle.ecs_model.specs.Session.{MakeFresh, MakeEntity, AddTo, SetIn, RemoveFrom};
+ghost use Rattle.ecs_model.specs.Session.{MakeFresh, MakeEntity, AddTo, SetIn, RemoveFrom, DeleteOne};
 ghost use Rattle.ecs_model.specs.Output.{effect_of};
 ghost use Rattle.script_line.specs.Line.{seen_field, seen_id, seen_reference};
 ghost use Rattle.world_script.specs.Run.{IsDone, line_effect};
@@ -45,6 +45,7 @@ pub(crate) fn run_line<A: Allocator + Copy>(
             run_set(world, number, entity, id, values.as_slice(), output)
         }
         Line::Remove { entity, id } => run_remove(world, number, entity, id, output),
+        Line::Delete { entity } => run_delete(world, number, entity, output),
         Line::Show { entity } => run_show(world, number, entity, output),
         Line::Query { text } => run_query(alloc, world, number, text, output),
     }
@@ -155,6 +156,25 @@ fn run_remove<A: Allocator + Copy>(
         Err(refusal) => refuse_command(number, refusal, output),
         Ok(both) => {
             let answer = world.remove(both.0, both.1);
+            tell_answer(number, answer, output)
+        }
+    }
+}
+
+/// `delete E`
+fn run_delete<A: Allocator + Copy>(
+    world: &mut World<A>,
+    number: usize,
+    entity: Reference<'_>,
+    output: &mut Vec<u8, A>,
+) -> Result<bool, AllocError>
+    ensures { IfOk result (IsDone (effect_of (session_of world.old.state) number (Obey (DeleteOne (seen_reference entity.entry))))
+        (session_of world.new.state) output.old.items output.new.items) }
+{
+    match find_entity(world, entity) {
+        Err(refusal) => refuse_command(number, refusal, output),
+        Ok(found) => {
+            let answer = world.delete(found);
             tell_answer(number, answer, output)
         }
     }

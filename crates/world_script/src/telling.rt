@@ -1,5 +1,5 @@
 //! What lines that are refused print, and what commands print.
-ghost use Rattle.std.specs.Prelude.{◌≡◌, ◌++◌, OnOk, IfOk, codes, decimal};
+ghost use Rattle.std.specs.Prelude.{◌≡◌, ◌++◌, Err, OnOk, IfOk, codes, decimal};
 ghost use Rattle.ecs_model.specs.Print.{fault_text, fault_word};
 ghost use Rattle.ecs_model.specs.Refusal.{refusal_text, schema_fault_text};
 ghost use Rattle.world_script.specs.Told.{refused_text, TellsRefusal, TellsAnswer, TellsBorn};
@@ -51,35 +51,48 @@ pub(crate) fn refuse_query<A: Allocator>(
 /// Tells what a world answered to a command: nothing where it was accepted.
 pub(crate) fn tell_answer<A: Allocator>(
     number: usize,
-    answer: Result<Changes, CommandError>,
+    answer: Result<Changes<A>, CommandError>,
     output: &mut Vec<u8, A>,
 ) -> Result<bool, AllocError>
     ensures { IfOk result (TellsAnswer answer number output.old.items output.new.items) }
 {
     match answer {
         Ok(_) => Ok(false),
-        Err(CommandError::Refused(refusal)) => refuse_command(number, refusal, output),
-        Err(CommandError::Memory) => Err(AllocError),
+        Err(error) => tell_error(number, error, output),
     }
 }
 
 /// Tells what a world answered to `new`: the entity that it made.
 pub(crate) fn tell_born<A: Allocator>(
     number: usize,
-    answer: Result<Changes, CommandError>,
+    answer: Result<Changes<A>, CommandError>,
     output: &mut Vec<u8, A>,
 ) -> Result<bool, AllocError>
     ensures { IfOk result (TellsBorn answer number output.old.items output.new.items) }
 {
     let changes = match answer {
         Ok(changes) => changes,
-        Err(_) => return tell_answer(number, answer, output),
+        Err(error) => return tell_error(number, error, output),
     };
     if let Some(entity) = changes.born() {
         write_handle(entity, output)?;
         output.extend_from_slice(b"\n")?;
     }
     Ok(false)
+}
+
+/// Tells why a world did not accept a command.
+fn tell_error<A: Allocator>(
+    number: usize,
+    error: CommandError,
+    output: &mut Vec<u8, A>,
+) -> Result<bool, AllocError>
+    ensures { IfOk result (TellsAnswer (Err error) number output.old.items output.new.items) }
+{
+    match error {
+        CommandError::Refused(refusal) => refuse_command(number, refusal, output),
+        CommandError::Memory => Err(AllocError),
+    }
 }
 
 /// Prints `error LINE `.

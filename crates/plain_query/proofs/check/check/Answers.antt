@@ -1,5 +1,5 @@
 -- A word more, and then the number of terms.
-use Rattle.std.proofs.Common.{◌≡◌, [], map, take, ap, sym, ◌∙◌}
+use Rattle.std.proofs.Common.{map, ap, sym, ◌∙◌}
 use Rattle.std.specs.Prelude.{flat_map}
 use Rattle.std.proofs.lemmas.List.{take_all}
 use Rattle.ecs_model.specs.Query.{id_of_term, least_fault, unknown_word}

@@ -1,4 +1,4 @@
-use Rattle.std.proofs.Common.{◌≡◌, take, map}
+use Rattle.std.proofs.Common.{◌≡◌, take}
 use Rattle.std.specs.Prelude.{All}
 use Rattle.plain_query.specs.Columns.{IsColumn, ids_in}
 use Rattle.plain_query.proofs.columns.columns_of.Given as goal

@@ -1,7 +1,8 @@
 use Rattle.std.proofs.Common.{Err, refl, ap, subst}
 use Rattle.std.specs.Prelude.{map}
 use Rattle.ecs_model.specs.Schema.{Schema}
-use Rattle.ecs_model.specs.Command.{Component, AnswersStep, step}
+use Rattle.ecs_model.specs.Command.{AnswersStep}
+use Rattle.ecs_model.specs.traits.Command.{Component, step}
 use Rattle.script_line.specs.Line.{seen_field}
 use Rattle.world_script.proofs.Orders.{IfOk-component, IfOk-no_schema}
 use Rattle.world_script.proofs.sessions.run_component.Goals as goal

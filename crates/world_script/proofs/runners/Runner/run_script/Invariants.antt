@@ -1,4 +1,4 @@
-use Rattle.std.proofs.Common.{◌≡◌, ℕ, ◌+◌, ◌-◌, false, [], cond}
+use Rattle.std.proofs.Common.{◌≡◌, ◌+◌, ◌-◌, false, [], cond}
 use Rattle.std.specs.Io.KnownBytes.{IsAtEnd}
 use Rattle.script_streams.specs.Lines.{most_bytes}
 use Rattle.script_streams.specs.Streams.{IsCalm}
