@@ -11,13 +11,15 @@ use query_check::{Query, check};
 use query_lexer::lex;
 use query_model::faults::QueryFault;
 use query_parser::parse;
+use query_plan::Plan;
 use std::alloc::{AllocError, Global};
 use std::{env, io};
 use words::Words;
 
 /// The texts by name: one that has all that a query may have, and some that try to be slow.
-const TEXTS: [&str; 8] = [
+const TEXTS: [&str; 9] = [
     "terms",
+    "plain",
     "alternatives",
     "variables",
     "occurrences",
@@ -30,6 +32,7 @@ const TEXTS: [&str; 8] = [
 fn text_of(alloc: Global, name: &str) -> Result<String, AllocError> {
     match name {
         "terms" => texts::terms(alloc),
+        "plain" => texts::plain(alloc),
         "alternatives" => texts::repeated(alloc, "N", "||N"),
         "variables" => texts::variables(alloc),
         "occurrences" => texts::repeated(alloc, "N", ",N($a,$b)"),
@@ -68,6 +71,26 @@ fn ask_phase(alloc: Global, text: &str, phase: &str) -> Result<usize, QueryFault
     Ok(syntax.parts.len())
 }
 
+/// How many tables each item would be searched in.
+const TABLES: usize = 3;
+
+/// Plans a query that is checked once so often, or judges the steps of its plan.
+fn plan_often(alloc: Global, text: &str, phase: &str, times: u64) -> Result<usize, QueryFault> {
+    let query = ask(alloc, text)?;
+    let lists = [TABLES; 64];
+    let Ok(plan) = Plan::of_lists(alloc, &query, &lists) else {
+        return Err(QueryFault::Memory);
+    };
+    for _ in 1..times {
+        if phase == "plan" {
+            Plan::of_lists(alloc, &query, &lists).is_ok();
+        } else {
+            Plan::from_steps(alloc, &query, plan.steps()).is_ok();
+        }
+    }
+    Ok(plan.steps().len())
+}
+
 fn told(rt: &HostRuntime, name: &str, answer: Result<Query, QueryFault>) -> io::Result<()> {
     match answer {
         Ok(query) => println!(rt;
@@ -98,6 +121,15 @@ fn main(rt: HostRuntime) -> io::Result<()> {
             continue;
         }
         let text = text_of(alloc, name)?;
+        if let Some(phase) = &phase
+            && (phase.as_str() == "plan" || phase.as_str() == "steps")
+        {
+            match plan_often(alloc, &text, phase, times) {
+                Ok(steps) => println!(&rt; "{name}: a plan of {steps} steps")?,
+                Err(_) => println!(&rt; "{name}: no plan")?,
+            }
+            continue;
+        }
         for _ in 1..times {
             match &phase {
                 Some(phase) => ask_phase(alloc, &text, phase).is_ok(),

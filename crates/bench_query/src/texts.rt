@@ -54,6 +54,16 @@ pub fn terms(alloc: Global) -> Result<String, AllocError> {
     filled(text, " ")
 }
 
+/// A text of 32 terms that ask `$this` for one id each.
+pub fn plain(alloc: Global) -> Result<String, AllocError> {
+    let mut text = String::new(alloc);
+    text.push_str("N")?;
+    for _ in 1..32 {
+        text.push_str(",N")?;
+    }
+    filled(text, " ")
+}
+
 /// A text made longer by a piece, again and again.
 fn filled(text: String, piece: &str) -> Result<String, AllocError> {
     let mut text = text;
