@@ -19,7 +19,12 @@ import time
 import workloads
 
 TOP = os.path.realpath(os.path.join(os.path.dirname(os.path.realpath(__file__)), ".."))
-PROGRAMS = [("bench_indexes", []), ("bench_query", ["terms", "1000"]), ("bench_world", ["10000"]), ("bench_world", ["100000"])]
+PROGRAMS = [
+    ("bench_indexes", []),
+    ("bench_query", ["terms", "1000"]),
+    *(("bench_world", [name, size]) for name in ("values", "tree", "felled", "pairs") for size in ("10000", "100000")),
+    ("bench_world", ["chain", "10000"]),
+]
 RUNS = 3
 
 
@@ -53,7 +58,7 @@ def counted(words, script):
 
 
 def row(name, size, seconds, count, other=None, same=None):
-    cells = [f"{name:<14}{size:>9}"]
+    cells = [f"{name:<20}{size:>9}"]
     cells.append(f"{seconds:>10.3f}" if seconds is not None else f"{'FAILED':>10}")
     cells.append(f"{count:>16,}" if count is not None else f"{'-':>16}")
     cells.append(f"{other:>10.3f}" if other is not None else f"{'-':>10}")
@@ -88,7 +93,8 @@ def run_program(crate, words):
         print(f"{crate} is not built: make bench builds it")
         return False
     seconds, _ = timed([program(crate), *words], os.devnull)
-    row(crate, "".join(f"{int(it):,}" for it in words if it.isdecimal()), seconds, counted([program(crate), *words], os.devnull))
+    name = " ".join([crate, *(it for it in words if not it.isdecimal())])
+    row(name, "".join(f"{int(it):,}" for it in words if it.isdecimal()), seconds, counted([program(crate), *words], os.devnull))
     return seconds is not None
 
 
@@ -99,7 +105,7 @@ def main():
     if unknown:
         print(f"bench.py: no workload is named {' '.join(unknown)}: there are {' '.join(known)}", file=sys.stderr)
         return 2
-    print(f"{'workload':<14}{'size':>9}{'seconds':>10}{'instructions':>16}{'sqlite3':>10}{'same':>6}")
+    print(f"{'workload':<20}{'size':>9}{'seconds':>10}{'instructions':>16}{'sqlite3':>10}{'same':>6}")
     with tempfile.TemporaryDirectory() as room:
         well = [run_workload(name, workloads.SIZES[name], room) for name in workloads.WORKLOADS if name in chosen]
     well += [run_program(crate, words) for crate, words in PROGRAMS if crate in chosen]

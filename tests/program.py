@@ -1,6 +1,7 @@
 #!/usr/bin/env python3
 """program.py PROGRAM: runs the program from outside: its statuses, standard error, help and streams."""
 import os
+import select
 import subprocess
 import sys
 import tempfile
@@ -89,7 +90,7 @@ def help_tells_lines_statuses_and_the_reference(program, room):
     ran = run_words(program, ["--help"])
     lines = ran.stdout.decode().splitlines()
     forms = ["entity NAME", "new", "component NAME FIELD:KIND ..", "add ENTITY ID", "set ENTITY ID VALUE ..", "remove ENTITY ID"]
-    forms += ["show ENTITY", "query NAME, ..", "// .."]
+    forms += ["delete ENTITY", "show ENTITY", "query NAME, ..", "// .."]
     statuses = ["0  Every line was accepted", "1  A line was refused", "2  The arguments are wrong", "3  A read or a write failed"]
     return (
         answers(ran, 0, complaint=b"")
@@ -142,6 +143,30 @@ def pieces_do_not_matter(program, room):
     return running.returncode == 0 and output == OUTPUT and complaint == b""
 
 
+def each_line_is_answered_before_the_next_is_sent(program, room):
+    """The pipe stays open while each answer is read."""
+    asked = [b"fly\n", b"new\n", b"entity Sun\nshow Sun\n", b"add Sun Nowhere\n", b"query Prefab"]
+    told = [b"error 1 BadLine\n", b"#64.0\n", b"show Sun\n", b"error 5 UnknownName\n"]
+    with subprocess.Popen([program], stdin=subprocess.PIPE, stdout=subprocess.PIPE) as running:
+        for line, answer in zip(asked, told):
+            running.stdin.write(line)
+            running.stdin.flush()
+            if not select.select([running.stdout], [], [], 20)[0] or running.stdout.readline() != answer:
+                running.kill()
+                return False
+        rest, _ = running.communicate(asked[-1], timeout=20)
+    return running.returncode == 1 and rest == b"rows 0\n"
+
+
+def memory_holds_neither_script_nor_output(program, room):
+    """16 MB of lines that print 200 MB, beside the same world after its first lines."""
+    tags = [f"Tag{n}_with_some_letters" for n in range(4)]
+    first = [f"entity {tag}" for tag in tags] + ["entity S"] + [f"add S {tag}" for tag in tags]
+    few = "".join(line + "\n" for line in first).encode()
+    many = few + b"show S\n" * ((16_777_216 - len(few)) // 7)
+    return peak_of(program, many, room) - peak_of(program, few, room) <= 10_000
+
+
 def two_thousand_lines_take_less_than_two_seconds(program, room):
     names = [f"E{n}" for n in range(500)]
     lines = ["component Position x:i32 y:i32", "entity Planet"]
@@ -186,6 +211,8 @@ CASES = [
     no_output_at_all_is_a_write_fault,
     full_disk_is_a_write_fault,
     pieces_do_not_matter,
+    each_line_is_answered_before_the_next_is_sent,
+    memory_holds_neither_script_nor_output,
     two_thousand_lines_take_less_than_two_seconds,
     colliding_names_take_at_most_twice_as_long,
     walk_through_tables_gives_memory_back,

@@ -14,7 +14,7 @@ TOP = os.path.join(os.path.dirname(os.path.realpath(__file__)), "..")
 ROWS = os.path.join(TOP, "tests", "rows")
 OUT = os.path.join(TOP, "crates", "worked_rows", "proofs", "Rows.antt")
 MOST_BYTES = 9000
-MOST_LINES = 150
+MOST_LINES = 100
 
 HEAD = """-- The worked rows, computed by the definitions. Made by tools/worked_rows.py.
 -- Too long to be computed here, and run by the program alone: {long_rows}.
@@ -23,8 +23,10 @@ use Rattle.std.specs.Fmt.{{digits}}
 use Rattle.std.specs.Str.{{chars, is_utf8}}
 use Rattle.ecs_id.specs.Id.{{id_cmp}}
 use Rattle.ecs_model.specs.World.{{first_world, key_cmp, next_among}}
-use Rattle.ecs_model.specs.Changes.{{facts_after_add, facts_after_remove}}
-use Rattle.ecs_model.specs.Command.{{with_born, with_named, with_component, reasons, effect, differences, step}}
+use Rattle.ecs_model.specs.Sets.{{has_chain, within}}
+use Rattle.ecs_model.specs.Command.{{with_born, with_named, with_component, differences}}
+use Rattle.ecs_model.specs.traits.Changes.{{added, replaced, facts_after_add, facts_after_remove, deleted, facts_after_delete}}
+use Rattle.ecs_model.specs.traits.Command.{{without_entities, reasons, effect, step}}
 use Rattle.ecs_model.specs.Meaning.{{rows}}
 use Rattle.ecs_model.specs.Tokens.{{tokens_from, tokens_of}}
 use Rattle.ecs_model.specs.Query.{{faults, query_of}}
@@ -38,7 +40,8 @@ abbrev Gives : List ℕ → List ℕ → ℕ → ℕ → Type 0
 Gives script output lines refused = (output_of script ≡ output) × (count_of script ≡ (lines, refused))
 """
 UNFOLDING = (
-    "id_cmp key_cmp first_world next_among facts_after_add facts_after_remove with_born with_named with_component reasons effect differences step rows "
+    "id_cmp key_cmp first_world next_among within has_chain added replaced facts_after_add facts_after_remove deleted facts_after_delete without_entities "
+    "with_born with_named with_component reasons effect differences step rows "
     "tokens_from tokens_of faults query_of apply lines_of forms form_among effect_of effects_of digits chars is_utf8 encode"
 )
 
