@@ -9,9 +9,9 @@ use lib.Utf8.{encode}
 use Rattle.ecs_id.specs.declared.EntityId.{EntityId}
 use Rattle.ecs_id.specs.Id.{Id, plain, pair, id_cmp}
 use Rattle.ecs_model.specs.declared.Kind.TheVariants.{I8, I32, U64}
-use Rattle.ecs_model.specs.declared.faults.Fault.{Fault}
-use Rattle.ecs_model.specs.declared.faults.FaultKind.{FaultKind}
-use Rattle.ecs_model.specs.declared.faults.FaultKind.TheVariants.{Lex, Syntax, UnknownName, TooManyTerms}
+use Rattle.query_model.specs.declared.faults.Fault.{Fault}
+use Rattle.query_model.specs.declared.faults.FaultKind.{FaultKind}
+use Rattle.query_model.specs.declared.faults.FaultKind.TheVariants.{Lex, Syntax, UnknownName, TooManyTerms}
 use Rattle.ecs_model.specs.declared.faults.Refusal.{Refusal}
 use Rattle.ecs_model.specs.declared.faults.Refusal.TheVariants.{Dead, UnknownName, BadName, NameTaken, BuiltIn, NoData, Count, Range, Full}
 use Rattle.ecs_model.specs.declared.faults.CommandError.TheVariants.{Refused}
@@ -23,8 +23,11 @@ use Rattle.ecs_model.specs.Sets.{has_chain, within}
 use Rattle.ecs_model.specs.Command.{Changed, next_entity, with_born, with_component, differences, AnswersStep}
 use Rattle.ecs_model.specs.traits.Changes.{added, replaced, facts_after_add, facts_after_remove}
 use Rattle.ecs_model.specs.traits.Command.{Command, Fresh, Entity, Component, Add, SetValue, Remove, reasons, effect, step}
-use Rattle.ecs_model.specs.Tokens.{tokens_from, tokens_of}
-use Rattle.ecs_model.specs.Query.{Query, least_fault, faults, query_of}
+use Rattle.query_model.specs.Tokens.{tokens_from, tokens_of}
+use Rattle.query_model.specs.Check.{faults}
+use Rattle.query_model.specs.declared.query.Ref.TheVariants as ref
+use Rattle.query_model.specs.Query.{Query, Piece, item, must, query_of as asked_of}
+use Rattle.ecs_model.specs.Query.{is_plain, query_of}
 use Rattle.ecs_model.specs.Meaning.{Shown, rows, is_answer}
 use Rattle.ecs_model.specs.Session.{EntityRef, by_name, by_handle, pair_of, DeleteOne, with_both, entity_found}
 use Rattle.ecs_model.specs.Script.{BadLine, Obey, handle_of, id_and_rest, forms, form_among, form_of}
@@ -318,15 +321,18 @@ an_entity_is_shown_with_its_facts_in_order = refl
 
 -- rows
 
-abbrev asks : List Id → Query
-asks ids = record { variables = codes "this" ∷ []; ids = ids; length = 0 }
+abbrev asked_for : ℕ → Piece
+asked_for c = item (must (record { first = ref.Is c; target = None; source = ref.Var 0; on_source = true; up = None; closed = false; valued = true }))
 
-rows_come_by_ascending_index : rows sky (asks (planet ∷ []))
+abbrev asks : List ℕ → Query
+asks cs = record { variables = codes "this" ∷ []; has_this = true; pieces = map asked_for cs; mentions = []; length = 0 }
+
+rows_come_by_ascending_index : rows sky (asks (65 ∷ []))
     ≡ record { bindings = 66 ∷ []; fields = Shown 66 planet None ∷ [] } ∷ record { bindings = 67 ∷ []; fields = Shown 67 planet None ∷ [] } ∷ []
 unfolding id_cmp key_cmp rows
 rows_come_by_ascending_index = refl
 
-a_row_has_a_field_for_each_term : rows sky (asks (position ∷ planet ∷ position ∷ []))
+a_row_has_a_field_for_each_term : rows sky (asks (64 ∷ 65 ∷ 64 ∷ []))
     ≡ record { bindings = 67 ∷ []; fields = Shown 67 position (Some (pos 10 ∷ negsuc 2 ∷ [])) ∷ Shown 67 planet None ∷ Shown 67 position (Some (pos 10 ∷ negsuc 2 ∷ [])) ∷ [] } ∷ []
 unfolding id_cmp key_cmp rows
 a_row_has_a_field_for_each_term = refl
@@ -336,7 +342,7 @@ a_row_has_a_field_for_each_term = refl
 abbrev veiled : WorldState
 veiled = record sky { facts = ((66, plain 5), []) ∷ ((66, planet), []) ∷ ((67, plain 4), []) ∷ ((67, planet), []) ∷ ((67, pair 5 66), []) ∷ [] }
 
-an_entity_with_prefab_or_disabled_is_passed_over : rows veiled (asks (planet ∷ [])) ≡ []
+an_entity_with_prefab_or_disabled_is_passed_over : rows veiled (asks (65 ∷ [])) ≡ []
 unfolding id_cmp key_cmp rows
 an_entity_with_prefab_or_disabled_is_passed_over = refl
 
@@ -353,32 +359,37 @@ a_pair_with_the_tag_is_no_mention = refl
 abbrev at : FaultKind → ℕ → ℕ → Fault
 at kind from to = record { kind = kind; span = record { start = from; end = to } }
 
-a_lone_equals_sign_is_no_token : tokens_of (codes "Sun, = Earth") ≡ Err (record { start = 5; end = 6 })
-unfolding tokens_from tokens_of
-a_lone_equals_sign_is_no_token = refl
-
-a_lex_fault_spans_all_bytes_of_its_character : tokens_of (codes "Sun " ++ 195 ∷ 164 ∷ codes ", Earth") ≡ Err (record { start = 4; end = 6 })
-unfolding tokens_from tokens_of
-a_lex_fault_spans_all_bytes_of_its_character = refl
-
 a_lex_fault_is_told_before_an_earlier_syntax_fault : query_of sky (codes "Sun Earth 7") ≡ Err (at Lex 10 11)
-unfolding tokens_from tokens_of faults query_of
+unfolding tokens_from tokens_of faults asked_of
 a_lex_fault_is_told_before_an_earlier_syntax_fault = refl
 
 a_syntax_fault_is_told_before_an_earlier_unknown_name : query_of sky (codes "Moon, Sun Earth") ≡ Err (at Syntax 10 15)
-unfolding tokens_from tokens_of faults query_of
+unfolding tokens_from tokens_of faults asked_of
 a_syntax_fault_is_told_before_an_earlier_unknown_name = refl
 
 the_first_of_two_unknown_names_is_told : query_of sky (codes "Sun, Moon, Mars") ≡ Err (at UnknownName 5 9)
-unfolding tokens_from tokens_of faults query_of
+unfolding tokens_from tokens_of faults asked_of
 the_first_of_two_unknown_names_is_told = refl
 
-at_one_place_the_lesser_number_is_told : least_fault (at TooManyTerms 9 12 ∷ at UnknownName 9 12 ∷ []) ≡ Some (at UnknownName 9 12)
-at_one_place_the_lesser_number_is_told = refl
-
 the_end_of_an_empty_text_is_its_fault : query_of sky (codes " ") ≡ Err (at Syntax 1 1)
-unfolding tokens_from tokens_of faults query_of
+unfolding tokens_from tokens_of faults asked_of
 the_end_of_an_empty_text_is_its_fault = refl
+
+words_and_commas_are_plain : is_plain (codes "Sun, \t Sun,Earth") ≡ true
+unfolding tokens_from tokens_of
+words_and_commas_are_plain = refl
+
+a_source_is_not_plain : is_plain (codes "Sun($this)") ≡ false
+unfolding tokens_from tokens_of
+a_source_is_not_plain = refl
+
+an_access_word_is_not_plain : is_plain (codes "[in] Sun") ≡ false
+unfolding tokens_from tokens_of
+an_access_word_is_not_plain = refl
+
+a_lone_wildcard_is_not_plain : is_plain (codes "_") ≡ false
+unfolding tokens_from tokens_of
+a_lone_wildcard_is_not_plain = refl
 
 -- the order of ids
 

@@ -10,6 +10,7 @@ use Rattle.std.proofs.lemmas.List.Kept.{AllPairs-cons, AllPairs-filter}
 use Rattle.ecs_id.specs.Id.{Id}
 use Rattle.ecs_model.specs.Map.{Map, keys, IsMap}
 use Rattle.ecs_model.specs.World.{WorldState, entities}
+use Rattle.ecs_model.specs.Query.{ids_asked}
 use Rattle.ecs_model.specs.Meaning.{Row, is_answer, row_of, rows}
 use Rattle.ecs_model.specs.Laws.{RowsAreDistinct, EqualRowsAreOne}
 use Rattle.ecs_model.proofs.Maps.{both_true}
@@ -43,8 +44,8 @@ same_entity w ids x y e = let bindings : x ∷ [] ≡ y ∷ [] = ap (λ r. r.bin
 pub rows_are_distinct : RowsAreDistinct
 unfolding rows
 rows_are_distinct w q h =
-    AllPairs-map (row_of w q.ids) (same_entity w q.ids) (filter (is_answer w q.ids) (entities w)) 0
-    (AllPairs-filter (λ x y. x ≢ y) (is_answer w q.ids) (entities w) (keys_differ w.live (h.in_order).live))
+    AllPairs-map (row_of w (ids_asked q)) (same_entity w (ids_asked q)) (filter (is_answer w (ids_asked q)) (entities w)) 0
+    (AllPairs-filter (λ x y. x ≢ y) (is_answer w (ids_asked q)) (entities w) (keys_differ w.live (h.in_order).live))
 
 -- a row is that of some entity
 row_is : (w : WorldState) (ids : List Id) (es : List ℕ) (a : Row) → Contains (map (row_of w ids) es) a → (e : ℕ) × (row_of w ids e ≡ a)
@@ -55,9 +56,9 @@ row_is w ids es a c =
 pub equal_rows_are_one : EqualRowsAreOne
 unfolding rows
 equal_rows_are_one w q a b h p r same ids =
-    let es : List ℕ = filter (is_answer w q.ids) (entities w) in
-    let one = row_is w q.ids es a p in
-    let other = row_is w q.ids es b r in
+    let es : List ℕ = filter (is_answer w (ids_asked q)) (entities w) in
+    let one = row_is w (ids_asked q) es a p in
+    let other = row_is w (ids_asked q) es b r in
     let bindings : one.0 ∷ [] ≡ other.0 ∷ [] = ap (λ x. x.bindings) one.1 ∙ same ∙ sym (ap (λ x. x.bindings) other.1) in
     let entity : one.0 ≡ other.0 = cc in
-    sym one.1 ∙ ap (row_of w q.ids) entity ∙ other.1
+    sym one.1 ∙ ap (row_of w (ids_asked q)) entity ∙ other.1

@@ -14,8 +14,6 @@ pub mod FirstWorld
 pub mod DistinctRows
 mod Computed
 mod ReachComputed
-pub mod SpellingLemmas
-pub mod SyntaxLemmas
 pub mod Members
 pub mod Linked
 pub mod ShortLines

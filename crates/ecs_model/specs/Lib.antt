@@ -9,9 +9,7 @@ pub mod Refusal
 pub mod Changes
 pub mod Command
 pub mod Keeps
-pub mod Tokens
-pub mod Grammar
-pub mod Parse
+pub mod BuiltIns
 pub mod Query
 pub mod Meaning
 pub mod Print
@@ -19,7 +17,6 @@ pub mod Session
 pub mod Script
 pub mod Output
 pub mod Laws
-pub mod BuiltIns
 pub mod Reach
 pub mod Sets
 pub mod Line

@@ -1,16 +1,16 @@
 -- What a script prints.
-use Rattle.std.specs.Prelude.{ℕ, ◌+◌, Bool, true, false, List, [], ◌∷◌, ◌++◌, flat_map, length, count_by, codes, decimal, Option, Some, None, Result, Ok, Err}
+use Rattle.std.specs.Prelude.{ℕ, ◌+◌, Bool, true, false, List, [], ◌∷◌, ◌++◌, flat_map, length, count_by, codes, decimal, Option, Some, None, Result, Ok, Err, if◌then◌else◌}
 use Rattle.ecs_id.specs.declared.EntityId.{EntityId}
 use Rattle.ecs_id.specs.Id.{Id}
-use Rattle.ecs_model.specs.declared.faults.Fault.{Fault}
+use Rattle.query_model.specs.declared.faults.Fault.{Fault}
 use Rattle.ecs_model.specs.declared.faults.Refusal.{Refusal}
 use Rattle.ecs_model.specs.declared.faults.SchemaFault.{SchemaFault}
 use Rattle.ecs_model.specs.Schema.{Schema, schema_fault}
 use Rattle.ecs_model.specs.Refusal.{refusal_text, schema_fault_text}
 use Rattle.ecs_model.specs.World.{WorldState, ids_of, value_of}
-use Rattle.ecs_model.specs.Query.{Query}
+use Rattle.query_model.specs.Query.{Query}
 use Rattle.ecs_model.specs.Meaning.{rows}
-use Rattle.ecs_model.specs.Query.{query_of}
+use Rattle.ecs_model.specs.Query.{is_plain, query_of}
 use Rattle.ecs_model.specs.Print.{fault_text, handle_text, entity_text, id_text, value_text, row_text}
 use Rattle.ecs_model.specs.Session.{SessionState, first_session, Order, MakeFresh, MakeComponent, entity_found, apply}
 use Rattle.ecs_model.specs.Script.{Form, Nothing, LongLine, BadLine, Obey, Define, Show, Ask, form_of, lines_of}
@@ -61,10 +61,10 @@ abbrev pub show_effect : SessionState → ℕ → Result EntityId Refusal → Ef
 show_effect s n (Err r) = refused_line s n (refusal_text r)
 show_effect s n (Ok e) = accepted_line s (show_text s.world e)
 
--- what a line of a query does
-abbrev pub ask_effect : SessionState → ℕ → Result Query Fault → Effect
-ask_effect s n (Err f) = refused_line s n (fault_text f)
-ask_effect s n (Ok q) = accepted_line s (rows_text s.world q)
+-- what a line of a query does. Provisional: only words and commas are answered yet
+abbrev pub ask_effect : SessionState → ℕ → List ℕ → Result Query Fault → Effect
+ask_effect s n text (Err f) = refused_line s n (fault_text f)
+ask_effect s n text (Ok q) = if is_plain text then accepted_line s (rows_text s.world q) else refused_line s n (codes "NotYet")
 
 -- what a line of this form does
 unfoldable pub effect_of : SessionState → ℕ → Form → Effect
@@ -74,7 +74,7 @@ effect_of s n BadLine = refused_line s n (codes "BadLine")
 effect_of s n (Obey order) = order_effect s n order (apply s order)
 effect_of s n (Define name fs) = define_effect s n name fs (schema_fault fs)
 effect_of s n (Show r) = show_effect s n (entity_found s.world r)
-effect_of s n (Ask text) = ask_effect s n (query_of s.world text)
+effect_of s n (Ask text) = ask_effect s n text (query_of s.world text)
 
 -- what is done in a row by lines under their numbers
 abbrev pub effects : (SessionState → ℕ → List ℕ → Effect) → SessionState → ℕ → List (List ℕ) → List Effect

@@ -5,9 +5,9 @@ use Rattle.std.specs.List.{zip, join_with_byte}
 use Rattle.std.specs.Option.{option_map_or}
 use Rattle.ecs_id.specs.declared.EntityId.{EntityId}
 use Rattle.ecs_id.specs.Id.{Id, plain, pair}
-use Rattle.ecs_model.specs.declared.faults.Fault.{Fault}
-use Rattle.ecs_model.specs.declared.faults.FaultKind.{FaultKind}
-use Rattle.ecs_model.specs.declared.faults.FaultKind.TheVariants.{Lex, Syntax, UnknownName, NotTraversable, UnboundVariable, WildcardSource, WildcardEquality, TooManyTerms, TooManyVariables, TooDeep, NoThis, NotOneTerm}
+use Rattle.query_model.specs.declared.faults.Fault.{Fault}
+use Rattle.query_model.specs.declared.faults.FaultKind.{FaultKind}
+use Rattle.query_model.specs.declared.faults.FaultKind.TheVariants.{Lex, Syntax, UnknownName, NotTraversable, UnboundVariable, WildcardSource, WildcardEquality, TooManyTerms, TooManyVariables, TooDeep, NoThis, NotOneTerm}
 use Rattle.ecs_model.specs.World.{WorldState, name_of, entity_at}
 use Rattle.ecs_model.specs.Meaning.{Field, Shown, Row}
 

@@ -10,12 +10,11 @@ pub mod faults;
 pub mod laws;
 pub mod names;
 pub mod reach_laws;
-pub mod text_laws;
 pub mod trait_laws;
 pub mod values;
 
 pub use facts::FactKey;
-pub use names::{is_name, is_name_byte, is_reserved};
+pub use names::is_name;
 pub use values::Value;
 
 /// The last index of the built-in entities, which each world begins with. Their first is 1.
@@ -26,13 +25,6 @@ pub const FIRST_INDEX: u32 = 64;
 
 /// How many ids an entity holds at most.
 pub const MOST_IDS: usize = 64;
-
-/// A part of a text, in bytes: from `start` up to and without `end`.
-#[derive(Clone, Copy, Debug, PartialEq, Eq)]
-pub struct Span {
-    pub start: usize,
-    pub end: usize,
-}
 
 /// The whole numbers that a field of a component can hold. In memory they take 1, 2, 4 or 8 bytes, little end first.
 #[derive(Clone, Copy, Debug, PartialEq, Eq)]
@@ -45,11 +37,4 @@ pub enum Kind {
     U32,
     I64,
     U64,
-}
-
-/// The tokens of query text that are always spelled alike.
-#[derive(Clone, Copy, Debug, PartialEq, Eq)]
-pub enum Mark {
-    /// `,`: both sides match.
-    Comma,
 }

@@ -1,9 +1,0 @@
-use Rattle.std.proofs.Common.{◌-◌, length}
-use Rattle.word_lexer.proofs.Progress.{HasRead}
-use Rattle.word_lexer.proofs.lex.Given as goal
-
-abbrev pub invariant-loop-tokens : goal.invariant-loop-tokens
-invariant-loop-tokens g l = HasRead l.text l.tokens.items l.at
-
-abbrev pub decreases-loop-tokens : goal.decreases-loop-tokens
-decreases-loop-tokens g l = length l.text - l.at
