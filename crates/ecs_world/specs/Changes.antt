@@ -1,20 +1,32 @@
 -- What commands change, and what is told of it.
-use Rattle.std.specs.Prelude.{◌≡◌, ℕ, List, map, filter_map, Option, Some, option_map}
+use Rattle.std.specs.Prelude.{◌≡◌, ℕ, List, [], ◌∷◌, map, filter_map, Option, Some, option_map}
 use Rattle.ecs_id.specs.declared.EntityId.{EntityId}
 use Rattle.ecs_id.specs.Id.{Id}
+use Rattle.ecs_model.specs.Command.{Changed}
 use Rattle.ecs_model.specs.declared.faults.CommandError.{CommandError}
 use Rattle.ecs_model.specs.declared.faults.CommandError.TheVariants.{Refused, Memory}
 use Rattle.ecs_model.specs.declared.faults.Refusal.{Refusal}
 use Rattle.ecs_model.specs.Map.{with_value}
 use Rattle.ecs_model.specs.World.{WorldState, Key, entity_at, key_cmp, name_of, type_of_id}
-use Rattle.ecs_world.specs.State.{byte_count, listed, value_in}
-use Rattle.ecs_world.specs.declared.changes.FactList.{FactList}
-use Rattle.ecs_world.specs.declared.changes.FactList.TheVariants.{Few, Many}
+use Rattle.ecs_world.specs.State.{birth, byte_count, listed, no_change, value_in}
+use Rattle.ecs_world.specs.declared.changes.ChangeLists.{ChangeLists}
+use Rattle.ecs_world.specs.declared.changes.Told.{Told}
+use Rattle.ecs_world.specs.declared.changes.Told.TheVariants.{Nothing, Born, BornWith, Came, Went, Written, CameWritten, Lists}
 
--- the facts of a list
-abbrev pub facts_in : {Y : Type 0} → FactList Y → List Key
-facts_in (Few fact) = listed fact
-facts_in (Many facts) = facts.items
+-- what lists tell
+abbrev pub changed_in : {Y : Type 0} → ChangeLists Y → Changed
+changed_in l = record no_change { died = ((l.lists).value).died.items; came = ((l.lists).value).came.items; went = ((l.lists).value).went.items; written = listed ((l.lists).value).written }
+
+-- what a command tells
+abbrev pub changed_by : {Y : Type 0} → Told Y → Changed
+changed_by Nothing = no_change
+changed_by (Born e) = birth e
+changed_by (BornWith generation fact) = record (birth (record { index = fact.0; generation = generation })) { came = fact ∷ [] }
+changed_by (Came fact) = record no_change { came = fact ∷ [] }
+changed_by (Went fact) = record no_change { went = fact ∷ [] }
+changed_by (Written fact) = record no_change { written = fact ∷ [] }
+changed_by (CameWritten fact) = record no_change { came = fact ∷ []; written = fact ∷ [] }
+changed_by (Lists lists) = changed_in lists
 
 -- facts, each with how many bytes its value has
 abbrev pub sized_by : WorldState → List Key → List (Key × ℕ)

@@ -13,7 +13,6 @@ ghost use Rattle.table_store.specs.Going.{TablesGoOn};
 use crate::built_in::COMPONENT;
 use crate::{Changes, World};
 use ecs_id::{EntityId, Id};
-use ecs_model::FactKey;
 use ecs_model::faults::{CommandError, Refusal};
 use ecs_schema::Schema;
 use name_index::{BindError, NameIndex};
@@ -63,7 +62,7 @@ impl<A: Allocator + Copy> World<A> {
             return Err(CommandError::Memory);
         };
         self.accepted += 1;
-        Ok(Changes::of_birth(self.alloc, entity))
+        Ok(Changes::of_birth(entity))
     }
 
     fn make_entity(&mut self, name: &str) -> Result<Changes<A>, CommandError>
@@ -78,7 +77,7 @@ impl<A: Allocator + Copy> World<A> {
             return Err(CommandError::Memory);
         }
         self.accepted += 1;
-        Ok(Changes::of_birth(self.alloc, entity))
+        Ok(Changes::of_birth(entity))
     }
 
     fn make_component(&mut self, name: &str, schema: Schema<A>) -> Result<Changes<A>, CommandError>
@@ -101,8 +100,7 @@ impl<A: Allocator + Copy> World<A> {
             return Err(CommandError::Memory);
         }
         self.accepted += 1;
-        let key = FactKey::new(entity.index, component);
-        Ok(Changes::of_birth(self.alloc, entity).with_came(key))
+        Ok(Changes::of_birth_with(entity, component))
     }
 }
 

@@ -1,15 +1,17 @@
 //! What an accepted command has changed.
 
-ghost use Rattle.std.specs.Prelude.{◌≡◌, [], ◌∷◌, option_map};
+ghost use Rattle.std.specs.Prelude.{◌≡◌, [], ◌∷◌, option_map, IfOk};
 ghost use Rattle.std.specs.Option.{option_copied};
 ghost use Rattle.std.specs.String.{string_bytes};
-ghost use Rattle.ecs_world.specs.Changes.{facts_in};
-ghost use Rattle.ecs_world.specs.State.{birth, listed, no_change};
+ghost use Rattle.ecs_world.specs.Changes.{changed_in};
+ghost use Rattle.ecs_world.specs.State.{birth, no_change};
 
-use ecs_id::EntityId;
+use crate::Memory;
+use ecs_id::{EntityId, Id};
 use ecs_model::FactKey;
 use std::alloc::{Allocator, Global};
 use std::marker::Model;
+use std::slice;
 
 /// An entity that died, with the name that it had.
 #[derive(Drop)]
@@ -53,48 +55,94 @@ impl<A: Allocator> Death<A> {
     }
 }
 
-/// Facts in order. None and one take no memory.
+/// What changes where traits bring or take facts, or where entities die.
 #[derive(Drop)]
-pub(crate) enum FactList<A: Allocator> {
-    Few(Option<FactKey>),
-    Many(Vec<FactKey, A>),
+struct Lists<A: Allocator> {
+    died: Vec<Death<A>, A>,
+    came: Vec<FactKey, A>,
+    went: Vec<FactKey, A>,
+    written: Option<FactKey>,
 }
 
-impl<A: Allocator> FactList<A> {
-    fn as_slice(&self) -> &[FactKey]
-        ensures { result.now ≡ facts_in self.now }
+/// Lists of what changes. A command makes them before it changes its world, and fills them after, which takes no more memory.
+#[derive(Drop)]
+pub(crate) struct ChangeLists<A: Allocator> {
+    lists: Box<Lists<A>, A>,
+}
+
+impl<A: Allocator + Copy> ChangeLists<A> {
+    /// Empty lists.
+    pub(crate) fn new(alloc: A) -> Result<Self, Memory>
+        ensures { IfOk result (λ lists. changed_in lists ≡ no_change) }
     {
-        match self {
-            FactList::Few(fact) => fact.as_slice(),
-            FactList::Many(facts) => facts.as_slice(),
+        let lists = Lists {
+            died: Vec::new(alloc),
+            came: Vec::new(alloc),
+            went: Vec::new(alloc),
+            written: None,
+        };
+        match Box::new(alloc, lists) {
+            Ok(lists) => Ok(ChangeLists { lists }),
+            Err(_) => Err(Memory),
         }
     }
+}
+
+impl<A: Allocator> ChangeLists<A> {
+    /// With the facts that came and those that went, in order.
+    pub(crate) fn with_facts(mut self, came: Vec<FactKey, A>, went: Vec<FactKey, A>) -> Self
+        ensures { changed_in result ≡ record (changed_in self) { came = came.items; went = went.items } }
+    {
+        self.lists.came = came;
+        self.lists.went = went;
+        self
+    }
+
+    /// With the entities that died, by ascending index.
+    pub(crate) fn with_died(mut self, died: Vec<Death<A>, A>) -> Self
+        ensures { changed_in result ≡ record (changed_in self) { died = died.items } }
+    {
+        self.lists.died = died;
+        self
+    }
+
+    /// With the fact whose value was set.
+    pub(crate) fn with_written(mut self, key: FactKey) -> Self
+        ensures { changed_in result ≡ record (changed_in self) { written = key ∷ [] } }
+    {
+        self.lists.written = Some(key);
+        self
+    }
+}
+
+/// What a command tells, which most of them tell of one fact or one entity without memory.
+#[derive(Drop)]
+enum Told<A: Allocator> {
+    Nothing,
+    Born(EntityId),
+    /// An entity was made that holds a fact. Its index is the fact's.
+    BornWith { generation: u16, fact: FactKey },
+    Came(FactKey),
+    Went(FactKey),
+    Written(FactKey),
+    /// A fact came and its value was set.
+    CameWritten(FactKey),
+    Lists(ChangeLists<A>),
 }
 
 /// What an accepted command has changed.
 #[derive(Drop)]
 pub struct Changes<A: Allocator = Global> {
-    born: Option<EntityId>,
-    died: Vec<Death<A>, A>,
-    came: FactList<A>,
-    went: FactList<A>,
-    written: Option<FactKey>,
+    told: Told<A>,
 }
 
 impl<A: Allocator> Model for Changes<A> {
     ghost use Rattle.ecs_model.specs.Command.{Changed};
-    ghost use Rattle.ecs_world.specs.Changes.{facts_in};
-    ghost use Rattle.ecs_world.specs.State.{listed};
+    ghost use Rattle.ecs_world.specs.Changes.{changed_by};
 
     ghost Value = { Changed };
 
-    ghost view = { λ c. record {
-      born = c.born;
-      died = c.died.items;
-      came = facts_in c.came;
-      went = facts_in c.went;
-      written = listed c.written;
-    } };
+    ghost view = { λ c. changed_by c.told };
 }
 
 impl<A: Allocator> Changes<A> {
@@ -102,134 +150,131 @@ impl<A: Allocator> Changes<A> {
     pub fn born(&self) -> Option<EntityId>
         ensures { result ≡ self.now.born }
     {
-        self.born
+        match &self.told {
+            Told::Born(entity) => Some(*entity),
+            Told::BornWith { generation, fact } => Some(EntityId {
+                index: fact.entity(),
+                generation: *generation,
+            }),
+            _ => None,
+        }
     }
 
     /// The entities that died, by ascending index.
     pub fn died(&self) -> &[Death<A>]
         ensures { result.now ≡ self.now.died }
     {
-        self.died.as_slice()
+        match &self.told {
+            Told::Lists(changes) => changes.lists.died.as_slice(),
+            _ => &[],
+        }
     }
 
     /// The facts that came, in order.
     pub fn came(&self) -> &[FactKey]
         ensures { result.now ≡ self.now.came }
     {
-        self.came.as_slice()
+        match &self.told {
+            Told::BornWith { fact, .. } | Told::Came(fact) | Told::CameWritten(fact) => {
+                slice::from_ref(fact)
+            }
+            Told::Lists(changes) => changes.lists.came.as_slice(),
+            _ => &[],
+        }
     }
 
     /// The facts that went, in order. A death takes all that mention the entity.
     pub fn went(&self) -> &[FactKey]
         ensures { result.now ≡ self.now.went }
     {
-        self.went.as_slice()
+        match &self.told {
+            Told::Went(fact) => slice::from_ref(fact),
+            Told::Lists(changes) => changes.lists.went.as_slice(),
+            _ => &[],
+        }
     }
 
     /// The facts whose values were set, in order. The values are those in the world now.
     pub fn written(&self) -> &[FactKey]
         ensures { result.now ≡ self.now.written }
     {
-        self.written.as_slice()
-    }
-}
-
-impl<A: Allocator + Copy> Changes<A> {
-    pub(crate) fn none(alloc: A) -> Changes<A>
-        ensures { result ≡ no_change }
-    {
-        Changes {
-            born: None,
-            died: Vec::new(alloc),
-            came: FactList::Few(None),
-            went: FactList::Few(None),
-            written: None,
-        }
-    }
-
-    /// One fact came.
-    pub(crate) fn of_came(alloc: A, key: FactKey) -> Changes<A>
-        ensures { result ≡ record no_change { came = key ∷ [] } }
-    {
-        Changes {
-            born: None,
-            died: Vec::new(alloc),
-            came: FactList::Few(Some(key)),
-            went: FactList::Few(None),
-            written: None,
-        }
-    }
-
-    /// One fact went.
-    pub(crate) fn of_went(alloc: A, key: FactKey) -> Changes<A>
-        ensures { result ≡ record no_change { went = key ∷ [] } }
-    {
-        Changes {
-            born: None,
-            died: Vec::new(alloc),
-            came: FactList::Few(None),
-            went: FactList::Few(Some(key)),
-            written: None,
-        }
-    }
-
-    /// The value of one fact was set, and the fact may have come with it.
-    pub(crate) fn of_written(alloc: A, key: FactKey, came: Option<FactKey>) -> Changes<A>
-        ensures { result ≡ record no_change { came = listed came; written = key ∷ [] } }
-    {
-        Changes {
-            born: None,
-            died: Vec::new(alloc),
-            came: FactList::Few(came),
-            went: FactList::Few(None),
-            written: Some(key),
-        }
-    }
-
-    pub(crate) fn of_birth(alloc: A, entity: EntityId) -> Changes<A>
-        ensures { result ≡ birth entity }
-    {
-        Changes {
-            born: Some(entity),
-            ..Changes::none(alloc)
+        match &self.told {
+            Told::Written(fact) | Told::CameWritten(fact) => slice::from_ref(fact),
+            Told::Lists(changes) => changes.lists.written.as_slice(),
+            _ => &[],
         }
     }
 }
 
 impl<A: Allocator> Changes<A> {
-    pub(crate) fn with_came(self, key: FactKey) -> Changes<A>
-        ensures { result ≡ record self { came = key ∷ [] } }
+    pub(crate) fn none() -> Changes<A>
+        ensures { result ≡ no_change }
     {
         Changes {
-            came: FactList::Few(Some(key)),
-            ..self
+            told: Told::Nothing,
         }
     }
 
-    pub(crate) fn with_written(self, key: FactKey) -> Changes<A>
-        ensures { result ≡ record self { written = key ∷ [] } }
+    pub(crate) fn of_birth(entity: EntityId) -> Changes<A>
+        ensures { result ≡ birth entity }
     {
         Changes {
-            written: Some(key),
-            ..self
+            told: Told::Born(entity),
         }
     }
 
-    /// With the facts that came and those that went, in order.
-    pub(crate) fn with_facts(self, came: Vec<FactKey, A>, went: Vec<FactKey, A>) -> Changes<A>
-        ensures { result ≡ record self { came = came.items; went = went.items } }
+    /// An entity was made that holds an id.
+    pub(crate) fn of_birth_with(entity: EntityId, id: Id) -> Changes<A>
+        ensures { result ≡ record (birth entity) { came = (entity.index, id) ∷ [] } }
     {
+        let EntityId { index, generation } = entity;
+        let fact = FactKey::new(index, id);
         Changes {
-            came: FactList::Many(came),
-            went: FactList::Many(went),
-            ..self
+            told: Told::BornWith { generation, fact },
         }
     }
 
-    /// With the entities that died, by ascending index.
-    pub(crate) fn with_died(self, died: Vec<Death<A>, A>) -> Changes<A>
-        ensures { result ≡ record self { died = died.items } }
+    /// One fact came.
+    pub(crate) fn of_came(key: FactKey) -> Changes<A>
+        ensures { result ≡ record no_change { came = key ∷ [] } }
     {
-        Changes { died, ..self }
+        Changes {
+            told: Told::Came(key),
+        }
+    }
+
+    /// One fact went.
+    pub(crate) fn of_went(key: FactKey) -> Changes<A>
+        ensures { result ≡ record no_change { went = key ∷ [] } }
+    {
+        Changes {
+            told: Told::Went(key),
+        }
+    }
+
+    /// The value of one fact was set.
+    pub(crate) fn of_written(key: FactKey) -> Changes<A>
+        ensures { result ≡ record no_change { written = key ∷ [] } }
+    {
+        Changes {
+            told: Told::Written(key),
+        }
+    }
+
+    /// One fact came, and its value was set.
+    pub(crate) fn of_came_written(key: FactKey) -> Changes<A>
+        ensures { result ≡ record no_change { came = key ∷ []; written = key ∷ [] } }
+    {
+        Changes {
+            told: Told::CameWritten(key),
+        }
+    }
+
+    pub(crate) fn of_lists(lists: ChangeLists<A>) -> Changes<A>
+        ensures { result ≡ changed_in lists }
+    {
+        Changes {
+            told: Told::Lists(lists),
+        }
     }
 }

@@ -16,6 +16,7 @@ ghost use Rattle.ecs_world.specs.Changes.{TellsRefusal, deaths_of, entities_at};
 ghost use Rattle.fact_rules.specs.Deletions.{is_lost};
 ghost use Rattle.table_store.specs.Going.{TablesGoOn};
 
+use crate::changes::ChangeLists;
 use crate::refusals::is_built_in;
 use crate::releases::release_dead;
 use crate::{Changes, Death, Memory, World};
@@ -47,12 +48,15 @@ impl<A: Allocator + Copy> World<A> {
         if self.list_deaths(&deletion.dead, &mut died).is_err() {
             return Err(CommandError::Memory);
         }
+        let Ok(lists) = ChangeLists::new(self.alloc) else {
+            return Err(CommandError::Memory);
+        };
         if self.bury(entity, &deletion).is_err() {
             return Err(CommandError::Memory);
         }
         self.accepted += 1;
-        let changes = Changes::none(self.alloc).with_facts(Vec::new(self.alloc), deletion.went);
-        Ok(changes.with_died(died))
+        let lists = lists.with_facts(Vec::new(self.alloc), deletion.went);
+        Ok(Changes::of_lists(lists.with_died(died)))
     }
 
     /// Finds all who are deleted with an entity and what goes with them, or why they can't be deleted. The world stays as it is.

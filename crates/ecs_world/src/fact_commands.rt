@@ -4,6 +4,7 @@ ghost use Rattle.ecs_model.specs.Command.{AnswersStep};
 ghost use Rattle.ecs_model.specs.traits.Command.{Add, Remove, SetValue, step};
 ghost use Rattle.table_store.specs.Going.{TablesGoOn};
 
+use crate::changes::ChangeLists;
 use crate::{Changes, World};
 use ecs_id::{EntityId, Id};
 use ecs_model::FactKey;
@@ -77,11 +78,14 @@ impl<A: Allocator + Copy> World<A> {
         if let Some(refusal) = judged {
             return Err(CommandError::Refused(refusal));
         }
+        let Ok(lists) = ChangeLists::new(self.alloc) else {
+            return Err(CommandError::Memory);
+        };
         if self.bring(entity, id, &additions).is_err() {
             return Err(CommandError::Memory);
         }
         self.accepted += 1;
-        Ok(Changes::none(self.alloc).with_facts(additions.came, additions.went))
+        Ok(Changes::of_lists(lists.with_facts(additions.came, additions.went)))
     }
 
     /// `set` with all that traits bring and take.
@@ -115,13 +119,17 @@ impl<A: Allocator + Copy> World<A> {
         if let Some(refusal) = judged {
             return Err(CommandError::Refused(refusal));
         }
+        let Ok(lists) = ChangeLists::new(self.alloc) else {
+            return Err(CommandError::Memory);
+        };
         if self.bring(entity, id, &additions).is_err() {
             return Err(CommandError::Memory);
         }
         self.write(entity, id, &buffer[..size]);
         self.accepted += 1;
-        let changes = Changes::none(self.alloc).with_facts(additions.came, additions.went);
-        Ok(changes.with_written(FactKey::new(entity.index, id)))
+        let lists = lists.with_facts(additions.came, additions.went);
+        let key = FactKey::new(entity.index, id);
+        Ok(Changes::of_lists(lists.with_written(key)))
     }
 
     /// `remove` with the mirror.
@@ -139,10 +147,13 @@ impl<A: Allocator + Copy> World<A> {
         if self.list_removals(entity, id, &mut went).is_err() {
             return Err(CommandError::Memory);
         }
+        let Ok(lists) = ChangeLists::new(self.alloc) else {
+            return Err(CommandError::Memory);
+        };
         if self.take(entity, id, &went).is_err() {
             return Err(CommandError::Memory);
         }
         self.accepted += 1;
-        Ok(Changes::none(self.alloc).with_facts(Vec::new(self.alloc), went))
+        Ok(Changes::of_lists(lists.with_facts(Vec::new(self.alloc), went)))
     }
 }

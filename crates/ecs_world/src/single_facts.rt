@@ -32,7 +32,7 @@ impl<A: Allocator + Copy> World<A> {
         }
         if found.is_held {
             self.accepted += 1;
-            return Ok(Changes::none(self.alloc));
+            return Ok(Changes::none());
         }
         let size = self.size_of(id);
         if self.archetypes.add(entity, found.place, id, size).is_err() {
@@ -40,7 +40,7 @@ impl<A: Allocator + Copy> World<A> {
         }
         self.accepted += 1;
         let key = FactKey::new(entity.index, id);
-        Ok(Changes::of_came(self.alloc, key))
+        Ok(Changes::of_came(key))
     }
 
     /// `set` of an id without traits.
@@ -69,9 +69,9 @@ impl<A: Allocator + Copy> World<A> {
         self.accepted += 1;
         let key = FactKey::new(entity.index, id);
         if found.is_held {
-            Ok(Changes::of_written(self.alloc, key, None))
+            Ok(Changes::of_written(key))
         } else {
-            Ok(Changes::of_written(self.alloc, key, Some(key)))
+            Ok(Changes::of_came_written(key))
         }
     }
 
@@ -93,13 +93,13 @@ impl<A: Allocator + Copy> World<A> {
         }
         if !found.is_held {
             self.accepted += 1;
-            return Ok(Changes::none(self.alloc));
+            return Ok(Changes::none());
         }
         if self.archetypes.remove(entity, found.place, id).is_err() {
             return Err(CommandError::Memory);
         }
         self.accepted += 1;
         let key = FactKey::new(entity.index, id);
-        Ok(Changes::of_went(self.alloc, key))
+        Ok(Changes::of_went(key))
     }
 }

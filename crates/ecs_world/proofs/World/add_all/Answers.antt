@@ -68,8 +68,8 @@ invariant_of-self g c =
     let seen = state_is c.list_additions.ensures.same in
     let none = add_otherwise c.args.self.now.state c.args.entity c.args.id live own ∙ ap (λ u. first_reason (add_reasons u c.args.entity.index c.args.id)) (sym seen) ∙ sym c.in-Ok.ensures.judged ∙ c.in_default-judged.is in
     let brought = on_ok c.bring.result c.bring.ensures.brought (sym c.is_err-2.ensures.value ∙ c.if-is_err-2.false) in
-    counted_world c.self-2.invariant c.args.self.now.state (Add c.args.entity c.args.id)
-    (state_is c.self-2.view_is ∙ brought ∙ ap (λ u. with_facts u (facts_after_add u c.args.entity.index c.args.id)) (state_is c.addition_refusal.ensures.same ∙ seen) ∙ sym (effect-add c.args.self.now.state c.args.entity c.args.id))
+    counted_world c.self-3.invariant c.args.self.now.state (Add c.args.entity c.args.id)
+    (state_is c.self-3.view_is ∙ brought ∙ ap (λ u. with_facts u (facts_after_add u c.args.entity.index c.args.id)) (state_is c.addition_refusal.ensures.same ∙ seen) ∙ sym (effect-add c.args.self.now.state c.args.entity c.args.id))
     (subst IsWellFormed (state_is c.self.view_is) c.self.invariant.sound) tt none
 
 pub returns-clause-answers : goal.returns-clause-answers
@@ -81,8 +81,8 @@ returns-clause-answers g c =
     let none = add_otherwise c.args.self.now.state c.args.entity c.args.id live own ∙ ap (λ u. first_reason (add_reasons u c.args.entity.index c.args.id)) (sym seen) ∙ sym c.in-Ok.ensures.judged ∙ c.in_default-judged.is in
     let brought = on_ok c.bring.result c.bring.ensures.brought (sym c.is_err-2.ensures.value ∙ c.if-is_err-2.false) in
     let sound = subst IsWellFormed (state_is c.self.view_is) c.self.invariant.sound in
-    addition_told c.args.self.now.state _ c.with_facts.result c.args.entity c.args.id c.list_additions.new.additions.added.items c.list_additions.new.additions.came.items c.list_additions.new.additions.went.items lists sound none
-    (counted_state c.self-2.invariant c.args.self.now.state (Add c.args.entity c.args.id)
-    (state_is c.self-2.view_is ∙ brought ∙ ap (λ u. with_facts u (facts_after_add u c.args.entity.index c.args.id)) (state_is c.addition_refusal.ensures.same ∙ seen) ∙ sym (effect-add c.args.self.now.state c.args.entity c.args.id))
+    addition_told c.args.self.now.state _ c.of_lists.result c.args.entity c.args.id c.list_additions.new.additions.added.items c.list_additions.new.additions.came.items c.list_additions.new.additions.went.items lists sound none
+    (counted_state c.self-3.invariant c.args.self.now.state (Add c.args.entity c.args.id)
+    (state_is c.self-3.view_is ∙ brought ∙ ap (λ u. with_facts u (facts_after_add u c.args.entity.index c.args.id)) (state_is c.addition_refusal.ensures.same ∙ seen) ∙ sym (effect-add c.args.self.now.state c.args.entity c.args.id))
     sound tt none)
-    (c.with_facts.ensures ∙ (λ k. record (c.none.ensures k) { came = c.list_additions.new.additions.came.items; went = c.list_additions.new.additions.went.items }))
+    (c.of_lists.ensures ∙ c.with_facts.ensures ∙ (λ k. record (c.in-Ok-new.ensures k) { came = c.list_additions.new.additions.came.items; went = c.list_additions.new.additions.went.items }))

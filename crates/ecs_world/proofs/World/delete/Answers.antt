@@ -69,7 +69,7 @@ returns-clause-answers g c =
     let left = state_is c.self-3.view_is ∙ on_ok c.bury.result c.bury.ensures.buried (sym c.is_err-2.ensures.value ∙ c.if-is_err-2.false) ∙ ap (λ u. without_entities u (deleted u c.args.entity.index)) seen ∙ sym (effect-delete c.args.self.now.state c.args.entity) in
     let dead = c.deref.ensures.value ∙ c.in_ok-find_deletion.ensures.dead in
     let died = on_ok c.list_deaths.result c.list_deaths.ensures (sym c.is_err.ensures.value ∙ c.if-is_err.false) ∙ (λ k. deaths_of (seen k) (dead k)) in
-    deletion_told c.args.self.now.state _ c.with_died.result c.args.entity sound alive none (counted_state c.self-3.invariant c.args.self.now.state (Delete c.args.entity) left sound tt none)
-    (c.with_died.ensures
-    ∙ (λ k. record (c.with_facts-changes.ensures k) { died = died k })
-    ∙ (λ k. record (c.none.ensures k) { died = deaths_of c.args.self.now.state (keys (deleted c.args.self.now.state c.args.entity.index)); came = c.new.ensures.items k; went = c.in_ok-find_deletion.ensures.went k }))
+    deletion_told c.args.self.now.state _ c.of_lists.result c.args.entity sound alive none (counted_state c.self-3.invariant c.args.self.now.state (Delete c.args.entity) left sound tt none)
+    (c.of_lists.ensures ∙ c.with_died.ensures
+    ∙ (λ k. record (c.with_facts-lists.ensures k) { died = died k })
+    ∙ (λ k. record (c.in-Ok.ensures k) { died = deaths_of c.args.self.now.state (keys (deleted c.args.self.now.state c.args.entity.index)); came = c.new-2.ensures.items k; went = c.in_ok-find_deletion.ensures.went k }))

@@ -121,10 +121,10 @@ returns-clause-answers g c =
     let inserted = on_ok c.insert.result c.insert.ensures.entries (sym c.is_err.ensures.value ∙ c.if-is_err.false) in
     let born = made_is (upcoming (holdings_of w.archetypes)) (λ f. HoldAlike (holdings_of c.create.new.self) (with_cells (with_entity (holdings_of w.archetypes) f) f.index ((plain component, []) ∷ []))) c.create.result c.unwrap-entity.result c.create.ensures.next (rw (c.tag.ensures, c.plain-component.ensures) at c.create.ensures.born) (sym c.is_err-2.ensures.value ∙ c.if-is_err-2.false) (sym c.upcoming.ensures ∙ c.unwrap-entity.ensures) in
     let sound : IsWellFormed c.args.self.now.state = subst IsWellFormed (state_is c.self.view_is) c.self.invariant.sound in
-    told_component c.args.self.now.state _ c.with_came.result c.args.name.now c.args.schema c.unwrap-entity.result sound next (none_component c.self.invariant (state_is c.self.view_is) c.args.name.now c.args.schema c.in_ok-bind.ensures.free c.requires)
+    told_component c.args.self.now.state _ c.of_birth_with.result c.args.name.now c.args.schema c.unwrap-entity.result sound next (none_component c.self.invariant (state_is c.self.view_is) c.args.name.now c.args.schema c.in_ok-bind.ensures.free c.requires)
     (component_left c.self.invariant (state_is c.self.view_is) c.unwrap-entity.result next c.args.name.now c.args.schema c.fields.ensures.sound (none_component c.self.invariant (state_is c.self.view_is) c.args.name.now c.args.schema c.in_ok-bind.ensures.free c.requires) c.in_ok-bind.ensures.free.1 c.bind.new.names c.in_ok-bind.ensures.bound c.insert.new.self.entries (inserted ∙ insert_put w.schemas.entries c.unwrap-entity.result.index c.args.schema)
     (holdings_of c.create.new.self) c.create.ensures.holdings born (rw (c.tag.ensures, c.plain-component.ensures) at c.create.ensures.sizes)).1
-    (c.with_came.ensures ∙ (λ k. record (c.of_birth.ensures k) { came = c.new-key.ensures k ∷ [] }) ∙ (λ k. record (birth c.unwrap-entity.result) { came = (c.unwrap-entity.result.index, c.plain-component.ensures k) ∷ [] }))
+    (c.of_birth_with.ensures ∙ (λ k. record (birth c.unwrap-entity.result) { came = (c.unwrap-entity.result.index, c.plain-component.ensures k) ∷ [] }))
 
 pub returns-clause-goes_on : goal.returns-clause-goes_on
 returns-clause-goes_on g c = going_on c.self.view_is c.create.ensures.goes_on

@@ -113,8 +113,8 @@ invariant_of-self g c =
     let none = set_value c.args.self.now.state c.args.entity c.args.id c.args.values.now live own (ap (λ u. first_reason (value_reasons (type_of_id u c.args.id) c.args.values.now)) (sym seen) ∙ c.in-Ok.ensures.judged) ∙ ap (λ u. first_reason (add_reasons u c.args.entity.index c.args.id)) (sym seen) ∙ sym c.in-Ok-addition_refusal.ensures.judged ∙ c.in_default-judged.is in
     let brought = on_ok c.bring.result c.bring.ensures.brought (sym c.is_err-2.ensures.value ∙ c.if-is_err-2.false) ∙ ap (λ u. with_facts u (facts_after_add u c.args.entity.index c.args.id)) (state_is c.addition_refusal.ensures.same ∙ seen) in
     let value = ap (λ u. value_in (type_of_id u c.args.id) (take c.in-Ok.size c.encode.new.buffer)) (sym seen) ∙ c.in-Ok.ensures.encoded.value in
-    let left = state_is c.self-2.view_is ∙ c.write.ensures.state ∙ set_state c.args.self.now.state c.args.entity c.args.id c.args.values.now sound none c.bring.new.self.state brought (take c.in-Ok.size c.encode.new.buffer) value in
-    counted_world c.self-2.invariant c.args.self.now.state (SetValue c.args.entity c.args.id c.args.values.now) left sound tt none
+    let left = state_is c.self-3.view_is ∙ c.write.ensures.state ∙ set_state c.args.self.now.state c.args.entity c.args.id c.args.values.now sound none c.bring.new.self.state brought (take c.in-Ok.size c.encode.new.buffer) value in
+    counted_world c.self-3.invariant c.args.self.now.state (SetValue c.args.entity c.args.id c.args.values.now) left sound tt none
 
 pub returns-clause-answers : goal.returns-clause-answers
 returns-clause-answers g c =
@@ -126,14 +126,14 @@ returns-clause-answers g c =
     let none = set_value c.args.self.now.state c.args.entity c.args.id c.args.values.now live own (ap (λ u. first_reason (value_reasons (type_of_id u c.args.id) c.args.values.now)) (sym seen) ∙ c.in-Ok.ensures.judged) ∙ ap (λ u. first_reason (add_reasons u c.args.entity.index c.args.id)) (sym seen) ∙ sym c.in-Ok-addition_refusal.ensures.judged ∙ c.in_default-judged.is in
     let brought = on_ok c.bring.result c.bring.ensures.brought (sym c.is_err-2.ensures.value ∙ c.if-is_err-2.false) ∙ ap (λ u. with_facts u (facts_after_add u c.args.entity.index c.args.id)) (state_is c.addition_refusal.ensures.same ∙ seen) in
     let value = ap (λ u. value_in (type_of_id u c.args.id) (take c.in-Ok.size c.encode.new.buffer)) (sym seen) ∙ c.in-Ok.ensures.encoded.value in
-    let left = state_is c.self-2.view_is ∙ c.write.ensures.state ∙ set_state c.args.self.now.state c.args.entity c.args.id c.args.values.now sound none c.bring.new.self.state brought (take c.in-Ok.size c.encode.new.buffer) value in
-    setting_told c.args.self.now.state _ c.with_written.result c.args.entity c.args.id c.list_additions.new.additions.added.items c.list_additions.new.additions.came.items c.list_additions.new.additions.went.items lists sound c.args.values.now none
-    (counted_state c.self-2.invariant c.args.self.now.state (SetValue c.args.entity c.args.id c.args.values.now) left sound tt none)
-    (c.with_written.ensures
-    ∙ (λ k. record (c.with_facts-changes.ensures k) { written = c.new.ensures k ∷ [] })
-    ∙ (λ k. record (c.none.ensures k) { came = c.list_additions.new.additions.came.items; went = c.list_additions.new.additions.went.items; written = (c.args.entity.index, c.args.id) ∷ [] }))
+    let left = state_is c.self-3.view_is ∙ c.write.ensures.state ∙ set_state c.args.self.now.state c.args.entity c.args.id c.args.values.now sound none c.bring.new.self.state brought (take c.in-Ok.size c.encode.new.buffer) value in
+    setting_told c.args.self.now.state _ c.of_lists.result c.args.entity c.args.id c.list_additions.new.additions.added.items c.list_additions.new.additions.came.items c.list_additions.new.additions.went.items lists sound c.args.values.now none
+    (counted_state c.self-3.invariant c.args.self.now.state (SetValue c.args.entity c.args.id c.args.values.now) left sound tt none)
+    (c.of_lists.ensures ∙ c.with_written.ensures
+    ∙ (λ k. record (c.with_facts-lists.ensures k) { written = c.new-key.ensures k ∷ [] })
+    ∙ (λ k. record (c.in-Ok-new.ensures k) { came = c.list_additions.new.additions.came.items; went = c.list_additions.new.additions.went.items; written = (c.args.entity.index, c.args.id) ∷ [] }))
 
 pub returns-clause-goes_on : goal.returns-clause-goes_on
 returns-clause-goes_on g c =
     going_on (c.addition_refusal.ensures.same ∙ c.list_additions.ensures.same)
-    (goes_on_then _ _ _ c.bring.ensures.goes_on (subst (λ u. TablesGoOn c.bring.new.self.tables u.tables) (sym c.self-2.view_is) c.write.ensures.goes_on))
+    (goes_on_then _ _ _ c.bring.ensures.goes_on (subst (λ u. TablesGoOn c.bring.new.self.tables u.tables) (sym c.self-3.view_is) c.write.ensures.goes_on))

@@ -138,8 +138,8 @@ returns-clause-answers g c =
     elim c.if-found.branch [
       | then-found f ↦ rw f.result-is (told_set w _ f.of_written.result e i (subst IsWellFormed is world.sound) vs simple none left
           (f.of_written.ensures ∙ (λ k. record no_change { written = c.new-key.ensures k ∷ [] }) ∙ ap changed (sym (sym same ∙ f.if-found.true))))
-      | else-found f ↦ rw f.result-is (told_set w _ f.of_written-else-found.result e i (subst IsWellFormed is world.sound) vs simple none left
-          (f.of_written-else-found.ensures ∙ (λ k. record no_change { came = c.new-key.ensures k ∷ []; written = c.new-key.ensures k ∷ [] }) ∙ ap changed (sym (sym same ∙ f.if-found.false))))
+      | else-found f ↦ rw f.result-is (told_set w _ f.of_came_written.result e i (subst IsWellFormed is world.sound) vs simple none left
+          (f.of_came_written.ensures ∙ (λ k. record no_change { came = c.new-key.ensures k ∷ []; written = c.new-key.ensures k ∷ [] }) ∙ ap changed (sym (sym same ∙ f.if-found.false))))
     ]
 
 pub returns-clause-goes_on : goal.returns-clause-goes_on
