@@ -15,6 +15,7 @@ mod values;
 
 use ecs_model::faults::CommandError;
 use ecs_schema::SchemaError;
+use ecs_world::World;
 use std::alloc::{AllocError, Global};
 use std::env;
 use std::hash::RandomState;
@@ -48,15 +49,27 @@ impl From<AllocError> for Fault {
     }
 }
 
-/// Carries out a workload, by its name.
-fn run(alloc: Global, random: RandomState, name: &str, count: u32) -> Result<(i128, u64), Fault> {
+/// Carries out a workload, by its name, on a new world.
+fn carry_out(
+    alloc: Global,
+    world: &mut World,
+    name: &str,
+    count: u32,
+) -> Result<(i128, u64), Fault> {
     match name {
-        "tree" => relations::tree(alloc, random, count),
-        "felled" => relations::felled(alloc, random, count),
-        "pairs" => relations::pairs(alloc, random, count),
-        "chain" => relations::chain(alloc, random, count),
-        _ => values::run(alloc, random, count),
+        "tree" => relations::tree(world, count),
+        "felled" => relations::felled(world, count),
+        "pairs" => relations::pairs(world, count),
+        "chain" => relations::chain(alloc, world, count),
+        _ => values::run(alloc, world, count),
     }
+}
+
+fn run(alloc: Global, random: RandomState, name: &str, count: u32) -> Result<(i128, u64), Fault> {
+    let mut world = World::new(alloc, random).or(Err(Fault::World))?;
+    let told = carry_out(alloc, &mut world, name, count);
+    drop(world);
+    told
 }
 
 fn main(rt: HostRuntime) -> std::io::Result<()> {

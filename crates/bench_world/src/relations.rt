@@ -1,13 +1,12 @@
 //! Workloads along relationships.
 
 use crate::Fault;
-use ecs_id::{EntityId, Id};
+use ecs_id::{EntityId, Id, LAST_INDEX};
 use ecs_model::FIRST_INDEX;
 use ecs_model::built_ins::{EXCLUSIVE, SYMMETRIC};
 use ecs_world::World;
 use rel_travel::{Graph, Scratch, would_cycle};
 use std::alloc::Global;
-use std::hash::RandomState;
 
 const CHILD_OF: u32 = 1;
 
@@ -45,17 +44,24 @@ fn entity(world: &World, number: u32) -> Result<EntityId, Fault> {
     world.at(index).ok_or(Fault::World)
 }
 
-/// A root, and as many entities below it.
-fn grown(alloc: Global, random: RandomState, count: u32) -> Result<World, Fault> {
-    let mut world = World::new(alloc, random).or(Err(Fault::World))?;
-    let mut numbers = Numbers::new();
-    fresh(&mut world)?;
-    for number in 0..count {
-        let parent = entity(&world, numbers.below(number.wrapping_add(1)))?;
-        let child = fresh(&mut world)?;
-        world.add(child, Id::pair(CHILD_OF, parent.index))?;
+/// The pair of two entities of a world, whose indexes are in range.
+fn pair(relationship: u32, target: u32) -> Result<Id, Fault> {
+    if relationship == 0 || relationship > LAST_INDEX || target == 0 || target > LAST_INDEX {
+        return Err(Fault::World);
     }
-    Ok(world)
+    Ok(Id::pair(relationship, target))
+}
+
+/// Makes a root, and as many entities below it.
+fn grow(world: &mut World, count: u32) -> Result<(), Fault> {
+    let mut numbers = Numbers::new();
+    fresh(world)?;
+    for number in 0..count {
+        let parent = entity(world, numbers.below(number.wrapping_add(1)))?;
+        let child = fresh(world)?;
+        world.add(child, pair(CHILD_OF, parent.index)?)?;
+    }
+    Ok(())
 }
 
 /// The sum of the numbers of the parents, and how many children there are.
@@ -73,39 +79,56 @@ fn parents(world: &World) -> (i128, u64) {
 }
 
 /// Tells of the parents in a tree.
-pub fn tree(alloc: Global, random: RandomState, count: u32) -> Result<(i128, u64), Fault> {
-    Ok(parents(&grown(alloc, random, count)?))
+pub fn tree(world: &mut World, count: u32) -> Result<(i128, u64), Fault> {
+    grow(world, count)?;
+    Ok(parents(world))
 }
 
 /// Deletes the root of a tree, and tells how many entities died and how many facts went.
-pub fn felled(alloc: Global, random: RandomState, count: u32) -> Result<(i128, u64), Fault> {
-    let mut world = grown(alloc, random, count)?;
-    let root = entity(&world, 0)?;
+pub fn felled(world: &mut World, count: u32) -> Result<(i128, u64), Fault> {
+    grow(world, count)?;
+    let root = entity(world, 0)?;
     let changes = world.delete(root)?;
     Ok((changes.died().len() as i128, changes.went().len() as u64))
 }
 
-/// Adds a pair, and every other time removes it again. Tells how many facts came and how many went.
-pub fn pairs(alloc: Global, random: RandomState, count: u32) -> Result<(i128, u64), Fault> {
-    let mut world = World::new(alloc, random).or(Err(Fault::World))?;
+/// Makes the people, and after them a relationship that is symmetric and exclusive.
+fn make_married(world: &mut World) -> Result<EntityId, Fault> {
     for _ in 0..PEOPLE {
-        fresh(&mut world)?;
+        fresh(world)?;
     }
-    let married = fresh(&mut world)?;
+    let married = fresh(world)?;
     world.add(married, Id::plain(EXCLUSIVE))?;
     world.add(married, Id::plain(SYMMETRIC))?;
+    Ok(married)
+}
+
+/// How many facts came with a pair, and how many went.
+fn add_pair(world: &mut World, one: EntityId, pair: Id) -> Result<(usize, usize), Fault> {
+    let changes = world.add(one, pair)?;
+    Ok((changes.came().len(), changes.went().len()))
+}
+
+/// How many facts went with a pair.
+fn remove_pair(world: &mut World, one: EntityId, pair: Id) -> Result<usize, Fault> {
+    let changes = world.remove(one, pair)?;
+    Ok(changes.went().len())
+}
+
+/// Adds a pair, and every other time removes it again. Tells how many facts came and how many went.
+pub fn pairs(world: &mut World, count: u32) -> Result<(i128, u64), Fault> {
+    let married = make_married(world)?;
     let mut numbers = Numbers::new();
     let (mut came, mut went) = (0i128, 0u64);
     for number in 0..count {
-        let one = entity(&world, numbers.below(PEOPLE))?;
-        let other = entity(&world, numbers.below(PEOPLE))?;
-        let pair = Id::pair(married.index, other.index);
-        let changes = world.add(one, pair)?;
-        came = came.wrapping_add(changes.came().len() as i128);
-        went = went.wrapping_add(changes.went().len() as u64);
+        let one = entity(world, numbers.below(PEOPLE))?;
+        let other = entity(world, numbers.below(PEOPLE))?;
+        let pair = pair(married.index, other.index)?;
+        let (more, fewer) = add_pair(world, one, pair)?;
+        came = came.wrapping_add(more as i128);
+        went = went.wrapping_add(fewer as u64);
         if number % 2 == 1 {
-            let changes = world.remove(one, pair)?;
-            went = went.wrapping_add(changes.went().len() as u64);
+            went = went.wrapping_add(remove_pair(world, one, pair)? as u64);
         }
     }
     Ok((came, went))
@@ -122,18 +145,25 @@ fn closes(world: &World, child: u32, parent: u32, scratch: &mut Scratch) -> Resu
     Ok(would_cycle(&links, CHILD_OF, child, parent, scratch))
 }
 
-/// A chain, whose last is asked each time. Tells of the parents.
-pub fn chain(alloc: Global, random: RandomState, count: u32) -> Result<(i128, u64), Fault> {
-    let mut world = World::new(alloc, random).or(Err(Fault::World))?;
-    let mut scratch = Scratch::new(alloc);
-    let mut parent = fresh(&mut world)?;
+/// Makes a chain, whose last is asked each time.
+fn grow_chain(world: &mut World, scratch: &mut Scratch, count: u32) -> Result<(), Fault> {
+    let mut parent = fresh(world)?;
     for _ in 0..count {
-        let child = fresh(&mut world)?;
-        if closes(&world, child.index, parent.index, &mut scratch)? {
+        let child = fresh(world)?;
+        if closes(world, child.index, parent.index, scratch)? {
             return Err(Fault::World);
         }
-        world.add(child, Id::pair(CHILD_OF, parent.index))?;
+        world.add(child, pair(CHILD_OF, parent.index)?)?;
         parent = child;
     }
-    Ok(parents(&world))
+    Ok(())
+}
+
+/// A chain. Tells of the parents.
+pub fn chain(alloc: Global, world: &mut World, count: u32) -> Result<(i128, u64), Fault> {
+    let mut scratch = Scratch::new(alloc);
+    let grown = grow_chain(world, &mut scratch, count);
+    drop(scratch);
+    grown?;
+    Ok(parents(world))
 }
