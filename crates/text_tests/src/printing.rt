@@ -1,30 +1,51 @@
 //! What is printed of a world, and what a query of plain names prints.
-use ecs_id::Id;
+use ecs_id::{EntityId, Id};
 use ecs_model::Span;
 use ecs_model::faults::{Fault, FaultKind, QueryFault};
 use ecs_print::{write_entity, write_fact, write_handle, write_id, write_index, write_number};
 use ecs_schema::{Kind, Schema};
 use ecs_world::World;
 use plain_query::ask;
+use std::alloc::Global;
 use std::hash::RandomState;
+use std::process::Abort;
 use std::test::Fail;
 
-#[test]
-fn entities_print_by_name_or_by_handle(rt: HostRuntime) -> Result<(), Fail> {
-    let mut world = World::new(rt.alloc(), RandomState::new(&rt)?)?;
-    let schema = Schema::new(rt.alloc(), &[("x", Kind::I32), ("y", Kind::U8)])?;
-    world.component("Position", schema)?;
-    let mut out = Vec::new(rt.alloc());
+/// Makes a component with these fields.
+fn define(
+    alloc: Global,
+    world: &mut World,
+    name: &str,
+    fields: &[(&str, Kind)],
+) -> Result<(), Fail> {
+    let schema = Schema::new(alloc, fields)?;
+    world.component(name, schema)?;
+    Ok(())
+}
+
+/// Writes an entity with a value, and its ids.
+fn write_born(world: &mut World, entity: EntityId, out: &mut Vec<u8>) -> Result<(), Fail> {
+    world.set(entity, Id::plain(64), &[-3, 200])?;
+    write_entity(world, entity, out)?;
+    write_fact(world, 65, Id::plain(64), out)?;
+    out.push(b' ')?;
+    write_id(world, Id::pair(65, 64), out)?;
+    write_handle(entity, out)?;
+    Ok(())
+}
+
+fn write_all(
+    rt: &impl Abort,
+    alloc: Global,
+    world: &mut World,
+    out: &mut Vec<u8>,
+) -> Result<(), Fail> {
+    define(alloc, world, "Position", &[("x", Kind::I32), ("y", Kind::U8)])?;
     if let Some(entity) = world.fresh()?.born() {
-        world.set(entity, Id::plain(64), &[-3, 200])?;
-        write_entity(&world, entity, &mut out)?;
-        write_fact(&world, 65, Id::plain(64), &mut out)?;
-        out.push(b' ')?;
-        write_id(&world, Id::pair(65, 64), &mut out)?;
-        write_handle(entity, &mut out)?;
+        write_born(world, entity, out)?;
     }
-    write_index(&world, 1, &mut out)?;
-    write_number(7, &mut out)?;
+    write_index(world, 1, out)?;
+    write_number(7, out)?;
     assert_eq!(rt;
         out.as_slice(),
         b"#65.0 [Position=-3,200] (#65.0,Position)#65.0ChildOf7".as_slice()
@@ -33,15 +54,25 @@ fn entities_print_by_name_or_by_handle(rt: HostRuntime) -> Result<(), Fail> {
 }
 
 #[test]
-fn a_query_prints_its_rows_or_its_first_fault(rt: HostRuntime) -> Result<(), Fail> {
+fn entities_print_by_name_or_by_handle(rt: HostRuntime) -> Result<(), Fail> {
     let mut world = World::new(rt.alloc(), RandomState::new(&rt)?)?;
-    let schema = Schema::new(rt.alloc(), &[("x", Kind::I32)])?;
-    world.component("Position", schema)?;
     let mut out = Vec::new(rt.alloc());
+    let done = write_all(&rt, rt.alloc(), &mut world, &mut out);
+    drop(world);
+    done
+}
+
+fn ask_of_sun(
+    rt: &impl Abort,
+    alloc: Global,
+    world: &mut World,
+    out: &mut Vec<u8>,
+) -> Result<(), Fail> {
+    define(alloc, world, "Position", &[("x", Kind::I32)])?;
     if let Some(sun) = world.entity("Sun")?.born() {
         world.set(sun, Id::plain(64), &[7])?;
     }
-    ask(rt.alloc(), &world, "Position, Position", &mut out)?;
+    ask(alloc, world, "Position, Position", out)?;
     assert_eq!(rt;
         out.as_slice(),
         b"row $this=Sun [Position@Sun=7] [Position@Sun=7]\nrows 1\n".as_slice()
@@ -50,25 +81,45 @@ fn a_query_prints_its_rows_or_its_first_fault(rt: HostRuntime) -> Result<(), Fai
         kind: FaultKind::UnknownName,
         span: Span { start: 10, end: 14 },
     };
-    let answer = ask(rt.alloc(), &world, "Position, Moon", &mut out);
+    let answer = ask(alloc, world, "Position, Moon", out);
     assert_eq!(rt; answer, Err(QueryFault::Fault(unknown)));
+    Ok(())
+}
+
+#[test]
+fn a_query_prints_its_rows_or_its_first_fault(rt: HostRuntime) -> Result<(), Fail> {
+    let mut world = World::new(rt.alloc(), RandomState::new(&rt)?)?;
+    let mut out = Vec::new(rt.alloc());
+    let done = ask_of_sun(&rt, rt.alloc(), &mut world, &mut out);
+    drop(world);
+    done
+}
+
+fn ask_of_disabled(
+    rt: &impl Abort,
+    alloc: Global,
+    world: &mut World,
+    out: &mut Vec<u8>,
+) -> Result<(), Fail> {
+    world.entity("Planet")?;
+    if let Some(moon) = world.entity("Moon")?.born() {
+        world.add(moon, Id::plain(64))?;
+        world.add(moon, Id::plain(5))?;
+    }
+    ask(alloc, world, "Planet", out)?;
+    ask(alloc, world, "Planet, Disabled", out)?;
+    assert_eq!(rt;
+        out.as_slice(),
+        b"rows 0\nrow $this=Moon [Planet@Moon] [Disabled@Moon]\nrows 1\n".as_slice()
+    );
     Ok(())
 }
 
 #[test]
 fn a_disabled_entity_is_passed_over_unless_the_tag_is_named(rt: HostRuntime) -> Result<(), Fail> {
     let mut world = World::new(rt.alloc(), RandomState::new(&rt)?)?;
-    world.entity("Planet")?;
     let mut out = Vec::new(rt.alloc());
-    if let Some(moon) = world.entity("Moon")?.born() {
-        world.add(moon, Id::plain(64))?;
-        world.add(moon, Id::plain(5))?;
-    }
-    ask(rt.alloc(), &world, "Planet", &mut out)?;
-    ask(rt.alloc(), &world, "Planet, Disabled", &mut out)?;
-    assert_eq!(rt;
-        out.as_slice(),
-        b"rows 0\nrow $this=Moon [Planet@Moon] [Disabled@Moon]\nrows 1\n".as_slice()
-    );
-    Ok(())
+    let done = ask_of_disabled(&rt, rt.alloc(), &mut world, &mut out);
+    drop(world);
+    done
 }

@@ -2,7 +2,8 @@ use ecs_id::{EntityId, Id};
 use ecs_model::Value;
 use ecs_model::faults::{CommandError, Refusal};
 use ecs_schema::{Kind, Schema};
-use ecs_world::{FactKey, World};
+use ecs_world::{Death, FactKey, World};
+use std::alloc::Global;
 use std::hash::RandomState;
 use std::process::Abort;
 use std::test::Fail;
@@ -47,22 +48,31 @@ fn move_sun(rt: &impl Abort, world: &mut World, position: Id, tag: Id) -> Result
     Ok(())
 }
 
-#[test]
-fn each_call_has_memory_and_each_reader_answers(rt: HostRuntime) -> Result<(), Fail> {
-    let mut world = World::new(rt.alloc(), RandomState::new(&rt)?)?;
-    let fields = Schema::new(rt.alloc(), &[("x", Kind::I32), ("y", Kind::U8)])?;
-    assert!(rt; world.entity("Sun")?.born() == Some(SUN));
-    let position = Id::plain(65);
+fn make_others(rt: &impl Abort, alloc: Global, world: &mut World) -> Result<(), Fail> {
+    let fields = Schema::new(alloc, &[("x", Kind::I32), ("y", Kind::U8)])?;
     assert!(rt; world.component("Position", fields)?.born() == world.at(65));
     assert!(rt; world.fresh()?.born() == world.at(66));
-    move_sun(&rt, &mut world, position, Id::plain(66))?;
-    expect_sun(&rt, &world, position);
+    Ok(())
+}
+
+fn run_each_call(rt: &impl Abort, alloc: Global, world: &mut World) -> Result<(), Fail> {
+    assert!(rt; world.entity("Sun")?.born() == Some(SUN));
+    make_others(rt, alloc, world)?;
+    let position = Id::plain(65);
+    move_sun(rt, world, position, Id::plain(66))?;
+    expect_sun(rt, world, position);
     Ok(())
 }
 
 #[test]
-fn a_new_target_takes_the_place_of_the_old(rt: HostRuntime) -> Result<(), Fail> {
+fn each_call_has_memory_and_each_reader_answers(rt: HostRuntime) -> Result<(), Fail> {
     let mut world = World::new(rt.alloc(), RandomState::new(&rt)?)?;
+    let done = run_each_call(&rt, rt.alloc(), &mut world);
+    drop(world);
+    done
+}
+
+fn replace_target(rt: &impl Abort, world: &mut World) -> Result<(), CommandError> {
     for name in ["Sun", "Earth", "Moon"] {
         world.entity(name)?;
     }
@@ -76,8 +86,25 @@ fn a_new_target_takes_the_place_of_the_old(rt: HostRuntime) -> Result<(), Fail> 
 }
 
 #[test]
-fn a_deletion_tells_who_died(rt: HostRuntime) -> Result<(), Fail> {
+fn a_new_target_takes_the_place_of_the_old(rt: HostRuntime) -> Result<(), Fail> {
     let mut world = World::new(rt.alloc(), RandomState::new(&rt)?)?;
+    let done = replace_target(&rt, &mut world);
+    drop(world);
+    Ok(done?)
+}
+
+/// The sun dies, and then its child.
+fn expect_deaths(rt: &impl Abort, died: &[Death]) {
+    match died {
+        [sun, moon] => {
+            assert!(rt; sun.entity() == SUN && sun.name() == Some("Sun"));
+            assert!(rt; moon.entity().index == 65 && moon.name().is_none());
+        }
+        _ => assert!(rt; false),
+    }
+}
+
+fn delete_sun(rt: &impl Abort, world: &mut World) -> Result<(), CommandError> {
     world.entity("Sun")?;
     world.fresh()?;
     if let Some(moon) = world.at(65) {
@@ -85,20 +112,20 @@ fn a_deletion_tells_who_died(rt: HostRuntime) -> Result<(), Fail> {
     }
     let gone = world.delete(SUN)?;
     assert!(rt; gone.went().len() == 1 && gone.came().is_empty() && gone.written().is_empty());
-    match gone.died() {
-        [sun, moon] => {
-            assert!(rt; sun.entity() == SUN && sun.name() == Some("Sun"));
-            assert!(rt; moon.entity().index == 65 && moon.name().is_none());
-        }
-        _ => assert!(rt; false),
-    }
+    expect_deaths(rt, gone.died());
     assert!(rt; !world.is_alive(SUN) && world.find("Sun").is_none() && world.at(65).is_none());
     Ok(())
 }
 
 #[test]
-fn stored_queries_are_counted(rt: HostRuntime) -> Result<(), Fail> {
+fn a_deletion_tells_who_died(rt: HostRuntime) -> Result<(), Fail> {
     let mut world = World::new(rt.alloc(), RandomState::new(&rt)?)?;
+    let done = delete_sun(&rt, &mut world);
+    drop(world);
+    Ok(done?)
+}
+
+fn pin_sun(rt: &impl Abort, world: &mut World) -> Result<(), CommandError> {
     assert!(rt; world.pin(SUN) == Err(CommandError::Refused(Refusal::Dead)));
     world.entity("Sun")?;
     world.pin(SUN)?;
@@ -112,11 +139,25 @@ fn stored_queries_are_counted(rt: HostRuntime) -> Result<(), Fail> {
 }
 
 #[test]
-fn a_taken_name_is_refused(rt: HostRuntime) -> Result<(), Fail> {
+fn stored_queries_are_counted(rt: HostRuntime) -> Result<(), Fail> {
     let mut world = World::new(rt.alloc(), RandomState::new(&rt)?)?;
-    let fields = Schema::new(rt.alloc(), &[("x", Kind::I32), ("y", Kind::U8)])?;
+    let done = pin_sun(&rt, &mut world);
+    drop(world);
+    Ok(done?)
+}
+
+fn take_name_twice(rt: &impl Abort, alloc: Global, world: &mut World) -> Result<(), Fail> {
     world.entity("Sun")?;
+    let fields = Schema::new(alloc, &[("x", Kind::I32), ("y", Kind::U8)])?;
     let taken = world.component("Sun", fields).map(|changes| changes.born());
     assert!(rt; taken == Err(CommandError::Refused(Refusal::NameTaken)));
     Ok(())
+}
+
+#[test]
+fn a_taken_name_is_refused(rt: HostRuntime) -> Result<(), Fail> {
+    let mut world = World::new(rt.alloc(), RandomState::new(&rt)?)?;
+    let done = take_name_twice(&rt, rt.alloc(), &mut world);
+    drop(world);
+    done
 }

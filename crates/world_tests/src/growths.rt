@@ -3,7 +3,7 @@ use ecs_model::FactKey;
 use ecs_model::built_ins::{EXCLUSIVE, SYMMETRIC, WITH};
 use ecs_model::faults::CommandError;
 use ecs_schema::{Kind, Schema, SchemaError};
-use ecs_world::World;
+use ecs_world::{Changes, World};
 use refusing_alloc::Refusing;
 use std::alloc::{Allocator, Global};
 use std::hash::RandomState;
@@ -95,25 +95,35 @@ fn fill<A: Allocator + Copy>(
     Ok(())
 }
 
+/// Carries out a call on facts.
+fn change<A: Allocator + Copy>(
+    world: &mut World<A>,
+    call: Call,
+) -> Result<Changes<A>, CommandError> {
+    let ship = first_at(SHIP);
+    match call {
+        Call::Add => world.add(ship, Id::pair(TAG, TAG)),
+        Call::Set => world.set(ship, Id::pair(TAG, POSITION), &[8]),
+        Call::Remove => world.remove(ship, Id::plain(POSITION)),
+        Call::Marry => world.add(first_at(ANN), Id::pair(MARRIED, CY)),
+        Call::Harden => world.add(first_at(CY), Id::plain(SOLID)),
+        Call::Hold => world.set(ship, Id::pair(HOLDS, POSITION), &[8]),
+        Call::Part => world.remove(first_at(BOB), Id::pair(MARRIED, ANN)),
+        _ => world.delete(first_at(ANN)),
+    }
+}
+
 fn carry_out<A: Allocator + Copy>(
     world: &mut World<A>,
     call: Call,
     mass: Schema<A>,
 ) -> Result<(), CommandError> {
-    let ship = first_at(SHIP);
     match call {
         Call::Fresh => world.fresh()?,
         Call::Entity => world.entity("Moon")?,
         Call::Component => world.component("Mass", mass)?,
-        Call::Add => world.add(ship, Id::pair(TAG, TAG))?,
-        Call::Set => world.set(ship, Id::pair(TAG, POSITION), &[8])?,
-        Call::Remove => world.remove(ship, Id::plain(POSITION))?,
-        Call::Pin => return world.pin(ship),
-        Call::Marry => world.add(first_at(ANN), Id::pair(MARRIED, CY))?,
-        Call::Harden => world.add(first_at(CY), Id::plain(SOLID))?,
-        Call::Hold => world.set(ship, Id::pair(HOLDS, POSITION), &[8])?,
-        Call::Part => world.remove(first_at(BOB), Id::pair(MARRIED, ANN))?,
-        Call::Delete => world.delete(first_at(ANN))?,
+        Call::Pin => return world.pin(first_at(SHIP)),
+        _ => change(world, call)?,
     };
     Ok(())
 }
@@ -149,20 +159,38 @@ fn are_same<A: Allocator, B: Allocator>(one: &World<A>, other: &World<B>) -> boo
     true
 }
 
-/// The world in which a call is carried out. In a new one the next index needs room.
-fn world_for<A: Allocator + Copy>(
-    alloc: A,
-    random: RandomState,
-    call: Call,
-) -> Result<World<A>, Fail> {
-    let mut world = World::new(alloc, random)?;
+/// Makes a new world the one in which a call is carried out. Of a new one the next index needs room.
+fn prepare<A: Allocator + Copy>(world: &mut World<A>, alloc: A, call: Call) -> Result<(), Fail> {
     if !matches!(call, Call::Fresh) {
-        fill(&mut world, fields(alloc)?)?;
+        fill(world, fields(alloc)?)?;
     }
-    Ok(world)
+    Ok(())
 }
 
 /// Gives out so many blocks and no more, and tells whether the call was refused. If so, all is as before, and the next try is accepted.
+fn is_refused_in<'a>(
+    rt: &impl Abort,
+    heap: &'a Refusing<Global>,
+    world: &mut World<&'a Refusing<Global>>,
+    call: Call,
+    allowed: u64,
+    before: &World,
+) -> Result<bool, Fail> {
+    prepare(world, heap, call)?;
+    let (first, second) = (fields(heap)?, fields(heap)?);
+    heap.refuse_after(allowed);
+    let done = carry_out(world, call, first);
+    heap.refuse_none();
+    if done.is_ok() {
+        return Ok(false);
+    }
+    assert!(rt; matches!(done, Err(CommandError::Memory)));
+    assert!(rt; are_same(before, world));
+    assert!(rt; carry_out(world, call, second).is_ok());
+    assert!(rt; !are_same(before, world));
+    Ok(true)
+}
+
 fn is_refused(
     rt: &impl Abort,
     heap: &Refusing<Global>,
@@ -171,29 +199,22 @@ fn is_refused(
     allowed: u64,
     before: &World,
 ) -> Result<bool, Fail> {
-    let mut world = world_for(heap, random, call)?;
-    let (first, second) = (fields(heap)?, fields(heap)?);
-    heap.refuse_after(allowed);
-    let done = carry_out(&mut world, call, first);
-    heap.refuse_none();
-    if done.is_ok() {
-        return Ok(false);
-    }
-    assert!(rt; matches!(done, Err(CommandError::Memory)));
-    assert!(rt; are_same(before, &world));
-    assert!(rt; carry_out(&mut world, call, second).is_ok());
-    assert!(rt; !are_same(before, &world));
-    Ok(true)
+    let mut world = World::new(heap, random)?;
+    let refused = is_refused_in(rt, heap, &mut world, call, allowed, before);
+    drop(world);
+    refused
 }
 
 /// Refuses each growth of a call in turn. There is at least one.
-fn refuse_each(
+fn refuse_growths(
     rt: &impl Abort,
+    alloc: Global,
     heap: &Refusing<Global>,
     random: RandomState,
     call: Call,
-    before: &World,
+    before: &mut World,
 ) -> Result<(), Fail> {
+    prepare(before, alloc, call)?;
     let mut refusals = 0;
     for allowed in 0..64u64 {
         if !is_refused(rt, heap, random, call, allowed, before)? {
@@ -203,6 +224,19 @@ fn refuse_each(
     }
     assert!(rt; 0 < refusals && refusals < 64);
     Ok(())
+}
+
+fn refuse_each(
+    rt: &impl Abort,
+    alloc: Global,
+    heap: &Refusing<Global>,
+    random: RandomState,
+    call: Call,
+) -> Result<(), Fail> {
+    let mut before = World::new(alloc, random)?;
+    let done = refuse_growths(rt, alloc, heap, random, call, &mut before);
+    drop(before);
+    done
 }
 
 #[test]
@@ -223,10 +257,20 @@ fn a_refused_call_changes_nothing(rt: HostRuntime) -> Result<(), Fail> {
         Call::Part,
         Call::Delete,
     ] {
-        let before = world_for(rt.alloc(), random, call)?;
-        refuse_each(&rt, &heap, random, call, &before)?;
+        refuse_each(&rt, rt.alloc(), &heap, random, call)?;
     }
     Ok(())
+}
+
+/// Whether there is memory for a world.
+fn is_made(heap: &Refusing<Global>, random: RandomState) -> bool {
+    match World::new(heap, random) {
+        Ok(world) => {
+            drop(world);
+            true
+        }
+        Err(_) => false,
+    }
 }
 
 #[test]
@@ -236,7 +280,7 @@ fn a_refused_world_is_none(rt: HostRuntime) -> Result<(), Fail> {
     let mut refusals = 0;
     for allowed in 0..2000u64 {
         heap.refuse_after(allowed);
-        let made = World::new(&heap, random).is_ok();
+        let made = is_made(&heap, random);
         heap.refuse_none();
         if made {
             break;
@@ -244,6 +288,6 @@ fn a_refused_world_is_none(rt: HostRuntime) -> Result<(), Fail> {
         refusals = allowed + 1;
     }
     assert!(rt; 0 < refusals && refusals < 2000);
-    assert!(rt; World::new(&heap, random).is_ok());
+    assert!(rt; is_made(&heap, random));
     Ok(())
 }

@@ -1,13 +1,13 @@
 use crate::searches::{first_above, first_five, leads};
 use component_index::{Part, Pattern};
-use ecs_id::{EntityId, Id};
+use ecs_id::{EntityId, Id, Place};
 use ecs_model::Value;
 use ecs_model::built_ins::{EXCLUSIVE, PAIR_IS_TAG, SYMMETRIC, WITH};
 use ecs_model::faults::{CommandError, Refusal};
 use ecs_schema::{Kind, Schema};
-use ecs_world::{Death, FactKey, World};
+use ecs_world::{Changes, Death, FactKey, World};
 use rel_travel::{Graph, Scratch};
-use std::alloc::Global;
+use std::alloc::{AllocError, Global};
 use std::hash::RandomState;
 use std::process::Abort;
 use std::test::Fail;
@@ -29,6 +29,9 @@ const PROBE: u32 = 68;
 
 const NEAR: u32 = 69;
 
+/// The names in the sky.
+const SKY: [&str; 5] = ["Sun", "Earth", "Moon", "Probe", "Near"];
+
 /// The entity that first stands at an index.
 fn first_at(index: u32) -> EntityId {
     EntityId {
@@ -37,14 +40,14 @@ fn first_at(index: u32) -> EntityId {
     }
 }
 
-/// A world with a component of one field, and entities of these names from 65 on.
-fn world_of(alloc: Global, random: RandomState, names: &[&str]) -> Result<World, Fail> {
-    let mut world = World::new(alloc, random)?;
-    world.component("Position", Schema::new(alloc, &[("x", Kind::I32)])?)?;
+/// Gives a new world a component of one field, and entities of these names from 65 on.
+fn name_all(alloc: Global, world: &mut World, names: &[&str]) -> Result<(), Fail> {
+    let fields = Schema::new(alloc, &[("x", Kind::I32)])?;
+    world.component("Position", fields)?;
     for name in names {
         world.entity(name)?;
     }
-    Ok(world)
+    Ok(())
 }
 
 /// Adds each fact.
@@ -55,60 +58,97 @@ fn add_all(world: &mut World, facts: &[FactKey]) -> Result<(), CommandError> {
     Ok(())
 }
 
+/// Whether these facts came, and these went.
+fn changed(changes: &Changes, came: &[FactKey], went: &[FactKey]) -> bool {
+    changes.came() == came && changes.went() == went
+}
+
 /// Room for the searches of a world.
-fn room_for(alloc: Global, world: &World) -> Result<Scratch, Fail> {
-    let mut scratch = Scratch::new(alloc);
-    scratch.reserve(world.links().size())?;
-    Ok(scratch)
+fn make_room(world: &World, scratch: &mut Scratch) -> Result<(), AllocError> {
+    scratch.reserve(world.links().size())
 }
 
 /// The Earth is a child of the Sun, and the Moon one of the Earth; the first two have a Position. A probe is near the Moon.
-fn sky(alloc: Global, random: RandomState) -> Result<World, Fail> {
-    let mut world = world_of(alloc, random, &["Sun", "Earth", "Moon", "Probe", "Near"])?;
-    let facts = [
+fn sky() -> [FactKey; 5] {
+    [
         FactKey::new(SUN, Id::plain(POSITION)),
         FactKey::new(EARTH, Id::plain(POSITION)),
         FactKey::new(EARTH, Id::pair(CHILD_OF, SUN)),
         FactKey::new(MOON, Id::pair(CHILD_OF, EARTH)),
         FactKey::new(PROBE, Id::pair(NEAR, MOON)),
-    ];
-    add_all(&mut world, &facts)?;
-    Ok(world)
+    ]
 }
 
-#[test]
-fn ancestors_are_found(rt: HostRuntime) -> Result<(), Fail> {
-    let world = sky(rt.alloc(), RandomState::new(&rt)?)?;
-    let mut scratch = room_for(rt.alloc(), &world)?;
+fn search_sky(rt: &impl Abort, world: &World, scratch: &mut Scratch) {
     let position = Pattern {
         first: Part::Is(POSITION),
         second: None,
     };
-    assert!(rt; first_above(&world, MOON, CHILD_OF, position, &mut scratch) == Some(EARTH));
-    assert!(rt; first_above(&world, EARTH, CHILD_OF, position, &mut scratch) == Some(SUN));
-    assert!(rt; first_above(&world, SUN, CHILD_OF, position, &mut scratch).is_none());
-    let children = first_five(&world, SUN, CHILD_OF, false, &mut scratch);
+    assert!(rt; first_above(world, MOON, CHILD_OF, position, scratch) == Some(EARTH));
+    assert!(rt; first_above(world, EARTH, CHILD_OF, position, scratch) == Some(SUN));
+    assert!(rt; first_above(world, SUN, CHILD_OF, position, scratch).is_none());
+    let children = first_five(world, SUN, CHILD_OF, false, scratch);
     assert!(rt; children == [None, None, None, None, Some(EARTH)]);
+}
+
+fn find_ancestors(
+    rt: &impl Abort,
+    alloc: Global,
+    world: &mut World,
+    scratch: &mut Scratch,
+) -> Result<(), Fail> {
+    name_all(alloc, world, &SKY)?;
+    add_all(world, &sky())?;
+    make_room(world, scratch)?;
+    search_sky(rt, world, scratch);
     Ok(())
 }
 
 #[test]
-fn bases_are_given_once(rt: HostRuntime) -> Result<(), Fail> {
-    let mut world = world_of(rt.alloc(), RandomState::new(&rt)?, &["A", "B", "C", "D"])?;
+fn ancestors_are_found(rt: HostRuntime) -> Result<(), Fail> {
+    let mut world = World::new(rt.alloc(), RandomState::new(&rt)?)?;
+    let mut scratch = Scratch::new(rt.alloc());
+    let done = find_ancestors(&rt, rt.alloc(), &mut world, &mut scratch);
+    drop(scratch);
+    drop(world);
+    done
+}
+
+fn search_bases(rt: &impl Abort, world: &World, scratch: &mut Scratch) {
+    let all = [None, Some(65), Some(66), Some(67), Some(68)];
+    assert!(rt; first_five(world, 68, IS_A, true, scratch) == all);
+    assert!(rt; first_five(world, 65, IS_A, false, scratch) == all);
+    assert!(rt; leads(world, IS_A, 68, 65, scratch));
+    assert!(rt; !leads(world, IS_A, 65, 68, scratch));
+}
+
+fn find_bases(
+    rt: &impl Abort,
+    alloc: Global,
+    world: &mut World,
+    scratch: &mut Scratch,
+) -> Result<(), Fail> {
+    name_all(alloc, world, &["A", "B", "C", "D"])?;
     let facts = [
         FactKey::new(66, Id::pair(IS_A, 65)),
         FactKey::new(67, Id::pair(IS_A, 65)),
         FactKey::new(68, Id::pair(IS_A, 66)),
         FactKey::new(68, Id::pair(IS_A, 67)),
     ];
-    add_all(&mut world, &facts)?;
-    let mut scratch = room_for(rt.alloc(), &world)?;
-    let all = [None, Some(65), Some(66), Some(67), Some(68)];
-    assert!(rt; first_five(&world, 68, IS_A, true, &mut scratch) == all);
-    assert!(rt; first_five(&world, 65, IS_A, false, &mut scratch) == all);
-    assert!(rt; leads(&world, IS_A, 68, 65, &mut scratch));
-    assert!(rt; !leads(&world, IS_A, 65, 68, &mut scratch));
+    add_all(world, &facts)?;
+    make_room(world, scratch)?;
+    search_bases(rt, world, scratch);
     Ok(())
+}
+
+#[test]
+fn bases_are_given_once(rt: HostRuntime) -> Result<(), Fail> {
+    let mut world = World::new(rt.alloc(), RandomState::new(&rt)?)?;
+    let mut scratch = Scratch::new(rt.alloc());
+    let done = find_bases(&rt, rt.alloc(), &mut world, &mut scratch);
+    drop(scratch);
+    drop(world);
+    done
 }
 
 /// Whether these died, one after another from the index of the Sun on.
@@ -123,19 +163,18 @@ fn died_as(died: &[Death], names: &[&str]) -> bool {
     died.len() == names.len()
 }
 
-#[test]
-fn children_fall_with_their_parent(rt: HostRuntime) -> Result<(), Fail> {
-    let mut world = sky(rt.alloc(), RandomState::new(&rt)?)?;
+/// Deletes the Sun, and all but the probe fall.
+fn delete_sun(rt: &impl Abort, world: &mut World) -> Result<(), CommandError> {
     let changes = world.delete(first_at(SUN))?;
     assert!(rt; died_as(changes.died(), &["Sun", "Earth", "Moon"]));
-    let went = [
-        FactKey::new(SUN, Id::plain(POSITION)),
-        FactKey::new(EARTH, Id::plain(POSITION)),
-        FactKey::new(EARTH, Id::pair(CHILD_OF, SUN)),
-        FactKey::new(MOON, Id::pair(CHILD_OF, EARTH)),
-        FactKey::new(PROBE, Id::pair(NEAR, MOON)),
-    ];
-    assert!(rt; changes.went() == went.as_slice() && changes.came().is_empty());
+    assert!(rt; changed(&changes, &[], &sky()));
+    Ok(())
+}
+
+fn delete_parent(rt: &impl Abort, alloc: Global, world: &mut World) -> Result<(), Fail> {
+    name_all(alloc, world, &SKY)?;
+    add_all(world, &sky())?;
+    delete_sun(rt, world)?;
     let left = world.ids_of(first_at(PROBE));
     assert!(rt; left.is_some_and(|ids| ids.is_empty()));
     assert!(rt; world.find("Earth").is_none() && world.name_of(SUN).is_none());
@@ -148,8 +187,15 @@ fn children_fall_with_their_parent(rt: HostRuntime) -> Result<(), Fail> {
 }
 
 #[test]
-fn what_is_asked_for_stays(rt: HostRuntime) -> Result<(), Fail> {
-    let mut world = world_of(rt.alloc(), RandomState::new(&rt)?, &["Planet"])?;
+fn children_fall_with_their_parent(rt: HostRuntime) -> Result<(), Fail> {
+    let mut world = World::new(rt.alloc(), RandomState::new(&rt)?)?;
+    let done = delete_parent(&rt, rt.alloc(), &mut world);
+    drop(world);
+    done
+}
+
+fn delete_pinned(rt: &impl Abort, alloc: Global, world: &mut World) -> Result<(), Fail> {
+    name_all(alloc, world, &["Planet"])?;
     let planet = first_at(65);
     world.pin(planet)?;
     let kept = world.delete(planet).map(|changes| changes.born());
@@ -161,13 +207,31 @@ fn what_is_asked_for_stays(rt: HostRuntime) -> Result<(), Fail> {
 }
 
 #[test]
-fn pairs_lose_their_data(rt: HostRuntime) -> Result<(), Fail> {
-    let mut world = world_of(rt.alloc(), RandomState::new(&rt)?, &["Holds", "Box"])?;
+fn what_is_asked_for_stays(rt: HostRuntime) -> Result<(), Fail> {
+    let mut world = World::new(rt.alloc(), RandomState::new(&rt)?)?;
+    let done = delete_pinned(&rt, rt.alloc(), &mut world);
+    drop(world);
+    done
+}
+
+/// Sets a pair's value and takes the pair away again, and tells where the entity stood in between.
+fn place_with(
+    rt: &impl Abort,
+    world: &mut World,
+    entity: EntityId,
+    pair: Id,
+) -> Result<Place, CommandError> {
+    world.set(entity, pair, &[5])?;
+    let place = world.graph().index().place(entity).expect(rt, "a place");
+    world.remove(entity, pair)?;
+    Ok(place)
+}
+
+fn take_data(rt: &impl Abort, alloc: Global, world: &mut World) -> Result<(), Fail> {
+    name_all(alloc, world, &["Holds", "Box"])?;
     let (holds, a_box) = (first_at(65), first_at(66));
     let pair = Id::pair(65, POSITION);
-    world.set(a_box, pair, &[5])?;
-    let place = world.graph().index().place(a_box).expect(&rt, "a place");
-    world.remove(a_box, pair)?;
+    let place = place_with(rt, world, a_box, pair)?;
     assert!(rt; world.graph().store().get(place.table).is_some());
     world.add(holds, Id::plain(PAIR_IS_TAG))?;
     assert!(rt; world.graph().store().get(place.table).is_none());
@@ -177,15 +241,14 @@ fn pairs_lose_their_data(rt: HostRuntime) -> Result<(), Fail> {
 }
 
 #[test]
-fn a_marriage_replaces_another(rt: HostRuntime) -> Result<(), Fail> {
-    let names = ["Married", "Ann", "Bob", "Cy"];
-    let mut world = world_of(rt.alloc(), RandomState::new(&rt)?, &names)?;
-    let facts = [
-        FactKey::new(65, Id::plain(EXCLUSIVE)),
-        FactKey::new(65, Id::plain(SYMMETRIC)),
-        FactKey::new(66, Id::pair(65, 67)),
-    ];
-    add_all(&mut world, &facts)?;
+fn pairs_lose_their_data(rt: HostRuntime) -> Result<(), Fail> {
+    let mut world = World::new(rt.alloc(), RandomState::new(&rt)?)?;
+    let done = take_data(&rt, rt.alloc(), &mut world);
+    drop(world);
+    done
+}
+
+fn marry_another(rt: &impl Abort, world: &mut World) -> Result<(), CommandError> {
     let changes = world.add(first_at(68), Id::pair(65, 66))?;
     let came = [
         FactKey::new(66, Id::pair(65, 68)),
@@ -195,27 +258,53 @@ fn a_marriage_replaces_another(rt: HostRuntime) -> Result<(), Fail> {
         FactKey::new(66, Id::pair(65, 67)),
         FactKey::new(67, Id::pair(65, 66)),
     ];
-    assert!(rt; changes.came() == came.as_slice() && changes.went() == went.as_slice());
+    assert!(rt; changed(&changes, &came, &went));
     assert!(rt; world.remove(first_at(66), Id::pair(65, 68))?.went() == came.as_slice());
     Ok(())
 }
 
+fn marry_twice(rt: &impl Abort, alloc: Global, world: &mut World) -> Result<(), Fail> {
+    name_all(alloc, world, &["Married", "Ann", "Bob", "Cy"])?;
+    let facts = [
+        FactKey::new(65, Id::plain(EXCLUSIVE)),
+        FactKey::new(65, Id::plain(SYMMETRIC)),
+        FactKey::new(66, Id::pair(65, 67)),
+    ];
+    add_all(world, &facts)?;
+    marry_another(rt, world)?;
+    Ok(())
+}
+
 #[test]
-fn a_component_brings_others(rt: HostRuntime) -> Result<(), Fail> {
-    let names = ["Ship", "Solid", "Visible"];
-    let mut world = world_of(rt.alloc(), RandomState::new(&rt)?, &names)?;
+fn a_marriage_replaces_another(rt: HostRuntime) -> Result<(), Fail> {
+    let mut world = World::new(rt.alloc(), RandomState::new(&rt)?)?;
+    let done = marry_twice(&rt, rt.alloc(), &mut world);
+    drop(world);
+    done
+}
+
+fn bring_others(rt: &impl Abort, alloc: Global, world: &mut World) -> Result<(), Fail> {
+    name_all(alloc, world, &["Ship", "Solid", "Visible"])?;
     let facts = [
         FactKey::new(66, Id::pair(WITH, POSITION)),
         FactKey::new(66, Id::pair(WITH, 67)),
     ];
-    add_all(&mut world, &facts)?;
+    add_all(world, &facts)?;
     let changes = world.add(first_at(65), Id::plain(66))?;
     let came = [
         FactKey::new(65, Id::plain(POSITION)),
         FactKey::new(65, Id::plain(66)),
         FactKey::new(65, Id::plain(67)),
     ];
-    assert!(rt; changes.came() == came.as_slice() && changes.went().is_empty());
+    assert!(rt; changed(&changes, &came, &[]));
     assert!(rt; world.value(65, Id::plain(POSITION)) == Some(Value::zeros(1)));
     Ok(())
+}
+
+#[test]
+fn a_component_brings_others(rt: HostRuntime) -> Result<(), Fail> {
+    let mut world = World::new(rt.alloc(), RandomState::new(&rt)?)?;
+    let done = bring_others(&rt, rt.alloc(), &mut world);
+    drop(world);
+    done
 }
