@@ -1,13 +1,19 @@
 //! What is printed of a world, and what a query of plain names prints.
 use ecs_id::Id;
-use ecs_model::Span;
-use ecs_model::faults::{Fault, FaultKind, QueryFault};
 use ecs_print::{write_entity, write_fact, write_handle, write_id, write_index, write_number};
 use ecs_schema::{Kind, Schema};
 use ecs_world::World;
-use plain_query::ask;
+use plain_query::{read_query, write_rows};
+use query_model::Span;
+use query_model::faults::{Fault, FaultKind, QueryFault};
+use std::alloc::Global;
 use std::hash::RandomState;
 use std::test::Fail;
+
+fn ask(alloc: Global, world: &World, text: &str, out: &mut Vec<u8>) -> Result<(), QueryFault> {
+    let asked = read_query(alloc, world, text)?;
+    write_rows(alloc, world, &asked.query, out).map_err(|_| QueryFault::Memory)
+}
 
 #[test]
 fn entities_print_by_name_or_by_handle(rt: HostRuntime) -> Result<(), Fail> {
@@ -69,6 +75,41 @@ fn a_disabled_entity_is_passed_over_unless_the_tag_is_named(rt: HostRuntime) -> 
     assert_eq!(rt;
         out.as_slice(),
         b"rows 0\nrow $this=Moon [Planet@Moon] [Disabled@Moon]\nrows 1\n".as_slice()
+    );
+    Ok(())
+}
+
+#[test]
+fn a_text_is_plain_where_it_has_words_and_commas_alone(rt: HostRuntime) -> Result<(), Fail> {
+    let mut world = World::new(rt.alloc(), RandomState::new(&rt)?)?;
+    world.entity("Planet")?;
+    for text in ["Planet", " Planet ,\tPlanet", "Planet,ChildOf"] {
+        assert!(rt; read_query(rt.alloc(), &world, text)?.is_plain);
+    }
+    for text in [
+        "Planet($this)",
+        "[in] Planet",
+        "Planet, !ChildOf",
+        "(Planet, *)",
+        "Planet, $this == Planet",
+    ] {
+        assert!(rt; !read_query(rt.alloc(), &world, text)?.is_plain);
+    }
+    Ok(())
+}
+
+#[test]
+fn a_row_has_the_name_of_its_variable(rt: HostRuntime) -> Result<(), Fail> {
+    let mut world = World::new(rt.alloc(), RandomState::new(&rt)?)?;
+    world.entity("Planet")?;
+    let mut out = Vec::new(rt.alloc());
+    if let Some(moon) = world.entity("Moon")?.born() {
+        world.add(moon, Id::plain(64))?;
+    }
+    ask(rt.alloc(), &world, "Planet($moon)", &mut out)?;
+    assert_eq!(rt;
+        out.as_slice(),
+        b"row $moon=Moon [Planet@Moon]\nrows 1\n".as_slice()
     );
     Ok(())
 }
