@@ -28,8 +28,9 @@ use Rattle.ecs_model.specs.Command.{{with_born, with_named, with_component, diff
 use Rattle.ecs_model.specs.traits.Changes.{{added, replaced, facts_after_add, facts_after_remove, deleted, facts_after_delete}}
 use Rattle.ecs_model.specs.traits.Command.{{without_entities, reasons, effect, step}}
 use Rattle.ecs_model.specs.Meaning.{{rows}}
-use Rattle.ecs_model.specs.Tokens.{{tokens_from, tokens_of}}
-use Rattle.ecs_model.specs.Query.{{faults, query_of}}
+use Rattle.query_model.specs.Tokens.{{tokens_from, tokens_of}}
+use Rattle.query_model.specs.Check.{{faults}}
+use Rattle.query_model.specs.Query.{{checked_query, query_of}}
 use Rattle.ecs_model.specs.Session.{{apply}}
 use Rattle.ecs_model.specs.Script.{{lines_of, forms, form_among}}
 use Rattle.ecs_model.specs.Output.{{effect_of, effects_of, output_of, count_of}}
@@ -42,7 +43,7 @@ Gives script output lines refused = (output_of script ≡ output) × (count_of s
 UNFOLDING = (
     "id_cmp key_cmp first_world next_among within has_chain added replaced facts_after_add facts_after_remove deleted facts_after_delete without_entities "
     "with_born with_named with_component reasons effect differences step rows "
-    "tokens_from tokens_of faults query_of apply lines_of forms form_among effect_of effects_of digits chars is_utf8 encode"
+    "tokens_from tokens_of faults checked_query query_of apply lines_of forms form_among effect_of effects_of digits chars is_utf8 encode"
 )
 
 
