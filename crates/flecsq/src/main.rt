@@ -27,7 +27,9 @@ const SCRIPTS: &str = "A script is lines of these forms:
 
 ENTITY is a name or a handle, as `#64.0`, which `new` prints. ID is an ENTITY or
 a pair `(RELATIONSHIP,TARGET)` of two. KIND is i8, u8, i16, u16, i32, u32, i64
-or u64. A refused line prints `error LINE KIND`, and changes nothing.
+or u64. A refused line prints `error LINE KIND`, and changes nothing. A query
+may be any query text, which is checked; one that has more than names and commas
+is refused as NotYet, since it is not answered yet.
 
 This script makes a component and an entity, and asks for its value:
   component Position x:i32 y:i32

@@ -1,5 +1,6 @@
+mod Named
+mod Texts
+mod IdLists
 mod Printed
 mod Lines
-mod Faults
-mod Asked
 mod Matching

@@ -1,3 +1,3 @@
 pub mod Rows
-pub mod Check
+pub mod Reading
 pub mod Columns

@@ -1,7 +1,8 @@
 //! Numbers in decimal.
 ghost use Rattle.std.specs.Prelude.{◌≡◌, ◌^◌, ◌<◌, ◌≤◌, IfSome, IsTrue, length, if◌then◌else◌};
 ghost use Rattle.std.specs.List.{list_all};
-ghost use Rattle.ecs_model.specs.Text.{is_digit, is_number, number_of};
+ghost use Rattle.ecs_model.specs.Text.{is_number, number_of};
+ghost use Rattle.query_model.specs.Text.{is_digit};
 
 /// So many digits spell a number of 64 bits.
 const SHORT: usize = 19;

@@ -1,15 +1,20 @@
 //! What is printed of a world, and what a query of plain names prints.
 use ecs_id::{EntityId, Id};
-use ecs_model::Span;
-use ecs_model::faults::{Fault, FaultKind, QueryFault};
 use ecs_print::{write_entity, write_fact, write_handle, write_id, write_index, write_number};
 use ecs_schema::{Kind, Schema};
 use ecs_world::World;
-use plain_query::ask;
+use plain_query::{read_query, write_rows};
+use query_model::Span;
+use query_model::faults::{Fault, FaultKind, QueryFault};
 use std::alloc::Global;
 use std::hash::RandomState;
 use std::process::Abort;
 use std::test::Fail;
+
+fn ask(alloc: Global, world: &World, text: &str, out: &mut Vec<u8>) -> Result<(), QueryFault> {
+    let asked = read_query(alloc, world, text)?;
+    write_rows(alloc, world, &asked.query, out).map_err(|_| QueryFault::Memory)
+}
 
 /// Makes a component with these fields.
 fn define(
@@ -120,6 +125,58 @@ fn a_disabled_entity_is_passed_over_unless_the_tag_is_named(rt: HostRuntime) -> 
     let mut world = World::new(rt.alloc(), RandomState::new(&rt)?)?;
     let mut out = Vec::new(rt.alloc());
     let done = ask_of_disabled(&rt, rt.alloc(), &mut world, &mut out);
+    drop(world);
+    done
+}
+
+fn tell_plain(rt: &impl Abort, alloc: Global, world: &mut World) -> Result<(), Fail> {
+    world.entity("Planet")?;
+    for text in ["Planet", " Planet ,\tPlanet", "Planet,ChildOf"] {
+        assert!(rt; read_query(alloc, world, text)?.is_plain);
+    }
+    for text in [
+        "Planet($this)",
+        "[in] Planet",
+        "Planet, !ChildOf",
+        "(Planet, *)",
+        "Planet, $this == Planet",
+    ] {
+        assert!(rt; !read_query(alloc, world, text)?.is_plain);
+    }
+    Ok(())
+}
+
+#[test]
+fn a_text_is_plain_where_it_has_words_and_commas_alone(rt: HostRuntime) -> Result<(), Fail> {
+    let mut world = World::new(rt.alloc(), RandomState::new(&rt)?)?;
+    let done = tell_plain(&rt, rt.alloc(), &mut world);
+    drop(world);
+    done
+}
+
+fn ask_by_variable(
+    rt: &impl Abort,
+    alloc: Global,
+    world: &mut World,
+    out: &mut Vec<u8>,
+) -> Result<(), Fail> {
+    world.entity("Planet")?;
+    if let Some(moon) = world.entity("Moon")?.born() {
+        world.add(moon, Id::plain(64))?;
+    }
+    ask(alloc, world, "Planet($moon)", out)?;
+    assert_eq!(rt;
+        out.as_slice(),
+        b"row $moon=Moon [Planet@Moon]\nrows 1\n".as_slice()
+    );
+    Ok(())
+}
+
+#[test]
+fn a_row_has_the_name_of_its_variable(rt: HostRuntime) -> Result<(), Fail> {
+    let mut world = World::new(rt.alloc(), RandomState::new(&rt)?)?;
+    let mut out = Vec::new(rt.alloc());
+    let done = ask_by_variable(&rt, rt.alloc(), &mut world, &mut out);
     drop(world);
     done
 }

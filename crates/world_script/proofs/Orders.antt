@@ -1,6 +1,6 @@
 -- What lines do, by what the world answered and what was told of it.
-use Rattle.std.proofs.Common.{◌≡◌, ℕ, ℤ, Bool, false, List, [], ◌++◌, Option, None, Some, Result, Ok, Err, refl, sym, ◌∙◌, ap, subst, append-nil}
-use Rattle.std.specs.Prelude.{IfOk, codes}
+use Rattle.std.proofs.Common.{◌≡◌, ℕ, ℤ, Bool, true, false, List, [], ◌++◌, Option, None, Some, Result, Ok, Err, refl, sym, ◌∙◌, ap, subst, append-nil}
+use Rattle.std.specs.Prelude.{IfOk, codes, if◌then◌else◌}
 use Rattle.std.specs.Result.{result_map_both}
 use Rattle.std.specs.declared.alloc.AllocError.{AllocError}
 use Rattle.std.proofs.lemmas.Result.{IfOk-weaker}
@@ -8,7 +8,6 @@ use Rattle.ecs_id.specs.declared.EntityId.{EntityId}
 use Rattle.ecs_id.specs.Id.{Id}
 use Rattle.ecs_model.specs.declared.faults.CommandError.{CommandError}
 use Rattle.ecs_model.specs.declared.faults.CommandError.TheVariants.{Refused, Memory}
-use Rattle.ecs_model.specs.declared.faults.Fault.{Fault}
 use Rattle.ecs_model.specs.declared.faults.Refusal.{Refusal}
 use Rattle.ecs_model.specs.declared.faults.SchemaFault.{SchemaFault}
 use Rattle.ecs_model.specs.Schema.{Schema, schema_fault}
@@ -17,10 +16,12 @@ use Rattle.ecs_model.specs.Print.{fault_text}
 use Rattle.ecs_model.specs.World.{WorldState}
 use Rattle.ecs_model.specs.Command.{Changed, AnswersStep}
 use Rattle.ecs_model.specs.traits.Command.{Command, Fresh, Entity, Component, Add, SetValue, Remove, Delete, step}
-use Rattle.ecs_model.specs.Query.{Query, query_of}
+use Rattle.query_model.specs.declared.faults.Fault.{Fault}
+use Rattle.query_model.specs.Query.{Query}
+use Rattle.ecs_model.specs.Query.{is_plain, query_of}
 use Rattle.ecs_model.specs.Session.{SessionState, EntityRef, IdRef, Order, MakeFresh, MakeEntity, MakeComponent, AddTo, SetIn, RemoveFrom, DeleteOne, entity_found, with_both, session_answer, world_order, apply}
 use Rattle.ecs_model.specs.Script.{Form, Nothing, LongLine, BadLine, Obey, Define, Show, Ask, form_of}
-use Rattle.ecs_model.specs.Output.{effect_of, own_text, order_effect, define_effect, show_effect, ask_effect, refused_line, accepted_line, rows_text, show_text}
+use Rattle.ecs_model.specs.Output.{Effect, effect_of, own_text, order_effect, define_effect, show_effect, ask_effect, refused_line, accepted_line, rows_text, show_text}
 use Rattle.world_script.specs.Run.{IsDone, line_effect}
 use Rattle.world_script.specs.Told.{session_of, TellsRefusal, TellsNothing, TellsAnswer, TellsBorn, FindsBoth}
 
@@ -97,22 +98,35 @@ IsDone-unshown r reason w n before after refused unfound told =
     let P : Result EntityId Refusal → Type 0 = λ o. IsDone (show_effect (session_of w) n o) (session_of w) before after refused in
     subst P (sym unfound) (IsDone-refused (session_of w) n (refusal_text reason) before after refused told)
 
+-- what a line of an accepted query does, by whether its text is plain
+abbrev answer_effect : WorldState → ℕ → Query → Bool → Effect
+answer_effect w n q plain = if plain then accepted_line (session_of w) (rows_text w q) else refused_line (session_of w) n (codes "NotYet")
+
 -- a query whose rows were added
-pub IsDone-rows : (text : List ℕ) (q : Query) (w : WorldState) (n : ℕ) (before after : List ℕ) → query_of w text ≡ Ok q → after ≡ before ++ rows_text w q
+pub IsDone-rows : (text : List ℕ) (q : Query) (w : WorldState) (n : ℕ) (before after : List ℕ) → query_of w text ≡ Ok q → is_plain text ≡ true → after ≡ before ++ rows_text w q
     → IsDone (effect_of (session_of w) n (Ask text)) (session_of w) before after false
 unfolding effect_of
-IsDone-rows text q w n before after e added =
-    let P : Result Query Fault → Type 0 = λ r. IsDone (ask_effect (session_of w) n r) (session_of w) before after false in
-    subst P (sym e) (record { session_left = refl; printed = added; answered = refl })
+IsDone-rows text q w n before after e plain added =
+    let P : Result Query Fault → Type 0 = λ r. IsDone (ask_effect (session_of w) n text r) (session_of w) before after false in
+    let Q : Bool → Type 0 = λ b. IsDone (answer_effect w n q b) (session_of w) before after false in
+    subst P (sym e) (subst Q (sym plain) (record { session_left = refl; printed = added; answered = refl }))
 
--- a query that is refused
-IsDone-fault : (text : List ℕ) (f : Fault) (w : WorldState) (n : ℕ) (before same after : List ℕ) (refused : Bool) → query_of w text ≡ Err f → same ≡ before
-    → TellsRefusal n (fault_text f) same after refused → IsDone (effect_of (session_of w) n (Ask text)) (session_of w) before after refused
+-- one that isn't answered yet
+IsDone-unanswered : (text : List ℕ) (q : Query) (w : WorldState) (n : ℕ) (before after : List ℕ) (refused : Bool) → query_of w text ≡ Ok q → is_plain text ≡ false
+    → TellsRefusal n (codes "NotYet") before after refused → IsDone (effect_of (session_of w) n (Ask text)) (session_of w) before after refused
 unfolding effect_of
-IsDone-fault text f w n before same after refused e kept told =
-    let P : Result Query Fault → Type 0 = λ r. IsDone (ask_effect (session_of w) n r) (session_of w) before after refused in
-    let Q : List ℕ → Type 0 = λ l. TellsRefusal n (fault_text f) l after refused in
-    subst P (sym e) (IsDone-refused (session_of w) n (fault_text f) before after refused (subst Q kept told))
+IsDone-unanswered text q w n before after refused e plain told =
+    let P : Result Query Fault → Type 0 = λ r. IsDone (ask_effect (session_of w) n text r) (session_of w) before after refused in
+    let Q : Bool → Type 0 = λ b. IsDone (answer_effect w n q b) (session_of w) before after refused in
+    subst P (sym e) (subst Q (sym plain) (IsDone-refused (session_of w) n (codes "NotYet") before after refused told))
+
+-- one that is refused
+IsDone-fault : (text : List ℕ) (f : Fault) (w : WorldState) (n : ℕ) (before after : List ℕ) (refused : Bool) → query_of w text ≡ Err f
+    → TellsRefusal n (fault_text f) before after refused → IsDone (effect_of (session_of w) n (Ask text)) (session_of w) before after refused
+unfolding effect_of
+IsDone-fault text f w n before after refused e told =
+    let P : Result Query Fault → Type 0 = λ r. IsDone (ask_effect (session_of w) n text r) (session_of w) before after refused in
+    subst P (sym e) (IsDone-refused (session_of w) n (fault_text f) before after refused told)
 
 -- the same, where memory may be refused instead
 module _ (r : Result Bool AllocError) (w v : WorldState) (n : ℕ) (before after : List ℕ) where
@@ -187,10 +201,15 @@ module _ (r : Result Bool AllocError) (w : WorldState) (n : ℕ) (before after :
       → IfOk r (IsDone (effect_of (session_of w) n (Show entity)) (session_of w) before after)
   IfOk-unshown entity unfound = IfOk-weaker r _ _ (λ refused told. IsDone-unshown entity reason w n before after refused unfound told)
 
--- a query that is refused
-pub IfOk-fault : (r : Result Bool AllocError) (w : WorldState) (n : ℕ) (before after text : List ℕ) (f : Fault) (same : List ℕ) → query_of w text ≡ Err f → same ≡ before → IfOk r (TellsRefusal n (fault_text f) same after)
-    → IfOk r (IsDone (effect_of (session_of w) n (Ask text)) (session_of w) before after)
-IfOk-fault r w n before after text f same e kept = IfOk-weaker r _ _ (λ refused told. IsDone-fault text f w n before same after refused e kept told)
+module _ (r : Result Bool AllocError) (w : WorldState) (n : ℕ) (before after text : List ℕ) where
+  -- a query that is refused
+  pub IfOk-fault : (f : Fault) → query_of w text ≡ Err f → IfOk r (TellsRefusal n (fault_text f) before after) → IfOk r (IsDone (effect_of (session_of w) n (Ask text)) (session_of w) before after)
+  IfOk-fault f e = IfOk-weaker r _ _ (λ refused told. IsDone-fault text f w n before after refused e told)
+
+  -- one that isn't answered yet
+  pub IfOk-unanswered : (q : Query) → query_of w text ≡ Ok q → is_plain text ≡ false → IfOk r (TellsRefusal n (codes "NotYet") before after)
+      → IfOk r (IsDone (effect_of (session_of w) n (Ask text)) (session_of w) before after)
+  IfOk-unanswered q e plain = IfOk-weaker r _ _ (λ refused told. IsDone-unanswered text q w n before after refused e plain told)
 
 module _ (r : Result Bool AllocError) (w v : WorldState) (n : ℕ) (before after name : List ℕ) (fields : Schema) where
   -- a component whose fields make a schema

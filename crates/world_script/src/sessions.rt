@@ -13,10 +13,10 @@ use crate::telling::{
     refuse, refuse_command, refuse_query, schema_fault_word, tell_answer, tell_born,
 };
 use ecs_model::Kind;
-use ecs_model::faults::QueryFault;
 use ecs_schema::{Schema, SchemaError};
 use ecs_world::World;
-use plain_query::ask;
+use plain_query::{read_query, write_rows};
+use query_model::faults::QueryFault;
 use script_line::{IdReference, Line, Reference, read_line};
 use std::alloc::{AllocError, Allocator};
 
@@ -210,9 +210,15 @@ fn run_query<A: Allocator + Copy>(
     ensures { IfOk result (IsDone (effect_of (session_of world.now.state) number (Ask text.now))
         (session_of world.now.state) output.old.items output.new.items) }
 {
-    match ask(alloc, world, text, output) {
-        Ok(()) => Ok(false),
-        Err(QueryFault::Fault(fault)) => refuse_query(number, fault, output),
-        Err(QueryFault::Memory) => Err(AllocError),
+    let asked = match read_query(alloc, world, text) {
+        Ok(asked) => asked,
+        Err(QueryFault::Fault(fault)) => return refuse_query(number, fault, output),
+        Err(QueryFault::Memory) => return Err(AllocError),
+    };
+    if !asked.is_plain {
+        // provisional: other queries are checked, and not answered yet
+        return refuse(number, "NotYet", output);
     }
+    write_rows(alloc, world, &asked.query, output)?;
+    Ok(false)
 }

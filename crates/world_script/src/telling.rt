@@ -4,9 +4,10 @@ ghost use Rattle.ecs_model.specs.Print.{fault_text, fault_word};
 ghost use Rattle.ecs_model.specs.Refusal.{refusal_text, schema_fault_text};
 ghost use Rattle.world_script.specs.Told.{refused_text, TellsRefusal, TellsAnswer, TellsBorn};
 
-use ecs_model::faults::{CommandError, Fault, FaultKind, Refusal, SchemaFault};
+use ecs_model::faults::{CommandError, Refusal, SchemaFault};
 use ecs_print::{write_handle, write_number};
 use ecs_world::Changes;
+use query_model::faults::{Fault, FaultKind};
 use std::alloc::{AllocError, Allocator};
 
 /// Tells that a line is refused.
