@@ -45,7 +45,12 @@ fn write_all(
     world: &mut World,
     out: &mut Vec<u8>,
 ) -> Result<(), Fail> {
-    define(alloc, world, "Position", &[("x", Kind::I32), ("y", Kind::U8)])?;
+    define(
+        alloc,
+        world,
+        "Position",
+        &[("x", Kind::I32), ("y", Kind::U8)],
+    )?;
     if let Some(entity) = world.fresh()?.born() {
         write_born(world, entity, out)?;
     }
