@@ -27,6 +27,9 @@ PROGRAMS = [
 ]
 RUNS = 3
 
+# Each entity of the chain asks all before it: under valgrind that takes some ten minutes.
+UNCOUNTED = ["chain"]
+
 
 def program(crate):
     return os.path.join(TOP, "crates", crate, "out", crate)
@@ -94,7 +97,8 @@ def run_program(crate, words):
         return False
     seconds, _ = timed([program(crate), *words], os.devnull)
     name = " ".join([crate, *(it for it in words if not it.isdecimal())])
-    row(name, "".join(f"{int(it):,}" for it in words if it.isdecimal()), seconds, counted([program(crate), *words], os.devnull))
+    count = None if any(it in UNCOUNTED for it in words) else counted([program(crate), *words], os.devnull)
+    row(name, "".join(f"{int(it):,}" for it in words if it.isdecimal()), seconds, count)
     return seconds is not None
 
 
