@@ -1,5 +1,6 @@
 //! Scripts run over tapes.
 
+use refusing_alloc::Refusing;
 use std::hash::RandomState;
 use std::process::Abort;
 use std::test::Fail;
@@ -16,6 +17,15 @@ const SUMMARY: Summary = Summary {
     lines: 10,
     refused: 0,
 };
+
+/// Entities, a deletion, and what comes behind it.
+const DELETIONS: &[u8] =
+    b"entity Sun\nentity Earth\nadd Earth (ChildOf,Sun)\ndelete Sun\nnew\nshow Earth\ndelete ChildOf\n";
+
+const TOLD: &[u8] = b"#64.1\nerror 6 UnknownName\nerror 7 BuiltIn\n";
+
+/// How many bytes of that are written behind so many lines.
+const TOLD_BEHIND: [usize; 8] = [0, 0, 0, 0, 0, 6, 26, 42];
 
 const FAILED: Turn = Turn::Stop(Stop::Failed);
 
@@ -202,15 +212,48 @@ fn children_are_deleted_and_an_index_is_given_out_again(rt: HostRuntime) -> Resu
         lines: 7,
         refused: 2,
     };
-    let script =
-        b"entity Sun\nentity Earth\nadd Earth (ChildOf,Sun)\ndelete Sun\nnew\nshow Earth\ndelete ChildOf\n";
-    expect(
-        &rt,
-        random,
-        script,
-        &[],
-        &[],
-        Ok(summary),
-        b"#64.1\nerror 6 UnknownName\nerror 7 BuiltIn\n",
-    )
+    expect(&rt, random, DELETIONS, &[], &[], Ok(summary), TOLD)
+}
+
+/// What is written where so many bytes of the script with deletions were read.
+fn told_behind(count: usize) -> &'static [u8] {
+    let read = DELETIONS.get(..count).unwrap_or(DELETIONS);
+    let lines = read.iter().filter(|byte| **byte == b'\n').count();
+    let written = TOLD_BEHIND.get(lines).copied().unwrap_or(0);
+    TOLD.get(..written).unwrap_or(TOLD)
+}
+
+#[test]
+fn a_read_fails_at_any_byte(rt: HostRuntime) -> Result<(), Fail> {
+    let random = RandomState::new(&rt)?;
+    let fault = Err(RunError::Read);
+    expect(&rt, random, DELETIONS, &[FAILED], &[], fault, b"")?;
+    for count in 1..=DELETIONS.len() {
+        let turns = [Turn::Pass(count), FAILED];
+        let written = told_behind(count);
+        expect(&rt, random, DELETIONS, &turns, &[], fault, written)?;
+    }
+    Ok(())
+}
+
+#[test]
+fn each_growth_may_be_refused(rt: HostRuntime) -> Result<(), Fail> {
+    let heap = Refusing::new(rt.alloc());
+    let random = RandomState::new(&rt)?;
+    let mut refusals = 0;
+    for allowed in 0..4000u64 {
+        let mut reader = Tape::new(rt.alloc(), SCRIPT, &[])?;
+        let mut writer = Tape::new(rt.alloc(), b"", &[])?;
+        heap.refuse_after(allowed);
+        let answered = run(&heap, random, &mut reader, &mut writer);
+        heap.refuse_none();
+        assert!(rt; OUTPUT.starts_with(writer.bytes()));
+        if answered.is_ok() {
+            break;
+        }
+        assert_eq!(rt; answered, Err(RunError::Memory));
+        refusals = allowed + 1;
+    }
+    assert!(rt; 0 < refusals && refusals < 4000);
+    Ok(())
 }
