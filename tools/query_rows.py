@@ -132,34 +132,26 @@ def cases(folder):
 
 HEAD = '''-- Queries with their rows, computed by the definitions. Made by tools/query_rows.py.
 use Rattle.std.specs.Prelude.{◌≡◌, ℕ, List, [], ◌∷◌, ◌++◌, flat_map, map, refl, codes, Result, Ok, Err, pos, neg_ℤ}
-use Rattle.std.specs.List.{zip}
 use Rattle.ecs_id.specs.Id.{plain, pair, id_cmp}
 use Rattle.ecs_model.specs.declared.Kind.TheVariants.{I8, U8, I16, U16, I32, U32, I64, U64}
 use Rattle.ecs_model.specs.World.{WorldState, first_world, key_cmp}
 use Rattle.ecs_model.specs.Line.{line_within}
 use Rattle.ecs_model.specs.Links.{reaches}
-use Rattle.ecs_model.specs.Meaning as plain_rows
-use Rattle.ecs_model.specs.Print.{binding_text, field_text}
+use Rattle.ecs_model.specs.Print.{row_text}
 use Rattle.ecs_model.specs.Sets.{has_chain, within}
 use Rattle.query_model.specs.declared.faults.Fault.{Fault}
 use Rattle.query_model.specs.Check.{faults}
 use Rattle.query_model.specs.Query.{Query, checked_query, query_of}
 use Rattle.query_model.specs.Tokens.{tokens_from, tokens_of}
-use Rattle.query_meaning.specs.View.{known_of, view_of}
-use Rattle.query_meaning.specs.Level.{top}
-use Rattle.query_meaning.specs.Rows.{Field, Unset, Shown, Row, hits, fields_of_term, fields_of_item, solutions, rows}
+use Rattle.ecs_model.specs.Query.{known_of}
+use Rattle.ecs_model.specs.rows.View.{view_of}
+use Rattle.ecs_model.specs.rows.Level.{top}
+use Rattle.ecs_model.specs.rows.Rows.{hits, fields_of_term, fields_of_item, solutions, rows}
 use Rattle.std.specs.Fmt.{digits}
 
--- a row as it prints
-abbrev shown_field : WorldState → Field → List ℕ
-shown_field w Unset = codes " [-]"
-shown_field w (Shown e i v) = field_text w (plain_rows.Shown e i v)
-
-abbrev shown_row : WorldState → List (List ℕ) → Row → List ℕ
-shown_row w names r = codes "row" ++ flat_map (binding_text w) (zip names r.bindings) ++ flat_map (shown_field w) r.fields ++ codes "\\n"
-
+-- the rows as they print
 abbrev shown_rows : WorldState → Query → List ℕ
-shown_rows w q = flat_map (shown_row w q.variables) (rows (view_of w) q)
+shown_rows w q = flat_map (row_text w q.variables) (rows (view_of w) q)
 
 abbrev answer : WorldState → Result Query Fault → List ℕ
 answer w (Ok q) = shown_rows w q

@@ -28,7 +28,8 @@ use Rattle.query_model.specs.Check.{faults}
 use Rattle.query_model.specs.declared.query.Ref.TheVariants as ref
 use Rattle.query_model.specs.Query.{Query, Piece, item, must, query_of as asked_of}
 use Rattle.ecs_model.specs.Query.{is_plain, query_of}
-use Rattle.ecs_model.specs.Meaning.{Shown, rows, is_answer}
+use Rattle.ecs_model.specs.Meaning.{rows, is_answer}
+use Rattle.ecs_model.specs.rows.Rows.{Shown}
 use Rattle.ecs_model.specs.Session.{EntityRef, by_name, by_handle, pair_of, DeleteOne, with_both, entity_found}
 use Rattle.ecs_model.specs.Script.{BadLine, Obey, handle_of, id_and_rest, forms, form_among, form_of}
 use Rattle.ecs_model.specs.Output.{show_text}

@@ -11,7 +11,8 @@ use Rattle.ecs_id.specs.Id.{Id}
 use Rattle.ecs_model.specs.Map.{Map, keys, IsMap}
 use Rattle.ecs_model.specs.World.{WorldState, entities}
 use Rattle.ecs_model.specs.Query.{ids_asked}
-use Rattle.ecs_model.specs.Meaning.{Row, is_answer, row_of, rows}
+use Rattle.ecs_model.specs.Meaning.{is_answer, row_of, rows}
+use Rattle.ecs_model.specs.rows.Rows.{Row}
 use Rattle.ecs_model.specs.Laws.{RowsAreDistinct, EqualRowsAreOne}
 use Rattle.ecs_model.proofs.Maps.{both_true}
 

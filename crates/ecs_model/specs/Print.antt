@@ -9,7 +9,7 @@ use Rattle.query_model.specs.declared.faults.Fault.{Fault}
 use Rattle.query_model.specs.declared.faults.FaultKind.{FaultKind}
 use Rattle.query_model.specs.declared.faults.FaultKind.TheVariants.{Lex, Syntax, UnknownName, NotTraversable, UnboundVariable, WildcardSource, WildcardEquality, TooManyTerms, TooManyVariables, TooDeep, NoThis, NotOneTerm}
 use Rattle.ecs_model.specs.World.{WorldState, name_of, entity_at}
-use Rattle.ecs_model.specs.Meaning.{Field, Shown, Row}
+use Rattle.ecs_model.specs.rows.Rows.{Field, Unset, Shown, Row}
 
 -- the word of a kind of fault
 abbrev pub fault_word : FaultKind → List ℕ
@@ -57,8 +57,9 @@ module _ (w : WorldState) where
   id_text (plain c) = index_text c
   id_text (pair r t) = codes "(" ++ index_text r ++ codes "," ++ index_text t ++ codes ")"
 
-  -- ` [ID@E=v,v]`, without a value ` [ID@E]`
+  -- ` [ID@E=v,v]`, without a value ` [ID@E]`, and ` [-]` where it is unset
   abbrev pub field_text : Field → List ℕ
+  field_text Unset = codes " [-]"
   field_text (Shown e i v) = codes " [" ++ id_text i ++ codes "@" ++ index_text e ++ value_text v ++ codes "]"
 
   -- ` $v=E`

@@ -11,10 +11,11 @@ use Rattle.query_meaning.proofs.Assignments.{Extends-from_assignments}
 use Rattle.query_meaning.proofs.Holding.{In-map_from}
 use Rattle.query_meaning.proofs.Rows.{IsRegular, same_front, same_rest, first_nonempty-keeps, regular_choices, same_parts, same_keys, Extends-binds}
 use Rattle.ecs_model.specs.Links.{reaches}
-use Rattle.query_meaning.specs.Laws.{RowsAreTheirIds, field_id}
-use Rattle.query_meaning.specs.Level.{Level, also, done, top, unless}
-use Rattle.query_meaning.specs.Rows.{row_of, Assignment, Field, Row, Unset, asked, assignments, candidates, closed_fields, fields_at, fields_of_item, fields_of_term, first_nonempty, hits, meant, passes_over, product, rows, rows_under, same_entity, shown, shown_fields, solutions, visible}
-use Rattle.query_meaning.specs.View.{HasNoRepeats, View}
+use Rattle.ecs_model.specs.Laws.{id_shown}
+use Rattle.query_meaning.specs.Laws.{RowsAreTheirIds}
+use Rattle.ecs_model.specs.rows.Level.{Level, also, done, top, unless}
+use Rattle.ecs_model.specs.rows.Rows.{row_of, Assignment, Field, Row, Unset, asked, assignments, candidates, closed_fields, fields_at, fields_of_item, fields_of_term, first_nonempty, hits, meant, passes_over, product, rows, rows_under, same_entity, shown, shown_fields, solutions, visible}
+use Rattle.ecs_model.specs.rows.View.{HasNoRepeats, View}
 use Rattle.query_model.specs.Query.{Item, Query, differ, either, equal, may, must}
 use Rattle.query_model.specs.declared.query.Term.{Term}
 
@@ -24,7 +25,7 @@ HasOneSource fs = (f g : ℕ × Id) → In f fs → In g fs → f.0 ≡ g.0
 
 -- its choices are told apart by their ids
 abbrev HasDistinctIds : List (List Field) → Type 0
-HasDistinctIds xs = (x y : List Field) → In x xs → In y xs → map field_id x ≡ map field_id y → x ≡ y
+HasDistinctIds xs = (x y : List Field) → In x xs → In y xs → map id_shown x ≡ map id_shown y → x ≡ y
 
 ids-product : (xs ys : List (List Field)) → IsRegular xs → HasDistinctIds xs → HasDistinctIds ys → HasDistinctIds (product xs ys)
 ids-product xs ys r h k x y i j e =
@@ -32,11 +33,11 @@ ids-product xs ys r h k x y i j e =
     let b = In-flat_map_from (λ u. map (λ v. u ++ v) ys) xs y j in
     let c = In-map_from (λ v. a.0 ++ v) ys x a.2 in
     let d = In-map_from (λ v. b.0 ++ v) ys y b.2 in
-    let split : map field_id a.0 ++ map field_id c.0 ≡ map field_id b.0 ++ map field_id d.0 =
-    sym (map-append field_id a.0 c.0) ∙ ap (map field_id) c.2 ∙ e ∙ sym (ap (map field_id) d.2) ∙ map-append field_id b.0 d.0 in
-    let long : length (map field_id a.0) ≡ length (map field_id b.0) = length-map a.0 field_id ∙ r.long a.0 a.1 ∙ sym (r.long b.0 b.1) ∙ sym (length-map b.0 field_id) in
-    let fronts : map field_id a.0 ≡ map field_id b.0 = same_front (map field_id a.0) (map field_id b.0) (map field_id c.0) (map field_id d.0) long split in
-    let rests : map field_id c.0 ≡ map field_id d.0 = same_rest (map field_id b.0) (map field_id c.0) (map field_id d.0) (ap (λ z. z ++ map field_id c.0) (sym fronts) ∙ split) in
+    let split : map id_shown a.0 ++ map id_shown c.0 ≡ map id_shown b.0 ++ map id_shown d.0 =
+    sym (map-append id_shown a.0 c.0) ∙ ap (map id_shown) c.2 ∙ e ∙ sym (ap (map id_shown) d.2) ∙ map-append id_shown b.0 d.0 in
+    let long : length (map id_shown a.0) ≡ length (map id_shown b.0) = length-map a.0 id_shown ∙ r.long a.0 a.1 ∙ sym (r.long b.0 b.1) ∙ sym (length-map b.0 id_shown) in
+    let fronts : map id_shown a.0 ≡ map id_shown b.0 = same_front (map id_shown a.0) (map id_shown b.0) (map id_shown c.0) (map id_shown d.0) long split in
+    let rests : map id_shown c.0 ≡ map id_shown d.0 = same_rest (map id_shown b.0) (map id_shown c.0) (map id_shown d.0) (ap (λ z. z ++ map id_shown c.0) (sym fronts) ∙ split) in
     let first = h a.0 b.0 a.1 b.1 fronts in
     let second = k c.0 d.0 c.1 d.1 rests in
     sym c.2 ∙ (λ n. first n ++ second n) ∙ d.2
@@ -69,7 +70,7 @@ module _ (w : View) (keeps : HasNoRepeats w) where
       let p = In-map_from (λ f. shown w t f ∷ []) (fields_of_term w a t) x i in
       let q = In-map_from (λ f. shown w t f ∷ []) (fields_of_term w a t) y j in
       let sources : (p.0).0 ≡ (q.0).0 = one_source a t p.0 q.0 p.1 q.1 in
-      let both : Some (p.0).1 ∷ [] ≡ Some (q.0).1 ∷ [] = ap (map field_id) p.2 ∙ e ∙ sym (ap (map field_id) q.2) in
+      let both : Some (p.0).1 ∷ [] ≡ Some (q.0).1 ∷ [] = ap (map id_shown) p.2 ∙ e ∙ sym (ap (map id_shown) q.2) in
       let ids : (p.0).1 ≡ (q.0).1 = cc in
       sym p.2 ∙ (λ n. shown w t (sources n, ids n) ∷ []) ∙ q.2
 
@@ -97,7 +98,7 @@ module _ (w : View) (keeps : HasNoRepeats w) where
   ids-solutions (unless from_term vs inner rest) a =
       elim (list_all (λ b. length (solutions w inner b) == 0) (assignments vs w.entities a)) as (λ t. HasDistinctIds (if t then solutions w rest a else [])) [ true ↦ ids-solutions rest a | false ↦ ids-none ]
 
-  same_row : (q : Query) (r s : Row) → In r (rows w q) → In s (rows w q) → r.bindings ≡ s.bindings → map field_id r.fields ≡ map field_id s.fields → r ≡ s
+  same_row : (q : Query) (r s : Row) → In r (rows w q) → In s (rows w q) → r.bindings ≡ s.bindings → map id_shown r.fields ≡ map id_shown s.fields → r ≡ s
   unfolding rows
   same_row q r s i j bindings ids =
       let a = In-flat_map_from (rows_under w q) (candidates w q) r i in
@@ -108,7 +109,7 @@ module _ (w : View) (keeps : HasNoRepeats w) where
       let n = In-map_from (row_of b.0) (solutions w (top q) b.0) s b.2 in
       let same : a.0 ≡ b.0 = same_parts a.0 b.0 (same_keys a.0 b.0 x.in_order y.in_order (Extends-binds (visible q) w.entities a.0 b.0 x y)) (ap (λ z. z.bindings) m.2 ∙ bindings ∙ sym (ap (λ z. z.bindings) n.2)) in
       let there : In n.0 (solutions w (top q) a.0) = subst (λ c. In n.0 (solutions w (top q) c)) (sym same) n.1 in
-      let fields : m.0 ≡ n.0 = ids-solutions (top q) a.0 m.0 n.0 m.1 there (ap (λ z. map field_id z.fields) m.2 ∙ ids ∙ sym (ap (λ z. map field_id z.fields) n.2)) in
+      let fields : m.0 ≡ n.0 = ids-solutions (top q) a.0 m.0 n.0 m.1 there (ap (λ z. map id_shown z.fields) m.2 ∙ ids ∙ sym (ap (λ z. map id_shown z.fields) n.2)) in
       sym m.2 ∙ (λ k. row_of (same k) (fields k)) ∙ n.2
 
 pub rows_are_their_ids : RowsAreTheirIds

@@ -22,10 +22,10 @@ use Rattle.query_meaning.proofs.Holding.{In-map_from}
 use Rattle.ecs_model.specs.Links.{reaches}
 use Rattle.ecs_model.specs.Map.{IsMap, Map, keys}
 use Rattle.query_meaning.specs.Laws.{RowsAreDistinct}
-use Rattle.query_meaning.specs.Level.{Level, also, done, top, unless}
-use Rattle.query_meaning.specs.Rows.{row_of, Assignment, Field, Row, Unset, asked, assignments, candidates, closed_fields, fields_at, fields_of_item, fields_of_term, first_nonempty, hits, keeps_one, matches, meant, passes_over, product, rows, rows_under, same_entity, shown, shown_fields, solutions, visible}
+use Rattle.ecs_model.specs.rows.Level.{Level, also, done, top, unless}
+use Rattle.ecs_model.specs.rows.Rows.{row_of, Assignment, Field, Row, Unset, asked, assignments, candidates, closed_fields, fields_at, fields_of_item, fields_of_term, first_nonempty, hits, keeps_one, matches, meant, passes_over, product, rows, rows_under, same_entity, shown, shown_fields, solutions, visible}
 use Rattle.query_meaning.specs.Variables.{contains}
-use Rattle.query_meaning.specs.View.{HasNoRepeats, View}
+use Rattle.ecs_model.specs.rows.View.{HasNoRepeats, View}
 use Rattle.query_model.specs.Query.{Item, Query, differ, either, equal, may, must}
 use Rattle.query_model.specs.declared.query.Term.{Term}
 

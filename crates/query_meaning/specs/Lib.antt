@@ -1,6 +1,3 @@
-pub mod View
-pub mod Level
-pub mod Rows
 pub mod Variables
 pub mod Plan
 pub mod Sound

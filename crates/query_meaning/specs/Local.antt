@@ -2,8 +2,8 @@
 use Rattle.std.specs.Prelude.{◌≡◌, ℕ, true, List, ◌∷◌, Contains}
 use Rattle.query_model.specs.Query.{Query}
 use Rattle.query_model.specs.Local.{is_local}
-use Rattle.query_meaning.specs.View.{View}
-use Rattle.query_meaning.specs.Rows.{Row, rows}
+use Rattle.ecs_model.specs.rows.View.{View}
+use Rattle.ecs_model.specs.rows.Rows.{Row, rows}
 
 -- `$this` is the one variable, and every term is on `$this` with self alone and not closed
 abbrev pub IsLocal : Query → Type 0
