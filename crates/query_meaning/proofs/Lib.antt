@@ -14,3 +14,9 @@ pub mod Rows
 pub mod RowIds
 pub mod Locality
 pub mod Flat
+pub mod SoundLevels
+pub mod DistinctVariables
+pub mod OwnOccur
+pub mod ThisOccurs
+pub mod Asked
+pub mod CheckedSound

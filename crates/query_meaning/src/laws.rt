@@ -1,6 +1,11 @@
 //! What is proved of the rows of queries and of plans: each function's contract is a law, and its body does nothing.
 
-ghost use Rattle.query_meaning.specs.Laws.{ItemsGoByNumber, LocalByIds, PlansGiveAllRows, PlansGiveRows, RowsAreAnswers, RowsAreDistinct, RowsAreTheirIds, WorldsHaveNoRepeats};
+ghost use Rattle.query_meaning.specs.Laws.{CheckedQueriesAreSound, ItemsGoByNumber, LocalByIds, PlansGiveAllRows, PlansGiveRows, RowsAreAnswers, RowsAreDistinct, RowsAreTheirIds, WorldsHaveNoRepeats};
+
+/// Law: what the others ask of a query, every query has that a text asks.
+pub fn checked_queries_are_sound()
+    ensures { CheckedQueriesAreSound }
+{}
 
 /// Law: what the others ask of a view, every well-formed world shows.
 pub fn worlds_have_no_repeats()

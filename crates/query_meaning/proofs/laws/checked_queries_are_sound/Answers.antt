@@ -1,0 +1,5 @@
+use Rattle.query_meaning.proofs.CheckedSound.{checked_queries_are_sound}
+use Rattle.query_meaning.proofs.laws.checked_queries_are_sound.Goals as goal
+
+pub returns : goal.returns
+returns c = checked_queries_are_sound
