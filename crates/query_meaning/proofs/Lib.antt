@@ -20,3 +20,5 @@ pub mod OwnOccur
 pub mod ThisOccurs
 pub mod Asked
 pub mod CheckedSound
+pub mod EachTerm
+pub mod Rising
