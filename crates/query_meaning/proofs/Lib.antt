@@ -22,3 +22,4 @@ pub mod Asked
 pub mod CheckedSound
 pub mod EachTerm
 pub mod Rising
+pub mod NamedLive

@@ -1,10 +1,15 @@
 //! What is proved of the rows of queries and of plans: each function's contract is a law, and its body does nothing.
 
-ghost use Rattle.query_meaning.specs.Laws.{CheckedQueriesAreSound, CheckedQueriesGoUpWithoutCycles, ItemsGoByNumber, LocalByIds, PlansGiveAllRows, PlansGiveRows, RowsAreAnswers, RowsAreDistinct, RowsAreTheirIds, WorldsHaveNoRepeats};
+ghost use Rattle.query_meaning.specs.Laws.{CheckedQueriesAreSound, CheckedQueriesGoUpWithoutCycles, CheckedQueriesNameTheLiving, ItemsGoByNumber, LocalByIds, PlansGiveAllRows, PlansGiveRows, RowsAreAnswers, RowsAreDistinct, RowsAreTheirIds, WorldsHaveNoRepeats};
 
 /// Law: what the others ask of a query, every query has that a text asks.
 pub fn checked_queries_are_sound()
     ensures { CheckedQueriesAreSound }
+{}
+
+/// Law: a query that a text asks in a world names live entities.
+pub fn checked_queries_name_the_living()
+    ensures { CheckedQueriesNameTheLiving }
 {}
 
 /// Law: a query that a text asks in a well-formed world asks ancestors along relationships without cycles.
