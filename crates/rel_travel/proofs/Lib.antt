@@ -1,4 +1,5 @@
 pub mod Growth
+mod Adding
 pub mod Begun
 mod Cleanup
 mod LineSearch
@@ -6,5 +7,7 @@ mod Marks
 mod Rows
 mod WorkLists
 mod Pulls
+mod Turns
+pub mod Lists
 mod Mentions
 mod Forbidden

@@ -1,5 +1,5 @@
 //! What is reached along a relationship.
-ghost use Rattle.std.specs.Prelude.{◌≡◌, ◌↔◌, ◌≤◌, ◌<◌, ℕ, All, Contains, IsTrue};
+ghost use Rattle.std.specs.Prelude.{◌≡◌, ◌↔◌, ◌≤◌, ◌<◌, ◌&&◌, ℕ, [], ◌∷◌, All, Contains, IsTrue, not, if◌then◌else◌};
 ghost use Rattle.ecs_model.specs.Reach.{Reached, Reaches};
 ghost use Rattle.ecs_model.specs.Links.{AreLinks, is_reflexive, is_transitive, reaches, upward};
 ghost use Rattle.rel_travel.specs.Lists.{IsListed};
@@ -30,6 +30,21 @@ pub fn reach_of<G: Graph>(graph: &G, relationship: u32) -> Reach
     }
 }
 
+/// Begins with the entity itself, where a reach is reflexive. Whether what the entity brings is to be added too: along what is
+/// transitive that is reached from the entity itself.
+pub fn begin_with<A: Allocator>(index: u32, reach: Reach, found: &mut Found<A>) -> bool
+    requires inside { index < found.old.size }
+    ensures size { found.new.size ≡ found.old.size }
+    ensures items { found.new.items ≡ (if reach.is_reflexive then index ∷ [] else []) }
+    ensures answer { result ≡ not (reach.is_reflexive && reach.is_transitive) }
+{
+    found.clear();
+    if reach.is_reflexive {
+        found.add(index);
+    }
+    !(reach.is_reflexive && reach.is_transitive)
+}
+
 /// Finds what all that is reached from an entity begins with. Along what is transitive the rest is reached from these.
 pub fn begin<R: Rule, A: Allocator>(rule: &R, index: u32, reach: Reach, found: &mut Found<A>)
     requires covered { (x : ℕ) → All (λ y. y < found.old.size) (R.next rule.now x) }
@@ -37,14 +52,9 @@ pub fn begin<R: Rule, A: Allocator>(rule: &R, index: u32, reach: Reach, found: &
     ensures size { found.new.size ≡ found.old.size }
     ensures begun { (y : ℕ) → IsListed reach.is_transitive (R.next rule.now) found.new.items y ↔ Reaches reach.is_transitive reach.is_reflexive (R.next rule.now) index y }
 {
-    found.clear();
-    if reach.is_reflexive {
-        found.add(index);
-        if reach.is_transitive {
-            return;
-        }
+    if begin_with(index, reach, found) {
+        rule.follow(index, found);
     }
-    rule.follow(index, found);
 }
 
 /// Whether a relationship leads from one entity to another.

@@ -1,6 +1,7 @@
 //! Who holds which ids, as the searches see it.
 ghost use Rattle.std.specs.Prelude.{◌≡◌, ◌<◌, ℕ, List, All};
 ghost use Rattle.ecs_id.specs.Id.{Id as IdValue};
+ghost use Rattle.rel_travel.specs.Coming.{with_finds};
 ghost use Rattle.rel_travel.specs.Growing.{IsGrownBy};
 ghost use Rattle.ecs_model.specs.Links.{AreLinks, target_under, targets_in, upward};
 
@@ -38,7 +39,12 @@ pub struct Upward<'a, G> {
 impl<G: Graph> Rule for Upward<'_, G> {
     ghost next = { λ u. upward (G.ids u.graph.now) u.relationship };
 
-    fn follow<A: Allocator>(&self, index: u32, found: &mut Found<A>) {
+    fn follow<A: Allocator>(&self, index: u32, found: &mut Found<A>)
+        requires { All (λ y. y < found.old.size) (upward (G.ids self.now.graph.now) self.now.relationship index) }
+        ensures size { found.new.size ≡ found.old.size }
+        ensures grown { IsGrownBy (upward (G.ids self.now.graph.now) self.now.relationship index) found.old.items found.new.items }
+        ensures items { found.new.items ≡ with_finds found.old.items (upward (G.ids self.now.graph.now) self.now.relationship index) }
+    {
         add_targets(self.graph.ids(index), self.relationship, found);
     }
 }
@@ -54,11 +60,11 @@ pub fn target_under(id: Id, relationship: u32) -> Option<u32>
     }
 }
 
-/// Adds the targets of the pairs of a relationship.
+/// Adds the targets of the pairs of a relationship, in order.
 fn add_targets<A: Allocator>(ids: &[Id], relationship: u32, found: &mut Found<A>)
     requires { All (λ t. t < found.old.size) (targets_in ids.now relationship) }
     ensures size { found.new.size ≡ found.old.size }
-    ensures grown { IsGrownBy (targets_in ids.now relationship) found.old.items found.new.items }
+    ensures items { found.new.items ≡ with_finds found.old.items (targets_in ids.now relationship) }
 {
     for id in ids {
         if let Some(target) = target_under(*id, relationship) {

@@ -1,6 +1,7 @@
 //! Who holds an id that a pattern matches.
 ghost use Rattle.std.specs.Prelude.{◌≡◌, ◌<◌, ◌↔◌, ℕ, All, Contains, flat_map, map};
 ghost use Rattle.rel_travel.specs.Holders.{holders, holders_of_pair};
+ghost use Rattle.rel_travel.specs.Coming.{downward, with_finds};
 ghost use Rattle.rel_travel.specs.Growing.{IsGrownBy};
 
 use crate::found::Found;
@@ -14,16 +15,25 @@ use std::alloc::Allocator;
 pub trait Holders: Graph {
     ghost use Rattle.std.specs.Prelude.{List, ℕ};
     ghost use Rattle.ecs_id.specs.declared.TableKey.{TableKey as Key};
+    ghost use Rattle.component_index.specs.declared.pattern.Pattern.{Pattern as Asked};
 
     /// The indexes of the entities in a table.
     ghost rows: { Self → Key → List ℕ };
+
+    /// The tables whose entities hold an id that the pattern matches, in the order in which they are given.
+    ghost listed: { Self → Asked → List Key };
+
+    /// Law: the tables that are listed for a pattern have exactly the live entities with an id that it matches. The call does nothing.
+    fn lists_holders(&self)
+        ensures { (pattern : Asked) (y : ℕ) → Contains (flat_map (rows self.now) (listed self.now pattern)) y ↔ Contains (holders (Self.entities self.now) (Self.ids self.now) pattern) y };
 
     fn rows(&self, table: TableKey) -> &[EntityId]
         ensures { map (λ e. e.index) result.now ≡ rows self.now table };
 
     /// The tables whose entities hold an id that the pattern matches.
     fn tables_of(&self, pattern: Pattern) -> &[TableKey]
-        ensures { (y : ℕ) → Contains (flat_map (rows self.now) result.now) y ↔ Contains (holders (Self.entities self.now) (Self.ids self.now) pattern) y };
+        ensures listed { result.now ≡ listed self.now pattern }
+        ensures holders { (y : ℕ) → Contains (flat_map (rows self.now) result.now) y ↔ Contains (holders (Self.entities self.now) (Self.ids self.now) pattern) y };
 }
 
 /// From an entity to those that hold a pair of a relationship with it as the target.
@@ -36,29 +46,35 @@ pub struct Downward<'a, G> {
 impl<G: Holders> Rule for Downward<'_, G> {
     ghost next = { λ d x. holders_of_pair (G.entities d.graph.now) (G.ids d.graph.now) x d.relationship };
 
-    fn follow<A: Allocator>(&self, index: u32, found: &mut Found<A>) {
+    fn follow<A: Allocator>(&self, index: u32, found: &mut Found<A>)
+        requires { All (λ y. y < found.old.size) (holders_of_pair (G.entities self.now.graph.now) (G.ids self.now.graph.now) index self.now.relationship) }
+        ensures size { found.new.size ≡ found.old.size }
+        ensures grown { IsGrownBy (holders_of_pair (G.entities self.now.graph.now) (G.ids self.now.graph.now) index self.now.relationship) found.old.items found.new.items }
+        ensures items { found.new.items ≡ with_finds found.old.items (downward (G.rows self.now.graph.now) (G.listed self.now.graph.now) self.now.relationship index) }
+    {
         let first = Part::Is(self.relationship);
         let second = Some(Part::Is(index));
         add_holders(self.graph, Pattern { first, second }, found);
     }
 }
 
-/// Adds the entities that hold an id which the pattern matches.
+/// Adds the entities that hold an id which the pattern matches, table by table.
 pub fn add_holders<G: Holders, A: Allocator>(graph: &G, pattern: Pattern, found: &mut Found<A>)
     requires { All (λ y. y < found.old.size) (holders (G.entities graph.now) (G.ids graph.now) pattern) }
     ensures size { found.new.size ≡ found.old.size }
     ensures grown { IsGrownBy (holders (G.entities graph.now) (G.ids graph.now) pattern) found.old.items found.new.items }
+    ensures items { found.new.items ≡ with_finds found.old.items (flat_map (G.rows graph.now) (G.listed graph.now pattern)) }
 {
     for table in graph.tables_of(pattern) {
         add_rows(graph.rows(*table), found);
     }
 }
 
-/// Adds the entities of a table.
+/// Adds the entities of a table, in order.
 fn add_rows<A: Allocator>(rows: &[EntityId], found: &mut Found<A>)
     requires { All (λ e. e.index < found.old.size) rows.now }
     ensures size { found.new.size ≡ found.old.size }
-    ensures grown { IsGrownBy (map (λ e. e.index) rows.now) found.old.items found.new.items }
+    ensures items { found.new.items ≡ with_finds found.old.items (map (λ e. e.index) rows.now) }
 {
     for entity in rows {
         found.add(entity.index);

@@ -1,16 +1,19 @@
 //! The searches of a graph, in room that is made once.
-ghost use Rattle.std.specs.Prelude.{◌≡◌, ◌==◌, ◌↔◌, ◌+◌, ◌≤◌, ◌<◌, ℕ, [], length, max, find, All, Contains, IsTrue, OnOk, OnErr};
+ghost use Rattle.std.specs.Prelude.{◌≡◌, ◌==◌, ◌↔◌, ◌+◌, ◌≤◌, ◌<◌, ℕ, List, [], ◌∷◌, length, max, find, All, Contains, IsTrue, MatchOption, OnOk, OnErr};
 ghost use Rattle.std.specs.List.{list_any, IsDistinct};
 ghost use Rattle.component_index.specs.Patterns.{matches};
+ghost use Rattle.component_index.specs.declared.pattern.Pattern.{Pattern as Asked};
+ghost use Rattle.ecs_id.specs.declared.TableKey.{TableKey};
 ghost use Rattle.ecs_model.specs.Falls.{falling};
 ghost use Rattle.ecs_model.specs.Links.{IsAcyclic, IsReached, line, reaches as reaches_in, upward};
 ghost use Rattle.ecs_model.specs.Reach.{IsLeast, Reached};
 ghost use Rattle.rel_travel.specs.Lists.{GivesOne, IsListing, IsToCome, given_by, steps};
 ghost use Rattle.rel_travel.specs.Growing.{IsGrownBy};
+ghost use Rattle.rel_travel.specs.Coming.{above_list, below_list, brought, coming, with_finds};
 ghost use Rattle.rel_travel.specs.Finds.{is_among, with_find};
 ghost use Rattle.rel_travel.specs.Referring.{is_forbidden, referrers};
 
-use crate::chains::{Reach, begin, leads, leads_back, reach_of};
+use crate::chains::{begin_with, leads, leads_back, reach_of};
 use crate::falls::find_falling;
 use crate::forbidding::has_forbidder;
 use crate::found::Found;
@@ -167,6 +170,7 @@ pub fn above<G: Graph, A: Allocator>(
     ensures begun { IsListing (G.entities graph.now) (G.ids graph.now) scratch.new }
     ensures none_given { given_by scratch.new ≡ [] }
     ensures reached { (y : ℕ) → IsToCome (G.entities graph.now) (G.ids graph.now) scratch.new y ↔ IsReached (G.ids graph.now) relationship index y }
+    ensures coming { (rows : TableKey → List ℕ) (listed : Asked → List TableKey) → coming rows listed (G.ids graph.now) scratch.new ≡ above_list (G.size graph.now) (G.ids graph.now) relationship index }
 {
     let _ = graph.size();
     let reach = reach_of(graph, relationship);
@@ -174,7 +178,9 @@ pub fn above<G: Graph, A: Allocator>(
         graph,
         relationship,
     };
-    begin(&rule, index, reach, &mut scratch.found);
+    if begin_with(index, reach, &mut scratch.found) {
+        rule.follow(index, &mut scratch.found);
+    }
     scratch.list = Listing {
         relationship,
         is_upward: true,
@@ -198,14 +204,18 @@ pub fn below<G: Holders, A: Allocator>(
     ensures begun { IsListing (G.entities graph.now) (G.ids graph.now) scratch.new }
     ensures none_given { given_by scratch.new ≡ [] }
     ensures reached { (y : ℕ) → IsToCome (G.entities graph.now) (G.ids graph.now) scratch.new y ↔ IsReached (G.ids graph.now) relationship y index }
+    ensures coming { coming (G.rows graph.now) (G.listed graph.now) (G.ids graph.now) scratch.new ≡ below_list (G.rows graph.now) (G.listed graph.now) (G.size graph.now) (G.ids graph.now) relationship index }
 {
     let _ = graph.size();
+    graph.lists_holders();
     let reach = reach_of(graph, relationship);
     let rule = Downward {
         graph,
         relationship,
     };
-    begin(&rule, index, reach, &mut scratch.found);
+    if begin_with(index, reach, &mut scratch.found) {
+        rule.follow(index, &mut scratch.found);
+    }
     scratch.list = Listing {
         relationship,
         is_upward: false,
@@ -214,15 +224,17 @@ pub fn below<G: Holders, A: Allocator>(
     };
 }
 
-/// Gives the next entity of the list that was begun last, each once and in no order that is told, or None where all are given.
+/// Gives the next entity of the list that was begun last, each once, or None where all are given.
+///
+/// What a list gives, and in which order, is told by the graph and by what was begun alone.
 ///
 /// It goes through the ids, or the sources, of the entity that it gives.
 pub fn pull<G: Holders, A: Allocator>(graph: &G, scratch: &mut Scratch<A>) -> Option<u32>
     requires covered { G.size graph.now ≤ scratch.old.size }
-    requires begun { IsListing (G.entities graph.now) (G.ids graph.now) scratch.old }
     ensures size { scratch.new.size ≡ scratch.old.size }
-    ensures begun { IsListing (G.entities graph.now) (G.ids graph.now) scratch.new }
-    ensures given { GivesOne (G.entities graph.now) (G.ids graph.now) scratch.old result scratch.new }
+    ensures next { MatchOption result (coming (G.rows graph.now) (G.listed graph.now) (G.ids graph.now) scratch.old ≡ []) (λ e. coming (G.rows graph.now) (G.listed graph.now) (G.ids graph.now) scratch.old ≡ e ∷ coming (G.rows graph.now) (G.listed graph.now) (G.ids graph.now) scratch.new) }
+    ensures begun { IsListing (G.entities graph.now) (G.ids graph.now) scratch.old → IsListing (G.entities graph.now) (G.ids graph.now) scratch.new }
+    ensures given { IsListing (G.entities graph.now) (G.ids graph.now) scratch.old → GivesOne (G.entities graph.now) (G.ids graph.now) scratch.old result scratch.new }
     ensures fits { length (given_by scratch.new) ≤ scratch.new.size }
 {
     let _ = graph.size();
@@ -243,6 +255,7 @@ fn follow<G: Holders, A: Allocator>(graph: &G, list: Listing, entity: u32, found
     requires covered { G.size graph.now ≤ found.old.size }
     ensures size { found.new.size ≡ found.old.size }
     ensures grown { IsGrownBy (steps (G.entities graph.now) (G.ids graph.now) list.is_upward list.relationship entity) found.old.items found.new.items }
+    ensures items { found.new.items ≡ with_finds found.old.items (brought (G.rows graph.now) (G.listed graph.now) (G.ids graph.now) list.is_upward list.relationship entity) }
 {
     let _ = graph.size();
     let relationship = list.relationship;

@@ -1,17 +1,13 @@
-use Rattle.std.proofs.Common.{◌≡◌, [], ◌∷◌}
-use Rattle.rel_travel.proofs.Begun.{begun, begun_alone, begun_by_step}
+use Rattle.std.proofs.Common.{sym, ◌∙◌, inl, inr}
+use Rattle.rel_travel.proofs.Turns.{started}
 use Rattle.rel_travel.proofs.chains.begin.Goals as goal
-use Rattle.rel_travel.proofs.chains.begin.Goals.{then-reach+else-reach-2, else-reach}
 
-pub returns-then-reach-2-clause-begun : goal.returns-then-reach-2-clause-begun
-returns-then-reach-2-clause-begun g c =
-    let next = g.R.Rule.next c.args.rule.now in
-    let items : c.add.new.self.items ≡ c.args.index ∷ [] = rw (c.add.ensures.items, c.clear.ensures) in
-    rw (c.if-reach.true, c.if-reach-2.true, items) (begun_alone next c.args.index)
+pub returns-then-begin_with-clause-begun : goal.returns-then-begin_with-clause-begun
+returns-then-begin_with-clause-begun g c =
+    started c.args.reach.is_transitive c.args.reach.is_reflexive (g.R.Rule.next c.args.rule.now) c.args.index c.follow.new.found.items
+    (inl (sym c.begin_with.ensures.answer ∙ c.if-begin_with.true, rw (← c.begin_with.ensures.items) c.follow.ensures.grown))
 
-pub returns-clause-begun : goal.returns-clause-begun
-returns-clause-begun g c =
-    let next = g.R.Rule.next c.args.rule.now in
-    let start : c.if-reach.found.items ≡ begun c.args.reach.is_reflexive c.args.index =
-    elim c.if-reach.branch [ then-reach+else-reach-2 w ↦ rw (w.found-is, w.add.ensures.items, c.clear.ensures, w.if-reach.true) | else-reach w ↦ rw (w.found-is, c.clear.ensures, w.if-reach.false) ] in
-    begun_by_step c.args.reach.is_transitive c.args.reach.is_reflexive next c.args.index c.follow.new.found.items (rw (← start) c.follow.ensures.grown)
+pub returns-else-begin_with-clause-begun : goal.returns-else-begin_with-clause-begun
+returns-else-begin_with-clause-begun g c =
+    started c.args.reach.is_transitive c.args.reach.is_reflexive (g.R.Rule.next c.args.rule.now) c.args.index c.begin_with.new.found.items
+    (inr (sym c.begin_with.ensures.answer ∙ c.if-begin_with.false, c.begin_with.ensures.items))

@@ -19,7 +19,7 @@ add_pairs-requires g c =
     let tables = c.tables_of-table-items.result.now in
     rw c.loop-table.invariant.size
     (All-alike (λ y. y < c.args.found.now.size) (flat_map (λ e. pairs (index e)) c.rows.result.now) (flat_map pairs deleting)
-    (one_of_all pairs (g.G.Holders.rows c.args.graph.now) tables c.loop-table.table-index none index c.rows.result.now deleting (omega arith) c.rows.ensures (λ r. (c.tables_of-table-items.ensures r).0))
+    (one_of_all pairs (g.G.Holders.rows c.args.graph.now) tables c.loop-table.table-index none index c.rows.result.now deleting (omega arith) c.rows.ensures (λ r. (c.tables_of-table-items.ensures.holders r).0))
     c.requires)
 
 pub loop-table-preserved : goal.loop-table-preserved
@@ -41,7 +41,7 @@ returns-clause-grown g c =
     let pairs = holders_of_pair (g.G.Graph.entities c.args.graph.now) (g.G.Graph.ids c.args.graph.now) c.args.target in
     let deleting = holders_of_pair (g.G.Graph.entities c.args.graph.now) (g.G.Graph.ids c.args.graph.now) 17 15 in
     let tables = c.tables_of-table-items.result.now in
-    let same = c.tables_of-table-items.ensures in
+    let same = c.tables_of-table-items.ensures.holders in
     let all : IsGrownBy (flat_map (λ (t : TableKey). flat_map pairs (rows t)) tables) c.args.found.now.items c.loop-table.found.items =
     rw (← take_all c.loop-table.table-index tables (omega arith)) c.loop-table.invariant.grown in
     let joined : IsGrownBy (flat_map pairs (flat_map rows tables)) c.args.found.now.items c.loop-table.found.items = rw (← flat_map_twice pairs rows tables) all in

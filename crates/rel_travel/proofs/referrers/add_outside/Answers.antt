@@ -15,13 +15,13 @@ add_rows_outside-requires-clause-covered g c =
     let none : TableKey = record { slot = 0; serial = 0 } in
     rw c.loop-table.invariant.size
     (rows_below (g.G.Holders.rows c.args.graph.now) c.tables_of-table-items.result.now c.loop-table.table-index none c.args.found.now.size (λ (e : EntityId). e.index) c.rows.result.now (omega arith) c.rows.ensures
-    (λ y h. holders_below c.size.ensures.links c.args.found.now.size c.requires.covered c.args.pattern y ((c.tables_of-table-items.ensures y).0 h)))
+    (λ y h. holders_below c.size.ensures.links c.args.found.now.size c.requires.covered c.args.pattern y ((c.tables_of-table-items.ensures.holders y).0 h)))
 
 pub add_rows_outside-requires-clause-members : goal.add_rows_outside-requires-clause-members
 add_rows_outside-requires-clause-members g c =
     let none : TableKey = record { slot = 0; serial = 0 } in
     rows_below (g.G.Holders.rows c.args.graph.now) c.tables_of-table-items.result.now c.loop-table.table-index none c.args.members.now.size (λ (e : EntityId). e.index) c.rows.result.now (omega arith) c.rows.ensures
-    (λ y h. holders_below c.size.ensures.links c.args.members.now.size c.requires.members c.args.pattern y ((c.tables_of-table-items.ensures y).0 h))
+    (λ y h. holders_below c.size.ensures.links c.args.members.now.size c.requires.members c.args.pattern y ((c.tables_of-table-items.ensures.holders y).0 h))
 
 pub loop-table-preserved : goal.loop-table-preserved
 loop-table-preserved g c =
@@ -42,4 +42,4 @@ returns-clause-grown g c =
     let rows = g.G.Holders.rows c.args.graph.now in
     let all : IsGrownBy (flat_map (λ (t : TableKey). filter (is_outside members) (rows t)) tables) c.args.found.now.items c.loop-table.found.items =
     rw (← take_all c.loop-table.table-index tables (omega arith)) c.loop-table.invariant.grown in
-    IsGrownWhere-same c.args.found.now.items c.loop-table.found.items (outside_alike members rows tables _ c.tables_of-table-items.ensures) all
+    IsGrownWhere-same c.args.found.now.items c.loop-table.found.items (outside_alike members rows tables _ c.tables_of-table-items.ensures.holders) all
