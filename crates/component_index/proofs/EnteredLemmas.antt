@@ -134,7 +134,7 @@ IsMatched-from_test tables p k h = matched p (finite.get tables k) h
 pub test-from_IsMatched : (tables : Entered) (p : Pattern) (k : TableKey) → IsMatched tables p k → is_matched tables p k ≡ true
 test-from_IsMatched tables p k h = ap (matched_in p) h.1 ∙ h.2
 
-table_eq_equiv : IsEquivalence table_eq
+pub table_eq_equiv : IsEquivalence table_eq
 table_eq_equiv = subst IsEquivalence (λ i x y. eq_by-table_cmp x y i) (eq_by_cmp_equiv table_cmp_total)
 
 -- the list of a pattern has the tables that it matches

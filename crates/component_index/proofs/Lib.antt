@@ -1,2 +1,3 @@
 mod EnteredLemmas
 mod ListedLemmas
+mod ListingLemmas

@@ -1,4 +1,5 @@
 pub mod Entered
 pub mod Listed
+pub mod Listings
 pub mod Patterns
 pub mod SamePattern

@@ -7,8 +7,11 @@ ghost use Rattle.std.specs.FinMap as finite;
 ghost use Rattle.indexmap.specs.IndexMap.{IsUnchanged, spare};
 ghost use Rattle.ecs_id.specs.declared.TableKey.{TableKey};
 ghost use Rattle.component_index.specs.Entered.{table_eq, IsMatched};
+ghost use Rattle.component_index.specs.Listings.{listed_in, ListsEntered};
+ghost use Rattle.component_index.specs.declared.pattern.Pattern.{Pattern as Asked};
 
 mod hashing;
+mod listings;
 mod lists;
 mod pattern;
 
@@ -16,6 +19,7 @@ use crate::hashing::Hashing;
 use crate::lists::{Lists, list_all, unlist_all};
 use ecs_id::{Id, TableKey};
 use indexmap::IndexMap;
+pub use listings::Listings;
 pub use pattern::{Part, Pattern};
 use std::alloc::{AllocError, Allocator, Global};
 use std::hash::RandomState;
@@ -88,10 +92,15 @@ impl<A: Allocator> ComponentIndex<A> {
         ensures listed { (key : TableKey) → Contains result.now key ↔ IsMatched self.now pattern key }
         ensures once { IsDistinct table_eq result.now }
     {
-        match self.lists.get(&pattern) {
-            Some(list) => list.as_slice(),
-            None => &[],
-        }
+        self.listings().tables_of(pattern)
+    }
+
+    /// The lists of all patterns, each of which has a table once.
+    pub fn listings(&self) -> Listings<'_, A>
+        ensures entered { ListsEntered self.now result }
+        ensures once { (pattern : Asked) → IsDistinct table_eq (listed_in result pattern) }
+    {
+        Listings::new(&self.lists)
     }
 
     /// Takes out a table that was entered with these ids.

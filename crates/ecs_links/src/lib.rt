@@ -2,10 +2,10 @@
 #![tactic(auto, using(ecs_id::specs::Id::id_tests))]
 
 ghost use Rattle.std.specs.Prelude.{◌≡◌};
-ghost use Rattle.ecs_links.specs.Linked.{AreLinked, Linked};
+ghost use Rattle.ecs_links.specs.Linked.{AreLinked, AreListsOf, Linked};
 
-use component_index::Pattern;
-use ecs_archetypes::Archetypes;
+use component_index::{Listings, Pattern};
+use ecs_archetypes::{Archetypes, Graph as Tables};
 use ecs_id::{EntityId, Id, TableKey};
 use rel_travel::{Graph, Holders};
 use std::alloc::Allocator;
@@ -18,16 +18,17 @@ use std::marker::Model;
 pub struct Links<'a, A: Allocator> {
     archetypes: &'a Archetypes<A>,
     size: u32,
+    listings: Listings<'a, A>,
 }
 
 impl<'a, A: Allocator> Model for Links<'a, A> {
-    ghost use Rattle.ecs_links.specs.Linked.{AreLinked, Linked};
+    ghost use Rattle.ecs_links.specs.Linked.{AreJoined, Linked};
 
     ghost Value = { Linked };
 
-    ghost view = { λ l. record { housing = l.archetypes.now; size = l.size } };
+    ghost view = { λ l. record { housing = l.archetypes.now; size = l.size; lists = l.listings } };
 
-    ghost invariant = { λ l. AreLinked (record { housing = l.archetypes.now; size = l.size }) };
+    ghost invariant = { λ l. AreJoined (record { housing = l.archetypes.now; size = l.size; lists = l.listings }) };
 }
 
 impl<'a, A: Allocator> Links<'a, A> {
@@ -35,10 +36,24 @@ impl<'a, A: Allocator> Links<'a, A> {
     ///
     /// Only live entities hold ids, and these mention live entities alone, as in every world.
     pub fn new(archetypes: &'a Archetypes<A>, size: u32) -> Self
-        requires linked { AreLinked (record { housing = archetypes.now; size = size }) }
-        ensures { result ≡ record { housing = archetypes.now; size = size } }
+        requires linked { AreLinked archetypes.now size }
+        ensures { result ≡ record { housing = archetypes.now; size = size; lists = result.lists } }
     {
-        Links { archetypes, size }
+        let listings = archetypes.graph().listings();
+        Links {
+            archetypes,
+            size,
+            listings,
+        }
+    }
+
+    /// The entities with their places, and the tables with their rows.
+    pub fn tables(&self) -> Tables<'a, A>
+        ensures tables { result ≡ self.now.housing }
+        ensures lists { AreListsOf self.now.housing self.now.lists }
+    {
+        let _ = self.size;
+        self.archetypes.graph()
     }
 }
 
@@ -67,9 +82,19 @@ impl<A: Allocator> Graph for Links<'_, A> {
 }
 
 impl<A: Allocator> Holders for Links<'_, A> {
-    ghost use Rattle.ecs_links.specs.Linked.{rows_under};
+    ghost use Rattle.ecs_links.specs.Linked.{rows_under, tables_under};
 
     ghost rows = { λ l k. rows_under l k };
+
+    ghost listed = { λ l p. tables_under l p };
+
+    fn lists_holders(&self) {
+        let graph = self.archetypes.graph();
+        // What is known of each row and of each place.
+        let _ = graph.store();
+        let _ = graph.index();
+        let _ = self.size;
+    }
 
     fn rows(&self, table: TableKey) -> &[EntityId] {
         let graph = self.archetypes.graph();
@@ -80,10 +105,7 @@ impl<A: Allocator> Holders for Links<'_, A> {
     }
 
     fn tables_of(&self, pattern: Pattern) -> &[TableKey] {
-        let graph = self.archetypes.graph();
-        // What is known of each row and of each place.
-        let _ = graph.store();
-        let _ = graph.index();
-        graph.tables_of(pattern)
+        self.lists_holders();
+        self.listings.tables_of(pattern)
     }
 }

@@ -92,12 +92,3 @@ IsGrownBy-find added old new y g = find_at (is_among new y) added old new y refl
 -- the targets among one id more
 pub targets_more : (ids : List Id) (r k : ℕ) (i d : Id) → k < length ids → i ≡ get_or ids k d → targets_in (take (k + 1) ids) r ≡ targets_in (take k ids) r ++ targets_in (i ∷ []) r
 targets_more ids r k i d l e = rw (take_more ids k d l, ← e) (filter_map-append (target_under r) (take k ids) (i ∷ []))
-
--- what an id brings, by whether it is a pair of the relationship
-pub grown_by_target : (ids : List Id) (r k : ℕ) (i d : Id) (y : ℕ) (old new : List ℕ) → k < length ids → i ≡ get_or ids k d → target_under r i ≡ Some y
-    → IsGrownBy (targets_in (take k ids) r) old new → IsGrownBy (targets_in (take (k + 1) ids) r) old (with_find new y)
-grown_by_target ids r k i d y old new l e t g = rw (targets_more ids r k i d l e, t) (IsGrownBy-find (targets_in (take k ids) r) old new y g)
-
-pub grown_by_none : (ids : List Id) (r k : ℕ) (i d : Id) (old new : List ℕ) → k < length ids → i ≡ get_or ids k d → target_under r i ≡ None
-    → IsGrownBy (targets_in (take k ids) r) old new → IsGrownBy (targets_in (take (k + 1) ids) r) old new
-grown_by_none ids r k i d old new l e t g = rw (targets_more ids r k i d l e, t, append-nil (targets_in (take k ids) r)) g

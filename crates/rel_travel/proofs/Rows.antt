@@ -11,11 +11,6 @@ use Rattle.rel_travel.specs.Growing.{IsGrownBy}
 use Rattle.rel_travel.proofs.Growth.{IsGrownBy-find, IsGrownBy-then}
 use Rattle.ecs_model.proofs.Members.{in_flat_map}
 
--- one row more
-pub row_added : {E : Type 0} (f : E → ℕ) (es : List E) (k : ℕ) (d : E) (old new : List ℕ) → k < length es → IsGrownBy (map f (take k es)) old new
-    → IsGrownBy (map f (take (k + 1) es)) old (with_find new (f (get_or es k d)))
-row_added f es k d old new l g = rw (take_more es k d l, map-append f (take k es) (get_or es k d ∷ [])) (IsGrownBy-find (map f (take k es)) old new (f (get_or es k d)) g)
-
 -- one table more
 pub table_added : {T : Type 0} (rows : T → List ℕ) (ts : List T) (k : ℕ) (d : T) (added old mid new : List ℕ) → k < length ts → added ≡ rows (get_or ts k d) → IsGrownBy (flat_map rows (take k ts)) old mid → IsGrownBy added mid new
     → IsGrownBy (flat_map rows (take (k + 1) ts)) old new

@@ -11,7 +11,7 @@ use Rattle.ecs_links.proofs.LinksGraph.ids.Goals as goal
 pub returns-in_default : goal.returns-in_default
 returns-in_default g c =
     let l = c.args.self.now in
-    let links : AreLinked l = rw (← c.self.view_is) c.self.invariant in
+    let links : AreLinked l.housing l.size = rw (← c.self.view_is) c.self.invariant.linked in
     let live = (holdings_of l.housing).live in
     let dead = is_none (λ (n : ℕ). let e : EntityId = record { index = c.args.index; generation = n } in e) (value_at nat_cmp live c.args.index) (sym c.in_default.is ∙ rw (← c.self.view_is) c.at.ensures) in
     sym (nothing_held l.size live (ids_at_index l) links c.args.index dead)

@@ -1,0 +1,99 @@
+-- The lists of tables, each of which has a table once.
+use Rattle.std.proofs.Common.{◌≡◌, ◌⊎◌, ◌↔◌, Bool, true, false, cond, List, [], ◌∷◌, ◌++◌, map, Option, Some, None, Contains, refl, sym, ap, subst, ◌∙◌, inl, inr, arith}
+use Rattle.std.specs.Prelude.{unwrap_or}
+use Rattle.std.specs.declared.vec.Vec.{Vec}
+use Rattle.std.specs.Option.{option_map}
+use Rattle.std.specs.List.{IsDistinct, list_any}
+use Rattle.std.specs.Cmp.{IsEquivalence}
+use Rattle.std.specs.HashMap.{HashMap, get}
+use Rattle.std.specs.HashSet.{HashSet}
+use Rattle.std.specs.Map.{lookup}
+use Rattle.std.proofs.lemmas.List.Elements.{Contains-append_cases, Contains-append_left, Contains-append_right, Contains-push, Contains-push_cases}
+use Rattle.std.proofs.lemmas.Map.Keys.{IsDistinct-push}
+use Rattle.std.proofs.lemmas.Map.Made.{lookup-map_values}
+use Rattle.indexmap.specs.IndexSet.{insert_all, insert_key}
+use Rattle.indexmap.proofs.CallerLemmas.{Contains-insert_key}
+use Rattle.indexmap.proofs.SetLemmas.{set_all_distinct}
+use Rattle.ecs_id.specs.Id.{Id}
+use Rattle.ecs_id.specs.declared.TableKey.{TableKey}
+use Rattle.component_index.specs.declared.pattern.Pattern.{Pattern}
+use Rattle.component_index.specs.Entered.{Entered, IsMatched, same_table, table_eq}
+use Rattle.component_index.specs.Listed.{AreListed, entered_in}
+use Rattle.component_index.specs.Listings.{Lists, ListsEntered, listed_in, lists_of}
+use Rattle.component_index.specs.SamePattern.{pattern_eq}
+use Rattle.component_index.proofs.EnteredLemmas.{in_list, in_no_list, table_eq_equiv}
+
+-- ---- keys that are put in, one after another
+distinct_key : (ks : List TableKey) (x : TableKey) → IsDistinct table_eq ks → IsDistinct table_eq (insert_key table_eq ks x)
+distinct_key ks x d = by (list_any (table_eq x) ks) refl
+  where
+    by : (b : Bool) → list_any (table_eq x) ks ≡ b → IsDistinct table_eq (cond b ks (ks ++ x ∷ []))
+    by true e = d
+    by false e = IsDistinct-push table_eq_equiv ks x d e
+
+distinct_keys : (ks xs : List TableKey) → IsDistinct table_eq ks → IsDistinct table_eq (insert_all table_eq ks xs)
+distinct_keys ks [] d = d
+distinct_keys ks (x ∷ xs) d = distinct_keys (insert_key table_eq ks x) xs (distinct_key ks x d)
+
+key_kept : (ks : List TableKey) (x k : TableKey) → Contains ks k → Contains (insert_key table_eq ks x) k
+key_kept ks x k h = by (list_any (table_eq x) ks)
+  where
+    by : (b : Bool) → Contains (cond b ks (ks ++ x ∷ [])) k
+    by true = h
+    by false = Contains-append_left ks (x ∷ []) k h
+
+key_from : (ks : List TableKey) (x k : TableKey) → Contains (insert_key table_eq ks x) k → Contains ks k ⊎ (x ≡ k)
+key_from ks x k h = by (list_any (table_eq x) ks) h
+  where
+    by : (b : Bool) → Contains (cond b ks (ks ++ x ∷ [])) k → Contains ks k ⊎ (x ≡ k)
+    by true i = inl i
+    by false i = Contains-push_cases ks x k i
+
+keys_from : (ks xs : List TableKey) (k : TableKey) → Contains (insert_all table_eq ks xs) k → Contains ks k ⊎ Contains xs k
+keys_from ks [] k h = inl h
+keys_from ks (x ∷ xs) k h =
+    elim (keys_from (insert_key table_eq ks x) xs k h) [
+      | inl i ↦ elim (key_from ks x k i) [ inl j ↦ inl j | inr e ↦ inr (0, omega arith, e) ]
+      | inr t ↦ inr (Contains-append_right (x ∷ []) xs k t)
+    ]
+
+keys_in : (ks xs : List TableKey) (k : TableKey) → Contains ks k ⊎ Contains xs k → Contains (insert_all table_eq ks xs) k
+keys_in ks [] k (inl h) = h
+keys_in ks [] k (inr h) = absurd (omega (arith, h.1))
+keys_in ks (x ∷ xs) k (inl h) = keys_in (insert_key table_eq ks x) xs k (inl (key_kept ks x k h))
+keys_in ks (x ∷ xs) k (inr h) =
+    elim (Contains-append_cases (x ∷ []) xs k h) [
+      | inl i ↦ elim (Contains-push_cases [] x k i) [ inl n ↦ absurd (omega (arith, n.1)) | inr e ↦ keys_in (insert_key table_eq ks x) xs k (inl (rw (← e) (Contains-insert_key table_eq same_table ks x))) ]
+      | inr t ↦ keys_in (insert_key table_eq ks x) xs k (inr t)
+    ]
+
+each_once : (xs : List TableKey) (k : TableKey) → Contains (insert_all table_eq [] xs) k ↔ Contains xs k
+each_once xs k = (λ h. elim (keys_from [] xs k h) [ inl n ↦ absurd (omega (arith, n.1)) | inr t ↦ t ], λ h. keys_in [] xs k (inr h))
+
+none_once : IsDistinct table_eq []
+unfolding IsDistinct
+none_once = tt
+
+pub listed_once : (lists : Lists) (p : Pattern) → IsDistinct table_eq (listed_in lists p)
+listed_once lists p = distinct_keys [] (unwrap_or (lookup (pattern_eq p) lists) []) none_once
+
+-- ---- the list of a pattern
+module _ {T S : Type 0} (lists : HashMap Pattern (HashSet TableKey T) S) (p : Pattern) where
+  read_of : (o : Option (HashSet TableKey T)) → get pattern_eq lists p ≡ o → listed_in (lists_of lists) p ≡ insert_all table_eq [] (unwrap_or (option_map (λ list. list.keys) o) [])
+  read_of o is = ap (λ found. insert_all table_eq [] (unwrap_or found [])) (lookup-map_values (λ list. list.keys) (pattern_eq p) lists.entries ∙ ap (option_map (λ list. list.keys)) is)
+
+  pub read_some : (list : HashSet TableKey T) → get pattern_eq lists p ≡ Some list → IsDistinct table_eq list.keys → list.keys ≡ listed_in (lists_of lists) p
+  read_some list is d = sym (read_of (Some list) is ∙ set_all_distinct table_eq_equiv [] list.keys d)
+
+  pub read_none : get pattern_eq lists p ≡ None → [] ≡ listed_in (lists_of lists) p
+  read_none is = sym (read_of None is)
+
+pub lists_entered : {Y R T S : Type 0} (m : HashMap TableKey (Vec Id Y) R) (lists : HashMap Pattern (HashSet TableKey T) S) → AreListed m lists → (tables : Entered) → entered_in m ≡ tables → ListsEntered tables (lists_of lists)
+lists_entered {Y} {R} {T} {S} m lists right tables view p k = by (get pattern_eq lists p) refl
+  where
+    by : (o : Option (HashSet TableKey T)) → get pattern_eq lists p ≡ o → Contains (listed_in (lists_of lists) p) k ↔ IsMatched tables p k
+    by None is = rw (read_of lists p None is) (in_no_list m lists right tables view p is k)
+    by (Some list) is =
+        let same = each_once list.keys k in
+        let holds = in_list m lists right tables view p list is list.keys refl k in
+        rw (read_of lists p (Some list) is) (λ h. holds.0 (same.0 h), λ h. same.1 (holds.1 h))

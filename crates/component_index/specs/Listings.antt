@@ -1,0 +1,25 @@
+-- The lists of tables by pattern, as they are read.
+use Rattle.std.specs.Prelude.{◌↔◌, List, [], map, unwrap_or, Contains}
+use Rattle.std.specs.Map.{lookup}
+use Rattle.std.specs.HashMap.{HashMap}
+use Rattle.std.specs.HashSet.{HashSet}
+use Rattle.indexmap.specs.IndexSet.{insert_all}
+use Rattle.ecs_id.specs.declared.TableKey.{TableKey}
+use Rattle.component_index.specs.declared.pattern.Pattern.{Pattern}
+use Rattle.component_index.specs.Entered.{Entered, IsMatched, table_eq}
+use Rattle.component_index.specs.SamePattern.{pattern_eq}
+
+-- patterns, each with its tables
+abbrev pub Lists : Type 0
+Lists = List (Pattern × List TableKey)
+
+abbrev pub lists_of : {T S : Type 0} → HashMap Pattern (HashSet TableKey T) S → Lists
+lists_of lists = map (λ e. (e.0, e.1.keys)) lists.entries
+
+-- the tables that are listed for a pattern, in order, each once
+abbrev pub listed_in : Lists → Pattern → List TableKey
+listed_in lists pattern = insert_all table_eq [] (unwrap_or (lookup (pattern_eq pattern) lists) [])
+
+-- for each pattern exactly the tables that are entered with an id that it matches
+abbrev pub ListsEntered : Entered → Lists → Type 0
+ListsEntered tables lists = (pattern : Pattern) (key : TableKey) → Contains (listed_in lists pattern) key ↔ IsMatched tables pattern key

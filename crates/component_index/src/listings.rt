@@ -1,0 +1,44 @@
+//! The lists of tables, for reading.
+ghost use Rattle.std.specs.Prelude.{◌≡◌};
+ghost use Rattle.std.specs.List.{IsDistinct};
+ghost use Rattle.component_index.specs.Entered.{table_eq};
+ghost use Rattle.component_index.specs.Listings.{listed_in, lists_of};
+
+use crate::lists::Lists;
+use crate::pattern::Pattern;
+use ecs_id::TableKey;
+use std::alloc::Allocator;
+use std::marker::Model;
+
+/// For each pattern the tables that are listed for it, in an order that stays while the index stays.
+#[derive(Drop)]
+pub struct Listings<'a, A: Allocator> {
+    lists: &'a Lists<A>,
+}
+
+impl<'a, A: Allocator> Model for Listings<'a, A> {
+    ghost use Rattle.component_index.specs.Listings.{Lists as Listed, lists_of};
+
+    ghost Value = { Listed };
+
+    ghost view = { λ l. lists_of l.lists.now };
+}
+
+impl<'a, A: Allocator> Listings<'a, A> {
+    pub(crate) fn new(lists: &'a Lists<A>) -> Self
+        ensures { result ≡ lists_of lists.now }
+    {
+        Listings { lists }
+    }
+
+    /// The tables that are listed for a pattern, each once.
+    pub fn tables_of(&self, pattern: Pattern) -> &'a [TableKey]
+        ensures listed { result.now ≡ listed_in self.now pattern }
+        ensures once { IsDistinct table_eq result.now }
+    {
+        match self.lists.get(&pattern) {
+            Some(list) => list.as_slice(),
+            None => &[],
+        }
+    }
+}
