@@ -2,6 +2,7 @@
 use Rattle.std.proofs.Common.{◌≡◌, ℕ, ◌&&◌, Bool, true, false, is_some, refl, sym, ap, subst}
 use Rattle.std.specs.Ordering.{nat_cmp}
 use Rattle.ecs_id.specs.declared.EntityId.{EntityId}
+use Rattle.component_index.specs.Listings.{Lists}
 use Rattle.ecs_model.specs.Map.{Map, value_at}
 use Rattle.ecs_model.specs.Schema.{Schema}
 use Rattle.ecs_model.specs.World.{WorldState, is_alive}
@@ -52,6 +53,6 @@ pub graph_told : (g : Housing) (names : Names) (schemas : Map ℕ Schema) (pins 
 graph_told g names schemas pins accepted world = record { tables = refl; live = refl; settled = alive_settled world; facts = held_facts world }
 
 -- and so do the searches along relationships
-pub links_told : (g : Housing) (names : Names) (schemas : Map ℕ Schema) (pins : Map ℕ ℕ) (accepted : ℕ) → IsWorld (parts_of (holdings_of g) names schemas pins accepted) → (n : ℕ) → n ≡ live_size (holdings_of g).live
-    → IsLinksOf (record { state = state_of (parts_of (holdings_of g) names schemas pins accepted); tables = g.tables }) (record { housing = g; size = n })
-links_told g names schemas pins accepted world n is = record { sees = sees world; tables = refl; size = is }
+pub links_told : (g : Housing) (names : Names) (schemas : Map ℕ Schema) (pins : Map ℕ ℕ) (accepted : ℕ) → IsWorld (parts_of (holdings_of g) names schemas pins accepted) → (n : ℕ) → n ≡ live_size (holdings_of g).live → (lists : Lists)
+    → IsLinksOf (record { state = state_of (parts_of (holdings_of g) names schemas pins accepted); tables = g.tables }) (record { housing = g; size = n; lists = lists })
+links_told g names schemas pins accepted world n is lists = record { sees = sees world; tables = refl; size = is }
