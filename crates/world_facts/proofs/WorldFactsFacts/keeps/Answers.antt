@@ -1,0 +1,9 @@
+use Rattle.world_facts.specs.Shown.{Shown}
+use Rattle.world_facts.proofs.Factual.{factual}
+use Rattle.world_facts.proofs.WorldFactsFacts.keeps.Goals as goal
+
+pub returns : goal.returns
+returns g c =
+    let s : Shown = record { world = c.self.inside.world.now; links = c.self.inside.links } in
+    rw (← c.self.view_is)
+    (factual s c.size.ensures.links (rw (← c.tables-tables.ensures.tables) c.index.ensures.whole) (rw (← c.tables-tables.ensures.tables) c.store.ensures.rows) c.tables-tables.ensures.lists c.lists_holders.ensures c.self.invariant.sees)

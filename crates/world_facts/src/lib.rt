@@ -1,0 +1,137 @@
+//! The facts of a world, as the runs of queries read them.
+#![tactic(auto)]
+
+ghost use Rattle.std.specs.Prelude.{◌≡◌};
+
+use component_index::Pattern;
+use ecs_id::{EntityId, Id, TableKey};
+use ecs_model::built_ins::REFLEXIVE;
+use ecs_world::{Links, World};
+use plan_exec::Facts;
+use rel_travel::{Graph, Holders, Scratch, above, below, first_up, pull, reaches};
+use std::alloc::Allocator;
+use std::marker::Model;
+
+/// What a run reads of a world: its facts, and the lists by which candidates are found.
+///
+/// It takes no memory, and all that it gives are slices of the world's own. Ids are found by an entity's place, and tables by one
+/// look-up of a pattern.
+#[derive(Drop)]
+pub struct WorldFacts<'w, A: Allocator> {
+    world: &'w World<A>,
+    links: Links<'w, A>,
+}
+
+impl<'w, A: Allocator> Model for WorldFacts<'w, A> {
+    ghost use Rattle.ecs_world.specs.Standing.{IsLinksOf};
+    ghost use Rattle.world_facts.specs.Shown.{Shown};
+
+    ghost Value = { Shown };
+
+    ghost view = { λ f. record { world = f.world.now; links = f.links } };
+
+    ghost invariant = { λ f. IsLinksOf f.world.now f.links };
+}
+
+impl<'w, A: Allocator> WorldFacts<'w, A> {
+    /// The facts of a world, which stays as it is while they are read.
+    pub fn new(world: &'w World<A>) -> Self
+        ensures { result.world ≡ world.now }
+    {
+        let links = world.links();
+        WorldFacts { world, links }
+    }
+}
+
+impl<A: Allocator> Facts for WorldFacts<'_, A> {
+    ghost use Rattle.world_facts.specs.Shown.{reading_of};
+
+    ghost reading = { λ f. reading_of f };
+
+    fn keeps(&self) {
+        let _ = self.links.size();
+        self.links.lists_holders();
+        let tables = self.links.tables();
+        // What is known of each row and of each place.
+        let _ = tables.store();
+        let _ = tables.index();
+    }
+
+    fn size(&self) -> u32 {
+        self.links.size()
+    }
+
+    fn is_live(&self, index: u32) -> bool {
+        self.world.at(index).is_some()
+    }
+
+    fn ids_of(&self, entity: u32) -> &[Id] {
+        self.links.ids(entity)
+    }
+
+    fn has(&self, entity: u32, id: Id) -> bool {
+        self.world.has(entity, id)
+    }
+
+    fn tables_of(&self, pattern: Pattern) -> &[TableKey] {
+        self.links.tables_of(pattern)
+    }
+
+    fn rows_of(&self, table: TableKey) -> &[EntityId] {
+        match self.links.tables().store().get(table) {
+            Some(table) => table.rows(),
+            None => &[],
+        }
+    }
+
+    fn ids_in(&self, table: TableKey) -> &[Id] {
+        match self.links.tables().store().get(table) {
+            Some(table) => table.ids(),
+            None => &[],
+        }
+    }
+
+    fn above(&self, relationship: u32, source: u32, scratch: &mut Scratch) {
+        let _ = self.links.size();
+        if self.is_live(source) {
+            above(&self.links, source, relationship, scratch);
+        } else {
+            scratch.clear();
+        }
+    }
+
+    fn below(&self, relationship: u32, target: u32, scratch: &mut Scratch) {
+        let _ = self.links.size();
+        if self.is_live(target) {
+            below(&self.links, target, relationship, scratch);
+        } else {
+            scratch.clear();
+        }
+    }
+
+    fn reaches(&self, relationship: u32, source: u32, target: u32, scratch: &mut Scratch) -> bool {
+        let size = self.links.size();
+        if source < size && target < size {
+            return reaches(&self.links, relationship, source, target, scratch);
+        }
+        // No pair has a source or a target that isn't live.
+        source == target && self.has(relationship, Id::plain(REFLEXIVE))
+    }
+
+    fn first_up(
+        &self,
+        entity: u32,
+        relationship: u32,
+        pattern: Pattern,
+        scratch: &mut Scratch,
+    ) -> Option<u32> {
+        if self.links.size() <= entity {
+            return None;
+        }
+        first_up(&self.links, entity, relationship, pattern, scratch)
+    }
+
+    fn pull(&self, scratch: &mut Scratch) -> Option<u32> {
+        pull(&self.links, scratch)
+    }
+}
