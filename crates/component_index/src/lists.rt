@@ -1,6 +1,7 @@
 //! The list of tables of each pattern.
 ghost use Rattle.std.specs.Prelude.{◌≡◌, ◌&&◌, not, OnErr, OnOk};
 ghost use Rattle.std.specs.List.{list_any};
+ghost use Rattle.indexmap.specs.IndexSet.{IsUnchanged};
 ghost use Rattle.ecs_id.specs.Id.{pair, plain};
 ghost use Rattle.component_index.specs.Patterns.{matches, matches_some};
 ghost use Rattle.component_index.specs.SamePattern.{pattern_eq};
@@ -17,6 +18,19 @@ pub type List<A> = IndexSet<TableKey, Hashing, A>;
 // No list is empty: the entry of a pattern goes with the last table of its list.
 pub type Lists<A> = IndexMap<Pattern, List<A>, Hashing, A>;
 
+// How many more tables a list gets room for at least, once it has outgrown its first room.
+const MORE: usize = 63;
+
+// Makes room in a list for one table more. A growth moves all of a list, so one that has tables gets room for many at once.
+fn make_room<A: Allocator>(list: &mut List<A>) -> Result<(), AllocError>
+    ensures { IsUnchanged list.old list.new }
+{
+    if list.is_empty() || list.len() < list.capacity() {
+        return Ok(());
+    }
+    list.reserve(MORE)
+}
+
 /// Puts the table into the list of the pattern, where it isn't in it.
 fn list<A: Allocator + Copy>(
     lists: &mut Lists<A>,
@@ -28,6 +42,7 @@ fn list<A: Allocator + Copy>(
     ensures refused { OnErr result (Keeps lists.old lists.new (pattern_eq pattern) key) }
 {
     if let Some(list) = lists.get_mut(&pattern) {
+        make_room(list)?;
         list.insert(key)?;
         return Ok(());
     }
