@@ -1,8 +1,8 @@
 -- A number is read back from its bytes.
 use Rattle.std.proofs.Common.{ℕ, zero, suc, ◌≡◌, ◌+◌, ◌*◌, ◌/◌, ◌^◌, ◌%◌, ◌<◌, ◌∙◌, ap, sym, refl, arith}
 use Rattle.std.proofs.Math.Arith.{mod-mul}
-use Rattle.std.proofs.Math.Nat.{add_comm, mod-eq_of_lt, one-le-pow, pow-succ'}
-use Rattle.std.specs.Int.{w64, w128, byte_at, byte_worth, from_le_bytes, sum_through, to_le_bytes}
+use Rattle.std.proofs.Math.Nat.{add_comm, mod-add-div', mod-eq_of_lt, one-le-pow, pow-succ'}
+use Rattle.std.specs.Int.{w64, byte_at, byte_worth, from_le_bytes, sum_through, to_le_bytes}
 
 -- the lowest bytes of a number make up its remainder
 sum_of_bytes : (n k : ℕ) → sum_through (λ i. byte_worth i (byte_at i n)) k ≡ n % 256 ^ suc k
@@ -15,5 +15,6 @@ sum_of_bytes n (suc k) =
 pub read_back_8 : (n : ℕ) → n < 2 ^ 64 → from_le_bytes w64 (to_le_bytes w64 n) ≡ n
 read_back_8 n small = sum_of_bytes n 7 ∙ mod-eq_of_lt small
 
-pub read_back_16 : (n : ℕ) → n < 2 ^ 128 → from_le_bytes w128 (to_le_bytes w128 n) ≡ n
-read_back_16 n small = sum_of_bytes n 15 ∙ mod-eq_of_lt small
+-- a number is its lower half and its upper one
+pub halves : (n : ℕ) → n % 2 ^ 64 + n / 2 ^ 64 * 2 ^ 64 ≡ n
+halves n = mod-add-div' n (2 ^ 64)
