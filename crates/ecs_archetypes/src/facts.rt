@@ -58,6 +58,7 @@ impl<A: Allocator + Copy> Archetypes<A> {
     }
 
     /// Gives an entity a value of an id with data, and the id where it doesn't hold it.
+    #[inline(always)]
     pub fn put(
         &mut self,
         entity: EntityId,
@@ -123,6 +124,8 @@ impl<A: Allocator> Archetypes<A> {
     }
 
     /// Finds the row of a settled entity, and looks there for an id.
+    // A call would write the answer to memory, and its caller clear that before.
+    #[inline(always)]
     pub fn find(&self, entity: EntityId, id: Id) -> Option<Found>
         ensures settled { is_some result ≡ is_settled (holdings_of self.now) entity }
         ensures place { option_map (λ f. f.place) result ≡ place_of self.now.entities entity }
