@@ -30,7 +30,7 @@ module _ {n : ℕ} {entities : List ℕ} {ids : ℕ → List Id} (links : AreLin
   reached_lives itself h = h
   reached_lives (onward {y} {z} reached step) h = upward_lives links r y z step
 
-  leads_ends : (transitive : Bool) (s t : ℕ) → Leads transitive (upward ids r) s t → Contains entities s × Contains entities t
+  pub leads_ends : (transitive : Bool) (s t : ℕ) → Leads transitive (upward ids r) s t → Contains entities s × Contains entities t
   leads_ends true s t c = (source_lives s c.0 c.1, reached_lives c.2 (upward_lives links r s c.0 c.1))
   leads_ends false s t h = (source_lives s t h, upward_lives links r s t h)
 

@@ -1,3 +1,4 @@
 mod Standing
 mod Leading
 mod Factual
+mod Told

@@ -1,0 +1,23 @@
+use Rattle.std.proofs.Common.{◌≡◌, ◌<◌, ◌≤◌, true, false, sym, ap, subst, ◌∙◌, arith}
+use Rattle.ecs_links.specs.Linked.{indexes}
+use Rattle.ecs_model.specs.World.{entities}
+use Rattle.query_meaning.specs.Variables.{contains}
+use Rattle.world_facts.specs.Shown.{Shown}
+use Rattle.world_facts.proofs.Told.{below_all, live_below, lives_same}
+use Rattle.world_facts.proofs.WorldFactsFacts.below.Goals as goal
+
+pub below-requires-clause-inside : goal.below-requires-clause-inside
+below-requires-clause-inside g c =
+    let links = c.self.inside.links in
+    let shown : contains (entities (c.self.inside.world.now).state) c.args.target ≡ true =
+    subst (λ (s : Shown). contains (entities (s.world).state) c.args.target ≡ true) (sym c.self.view_is) (sym c.is_live.ensures ∙ c.if-is_live.true) in
+    let below = live_below c.size.ensures.links c.args.target (sym (lives_same c.self.invariant.sees c.args.target) ∙ shown) in
+    let covered : links.size ≤ c.args.scratch.now.size = subst (λ (s : Shown). (s.links).size ≤ c.args.scratch.now.size) (sym c.self.view_is) c.requires in
+    omega arith
+
+pub returns-then-is_live-clause-found : goal.returns-then-is_live-clause-found
+returns-then-is_live-clause-found g c =
+    let links = c.self.inside.links in
+    let shown : contains (entities (c.self.inside.world.now).state) c.args.target ≡ true =
+    subst (λ (s : Shown). contains (entities (s.world).state) c.args.target ≡ true) (sym c.self.view_is) (sym c.is_live.ensures ∙ c.if-is_live.true) in
+    rw (← c.self.view_is) (c.below.ensures.coming ∙ below_all links c.args.relationship c.args.target (sym (lives_same c.self.invariant.sees c.args.target) ∙ shown))
