@@ -1,14 +1,9 @@
 -- Whom a relationship leads to, or from, lives, unless it leads from an entity to itself.
-use Rattle.std.proofs.Common.{◌≡◌, ◌⊎◌, ◌↔◌, ℕ, ◌==◌, IsTrue, Bool, true, false, cond, List, [], Some, refl, sym, ◌∙◌, inl, inr, arith, true≢false}
-use Rattle.std.specs.Prelude.{find}
+use Rattle.std.proofs.Common.{◌≡◌, ◌⊎◌, ◌↔◌, ℕ, ◌==◌, IsTrue, Bool, true, false, List, sym, ◌∙◌, inl, inr, true≢false}
 use Rattle.std.specs.List.{Contains}
 use Rattle.ecs_id.specs.Id.{Id}
-use Rattle.ecs_id.specs.declared.TableKey.{TableKey}
-use Rattle.component_index.specs.declared.pattern.Pattern.{Pattern}
-use Rattle.ecs_model.specs.Line.{line_within}
-use Rattle.ecs_model.specs.Links.{AreLinks, IsReached, is_reflexive, is_transitive, reaches, target_under, upward}
+use Rattle.ecs_model.specs.Links.{AreLinks, IsReached, is_transitive, target_under, upward}
 use Rattle.ecs_model.specs.Reach.{Leads, Reached, itself, onward}
-use Rattle.ecs_model.proofs.Decided.{reaches_tells}
 use Rattle.ecs_model.proofs.Linked.{upward_lives}
 use Rattle.ecs_model.proofs.Members.{any_passes, eq_itself, eq_same, from_filter_map, passing}
 use Rattle.query_meaning.specs.Variables.{contains}

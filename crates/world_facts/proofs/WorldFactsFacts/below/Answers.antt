@@ -1,5 +1,4 @@
-use Rattle.std.proofs.Common.{◌≡◌, ◌<◌, ◌≤◌, true, false, sym, ap, subst, ◌∙◌, arith}
-use Rattle.ecs_links.specs.Linked.{indexes}
+use Rattle.std.proofs.Common.{◌≡◌, ◌≤◌, true, sym, subst, ◌∙◌, arith}
 use Rattle.ecs_model.specs.World.{entities}
 use Rattle.query_meaning.specs.Variables.{contains}
 use Rattle.world_facts.specs.Shown.{Shown}

@@ -1,4 +1,4 @@
-use Rattle.std.proofs.Common.{◌≡◌, ◌⊎◌, ◌<◌, ◌≤◌, sym, subst, ◌∙◌, inl, inr, arith}
+use Rattle.std.proofs.Common.{◌≡◌, ◌⊎◌, ◌≤◌, sym, subst, inl, inr}
 use Rattle.ecs_model.specs.Links.{is_reflexive}
 use Rattle.ecs_model.specs.World.{ids_of}
 use Rattle.world_facts.specs.Shown.{Shown}
