@@ -111,6 +111,7 @@ impl<A: Allocator> World<A> {
     }
 
     /// Whether an id is no trait, and its component or relationship has none: then nothing comes or goes with it.
+    #[inline(always)]
     pub(crate) fn is_simple(&self, id: Id) -> bool
         ensures { result ≡ is_simple (ids_of self.now.state) id }
     {
