@@ -2,3 +2,4 @@ mod Standing
 mod Leading
 mod Factual
 mod Told
+mod Rising
