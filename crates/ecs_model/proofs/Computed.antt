@@ -27,9 +27,10 @@ use Rattle.query_model.specs.Tokens.{tokens_from, tokens_of}
 use Rattle.query_model.specs.Check.{faults}
 use Rattle.query_model.specs.declared.query.Ref.TheVariants as ref
 use Rattle.query_model.specs.Query.{Query, Piece, item, must, query_of as asked_of}
-use Rattle.ecs_model.specs.Query.{is_plain, query_of}
-use Rattle.ecs_model.specs.Meaning.{rows, is_answer}
-use Rattle.ecs_model.specs.rows.Rows.{Shown}
+use Rattle.ecs_model.specs.Query.{query_of}
+use Rattle.ecs_model.specs.rows.View.{view_of}
+use Rattle.ecs_model.specs.rows.Level.{top}
+use Rattle.ecs_model.specs.rows.Rows.{Row, Shown, hits, fields_of_term, fields_of_item, solutions, rows}
 use Rattle.ecs_model.specs.Session.{EntityRef, by_name, by_handle, pair_of, DeleteOne, with_both, entity_found}
 use Rattle.ecs_model.specs.Script.{BadLine, Obey, handle_of, id_and_rest, forms, form_among, form_of}
 use Rattle.ecs_model.specs.Output.{show_text}
@@ -328,14 +329,14 @@ asked_for c = item (must (record { first = ref.Is c; target = None; source = ref
 abbrev asks : List ℕ → Query
 asks cs = record { variables = codes "this" ∷ []; has_this = true; pieces = map asked_for cs; mentions = []; length = 0 }
 
-rows_come_by_ascending_index : rows sky (asks (65 ∷ []))
+rows_come_by_ascending_index : rows (view_of sky) (asks (65 ∷ []))
     ≡ record { bindings = 66 ∷ []; fields = Shown 66 planet None ∷ [] } ∷ record { bindings = 67 ∷ []; fields = Shown 67 planet None ∷ [] } ∷ []
-unfolding id_cmp key_cmp rows
+unfolding id_cmp key_cmp top hits fields_of_term fields_of_item solutions rows
 rows_come_by_ascending_index = refl
 
-a_row_has_a_field_for_each_term : rows sky (asks (64 ∷ 65 ∷ 64 ∷ []))
+a_row_has_a_field_for_each_term : rows (view_of sky) (asks (64 ∷ 65 ∷ 64 ∷ []))
     ≡ record { bindings = 67 ∷ []; fields = Shown 67 position (Some (pos 10 ∷ negsuc 2 ∷ [])) ∷ Shown 67 planet None ∷ Shown 67 position (Some (pos 10 ∷ negsuc 2 ∷ [])) ∷ [] } ∷ []
-unfolding id_cmp key_cmp rows
+unfolding id_cmp key_cmp top hits fields_of_term fields_of_item solutions rows
 a_row_has_a_field_for_each_term = refl
 
 -- Sun and Earth, the one with Disabled, the other with Prefab
@@ -343,17 +344,17 @@ a_row_has_a_field_for_each_term = refl
 abbrev veiled : WorldState
 veiled = record sky { facts = ((66, plain 5), []) ∷ ((66, planet), []) ∷ ((67, plain 4), []) ∷ ((67, planet), []) ∷ ((67, pair 5 66), []) ∷ [] }
 
-an_entity_with_prefab_or_disabled_is_passed_over : rows veiled (asks (65 ∷ [])) ≡ []
-unfolding id_cmp key_cmp rows
+an_entity_with_prefab_or_disabled_is_passed_over : rows (view_of veiled) (asks (65 ∷ [])) ≡ []
+unfolding id_cmp key_cmp top hits fields_of_term fields_of_item solutions rows
 an_entity_with_prefab_or_disabled_is_passed_over = refl
 
-a_query_that_mentions_the_tag_passes_none_over_for_it : map (is_answer veiled (planet ∷ plain 5 ∷ [])) (66 ∷ 67 ∷ []) ≡ true ∷ false ∷ []
-unfolding id_cmp key_cmp
+a_query_that_mentions_the_tag_passes_none_over_for_it : map (λ r. r.bindings) (rows (view_of veiled) (asks (65 ∷ 5 ∷ []))) ≡ (66 ∷ []) ∷ []
+unfolding id_cmp key_cmp top hits fields_of_term fields_of_item solutions rows
 a_query_that_mentions_the_tag_passes_none_over_for_it = refl
 
-a_pair_with_the_tag_is_no_mention : is_answer veiled (planet ∷ pair 5 66 ∷ []) 67 ≡ false
-unfolding id_cmp key_cmp
-a_pair_with_the_tag_is_no_mention = refl
+a_mention_of_the_other_tag_is_none : rows (view_of veiled) (asks (65 ∷ 4 ∷ [])) ≡ record { bindings = 67 ∷ []; fields = Shown 67 planet None ∷ Shown 67 (plain 4) None ∷ [] } ∷ []
+unfolding id_cmp key_cmp top hits fields_of_term fields_of_item solutions rows
+a_mention_of_the_other_tag_is_none = refl
 
 -- faults of a text
 
@@ -375,22 +376,6 @@ the_first_of_two_unknown_names_is_told = refl
 the_end_of_an_empty_text_is_its_fault : query_of sky (codes " ") ≡ Err (at Syntax 1 1)
 unfolding tokens_from tokens_of faults asked_of
 the_end_of_an_empty_text_is_its_fault = refl
-
-words_and_commas_are_plain : is_plain (codes "Sun, \t Sun,Earth") ≡ true
-unfolding tokens_from tokens_of
-words_and_commas_are_plain = refl
-
-a_source_is_not_plain : is_plain (codes "Sun($this)") ≡ false
-unfolding tokens_from tokens_of
-a_source_is_not_plain = refl
-
-an_access_word_is_not_plain : is_plain (codes "[in] Sun") ≡ false
-unfolding tokens_from tokens_of
-an_access_word_is_not_plain = refl
-
-a_lone_wildcard_is_not_plain : is_plain (codes "_") ≡ false
-unfolding tokens_from tokens_of
-a_lone_wildcard_is_not_plain = refl
 
 -- the order of ids
 

@@ -11,7 +11,6 @@ pub mod RefusedLines
 pub mod Steps
 pub mod Differences
 pub mod FirstWorld
-pub mod DistinctRows
 mod Computed
 mod ReachComputed
 pub mod Members

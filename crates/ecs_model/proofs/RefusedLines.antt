@@ -7,10 +7,10 @@ use Rattle.ecs_model.specs.declared.faults.Refusal.{Refusal}
 use Rattle.ecs_model.specs.declared.faults.SchemaFault.{SchemaFault}
 use Rattle.ecs_model.specs.Schema.{Schema, schema_fault}
 use Rattle.query_model.specs.Query.{Query}
-use Rattle.ecs_model.specs.Query.{is_plain, query_of}
+use Rattle.ecs_model.specs.Query.{query_of}
 use Rattle.ecs_model.specs.Session.{SessionState, Order, MakeComponent, entity_found, apply}
 use Rattle.ecs_model.specs.Script.{Nothing, LongLine, BadLine, Obey, Define, Show, Ask}
-use Rattle.ecs_model.specs.Output.{Effect, accepted_line, refused_line, rows_text, order_effect, define_effect, show_effect, ask_effect, effect_of}
+use Rattle.ecs_model.specs.Output.{Effect, accepted_line, refused_line, order_effect, define_effect, show_effect, ask_effect, effect_of}
 use Rattle.ecs_model.specs.Laws.{RefusedLinesChangeNothing}
 
 -- the line is accepted, or leaves the session as it was
@@ -29,13 +29,9 @@ of_show : (s : SessionState) (n : ℕ) (r : Result EntityId Refusal) → IsStill
 of_show s n (Err r) h = refl
 of_show s n (Ok e) h = refl
 
-of_ask : (s : SessionState) (n : ℕ) (text : List ℕ) (r : Result Query Fault) → IsStill s (ask_effect s n text r)
-of_ask s n text (Err f) h = refl
-of_ask s n text (Ok q) h = of_plain (is_plain text) h
-  where
-    of_plain : (b : Bool) → IsStill s (if b then accepted_line s (rows_text s.world q) else refused_line s n (codes "NotYet"))
-    of_plain true h = refl
-    of_plain false h = refl
+of_ask : (s : SessionState) (n : ℕ) (r : Result Query Fault) → IsStill s (ask_effect s n r)
+of_ask s n (Err f) h = refl
+of_ask s n (Ok q) h = refl
 
 pub refused_lines_change_nothing : RefusedLinesChangeNothing
 unfolding effect_of
@@ -45,4 +41,4 @@ refused_lines_change_nothing s n BadLine h = refl
 refused_lines_change_nothing s n (Obey order) h = of_order s n order (apply s order) h
 refused_lines_change_nothing s n (Define name fs) h = of_define s n name fs (schema_fault fs) h
 refused_lines_change_nothing s n (Show r) h = of_show s n (entity_found s.world r) h
-refused_lines_change_nothing s n (Ask text) h = of_ask s n text (query_of s.world text) h
+refused_lines_change_nothing s n (Ask text) h = of_ask s n (query_of s.world text) h

@@ -11,7 +11,6 @@ pub mod Command
 pub mod Keeps
 pub mod BuiltIns
 pub mod Query
-pub mod Meaning
 pub mod Print
 pub mod Session
 pub mod Script

@@ -9,9 +9,9 @@ use Rattle.ecs_model.specs.Schema.{Schema, schema_fault}
 use Rattle.ecs_model.specs.Refusal.{refusal_text, schema_fault_text}
 use Rattle.ecs_model.specs.World.{WorldState, ids_of, value_of}
 use Rattle.query_model.specs.Query.{Query}
-use Rattle.ecs_model.specs.Meaning.{rows}
-use Rattle.ecs_model.specs.Query.{is_plain, query_of}
-use Rattle.ecs_model.specs.Print.{fault_text, handle_text, entity_text, id_text, value_text, row_text}
+use Rattle.ecs_model.specs.rows.Text.{rows_text}
+use Rattle.ecs_model.specs.Query.{query_of}
+use Rattle.ecs_model.specs.Print.{fault_text, handle_text, entity_text, id_text, value_text}
 use Rattle.ecs_model.specs.Session.{SessionState, first_session, Order, MakeFresh, MakeComponent, entity_found, apply}
 use Rattle.ecs_model.specs.Script.{Form, Nothing, LongLine, BadLine, Obey, Define, Show, Ask, form_of, lines_of}
 
@@ -28,10 +28,6 @@ refused_line s n kind = record { session = s; printed = codes "error " ++ decima
 -- an accepted line, and what it prints
 abbrev pub accepted_line : SessionState → List ℕ → Effect
 accepted_line s text = record { session = s; printed = text; refused = false }
-
--- the lines of rows, and their count
-abbrev pub rows_text : WorldState → Query → List ℕ
-rows_text w q = flat_map (row_text w q.variables) (rows w q) ++ codes "rows " ++ decimal (length (rows w q)) ++ codes "\n"
 
 -- a fact: ` [ID=v,v]`, without a value ` [ID]`
 abbrev pub fact_text : WorldState → ℕ → Id → List ℕ
@@ -61,10 +57,10 @@ abbrev pub show_effect : SessionState → ℕ → Result EntityId Refusal → Ef
 show_effect s n (Err r) = refused_line s n (refusal_text r)
 show_effect s n (Ok e) = accepted_line s (show_text s.world e)
 
--- what a line of a query does. Provisional: only words and commas are answered yet
-abbrev pub ask_effect : SessionState → ℕ → List ℕ → Result Query Fault → Effect
-ask_effect s n text (Err f) = refused_line s n (fault_text f)
-ask_effect s n text (Ok q) = if is_plain text then accepted_line s (rows_text s.world q) else refused_line s n (codes "NotYet")
+-- what a line of a query does
+abbrev pub ask_effect : SessionState → ℕ → Result Query Fault → Effect
+ask_effect s n (Err f) = refused_line s n (fault_text f)
+ask_effect s n (Ok q) = accepted_line s (rows_text s.world q)
 
 -- what a line of this form does
 unfoldable pub effect_of : SessionState → ℕ → Form → Effect
@@ -74,7 +70,7 @@ effect_of s n BadLine = refused_line s n (codes "BadLine")
 effect_of s n (Obey order) = order_effect s n order (apply s order)
 effect_of s n (Define name fs) = define_effect s n name fs (schema_fault fs)
 effect_of s n (Show r) = show_effect s n (entity_found s.world r)
-effect_of s n (Ask text) = ask_effect s n text (query_of s.world text)
+effect_of s n (Ask text) = ask_effect s n (query_of s.world text)
 
 -- what is done in a row by lines under their numbers
 abbrev pub effects : (SessionState → ℕ → List ℕ → Effect) → SessionState → ℕ → List (List ℕ) → List Effect

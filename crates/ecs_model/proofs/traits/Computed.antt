@@ -12,7 +12,7 @@ use Rattle.ecs_model.specs.Map.{Map, keys}
 use Rattle.ecs_model.specs.Refusal.{first_reason}
 use Rattle.ecs_model.specs.Sets.{has_chain, within}
 use Rattle.ecs_model.specs.World.{WorldState, Key, key_cmp, next_among, entities, ids_of}
-use Rattle.ecs_model.specs.traits.Rules.{is_trait, is_passed_over}
+use Rattle.ecs_model.specs.traits.Rules.{is_trait}
 use Rattle.ecs_model.specs.traits.Changes.{added, replaced, facts_after_add, facts_after_remove, deleted, facts_after_delete}
 use Rattle.ecs_model.specs.traits.Command.{Command, Fresh, Add, SetValue, Remove, Delete, without_entities, reasons, effect, step}
 use Rattle.ecs_model.specs.traits.Pins.{most_pins, pin, unpin}
@@ -266,10 +266,3 @@ an_unpin_is_counted : map (λ e. (unpin mentioned_world e).pins) (handle 64 ∷ 
     ∷ []
 unfolding unpin
 an_unpin_is_counted = refl
-
--- 70 has Prefab, 71 Disabled, and 72 both
-hidden_entities_are_passed_over_unless_the_tag_is_mentioned : let w = of [] ((70, plain 4) ∷ (71, plain 5) ∷ (72, plain 4) ∷ (72, plain 5) ∷ (73, pair 4 70) ∷ []) in
-    map (is_passed_over w (λ tag. false)) (70 ∷ 71 ∷ 72 ∷ 73 ∷ []) ++ map (is_passed_over w (λ tag. tag == 4)) (70 ∷ 71 ∷ 72 ∷ 73 ∷ [])
-    ≡ true ∷ true ∷ true ∷ false ∷ false ∷ true ∷ true ∷ false ∷ []
-unfolding id_cmp key_cmp
-hidden_entities_are_passed_over_unless_the_tag_is_mentioned = refl

@@ -33,7 +33,3 @@ module _ (ids : ℕ → List Id) where
   abbrev pub forbids : ℕ → Id → Bool
   forbids x (plain c) = c == x && forbids_with_users x
   forbids x (pair r t) = t == x && forbids_with_sources r || r == x && forbids_with_users x
-
--- whether a query passes an entity over, by which tags it mentions plainly of `$this` outside all groups: those of Prefab and Disabled that it doesn't mention
-abbrev pub is_passed_over : WorldState → (ℕ → Bool) → ℕ → Bool
-is_passed_over w mentions e = list_any (λ tag. holds w e (plain tag) && not (mentions tag)) (prefab ∷ disabled ∷ [])
