@@ -16,7 +16,7 @@ use Rattle.query_lexer.specs.Lexed.{Answers}
 use Rattle.query_check.specs.Seen.{AnswersCheck, syntax_of}
 use Rattle.ecs_model.specs.World.{WorldState}
 use Rattle.ecs_model.specs.Query.{are_words_and_commas, is_plain, is_word_or_comma, known_of, query_of}
-use Rattle.plain_query.specs.Reading.{AnswersAsked}
+use Rattle.world_query.specs.Reading.{AnswersAsked}
 
 module _ (A : Type 0) {T : Type 0} (w : WorldState) (text : List ℕ) where
   pub lex_fault : (view : T → List Token) (e : QueryFault) → Answers Lex view (Err e) (tokens_of text) → AnswersAsked {A = A} w text (Err e)

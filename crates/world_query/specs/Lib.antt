@@ -1,3 +1,3 @@
-pub mod Rows
 pub mod Reading
-pub mod Columns
+pub mod Answerable
+pub mod Lines

@@ -1,11 +1,15 @@
-//! Queries of words and commas: what any text asks, and the rows of plain names, an entity at a time and an id at a time.
+//! Queries of a world: from a text to the rows that it asks for, as they print.
+//!
+//! A query is read, planned by how many tables each of its items would be found through, and run; its answers are sorted, and for each of
+//! them the fields are gone through and printed.
 #![tactic(auto)]
 
-mod columns;
-mod ids;
+mod answering;
+mod labels;
 mod names;
-mod query_rows;
 mod reading;
+mod row_lines;
+mod table_counts;
 
-pub use query_rows::write_rows;
-pub use reading::{Asked, read_query};
+pub use answering::write_rows;
+pub use reading::read_query;

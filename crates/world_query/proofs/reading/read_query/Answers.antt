@@ -4,8 +4,8 @@ use Rattle.query_lexer.specs.declared.Token.{Token}
 use Rattle.query_lexer.specs.Token.{seen, text_length}
 use Rattle.query_model.specs.declared.syntax.Syntax.{Syntax}
 use Rattle.query_model.specs.Seen.{seen_part}
-use Rattle.plain_query.proofs.Texts.{lex_fault, syntax_fault, check_fault, query_read}
-use Rattle.plain_query.proofs.reading.read_query.Goals as goal
+use Rattle.world_query.proofs.Texts.{lex_fault, syntax_fault, check_fault, query_read}
+use Rattle.world_query.proofs.reading.read_query.Goals as goal
 
 pub returns-in-Err : goal.returns-in-Err
 returns-in-Err g c =

@@ -1,0 +1,83 @@
+//! Texts that are kept from row to row, since neighbouring rows mostly show the same.
+
+ghost use Rattle.std.specs.Prelude.{◌≡◌, ◌++◌, IfOk, OnOk, Some, is_some};
+ghost use Rattle.ecs_model.specs.Print.{id_text, index_text};
+ghost use Rattle.world_query.specs.Lines.{IsEntityText, IsLabel};
+
+use ecs_id::Id;
+use ecs_print::{write_id, write_index};
+use ecs_schema::Schema;
+use ecs_world::World;
+use std::alloc::{AllocError, Allocator};
+
+/// An entity by its index, with its text.
+#[derive(Drop)]
+pub(crate) struct EntityText<A: Allocator> {
+    pub(crate) index: u32,
+    pub(crate) text: Vec<u8, A>,
+}
+
+/// An id with what all fields of it share: its text, and the fields of its values.
+#[derive(Drop)]
+pub(crate) struct Label<'w, A: Allocator> {
+    pub(crate) id: Id,
+    pub(crate) text: Vec<u8, A>,
+    pub(crate) schema: Option<&'w Schema<A>>,
+}
+
+impl<A: Allocator> EntityText<A> {
+    /// The text of the entity at an index: its name or handle, and nothing where none lives.
+    pub(crate) fn new(alloc: A, world: &World<A>, index: u32) -> Result<Self, AllocError>
+        ensures index { IfOk result (λ t. t.index ≡ index) }
+        ensures text { IfOk result (IsEntityText world.now.state) }
+    {
+        let mut text = Vec::new(alloc);
+        write_index(world, index, &mut text)?;
+        Ok(EntityText { index, text })
+    }
+
+    /// Becomes the text of another entity, if it isn't of this one.
+    pub(crate) fn turn_to(&mut self, world: &World<A>, index: u32) -> Result<(), AllocError>
+        requires { IsEntityText world.now.state self.old }
+        ensures index { OnOk result (self.new.index ≡ index) }
+        ensures text { OnOk result (IsEntityText world.now.state self.new) }
+    {
+        if self.index != index {
+            self.text.clear();
+            write_index(world, index, &mut self.text)?;
+            self.index = index;
+        }
+        Ok(())
+    }
+}
+
+impl<'w, A: Allocator> Label<'w, A> {
+    /// The label of an id.
+    pub(crate) fn new(alloc: A, world: &'w World<A>, id: Id) -> Result<Self, AllocError>
+        ensures id { IfOk result (λ label. label.id ≡ id) }
+        ensures label { IfOk result (IsLabel world.now.state) }
+    {
+        let mut text = Vec::new(alloc);
+        write_id(world, id, &mut text)?;
+        Ok(Label {
+            id,
+            text,
+            schema: world.type_of(id),
+        })
+    }
+
+    /// Becomes the label of another id, if it isn't of this one.
+    pub(crate) fn turn_to(&mut self, world: &'w World<A>, id: Id) -> Result<(), AllocError>
+        requires { IsLabel world.now.state self.old }
+        ensures id { OnOk result (self.new.id ≡ id) }
+        ensures label { OnOk result (IsLabel world.now.state self.new) }
+    {
+        if self.id != id {
+            self.text.clear();
+            write_id(world, id, &mut self.text)?;
+            self.schema = world.type_of(id);
+            self.id = id;
+        }
+        Ok(())
+    }
+}
