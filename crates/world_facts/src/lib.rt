@@ -93,7 +93,7 @@ impl<A: Allocator> Facts for WorldFacts<'_, A> {
         }
     }
 
-    fn above(&self, relationship: u32, source: u32, scratch: &mut Scratch) {
+    fn above<B: Allocator>(&self, relationship: u32, source: u32, scratch: &mut Scratch<B>) {
         let _ = self.links.size();
         if self.is_live(source) {
             above(&self.links, source, relationship, scratch);
@@ -102,7 +102,7 @@ impl<A: Allocator> Facts for WorldFacts<'_, A> {
         }
     }
 
-    fn below(&self, relationship: u32, target: u32, scratch: &mut Scratch) {
+    fn below<B: Allocator>(&self, relationship: u32, target: u32, scratch: &mut Scratch<B>) {
         let _ = self.links.size();
         if self.is_live(target) {
             below(&self.links, target, relationship, scratch);
@@ -111,7 +111,13 @@ impl<A: Allocator> Facts for WorldFacts<'_, A> {
         }
     }
 
-    fn reaches(&self, relationship: u32, source: u32, target: u32, scratch: &mut Scratch) -> bool {
+    fn reaches<B: Allocator>(
+        &self,
+        relationship: u32,
+        source: u32,
+        target: u32,
+        scratch: &mut Scratch<B>,
+    ) -> bool {
         let size = self.links.size();
         if source < size && target < size {
             return reaches(&self.links, relationship, source, target, scratch);
@@ -120,12 +126,12 @@ impl<A: Allocator> Facts for WorldFacts<'_, A> {
         source == target && self.has(relationship, Id::plain(REFLEXIVE))
     }
 
-    fn first_up(
+    fn first_up<B: Allocator>(
         &self,
         entity: u32,
         relationship: u32,
         pattern: Pattern,
-        scratch: &mut Scratch,
+        scratch: &mut Scratch<B>,
     ) -> Option<u32> {
         if self.links.size() <= entity {
             return None;
@@ -133,7 +139,7 @@ impl<A: Allocator> Facts for WorldFacts<'_, A> {
         first_up(&self.links, entity, relationship, pattern, scratch)
     }
 
-    fn pull(&self, scratch: &mut Scratch) -> Option<u32> {
+    fn pull<B: Allocator>(&self, scratch: &mut Scratch<B>) -> Option<u32> {
         pull(&self.links, scratch)
     }
 }
