@@ -18,10 +18,11 @@ use Rattle.ecs_model.specs.Command.{Changed, AnswersStep}
 use Rattle.ecs_model.specs.traits.Command.{Command, Fresh, Entity, Component, Add, SetValue, Remove, Delete, step}
 use Rattle.query_model.specs.declared.faults.Fault.{Fault}
 use Rattle.query_model.specs.Query.{Query}
-use Rattle.ecs_model.specs.Query.{is_plain, query_of}
+use Rattle.ecs_model.specs.Query.{query_of}
+use Rattle.ecs_model.specs.rows.Text.{rows_text}
 use Rattle.ecs_model.specs.Session.{SessionState, EntityRef, IdRef, Order, MakeFresh, MakeEntity, MakeComponent, AddTo, SetIn, RemoveFrom, DeleteOne, entity_found, with_both, session_answer, world_order, apply}
 use Rattle.ecs_model.specs.Script.{Form, Nothing, LongLine, BadLine, Obey, Define, Show, Ask, form_of}
-use Rattle.ecs_model.specs.Output.{Effect, effect_of, own_text, order_effect, define_effect, show_effect, ask_effect, refused_line, accepted_line, rows_text, show_text}
+use Rattle.ecs_model.specs.Output.{Effect, effect_of, own_text, order_effect, define_effect, show_effect, ask_effect, refused_line, accepted_line, show_text}
 use Rattle.world_script.specs.Run.{IsDone, line_effect}
 use Rattle.world_script.specs.Told.{session_of, TellsRefusal, TellsNothing, TellsAnswer, TellsBorn, FindsBoth}
 
@@ -98,34 +99,20 @@ IsDone-unshown r reason w n before after refused unfound told =
     let P : Result EntityId Refusal → Type 0 = λ o. IsDone (show_effect (session_of w) n o) (session_of w) before after refused in
     subst P (sym unfound) (IsDone-refused (session_of w) n (refusal_text reason) before after refused told)
 
--- what a line of an accepted query does, by whether its text is plain
-abbrev answer_effect : WorldState → ℕ → Query → Bool → Effect
-answer_effect w n q plain = if plain then accepted_line (session_of w) (rows_text w q) else refused_line (session_of w) n (codes "NotYet")
-
 -- a query whose rows were added
-pub IsDone-rows : (text : List ℕ) (q : Query) (w : WorldState) (n : ℕ) (before after : List ℕ) → query_of w text ≡ Ok q → is_plain text ≡ true → after ≡ before ++ rows_text w q
+pub IsDone-rows : (text : List ℕ) (q : Query) (w : WorldState) (n : ℕ) (before after : List ℕ) → query_of w text ≡ Ok q → after ≡ before ++ rows_text w q
     → IsDone (effect_of (session_of w) n (Ask text)) (session_of w) before after false
 unfolding effect_of
-IsDone-rows text q w n before after e plain added =
-    let P : Result Query Fault → Type 0 = λ r. IsDone (ask_effect (session_of w) n text r) (session_of w) before after false in
-    let Q : Bool → Type 0 = λ b. IsDone (answer_effect w n q b) (session_of w) before after false in
-    subst P (sym e) (subst Q (sym plain) (record { session_left = refl; printed = added; answered = refl }))
-
--- one that isn't answered yet
-IsDone-unanswered : (text : List ℕ) (q : Query) (w : WorldState) (n : ℕ) (before after : List ℕ) (refused : Bool) → query_of w text ≡ Ok q → is_plain text ≡ false
-    → TellsRefusal n (codes "NotYet") before after refused → IsDone (effect_of (session_of w) n (Ask text)) (session_of w) before after refused
-unfolding effect_of
-IsDone-unanswered text q w n before after refused e plain told =
-    let P : Result Query Fault → Type 0 = λ r. IsDone (ask_effect (session_of w) n text r) (session_of w) before after refused in
-    let Q : Bool → Type 0 = λ b. IsDone (answer_effect w n q b) (session_of w) before after refused in
-    subst P (sym e) (subst Q (sym plain) (IsDone-refused (session_of w) n (codes "NotYet") before after refused told))
+IsDone-rows text q w n before after e added =
+    let P : Result Query Fault → Type 0 = λ r. IsDone (ask_effect (session_of w) n r) (session_of w) before after false in
+    subst P (sym e) (record { session_left = refl; printed = added; answered = refl })
 
 -- one that is refused
 IsDone-fault : (text : List ℕ) (f : Fault) (w : WorldState) (n : ℕ) (before after : List ℕ) (refused : Bool) → query_of w text ≡ Err f
     → TellsRefusal n (fault_text f) before after refused → IsDone (effect_of (session_of w) n (Ask text)) (session_of w) before after refused
 unfolding effect_of
 IsDone-fault text f w n before after refused e told =
-    let P : Result Query Fault → Type 0 = λ r. IsDone (ask_effect (session_of w) n text r) (session_of w) before after refused in
+    let P : Result Query Fault → Type 0 = λ r. IsDone (ask_effect (session_of w) n r) (session_of w) before after refused in
     subst P (sym e) (IsDone-refused (session_of w) n (fault_text f) before after refused told)
 
 -- the same, where memory may be refused instead
@@ -205,11 +192,6 @@ module _ (r : Result Bool AllocError) (w : WorldState) (n : ℕ) (before after t
   -- a query that is refused
   pub IfOk-fault : (f : Fault) → query_of w text ≡ Err f → IfOk r (TellsRefusal n (fault_text f) before after) → IfOk r (IsDone (effect_of (session_of w) n (Ask text)) (session_of w) before after)
   IfOk-fault f e = IfOk-weaker r _ _ (λ refused told. IsDone-fault text f w n before after refused e told)
-
-  -- one that isn't answered yet
-  pub IfOk-unanswered : (q : Query) → query_of w text ≡ Ok q → is_plain text ≡ false → IfOk r (TellsRefusal n (codes "NotYet") before after)
-      → IfOk r (IsDone (effect_of (session_of w) n (Ask text)) (session_of w) before after)
-  IfOk-unanswered q e plain = IfOk-weaker r _ _ (λ refused told. IsDone-unanswered text q w n before after refused e plain told)
 
 module _ (r : Result Bool AllocError) (w v : WorldState) (n : ℕ) (before after name : List ℕ) (fields : Schema) where
   -- a component whose fields make a schema

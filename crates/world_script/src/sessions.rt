@@ -15,7 +15,7 @@ use crate::telling::{
 use ecs_model::Kind;
 use ecs_schema::{Schema, SchemaError};
 use ecs_world::World;
-use plain_query::{read_query, write_rows};
+use world_query::{read_query, write_rows};
 use query_model::faults::QueryFault;
 use script_line::{IdReference, Line, Reference, read_line};
 use std::alloc::{AllocError, Allocator};
@@ -210,15 +210,11 @@ fn run_query<A: Allocator + Copy>(
     ensures { IfOk result (IsDone (effect_of (session_of world.now.state) number (Ask text.now))
         (session_of world.now.state) output.old.items output.new.items) }
 {
-    let asked = match read_query(alloc, world, text) {
-        Ok(asked) => asked,
+    let query = match read_query(alloc, world, text) {
+        Ok(query) => query,
         Err(QueryFault::Fault(fault)) => return refuse_query(number, fault, output),
         Err(QueryFault::Memory) => return Err(AllocError),
     };
-    if !asked.is_plain {
-        // provisional: other queries are checked, and not answered yet
-        return refuse(number, "NotYet", output);
-    }
-    write_rows(alloc, world, &asked.query, output)?;
+    write_rows(alloc, world, &query, output)?;
     Ok(false)
 }

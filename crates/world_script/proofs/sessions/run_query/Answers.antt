@@ -1,5 +1,4 @@
-use Rattle.std.proofs.Common.{sym, ◌∙◌}
-use Rattle.world_script.proofs.Orders.{IsDone-rows, IfOk-fault, IfOk-unanswered}
+use Rattle.world_script.proofs.Orders.{IsDone-rows, IfOk-fault}
 use Rattle.world_script.proofs.sessions.run_query.Goals as goal
 
 pub returns-in-Err-Fault : goal.returns-in-Err-Fault
@@ -7,13 +6,9 @@ returns-in-Err-Fault g c =
     IfOk-fault c.refuse_query.result c.args.world.now.state c.args.number c.args.output.now.items c.refuse_query.new.output.items c.args.text.now
     c.in-Err-Fault.fault (rw c.in-Err-Fault.field-0-is at c.in-Err-Fault.ensures) (rw c.in-Err-Fault.fault-is at c.refuse_query.ensures)
 
-pub returns-then-not-asked : goal.returns-then-not-asked
-returns-then-not-asked g c =
-    let asked = c.in-Ok.ensures in
-    IfOk-unanswered c.refuse.result c.args.world.now.state c.args.number c.args.output.now.items c.refuse.new.output.items c.args.text.now
-    c.in-Ok.asked.query asked.0 (sym asked.1 ∙ c.if-not-asked.true) c.refuse.ensures
+pub write_rows-requires : goal.write_rows-requires
+write_rows-requires g c = record { asked = record { text = c.args.text.now; asks = c.in-Ok.ensures } }
 
 pub returns : goal.returns
 returns g c =
-    let asked = c.in-Ok.ensures in
-    IsDone-rows c.args.text.now c.in-Ok.asked.query c.args.world.now.state c.args.number c.args.output.now.items c.write_rows.new.out.items asked.0 (sym asked.1 ∙ c.if-not-asked.false) c.in_ok-write_rows.ensures
+    IsDone-rows c.args.text.now c.in-Ok.query c.args.world.now.state c.args.number c.args.output.now.items c.write_rows.new.out.items c.in-Ok.ensures c.in_ok-write_rows.ensures.rows
