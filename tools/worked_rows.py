@@ -27,7 +27,10 @@ use Rattle.ecs_model.specs.Sets.{{has_chain, within}}
 use Rattle.ecs_model.specs.Command.{{with_born, with_named, with_component, differences}}
 use Rattle.ecs_model.specs.traits.Changes.{{added, replaced, facts_after_add, facts_after_remove, deleted, facts_after_delete}}
 use Rattle.ecs_model.specs.traits.Command.{{without_entities, reasons, effect, step}}
-use Rattle.ecs_model.specs.Meaning.{{rows}}
+use Rattle.ecs_model.specs.Line.{{line_within}}
+use Rattle.ecs_model.specs.Links.{{reaches}}
+use Rattle.ecs_model.specs.rows.Level.{{top}}
+use Rattle.ecs_model.specs.rows.Rows.{{hits, fields_of_term, fields_of_item, solutions, rows}}
 use Rattle.query_model.specs.Tokens.{{tokens_from, tokens_of}}
 use Rattle.query_model.specs.Check.{{faults}}
 use Rattle.query_model.specs.Query.{{checked_query, query_of}}
@@ -42,7 +45,7 @@ Gives script output lines refused = (output_of script ≡ output) × (count_of s
 """
 UNFOLDING = (
     "id_cmp key_cmp first_world next_among within has_chain added replaced facts_after_add facts_after_remove deleted facts_after_delete without_entities "
-    "with_born with_named with_component reasons effect differences step rows "
+    "with_born with_named with_component reasons effect differences step line_within reaches top hits fields_of_term fields_of_item solutions rows "
     "tokens_from tokens_of faults checked_query query_of apply lines_of forms form_among effect_of effects_of digits chars is_utf8 encode"
 )
 
