@@ -3,11 +3,12 @@
 
 Each row becomes a lemma under the row's name: the definitions of ecs_model, computed by the prover on the row's script, give
 the row's output, the number of its lines, and how many of them are refused, which its exit status tells too. A row whose script
-is too long for the prover's step limit is left out and named in a comment.
+is too long for the prover's step limit, or has an answered query of too many variables, is left out and named in a comment.
 
 With --check it writes nothing, and says which rows the file doesn't have as their folders have them: status 1 if there are any.
 """
 import os
+import re
 import sys
 
 TOP = os.path.join(os.path.dirname(os.path.realpath(__file__)), "..")
@@ -15,6 +16,8 @@ ROWS = os.path.join(TOP, "tests", "rows")
 OUT = os.path.join(TOP, "crates", "worked_rows", "proofs", "Rows.antt")
 MOST_BYTES = 9000
 MOST_LINES = 100
+# by the definition all entities are tried for each variable
+MOST_VARIABLES = 15
 
 HEAD = """-- The worked rows, computed by the definitions. Made by tools/worked_rows.py.
 -- Too long to be computed here, and run by the program alone: {long_rows}.
@@ -105,7 +108,14 @@ def is_short(row):
     if not os.path.isfile(os.path.join(ROWS, row, "script")):
         return False
     script = read(ROWS, row, "script")
-    return len(script) <= MOST_BYTES and script.count(b"\n") <= MOST_LINES
+    return len(script) <= MOST_BYTES and script.count(b"\n") <= MOST_LINES and most_variables(script, read(ROWS, row, "output")) <= MOST_VARIABLES
+
+
+def most_variables(script, output):
+    """The most names of variables in a query that is answered."""
+    refused = {int(number) for number in re.findall(rb"^error (\d+) ", output, re.MULTILINE)}
+    queries = [line for number, line in enumerate(script.split(b"\n"), 1) if line.split()[:1] == [b"query"] and number not in refused]
+    return max((len(set(re.findall(rb"\$[A-Za-z][A-Za-z0-9_]*", line))) for line in queries), default=0)
 
 
 def pieces():
