@@ -22,14 +22,14 @@ const SCRIPTS: &str = "A script is lines of these forms:
   remove ENTITY ID              Takes an id from an entity
   delete ENTITY                 Deletes an entity, and all facts that mention it
   show ENTITY                   Prints an entity with all that it holds
-  query NAME, ..                Prints each entity that holds all of these
+  query TERM, ..                Prints each way in which all of these hold
   // ..                         Does nothing, as an empty line
 
 ENTITY is a name or a handle, as `#64.0`, which `new` prints. ID is an ENTITY or
 a pair `(RELATIONSHIP,TARGET)` of two. KIND is i8, u8, i16, u16, i32, u32, i64
-or u64. A refused line prints `error LINE KIND`, and changes nothing. A query
-may be any query text, which is checked; one that has more than names and commas
-is refused as NotYet, since it is not answered yet.
+or u64. A refused line prints `error LINE KIND`, and changes nothing. A TERM asks
+entities for an id, as `Planet`, `(ChildOf,$parent)`, `Position(up)`,
+`?(Likes,*)` or `!Planet`.
 
 This script makes a component and an entity, and asks for its value:
   component Position x:i32 y:i32
