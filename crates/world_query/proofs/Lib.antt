@@ -1,6 +1,2 @@
 mod Named
 mod Texts
-mod IdLists
-mod Printed
-mod Lines
-mod Matching

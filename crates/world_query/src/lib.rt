@@ -4,12 +4,8 @@
 //! them the fields are gone through and printed.
 #![tactic(auto)]
 
-mod answering;
 mod labels;
 mod names;
 mod reading;
-mod row_lines;
-mod table_counts;
 
-pub use answering::write_rows;
 pub use reading::read_query;
