@@ -1,5 +1,5 @@
 -- From a text to its query, step by step.
-use Rattle.std.specs.Prelude.{◌≡◌, ℕ, List, map, length, Result, Ok, Err}
+use Rattle.std.specs.Prelude.{◌≡◌, ℕ, List, length, Result, Ok, Err}
 use Rattle.std.proofs.Common.{ap, sym, ◌∙◌}
 use Rattle.query_model.specs.declared.faults.QueryFault.{QueryFault}
 use Rattle.query_model.specs.declared.faults.QueryFault.TheVariants.{Fault, Memory}

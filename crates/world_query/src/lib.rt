@@ -7,5 +7,7 @@
 mod labels;
 mod names;
 mod reading;
+mod row_lines;
+mod table_counts;
 
 pub use reading::read_query;

@@ -1,6 +1,5 @@
 -- Ids that are not told apart are one.
 use Rattle.std.specs.Prelude.{not, Bool, true, false, ◌≡◌}
-use Rattle.std.proofs.Common.{sym, ◌∙◌, ap}
 use Rattle.ecs_id.specs.Id.{id_eq, id_eq_same}
 use Rattle.world_query.proofs.labels.Label.turn_to.Goals as goal
 
