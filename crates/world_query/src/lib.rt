@@ -4,10 +4,12 @@
 //! them the fields are gone through and printed.
 #![tactic(auto)]
 
+mod answering;
 mod labels;
 mod names;
 mod reading;
 mod row_lines;
 mod table_counts;
 
+pub use answering::write_answers;
 pub use reading::read_query;
