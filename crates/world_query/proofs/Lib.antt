@@ -1,3 +1,4 @@
 mod Named
 mod Texts
 mod Printed
+mod Asked

@@ -9,7 +9,8 @@ mod labels;
 mod names;
 mod reading;
 mod row_lines;
+mod rows;
 mod table_counts;
 
-pub use answering::write_answers;
 pub use reading::read_query;
+pub use rows::write_rows;

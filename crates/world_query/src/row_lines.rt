@@ -25,7 +25,7 @@ pub(crate) fn write_row<'w, A: Allocator>(
     world: &'w World<A>,
     variables: &[Vec<u8, A>],
     entities: &[u32],
-    fields: &Fields<'w>,
+    fields: &Fields<'w, A>,
     texts: &mut Texts<'w, A>,
     out: &mut Vec<u8, A>,
 ) -> Result<(), AllocError>
@@ -60,7 +60,7 @@ fn write_bindings<A: Allocator>(
 /// Writes the current choice of fields.
 fn write_all_fields<'w, A: Allocator>(
     world: &'w World<A>,
-    fields: &Fields<'w>,
+    fields: &Fields<'w, A>,
     texts: &mut Texts<'w, A>,
     out: &mut Vec<u8, A>,
 ) -> Result<(), AllocError>
