@@ -2,3 +2,4 @@ mod Named
 mod Texts
 mod Printed
 mod Asked
+mod Answered
