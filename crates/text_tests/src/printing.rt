@@ -1,9 +1,9 @@
-//! What is printed of a world, and what a query of plain names prints.
+//! What is printed of a world, and what queries print.
 use ecs_id::{EntityId, Id};
 use ecs_print::{write_entity, write_fact, write_handle, write_id, write_index, write_number};
 use ecs_schema::{Kind, Schema};
 use ecs_world::World;
-use plain_query::{read_query, write_rows};
+use world_query::{read_query, write_rows};
 use query_model::Span;
 use query_model::faults::{Fault, FaultKind, QueryFault};
 use std::alloc::Global;
@@ -12,8 +12,11 @@ use std::process::Abort;
 use std::test::Fail;
 
 fn ask(alloc: Global, world: &World, text: &str, out: &mut Vec<u8>) -> Result<(), QueryFault> {
-    let asked = read_query(alloc, world, text)?;
-    write_rows(alloc, world, &asked.query, out).map_err(|_| QueryFault::Memory)
+    let query = read_query(alloc, world, text)?;
+    match write_rows(alloc, world, &query, out) {
+        Ok(()) => Ok(()),
+        Err(_) => Err(QueryFault::Memory),
+    }
 }
 
 /// Makes a component with these fields.
@@ -134,27 +137,52 @@ fn a_disabled_entity_is_passed_over_unless_the_tag_is_named(rt: HostRuntime) -> 
     done
 }
 
-fn tell_plain(rt: &impl Abort, alloc: Global, world: &mut World) -> Result<(), Fail> {
-    world.entity("Planet")?;
-    for text in ["Planet", " Planet ,\tPlanet", "Planet,ChildOf"] {
-        assert!(rt; read_query(alloc, world, text)?.is_plain);
+/// Asks in a world in which Earth is a child of Sun, and Moon of Earth; Sun has a position, Earth likes Sun and Moon.
+fn ask_of_sky(
+    rt: &impl Abort,
+    alloc: Global,
+    world: &mut World,
+    out: &mut Vec<u8>,
+) -> Result<(), Fail> {
+    define(alloc, world, "Position", &[("x", Kind::I32)])?;
+    world.entity("Likes")?;
+    let sun = world.entity("Sun")?.born();
+    let earth = world.entity("Earth")?.born();
+    let moon = world.entity("Moon")?.born();
+    if let (Some(sun), Some(earth), Some(moon)) = (sun, earth, moon) {
+        world.set(sun, Id::plain(64), &[7])?;
+        world.add(earth, Id::pair(1, 66))?;
+        world.add(moon, Id::pair(1, 67))?;
+        world.add(earth, Id::pair(65, 66))?;
+        world.add(earth, Id::pair(65, 68))?;
     }
-    for text in [
-        "Planet($this)",
-        "[in] Planet",
-        "Planet, !ChildOf",
-        "(Planet, *)",
-        "Planet, $this == Planet",
-    ] {
-        assert!(rt; !read_query(alloc, world, text)?.is_plain);
-    }
+    ask(alloc, world, "Position(up), ?(Likes,*)", out)?;
+    ask(alloc, world, "(ChildOf,$p), !Position($p)", out)?;
+    ask(alloc, world, "Position || (Likes,_)", out)?;
+    ask(alloc, world, "[none] Position(Sun), Likes($a,$b), $b != Sun", out)?;
+    assert_eq!(rt;
+        out.as_slice(),
+        b"row $this=Earth [Position@Sun=7] [(Likes,Sun)@Earth]
+row $this=Earth [Position@Sun=7] [(Likes,Moon)@Earth]
+row $this=Moon [Position@Sun=7] [-]
+rows 3
+row $this=Moon $p=Earth [(ChildOf,Earth)@Moon]
+rows 1
+row $this=Sun [Position@Sun=7]
+row $this=Earth [(Likes,Sun)@Earth]
+rows 2
+row $a=Earth $b=Moon [Position@Sun] [(Likes,Moon)@Earth]
+rows 1
+".as_slice()
+    );
     Ok(())
 }
 
 #[test]
-fn a_text_is_plain_where_it_has_words_and_commas_alone(rt: HostRuntime) -> Result<(), Fail> {
+fn queries_of_all_kinds_print_their_rows(rt: HostRuntime) -> Result<(), Fail> {
     let mut world = World::new(rt.alloc(), RandomState::new(&rt)?)?;
-    let done = tell_plain(&rt, rt.alloc(), &mut world);
+    let mut out = Vec::new(rt.alloc());
+    let done = ask_of_sky(&rt, rt.alloc(), &mut world, &mut out);
     drop(world);
     done
 }
