@@ -27,8 +27,8 @@ const SCRIPTS: &str = "A script is lines of these forms:
 
 ENTITY is a name or a handle, as `#64.0`, which `new` prints. ID is an ENTITY or
 a pair `(RELATIONSHIP,TARGET)` of two. KIND is i8, u8, i16, u16, i32, u32, i64
-or u64. A refused line prints `error LINE KIND`, and changes nothing. A TERM asks
-entities for an id, as `Planet`, `(ChildOf,$parent)`, `Position(up)`,
+or u64. A refused line prints `error LINE KIND`, and changes nothing. A TERM
+asks entities for an id, as `Planet`, `(ChildOf,$parent)`, `Position(up)`,
 `?(Likes,*)` or `!Planet`.
 
 This script makes a component and an entity, and asks for its value:
