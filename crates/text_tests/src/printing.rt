@@ -3,13 +3,13 @@ use ecs_id::{EntityId, Id};
 use ecs_print::{write_entity, write_fact, write_handle, write_id, write_index, write_number};
 use ecs_schema::{Kind, Schema};
 use ecs_world::World;
-use world_query::{read_query, write_rows};
 use query_model::Span;
 use query_model::faults::{Fault, FaultKind, QueryFault};
 use std::alloc::Global;
 use std::hash::RandomState;
 use std::process::Abort;
 use std::test::Fail;
+use world_query::{read_query, write_rows};
 
 fn ask(alloc: Global, world: &World, text: &str, out: &mut Vec<u8>) -> Result<(), QueryFault> {
     let query = read_query(alloc, world, text)?;
@@ -159,7 +159,12 @@ fn ask_of_sky(
     ask(alloc, world, "Position(up), ?(Likes,*)", out)?;
     ask(alloc, world, "(ChildOf,$p), !Position($p)", out)?;
     ask(alloc, world, "Position || (Likes,_)", out)?;
-    ask(alloc, world, "[none] Position(Sun), Likes($a,$b), $b != Sun", out)?;
+    ask(
+        alloc,
+        world,
+        "[none] Position(Sun), Likes($a,$b), $b != Sun",
+        out,
+    )?;
     assert_eq!(rt;
         out.as_slice(),
         b"row $this=Earth [Position@Sun=7] [(Likes,Sun)@Earth]
@@ -173,7 +178,8 @@ row $this=Earth [(Likes,Sun)@Earth]
 rows 2
 row $a=Earth $b=Moon [Position@Sun] [(Likes,Moon)@Earth]
 rows 1
-".as_slice()
+"
+            .as_slice()
     );
     Ok(())
 }

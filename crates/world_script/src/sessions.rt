@@ -15,10 +15,10 @@ use crate::telling::{
 use ecs_model::Kind;
 use ecs_schema::{Schema, SchemaError};
 use ecs_world::World;
-use world_query::{read_query, write_rows};
 use query_model::faults::QueryFault;
 use script_line::{IdReference, Line, Reference, read_line};
 use std::alloc::{AllocError, Allocator};
+use world_query::{read_query, write_rows};
 
 /// Does what a line says, adds what it prints to the output, and answers whether it was refused. What stands in `values` is lost.
 pub(crate) fn run_line<A: Allocator + Copy>(
