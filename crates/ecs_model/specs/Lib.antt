@@ -26,3 +26,4 @@ pub mod Added
 pub mod ReachLaws
 pub mod traits
 pub mod rows
+pub mod stored
