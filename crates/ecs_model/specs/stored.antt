@@ -1,2 +1,4 @@
 -- Stored queries: what they are told of commands, the session that has them, and the tables that a kept one lists.
 pub mod Watches
+pub mod Refusal
+pub mod Session

@@ -1,0 +1,35 @@
+-- Why a command of a session with stored queries is refused.
+use Rattle.std.specs.Prelude.{ℕ, Bool, List, codes, Option, Some, None, option_map}
+use Rattle.std.specs.List.{find}
+use Rattle.query_model.specs.declared.faults.Fault.{Fault}
+use Rattle.ecs_model.specs.declared.faults.Refusal.{Refusal}
+use Rattle.ecs_model.specs.Refusal.{refusal_number, refusal_text}
+use Rattle.ecs_model.specs.Print.{fault_text}
+
+-- a refusal of the world; events wait, no stored query has the name, one has it already, there are as many as there can be; a query's fault
+pub data SessionRefusal : Type 0 where
+  OfWorld : Refusal → SessionRefusal
+  EventsPending UnknownQuery QueryTaken TooManyStored : SessionRefusal
+  Faulty : Fault → SessionRefusal
+
+-- the first reason whose test is true
+abbrev pub first_session_reason : List (Bool × SessionRefusal) → Option SessionRefusal
+first_session_reason reasons = option_map (λ p. p.1) (find (λ p. p.0) reasons)
+
+-- the place of a refusal in the order of refusals; a query's fault has none
+abbrev pub session_refusal_number : SessionRefusal → Option ℕ
+session_refusal_number (OfWorld r) = Some (refusal_number r)
+session_refusal_number EventsPending = Some 15
+session_refusal_number UnknownQuery = Some 16
+session_refusal_number QueryTaken = Some 17
+session_refusal_number TooManyStored = Some 18
+session_refusal_number (Faulty f) = None
+
+-- the word of a refusal; of a query's fault its kind and its span
+abbrev pub session_refusal_text : SessionRefusal → List ℕ
+session_refusal_text (OfWorld r) = refusal_text r
+session_refusal_text EventsPending = codes "EventsPending"
+session_refusal_text UnknownQuery = codes "UnknownQuery"
+session_refusal_text QueryTaken = codes "QueryTaken"
+session_refusal_text TooManyStored = codes "TooManyStored"
+session_refusal_text (Faulty f) = fault_text f
