@@ -2,3 +2,4 @@
 pub mod Watches
 pub mod Refusal
 pub mod Session
+pub mod Tables
