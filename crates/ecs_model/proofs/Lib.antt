@@ -21,3 +21,4 @@ pub mod Reaching
 pub mod Closing
 pub mod Decided
 pub mod traits
+mod stored

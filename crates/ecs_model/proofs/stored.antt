@@ -1,0 +1,2 @@
+-- What is computed of stored queries.
+mod Computed
