@@ -1,10 +1,9 @@
 -- Sessions with stored queries, which the prover computes.
-use Rattle.std.specs.Prelude.{◌≡◌, ℕ, List, [], ◌∷◌, ◌++◌, map, flat_map, pos, codes, Option, Some, None, Result, Ok, Err, refl}
+use Rattle.std.specs.Prelude.{◌≡◌, ℕ, List, [], ◌∷◌, ◌++◌, map, flat_map, pos, codes, Some, Ok, Err, refl}
 use Rattle.std.specs.Fmt.{digits}
 use Rattle.std.specs.Str.{chars, is_utf8}
 use lib.Utf8.{encode}
-use Rattle.ecs_id.specs.declared.EntityId.{EntityId}
-use Rattle.ecs_id.specs.Id.{plain, pair, id_cmp}
+use Rattle.ecs_id.specs.Id.{id_cmp}
 use Rattle.query_model.specs.Check.{faults}
 use Rattle.query_model.specs.Query.{checked_query, query_of}
 use Rattle.query_model.specs.Tokens.{tokens_from, tokens_of}
@@ -14,17 +13,17 @@ use Rattle.ecs_model.specs.Line.{line_within}
 use Rattle.ecs_model.specs.Links.{reaches}
 use Rattle.ecs_model.specs.Map.{Map}
 use Rattle.ecs_model.specs.Schema.{Schema}
-use Rattle.ecs_model.specs.Session.{EntityRef, by_name, IdRef, plain_of, pair_of, Order, MakeFresh, MakeEntity, MakeComponent, AddTo, SetIn, RemoveFrom, DeleteOne}
+use Rattle.ecs_model.specs.Session.{by_name, IdRef, plain_of, pair_of, MakeFresh, MakeEntity, MakeComponent, AddTo, SetIn, RemoveFrom, DeleteOne}
 use Rattle.ecs_model.specs.Sets.{has_chain, within}
 use Rattle.ecs_model.specs.World.{first_world, key_cmp, next_among}
 use Rattle.ecs_model.specs.rows.Level.{top}
 use Rattle.ecs_model.specs.rows.Rows.{hits, fields_of_term, fields_of_item, solutions, rows}
 use Rattle.ecs_model.specs.traits.Changes.{added, replaced, facts_after_add, facts_after_remove, deleted, facts_after_delete}
 use Rattle.ecs_model.specs.traits.Command.{without_entities, reasons, effect, step}
-use Rattle.ecs_model.specs.traits.Pins.{pin, unpin}
-use Rattle.ecs_model.specs.stored.Refusal.{SessionRefusal, session_refusal_text}
+use Rattle.ecs_model.specs.traits.Pins.{unpin}
+use Rattle.ecs_model.specs.stored.Refusal.{EventsPending, session_refusal_text}
 use Rattle.ecs_model.specs.stored.Session.{StoringSession, StoringOrder, InWorld, Store, Drop, Answer, first_storing_session, command_of, free_order, storing_apply, events, after_events}
-use Rattle.ecs_model.specs.stored.Watches.{StoredKind, Kept, Monitor, OnAdd, OnRemove, OnSet, matching, told_of_rows, told_of, event_text}
+use Rattle.ecs_model.specs.stored.Watches.{Kept, Monitor, OnAdd, OnRemove, OnSet, matching, told_of_rows, told_of, event_text}
 
 -- a session, and the lines that it printed: events, and the words of refusals
 abbrev Printed : Type 0
@@ -82,3 +81,54 @@ who_loses_its_ancestors_position_leaves : prints (sky
     ≡ codes "leave m Earth\nleave m Moon\n"
 unfolding id_cmp key_cmp first_world next_among within has_chain added replaced facts_after_add facts_after_remove deleted facts_after_delete without_entities with_born with_named with_component reasons effect differences step line_within reaches top hits fields_of_term fields_of_item solutions rows tokens_from tokens_of faults checked_query query_of digits chars is_utf8 encode command_of free_order storing_apply matching told_of_rows told_of unpin
 who_loses_its_ancestors_position_leaves = refl
+
+-- the Sun is a parent already, and the Earth is none any more
+leaves_come_before_enters : prints (sky ++ Store Monitor (codes "m") (codes "ChildOf($x,$this)") ∷ add (codes "Moon") (to (codes "ChildOf") (codes "Sun")) ∷ [])
+    ≡ codes "leave m Earth\n"
+unfolding id_cmp key_cmp first_world next_among within has_chain added replaced facts_after_add facts_after_remove deleted facts_after_delete without_entities with_born with_named with_component reasons effect differences step line_within reaches top hits fields_of_term fields_of_item solutions rows tokens_from tokens_of faults checked_query query_of digits chars is_utf8 encode command_of free_order storing_apply matching told_of_rows told_of unpin
+leaves_come_before_enters = refl
+
+who_is_a_parent_now_enters_behind_who_was_one : prints (entity (codes "Sun") ∷ entity (codes "Earth") ∷ entity (codes "Moon") ∷ add (codes "Moon") (to (codes "ChildOf") (codes "Earth")) ∷ Store Monitor (codes "m") (codes "ChildOf($x,$this)") ∷ add (codes "Moon") (to (codes "ChildOf") (codes "Sun")) ∷ [])
+    ≡ codes "leave m Earth\nenter m Sun\n"
+unfolding id_cmp key_cmp first_world next_among within has_chain added replaced facts_after_add facts_after_remove deleted facts_after_delete without_entities with_born with_named with_component reasons effect differences step line_within reaches top hits fields_of_term fields_of_item solutions rows tokens_from tokens_of faults checked_query query_of digits chars is_utf8 encode command_of free_order storing_apply matching told_of_rows told_of unpin
+who_is_a_parent_now_enters_behind_who_was_one = refl
+
+-- a value is told again, what changes nothing tells nothing, a new value is no set, and what is deleted is told by its name
+observers_are_told_in_the_order_of_making : prints (InWorld (MakeComponent (codes "Position") fields) ∷ entity (codes "Sun") ∷ Store OnSet (codes "s") (codes "Position") ∷ Store OnAdd (codes "a") (codes "Position") ∷ Store OnRemove (codes "r") (codes "Position") ∷ set_position (codes "Sun") ∷ set_position (codes "Sun") ∷ remove (codes "Sun") (codes "Position") ∷ remove (codes "Sun") (codes "Position") ∷ add (codes "Sun") (tag (codes "Position")) ∷ InWorld (DeleteOne (by_name (codes "Sun"))) ∷ [])
+    ≡ codes "set s Sun Position=10,3\nadd a Sun Position\nset s Sun Position=10,3\nremove r Sun Position\nadd a Sun Position\nremove r Sun Position\n"
+unfolding id_cmp key_cmp first_world next_among within has_chain added replaced facts_after_add facts_after_remove deleted facts_after_delete without_entities with_born with_named with_component reasons effect differences step line_within reaches top hits fields_of_term fields_of_item solutions rows tokens_from tokens_of faults checked_query query_of digits chars is_utf8 encode command_of free_order storing_apply matching told_of_rows told_of unpin
+observers_are_told_in_the_order_of_making = refl
+
+-- `_` as `*`: each fact is told, by entity and id
+wildcards_match_stored_facts : prints (entity (codes "A") ∷ entity (codes "B") ∷ entity (codes "Sun") ∷ add (codes "A") (to (codes "With") (codes "B")) ∷ Store OnAdd (codes "one") (codes "_") ∷ Store OnAdd (codes "pairs") (codes "(*,_)") ∷ Store OnAdd (codes "any") (codes "*($this|self)") ∷ InWorld (MakeComponent (codes "Position") fields) ∷ add (codes "Sun") (tag (codes "A")) ∷ add (codes "Sun") (to (codes "A") (codes "B")) ∷ [])
+    ≡ codes "add one Position Component\nadd any Position Component\nadd one Sun A\nadd one Sun B\nadd any Sun A\nadd any Sun B\nadd pairs Sun (A,B)\nadd pairs Sun (B,B)\n"
+unfolding id_cmp key_cmp first_world next_among within has_chain added replaced facts_after_add facts_after_remove deleted facts_after_delete without_entities with_born with_named with_component reasons effect differences step line_within reaches top hits fields_of_term fields_of_item solutions rows tokens_from tokens_of faults checked_query query_of digits chars is_utf8 encode command_of free_order storing_apply matching told_of_rows told_of unpin
+wildcards_match_stored_facts = refl
+
+-- what comes is judged after the command, and what goes before it
+who_is_passed_over_is_not_told : prints (entity (codes "A") ∷ entity (codes "B") ∷ entity (codes "Sun") ∷ entity (codes "Earth") ∷ add (codes "B") (to (codes "With") (codes "Disabled")) ∷ Store OnAdd (codes "a") (codes "*") ∷ Store OnAdd (codes "d") (codes "Disabled") ∷ Store OnRemove (codes "r") (codes "*") ∷ add (codes "Sun") (tag (codes "A")) ∷ add (codes "Sun") (tag (codes "B")) ∷ add (codes "Earth") (tag (codes "Prefab")) ∷ add (codes "Earth") (tag (codes "A")) ∷ remove (codes "Sun") (codes "Disabled") ∷ InWorld (DeleteOne (by_name (codes "Earth"))) ∷ InWorld (DeleteOne (by_name (codes "Sun"))) ∷ [])
+    ≡ codes "add a Sun A\nadd d Sun Disabled\nremove r Sun A\nremove r Sun B\n"
+unfolding id_cmp key_cmp first_world next_among within has_chain added replaced facts_after_add facts_after_remove deleted facts_after_delete without_entities with_born with_named with_component reasons effect differences step line_within reaches top hits fields_of_term fields_of_item solutions rows tokens_from tokens_of faults checked_query query_of digits chars is_utf8 encode command_of free_order storing_apply matching told_of_rows told_of unpin
+who_is_passed_over_is_not_told = refl
+
+-- and an observer one term
+a_watch_needs_this : prints (entity (codes "A") ∷ Store Monitor (codes "m") (codes "A(A)") ∷ Store OnAdd (codes "a") (codes "A(A)") ∷ Store OnAdd (codes "b") (codes "A, A") ∷ Store OnSet (codes "c") (codes "A(up)") ∷ Store OnRemove (codes "d") (codes "($x,A), A($x)") ∷ Store OnAdd (codes "e") (codes "?A") ∷ Store Kept (codes "k") (codes "A(A)") ∷ [])
+    ≡ codes "error NoThis 0..4\nerror NoThis 0..4\nerror NotOneTerm 0..4\nerror NotOneTerm 0..5\nerror NotOneTerm 0..13\nerror NotOneTerm 0..2\n"
+unfolding id_cmp key_cmp first_world next_among within has_chain added replaced facts_after_add facts_after_remove deleted facts_after_delete without_entities with_born with_named with_component reasons effect differences step line_within reaches top hits fields_of_term fields_of_item solutions rows tokens_from tokens_of faults checked_query query_of digits chars is_utf8 encode command_of free_order storing_apply matching told_of_rows told_of unpin
+a_watch_needs_this = refl
+
+-- and what it mentions is not deleted
+a_name_is_taken_until_its_query_is_dropped : prints (entity (codes "A") ∷ Store Kept (codes "k") (codes "A") ∷ Store Monitor (codes "k") (codes "Nowhere") ∷ Store Monitor (codes "self") (codes "Nowhere") ∷ Store Monitor (codes "m") (codes "Nowhere") ∷ InWorld (DeleteOne (by_name (codes "A"))) ∷ Drop (codes "m") ∷ Drop (codes "k") ∷ Drop (codes "k") ∷ Store Monitor (codes "k") (codes "A") ∷ Drop (codes "k") ∷ InWorld (DeleteOne (by_name (codes "A"))) ∷ [])
+    ≡ codes "error QueryTaken\nerror BadName\nerror UnknownName 0..7\nerror InUse\nerror UnknownQuery\nerror UnknownQuery\n"
+unfolding id_cmp key_cmp first_world next_among within has_chain added replaced facts_after_add facts_after_remove deleted facts_after_delete without_entities with_born with_named with_component reasons effect differences step line_within reaches top hits fields_of_term fields_of_item solutions rows tokens_from tokens_of faults checked_query query_of digits chars is_utf8 encode command_of free_order storing_apply matching told_of_rows told_of unpin
+a_name_is_taken_until_its_query_is_dropped = refl
+
+what_a_stored_query_mentions_is_counted : map pins_after ((entity (codes "A") ∷ Store Kept (codes "k") (codes "A, A") ∷ Store Monitor (codes "m") (codes "A(up IsA)") ∷ []) ∷ (entity (codes "A") ∷ Store Kept (codes "k") (codes "A, A") ∷ Store Monitor (codes "m") (codes "A(up IsA)") ∷ Drop (codes "k") ∷ []) ∷ [])
+    ≡ ((2, 1) ∷ (64, 2) ∷ []) ∷ ((2, 1) ∷ (64, 1) ∷ []) ∷ []
+unfolding id_cmp key_cmp first_world next_among within has_chain added replaced facts_after_add facts_after_remove deleted facts_after_delete without_entities with_born with_named with_component reasons effect differences step line_within reaches top hits fields_of_term fields_of_item solutions rows tokens_from tokens_of faults checked_query query_of digits chars is_utf8 encode command_of free_order storing_apply matching told_of_rows told_of unpin
+what_a_stored_query_mentions_is_counted = refl
+
+no_command_while_events_wait : map (storing_apply (record first_storing_session { waiting = Some [] })) (InWorld MakeFresh ∷ Drop (codes "k") ∷ Store Kept (codes "self") [] ∷ [])
+    ≡ Err EventsPending ∷ Err EventsPending ∷ Err EventsPending ∷ []
+unfolding storing_apply
+no_command_while_events_wait = refl
