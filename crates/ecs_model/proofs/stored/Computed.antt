@@ -1,9 +1,9 @@
 -- Sessions with stored queries, which the prover computes.
-use Rattle.std.specs.Prelude.{◌≡◌, ℕ, List, [], ◌∷◌, ◌++◌, map, flat_map, pos, codes, Some, Ok, Err, refl}
+use Rattle.std.specs.Prelude.{◌≡◌, ℕ, Bool, true, false, List, [], ◌∷◌, ◌++◌, map, flat_map, pos, codes, Some, Ok, Err, refl}
 use Rattle.std.specs.Fmt.{digits}
 use Rattle.std.specs.Str.{chars, is_utf8}
 use lib.Utf8.{encode}
-use Rattle.ecs_id.specs.Id.{id_cmp}
+use Rattle.ecs_id.specs.Id.{Id, plain, pair, id_cmp}
 use Rattle.query_model.specs.Check.{faults}
 use Rattle.query_model.specs.Query.{checked_query, query_of}
 use Rattle.query_model.specs.Tokens.{tokens_from, tokens_of}
@@ -12,8 +12,9 @@ use Rattle.ecs_model.specs.Command.{with_born, with_named, with_component, diffe
 use Rattle.ecs_model.specs.Line.{line_within}
 use Rattle.ecs_model.specs.Links.{reaches}
 use Rattle.ecs_model.specs.Map.{Map}
+use Rattle.ecs_model.specs.Query.{query_of as query_in}
 use Rattle.ecs_model.specs.Schema.{Schema}
-use Rattle.ecs_model.specs.Session.{by_name, IdRef, plain_of, pair_of, MakeFresh, MakeEntity, MakeComponent, AddTo, SetIn, RemoveFrom, DeleteOne}
+use Rattle.ecs_model.specs.Session.{SessionState, Order, apply, world_order, by_name, IdRef, plain_of, pair_of, MakeFresh, MakeEntity, MakeComponent, AddTo, SetIn, RemoveFrom, DeleteOne}
 use Rattle.ecs_model.specs.Sets.{has_chain, within}
 use Rattle.ecs_model.specs.World.{first_world, key_cmp, next_among}
 use Rattle.ecs_model.specs.rows.Level.{top}
@@ -23,6 +24,7 @@ use Rattle.ecs_model.specs.traits.Command.{without_entities, reasons, effect, st
 use Rattle.ecs_model.specs.traits.Pins.{unpin}
 use Rattle.ecs_model.specs.stored.Refusal.{EventsPending, session_refusal_text}
 use Rattle.ecs_model.specs.stored.Session.{StoringSession, StoringOrder, InWorld, Store, Drop, Answer, first_storing_session, command_of, free_order, storing_apply, events, after_events}
+use Rattle.ecs_model.specs.stored.Tables.{lists_table}
 use Rattle.ecs_model.specs.stored.Watches.{Kept, Monitor, OnAdd, OnRemove, OnSet, matching, told_of_rows, told_of, event_text}
 
 -- a session, and the lines that it printed: events, and the words of refusals
@@ -132,3 +134,25 @@ no_command_while_events_wait : map (storing_apply (record first_storing_session 
     ≡ Err EventsPending ∷ Err EventsPending ∷ Err EventsPending ∷ []
 unfolding storing_apply
 no_command_while_events_wait = refl
+
+-- which tables of these ids a query of the first world lists
+abbrev lists : List ℕ → List (List Id) → List Bool
+lists text tables = elim (query_in first_world text) [ Ok q ↦ map (lists_table q) tables | Err f ↦ [] ]
+
+-- the terms that are no And terms of `$this` itself ask nothing of a table
+a_listed_table_has_a_hit_for_each_cacheable_item : lists (codes "Exclusive, (OnDelete,_), !Acyclic, ?Traversable, With(up), !{ Prefab }, Disabled || Delete")
+      ((plain 6 ∷ pair 14 17 ∷ []) ∷ (plain 6 ∷ plain 10 ∷ pair 14 3 ∷ []) ∷ (plain 6 ∷ plain 14 ∷ []) ∷ (pair 14 17 ∷ []) ∷ [] ∷ [])
+    ≡ true ∷ true ∷ false ∷ false ∷ false ∷ []
+unfolding first_world key_cmp id_cmp top tokens_from tokens_of faults checked_query query_of lists_table
+a_listed_table_has_a_hit_for_each_cacheable_item = refl
+
+-- the session without stored queries takes each order for the same command
+each_order_is_taken_for_the_same_command : (s : SessionState) (o : Order) → apply s o ≡ world_order s (command_of s.world o)
+unfolding apply command_of
+each_order_is_taken_for_the_same_command s MakeFresh = refl
+each_order_is_taken_for_the_same_command s (MakeEntity n) = refl
+each_order_is_taken_for_the_same_command s (MakeComponent n fs) = refl
+each_order_is_taken_for_the_same_command s (AddTo r i) = refl
+each_order_is_taken_for_the_same_command s (SetIn r i vs) = refl
+each_order_is_taken_for_the_same_command s (RemoveFrom r i) = refl
+each_order_is_taken_for_the_same_command s (DeleteOne r) = refl
