@@ -1,6 +1,7 @@
 -- Sessions with stored queries, which the prover computes.
 use Rattle.std.specs.Prelude.{◌≡◌, ℕ, Bool, true, false, List, [], ◌∷◌, ◌++◌, map, flat_map, pos, codes, Some, Ok, Err, refl}
 use Rattle.std.specs.Fmt.{digits}
+use Rattle.std.specs.List.{range_with_len}
 use Rattle.std.specs.Str.{chars, is_utf8}
 use lib.Utf8.{encode}
 use Rattle.ecs_id.specs.Id.{Id, plain, pair, id_cmp}
@@ -22,7 +23,7 @@ use Rattle.ecs_model.specs.rows.Rows.{hits, fields_of_term, fields_of_item, solu
 use Rattle.ecs_model.specs.traits.Changes.{added, replaced, facts_after_add, facts_after_remove, deleted, facts_after_delete}
 use Rattle.ecs_model.specs.traits.Command.{without_entities, reasons, effect, step}
 use Rattle.ecs_model.specs.traits.Pins.{unpin}
-use Rattle.ecs_model.specs.stored.Refusal.{EventsPending, session_refusal_text}
+use Rattle.ecs_model.specs.stored.Refusal.{EventsPending, QueryTaken, TooManyStored, session_refusal_text}
 use Rattle.ecs_model.specs.stored.Session.{StoringSession, StoringOrder, InWorld, Store, Drop, Answer, first_storing_session, command_of, free_order, storing_apply, events, after_events}
 use Rattle.ecs_model.specs.stored.Tables.{lists_table}
 use Rattle.ecs_model.specs.stored.Watches.{Kept, Monitor, OnAdd, OnRemove, OnSet, matching, told_of_rows, told_of, event_text}
@@ -77,6 +78,10 @@ sky =
     ∷ add (codes "Earth") (to (codes "ChildOf") (codes "Sun")) ∷ add (codes "Moon") (to (codes "ChildOf") (codes "Earth"))
     ∷ set_position (codes "Sun") ∷ set_position (codes "Earth") ∷ []
 
+an_ancestor_further_up_will_do : prints (sky ++ Store Monitor (codes "m") (codes "Position(up)") ∷ remove (codes "Earth") (codes "Position") ∷ []) ≡ []
+unfolding id_cmp key_cmp first_world next_among within has_chain added replaced facts_after_add facts_after_remove deleted facts_after_delete without_entities with_born with_named with_component reasons effect differences step line_within reaches top hits fields_of_term fields_of_item solutions rows tokens_from tokens_of faults checked_query query_of digits chars is_utf8 encode command_of free_order storing_apply matching told_of_rows told_of unpin
+an_ancestor_further_up_will_do = refl
+
 -- as long as the Sun has one, the Moon finds a position above it, and so does the Earth
 who_loses_its_ancestors_position_leaves : prints (sky
     ++ Store Monitor (codes "m") (codes "Position(up)") ∷ remove (codes "Earth") (codes "Position") ∷ remove (codes "Sun") (codes "Position") ∷ [])
@@ -130,6 +135,16 @@ what_a_stored_query_mentions_is_counted : map pins_after ((entity (codes "A") �
 unfolding id_cmp key_cmp first_world next_among within has_chain added replaced facts_after_add facts_after_remove deleted facts_after_delete without_entities with_born with_named with_component reasons effect differences step line_within reaches top hits fields_of_term fields_of_item solutions rows tokens_from tokens_of faults checked_query query_of digits chars is_utf8 encode command_of free_order storing_apply matching told_of_rows told_of unpin
 what_a_stored_query_mentions_is_counted = refl
 
+-- a session with as many stored queries as there can be, all under one name
+abbrev full_session : StoringSession
+full_session = record first_storing_session {
+  stored = map (λ i. record { name = codes "k"; kind = Kept; query = record { variables = []; has_this = false; pieces = []; mentions = []; length = 0 } }) (range_with_len 0 1024);
+}
+
+too_many_is_told_behind_a_taken_name : map (λ n. storing_apply full_session (Store Kept n (codes "Nowhere"))) (codes "k" ∷ codes "n" ∷ []) ≡ Err QueryTaken ∷ Err TooManyStored ∷ []
+unfolding storing_apply free_order
+too_many_is_told_behind_a_taken_name = refl
+
 no_command_while_events_wait : map (storing_apply (record first_storing_session { waiting = Some [] })) (InWorld MakeFresh ∷ Drop (codes "k") ∷ Store Kept (codes "self") [] ∷ [])
     ≡ Err EventsPending ∷ Err EventsPending ∷ Err EventsPending ∷ []
 unfolding storing_apply
@@ -141,7 +156,7 @@ lists text tables = elim (query_in first_world text) [ Ok q ↦ map (lists_table
 
 -- the terms that are no And terms of `$this` itself ask nothing of a table
 a_listed_table_has_a_hit_for_each_cacheable_item : lists (codes "Exclusive, (OnDelete,_), !Acyclic, ?Traversable, With(up), !{ Prefab }, Disabled || Delete")
-      ((plain 6 ∷ pair 14 17 ∷ []) ∷ (plain 6 ∷ plain 10 ∷ pair 14 3 ∷ []) ∷ (plain 6 ∷ plain 14 ∷ []) ∷ (pair 14 17 ∷ []) ∷ [] ∷ [])
+    ((plain 6 ∷ pair 14 17 ∷ []) ∷ (plain 6 ∷ plain 10 ∷ pair 14 3 ∷ []) ∷ (plain 6 ∷ plain 14 ∷ []) ∷ (pair 14 17 ∷ []) ∷ [] ∷ [])
     ≡ true ∷ true ∷ false ∷ false ∷ false ∷ []
 unfolding first_world key_cmp id_cmp top tokens_from tokens_of faults checked_query query_of lists_table
 a_listed_table_has_a_hit_for_each_cacheable_item = refl
