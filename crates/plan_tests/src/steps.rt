@@ -1,10 +1,14 @@
 //! Steps of a few queries, with the answers that rules written apart from the code give.
 
+ghost use Rattle.std.specs.Prelude.{IfOk};
+ghost use Rattle.query_meaning.specs.Sound.{IsSound};
+
 use crate::sky::Sky;
 use query_check::{Query, check};
 use query_lexer::lex;
 use query_meaning::PlanRefusal::{MissingItem, RepeatedItem, UnboundMode};
 use query_meaning::Step::{Above, Check, Close, Each, Open, Scan, Targets};
+use query_meaning::laws::checked_queries_are_sound;
 use query_meaning::{PlanRefusal, Step};
 use query_model::faults::QueryFault;
 use query_parser::parse;
@@ -13,7 +17,12 @@ use refusing_alloc::Refusing;
 use std::alloc::{Allocator, Global};
 use std::test::Fail;
 
-fn ask<A: Allocator + Copy>(alloc: A, text: &str) -> Result<Query<A>, QueryFault> {
+/// The query of a text. It is sound, as every query is that a text asks.
+#[tactic(auto, using(crate::proofs::Sound::asked_is_sound))]
+fn ask<A: Allocator + Copy>(alloc: A, text: &str) -> Result<Query<A>, QueryFault>
+    ensures { IfOk result (λ query. IsSound query) }
+{
+    checked_queries_are_sound();
     let tokens = match lex(alloc, text) {
         Ok(tokens) => tokens,
         Err(fault) => return Err(fault),
@@ -22,7 +31,10 @@ fn ask<A: Allocator + Copy>(alloc: A, text: &str) -> Result<Query<A>, QueryFault
         Ok(syntax) => syntax,
         Err(fault) => return Err(fault),
     };
-    check(alloc, &Sky, &syntax)
+    match check(alloc, &Sky, &syntax) {
+        Ok(query) => Ok(query),
+        Err(fault) => Err(fault),
+    }
 }
 
 /// Why steps are no plan, if they are none.
@@ -113,6 +125,26 @@ fn the_shortest_list_comes_first(rt: HostRuntime) -> Result<(), Fail> {
         )?
     );
     assert!(rt; planned(alloc, "Planet, Planet", &[1, 1], &[Scan(0), Check(1)])?);
+    Ok(())
+}
+
+/// Whether these are the steps of the plan that a query has without a test of them.
+fn is_planned(alloc: Global, text: &str, lists: &[usize], steps: &[Step]) -> Result<bool, Fail> {
+    let query = ask(alloc, text)?;
+    let plan = Plan::new(alloc, &query, lists)?;
+    Ok(plan.steps() == steps)
+}
+
+#[test]
+fn a_sound_query_has_a_plan_without_a_test(rt: HostRuntime) -> Result<(), Fail> {
+    let alloc = rt.alloc();
+    let text = "(ChildOf,$p), Planet($p)";
+    let shortest_first = [Scan(1), Scan(0)];
+    assert!(rt; is_planned(alloc, text, &[3, 1], &shortest_first)?);
+    assert!(rt; is_planned(alloc, text, &[1, 3], &[Scan(0), Check(1)])?);
+    let text = "!(Likes,$x), (ChildOf,$x)";
+    let steps = [Scan(2), Open(0), Check(1), Close];
+    assert!(rt; is_planned(alloc, text, &[0, 1, 2], &steps)?);
     Ok(())
 }
 
