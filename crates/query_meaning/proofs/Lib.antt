@@ -21,5 +21,7 @@ pub mod ThisOccurs
 pub mod Asked
 pub mod CheckedSound
 pub mod EachTerm
+pub mod Mentioned
 pub mod Rising
 pub mod NamedLive
+pub mod Standing

@@ -1,91 +1,122 @@
--- Ancestors are asked along relationships without cycles: each is ChildOf or was found Traversable.
-use Rattle.std.specs.Prelude.{◌≡◌, ℕ, Bool, true, false, not, List, [], ◌++◌, is_none, is_some, option_to_list, Option, Some, None}
+-- A current query asks ancestors along relationships without cycles: each is ChildOf or is mentioned as Traversable.
+use Rattle.std.specs.Prelude.{◌≡◌, ◌⊎◌, ℕ, Bool, true, false, not, List, [], ◌++◌, flat_map, is_none, is_some, option_to_list, Option, Some, None, Ok}
 use Rattle.std.specs.List.{All}
 use Rattle.std.specs.Option.{option_map_or}
-use Rattle.std.proofs.Common.{ap, ◌∙◌, refl}
-use Rattle.std.proofs.lemmas.List.Elements.{All-cons, All-nil}
+use Rattle.std.proofs.Common.{ap, sym, ◌∙◌, refl, inl, inr, subst}
+use Rattle.std.proofs.lemmas.List.Elements.{All-cons, All-head, All-nil, All-weaker}
 use Rattle.ecs_id.specs.Id.{id_cmp, plain}
 use Rattle.ecs_id.specs.declared.EntityId.{EntityId}
 use Rattle.query_model.specs.declared.Span.{Span}
 use Rattle.query_model.specs.declared.faults.Fault.{Fault}
 use Rattle.query_model.specs.declared.faults.FaultKind.TheVariants.{NotTraversable, UnknownName}
+use Rattle.query_model.specs.declared.query.Mention.{Mention}
 use Rattle.query_model.specs.declared.query.Position.TheVariants.{Component, Source, Target, Risen}
 use Rattle.query_model.specs.Faults.{fault_at}
 use Rattle.query_model.specs.Syntax.{Spoken, Word, Var, Any, One, Reference, at, Rise, none, up, Flags, TermSyntax}
 use Rattle.query_model.specs.Levels.{Path}
-use Rattle.query_model.specs.Uses.{along_what, rise_of, risen, uses_of_term, written}
+use Rattle.query_model.specs.Uses.{Use, along_what, rise_of, risen, uses_of_term, written}
 use Rattle.query_model.specs.Scope.{Sighting}
 use Rattle.query_model.specs.Numbers.{Variable}
-use Rattle.query_model.specs.Check.{when}
-use Rattle.query_model.specs.Query.{Item, must, may, either, equal, differ, asked_up, checked_term, child_of, entity_along, entity_spoken, up_of}
+use Rattle.query_model.specs.Check.{Known, when}
+use Rattle.query_model.specs.Query.{Item, must, may, either, equal, differ, Query, asked_up, checked_term, child_of, entity_along, entity_spoken, is_as_checked, mention_of, query_of, up_of}
 use Rattle.ecs_model.specs.BuiltIns.{acyclic, traversable}
 use Rattle.ecs_model.specs.Links.{IsAcyclic}
 use Rattle.ecs_model.specs.Query.{known_of}
-use Rattle.ecs_model.specs.World.{WorldState, first_world, holds, ids_of, key_cmp, value_of}
-use Rattle.ecs_model.specs.traits.Keeps.{IsWellFormed}
+use Rattle.ecs_model.specs.World.{first_world, holds, ids_of, key_cmp, value_of}
 use Rattle.query_meaning.specs.Laws.{CheckedQueriesGoUpWithoutCycles}
 use Rattle.query_meaning.specs.Names.{entry_rises, item_rises, term_rises}
-use Rattle.query_meaning.proofs.Asked.{left_nil}
-use Rattle.query_meaning.proofs.EachTerm.{Faultless, faultless_left, faultless_right, holds_in_entries, of_item}
+use Rattle.query_meaning.specs.Standing.{CurrentQueriesGoUpWithoutCycles}
+use Rattle.query_meaning.specs.Variables.{entries}
+use Rattle.query_meaning.proofs.Asked.{asked, checked_faultless, left_nil}
+use Rattle.query_meaning.proofs.EachTerm.{All-left, All-right, holds_in_entries, of_item}
+use Rattle.query_meaning.proofs.Holding.{In-list_all}
+use Rattle.query_meaning.proofs.Lists.{In}
+use Rattle.query_meaning.proofs.Mentioned.{IsGood, IsMentioned, asked_queries_are_current, from_checked, good_references, word_mentioned}
 
 not_faulty : (b : Bool) (f : Fault) → when (not b) f ≡ [] → b ≡ true
 not_faulty true f e = refl
 not_faulty false f e = absurd (cc)
+
+module _ (k : Known) (ms : List Mention) where
+  abbrev Good : Use → Type 0
+  Good u = IsGood k ms u
+
+  -- ChildOf, or mentioned as Traversable
+  abbrev GoesUp : ℕ → Type 0
+  GoesUp r = (r ≡ child_of) ⊎ (IsMentioned k ms r × (k.traversable r ≡ true))
+
+  -- an entity that was found Traversable
+  found_traversable : (o : Option EntityId) (s : Span)
+      → when (is_none o) (fault_at UnknownName s) ++ option_map_or (λ (e : EntityId). when (not (k.traversable e.index)) (fault_at NotTraversable s)) o [] ≡ []
+      → k.traversable (option_map_or (λ (e : EntityId). e.index) o 0) ≡ true
+  found_traversable None s e = absurd (cc)
+  found_traversable (Some x) s e = not_faulty (k.traversable x.index) (fault_at NotTraversable s) e
+
+  spoken_goes_up : (v : Spoken) (s : Span) → Good (record { position = Risen; reference = at v s }) → All GoesUp (option_to_list (entity_spoken k v))
+  spoken_goes_up (Word n) s g =
+      let unknown = when (is_none (k.named n)) (fault_at UnknownName s) in
+      All-cons GoesUp _ [] (inr (word_mentioned k ms (k.named n) (fault_at UnknownName s) (left_nil unknown _ g.0) g.1, found_traversable (k.named n) s g.0)) (All-nil GoesUp)
+  spoken_goes_up (Var v) s g = All-nil GoesUp
+  spoken_goes_up Any s g = All-nil GoesUp
+  spoken_goes_up One s g = All-nil GoesUp
+
+  along_goes_up : (r : Option Reference) → All Good (written Risen r) → All GoesUp (option_to_list (entity_along k r))
+  along_goes_up None g = All-cons GoesUp child_of [] (inl refl) (All-nil GoesUp)
+  along_goes_up (Some r) g = spoken_goes_up r.spoken r.span (All-head Good (record { position = Risen; reference = r }) [] g)
+
+  flags_go_up : (f : Option Flags) → All Good (written Risen (along_what (rise_of f))) → All GoesUp (option_to_list (up_of k f))
+  flags_go_up None g = All-nil GoesUp
+  flags_go_up (Some f) g = rise_goes_up f.rise g
+    where
+      rise_goes_up : (r : Rise) → All Good (written Risen (along_what r)) → All GoesUp (option_to_list (asked_up k r))
+      rise_goes_up none g = All-nil GoesUp
+      rise_goes_up (up r) g = along_goes_up r g
+
+  term_goes_up : (all : List Sighting) (vs : List Variable) (path : Path) (t : TermSyntax) → All Good (uses_of_term t) → All GoesUp (term_rises (checked_term k all vs path t))
+  term_goes_up all vs path t h =
+      let c = written Component (Some t.first) in
+      let s = written Source t.source in
+      let r = written Risen (risen t) in
+      let g = written Target t.target in
+      flags_go_up t.flags (All-right Good (c ++ s) r (All-left Good (c ++ s ++ r) g h))
+
+-- so are all relationships along which a query that a text asks goes up
+rises_mentioned : (k : Known) (text : List ℕ) (q : Query) → query_of k text ≡ Ok q → All (GoesUp k q.mentions) (flat_map entry_rises (entries q))
+rises_mentioned k text q e =
+    let a = asked k text q e in
+    let c = checked_faultless k a.1 q a.3 in
+    holds_in_entries (GoesUp k q.mentions) term_rises (λ r. []) (IsGood k q.mentions) k (term_goes_up k q.mentions) (λ all vs path r g. All-nil (GoesUp k q.mentions))
+    entry_rises (λ level i. same i) (λ level own inner. refl) a.1 q c.1 (good_references k a.1 q c.0 c.1)
+  where
+    same : (i : Item) → item_rises i ≡ of_item (GoesUp k q.mentions) term_rises (λ r. []) i
+    same (must t) = refl
+    same (may t) = refl
+    same (either ts) = refl
+    same (equal v r) = refl
+    same (differ v r) = refl
 
 -- ChildOf is Acyclic from the first world on
 first_child_of : is_some (value_of first_world child_of (plain acyclic)) ≡ true
 unfolding first_world key_cmp id_cmp
 first_child_of = refl
 
-module _ (w : WorldState) (whole : IsWellFormed w) where
-  abbrev EndsAlong : ℕ → Type 0
-  EndsAlong r = IsAcyclic (ids_of w) r
+pub current_queries_go_up_without_cycles : CurrentQueriesGoUpWithoutCycles
+current_queries_go_up_without_cycles w q whole h =
+    All-weaker (GoesUp then q.mentions) (IsAcyclic (ids_of w)) ends (flat_map entry_rises (entries q)) (rises_mentioned then (h.asked).1 q (h.asked).2)
+  where
+    then : Known
+    then = known_of (h.asked).0
 
-  child_of_ends : EndsAlong child_of
-  child_of_ends = (whole.traits).no_cycle child_of (ap is_some ((whole.built_in).facts child_of (plain acyclic) refl) ∙ first_child_of)
+    -- what was Traversable at the check is so here
+    still_traversable : (m : Mention) → In m q.mentions → m.traversable ≡ true → holds w (m.entity).index (plain traversable) ≡ true
+    still_traversable m i t = (from_checked (known_of w) m (In-list_all (is_as_checked (known_of w)) q.mentions h.current m i)).1 ∙ t
 
-  -- an entity that was found Traversable
-  found_ends : (o : Option EntityId) (s : Span) (rest : List Fault)
-      → when (is_none o) (fault_at UnknownName s) ++ option_map_or (λ (e : EntityId). when (not (holds w e.index (plain traversable))) (fault_at NotTraversable s)) o [] ++ rest ≡ []
-      → EndsAlong (option_map_or (λ (e : EntityId). e.index) o 0)
-  found_ends None s rest e = absurd (cc)
-  found_ends (Some x) s rest e =
-      let fault = when (not (holds w x.index (plain traversable))) (fault_at NotTraversable s) in
-      (whole.traits).no_cycle x.index ((whole.traits).traversable_acyclic x.index (not_faulty (holds w x.index (plain traversable)) (fault_at NotTraversable s) (left_nil fault rest e)))
-
-  spoken_ends : (v : Spoken) (s : Span) → Faultless (known_of w) (written Risen (Some (at v s))) → All EndsAlong (option_to_list (entity_spoken (known_of w) v))
-  spoken_ends (Word n) s e = All-cons EndsAlong _ [] (found_ends ((known_of w).named n) s [] e) (All-nil EndsAlong)
-  spoken_ends (Var v) s e = All-nil EndsAlong
-  spoken_ends Any s e = All-nil EndsAlong
-  spoken_ends One s e = All-nil EndsAlong
-
-  along_ends : (r : Option Reference) → Faultless (known_of w) (written Risen r) → All EndsAlong (option_to_list (entity_along (known_of w) r))
-  along_ends None e = All-cons EndsAlong child_of [] child_of_ends (All-nil EndsAlong)
-  along_ends (Some r) e = spoken_ends r.spoken r.span e
-
-  flags_end : (f : Option Flags) → Faultless (known_of w) (written Risen (along_what (rise_of f))) → All EndsAlong (option_to_list (up_of (known_of w) f))
-  flags_end None e = All-nil EndsAlong
-  flags_end (Some f) e = rise_ends f.rise e
-    where
-      rise_ends : (r : Rise) → Faultless (known_of w) (written Risen (along_what r)) → All EndsAlong (option_to_list (asked_up (known_of w) r))
-      rise_ends none e = All-nil EndsAlong
-      rise_ends (up r) e = along_ends r e
-
-  term_ends : (all : List Sighting) (vs : List Variable) (path : Path) (t : TermSyntax) → Faultless (known_of w) (uses_of_term t) → All EndsAlong (term_rises (checked_term (known_of w) all vs path t))
-  term_ends all vs path t e =
-      let c = written Component (Some t.first) in
-      let s = written Source t.source in
-      let r = written Risen (risen t) in
-      let g = written Target t.target in
-      flags_end t.flags (faultless_right (known_of w) (c ++ s) r (faultless_left (known_of w) (c ++ s ++ r) g e))
+    ends : (r : ℕ) → GoesUp then q.mentions r → IsAcyclic (ids_of w) r
+    ends r (inl is) = subst (IsAcyclic (ids_of w)) (sym is) ((whole.traits).no_cycle child_of (ap is_some ((whole.built_in).facts child_of (plain acyclic) refl) ∙ first_child_of))
+    ends r (inr (m, t)) =
+        let e = m.0 in
+        let now = still_traversable (mention_of then e) m.1 (ap then.traversable m.2 ∙ t) in
+        subst (IsAcyclic (ids_of w)) m.2 ((whole.traits).no_cycle e.index ((whole.traits).traversable_acyclic e.index now))
 
 pub checked_queries_go_up_without_cycles : CheckedQueriesGoUpWithoutCycles
-checked_queries_go_up_without_cycles w text q whole e =
-    holds_in_entries (EndsAlong w whole) term_rises (λ r. []) (known_of w) (term_ends w whole) (λ all vs path r h. All-nil (EndsAlong w whole)) entry_rises (λ level i. same i) (λ level own inner. refl) text q e
-  where
-    same : (i : Item) → item_rises i ≡ of_item (EndsAlong w whole) term_rises (λ r. []) i
-    same (must t) = refl
-    same (may t) = refl
-    same (either ts) = refl
-    same (equal v r) = refl
-    same (differ v r) = refl
+checked_queries_go_up_without_cycles w text q whole e = current_queries_go_up_without_cycles w q whole (asked_queries_are_current w text q e)

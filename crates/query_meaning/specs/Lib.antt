@@ -4,3 +4,4 @@ pub mod Sound
 pub mod Local
 pub mod Names
 pub mod Laws
+pub mod Standing

@@ -1,6 +1,7 @@
 //! What is proved of the rows of queries and of plans: each function's contract is a law, and its body does nothing.
 
 ghost use Rattle.query_meaning.specs.Laws.{CheckedQueriesAreSound, CheckedQueriesGoUpWithoutCycles, CheckedQueriesNameTheLiving, ItemsGoByNumber, LocalByIds, PlansGiveAllRows, PlansGiveRows, RowsAreAnswers, RowsAreDistinct, RowsAreTheirIds, WorldsHaveNoRepeats};
+ghost use Rattle.query_meaning.specs.Standing.{AskedQueriesAreCurrent, CurrentQueriesGoUpWithoutCycles, CurrentQueriesNameTheLiving, PinsKeepQueriesCurrent, PinsKeepViews, StepsKeepPins, StepsKeepQueriesCurrent};
 
 /// Law: what the others ask of a query, every query has that a text asks.
 pub fn checked_queries_are_sound()
@@ -15,6 +16,41 @@ pub fn checked_queries_name_the_living()
 /// Law: a query that a text asks in a well-formed world asks ancestors along relationships without cycles.
 pub fn checked_queries_go_up_without_cycles()
     ensures { CheckedQueriesGoUpWithoutCycles }
+{}
+
+/// Law: a query is current in the world in which a text asks it.
+pub fn asked_queries_are_current()
+    ensures { AskedQueriesAreCurrent }
+{}
+
+/// Law: a query that is current in a world names live entities.
+pub fn current_queries_name_the_living()
+    ensures { CurrentQueriesNameTheLiving }
+{}
+
+/// Law: a query that is current in a well-formed world asks ancestors along relationships without cycles.
+pub fn current_queries_go_up_without_cycles()
+    ensures { CurrentQueriesGoUpWithoutCycles }
+{}
+
+/// Law: a command changes no count of stored queries.
+pub fn steps_keep_pins()
+    ensures { StepsKeepPins }
+{}
+
+/// Law: a current query stays current for as long as stored queries mention what it names.
+pub fn steps_keep_queries_current()
+    ensures { StepsKeepQueriesCurrent }
+{}
+
+/// Law: a current query stays current, whatever is counted of stored queries.
+pub fn pins_keep_queries_current()
+    ensures { PinsKeepQueriesCurrent }
+{}
+
+/// Law: queries see the same of a world, whatever is counted of stored queries.
+pub fn pins_keep_views()
+    ensures { PinsKeepViews }
 {}
 
 /// Law: what the others ask of a view, every well-formed world shows.
