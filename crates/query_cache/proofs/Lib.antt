@@ -1,0 +1,5 @@
+pub mod Fitting
+pub mod Suiting
+pub mod Syncing
+pub mod Taking
+pub mod Walking

@@ -1,0 +1,12 @@
+use Rattle.std.proofs.Common.{◌≡◌, ◌++◌, length}
+use Rattle.std.specs.List.{filter}
+use Rattle.query_cache.specs.Kept.{Counts, is_kept as kept_there}
+use Rattle.query_cache.proofs.Taking.{last_of, seen, serials_of}
+use Rattle.query_cache.proofs.kept.take_in.Given as goal
+
+abbrev pub invariant-loop-key : goal.invariant-loop-key
+invariant-loop-key g l =
+    (goal.iterator-loop-key g).can_next l.key-iterator × (goal.iterator-loop-key g).is_finite l.key-iterator
+    × (l.keys.items ≡ l.fn.keys.items ++ filter (kept_there l.patterns l.tables) (seen l.yielded))
+    × Counts l.fn.judged (length l.yielded) l.judged
+    × (l.greatest ≡ last_of l.last (serials_of (seen l.yielded)))

@@ -1,0 +1,5 @@
+use Rattle.query_cache.proofs.Suiting.{patterns_suffice}
+use Rattle.query_cache.proofs.laws.patterns_suffice.Goals as goal
+
+pub returns : goal.returns
+returns c = patterns_suffice

@@ -1,0 +1,161 @@
+//! The list of the tables that a kept query is about.
+
+ghost use Rattle.std.specs.Prelude.{◌≡◌, ◌↔◌, ◌+◌, [], min, IfOk, IsTrue, OnErr, OnOk};
+ghost use Rattle.std.specs.List.{Contains, filter};
+ghost use Rattle.ecs_id.specs.declared.TableKey.{TableKey};
+ghost use Rattle.query_cache.specs.Kept.{is_kept, Fits, IsRising, IsSynced, IsTakenIn, Judges, stands};
+ghost use Rattle.query_cache.specs.Patterns.{AreListed, patterns_of};
+ghost use Rattle.query_model.specs.Query as model;
+ghost use Rattle.table_store.specs.Store.{Store};
+
+use crate::judge::suits;
+use crate::patterns::patterns_of;
+use component_index::Pattern;
+use ecs_id::TableKey;
+use ecs_world::World;
+use query_check::Query;
+use std::alloc::{AllocError, Allocator, Global};
+use std::marker::Model;
+use table_store::TableStore;
+
+/// The tables whose ids have a hit for each cacheable item of a query, emptied tables among them, as of the last `sync`.
+///
+/// Cacheable are the And terms outside all groups that ask `$this` itself for stored ids, and whose component and target are no variables.
+#[derive(Drop)]
+pub struct Kept<A: Allocator = Global> {
+    patterns: Vec<Pattern, A>,
+    // by rising serial
+    keys: Vec<TableKey, A>,
+    // the greatest serial of a table that was taken in or passed over
+    last: u128,
+    judged: u64,
+}
+
+impl<A: Allocator> Model for Kept<A> {
+    ghost use Rattle.query_cache.specs.Kept as model;
+
+    ghost Value = { model.Kept };
+
+    ghost view = { λ k. record {
+      patterns = k.patterns.items;
+      keys = k.keys.items;
+      last = k.last;
+      judged = k.judged;
+    } };
+}
+
+impl<A: Allocator + Copy> Kept<A> {
+    /// The list of a query before the first `sync`: of no table. It fits every store. Fails where memory is refused.
+    pub fn new(alloc: A, query: &Query<A>) -> Result<Self, AllocError>
+        ensures patterns { IfOk result (λ kept. kept.patterns ≡ patterns_of query.now) }
+        ensures keys { IfOk result (λ kept. kept.keys ≡ []) }
+        ensures last { IfOk result (λ kept. kept.last ≡ 0) }
+        ensures judged { IfOk result (λ kept. kept.judged ≡ 0) }
+        ensures fits { IfOk result (λ kept. (s : Store) → Fits kept s) }
+    {
+        Ok(Kept {
+            patterns: patterns_of(alloc, query)?,
+            keys: Vec::new(alloc),
+            last: 0,
+            judged: 0,
+        })
+    }
+}
+
+impl<A: Allocator> Kept<A> {
+    /// The tables, by rising serial.
+    pub fn tables(&self) -> &[TableKey]
+        ensures { result.now ≡ self.now.keys }
+    {
+        self.keys.as_slice()
+    }
+
+    /// How many tables were judged so far. It stays at its greatest number.
+    pub fn judged(&self) -> u64
+        ensures { result ≡ self.now.judged }
+    {
+        self.judged
+    }
+
+    /// Takes in the tables that came since the last `sync`, each judged once, and drops those that were released.
+    ///
+    /// Where memory is refused the list stays as it was, and a later `sync` goes on from it.
+    pub fn sync<B: Allocator>(&mut self, world: &World<B>) -> Result<(), AllocError>
+        requires { Fits self.old world.now.tables }
+        ensures listed { (q : model.Query) → self.old.patterns ≡ patterns_of q → OnOk result (AreListed q world.now.tables self.new.keys) }
+        ensures exact { OnOk result ((k : TableKey) → Contains self.new.keys k ↔ IsTrue (is_kept self.new.patterns world.now.tables k)) }
+        ensures once { IsRising self.new.keys }
+        ensures judged { Judges world.now.tables self.old.last result self.old.judged self.new.judged }
+        ensures again { IsSynced self.old world.now.tables → self.new.judged ≡ self.old.judged }
+        ensures synced { OnOk result (IsSynced self.new world.now.tables) }
+        ensures patterns { self.new.patterns ≡ self.old.patterns }
+        ensures refused { OnErr result (self.new ≡ record self.old { judged = self.new.judged }) }
+        ensures fits { Fits self.new world.now.tables }
+    {
+        let graph = world.graph();
+        let tables = graph.store();
+        let last = take_in(
+            &mut self.keys,
+            &mut self.judged,
+            self.patterns.as_slice(),
+            tables,
+            self.last,
+        )?;
+        drop_released(&mut self.keys, tables);
+        self.last = last;
+        Ok(())
+    }
+}
+
+/// Whether the table under a key is one of the query. This is where tables are judged, and counted.
+fn is_kept<B: Allocator>(
+    patterns: &[Pattern],
+    tables: &TableStore<B>,
+    key: TableKey,
+    judged: &mut u64,
+) -> bool
+    ensures kept { result ≡ is_kept patterns.now tables.now key }
+    ensures judged { judged.new ≡ min (judged.old + 1) 18446744073709551615 }
+{
+    *judged = judged.saturating_add(1);
+    match tables.get(key) {
+        Some(table) => suits(patterns, table.ids()),
+        None => false,
+    }
+}
+
+/// Puts those tables above a serial that are of the query behind the keys. Answers the greatest serial there.
+fn take_in<A: Allocator, B: Allocator>(
+    keys: &mut Vec<TableKey, A>,
+    judged: &mut u64,
+    patterns: &[Pattern],
+    tables: &TableStore<B>,
+    last: u128,
+) -> Result<u128, AllocError>
+    ensures { IsTakenIn tables.now patterns.now last result keys.old.items keys.new.items judged.old judged.new }
+{
+    let before = keys.len();
+    let mut greatest = last;
+    for (_, key) in tables.since(last) {
+        if is_kept(patterns, tables, *key, judged) && keys.push(*key).is_err() {
+            keys.truncate(before);
+            return Err(AllocError);
+        }
+        greatest = key.serial;
+    }
+    Ok(greatest)
+}
+
+/// Keeps the keys of the tables that stand.
+fn drop_released<A: Allocator, B: Allocator>(keys: &mut Vec<TableKey, A>, tables: &TableStore<B>)
+    ensures { keys.new.items ≡ filter (stands tables.now) keys.old.items }
+{
+    keys.retain(|key| has(tables, *key));
+}
+
+/// Whether a table stands under the key.
+fn has<A: Allocator>(tables: &TableStore<A>, key: TableKey) -> bool
+    ensures { result ≡ stands tables.now key }
+{
+    tables.get(key).is_some()
+}
