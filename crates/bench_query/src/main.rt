@@ -4,11 +4,15 @@
 //! difference is what reading costs. Without arguments each text is read once.
 #![tactic(auto)]
 
+ghost use Rattle.std.specs.Prelude.{IfOk};
+ghost use Rattle.query_meaning.specs.Sound.{IsSound};
+
 mod texts;
 mod words;
 
 use query_check::{Query, check};
 use query_lexer::lex;
+use query_meaning::laws::checked_queries_are_sound;
 use query_model::faults::QueryFault;
 use query_parser::parse;
 use query_plan::Plan;
@@ -43,7 +47,12 @@ fn text_of(alloc: Global, name: &str) -> Result<String, AllocError> {
     }
 }
 
-fn ask(alloc: Global, text: &str) -> Result<Query, QueryFault> {
+/// The query of a text. It is sound, as every query is that a text asks.
+#[tactic(auto, using(crate::proofs::Sound::asked_is_sound))]
+fn ask(alloc: Global, text: &str) -> Result<Query, QueryFault>
+    ensures { IfOk result (λ query. IsSound query) }
+{
+    checked_queries_are_sound();
     let tokens = match lex(alloc, text) {
         Ok(tokens) => tokens,
         Err(fault) => return Err(fault),
@@ -71,18 +80,41 @@ fn ask_phase(alloc: Global, text: &str, phase: &str) -> Result<usize, QueryFault
     Ok(syntax.parts.len())
 }
 
+/// Whether a third word asks for plans.
+fn asks_plans(phase: &str) -> bool {
+    matches!(phase, "plan" | "tested" | "steps")
+}
+
+/// Reads a text so often, up to a phase if one is asked for, and the last time as a whole.
+fn read_often(
+    alloc: Global,
+    text: &str,
+    phase: &Option<String>,
+    times: u64,
+) -> Result<Query, QueryFault> {
+    for _ in 1..times {
+        match phase {
+            Some(phase) => ask_phase(alloc, text, phase).is_ok(),
+            None => ask(alloc, text).is_ok(),
+        };
+    }
+    ask(alloc, text)
+}
+
 /// How many tables each item would be searched in.
 const TABLES: usize = 3;
 
-/// Plans a query that is checked once so often, or judges the steps of its plan.
+/// Plans a query that is checked once so often, with a test of the steps or without one, or judges the steps of its plan.
 fn plan_often(alloc: Global, text: &str, phase: &str, times: u64) -> Result<usize, QueryFault> {
     let query = ask(alloc, text)?;
     let lists = [TABLES; 64];
-    let Ok(plan) = Plan::of_lists(alloc, &query, &lists) else {
+    let Ok(plan) = Plan::new(alloc, &query, &lists) else {
         return Err(QueryFault::Memory);
     };
     for _ in 1..times {
         if phase == "plan" {
+            Plan::new(alloc, &query, &lists).is_ok();
+        } else if phase == "tested" {
             Plan::of_lists(alloc, &query, &lists).is_ok();
         } else {
             Plan::from_steps(alloc, &query, plan.steps()).is_ok();
@@ -107,6 +139,13 @@ fn told(rt: &HostRuntime, name: &str, answer: Result<Query, QueryFault>) -> io::
     }
 }
 
+fn told_plan(rt: &HostRuntime, name: &str, steps: Result<usize, QueryFault>) -> io::Result<()> {
+    match steps {
+        Ok(steps) => println!(rt; "{name}: a plan of {steps} steps"),
+        Err(_) => println!(rt; "{name}: no plan"),
+    }
+}
+
 fn main(rt: HostRuntime) -> io::Result<()> {
     let alloc = rt.alloc();
     let mut words = env::args(&rt)?.skip(1);
@@ -122,21 +161,12 @@ fn main(rt: HostRuntime) -> io::Result<()> {
         }
         let text = text_of(alloc, name)?;
         if let Some(phase) = &phase
-            && (phase.as_str() == "plan" || phase.as_str() == "steps")
+            && asks_plans(phase.as_str())
         {
-            match plan_often(alloc, &text, phase, times) {
-                Ok(steps) => println!(&rt; "{name}: a plan of {steps} steps")?,
-                Err(_) => println!(&rt; "{name}: no plan")?,
-            }
+            told_plan(&rt, name, plan_often(alloc, &text, phase, times))?;
             continue;
         }
-        for _ in 1..times {
-            match &phase {
-                Some(phase) => ask_phase(alloc, &text, phase).is_ok(),
-                None => ask(alloc, &text).is_ok(),
-            };
-        }
-        told(&rt, name, ask(alloc, &text))?;
+        told(&rt, name, read_often(alloc, &text, &phase, times))?;
     }
     Ok(())
 }
