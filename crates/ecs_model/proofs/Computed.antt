@@ -1,5 +1,5 @@
 -- Checks of single definitions, which the prover computes.
-use Rattle.std.specs.Prelude.{◌≡◌, ℕ, ◌-◌, ◌^◌, ◌==◌, true, false, List, [], ◌∷◌, ◌++◌, map, pos, negsuc, codes, Option, Some, None, Ok, Err, is_ok, refl}
+use Rattle.std.specs.Prelude.{◌≡◌, ℕ, ◌-◌, ◌^◌, ◌==◌, true, false, List, [], ◌∷◌, map, pos, negsuc, codes, Option, Some, None, Ok, Err, is_ok, refl}
 use Rattle.std.specs.Fmt.{digits}
 use Rattle.std.specs.Option.{option_map_or}
 use Rattle.std.specs.Str.{chars, is_utf8}
@@ -11,7 +11,7 @@ use Rattle.ecs_id.specs.Id.{Id, plain, pair, id_cmp}
 use Rattle.ecs_model.specs.declared.Kind.TheVariants.{I8, I32, U64}
 use Rattle.query_model.specs.declared.faults.Fault.{Fault}
 use Rattle.query_model.specs.declared.faults.FaultKind.{FaultKind}
-use Rattle.query_model.specs.declared.faults.FaultKind.TheVariants.{Lex, Syntax, UnknownName, TooManyTerms}
+use Rattle.query_model.specs.declared.faults.FaultKind.TheVariants.{Lex, Syntax, UnknownName}
 use Rattle.ecs_model.specs.declared.faults.Refusal.{Refusal}
 use Rattle.ecs_model.specs.declared.faults.Refusal.TheVariants.{Dead, UnknownName, BadName, NameTaken, BuiltIn, NoData, Count, Range, Full}
 use Rattle.ecs_model.specs.declared.faults.CommandError.TheVariants.{Refused}
@@ -30,9 +30,11 @@ use Rattle.query_model.specs.Query.{Query, Piece, item, must, query_of as asked_
 use Rattle.ecs_model.specs.Query.{query_of}
 use Rattle.ecs_model.specs.rows.View.{view_of}
 use Rattle.ecs_model.specs.rows.Level.{top}
-use Rattle.ecs_model.specs.rows.Rows.{Row, Shown, hits, fields_of_term, fields_of_item, solutions, rows}
-use Rattle.ecs_model.specs.Session.{EntityRef, by_name, by_handle, pair_of, DeleteOne, with_both, entity_found}
-use Rattle.ecs_model.specs.Script.{BadLine, Obey, handle_of, id_and_rest, forms, form_among, form_of}
+use Rattle.ecs_model.specs.rows.Rows.{Shown, hits, fields_of_term, fields_of_item, solutions, rows}
+use Rattle.ecs_model.specs.Orders.{EntityRef, by_name, by_handle, pair_of, DeleteOne, with_both, entity_found}
+use Rattle.ecs_model.specs.declared.watches.StoredKind.TheVariants.{Kept, Monitor, OnAdd, OnRemove}
+use Rattle.ecs_model.specs.stored.Session.{InWorld, Store, Drop}
+use Rattle.ecs_model.specs.Script.{BadLine, Obey, AskKept, handle_of, id_and_rest, forms, form_among, form_of}
 use Rattle.ecs_model.specs.Output.{show_text}
 
 -- A world of a component and a tag, Position and Planet at 64 and 65, and of Sun and Earth, both planets. Earth has a position.
@@ -313,9 +315,19 @@ unfolding forms form_among is_utf8 chars encode
 nothing_stands_behind_new = refl
 
 delete_takes_one_reference : map form_of (codes "delete Sun" ∷ codes "delete #66.0 " ∷ codes "delete" ∷ codes "delete Sun Earth" ∷ codes "delete (Sun,Earth)" ∷ [])
-    ≡ Obey (DeleteOne (by_name (codes "Sun"))) ∷ Obey (DeleteOne (by_handle 66 0)) ∷ BadLine ∷ BadLine ∷ BadLine ∷ []
+    ≡ Obey (InWorld (DeleteOne (by_name (codes "Sun")))) ∷ Obey (InWorld (DeleteOne (by_handle 66 0))) ∷ BadLine ∷ BadLine ∷ BadLine ∷ []
 unfolding forms form_among is_utf8 chars encode
 delete_takes_one_reference = refl
+
+a_stored_query_has_a_name_and_a_text : map form_of (codes "keep k" ∷ codes "keep" ∷ codes "monitor m\tSun,  Earth " ∷ codes "on add a Sun" ∷ codes "on remove a" ∷ codes "on set" ∷ codes "on touch a Sun" ∷ codes "on" ∷ [])
+    ≡ Obey (Store Kept (codes "k") []) ∷ BadLine ∷ Obey (Store Monitor (codes "m") (codes "Sun,  Earth")) ∷ Obey (Store OnAdd (codes "a") (codes "Sun")) ∷ Obey (Store OnRemove (codes "a") []) ∷ BadLine ∷ BadLine ∷ BadLine ∷ []
+unfolding forms form_among is_utf8 chars encode
+a_stored_query_has_a_name_and_a_text = refl
+
+a_stored_query_is_asked_for_and_dropped_by_its_name : map form_of (codes "rows k" ∷ codes "rows" ∷ codes "rows k Sun" ∷ codes "drop k" ∷ codes "drop" ∷ [])
+    ≡ AskKept (codes "k") ∷ BadLine ∷ BadLine ∷ Obey (Drop (codes "k")) ∷ BadLine ∷ []
+unfolding forms form_among is_utf8 chars encode
+a_stored_query_is_asked_for_and_dropped_by_its_name = refl
 
 an_entity_is_shown_with_its_facts_in_order : show_text sky earth ≡ codes "show Earth [Position=10,-3] [Planet]\n"
 unfolding id_cmp key_cmp digits

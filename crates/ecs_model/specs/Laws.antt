@@ -1,6 +1,6 @@
 -- The laws of these definitions, as statements.
 use Rattle.std.specs.Prelude.{◌≡◌, ℕ, IsTrue}
-use Rattle.ecs_model.specs.Session.{SessionState}
+use Rattle.ecs_model.specs.stored.Session.{SessionState}
 use Rattle.ecs_model.specs.Script.{Form}
 use Rattle.ecs_model.specs.Output.{effect_of}
 

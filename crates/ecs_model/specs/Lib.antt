@@ -12,7 +12,7 @@ pub mod Keeps
 pub mod BuiltIns
 pub mod Query
 pub mod Print
-pub mod Session
+pub mod Orders
 pub mod Script
 pub mod Output
 pub mod Laws

@@ -1,5 +1,5 @@
 -- What a script prints.
-use Rattle.std.specs.Prelude.{ℕ, ◌+◌, Bool, true, false, List, [], ◌∷◌, ◌++◌, flat_map, length, count_by, codes, decimal, Option, Some, None, Result, Ok, Err, if◌then◌else◌}
+use Rattle.std.specs.Prelude.{ℕ, ◌+◌, Bool, true, false, List, [], ◌∷◌, ◌++◌, flat_map, length, count_by, codes, decimal, Option, Some, None, Result, Ok, Err}
 use Rattle.ecs_id.specs.declared.EntityId.{EntityId}
 use Rattle.ecs_id.specs.Id.{Id}
 use Rattle.query_model.specs.declared.faults.Fault.{Fault}
@@ -12,8 +12,12 @@ use Rattle.query_model.specs.Query.{Query}
 use Rattle.ecs_model.specs.rows.Text.{rows_text}
 use Rattle.ecs_model.specs.Query.{query_of}
 use Rattle.ecs_model.specs.Print.{fault_text, handle_text, entity_text, id_text, value_text}
-use Rattle.ecs_model.specs.Session.{SessionState, first_session, Order, MakeFresh, MakeComponent, entity_found, apply}
-use Rattle.ecs_model.specs.Script.{Form, Nothing, LongLine, BadLine, Obey, Define, Show, Ask, form_of, lines_of}
+use Rattle.ecs_model.specs.Orders.{MakeFresh, MakeComponent, entity_found}
+use Rattle.ecs_model.specs.stored.Refusal.{session_refusal_text}
+use Rattle.ecs_model.specs.stored.Session.{SessionState, first_session, SessionOrder, InWorld, Answer, apply, events, after_events, kept_query}
+use Rattle.ecs_model.specs.stored.Watches.{event_text}
+use Rattle.ecs_model.specs.declared.faults.SessionRefusal.{SessionRefusal}
+use Rattle.ecs_model.specs.Script.{Form, Nothing, LongLine, BadLine, Obey, Define, Show, Ask, AskKept, form_of, lines_of}
 
 -- what a line does: the session after it, what it prints, and whether it was refused
 pub record Effect : Type 0 where
@@ -37,20 +41,20 @@ fact_text w e i = codes " [" ++ id_text w i ++ value_text (value_of w e i) ++ co
 abbrev pub show_text : WorldState → EntityId → List ℕ
 show_text w e = codes "show " ++ entity_text w e ++ flat_map (fact_text w e.index) (ids_of w e.index) ++ codes "\n"
 
--- what an accepted command prints: of `new` the entity born, and else nothing
-abbrev pub own_text : Order → Option EntityId → List ℕ
-own_text MakeFresh (Some e) = handle_text e ++ codes "\n"
+-- what an accepted command prints itself: of `new` the entity born, and else nothing
+abbrev pub own_text : SessionOrder → Option EntityId → List ℕ
+own_text (InWorld MakeFresh) (Some e) = handle_text e ++ codes "\n"
 own_text order born = []
 
--- what a line of a command does
-abbrev pub order_effect : SessionState → ℕ → Order → Result (SessionState × Option EntityId) Refusal → Effect
-order_effect s n order (Err r) = refused_line s n (refusal_text r)
-order_effect s n order (Ok a) = accepted_line a.0 (own_text order a.1)
+-- what a line of a command does: its events are told behind what it prints itself
+abbrev pub order_effect : SessionState → ℕ → SessionOrder → Answer → Effect
+order_effect s n order (Err r) = refused_line s n (session_refusal_text r)
+order_effect s n order (Ok a) = accepted_line (after_events a.0) (own_text order a.1 ++ flat_map event_text (events a.0))
 
 -- what a line of a new component does: its fields are judged first
 abbrev pub define_effect : SessionState → ℕ → List ℕ → Schema → Option SchemaFault → Effect
 define_effect s n name fs (Some f) = refused_line s n (schema_fault_text f)
-define_effect s n name fs None = order_effect s n (MakeComponent name fs) (apply s (MakeComponent name fs))
+define_effect s n name fs None = let order = InWorld (MakeComponent name fs) in order_effect s n order (apply s order)
 
 -- what a line of `show` does
 abbrev pub show_effect : SessionState → ℕ → Result EntityId Refusal → Effect
@@ -62,6 +66,11 @@ abbrev pub ask_effect : SessionState → ℕ → Result Query Fault → Effect
 ask_effect s n (Err f) = refused_line s n (fault_text f)
 ask_effect s n (Ok q) = accepted_line s (rows_text s.world q)
 
+-- what a line of a kept query does
+abbrev pub kept_effect : SessionState → ℕ → Result Query SessionRefusal → Effect
+kept_effect s n (Err r) = refused_line s n (session_refusal_text r)
+kept_effect s n (Ok q) = accepted_line s (rows_text s.world q)
+
 -- what a line of this form does
 unfoldable pub effect_of : SessionState → ℕ → Form → Effect
 effect_of s n Nothing = accepted_line s []
@@ -71,6 +80,7 @@ effect_of s n (Obey order) = order_effect s n order (apply s order)
 effect_of s n (Define name fs) = define_effect s n name fs (schema_fault fs)
 effect_of s n (Show r) = show_effect s n (entity_found s.world r)
 effect_of s n (Ask text) = ask_effect s n (query_of s.world text)
+effect_of s n (AskKept name) = kept_effect s n (kept_query s name)
 
 -- what is done in a row by lines under their numbers
 abbrev pub effects : (SessionState → ℕ → List ℕ → Effect) → SessionState → ℕ → List (List ℕ) → List Effect

@@ -6,15 +6,19 @@ use Rattle.ecs_model.specs.Text.{is_blank, trim_front, trimmed, words, is_number
 use Rattle.ecs_model.specs.declared.Kind.{Kind}
 use Rattle.ecs_model.specs.declared.Kind.TheVariants.{I8, U8, I16, U16, I32, U32, I64, U64}
 use Rattle.ecs_model.specs.Schema.{Field, Schema}
-use Rattle.ecs_model.specs.Session.{EntityRef, by_name, by_handle, IdRef, plain_of, pair_of, Order, MakeFresh, MakeEntity, AddTo, SetIn, RemoveFrom, DeleteOne}
+use Rattle.ecs_model.specs.Orders.{EntityRef, by_name, by_handle, IdRef, plain_of, pair_of, MakeFresh, MakeEntity, AddTo, SetIn, RemoveFrom, DeleteOne}
+use Rattle.ecs_model.specs.declared.watches.StoredKind.{StoredKind}
+use Rattle.ecs_model.specs.declared.watches.StoredKind.TheVariants.{Kept, Monitor, OnAdd, OnRemove, OnSet}
+use Rattle.ecs_model.specs.stored.Session.{SessionOrder, InWorld, Store, Drop}
 
 -- what a line asks
 pub data Form : Type 0 where
   Nothing LongLine BadLine : Form
-  Obey : Order → Form
+  Obey : SessionOrder → Form
   Define : List ℕ → Schema → Form
   Show : EntityRef → Form
   Ask : List ℕ → Form
+  AskKept : List ℕ → Form
 
 -- without the last part, if that is empty
 abbrev pub without_empty_last : List (List ℕ) → List (List ℕ)
@@ -128,25 +132,46 @@ nothing_more f _ = BadLine
 -- behind the entity and the id of `set`: one or more values
 abbrev pub set_line : EntityRef → IdRef → List (List ℕ) → Form
 set_line r i [] = BadLine
-set_line r i (v ∷ vs) = form_or_bad (λ values. Obey (SetIn r i values)) (all_of value_of_word (v ∷ vs))
+set_line r i (v ∷ vs) = form_or_bad (λ values. Obey (InWorld (SetIn r i values))) (all_of value_of_word (v ∷ vs))
 
 -- behind `component`: a name and fields
 abbrev pub component_line : List (List ℕ) → Form
 component_line [] = BadLine
 component_line (n ∷ fields) = form_or_bad (Define n) (all_of field_of_word fields)
 
+-- a new stored query of this kind: a word for its name, and a text, which may be empty
+abbrev pub named_text : StoredKind → List ℕ × List ℕ → Form
+named_text kind ([], rest) = BadLine
+named_text kind (n, rest) = Obey (Store kind n (trimmed rest))
+
+abbrev pub store_line : StoredKind → List ℕ → Form
+store_line kind rest = named_text kind (word_and_rest rest)
+
+-- the events that are observed, as they are written
+abbrev pub event_words : List (List ℕ × StoredKind)
+event_words = (codes "add", OnAdd) ∷ (codes "remove", OnRemove) ∷ (codes "set", OnSet) ∷ []
+
+-- behind `on`: an event, and an observer of it
+abbrev pub on_line : List ℕ → Form
+on_line rest = let split = word_and_rest rest in form_or_bad (λ kind. store_line kind split.1) (looked_up event_words split.0)
+
 -- the forms of lines, by their first word
 unfoldable pub forms : List (List ℕ × (List ℕ → Form))
 forms =
-    (codes "entity", λ rest. one_word (λ n. Obey (MakeEntity n)) (words rest))
+    (codes "entity", λ rest. one_word (λ n. Obey (InWorld (MakeEntity n))) (words rest))
     ∷ (codes "component", λ rest. component_line (words rest))
-    ∷ (codes "add", fact_line (λ r i. nothing_more (Obey (AddTo r i))))
+    ∷ (codes "add", fact_line (λ r i. nothing_more (Obey (InWorld (AddTo r i)))))
     ∷ (codes "set", fact_line set_line)
     ∷ (codes "query", λ rest. Ask (trimmed rest))
-    ∷ (codes "new", λ rest. nothing_more (Obey MakeFresh) (words rest))
-    ∷ (codes "remove", fact_line (λ r i. nothing_more (Obey (RemoveFrom r i))))
+    ∷ (codes "new", λ rest. nothing_more (Obey (InWorld MakeFresh)) (words rest))
+    ∷ (codes "remove", fact_line (λ r i. nothing_more (Obey (InWorld (RemoveFrom r i)))))
     ∷ (codes "show", entity_line Show)
-    ∷ (codes "delete", entity_line (λ r. Obey (DeleteOne r)))
+    ∷ (codes "delete", entity_line (λ r. Obey (InWorld (DeleteOne r))))
+    ∷ (codes "keep", store_line Kept)
+    ∷ (codes "monitor", store_line Monitor)
+    ∷ (codes "on", on_line)
+    ∷ (codes "rows", λ rest. one_word AskKept (words rest))
+    ∷ (codes "drop", λ rest. one_word (λ n. Obey (Drop n)) (words rest))
     ∷ []
 
 -- whether a line is blank or a comment

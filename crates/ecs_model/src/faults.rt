@@ -1,5 +1,7 @@
 //! Why a list of fields is no schema, why values are none of a schema, and why a command is refused.
 
+use query_model::faults::Fault;
+
 /// Why a list of fields is no schema. The first that applies is answered.
 #[derive(Clone, Copy, Debug, PartialEq, Eq)]
 pub enum SchemaFault {
@@ -49,4 +51,22 @@ pub enum Refusal {
 pub enum CommandError {
     Refused(Refusal),
     Memory,
+}
+
+/// Why a command of a session is refused. What is wrong with a new stored query is told in the order BadName, QueryTaken, TooManyStored, and
+/// then the fault of its text. A refused command changes nothing.
+#[derive(Clone, Copy, Debug, PartialEq, Eq)]
+pub enum SessionRefusal {
+    /// A refusal of the world.
+    OfWorld(Refusal),
+    /// Events wait: no command is carried out before they were told.
+    EventsPending,
+    /// No stored query has the name, or none that is kept.
+    UnknownQuery,
+    /// A stored query has the new name already.
+    QueryTaken,
+    /// As many queries are stored as there can be.
+    TooManyStored,
+    /// A fault of a query's text, or of a query for what should be told of it.
+    Faulty(Fault),
 }

@@ -12,6 +12,7 @@ pub mod names;
 pub mod reach_laws;
 pub mod trait_laws;
 pub mod values;
+pub mod watches;
 
 pub use facts::FactKey;
 pub use names::is_name;

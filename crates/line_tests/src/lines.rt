@@ -79,6 +79,62 @@ fn lines_have_their_forms(rt: HostRuntime) -> Result<(), Fail> {
 }
 
 #[test]
+fn stored_queries_have_their_forms(rt: HostRuntime) -> Result<(), Fail> {
+    for (line, form) in [
+        (
+            "keep k a, b",
+            "Store { kind: Kept, name: \"k\", text: \"a, b\" }",
+        ),
+        (
+            " keep\t9!  a, b \t\r",
+            "Store { kind: Kept, name: \"9!\", text: \"a, b\" }",
+        ),
+        ("keep k", "Store { kind: Kept, name: \"k\", text: \"\" }"),
+        (
+            "keep (a,b) c",
+            "Store { kind: Kept, name: \"(a,b)\", text: \"c\" }",
+        ),
+        ("keep ", "Bad"),
+        ("keep(k) a", "Bad"),
+        (
+            "monitor m !a ",
+            "Store { kind: Monitor, name: \"m\", text: \"!a\" }",
+        ),
+        ("monitor", "Bad"),
+        ("monitors m a", "Bad"),
+        (
+            "on add o a",
+            "Store { kind: OnAdd, name: \"o\", text: \"a\" }",
+        ),
+        (
+            "on\tremove  o * ",
+            "Store { kind: OnRemove, name: \"o\", text: \"*\" }",
+        ),
+        (
+            "on set set",
+            "Store { kind: OnSet, name: \"set\", text: \"\" }",
+        ),
+        ("on set", "Bad"),
+        ("on", "Bad"),
+        ("on o a", "Bad"),
+        ("on Add o a", "Bad"),
+        ("on delete o a", "Bad"),
+        ("add o a b", "Bad"),
+        ("rows k ", "Rows { name: \"k\" }"),
+        ("rows #1.0", "Rows { name: \"#1.0\" }"),
+        ("rows", "Bad"),
+        ("rows k l", "Bad"),
+        ("drop 9!", "Drop { name: \"9!\" }"),
+        ("drop", "Bad"),
+        ("drop k l", "Bad"),
+    ] {
+        let told = told(rt.alloc(), line.as_bytes())?;
+        assert_eq!(rt; told.as_str(), form, "of {line:?}");
+    }
+    Ok(())
+}
+
+#[test]
 fn entities_have_names_or_handles(rt: HostRuntime) -> Result<(), Fail> {
     for (line, form) in [
         (

@@ -5,7 +5,7 @@ use Rattle.std.specs.List.{list_any, position_or_len, before_first, after_first}
 use Rattle.std.proofs.lemmas.Bool.{cases_Bool, eqb-true, false_from_ne_true}
 use Rattle.std.proofs.lemmas.List.{drop_all}
 use Rattle.ecs_model.specs.Text.{is_blank, trimmed}
-use Rattle.ecs_model.specs.Session.{EntityRef, by_name, plain_of}
+use Rattle.ecs_model.specs.Orders.{EntityRef, by_name, plain_of}
 use Rattle.ecs_model.specs.Script.{handle_of, id_and_rest, is_apart, pair_and_rest, pair_in, pair_ref, reference_of, word_and_rest}
 
 -- a text that doesn't begin with a byte

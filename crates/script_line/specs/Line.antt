@@ -4,11 +4,13 @@ use denote.Ref.{Bor}
 use Rattle.ecs_id.specs.declared.EntityId.{EntityId}
 use Rattle.ecs_model.specs.declared.Kind.{Kind}
 use Rattle.ecs_model.specs.Schema.{Field}
-use Rattle.ecs_model.specs.Session.{EntityRef, by_name, by_handle, IdRef, plain_of, pair_of, MakeFresh, MakeEntity, AddTo, SetIn, RemoveFrom, DeleteOne}
-use Rattle.ecs_model.specs.Script.{Form, LongLine, BadLine, Obey, Define, Ask, form_or_bad, forms, looked_up, word_and_rest}
+use Rattle.ecs_model.specs.Orders.{EntityRef, by_name, by_handle, IdRef, plain_of, pair_of, MakeFresh, MakeEntity, AddTo, SetIn, RemoveFrom, DeleteOne}
+use Rattle.ecs_model.specs.Script.{Form, LongLine, BadLine, Obey, Define, Ask, AskKept, form_or_bad, forms, looked_up, word_and_rest}
 use Rattle.ecs_model.specs.Script
+use Rattle.ecs_model.specs.stored.Session.{InWorld}
+use Rattle.ecs_model.specs.stored.Session
 use Rattle.script_line.specs.declared.Line.{Line}
-use Rattle.script_line.specs.declared.Line.TheVariants.{Nothing, TooLong, Bad, New, Entity, Component, Add, Set, Remove, Delete, Show, Query}
+use Rattle.script_line.specs.declared.Line.TheVariants.{Nothing, TooLong, Bad, New, Entity, Component, Add, Set, Remove, Delete, Show, Query, Store, Rows, Drop}
 use Rattle.script_line.specs.declared.references.Reference.{Reference}
 use Rattle.script_line.specs.declared.references.Reference.TheVariants.{Name, Handle}
 use Rattle.script_line.specs.declared.references.IdReference.{IdReference}
@@ -41,15 +43,18 @@ abbrev pub seen : {A : Type 0} → List ℤ → Line A → Form
 seen values Nothing = Script.Nothing
 seen values TooLong = LongLine
 seen values Bad = BadLine
-seen values New = Obey MakeFresh
-seen values (Entity name) = Obey (MakeEntity name.now)
+seen values New = Obey (InWorld MakeFresh)
+seen values (Entity name) = Obey (InWorld (MakeEntity name.now))
 seen values (Component name fields) = Define name.now (map seen_field fields.items)
-seen values (Add entity id) = Obey (AddTo (seen_reference entity) (seen_id id))
-seen values (Set entity id) = Obey (SetIn (seen_reference entity) (seen_id id) values)
-seen values (Remove entity id) = Obey (RemoveFrom (seen_reference entity) (seen_id id))
-seen values (Delete entity) = Obey (DeleteOne (seen_reference entity))
+seen values (Add entity id) = Obey (InWorld (AddTo (seen_reference entity) (seen_id id)))
+seen values (Set entity id) = Obey (InWorld (SetIn (seen_reference entity) (seen_id id) values))
+seen values (Remove entity id) = Obey (InWorld (RemoveFrom (seen_reference entity) (seen_id id)))
+seen values (Delete entity) = Obey (InWorld (DeleteOne (seen_reference entity)))
 seen values (Show entity) = Script.Show (seen_reference entity)
 seen values (Query text) = Ask text.now
+seen values (Store kind name text) = Obey (Session.Store kind name.now text.now)
+seen values (Rows name) = AskKept name.now
+seen values (Drop name) = Obey (Session.Drop name.now)
 
 -- what a line of text asks by its first word, if it says anything
 abbrev pub by_first_word : List ℕ → Form

@@ -14,6 +14,7 @@ mod references;
 mod words;
 
 use ecs_model::Kind;
+use ecs_model::watches::StoredKind;
 pub use references::{IdReference, Reference};
 use std::alloc::{AllocError, Allocator, Global};
 use std::str;
@@ -68,6 +69,21 @@ pub enum Line<'a, A: Allocator = Global> {
     /// `query TEXT`: the rows of a query. The text has no blanks at its ends, and may be empty.
     Query {
         text: &'a str,
+    },
+    /// `keep N TEXT`, `monitor N TEXT` or `on EVENT N TEXT`: a new stored query. The name is any word. The text has no blanks at
+    /// its ends, and may be empty.
+    Store {
+        kind: StoredKind,
+        name: &'a str,
+        text: &'a str,
+    },
+    /// `rows N`: the rows of a kept query. The name is any word.
+    Rows {
+        name: &'a str,
+    },
+    /// `drop N`: a stored query goes. The name is any word.
+    Drop {
+        name: &'a str,
     },
 }
 

@@ -1,15 +1,17 @@
 //! The forms of lines.
 ghost use Rattle.std.specs.Prelude.{◌≡◌, ℕ, ℤ, List, map, IfOk, None, Some, option_map, if◌then◌else◌};
 ghost use Rattle.ecs_model.specs.Text.{trim_front, words};
-ghost use Rattle.ecs_model.specs.Script.{Form, Obey, Show, all_of, component_line, entity_line, fact_line, field_of_word, form_or_bad, nothing_more, one_word, says_nothing, set_line, value_of_word};
-ghost use Rattle.ecs_model.specs.Session.{EntityRef, IdRef, AddTo, DeleteOne, MakeEntity, MakeFresh, RemoveFrom};
+ghost use Rattle.ecs_model.specs.Script.{Form, AskKept, Obey, Show, all_of, component_line, entity_line, fact_line, field_of_word, form_or_bad, nothing_more, on_line, one_word, says_nothing, set_line, store_line, value_of_word};
+ghost use Rattle.ecs_model.specs.Orders.{EntityRef, IdRef, AddTo, DeleteOne, MakeEntity, MakeFresh, RemoveFrom};
+ghost use Rattle.ecs_model.specs.stored.Session.{Drop, InWorld};
 ghost use Rattle.script_line.specs.Line.{by_first_word, seen, seen_field, seen_id, seen_reference};
 
 use crate::blanks::{blanks_at_front, next_word, trim_front, trimmed, word_and_rest};
 use crate::references::{id_and_rest, reference_of};
-use crate::words::{field_of_word, value_of_word};
+use crate::words::{event_of_word, field_of_word, value_of_word};
 use crate::{IdReference, Line, Reference};
 use ecs_model::Kind;
+use ecs_model::watches::StoredKind;
 use std::alloc::{AllocError, Allocator};
 
 /// The front of a line about a fact: an entity, an id, and what stands behind them.
@@ -52,13 +54,18 @@ pub(crate) fn read_form<'a, A: Allocator + Copy>(
         "query" => Ok(Line::Query {
             text: trimmed(rest),
         }),
+        "keep" => Ok(store_line(StoredKind::Kept, rest)),
+        "monitor" => Ok(store_line(StoredKind::Monitor, rest)),
+        "on" => Ok(on_line(rest)),
+        "rows" => Ok(rows_line(rest)),
+        "drop" => Ok(drop_line(rest)),
         _ => Ok(Line::Bad),
     }
 }
 
 /// Reads what stands behind `new`: nothing.
 fn new_line<'a, A: Allocator>(rest: &'a str) -> Line<'a, A>
-    ensures { (values : List ℤ) → seen values result ≡ nothing_more (Obey MakeFresh) (words rest.now) }
+    ensures { (values : List ℤ) → seen values result ≡ nothing_more (Obey (InWorld MakeFresh)) (words rest.now) }
 {
     match next_word(rest) {
         None => Line::New,
@@ -68,7 +75,7 @@ fn new_line<'a, A: Allocator>(rest: &'a str) -> Line<'a, A>
 
 /// Reads what stands behind `entity`: one word.
 fn entity_line<'a, A: Allocator>(rest: &'a str) -> Line<'a, A>
-    ensures { (values : List ℤ) → seen values result ≡ one_word (λ n. Obey (MakeEntity n)) (words rest.now) }
+    ensures { (values : List ℤ) → seen values result ≡ one_word (λ n. Obey (InWorld (MakeEntity n))) (words rest.now) }
 {
     match only_word(rest) {
         Some(name) => Line::Entity { name },
@@ -78,7 +85,7 @@ fn entity_line<'a, A: Allocator>(rest: &'a str) -> Line<'a, A>
 
 /// Reads what stands behind `delete`: an entity.
 fn delete_line<'a, A: Allocator>(rest: &'a str) -> Line<'a, A>
-    ensures { (values : List ℤ) → seen values result ≡ entity_line (λ r. Obey (DeleteOne r)) rest.now }
+    ensures { (values : List ℤ) → seen values result ≡ entity_line (λ r. Obey (InWorld (DeleteOne r))) rest.now }
 {
     match only_word(rest).and_then(|word| reference_of(word)) {
         Some(entity) => Line::Delete { entity },
@@ -93,6 +100,52 @@ fn show_line<'a, A: Allocator>(rest: &'a str) -> Line<'a, A>
     match only_word(rest).and_then(|word| reference_of(word)) {
         Some(entity) => Line::Show { entity },
         None => Line::Bad,
+    }
+}
+
+/// Reads what stands behind `rows`: one word.
+fn rows_line<'a, A: Allocator>(rest: &'a str) -> Line<'a, A>
+    ensures { (values : List ℤ) → seen values result ≡ one_word AskKept (words rest.now) }
+{
+    match only_word(rest) {
+        Some(name) => Line::Rows { name },
+        None => Line::Bad,
+    }
+}
+
+/// Reads what stands behind `drop`: one word.
+fn drop_line<'a, A: Allocator>(rest: &'a str) -> Line<'a, A>
+    ensures { (values : List ℤ) → seen values result ≡ one_word (λ n. Obey (Drop n)) (words rest.now) }
+{
+    match only_word(rest) {
+        Some(name) => Line::Drop { name },
+        None => Line::Bad,
+    }
+}
+
+/// Reads what stands behind `on`: an event, and what is stored for it.
+fn on_line<'a, A: Allocator>(rest: &'a str) -> Line<'a, A>
+    ensures { (values : List ℤ) → seen values result ≡ on_line rest.now }
+{
+    let (event, behind) = word_and_rest(rest);
+    match event_of_word(event) {
+        Some(kind) => store_line(kind, behind),
+        None => Line::Bad,
+    }
+}
+
+/// Reads what stands behind `keep`, `monitor` or an event: a word, and a text, which may be empty.
+fn store_line<'a, A: Allocator>(kind: StoredKind, rest: &'a str) -> Line<'a, A>
+    ensures { (values : List ℤ) → seen values result ≡ store_line kind rest.now }
+{
+    let (name, behind) = word_and_rest(rest);
+    if name.is_empty() {
+        return Line::Bad;
+    }
+    Line::Store {
+        kind,
+        name,
+        text: trimmed(behind),
     }
 }
 
@@ -164,7 +217,7 @@ fn bare_fact(text: &str) -> Option<Fact<'_>>
 
 /// Reads what stands behind `add`: an entity and an id.
 fn add_line<'a, A: Allocator>(rest: &'a str) -> Line<'a, A>
-    ensures { (values : List ℤ) → seen values result ≡ fact_line (λ r i. nothing_more (Obey (AddTo r i))) rest.now }
+    ensures { (values : List ℤ) → seen values result ≡ fact_line (λ r i. nothing_more (Obey (InWorld (AddTo r i)))) rest.now }
 {
     match bare_fact(rest) {
         Some(fact) => Line::Add {
@@ -177,7 +230,7 @@ fn add_line<'a, A: Allocator>(rest: &'a str) -> Line<'a, A>
 
 /// Reads what stands behind `remove`: an entity and an id.
 fn remove_line<'a, A: Allocator>(rest: &'a str) -> Line<'a, A>
-    ensures { (values : List ℤ) → seen values result ≡ fact_line (λ r i. nothing_more (Obey (RemoveFrom r i))) rest.now }
+    ensures { (values : List ℤ) → seen values result ≡ fact_line (λ r i. nothing_more (Obey (InWorld (RemoveFrom r i)))) rest.now }
 {
     match bare_fact(rest) {
         Some(fact) => Line::Remove {

@@ -3,7 +3,7 @@ ghost use Rattle.std.specs.Prelude.{◌≡◌, ◌==◌, ◌||◌, option_map};
 ghost use Rattle.std.specs.List.{list_any};
 ghost use Rattle.ecs_model.specs.Text.{is_blank};
 ghost use Rattle.ecs_model.specs.Script.{handle_of, id_and_rest, is_apart, pair_and_rest, pair_in, reference_of, word_and_rest};
-ghost use Rattle.ecs_model.specs.Session.{plain_of};
+ghost use Rattle.ecs_model.specs.Orders.{plain_of};
 ghost use Rattle.script_line.specs.Line.{seen_handle, seen_id, seen_id_and_rest, seen_reference};
 
 use crate::blanks::{is_blank, trimmed, word_and_rest};

@@ -1,11 +1,12 @@
 //! What words stand for.
 ghost use Rattle.std.specs.Prelude.{◌≡◌, option_map, pos, if◌then◌else◌};
 ghost use Rattle.ecs_model.specs.Text.{is_number, number_of};
-ghost use Rattle.ecs_model.specs.Script.{field_of_word, kind_words, looked_up, value_of_word};
+ghost use Rattle.ecs_model.specs.Script.{event_words, field_of_word, kind_words, looked_up, value_of_word};
 ghost use Rattle.script_line.specs.Line.{seen_field};
 
 use crate::decimals::number_within;
 use ecs_model::Kind;
+use ecs_model::watches::StoredKind;
 
 /// The greatest number of digits of a value.
 const MAX_DIGITS: usize = 38;
@@ -48,6 +49,18 @@ fn kind_of(word: &str) -> Option<Kind>
         "u32" => Some(Kind::U32),
         "i64" => Some(Kind::I64),
         "u64" => Some(Kind::U64),
+        _ => None,
+    }
+}
+
+/// Reads an event that is observed, as the kind of its observers.
+pub(crate) fn event_of_word(word: &str) -> Option<StoredKind>
+    ensures { result ≡ looked_up event_words word.now }
+{
+    match word {
+        "add" => Some(StoredKind::OnAdd),
+        "remove" => Some(StoredKind::OnRemove),
+        "set" => Some(StoredKind::OnSet),
         _ => None,
     }
 }

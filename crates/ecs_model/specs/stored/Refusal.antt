@@ -1,16 +1,10 @@
 -- Why a command of a session with stored queries is refused.
 use Rattle.std.specs.Prelude.{ℕ, Bool, List, codes, Option, Some, None, option_map}
 use Rattle.std.specs.List.{find}
-use Rattle.query_model.specs.declared.faults.Fault.{Fault}
-use Rattle.ecs_model.specs.declared.faults.Refusal.{Refusal}
+use Rattle.ecs_model.specs.declared.faults.SessionRefusal.{SessionRefusal}
+use Rattle.ecs_model.specs.declared.faults.SessionRefusal.TheVariants.{OfWorld, EventsPending, UnknownQuery, QueryTaken, TooManyStored, Faulty}
 use Rattle.ecs_model.specs.Refusal.{refusal_number, refusal_text}
 use Rattle.ecs_model.specs.Print.{fault_text}
-
--- a refusal of the world; events wait, no stored query has the name, one has it already, there are as many as there can be; a query's fault
-pub data SessionRefusal : Type 0 where
-  OfWorld : Refusal → SessionRefusal
-  EventsPending UnknownQuery QueryTaken TooManyStored : SessionRefusal
-  Faulty : Fault → SessionRefusal
 
 -- the first reason whose test is true
 abbrev pub first_session_reason : List (Bool × SessionRefusal) → Option SessionRefusal

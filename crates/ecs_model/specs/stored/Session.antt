@@ -2,7 +2,6 @@
 use Rattle.std.specs.Prelude.{ℕ, Bool, not, List, [], ◌∷◌, ◌++◌, filter, flat_map, fold, length, nat_le, bytes_eq, Option, Some, None, is_some, Result, Ok, Err, if◌then◌else◌}
 use Rattle.std.specs.List.{list_any, find}
 use Rattle.std.specs.Option.{option_map_or}
-use Rattle.std.specs.Result.{result_map_both}
 use Rattle.ecs_id.specs.declared.EntityId.{EntityId}
 use Rattle.query_model.specs.declared.faults.Fault.{Fault}
 use Rattle.query_model.specs.declared.query.Mention.{Mention}
@@ -11,15 +10,20 @@ use Rattle.ecs_model.specs.declared.faults.Refusal.{Refusal}
 use Rattle.ecs_model.specs.declared.faults.Refusal.TheVariants.{BadName}
 use Rattle.ecs_model.specs.Command.{Changed}
 use Rattle.ecs_model.specs.Query.{query_of}
-use Rattle.ecs_model.specs.Session.{Order, MakeFresh, MakeEntity, MakeComponent, AddTo, SetIn, RemoveFrom, DeleteOne, with_both, entity_found}
+use Rattle.ecs_model.specs.Orders.{Order, command_of}
 use Rattle.ecs_model.specs.Text.{is_name}
 use Rattle.ecs_model.specs.World.{WorldState, first_world}
-use Rattle.ecs_model.specs.traits.Command.{Command, Fresh, Entity, Component, Add, SetValue, Remove, Delete, step}
+use Rattle.ecs_model.specs.traits.Command.{Command, step}
 use Rattle.ecs_model.specs.traits.Pins.{with_pins, one_more, unpin}
-use Rattle.ecs_model.specs.stored.Refusal.{SessionRefusal, OfWorld, EventsPending, UnknownQuery, QueryTaken, TooManyStored, Faulty, first_session_reason}
-use Rattle.ecs_model.specs.stored.Watches.{StoredKind, Kept, Stored, is_watch, Event, told, watched}
+use Rattle.ecs_model.specs.declared.faults.SessionRefusal.{SessionRefusal}
+use Rattle.ecs_model.specs.declared.faults.SessionRefusal.TheVariants.{OfWorld, EventsPending, UnknownQuery, QueryTaken, TooManyStored, Faulty}
+use Rattle.ecs_model.specs.stored.Refusal.{first_session_reason}
+use Rattle.ecs_model.specs.declared.watches.StoredKind.{StoredKind}
+use Rattle.ecs_model.specs.declared.watches.StoredKind.TheVariants.{Kept}
+use Rattle.ecs_model.specs.stored.Watches.{Stored, is_watch, Event, told, watched}
 
-pub record StoringSession : Type 0 where
+-- the state of a session
+pub record SessionState : Type 0 where
   pub world : WorldState
   -- the stored queries, in the order of making
   pub stored : List Stored
@@ -27,14 +31,14 @@ pub record StoringSession : Type 0 where
   pub waiting : Option (List Event)
 
 -- a session begins with the first world and no stored query
-abbrev pub first_storing_session : StoringSession
-first_storing_session = record { world = first_world; stored = []; waiting = None }
+abbrev pub first_session : SessionState
+first_session = record { world = first_world; stored = []; waiting = None }
 
 -- the commands of a session: one of its world, a new stored query by its kind, name and text, and the end of one by its name
-pub data StoringOrder : Type 0 where
-  InWorld : Order → StoringOrder
-  Store : StoredKind → List ℕ → List ℕ → StoringOrder
-  Drop : List ℕ → StoringOrder
+pub data SessionOrder : Type 0 where
+  InWorld : Order → SessionOrder
+  Store : StoredKind → List ℕ → List ℕ → SessionOrder
+  Drop : List ℕ → SessionOrder
 
 -- how many stored queries a session has at most
 abbrev pub most_stored : ℕ
@@ -42,17 +46,7 @@ most_stored = 1024
 
 -- a refusal, or the new session and the entity born
 abbrev pub Answer : Type 0
-Answer = Result (StoringSession × Option EntityId) SessionRefusal
-
--- the command of the world that an order means
-unfoldable pub command_of : WorldState → Order → Result Command Refusal
-command_of w MakeFresh = Ok Fresh
-command_of w (MakeEntity n) = Ok (Entity n)
-command_of w (MakeComponent n fs) = Ok (Component n fs)
-command_of w (AddTo r i) = with_both w Add r i
-command_of w (SetIn r i vs) = with_both w (λ e j. SetValue e j vs) r i
-command_of w (RemoveFrom r i) = with_both w Remove r i
-command_of w (DeleteOne r) = result_map_both Delete (λ reason. reason) (entity_found w r)
+Answer = Result (SessionState × Option EntityId) SessionRefusal
 
 -- one stored query more mentions these
 abbrev pub pinned_by : WorldState → List Mention → WorldState
@@ -67,7 +61,7 @@ abbrev pub watched_if_read : StoredKind → Result Query Fault → Result Query 
 watched_if_read kind (Err f) = Err f
 watched_if_read kind (Ok q) = watched kind q
 
-module _ (s : StoringSession) where
+module _ (s : SessionState) where
   -- the stored query of a name
   abbrev pub stored_at : List ℕ → Option Stored
   stored_at n = find (λ x. bytes_eq n x.name) s.stored
@@ -97,25 +91,25 @@ module _ (s : StoringSession) where
       Ok (record s { world = pinned_by s.world q.mentions; stored = s.stored ++ record { name = n; kind = kind; query = q } ∷ [] }, None)
 
   -- without a stored query
-  abbrev pub without_stored : Stored → StoringSession
+  abbrev pub without_stored : Stored → SessionState
   without_stored x = record s { world = unpinned_by s.world (x.query).mentions; stored = filter (λ y. not (bytes_eq x.name y.name)) s.stored }
 
   -- a command while no events wait
-  unfoldable pub free_order : StoringOrder → Answer
+  unfoldable pub free_order : SessionOrder → Answer
   free_order (InWorld order) = in_world (command_of s.world order)
   free_order (Store kind n text) =
       option_map_or Err (first_session_reason (store_reasons n)) (with_stored kind n (watched_if_read kind (query_of s.world text)))
   free_order (Drop n) = option_map_or (λ x. Ok (without_stored x, None)) (stored_at n) (Err UnknownQuery)
 
   -- the answer to a command: none is carried out while events wait
-  unfoldable pub storing_apply : StoringOrder → Answer
-  storing_apply order = if is_some s.waiting then Err EventsPending else free_order order
+  unfoldable pub apply : SessionOrder → Answer
+  apply order = if is_some s.waiting then Err EventsPending else free_order order
 
   -- the events that wait, and the session after they were told
   abbrev pub events : List Event
   events = option_map_or (λ es. es) s.waiting []
 
-  abbrev pub after_events : StoringSession
+  abbrev pub after_events : SessionState
   after_events = record s { waiting = None }
 
 -- the query of a kept query
@@ -124,5 +118,5 @@ if_kept Kept q = Ok q
 if_kept kind q = Err UnknownQuery
 
 -- the kept query of a name
-abbrev pub kept_query : StoringSession → List ℕ → Result Query SessionRefusal
+abbrev pub kept_query : SessionState → List ℕ → Result Query SessionRefusal
 kept_query s n = option_map_or (λ x. if_kept x.kind x.query) (stored_at s n) (Err UnknownQuery)

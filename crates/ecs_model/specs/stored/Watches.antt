@@ -8,6 +8,10 @@ use Rattle.query_model.specs.declared.faults.Fault.{Fault}
 use Rattle.query_model.specs.declared.query.Term.{Term}
 use Rattle.query_model.specs.Observers.{monitored, observed}
 use Rattle.query_model.specs.Query.{Piece, item, must, Query}
+use Rattle.ecs_model.specs.declared.watches.EventKind.{EventKind}
+use Rattle.ecs_model.specs.declared.watches.EventKind.TheVariants.{Left, Entered, Added, Removed, Written}
+use Rattle.ecs_model.specs.declared.watches.StoredKind.{StoredKind}
+use Rattle.ecs_model.specs.declared.watches.StoredKind.TheVariants.{Kept, Monitor, OnAdd, OnRemove, OnSet}
 use Rattle.ecs_model.specs.Command.{Changed}
 use Rattle.ecs_model.specs.Map.{count_at}
 use Rattle.ecs_model.specs.Print.{entity_text, id_text, value_text}
@@ -16,10 +20,7 @@ use Rattle.ecs_model.specs.traits.Rules.{prefab, disabled}
 use Rattle.ecs_model.specs.rows.View.{View, view_of}
 use Rattle.ecs_model.specs.rows.Rows.{Row, matches, is_cut, rows}
 
--- a kept query, a monitor, or an observer of one kind of event
-pub data StoredKind : Type 0 where
-  Kept Monitor OnAdd OnRemove OnSet : StoredKind
-
+-- a query that a session keeps under a name
 pub record Stored : Type 0 where
   pub name : List ℕ
   pub kind : StoredKind
@@ -33,10 +34,7 @@ is_told kind = true
 abbrev pub is_watch : Stored → Bool
 is_watch s = is_told s.kind
 
--- an entity left or entered the rows, or a fact was added, removed or set
-pub data EventKind : Type 0 where
-  Left Entered Added Removed Written : EventKind
-
+-- what a watch is told
 pub record Event : Type 0 where
   -- the name of the watch that is told
   pub watch : List ℕ

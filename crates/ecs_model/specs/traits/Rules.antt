@@ -1,10 +1,9 @@
 -- Which ids are traits, whose deletion is forbidden, and which entities queries pass over.
-use Rattle.std.specs.Prelude.{ℕ, ◌==◌, Bool, not, ◌&&◌, ◌||◌, List, [], ◌∷◌, nat_le}
-use Rattle.std.specs.List.{list_any}
+use Rattle.std.specs.Prelude.{ℕ, ◌==◌, Bool, ◌&&◌, ◌||◌, List, nat_le}
 use Rattle.ecs_id.specs.Id.{Id, plain, pair}
 use Rattle.ecs_model.specs.BuiltIns.{exclusive, with_trait, on_delete, on_delete_target, panic_mode}
 use Rattle.ecs_model.specs.Links.{is_held}
-use Rattle.ecs_model.specs.World.{WorldState, pair_is_tag, holds}
+use Rattle.ecs_model.specs.World.{pair_is_tag}
 
 -- the built-in entities that these rules name besides
 abbrev pub prefab : ℕ

@@ -1,4 +1,4 @@
--- The state of a session, and one command of it, with entities by name or by handle.
+-- The world's commands with entities by name or by handle, and what they mean in a world.
 use Rattle.std.specs.Prelude.{ℕ, Bool, false, not, List, [], ◌∷◌, ℤ, Option, Some, None, is_none, option_map, option_and_then, Result, Ok, Err, if◌then◌else◌}
 use Rattle.std.specs.List.{list_any}
 use Rattle.std.specs.Option.{option_map_or}
@@ -6,20 +6,11 @@ use Rattle.std.specs.Result.{result_map_both}
 use Rattle.ecs_id.specs.declared.EntityId.{EntityId}
 use Rattle.ecs_id.specs.Id.{Id, plain, pair}
 use Rattle.ecs_model.specs.Schema.{Schema}
-use Rattle.ecs_model.specs.World.{WorldState, first_world, is_alive, entity_at, named}
+use Rattle.ecs_model.specs.World.{WorldState, is_alive, entity_at, named}
 use Rattle.ecs_model.specs.declared.faults.Refusal.{Refusal}
 use Rattle.ecs_model.specs.declared.faults.Refusal.TheVariants.{Dead, UnknownName}
 use Rattle.ecs_model.specs.Refusal.{first_reason}
-use Rattle.ecs_model.specs.Command.{Changed}
-use Rattle.ecs_model.specs.traits.Command.{Command, Fresh, Entity, Component, Add, SetValue, Remove, Delete, step}
-
--- the state of a session
-pub record SessionState : Type 0 where
-  pub world : WorldState
-
--- a session begins with the first world
-abbrev pub first_session : SessionState
-first_session = record { world = first_world }
+use Rattle.ecs_model.specs.traits.Command.{Command, Fresh, Entity, Component, Add, SetValue, Remove, Delete}
 
 -- an entity by its name, or by its index and its generation
 pub data EntityRef : Type 0 where
@@ -31,7 +22,7 @@ pub data IdRef : Type 0 where
   plain_of : EntityRef → IdRef
   pair_of : EntityRef → EntityRef → IdRef
 
--- the commands of a session
+-- the commands of a world
 pub data Order : Type 0 where
   MakeFresh : Order
   MakeEntity : List ℕ → Order
@@ -80,22 +71,12 @@ module _ (w : WorldState) where
       option_map_or Err (first_reason (ref_reasons (r ∷ refs_of_id i)))
       (option_map_or Ok (option_and_then (λ e. option_map (f e) (id_found i)) (found r)) (Err Dead))
 
--- what a world answered, of the session: the new session, and the entity born
-abbrev pub session_answer : Result (WorldState × Changed) Refusal → Result (SessionState × Option EntityId) Refusal
-session_answer (Err r) = Err r
-session_answer (Ok a) = Ok (record { world = a.0 }, (a.1).born)
-
--- a command of the world within a session
-abbrev pub world_order : SessionState → Result Command Refusal → Result (SessionState × Option EntityId) Refusal
-world_order s (Err r) = Err r
-world_order s (Ok c) = session_answer (step s.world c)
-
--- the answer to a command: a refusal, or the new session and the entity born
-unfoldable pub apply : SessionState → Order → Result (SessionState × Option EntityId) Refusal
-apply s MakeFresh = world_order s (Ok Fresh)
-apply s (MakeEntity n) = world_order s (Ok (Entity n))
-apply s (MakeComponent n fs) = world_order s (Ok (Component n fs))
-apply s (AddTo r i) = world_order s (with_both s.world Add r i)
-apply s (SetIn r i vs) = world_order s (with_both s.world (λ e j. SetValue e j vs) r i)
-apply s (RemoveFrom r i) = world_order s (with_both s.world Remove r i)
-apply s (DeleteOne r) = world_order s (result_map_both Delete (λ reason. reason) (entity_found s.world r))
+-- the command of the world that an order means
+unfoldable pub command_of : WorldState → Order → Result Command Refusal
+command_of w MakeFresh = Ok Fresh
+command_of w (MakeEntity n) = Ok (Entity n)
+command_of w (MakeComponent n fs) = Ok (Component n fs)
+command_of w (AddTo r i) = with_both w Add r i
+command_of w (SetIn r i vs) = with_both w (λ e j. SetValue e j vs) r i
+command_of w (RemoveFrom r i) = with_both w Remove r i
+command_of w (DeleteOne r) = result_map_both Delete (λ reason. reason) (entity_found w r)
