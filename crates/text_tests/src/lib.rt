@@ -1,5 +1,6 @@
 //! What is printed of a world: each call on its happy path, and what is refused.
 #![tactic(auto)]
 
+pub mod matches;
 #[cfg(test)]
 mod printing;

@@ -1,5 +1,5 @@
 mod Named
 mod Texts
 mod Printed
-mod Asked
+pub mod Asked
 mod Answered

@@ -1,0 +1,16 @@
+-- A query that a text asks in a world has what its answers ask of that world.
+use Rattle.std.proofs.Common.{refl}
+use Rattle.ecs_model.specs.rows.View.{view_of}
+use Rattle.world_query.proofs.Asked.{answerable, as_answerable}
+use Rattle.text_tests.proofs.matches.matches_in.Goals as goal
+
+pub plan_in-requires : goal.plan_in-requires
+plan_in-requires c = record { sound = (answerable c.args.world.now.state c.args.query.now c.keeps.ensures c.requires).sound }
+
+pub matching-requires : goal.matching-requires
+matching-requires c =
+    record {
+      answerable =
+          as_answerable (view_of c.args.world.now.state) (view_of c.args.world.now.state) c.args.query.now _ refl c.in_ok-plan.ensures.query
+          (answerable c.args.world.now.state c.args.query.now c.keeps.ensures c.requires);
+    }
