@@ -1,0 +1,3 @@
+pub mod Since
+pub mod Mentions
+pub mod Laws
