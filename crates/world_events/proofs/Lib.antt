@@ -1,0 +1,6 @@
+pub mod Searching
+pub mod Numbers
+pub mod InOrder
+pub mod ByTerm
+pub mod Told
+pub mod EachKind

@@ -1,0 +1,3 @@
+pub mod Told
+pub mod Terms
+pub mod Values

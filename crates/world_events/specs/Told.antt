@@ -1,0 +1,17 @@
+-- What is told to a stored query.
+use Rattle.std.specs.Prelude.{◌≡◌, ℕ, List}
+use Rattle.std.specs.List.Sorted.{IsStrictlyIncreasing}
+use Rattle.query_model.specs.Query.{Query}
+use Rattle.ecs_model.specs.declared.watches.StoredKind.{StoredKind}
+use Rattle.ecs_model.specs.declared.watches.StoredKind.TheVariants.{Monitor}
+use Rattle.ecs_model.specs.World.{WorldState}
+use Rattle.ecs_model.specs.rows.View.{view_of}
+use Rattle.ecs_model.specs.stored.Watches.{matching}
+
+-- of a monitor these are the entities of its rows
+abbrev pub AreRowsOf : WorldState → StoredKind → Query → List ℕ → Type 0
+AreRowsOf w kind q these = kind ≡ Monitor → these ≡ matching (view_of w) q
+
+-- of a monitor these are in order, each once
+abbrev pub AreInOrder : StoredKind → List ℕ → Type 0
+AreInOrder kind these = kind ≡ Monitor → IsStrictlyIncreasing these

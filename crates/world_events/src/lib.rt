@@ -1,0 +1,14 @@
+//! What stored queries are told of a command: events, each with the texts by which it prints.
+#![tactic(auto)]
+
+mod before;
+mod event;
+mod facts;
+mod removals;
+mod rows;
+mod telling;
+mod terms;
+mod texts;
+
+pub use event::{Event, write_event};
+pub use telling::{Audience, tell};

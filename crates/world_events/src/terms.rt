@@ -1,0 +1,52 @@
+//! The one term of an observer's query, and what it matches.
+
+ghost use Rattle.std.specs.Prelude.{◌≡◌, []};
+ghost use Rattle.std.specs.Option.{option_copied};
+ghost use Rattle.ecs_model.specs.rows.Rows.{asks_this, fits, matches};
+ghost use Rattle.ecs_model.specs.stored.Watches.{only_term};
+
+use ecs_id::Id;
+use query_check::{Item, Piece, Query};
+use query_model::query::{Ref, Term};
+use std::alloc::Allocator;
+
+/// The one term of a query that must match, and None of a query of another form.
+pub(crate) fn only_term<A: Allocator>(query: &Query<A>) -> Option<&Term>
+    ensures { option_copied result ≡ only_term (query.now).pieces }
+{
+    match query.pieces() {
+        [Piece::Item(Item::And(term))] => Some(term),
+        _ => None,
+    }
+}
+
+/// Whether a term matches an id. A variable stands for nothing here.
+pub(crate) fn matches(term: &Term, id: Id) -> bool
+    ensures { result ≡ matches [] term.now.first term.now.target id }
+{
+    match (term.target, id.second()) {
+        (None, None) => fits(term.first, id.first()),
+        (Some(target), Some(second)) => fits(term.first, id.first()) && fits(target, second),
+        _ => false,
+    }
+}
+
+fn fits(reference: Ref, entity: u32) -> bool
+    ensures { result ≡ fits [] entity reference }
+{
+    match reference {
+        Ref::Is(index) => index == entity,
+        Ref::Var(_) => false,
+        Ref::Any | Ref::One => true,
+    }
+}
+
+/// Whether a term asks `$this` for a tag.
+pub(crate) fn asks_this(term: &Term, tag: u32) -> bool
+    ensures { result ≡ asks_this tag term.now }
+{
+    match (term.first, term.target, term.source) {
+        (Ref::Is(component), None, Ref::Var(number)) => component == tag && number == 0,
+        _ => false,
+    }
+}

@@ -1,0 +1,49 @@
+//! The texts by which entities and ids print after a command.
+
+ghost use Rattle.std.specs.Prelude.{◌≡◌, IfOk};
+ghost use Rattle.ecs_model.specs.Map.{count_at};
+ghost use Rattle.ecs_model.specs.Print.{entity_text, id_text};
+
+use ecs_id::{EntityId, Id};
+use ecs_print::{write_entity, write_id};
+use ecs_world::World;
+use std::alloc::{AllocError, Allocator};
+
+/// The live entity at an index, and that of generation 0 where none lives.
+pub(crate) fn entity_now<A: Allocator>(world: &World<A>, index: u32) -> EntityId
+    ensures { result ≡ record { index = index; generation = count_at world.now.state.live index } }
+{
+    match world.at(index) {
+        Some(entity) => entity,
+        None => EntityId {
+            index,
+            generation: 0,
+        },
+    }
+}
+
+/// The text of an entity.
+pub(crate) fn entity_text<A: Allocator + Copy>(
+    alloc: A,
+    world: &World<A>,
+    entity: EntityId,
+) -> Result<Vec<u8, A>, AllocError>
+    ensures { IfOk result (λ text. text.items ≡ entity_text world.now.state entity) }
+{
+    let mut text = Vec::new(alloc);
+    write_entity(world, entity, &mut text)?;
+    Ok(text)
+}
+
+/// The text of an id.
+pub(crate) fn id_text<A: Allocator + Copy>(
+    alloc: A,
+    world: &World<A>,
+    id: Id,
+) -> Result<Vec<u8, A>, AllocError>
+    ensures { IfOk result (λ text. text.items ≡ id_text world.now.state id) }
+{
+    let mut text = Vec::new(alloc);
+    write_id(world, id, &mut text)?;
+    Ok(text)
+}
