@@ -1,0 +1,52 @@
+-- The kept query of a name, as a session holds it.
+use Rattle.std.specs.Prelude.{◌≡◌, ◌≢◌, ℕ, List, All, map, bytes_eq, Option, None, Some, Ok, Err, Result}
+use Rattle.std.specs.List.{find}
+use Rattle.std.specs.Option.{option_map_or}
+use Rattle.std.specs.Map.{lookup}
+use Rattle.std.specs.declared.string.String.{String}
+use Rattle.std.proofs.Common.{refl, sym, ap, subst, ◌∙◌}
+use Rattle.query_model.specs.Query.{Query}
+use Rattle.query_meaning.specs.Standing.{IsCurrentIn}
+use Rattle.ecs_model.specs.declared.faults.SessionRefusal.{SessionRefusal}
+use Rattle.ecs_model.specs.declared.faults.SessionRefusal.TheVariants.{UnknownQuery}
+use Rattle.ecs_model.specs.declared.watches.StoredKind.{StoredKind}
+use Rattle.ecs_model.specs.declared.watches.StoredKind.TheVariants.{Kept, Monitor, OnAdd, OnRemove, OnSet}
+use Rattle.ecs_model.specs.Command.{Changed}
+use Rattle.ecs_model.specs.stored.Session.{if_kept, kept_query, stored_at}
+use Rattle.ecs_model.specs.stored.Watches.{Stored}
+use Rattle.ecs_world.specs.Standing as world
+use Rattle.ecs_observe.specs.declared.stored.StoredQuery.{StoredQuery}
+use Rattle.ecs_observe.specs.Parts.{held_of}
+use Rattle.ecs_observe.specs.Standing.{Held, IsHeld, IsSession, Standing, session_of, stored_of}
+use Rattle.ecs_observe.proofs.Found.{holds_of_found, is_key, named, none_found, seen, some_found, stored_is}
+
+module _ {A : Type 0} (self : Standing) (w : world.Standing) (es : List (String A × StoredQuery A)) (waiting : Option Changed) (n : List ℕ) (view : self ≡ seen w es waiting) where
+  pub stored_there : stored_at (session_of self) n ≡ find (λ x. bytes_eq n x.name) (map stored_of (map held_of es))
+  stored_there = ap (find (λ x. bytes_eq n x.name)) (stored_is self ∙ ap (λ (s : Standing). map stored_of s.stored) view)
+
+  kept_by : (o : Option Stored) → stored_at (session_of self) n ≡ o → kept_query (session_of self) n ≡ option_map_or (λ x. if_kept x.kind x.query) o (Err UnknownQuery)
+  kept_by o e = ap (λ x. option_map_or (λ x. if_kept x.kind x.query) x (Err UnknownQuery)) e
+
+  pub none_kept : lookup (is_key n) es ≡ None → kept_query (session_of self) n ≡ Err UnknownQuery
+  none_kept h = kept_by None (stored_there ∙ none_found n es h)
+
+  module _ (s : StoredQuery A) (there : lookup (is_key n) es ≡ Some s) where
+    pub kept_is : kept_query (session_of self) n ≡ if_kept s.kind (s.plan).query
+    kept_is = kept_by (Some (stored_of (named n s))) (stored_there ∙ some_found n es s there)
+
+    pub kept_found : s.kind ≡ Kept → kept_query (session_of self) n ≡ Ok (s.plan).query
+    kept_found k = kept_is ∙ ap (λ k. if_kept k (s.plan).query) k
+
+    pub other_kind : s.kind ≢ Kept → kept_query (session_of self) n ≡ Err UnknownQuery
+    other_kind k = kept_is ∙ by s.kind k
+      where
+        by : (k : StoredKind) → k ≢ Kept → if_kept k (s.plan).query ≡ Err UnknownQuery
+        by Kept other = absurd (other refl)
+        by Monitor other = refl
+        by OnAdd other = refl
+        by OnRemove other = refl
+        by OnSet other = refl
+
+    -- it is current
+    pub current_found : IsSession (seen w es waiting) → IsCurrentIn (self.world).state (s.plan).query
+    current_found h = subst (λ (t : Standing). IsCurrentIn (t.world).state (s.plan).query) (sym view) (holds_of_found n (IsHeld w.state) es s h.held there).current

@@ -1,0 +1,12 @@
+pub mod Answering
+pub mod Counted
+pub mod First
+pub mod Found
+pub mod KeptFound
+pub mod Obeyed
+pub mod OneLess
+pub mod OneMore
+pub mod Orders
+pub mod Pinned
+pub mod Retold
+pub mod Tellings

@@ -1,0 +1,25 @@
+use Rattle.std.proofs.Common.{map, refl}
+use Rattle.ecs_observe.specs.Parts.{held_of}
+use Rattle.ecs_observe.proofs.Retold.{none_waits_after, none_waits_told, put_told, retold_after, retold_session, told_waits}
+use Rattle.ecs_observe.proofs.session.Session.events.Goals as goal
+
+pub returns-in_default-clause-told : goal.returns-in_default-clause-told
+returns-in_default-clause-told g c = none_waits_told _ c.args.self.now c.self.view_is c.new-events.result.items c.in_default.is c.new-events.ensures.items
+
+pub returns-in_default-clause-after : goal.returns-in_default-clause-after
+returns-in_default-clause-after g c = none_waits_after _ c.args.self.now c.self.view_is c.in_default.is
+
+pub invariant_of-self : goal.invariant_of-self
+invariant_of-self g c =
+    retold_session _ c.args.self.now c.self.view_is _
+    (put_told _ c.args.self.now c.self.view_is c.new-rows.result.items c.tell_all.new.rows.items _ c.new-rows.ensures.items c.in_ok-tell_all.ensures.rows c.put_rows.ensures)
+    c.self.invariant c.keeps.ensures
+
+pub returns-clause-told : goal.returns-clause-told
+returns-clause-told g c =
+    told_waits _ c.args.self.now c.self.view_is c.in-Some.changes c.new-events.result.items c.tell_all.new.events.items c.in-Some.is c.new-events.ensures.items c.in_ok-tell_all.ensures.told
+
+pub returns-clause-after : goal.returns-clause-after
+returns-clause-after g c =
+    retold_after _ c.args.self.now c.self.view_is _
+    (put_told _ c.args.self.now c.self.view_is c.new-rows.result.items c.tell_all.new.rows.items _ c.new-rows.ensures.items c.in_ok-tell_all.ensures.rows c.put_rows.ensures)

@@ -1,0 +1,55 @@
+-- What is against a new stored query is told, and else it is held.
+use Rattle.std.proofs.Common.{◌≡◌, ◌≢◌, All, None, Ok, Err, refl, sym, ap, subst, ◌∙◌}
+use Rattle.std.proofs.lemmas.Result.{err_from_is_err_and}
+use Rattle.ecs_model.specs.Query.{query_of}
+use Rattle.ecs_observe.specs.Parts.{held_of}
+use Rattle.ecs_observe.specs.Standing.{Held, IsHeld, IsNow, Standing, session_of}
+use Rattle.ecs_observe.specs.Storing.{AnswersWatched, store_refusal}
+use Rattle.ecs_observe.proofs.Orders.{has_room, is_idle, is_new, new_held, new_now, still_fits, store_done, store_refused, told_fault}
+use Rattle.query_meaning.proofs.Mentioned.{asked_queries_are_current}
+use Rattle.ecs_observe.proofs.session.Session.store.Goals as goal
+
+pub returns-in-Some : goal.returns-in-Some
+returns-in-Some g c = (store_refused (session_of c.args.self.now) c.args.kind c.args.name.now c.args.text.now c.in-Some.reason (sym c.store_refusal.ensures ∙ c.in-Some.is), refl)
+
+pub returns-in_err-query : goal.returns-in_err-query
+returns-in_err-query g c =
+    let free = sym c.store_refusal.ensures ∙ c.in_default.is in
+    let p = err_from_is_err_and c.from_residual.result c.from_residual.ensures.1 in
+    rw (p.1, p.2)
+    (told_fault c.args.self.now c.args.kind c.args.name.now c.args.text.now c.in_err-query.field-0.0 free
+    (subst (λ (s : Standing). AnswersWatched (s.world).state c.args.kind c.args.text.now (Err c.in_err-query.field-0.0)) c.self.view_is c.in_err-query.ensures))
+
+pub stored_query-requires : goal.stored_query-requires
+stored_query-requires g c = record { current = asked_queries_are_current c.self.inside.world.state c.args.text.now c.in_ok-query.query c.in_ok-query.ensures.0 }
+
+pub hold-requires-clause-idle : goal.hold-requires-clause-idle
+hold-requires-clause-idle g c = is_idle c.args.self.now c.args.name.now (sym c.store_refusal.ensures ∙ c.in_default.is)
+
+pub hold-requires-clause-free : goal.hold-requires-clause-free
+hold-requires-clause-free g c =
+    subst (λ n. All (λ (h : Held). h.name ≢ n) (c.args.self.now).stored) (sym c.in_ok-name.ensures.ok)
+    (is_new c.args.self.now c.args.name.now (sym c.store_refusal.ensures ∙ c.in_default.is))
+
+pub hold-requires-clause-few : goal.hold-requires-clause-few
+hold-requires-clause-few g c = has_room c.args.self.now c.args.name.now (sym c.store_refusal.ensures ∙ c.in_default.is)
+
+pub hold-requires-clause-held : goal.hold-requires-clause-held
+hold-requires-clause-held g c =
+    subst (λ (s : Standing). IsHeld (s.world).state (held_of (c.in_ok-name.name, c.in_ok-stored.stored))) c.self.view_is
+    (new_held c.self.inside.world.state c.args.kind c.args.text.now c.in_ok-query.query (held_of (c.in_ok-name.name, c.in_ok-stored.stored))
+    c.in_ok-stored.ensures.kind c.in_ok-stored.ensures.query c.in_ok-query.ensures.0 c.in_ok-query.ensures.1 c.in_ok-stored.ensures.ascends)
+
+pub hold-requires-clause-now : goal.hold-requires-clause-now
+hold-requires-clause-now g c =
+    subst (λ (s : Standing). IsNow (s.world).state (held_of (c.in_ok-name.name, c.in_ok-stored.stored))) c.self.view_is
+    (new_now c.self.inside.world.state c.args.kind c.args.text.now c.in_ok-query.query (held_of (c.in_ok-name.name, c.in_ok-stored.stored))
+    c.in_ok-stored.ensures.kind c.in_ok-stored.ensures.query c.in_ok-query.ensures.0 c.in_ok-query.ensures.1 c.in_ok-stored.ensures.these)
+
+pub returns : goal.returns
+returns g c =
+    let h = held_of (c.in_ok-name.name, c.in_ok-stored.stored) in
+    store_done c.args.self.now c.args.name.now (sym c.store_refusal.ensures ∙ c.in_default.is) c.args.kind c.args.text.now h c.in_ok-name.ensures.ok c.in_ok-stored.ensures.kind
+    (subst (λ (s : Standing). query_of (s.world).state c.args.text.now ≡ Ok h.query) c.self.view_is (c.in_ok-query.ensures.0 ∙ ap Ok (sym c.in_ok-stored.ensures.query)))
+    (still_fits c.self.inside.world.state c.args.kind c.args.text.now c.in_ok-query.query h c.in_ok-stored.ensures.kind c.in_ok-stored.ensures.query c.in_ok-query.ensures.0 c.in_ok-query.ensures.1)
+    ∙ ap (λ s. Ok (session_of s, None)) (sym c.in_ok-hold.ensures.held)

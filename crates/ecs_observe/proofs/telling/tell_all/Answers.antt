@@ -1,0 +1,30 @@
+use Rattle.std.specs.Prelude.{is_some}
+use Rattle.std.specs.String.{string_bytes}
+use Rattle.std.proofs.Common.{ap, arith, sym, true≢false, ◌∙◌}
+use Rattle.ecs_observe.specs.Parts.{held_as, held_of, rows_in}
+use Rattle.ecs_observe.specs.Standing.{IsHeld, rows_told, told_to}
+use Rattle.ecs_observe.proofs.Retold.{all_at, gathered_more, held_at, mapped_more, rows_pushed}
+use Rattle.ecs_observe.proofs.telling.tell_all.Goals as goal
+use Rattle.ecs_observe.proofs.telling.tell_all.Goals.{in-Some+in_ok-now+in_ok-push, in_default}
+
+pub tell_one-requires-clause-held : goal.tell_one-requires-clause-held
+tell_one-requires-clause-held g c =
+    all_at (IsHeld c.args.world.now.state) c.args.stored.now.entries c.loop-i.i c.in-Some.name.now c.in-Some.query.now (sym c.in-Some.ensures.entry) c.requires.held
+
+pub loop-i-preserved : goal.loop-i-preserved
+loop-i-preserved g c =
+    let w = c.args.world.now.state in
+    let es = c.args.stored.now.entries in
+    let i = c.loop-i.i in
+    elim c.match-get_index.branch [
+      | in-Some+in_ok-now+in_ok-push b ↦
+          let one = held_as (string_bytes b.in-Some.name.now) b.in-Some.query.now in
+          let there = held_at es i b.in-Some.name.now b.in-Some.query.now (sym b.in-Some.ensures.entry) in
+          record {
+            rows = mapped_more (rows_told w) (rows_in c.args.rows.now.items) (rows_in c.loop-i.rows.items) (rows_in c.match-get_index.rows.items) _ i one there c.loop-i.invariant.rows
+                (rows_pushed c.loop-i.rows.items b.in_ok-now.now (rows_told w one) c.match-get_index.rows.items (ap (λ v. v.items) b.rows-is ∙ b.in_ok-push.ensures.items) b.in_ok-now.ensures.rows);
+            told = gathered_more (told_to w c.args.changes.now) c.args.events.now.items c.loop-i.events.items c.match-get_index.events.items _ i one there c.loop-i.invariant.told
+                (ap (λ v. v.items) b.events-is ∙ b.in_ok-now.ensures.told);
+          }
+      | in_default b ↦ absurd (true≢false (sym (c.get_index.ensures.found.1 (omega (arith, c.loop-i-test.true, c.len-i-end.ensures.len))) ∙ ap is_some b.in_default.is))
+    ]

@@ -1,0 +1,45 @@
+-- How commands of a session answer.
+use Rattle.std.specs.Prelude.{◌≡◌, ⊤, ℕ, List, ◌++◌, Option, Some, None, is_some, Result, Ok, Err, if◌then◌else◌}
+use Rattle.std.specs.List.{list_any}
+use Rattle.ecs_id.specs.declared.EntityId.{EntityId}
+use Rattle.ecs_model.specs.Command.{Changed}
+use Rattle.ecs_model.specs.declared.faults.CommandError.{CommandError}
+use Rattle.ecs_model.specs.declared.faults.CommandError.TheVariants as world
+use Rattle.ecs_model.specs.declared.faults.SessionRefusal.TheVariants.{EventsPending, OfWorld}
+use Rattle.ecs_model.specs.rows.Text.{rows_text}
+use Rattle.ecs_model.specs.stored.Session.{SessionState, Answer, in_world, kept_query}
+use Rattle.ecs_model.specs.stored.Watches.{is_told}
+use Rattle.ecs_model.specs.traits.Command.{Command}
+use Rattle.ecs_observe.specs.Standing.{Held, Standing, session_of}
+use Rattle.ecs_observe.specs.declared.errors.SessionError.{SessionError}
+use Rattle.ecs_observe.specs.declared.errors.SessionError.TheVariants.{Refused, Memory}
+
+-- the answer to a command of the world: none is carried out while events wait
+abbrev pub obeyed : SessionState → Command → Answer
+obeyed s c = if is_some s.waiting then Err EventsPending else in_world s (Ok c)
+
+-- why the world did not carry out a command, as a session answers it
+abbrev pub session_error : CommandError → SessionError
+session_error (world.Refused reason) = Refused (OfWorld reason)
+session_error world.Memory = Memory
+
+-- a call answers as the session does and leaves what it says: an accepted one answers the entity born, a refusal leaves the session as it was, and so does refused memory, which may stand in place of any answer
+abbrev pub AnswersApply : Result (Option EntityId) SessionError → Answer → Standing → Standing → Type 0
+AnswersApply (Ok born) applied old new = applied ≡ Ok (session_of new, born)
+AnswersApply (Err (Refused reason)) applied old new = (applied ≡ Err reason) × (session_of new ≡ session_of old)
+AnswersApply (Err Memory) applied old new = session_of new ≡ session_of old
+
+-- what waits after an accepted command: what it has changed, if a stored query is told of commands
+abbrev pub awaited : List Held → Changed → Option Changed
+awaited stored changed = if list_any (λ h. is_told h.kind) stored then Some changed else None
+
+-- the answer to a command by what the world has made of it, and what waits before and after it
+abbrev pub AnswersCommand : List Held → Option Changed → Result Changed CommandError → Result (Option EntityId) SessionError → Option Changed → Type 0
+AnswersCommand stored before (Ok changed) answer after = (answer ≡ Ok changed.born) × (after ≡ awaited stored changed)
+AnswersCommand stored before (Err error) answer after = (answer ≡ Err (session_error error)) × (after ≡ before)
+
+-- the rows of a kept query were written behind what was there, or there is none of the name and nothing was
+abbrev pub AnswersRows : {T : Type 0} → Result T SessionError → SessionState → List ℕ → List ℕ → List ℕ → Type 0
+AnswersRows (Ok _) s name before after = (q : _) × (kept_query s name ≡ Ok q) × (after ≡ before ++ rows_text s.world q)
+AnswersRows (Err (Refused reason)) s name before after = (kept_query s name ≡ Err reason) × (after ≡ before)
+AnswersRows (Err Memory) s name before after = ⊤

@@ -1,0 +1,19 @@
+-- What is seen of the parts of a session.
+use Rattle.std.specs.Prelude.{ℕ, List, map}
+use Rattle.std.specs.declared.string.String.{String}
+use Rattle.std.specs.declared.vec.Vec.{Vec}
+use Rattle.std.specs.String.{string_bytes}
+use Rattle.ecs_observe.specs.Standing.{Held}
+use Rattle.ecs_observe.specs.declared.stored.StoredQuery.{StoredQuery}
+
+-- a stored query of this name
+abbrev pub held_as : {A : Type 0} → List ℕ → StoredQuery A → Held
+held_as name q = record { name = name; kind = q.kind; query = (q.plan).query; these = (q.these).items }
+
+-- a stored query under its name
+abbrev pub held_of : {A : Type 0} → String A × StoredQuery A → Held
+held_of p = held_as (string_bytes p.0) p.1
+
+-- the entities of the rows of some queries
+abbrev pub rows_in : {A : Type 0} → List (Vec ℕ A) → List (List ℕ)
+rows_in rows = map (λ r. r.items) rows

@@ -1,0 +1,43 @@
+-- How a new stored query is judged, and what is held of it.
+use Rattle.std.specs.Prelude.{◌≡◌, ⊤, ℕ, List, [], ◌∷◌, ◌++◌, Option, Some, is_some, Result, Ok, Err, if◌then◌else◌}
+use Rattle.query_model.specs.Query.{Query}
+use Rattle.query_model.specs.declared.faults.Fault.{Fault}
+use Rattle.ecs_model.specs.declared.faults.SessionRefusal.{SessionRefusal}
+use Rattle.ecs_model.specs.declared.faults.SessionRefusal.TheVariants.{EventsPending, Faulty}
+use Rattle.ecs_model.specs.declared.watches.StoredKind.{StoredKind}
+use Rattle.ecs_model.specs.declared.watches.StoredKind.TheVariants.{Monitor}
+use Rattle.ecs_model.specs.Query.{query_of}
+use Rattle.ecs_model.specs.World.{WorldState}
+use Rattle.ecs_model.specs.rows.View.{view_of}
+use Rattle.ecs_model.specs.stored.Refusal.{first_session_reason}
+use Rattle.ecs_model.specs.stored.Session.{SessionState, pinned_by, store_reasons, unpinned_by, watched_if_read}
+use Rattle.ecs_model.specs.stored.Watches.{matching, watched}
+use Rattle.ecs_world.specs.Standing as world
+use Rattle.ecs_observe.specs.Standing.{Held, Standing}
+use Rattle.ecs_observe.specs.declared.errors.SessionError.{SessionError}
+use Rattle.ecs_observe.specs.declared.errors.SessionError.TheVariants.{Refused, Memory}
+
+-- the first reason against a new stored query but for its text
+abbrev pub store_refusal : SessionState → List ℕ → Option SessionRefusal
+store_refusal s n = if is_some s.waiting then Some EventsPending else first_session_reason (store_reasons s n)
+
+-- of a monitor these are the entities of its rows now
+abbrev pub AreThese : WorldState → StoredKind → Query → List ℕ → Type 0
+AreThese w kind q these = kind ≡ Monitor → these ≡ matching (view_of w) q
+
+-- a query as one of a kind: that which the text asks, or the first fault of the text or of its query for this kind; where memory is refused, it may say so in place of either
+abbrev pub AnswersWatched : WorldState → StoredKind → List ℕ → Result Query SessionError → Type 0
+AnswersWatched w kind text (Ok q) = (query_of w text ≡ Ok q) × (watched kind q ≡ Ok q)
+AnswersWatched w kind text (Err (Refused reason)) = (f : Fault) × (reason ≡ Faulty f) × (watched_if_read kind (query_of w text) ≡ Err f)
+AnswersWatched w kind text (Err Memory) = ⊤
+
+-- a world whose counts are those with one stored query more
+abbrev pub with_pinned : world.Standing → Query → world.Standing
+with_pinned w q = record w { state = pinned_by w.state q.mentions }
+
+abbrev pub with_unpinned : world.Standing → Query → world.Standing
+with_unpinned w q = record w { state = unpinned_by w.state q.mentions }
+
+-- a session with one stored query more, behind the others
+abbrev pub with_held : Standing → Held → Standing
+with_held s h = record s { world = with_pinned s.world h.query; stored = s.stored ++ h ∷ [] }

@@ -1,0 +1,130 @@
+//! The commands of the world.
+
+ghost use Rattle.std.specs.Prelude.{◌≡◌, map};
+ghost use Rattle.ecs_model.specs.traits.Command.{Add, Component, Delete, Entity, Fresh, Remove, SetValue};
+ghost use Rattle.ecs_observe.specs.Answers.{AnswersApply, AnswersCommand, obeyed};
+ghost use Rattle.ecs_observe.specs.Parts.{held_of};
+ghost use Rattle.ecs_observe.specs.Standing.{session_of};
+
+use crate::stored::{StoredQueries, has_watch};
+use crate::{Session, SessionError};
+use ecs_id::{EntityId, Id};
+use ecs_model::faults::{CommandError, SessionRefusal};
+use ecs_schema::Schema;
+use ecs_world::Changes;
+use std::alloc::Allocator;
+
+// Each answers the entity that it made, if it makes one. It is refused as `EventsPending` while events wait, and else as the world refuses it.
+impl<A: Allocator + Copy> Session<A> {
+    /// Makes an entity without a name and without facts, and answers it.
+    pub fn fresh(&mut self) -> Result<Option<EntityId>, SessionError>
+        ensures { AnswersApply result (obeyed (session_of self.old) (Fresh)) self.old self.new }
+    {
+        if self.has_events() {
+            return Err(SessionError::Refused(SessionRefusal::EventsPending));
+        }
+        self.world.keeps();
+        let done = self.world.fresh();
+        answer(&self.stored, &mut self.waiting, done)
+    }
+
+    /// Makes an entity with a name and without facts, and answers it.
+    pub fn entity(&mut self, name: &str) -> Result<Option<EntityId>, SessionError>
+        ensures { AnswersApply result (obeyed (session_of self.old) (Entity name.now)) self.old self.new }
+    {
+        if self.has_events() {
+            return Err(SessionError::Refused(SessionRefusal::EventsPending));
+        }
+        self.world.keeps();
+        let done = self.world.entity(name);
+        answer(&self.stored, &mut self.waiting, done)
+    }
+
+    /// Makes an entity with a name and fields, which holds the tag `Component`, and answers it.
+    pub fn component(
+        &mut self,
+        name: &str,
+        schema: Schema<A>,
+    ) -> Result<Option<EntityId>, SessionError>
+        ensures { AnswersApply result (obeyed (session_of self.old) (Component name.now schema)) self.old self.new }
+    {
+        if self.has_events() {
+            return Err(SessionError::Refused(SessionRefusal::EventsPending));
+        }
+        self.world.keeps();
+        let done = self.world.component(name, schema);
+        answer(&self.stored, &mut self.waiting, done)
+    }
+
+    /// Adds a fact. With it come those that traits ask for.
+    pub fn add(&mut self, entity: EntityId, id: Id) -> Result<Option<EntityId>, SessionError>
+        ensures { AnswersApply result (obeyed (session_of self.old) (Add entity id)) self.old self.new }
+    {
+        if self.has_events() {
+            return Err(SessionError::Refused(SessionRefusal::EventsPending));
+        }
+        self.world.keeps();
+        let done = self.world.add(entity, id);
+        answer(&self.stored, &mut self.waiting, done)
+    }
+
+    /// Sets the value of a fact, which comes if it isn't held.
+    pub fn set(
+        &mut self,
+        entity: EntityId,
+        id: Id,
+        values: &[i128],
+    ) -> Result<Option<EntityId>, SessionError>
+        ensures { AnswersApply result (obeyed (session_of self.old) (SetValue entity id values.now)) self.old self.new }
+    {
+        if self.has_events() {
+            return Err(SessionError::Refused(SessionRefusal::EventsPending));
+        }
+        self.world.keeps();
+        let done = self.world.set(entity, id, values);
+        answer(&self.stored, &mut self.waiting, done)
+    }
+
+    /// Removes a fact, if it is held.
+    pub fn remove(&mut self, entity: EntityId, id: Id) -> Result<Option<EntityId>, SessionError>
+        ensures { AnswersApply result (obeyed (session_of self.old) (Remove entity id)) self.old self.new }
+    {
+        if self.has_events() {
+            return Err(SessionError::Refused(SessionRefusal::EventsPending));
+        }
+        self.world.keeps();
+        let done = self.world.remove(entity, id);
+        answer(&self.stored, &mut self.waiting, done)
+    }
+
+    /// Deletes an entity, and what its relationships say goes with it.
+    pub fn delete(&mut self, entity: EntityId) -> Result<Option<EntityId>, SessionError>
+        ensures { AnswersApply result (obeyed (session_of self.old) (Delete entity)) self.old self.new }
+    {
+        if self.has_events() {
+            return Err(SessionError::Refused(SessionRefusal::EventsPending));
+        }
+        self.world.keeps();
+        let done = self.world.delete(entity);
+        answer(&self.stored, &mut self.waiting, done)
+    }
+}
+
+/// The answer to a command that the world has carried out or not. What it has changed waits if a stored query is told of it.
+fn answer<A: Allocator>(
+    stored: &StoredQueries<A>,
+    waiting: &mut Option<Changes<A>>,
+    done: Result<Changes<A>, CommandError>,
+) -> Result<Option<EntityId>, SessionError>
+    ensures { AnswersCommand (map held_of stored.now.entries) waiting.old done result waiting.new }
+{
+    let changes = done?;
+    let born = changes.born();
+    let after = if has_watch(stored) {
+        Some(changes)
+    } else {
+        None
+    };
+    *waiting = after;
+    Ok(born)
+}

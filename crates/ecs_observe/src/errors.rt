@@ -1,0 +1,49 @@
+//! Why a command of a session was not carried out.
+
+use ecs_model::faults::{CommandError, SessionRefusal};
+use std::alloc::AllocError;
+
+/// Why a command of a session was not carried out: a refusal by the rules, or memory that was refused.
+#[derive(Clone, Copy, Debug, PartialEq, Eq)]
+pub enum SessionError {
+    Refused(SessionRefusal),
+    Memory,
+}
+
+impl From<AllocError> for SessionError {
+    ghost use Rattle.std.specs.Prelude.{◌≡◌};
+    ghost use Rattle.ecs_observe.specs.declared.errors.SessionError.TheVariants.{Memory};
+
+    ghost from_gives = { λ _ e. e ≡ Memory };
+
+    fn from(_error: AllocError) -> SessionError {
+        SessionError::Memory
+    }
+}
+
+impl From<SessionRefusal> for SessionError {
+    ghost use Rattle.std.specs.Prelude.{◌≡◌};
+    ghost use Rattle.ecs_observe.specs.declared.errors.SessionError.TheVariants.{Refused};
+
+    ghost from_gives = { λ refusal e. e ≡ Refused refusal };
+
+    fn from(refusal: SessionRefusal) -> SessionError {
+        SessionError::Refused(refusal)
+    }
+}
+
+impl From<CommandError> for SessionError {
+    ghost use Rattle.std.specs.Prelude.{◌≡◌};
+    ghost use Rattle.ecs_observe.specs.Answers.{session_error};
+
+    ghost from_gives = { λ error e. e ≡ session_error error };
+
+    fn from(error: CommandError) -> SessionError {
+        match error {
+            CommandError::Refused(refusal) => {
+                SessionError::Refused(SessionRefusal::OfWorld(refusal))
+            }
+            CommandError::Memory => SessionError::Memory,
+        }
+    }
+}

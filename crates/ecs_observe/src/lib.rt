@@ -1,0 +1,19 @@
+//! A session: a world, the queries that are stored in it, and what monitors and event observers are told of its commands.
+//!
+//! After an accepted command of the world events wait, if a stored query is a watch, and no other command is carried out before `events` has
+//! told them.
+#![tactic(auto)]
+
+mod commands;
+mod errors;
+mod kept;
+mod pinning;
+mod session;
+mod stored;
+mod storing;
+mod telling;
+mod watched;
+
+pub use errors::SessionError;
+pub use session::Session;
+pub use world_events::{Event, write_event};

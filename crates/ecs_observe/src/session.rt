@@ -1,0 +1,70 @@
+//! The parts of a session.
+
+ghost use Rattle.std.specs.Prelude.{◌≡◌, IfOk, is_some};
+ghost use Rattle.ecs_model.specs.stored.Session.{first_session};
+ghost use Rattle.ecs_observe.specs.Standing.{session_of};
+
+use crate::stored::StoredQueries;
+use ecs_world::{Changes, World};
+use indexmap::IndexMap;
+use std::alloc::{AllocError, Allocator, Global};
+use std::hash::RandomState;
+use std::marker::Model;
+
+/// A world, the queries that are stored in it, and what waits to be told to them.
+#[derive(Drop)]
+pub struct Session<A: Allocator = Global> {
+    pub(crate) world: World<A>,
+    /// In the order of making, by their names.
+    pub(crate) stored: StoredQueries<A>,
+    /// What the last accepted command has changed, until its events are told. It is there only while a stored query is a watch.
+    pub(crate) waiting: Option<Changes<A>>,
+    pub(crate) alloc: A,
+}
+
+impl<A: Allocator> Model for Session<A> {
+    ghost use Rattle.std.specs.Prelude.{map};
+    ghost use Rattle.ecs_observe.specs.Standing.{IsSession, Standing};
+    ghost use Rattle.ecs_observe.specs.Parts.{held_of};
+
+    ghost Value = { Standing };
+
+    ghost view = { λ s. record { world = s.world; stored = map held_of s.stored.entries; waiting = s.waiting } };
+
+    ghost invariant = { λ s. IsSession (record { world = s.world; stored = map held_of s.stored.entries; waiting = s.waiting }) };
+}
+
+impl<A: Allocator + Copy> Session<A> {
+    /// A session of a new world, in which no query is stored.
+    ///
+    /// Names, ids and tables are hashed with these random keys, so that nobody can choose any that make look-ups slow. Fails where memory is refused.
+    pub fn new(alloc: A, random: RandomState) -> Result<Self, AllocError>
+        ensures { IfOk result (λ s. session_of s ≡ first_session) }
+    {
+        let Ok(world) = World::new(alloc, random) else {
+            return Err(AllocError);
+        };
+        Ok(Session {
+            world,
+            stored: IndexMap::with_hasher(alloc, random),
+            waiting: None,
+            alloc,
+        })
+    }
+}
+
+impl<A: Allocator> Session<A> {
+    /// The world, as the last accepted command left it.
+    pub fn world(&self) -> &World<A>
+        ensures { result.now ≡ (self.now).world }
+    {
+        &self.world
+    }
+
+    /// Whether events wait to be told.
+    pub fn has_events(&self) -> bool
+        ensures { result ≡ is_some (self.now).waiting }
+    {
+        self.waiting.is_some()
+    }
+}

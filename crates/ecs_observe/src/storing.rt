@@ -1,0 +1,98 @@
+//! Storing queries, and dropping them.
+
+ghost use Rattle.std.specs.Prelude.{◌≡◌, ◌≢◌, ◌<◌, All, length, None, OnErr, OnOk};
+ghost use Rattle.std.specs.String.{string_bytes};
+ghost use Rattle.ecs_model.specs.stored.Session.{Drop, Store, apply, most_stored};
+ghost use Rattle.ecs_observe.specs.Answers.{AnswersApply};
+ghost use Rattle.ecs_observe.specs.Parts.{held_of};
+ghost use Rattle.ecs_observe.specs.Standing.{IsHeld, IsNow, session_of};
+ghost use Rattle.ecs_observe.specs.Storing.{store_refusal, with_held};
+
+use crate::pinning::{pin_all, unpin_all};
+use crate::stored::StoredQuery;
+use crate::watched::{read_watched, stored_query};
+use crate::{Session, SessionError};
+use ecs_id::EntityId;
+use ecs_model::faults::{Refusal, SessionRefusal};
+use ecs_model::is_name;
+use ecs_model::watches::StoredKind;
+use std::alloc::{AllocError, Allocator};
+
+/// How many stored queries a session has at most.
+const MOST_STORED: usize = 1024;
+
+impl<A: Allocator + Copy> Session<A> {
+    /// Stores the query that a text asks, under a new name. What it names can't be deleted while it is stored.
+    ///
+    /// Refused in this order: while events wait, of a text that is no name, of a name that a stored query has, of more than 1,024 stored queries,
+    /// and with the fault of the text, or of its query for this kind: a watch needs `$this`, and an event observer has one term. It answers
+    /// no entity.
+    pub fn store(
+        &mut self,
+        kind: StoredKind,
+        name: &str,
+        text: &str,
+    ) -> Result<Option<EntityId>, SessionError>
+        ensures { AnswersApply result (apply (session_of self.old) (Store kind name.now text.now)) self.old self.new }
+    {
+        if let Some(reason) = self.store_refusal(name) {
+            return Err(SessionError::Refused(reason));
+        }
+        let query = read_watched(self.alloc, &self.world, kind, text)?;
+        let stored = stored_query(self.alloc, &self.world, kind, &query)?;
+        let name = String::from_str(self.alloc, name)?;
+        self.hold(name, stored)?;
+        Ok(None)
+    }
+
+    /// Ends the stored query of a name. Refused while events wait, and where no stored query has the name. It answers no entity.
+    pub fn drop_stored(&mut self, name: &str) -> Result<Option<EntityId>, SessionError>
+        ensures { AnswersApply result (apply (session_of self.old) (Drop name.now)) self.old self.new }
+    {
+        if self.waiting.is_some() {
+            return Err(SessionError::Refused(SessionRefusal::EventsPending));
+        }
+        let Some(dropped) = self.stored.shift_remove(name) else {
+            return Err(SessionError::Refused(SessionRefusal::UnknownQuery));
+        };
+        unpin_all(&mut self.world, dropped.plan.query().mentions());
+        Ok(None)
+    }
+
+    /// Why a query can't be stored under a name, apart from its text.
+    fn store_refusal(&self, name: &str) -> Option<SessionRefusal>
+        ensures { result ≡ store_refusal (session_of self.now) name.now }
+    {
+        if self.waiting.is_some() {
+            return Some(SessionRefusal::EventsPending);
+        }
+        if !is_name(name.as_bytes()) {
+            return Some(SessionRefusal::OfWorld(Refusal::BadName));
+        }
+        if self.stored.contains_key(name) {
+            return Some(SessionRefusal::QueryTaken);
+        }
+        if self.stored.len() >= MOST_STORED {
+            return Some(SessionRefusal::TooManyStored);
+        }
+        None
+    }
+
+    /// Puts a stored query behind the others, under a name that none of them has.
+    ///
+    /// Fails where memory is refused, and then nothing has changed.
+    fn hold(&mut self, name: String<A>, stored: StoredQuery<A>) -> Result<(), AllocError>
+        requires idle { self.old.waiting ≡ None }
+        requires free { All (λ h. h.name ≢ string_bytes name) self.old.stored }
+        requires few { length self.old.stored < most_stored }
+        requires held { IsHeld (self.old.world).state (held_of (name, stored)) }
+        requires now { IsNow (self.old.world).state (held_of (name, stored)) }
+        ensures held { OnOk result (self.new ≡ with_held self.old (held_of (name, stored))) }
+        ensures refused { OnErr result (self.new ≡ self.old) }
+    {
+        self.stored.reserve(1)?;
+        pin_all(&mut self.world, stored.plan.query().mentions())?;
+        self.stored.insert(name, stored).unwrap();
+        Ok(())
+    }
+}
