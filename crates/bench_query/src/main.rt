@@ -82,7 +82,7 @@ fn ask_phase(alloc: Global, text: &str, phase: &str) -> Result<usize, QueryFault
 
 /// Whether a third word asks for plans.
 fn asks_plans(phase: &str) -> bool {
-    matches!(phase, "plan" | "tested" | "steps")
+    matches!(phase, "plan" | "tested" | "steps" | "copy")
 }
 
 /// Reads a text so often, up to a phase if one is asked for, and the last time as a whole.
@@ -104,7 +104,7 @@ fn read_often(
 /// How many tables each item would be searched in.
 const TABLES: usize = 3;
 
-/// Plans a query that is checked once so often, with a test of the steps or without one, or judges the steps of its plan.
+/// Plans a query that is checked once so often, with a test of the steps or without one, or judges the steps of its plan, or copies the query.
 fn plan_often(alloc: Global, text: &str, phase: &str, times: u64) -> Result<usize, QueryFault> {
     let query = ask(alloc, text)?;
     let lists = [TABLES; 64];
@@ -116,6 +116,8 @@ fn plan_often(alloc: Global, text: &str, phase: &str, times: u64) -> Result<usiz
             Plan::new(alloc, &query, &lists).is_ok();
         } else if phase == "tested" {
             Plan::of_lists(alloc, &query, &lists).is_ok();
+        } else if phase == "copy" {
+            query.try_clone(alloc).is_ok();
         } else {
             Plan::from_steps(alloc, &query, plan.steps()).is_ok();
         }
