@@ -90,7 +90,8 @@ def help_tells_lines_statuses_and_the_reference(program, room):
     ran = run_words(program, ["--help"])
     lines = ran.stdout.decode().splitlines()
     forms = ["entity NAME", "new", "component NAME FIELD:KIND ..", "add ENTITY ID", "set ENTITY ID VALUE ..", "remove ENTITY ID"]
-    forms += ["delete ENTITY", "show ENTITY", "query TERM, ..", "// .."]
+    forms += ["delete ENTITY", "show ENTITY", "query TERM, ..", "keep NAME TERM, ..", "rows NAME", "monitor NAME TERM, ..", "on EVENT NAME TERM"]
+    forms += ["drop NAME", "// .."]
     statuses = ["0  Every line was accepted", "1  A line was refused", "2  The arguments are wrong", "3  A read or a write failed"]
     return (
         answers(ran, 0, complaint=b"")

@@ -11,7 +11,7 @@ use std::io::{self, Read};
 use std::process::ExitCode;
 use world_script::{FromRead, RunError, Summary, ToWrite, run};
 
-const ABOUT: &str = "Runs a script of commands and queries, and prints rows and refusals.";
+const ABOUT: &str = "Runs a script of commands and queries, and prints rows, events and refusals.";
 
 const SCRIPTS: &str = "A script is lines of these forms:
   entity NAME                   Makes an entity
@@ -23,13 +23,20 @@ const SCRIPTS: &str = "A script is lines of these forms:
   delete ENTITY                 Deletes an entity, and all facts that mention it
   show ENTITY                   Prints an entity with all that it holds
   query TERM, ..                Prints each way in which all of these hold
+  keep NAME TERM, ..            Keeps a query
+  rows NAME                     Prints the rows of a kept query
+  monitor NAME TERM, ..         Tells from then on who enters and leaves rows
+  on EVENT NAME TERM            Tells from then on of facts that match; EVENT is
+                                add, remove or set
+  drop NAME                     Ends a kept query, a monitor or an observer
   // ..                         Does nothing, as an empty line
 
 ENTITY is a name or a handle, as `#64.0`, which `new` prints. ID is an ENTITY or
 a pair `(RELATIONSHIP,TARGET)` of two. KIND is i8, u8, i16, u16, i32, u32, i64
 or u64. A refused line prints `error LINE KIND`, and changes nothing. A TERM
 asks entities for an id, as `Planet`, `(ChildOf,$parent)`, `Position(up)`,
-`?(Likes,*)` or `!Planet`.
+`?(Likes,*)` or `!Planet`. An event stands behind the output of its line, as
+`enter NAME ENTITY` or `set NAME ENTITY ID=VALUE,..`.
 
 This script makes a component and an entity, and asks for its value:
   component Position x:i32 y:i32

@@ -27,6 +27,13 @@ const TOLD: &[u8] = b"#64.1\nerror 6 UnknownName\nerror 7 BuiltIn\n";
 /// How many bytes of that are written behind so many lines.
 const TOLD_BEHIND: [usize; 8] = [0, 0, 0, 0, 0, 6, 26, 42];
 
+/// Stored queries of each kind that stays, what they are told, and refusals of them.
+const WATCHES: &[u8] =
+    b"component Position x:i32\nentity Planet\nmonitor planets Planet\non set moved Position\nkeep placed Position\nentity Sun\nadd Sun Planet\nset Sun Position 7\nrows placed\ndelete Planet\nremove Sun Planet\ndrop planets\nadd Sun Planet\nrows planets\nkeep moved Planet\n";
+
+const WATCHED: &[u8] =
+    b"enter planets Sun\nset moved Sun Position=7\nrow $this=Sun [Position@Sun=7]\nrows 1\nerror 10 InUse\nleave planets Sun\nerror 14 UnknownQuery\nerror 15 QueryTaken\n";
+
 const FAILED: Turn = Turn::Stop(Stop::Failed);
 
 const INTERRUPTED: Turn = Turn::Stop(Stop::Interrupted);
@@ -84,35 +91,36 @@ fn a_read_that_fails_is_told_behind_the_output_of_whole_lines(rt: HostRuntime) -
     expect(&rt, random, SCRIPT, &part, &[], Err(RunError::Read), b"")
 }
 
+/// Runs a script with a writer that fails, or takes nothing, behind each number of bytes of its output.
+fn fail_each_write(
+    rt: &(impl Abort + AllocGlobal),
+    random: RandomState,
+    script: &[u8],
+    output: &[u8],
+) -> Result<(), Fail> {
+    let fault = Err(RunError::Write);
+    for count in 0..output.len() {
+        let written = &output[..count];
+        let stalls = [Turn::Pass(count), Turn::Pass(0)];
+        expect(rt, random, script, &[], &stalls, fault, written)?;
+        if count > 0 {
+            let fails = [Turn::Pass(count), FAILED];
+            expect(rt, random, script, &[], &fails, fault, written)?;
+        }
+    }
+    Ok(())
+}
+
 #[test]
 fn a_write_fails_at_any_byte(rt: HostRuntime) -> Result<(), Fail> {
     let random = RandomState::new(&rt)?;
-    for count in 0..OUTPUT.len() {
-        let written = &OUTPUT[..count];
-        let fails = [Turn::Pass(count.max(1)), FAILED];
-        let stalls = [Turn::Pass(count), Turn::Pass(0)];
-        if count > 0 {
-            expect(
-                &rt,
-                random,
-                SCRIPT,
-                &[],
-                &fails,
-                Err(RunError::Write),
-                written,
-            )?;
-        }
-        expect(
-            &rt,
-            random,
-            SCRIPT,
-            &[],
-            &stalls,
-            Err(RunError::Write),
-            written,
-        )?;
-    }
-    Ok(())
+    fail_each_write(&rt, random, SCRIPT, OUTPUT)
+}
+
+#[test]
+fn a_write_fails_at_any_byte_of_what_is_told(rt: HostRuntime) -> Result<(), Fail> {
+    let random = RandomState::new(&rt)?;
+    fail_each_write(&rt, random, WATCHES, WATCHED)
 }
 
 #[test]
@@ -215,6 +223,16 @@ fn children_are_deleted_and_an_index_is_given_out_again(rt: HostRuntime) -> Resu
     expect(&rt, random, DELETIONS, &[], &[], Ok(summary), TOLD)
 }
 
+#[test]
+fn stored_queries_are_told_behind_the_lines_that_concern_them(rt: HostRuntime) -> Result<(), Fail> {
+    let random = RandomState::new(&rt)?;
+    let summary = Summary {
+        lines: 15,
+        refused: 3,
+    };
+    expect(&rt, random, WATCHES, &[], &[], Ok(summary), WATCHED)
+}
+
 /// What is written where so many bytes of the script with deletions were read.
 fn told_behind(count: usize) -> &'static [u8] {
     let read = DELETIONS.get(..count).unwrap_or(DELETIONS);
@@ -236,18 +254,22 @@ fn a_read_fails_at_any_byte(rt: HostRuntime) -> Result<(), Fail> {
     Ok(())
 }
 
-#[test]
-fn each_growth_may_be_refused(rt: HostRuntime) -> Result<(), Fail> {
+/// Runs a script with each growth refused in turn, and compares what was written with its output.
+fn refuse_each_growth(
+    rt: &(impl Abort + AllocGlobal),
+    random: RandomState,
+    script: &[u8],
+    output: &[u8],
+) -> Result<(), Fail> {
     let heap = Refusing::new(rt.alloc());
-    let random = RandomState::new(&rt)?;
     let mut refusals = 0;
     for allowed in 0..4000u64 {
-        let mut reader = Tape::new(rt.alloc(), SCRIPT, &[])?;
+        let mut reader = Tape::new(rt.alloc(), script, &[])?;
         let mut writer = Tape::new(rt.alloc(), b"", &[])?;
         heap.refuse_after(allowed);
         let answered = run(&heap, random, &mut reader, &mut writer);
         heap.refuse_none();
-        assert!(rt; OUTPUT.starts_with(writer.bytes()));
+        assert!(rt; output.starts_with(writer.bytes()));
         if answered.is_ok() {
             break;
         }
@@ -256,4 +278,16 @@ fn each_growth_may_be_refused(rt: HostRuntime) -> Result<(), Fail> {
     }
     assert!(rt; 0 < refusals && refusals < 4000);
     Ok(())
+}
+
+#[test]
+fn each_growth_may_be_refused(rt: HostRuntime) -> Result<(), Fail> {
+    let random = RandomState::new(&rt)?;
+    refuse_each_growth(&rt, random, SCRIPT, OUTPUT)
+}
+
+#[test]
+fn each_growth_may_be_refused_while_queries_are_stored(rt: HostRuntime) -> Result<(), Fail> {
+    let random = RandomState::new(&rt)?;
+    refuse_each_growth(&rt, random, WATCHES, WATCHED)
 }

@@ -1,6 +1,6 @@
 -- What the lines of a script do, one after another.
 use Rattle.std.proofs.Common.{◌≡◌, ℕ, ◌+◌, List, [], ◌∷◌, refl, ap}
-use Rattle.ecs_model.specs.Session.{SessionState, first_session}
+use Rattle.ecs_model.specs.stored.Session.{SessionState, first_session}
 use Rattle.ecs_model.specs.Script.{lines_of}
 use Rattle.ecs_model.specs.Output.{effects, effects_of}
 use Rattle.world_script.specs.Run.{line_effect, effects_from}

@@ -3,7 +3,7 @@ use Rattle.std.proofs.Common.{◌≡◌, ℕ, ◌+◌, ◌≤◌, List, [], ◌+
 use Rattle.std.specs.Io.KnownBytes.{Appends, Consumes, IsAtEnd}
 use Rattle.std.proofs.KnownBytes.{Appends-trans}
 use Rattle.ecs_model.specs.Output.{count_of, output_of}
-use Rattle.ecs_model.specs.Session.{SessionState}
+use Rattle.ecs_model.specs.stored.Session.{SessionState}
 use Rattle.script_streams.specs.Lines.{Held}
 use Rattle.world_script.specs.declared.lines.Summary.{Summary}
 use Rattle.world_script.specs.Run.{line_effect}

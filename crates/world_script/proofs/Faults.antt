@@ -7,7 +7,7 @@ use Rattle.std.proofs.lemmas.Grind.{flat_map-append}
 use Rattle.std.proofs.lemmas.List.{take-append-le}
 use Rattle.std.proofs.Math.Seq.{take-append-add}
 use Rattle.ecs_model.specs.Output.{effects_of, output_of}
-use Rattle.ecs_model.specs.Session.{SessionState}
+use Rattle.ecs_model.specs.stored.Session.{SessionState}
 use Rattle.script_streams.specs.Lines.{Held, most_bytes}
 use Rattle.script_streams.specs.Streams.{TakesFront}
 use Rattle.world_script.specs.declared.lines.Summary.{Summary}

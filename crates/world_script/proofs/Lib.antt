@@ -6,3 +6,4 @@ pub mod FirstLine
 pub mod Kept
 pub mod Orders
 pub mod Running
+pub mod Waiting

@@ -1,234 +1,271 @@
--- What lines do, by what the world answered and what was told of it.
+-- What lines do, by what the session answered and what was told of it.
 use Rattle.std.proofs.Common.{◌≡◌, ℕ, ℤ, Bool, true, false, List, [], ◌++◌, Option, None, Some, Result, Ok, Err, refl, sym, ◌∙◌, ap, subst, append-nil}
-use Rattle.std.specs.Prelude.{IfOk, codes, if◌then◌else◌}
+use Rattle.std.specs.Prelude.{IfOk, codes, flat_map, is_some, if◌then◌else◌}
 use Rattle.std.specs.Result.{result_map_both}
 use Rattle.std.specs.declared.alloc.AllocError.{AllocError}
 use Rattle.std.proofs.lemmas.Result.{IfOk-weaker}
 use Rattle.ecs_id.specs.declared.EntityId.{EntityId}
 use Rattle.ecs_id.specs.Id.{Id}
-use Rattle.ecs_model.specs.declared.faults.CommandError.{CommandError}
-use Rattle.ecs_model.specs.declared.faults.CommandError.TheVariants.{Refused, Memory}
+use Rattle.query_model.specs.declared.faults.Fault.{Fault}
+use Rattle.query_model.specs.Query.{Query}
 use Rattle.ecs_model.specs.declared.faults.Refusal.{Refusal}
 use Rattle.ecs_model.specs.declared.faults.SchemaFault.{SchemaFault}
+use Rattle.ecs_model.specs.declared.faults.SessionRefusal.{SessionRefusal}
+use Rattle.ecs_model.specs.declared.faults.SessionRefusal.TheVariants.{EventsPending, OfWorld}
+use Rattle.ecs_model.specs.declared.watches.StoredKind.{StoredKind}
 use Rattle.ecs_model.specs.Schema.{Schema, schema_fault}
 use Rattle.ecs_model.specs.Refusal.{refusal_text, schema_fault_text}
 use Rattle.ecs_model.specs.Print.{fault_text}
 use Rattle.ecs_model.specs.World.{WorldState}
-use Rattle.ecs_model.specs.Command.{Changed, AnswersStep}
-use Rattle.ecs_model.specs.traits.Command.{Command, Fresh, Entity, Component, Add, SetValue, Remove, Delete, step}
-use Rattle.query_model.specs.declared.faults.Fault.{Fault}
-use Rattle.query_model.specs.Query.{Query}
+use Rattle.ecs_model.specs.traits.Command.{Command, Fresh, Entity, Component, Add, SetValue, Remove, Delete}
+use Rattle.ecs_model.specs.Orders.{EntityRef, IdRef, Order, MakeFresh, MakeEntity, MakeComponent, AddTo, SetIn, RemoveFrom, DeleteOne, command_of, entity_found, with_both}
 use Rattle.ecs_model.specs.Query.{query_of}
 use Rattle.ecs_model.specs.rows.Text.{rows_text}
-use Rattle.ecs_model.specs.Session.{SessionState, EntityRef, IdRef, Order, MakeFresh, MakeEntity, MakeComponent, AddTo, SetIn, RemoveFrom, DeleteOne, entity_found, with_both, session_answer, world_order, apply}
-use Rattle.ecs_model.specs.Script.{Form, Nothing, LongLine, BadLine, Obey, Define, Show, Ask, form_of}
-use Rattle.ecs_model.specs.Output.{Effect, effect_of, own_text, order_effect, define_effect, show_effect, ask_effect, refused_line, accepted_line, show_text}
-use Rattle.world_script.specs.Run.{IsDone, line_effect}
-use Rattle.world_script.specs.Told.{session_of, TellsRefusal, TellsNothing, TellsAnswer, TellsBorn, FindsBoth}
+use Rattle.ecs_model.specs.Script.{Form, Nothing, LongLine, BadLine, Obey, Define, Show, Ask, AskKept}
+use Rattle.ecs_model.specs.Output.{Effect, effect_of, own_text, order_effect, define_effect, show_effect, ask_effect, kept_effect, refused_line, accepted_line, show_text}
+use Rattle.ecs_model.specs.stored.Session.{Answer, Drop, InWorld, SessionOrder, SessionState, Store, apply, events, free_order, in_world, kept_query}
+use Rattle.ecs_model.specs.stored.Refusal.{session_refusal_text}
+use Rattle.ecs_model.specs.stored.Watches.{event_text}
+use Rattle.ecs_world.specs.Standing.{Standing as World}
+use Rattle.ecs_observe.specs.Answers.{AnswersApply, AnswersRows, obeyed}
+use Rattle.ecs_observe.specs.Standing.{Standing, session_of}
+use Rattle.ecs_observe.specs.declared.errors.SessionError.{SessionError}
+use Rattle.ecs_observe.specs.declared.errors.SessionError.TheVariants.{Refused, Memory}
+use Rattle.world_script.specs.Run.{IsDone}
+use Rattle.world_script.specs.Told.{TellsAccepted, TellsRefusal, TellsError, TellsAnswer, TellsBorn, FindsBoth}
+use Rattle.world_script.proofs.Waiting.{waits-none}
 
 -- a line that was refused
 pub IsDone-refused : (s : SessionState) (n : ℕ) (kind before after : List ℕ) (refused : Bool) → TellsRefusal n kind before after refused → IsDone (refused_line s n kind) s before after refused
 IsDone-refused s n kind before after refused told = record { session_left = refl; printed = told.0; answered = told.1 }
 
--- a line that prints nothing
-pub IsDone-nothing : (s : SessionState) (before after : List ℕ) (refused : Bool) → TellsNothing before after refused → IsDone (accepted_line s []) s before after refused
-IsDone-nothing s before after refused told = record { session_left = refl; printed = told.0 ∙ sym (append-nil before); answered = told.1 }
-
 -- what says nothing prints nothing
-abbrev pub IsSilent : Order → Type 0
+abbrev pub IsSilent : SessionOrder → Type 0
 IsSilent order = (born : Option EntityId) → own_text order born ≡ []
 
-module _ (w v : WorldState) (n : ℕ) (before after : List ℕ) (refused : Bool) where
-  -- a command that the world has answered
-  IsDone-stepped : (order : Order) → IsSilent order → (answer : Result Changed CommandError) (stepped : Result (WorldState × Changed) Refusal)
-      → AnswersStep answer stepped w v → TellsAnswer answer n before after refused
-      → IsDone (order_effect (session_of w) n order (session_answer stepped)) (session_of v) before after refused
-  IsDone-stepped order silent (Ok changed) stepped answered told =
-      let P : Result (WorldState × Changed) Refusal → Type 0 = λ st. IsDone (order_effect (session_of w) n order (session_answer st)) (session_of v) before after refused in
-      subst P (sym answered) (record { session_left = refl; printed = told.0 ∙ sym (append-nil before) ∙ ap (λ l. before ++ l) (sym (silent changed.born)); answered = told.1 })
-  IsDone-stepped order silent (Err (Refused reason)) stepped answered told =
-      let P : Result (WorldState × Changed) Refusal → Type 0 = λ st. IsDone (order_effect (session_of w) n order (session_answer st)) (session_of v) before after refused in
-      subst P (sym answered.0) (record { session_left = ap session_of answered.1; printed = told.0; answered = told.1 })
-  IsDone-stepped order silent (Err Memory) stepped answered told = absurd told
+-- ---- what a command of the world is for a session
 
-  -- a new entity without a name
-  IsDone-born : (answer : Result Changed CommandError) (stepped : Result (WorldState × Changed) Refusal)
-      → AnswersStep answer stepped w v → TellsBorn answer n before after refused
-      → IsDone (order_effect (session_of w) n MakeFresh (session_answer stepped)) (session_of v) before after refused
-  IsDone-born (Ok changed) stepped answered told =
-      let P : Result (WorldState × Changed) Refusal → Type 0 = λ st. IsDone (order_effect (session_of w) n MakeFresh (session_answer st)) (session_of v) before after refused in
-      subst P (sym answered) (record { session_left = refl; printed = told.0; answered = told.1 })
-  IsDone-born (Err (Refused reason)) stepped answered told =
-      let P : Result (WorldState × Changed) Refusal → Type 0 = λ st. IsDone (order_effect (session_of w) n MakeFresh (session_answer st)) (session_of v) before after refused in
-      subst P (sym answered.0) (record { session_left = ap session_of answered.1; printed = told.0; answered = told.1 })
-  IsDone-born (Err Memory) stepped answered told = absurd told
+-- an order that means a command of the world
+apply-command : (s : SessionState) (order : Order) (c : Command) → command_of s.world order ≡ Ok c → obeyed s c ≡ apply s (InWorld order)
+unfolding apply free_order
+apply-command s order c e = ap (λ r. if is_some s.waiting then Err EventsPending else in_world s r) (sym e)
 
-  -- a command of a session that is one of the world
-  IsDone-order : (order : Order) → IsSilent order → (answer : Result Changed CommandError) (asked : Result Command Refusal) (c : Command) → asked ≡ Ok c
-      → AnswersStep answer (step w c) w v → TellsAnswer answer n before after refused
-      → IsDone (order_effect (session_of w) n order (world_order (session_of w) asked)) (session_of v) before after refused
-  IsDone-order order silent answer asked c e answered told =
-      let P : Result Command Refusal → Type 0 = λ o. IsDone (order_effect (session_of w) n order (world_order (session_of w) o)) (session_of v) before after refused in
-      subst P (sym e) (IsDone-stepped order silent answer (step w c) answered told)
+-- one whose references are refused, while no events wait
+apply-unfound : (s : SessionState) (order : Order) (reason : Refusal) → s.waiting ≡ None → command_of s.world order ≡ Err reason → apply s (InWorld order) ≡ Err (OfWorld reason)
+unfolding apply free_order
+apply-unfound s order reason none e = ap (λ o. if is_some o then Err EventsPending else in_world s (command_of s.world order)) none ∙ ap (in_world s) e
 
--- a command whose references are refused
-IsDone-unfound : (w : WorldState) (n : ℕ) (before after : List ℕ) (refused : Bool) (order : Order) (asked : Result Command Refusal) (reason : Refusal) → asked ≡ Err reason
-    → TellsRefusal n (refusal_text reason) before after refused
-    → IsDone (order_effect (session_of w) n order (world_order (session_of w) asked)) (session_of w) before after refused
-IsDone-unfound w n before after refused order asked reason e told =
-    let P : Result Command Refusal → Type 0 = λ o. IsDone (order_effect (session_of w) n order (world_order (session_of w) o)) (session_of w) before after refused in
-    subst P (sym e) (IsDone-refused (session_of w) n (refusal_text reason) before after refused told)
+-- in the world of a session
+command_in : (s : Standing) (w : World) (order : Order) → w ≡ s.world → command_of (session_of s).world order ≡ command_of w.state order
+unfolding session_of
+command_in s w order same = ap (λ v. command_of v.state order) (sym same)
+
+-- ---- lines of commands
+
+module _ (old mid new : Standing) (n : ℕ) (order : SessionOrder) (before after : List ℕ) (refused : Bool) where
+  abbrev Does : Answer → Type 0
+  Does applied = IsDone (order_effect (session_of old) n order applied) (session_of new) before after refused
+
+  -- a command that was accepted
+  IsDone-accepted : (own : List ℕ) (born : Option EntityId) (applied : Answer) → own ≡ own_text order born → applied ≡ Ok (session_of mid, born)
+      → TellsAccepted own (session_of mid) (session_of new) before after refused → Does applied
+  IsDone-accepted own born applied same answered told =
+      subst Does (sym answered) (record {
+        session_left = told.session_left;
+        printed = told.printed ∙ ap (λ t. before ++ (t ++ flat_map event_text (events (session_of mid)))) same;
+        answered = told.answered;
+      })
+
+  -- one that was refused
+  IsDone-error : (error : SessionError) (applied : Answer) → AnswersApply (Err error) applied old mid → TellsAnswer (Err error) n (session_of mid) (session_of new) before after refused
+      → Does applied
+  IsDone-error (Refused reason) applied answered told =
+      subst Does (sym answered.0) (record { session_left = told.1 ∙ answered.1; printed = (told.0).0; answered = (told.0).1 })
+  IsDone-error Memory applied answered told = absurd told.0
+
+  IsDone-answered : IsSilent order → (answer : Result (Option EntityId) SessionError) (applied : Answer) → AnswersApply answer applied old mid
+      → TellsAnswer answer n (session_of mid) (session_of new) before after refused → Does applied
+  IsDone-answered silent (Ok born) applied answered told = IsDone-accepted [] born applied (sym (silent born)) answered told
+  IsDone-answered silent (Err error) applied answered told = IsDone-error error applied answered told
+
+-- a new entity without a name
+IsDone-born : (old mid new : Standing) (n : ℕ) (before after : List ℕ) (refused : Bool) (answer : Result (Option EntityId) SessionError) (applied : Answer) → AnswersApply answer applied old mid
+    → TellsBorn answer n (session_of mid) (session_of new) before after refused
+    → IsDone (order_effect (session_of old) n (InWorld MakeFresh) applied) (session_of new) before after refused
+IsDone-born old mid new n before after refused (Ok born) applied answered told = IsDone-accepted old mid new n (InWorld MakeFresh) before after refused _ born applied refl answered told
+IsDone-born old mid new n before after refused (Err error) applied answered told = IsDone-error old mid new n (InWorld MakeFresh) before after refused error applied answered told
 
 -- the command of a line that names an entity to be deleted
 abbrev asked_to_delete : Result EntityId Refusal → Result Command Refusal
 asked_to_delete = result_map_both Delete (λ reason. reason)
 
--- an entity whose facts were shown
-pub IsDone-shown : (r : EntityRef) (e : EntityId) (w : WorldState) (n : ℕ) (before after : List ℕ) → entity_found w r ≡ Ok e → after ≡ before ++ show_text w e
-    → IsDone (effect_of (session_of w) n (Show r)) (session_of w) before after false
-unfolding effect_of
-IsDone-shown r e w n before after found added =
-    let P : Result EntityId Refusal → Type 0 = λ o. IsDone (show_effect (session_of w) n o) (session_of w) before after false in
-    subst P (sym found) (record { session_left = refl; printed = added; answered = refl })
+-- where memory may be refused
+module _ (r : Result Bool AllocError) (old mid new : Standing) (n : ℕ) (before after : List ℕ) (answer : Result (Option EntityId) SessionError) where
+  abbrev Tells : Type 0
+  Tells = IfOk r (TellsAnswer answer n (session_of mid) (session_of new) before after)
 
--- one whose reference is refused
-IsDone-unshown : (r : EntityRef) (reason : Refusal) (w : WorldState) (n : ℕ) (before after : List ℕ) (refused : Bool) → entity_found w r ≡ Err reason
-    → TellsRefusal n (refusal_text reason) before after refused → IsDone (effect_of (session_of w) n (Show r)) (session_of w) before after refused
-unfolding effect_of
-IsDone-unshown r reason w n before after refused unfound told =
-    let P : Result EntityId Refusal → Type 0 = λ o. IsDone (show_effect (session_of w) n o) (session_of w) before after refused in
-    subst P (sym unfound) (IsDone-refused (session_of w) n (refusal_text reason) before after refused told)
+  abbrev Obeys : SessionOrder → Type 0
+  Obeys order = IfOk r (IsDone (effect_of (session_of old) n (Obey order)) (session_of new) before after)
 
--- a query whose rows were added
-pub IsDone-rows : (text : List ℕ) (q : Query) (w : WorldState) (n : ℕ) (before after : List ℕ) → query_of w text ≡ Ok q → after ≡ before ++ rows_text w q
-    → IsDone (effect_of (session_of w) n (Ask text)) (session_of w) before after false
-unfolding effect_of
-IsDone-rows text q w n before after e added =
-    let P : Result Query Fault → Type 0 = λ r. IsDone (ask_effect (session_of w) n r) (session_of w) before after false in
-    subst P (sym e) (record { session_left = refl; printed = added; answered = refl })
+  pub IfOk-new : AnswersApply answer (obeyed (session_of old) Fresh) old mid → IfOk r (TellsBorn answer n (session_of mid) (session_of new) before after) → Obeys (InWorld MakeFresh)
+  unfolding effect_of command_of
+  IfOk-new answered =
+      let P : Answer → Type 0 = λ a. AnswersApply answer a old mid in
+      IfOk-weaker r _ _ (λ refused told. IsDone-born old mid new n before after refused answer _ (subst P (apply-command (session_of old) MakeFresh Fresh refl) answered) told)
 
--- one that is refused
-IsDone-fault : (text : List ℕ) (f : Fault) (w : WorldState) (n : ℕ) (before after : List ℕ) (refused : Bool) → query_of w text ≡ Err f
-    → TellsRefusal n (fault_text f) before after refused → IsDone (effect_of (session_of w) n (Ask text)) (session_of w) before after refused
-unfolding effect_of
-IsDone-fault text f w n before after refused e told =
-    let P : Result Query Fault → Type 0 = λ r. IsDone (ask_effect (session_of w) n r) (session_of w) before after refused in
-    subst P (sym e) (IsDone-refused (session_of w) n (fault_text f) before after refused told)
+  IfOk-order : (order : SessionOrder) → IsSilent order → AnswersApply answer (apply (session_of old) order) old mid → Tells → Obeys order
+  unfolding effect_of
+  IfOk-order order silent answered = IfOk-weaker r _ _ (λ refused told. IsDone-answered old mid new n order before after refused silent answer _ answered told)
 
--- the same, where memory may be refused instead
-module _ (r : Result Bool AllocError) (w v : WorldState) (n : ℕ) (before after : List ℕ) where
-  pub IfOk-new : (answer : Result Changed CommandError) → AnswersStep answer (step w Fresh) w v → IfOk r (TellsBorn answer n before after)
-      → IfOk r (IsDone (effect_of (session_of w) n (Obey MakeFresh)) (session_of v) before after)
-  unfolding effect_of apply
-  IfOk-new answer answered = IfOk-weaker r _ _ (λ refused told. IsDone-born w v n before after refused answer (step w Fresh) answered told)
+  pub IfOk-store : (kind : StoredKind) (name text : List ℕ) → AnswersApply answer (apply (session_of old) (Store kind name text)) old mid → Tells → Obeys (Store kind name text)
+  IfOk-store kind name text = IfOk-order (Store kind name text) (λ _. refl)
 
-  pub IfOk-entity : (answer : Result Changed CommandError) (name : List ℕ) → AnswersStep answer (step w (Entity name)) w v → IfOk r (TellsAnswer answer n before after)
-      → IfOk r (IsDone (effect_of (session_of w) n (Obey (MakeEntity name))) (session_of v) before after)
-  unfolding effect_of apply
-  IfOk-entity answer name answered = IfOk-weaker r _ _ (λ refused told. IsDone-stepped w v n before after refused (MakeEntity name) (λ _. refl) answer (step w (Entity name)) answered told)
+  pub IfOk-drop : (name : List ℕ) → AnswersApply answer (apply (session_of old) (Drop name)) old mid → Tells → Obeys (Drop name)
+  IfOk-drop name = IfOk-order (Drop name) (λ _. refl)
+
+  -- a command of the world
+  IfOk-command : (w : World) (order : Order) (c : Command) → w ≡ old.world → IsSilent (InWorld order) → command_of w.state order ≡ Ok c
+      → AnswersApply answer (obeyed (session_of old) c) old mid → Tells → Obeys (InWorld order)
+  IfOk-command w order c same silent e answered =
+      let P : Answer → Type 0 = λ a. AnswersApply answer a old mid in
+      IfOk-order (InWorld order) silent (subst P (apply-command (session_of old) order c (command_in old w order same ∙ e)) answered)
+
+  pub IfOk-entity : (name : List ℕ) → AnswersApply answer (obeyed (session_of old) (Entity name)) old mid → Tells → Obeys (InWorld (MakeEntity name))
+  unfolding command_of
+  IfOk-entity name = IfOk-command old.world (MakeEntity name) (Entity name) refl (λ _. refl) refl
 
   -- a command of an entity and an id
-  IfOk-fact : (order : Order) → IsSilent order → (f : EntityId → Id → Command) (answer : Result Changed CommandError) (entity : EntityRef) (id : IdRef) (both : EntityId × Id)
-      → FindsBoth w entity id (Ok both) → AnswersStep answer (step w (f both.0 both.1)) w v → IfOk r (TellsAnswer answer n before after)
-      → IfOk r (IsDone (order_effect (session_of w) n order (world_order (session_of w) (with_both w f entity id))) (session_of v) before after)
-  IfOk-fact order silent f answer entity id both finds answered =
-      IfOk-weaker r _ _ (λ refused told. IsDone-order w v n before after refused order silent answer _ (f both.0 both.1) (finds f) answered told)
+  pub IfOk-add : (w : World) (entity : EntityRef) (id : IdRef) (both : EntityId × Id) → w ≡ old.world → FindsBoth w.state entity id (Ok both)
+      → AnswersApply answer (obeyed (session_of old) (Add both.0 both.1)) old mid → Tells → Obeys (InWorld (AddTo entity id))
+  unfolding command_of
+  IfOk-add w entity id both same finds = IfOk-command w (AddTo entity id) (Add both.0 both.1) same (λ _. refl) (finds Add)
 
-  pub IfOk-add : (answer : Result Changed CommandError) (entity : EntityRef) (id : IdRef) (both : EntityId × Id) → FindsBoth w entity id (Ok both)
-      → AnswersStep answer (step w (Add both.0 both.1)) w v → IfOk r (TellsAnswer answer n before after)
-      → IfOk r (IsDone (effect_of (session_of w) n (Obey (AddTo entity id))) (session_of v) before after)
-  unfolding effect_of apply
-  IfOk-add answer entity id both = IfOk-fact (AddTo entity id) (λ _. refl) Add answer entity id both
+  pub IfOk-set : (w : World) (entity : EntityRef) (id : IdRef) (values : List ℤ) (both : EntityId × Id) → w ≡ old.world → FindsBoth w.state entity id (Ok both)
+      → AnswersApply answer (obeyed (session_of old) (SetValue both.0 both.1 values)) old mid → Tells → Obeys (InWorld (SetIn entity id values))
+  unfolding command_of
+  IfOk-set w entity id values both same finds = IfOk-command w (SetIn entity id values) (SetValue both.0 both.1 values) same (λ _. refl) (finds (λ e i. SetValue e i values))
 
-  pub IfOk-set : (answer : Result Changed CommandError) (entity : EntityRef) (id : IdRef) (values : List ℤ) (both : EntityId × Id) → FindsBoth w entity id (Ok both)
-      → AnswersStep answer (step w (SetValue both.0 both.1 values)) w v → IfOk r (TellsAnswer answer n before after)
-      → IfOk r (IsDone (effect_of (session_of w) n (Obey (SetIn entity id values))) (session_of v) before after)
-  unfolding effect_of apply
-  IfOk-set answer entity id values both = IfOk-fact (SetIn entity id values) (λ _. refl) (λ e i. SetValue e i values) answer entity id both
-
-  pub IfOk-remove : (answer : Result Changed CommandError) (entity : EntityRef) (id : IdRef) (both : EntityId × Id) → FindsBoth w entity id (Ok both)
-      → AnswersStep answer (step w (Remove both.0 both.1)) w v → IfOk r (TellsAnswer answer n before after)
-      → IfOk r (IsDone (effect_of (session_of w) n (Obey (RemoveFrom entity id))) (session_of v) before after)
-  unfolding effect_of apply
-  IfOk-remove answer entity id both = IfOk-fact (RemoveFrom entity id) (λ _. refl) Remove answer entity id both
+  pub IfOk-remove : (w : World) (entity : EntityRef) (id : IdRef) (both : EntityId × Id) → w ≡ old.world → FindsBoth w.state entity id (Ok both)
+      → AnswersApply answer (obeyed (session_of old) (Remove both.0 both.1)) old mid → Tells → Obeys (InWorld (RemoveFrom entity id))
+  unfolding command_of
+  IfOk-remove w entity id both same finds = IfOk-command w (RemoveFrom entity id) (Remove both.0 both.1) same (λ _. refl) (finds Remove)
 
   -- an entity that goes
-  pub IfOk-delete : (answer : Result Changed CommandError) (entity : EntityRef) (e : EntityId) → entity_found w entity ≡ Ok e → AnswersStep answer (step w (Delete e)) w v
-      → IfOk r (TellsAnswer answer n before after) → IfOk r (IsDone (effect_of (session_of w) n (Obey (DeleteOne entity))) (session_of v) before after)
-  unfolding effect_of apply
-  IfOk-delete answer entity e found answered =
-      IfOk-weaker r _ _ (λ refused told. IsDone-order w v n before after refused (DeleteOne entity) (λ _. refl) answer _ (Delete e) (ap asked_to_delete found) answered told)
+  pub IfOk-delete : (w : World) (entity : EntityRef) (e : EntityId) → w ≡ old.world → entity_found w.state entity ≡ Ok e → AnswersApply answer (obeyed (session_of old) (Delete e)) old mid → Tells
+      → Obeys (InWorld (DeleteOne entity))
+  unfolding command_of
+  IfOk-delete w entity e same found = IfOk-command w (DeleteOne entity) (Delete e) same (λ _. refl) (ap asked_to_delete found)
 
-module _ (r : Result Bool AllocError) (w : WorldState) (n : ℕ) (before after : List ℕ) (reason : Refusal) where
-  IfOk-unfound : (order : Order) (f : EntityId → Id → Command) (entity : EntityRef) (id : IdRef) → FindsBoth w entity id (Err reason) → IfOk r (TellsRefusal n (refusal_text reason) before after)
-      → IfOk r (IsDone (order_effect (session_of w) n order (world_order (session_of w) (with_both w f entity id))) (session_of w) before after)
-  IfOk-unfound order f entity id finds = IfOk-weaker r _ _ (λ refused told. IsDone-unfound w n before after refused order _ reason (finds f) told)
-
-  pub IfOk-add_unfound : (entity : EntityRef) (id : IdRef) → FindsBoth w entity id (Err reason) → IfOk r (TellsRefusal n (refusal_text reason) before after)
-      → IfOk r (IsDone (effect_of (session_of w) n (Obey (AddTo entity id))) (session_of w) before after)
-  unfolding effect_of apply
-  IfOk-add_unfound entity id = IfOk-unfound (AddTo entity id) Add entity id
-
-  pub IfOk-set_unfound : (entity : EntityRef) (id : IdRef) (values : List ℤ) → FindsBoth w entity id (Err reason) → IfOk r (TellsRefusal n (refusal_text reason) before after)
-      → IfOk r (IsDone (effect_of (session_of w) n (Obey (SetIn entity id values))) (session_of w) before after)
-  unfolding effect_of apply
-  IfOk-set_unfound entity id values = IfOk-unfound (SetIn entity id values) (λ e i. SetValue e i values) entity id
-
-  pub IfOk-remove_unfound : (entity : EntityRef) (id : IdRef) → FindsBoth w entity id (Err reason) → IfOk r (TellsRefusal n (refusal_text reason) before after)
-      → IfOk r (IsDone (effect_of (session_of w) n (Obey (RemoveFrom entity id))) (session_of w) before after)
-  unfolding effect_of apply
-  IfOk-remove_unfound entity id = IfOk-unfound (RemoveFrom entity id) Remove entity id
-
-  pub IfOk-delete_unfound : (entity : EntityRef) → entity_found w entity ≡ Err reason → IfOk r (TellsRefusal n (refusal_text reason) before after)
-      → IfOk r (IsDone (effect_of (session_of w) n (Obey (DeleteOne entity))) (session_of w) before after)
-  unfolding effect_of apply
-  IfOk-delete_unfound entity unfound = IfOk-weaker r _ _ (λ refused told. IsDone-unfound w n before after refused (DeleteOne entity) _ reason (ap asked_to_delete unfound) told)
-
-  pub IfOk-unshown : (entity : EntityRef) → entity_found w entity ≡ Err reason → IfOk r (TellsRefusal n (refusal_text reason) before after)
-      → IfOk r (IsDone (effect_of (session_of w) n (Show entity)) (session_of w) before after)
-  IfOk-unshown entity unfound = IfOk-weaker r _ _ (λ refused told. IsDone-unshown entity reason w n before after refused unfound told)
-
-module _ (r : Result Bool AllocError) (w : WorldState) (n : ℕ) (before after text : List ℕ) where
-  -- a query that is refused
-  pub IfOk-fault : (f : Fault) → query_of w text ≡ Err f → IfOk r (TellsRefusal n (fault_text f) before after) → IfOk r (IsDone (effect_of (session_of w) n (Ask text)) (session_of w) before after)
-  IfOk-fault f e = IfOk-weaker r _ _ (λ refused told. IsDone-fault text f w n before after refused e told)
-
-module _ (r : Result Bool AllocError) (w v : WorldState) (n : ℕ) (before after name : List ℕ) (fields : Schema) where
   -- a component whose fields make a schema
-  pub IfOk-component : (answer : Result Changed CommandError) → (schema_fault fields ≡ None) × AnswersStep answer (step w (Component name fields)) w v
-      → IfOk r (TellsAnswer answer n before after) → IfOk r (IsDone (effect_of (session_of w) n (Define name fields)) (session_of v) before after)
-  unfolding effect_of apply
-  IfOk-component answer answered told =
-      let P : Option SchemaFault → Type 0 = λ o. IfOk r (IsDone (define_effect (session_of w) n name fields o) (session_of v) before after) in
-      subst P (sym answered.0) (
-      IfOk-weaker r _ _ (λ refused tells. IsDone-stepped w v n before after refused (MakeComponent name fields) (λ _. refl) answer (step w (Component name fields)) answered.1 tells) told
-      )
+  pub IfOk-component : (name : List ℕ) (fields : Schema) → schema_fault fields ≡ None → AnswersApply answer (obeyed (session_of old) (Component name fields)) old mid → Tells
+      → IfOk r (IsDone (effect_of (session_of old) n (Define name fields)) (session_of new) before after)
+  unfolding effect_of command_of
+  IfOk-component name fields sound answered told =
+      let P : Option SchemaFault → Type 0 = λ o. IfOk r (IsDone (define_effect (session_of old) n name fields o) (session_of new) before after) in
+      subst P (sym sound) (IfOk-command old.world (MakeComponent name fields) (Component name fields) refl (λ _. refl) refl answered told)
 
-  -- a component whose fields make none
-  pub IfOk-no_schema : (f : SchemaFault) → (schema_fault fields ≡ Some f) × (v ≡ w) → IfOk r (TellsRefusal n (schema_fault_text f) before after)
-      → IfOk r (IsDone (effect_of (session_of w) n (Define name fields)) (session_of v) before after)
-  unfolding effect_of
-  IfOk-no_schema f faulty told =
-      let P : Option SchemaFault → Type 0 = λ o. IfOk r (IsDone (define_effect (session_of w) n name fields o) (session_of v) before after) in
-      let Q : WorldState → Type 0 = λ u. IfOk r (IsDone (refused_line (session_of w) n (schema_fault_text f)) (session_of u) before after) in
-      subst P (sym faulty.0) (subst Q (sym faulty.1) (IfOk-weaker r _ _ (λ refused tells. IsDone-refused (session_of w) n (schema_fault_text f) before after refused tells) told))
+-- ---- lines that leave the session
 
--- a line that says nothing, one that is too long, and one that fits no form
-module _ (s : SessionState) (n : ℕ) (line before after : List ℕ) where
-  pub IsDone-no_order : Nothing ≡ form_of line → after ≡ before → IsDone (line_effect s n line) s before after false
-  unfolding effect_of
-  IsDone-no_order e same =
-      let P : Form → Type 0 = λ f. IsDone (effect_of s n f) s before after false in
-      subst P e (IsDone-nothing s before after false (same, refl))
+module _ (s : Standing) (n : ℕ) (before after : List ℕ) where
+  abbrev Leaves : Form → Bool → Type 0
+  Leaves form = IsDone (effect_of (session_of s) n form) (session_of s) before after
 
-  pub IfOk-long : (r : Result Bool AllocError) → LongLine ≡ form_of line → IfOk r (TellsRefusal n (codes "LineTooLong") before after) → IfOk r (IsDone (line_effect s n line) s before after)
-  unfolding effect_of
-  IfOk-long r e =
-      let P : Form → Type 0 = λ f. IfOk r (TellsRefusal n (codes "LineTooLong") before after) → IfOk r (IsDone (effect_of s n f) s before after) in
-      subst P e (IfOk-weaker r _ _ (λ refused told. IsDone-refused s n (codes "LineTooLong") before after refused told))
+  -- an entity whose facts were shown
+  pub IsDone-shown : (w : World) (r : EntityRef) (e : EntityId) → w ≡ s.world → entity_found w.state r ≡ Ok e → after ≡ before ++ show_text w.state e → Leaves (Show r) false
+  unfolding effect_of session_of
+  IsDone-shown w r e same found added =
+      let P : Result EntityId Refusal → Type 0 = λ o. IsDone (show_effect (session_of s) n o) (session_of s) before after false in
+      let shown = λ (v : World). before ++ show_text v.state e in
+      subst P (sym found ∙ ap (λ v. entity_found v.state r) same) (record { session_left = refl; printed = added ∙ ap shown same; answered = refl })
 
-  pub IfOk-bad : (r : Result Bool AllocError) → BadLine ≡ form_of line → IfOk r (TellsRefusal n (codes "BadLine") before after) → IfOk r (IsDone (line_effect s n line) s before after)
+  -- a query whose rows were added
+  pub IsDone-rows : (w : World) (text : List ℕ) (q : Query) → w ≡ s.world → query_of w.state text ≡ Ok q → after ≡ before ++ rows_text w.state q → Leaves (Ask text) false
+  unfolding effect_of session_of
+  IsDone-rows w text q same asked added =
+      let P : Result Query Fault → Type 0 = λ o. IsDone (ask_effect (session_of s) n o) (session_of s) before after false in
+      let told = λ (v : World). before ++ rows_text v.state q in
+      subst P (sym asked ∙ ap (λ v. query_of v.state text) same) (record { session_left = refl; printed = added ∙ ap told same; answered = refl })
+
+  -- a kept query whose rows were added
+  pub IsDone-kept : (name : List ℕ) (q : Query) → kept_query (session_of s) name ≡ Ok q → after ≡ before ++ rows_text (session_of s).world q → Leaves (AskKept name) false
   unfolding effect_of
-  IfOk-bad r e =
-      let P : Form → Type 0 = λ f. IfOk r (TellsRefusal n (codes "BadLine") before after) → IfOk r (IsDone (effect_of s n f) s before after) in
-      subst P e (IfOk-weaker r _ _ (λ refused told. IsDone-refused s n (codes "BadLine") before after refused told))
+  IsDone-kept name q kept added =
+      let P : Result Query SessionRefusal → Type 0 = λ o. IsDone (kept_effect (session_of s) n o) (session_of s) before after false in
+      subst P (sym kept) (record { session_left = refl; printed = added; answered = refl })
+
+module _ (r : Result Bool AllocError) (s : Standing) (n : ℕ) (before after : List ℕ) where
+  abbrev MayLeave : Form → Type 0
+  MayLeave form = IfOk r (IsDone (effect_of (session_of s) n form) (session_of s) before after)
+
+  -- an order whose references are refused
+  IfOk-unfound : (w : World) (order : Order) (reason : Refusal) → s.waiting ≡ None → w ≡ s.world → command_of w.state order ≡ Err reason
+      → IfOk r (TellsRefusal n (refusal_text reason) before after) → MayLeave (Obey (InWorld order))
+  unfolding effect_of
+  IfOk-unfound w order reason none same e = IfOk-weaker r _ _ (λ refused told.
+      let P : Answer → Type 0 = λ a. IsDone (order_effect (session_of s) n (InWorld order) a) (session_of s) before after refused in
+      subst P (sym (apply-unfound (session_of s) order reason (waits-none s none) (command_in s w order same ∙ e))) (IsDone-refused (session_of s) n (refusal_text reason) before after refused told))
+
+  pub IfOk-add_unfound : (w : World) (entity : EntityRef) (id : IdRef) (reason : Refusal) → s.waiting ≡ None → w ≡ s.world → FindsBoth w.state entity id (Err reason)
+      → IfOk r (TellsRefusal n (refusal_text reason) before after) → MayLeave (Obey (InWorld (AddTo entity id)))
+  unfolding command_of
+  IfOk-add_unfound w entity id reason none same finds = IfOk-unfound w (AddTo entity id) reason none same (finds Add)
+
+  pub IfOk-set_unfound : (w : World) (entity : EntityRef) (id : IdRef) (values : List ℤ) (reason : Refusal) → s.waiting ≡ None → w ≡ s.world → FindsBoth w.state entity id (Err reason)
+      → IfOk r (TellsRefusal n (refusal_text reason) before after) → MayLeave (Obey (InWorld (SetIn entity id values)))
+  unfolding command_of
+  IfOk-set_unfound w entity id values reason none same finds = IfOk-unfound w (SetIn entity id values) reason none same (finds (λ e i. SetValue e i values))
+
+  pub IfOk-remove_unfound : (w : World) (entity : EntityRef) (id : IdRef) (reason : Refusal) → s.waiting ≡ None → w ≡ s.world → FindsBoth w.state entity id (Err reason)
+      → IfOk r (TellsRefusal n (refusal_text reason) before after) → MayLeave (Obey (InWorld (RemoveFrom entity id)))
+  unfolding command_of
+  IfOk-remove_unfound w entity id reason none same finds = IfOk-unfound w (RemoveFrom entity id) reason none same (finds Remove)
+
+  pub IfOk-delete_unfound : (w : World) (entity : EntityRef) (reason : Refusal) → s.waiting ≡ None → w ≡ s.world → entity_found w.state entity ≡ Err reason
+      → IfOk r (TellsRefusal n (refusal_text reason) before after) → MayLeave (Obey (InWorld (DeleteOne entity)))
+  unfolding command_of
+  IfOk-delete_unfound w entity reason none same unfound = IfOk-unfound w (DeleteOne entity) reason none same (ap asked_to_delete unfound)
+
+  -- a component whose fields make no schema
+  pub IfOk-no_schema : (name : List ℕ) (fields : Schema) (f : SchemaFault) → schema_fault fields ≡ Some f → IfOk r (TellsRefusal n (schema_fault_text f) before after) → MayLeave (Define name fields)
+  unfolding effect_of
+  IfOk-no_schema name fields f faulty = IfOk-weaker r _ _ (λ refused told.
+      let P : Option SchemaFault → Type 0 = λ o. IsDone (define_effect (session_of s) n name fields o) (session_of s) before after refused in
+      subst P (sym faulty) (IsDone-refused (session_of s) n (schema_fault_text f) before after refused told))
+
+  -- an entity to be shown whose reference is refused
+  pub IfOk-unshown : (w : World) (entity : EntityRef) (reason : Refusal) → w ≡ s.world → entity_found w.state entity ≡ Err reason → IfOk r (TellsRefusal n (refusal_text reason) before after) → MayLeave (Show entity)
+  unfolding effect_of session_of
+  IfOk-unshown w entity reason same unfound = IfOk-weaker r _ _ (λ refused told.
+      let P : Result EntityId Refusal → Type 0 = λ o. IsDone (show_effect (session_of s) n o) (session_of s) before after refused in
+      subst P (sym unfound ∙ ap (λ v. entity_found v.state entity) same) (IsDone-refused (session_of s) n (refusal_text reason) before after refused told))
+
+  -- a query that is refused
+  pub IfOk-fault : (w : World) (text : List ℕ) (f : Fault) → w ≡ s.world → query_of w.state text ≡ Err f → IfOk r (TellsRefusal n (fault_text f) before after) → MayLeave (Ask text)
+  unfolding effect_of session_of
+  IfOk-fault w text f same asked = IfOk-weaker r _ _ (λ refused told.
+      let P : Result Query Fault → Type 0 = λ o. IsDone (ask_effect (session_of s) n o) (session_of s) before after refused in
+      subst P (sym asked ∙ ap (λ v. query_of v.state text) same) (IsDone-refused (session_of s) n (fault_text f) before after refused told))
+
+  -- a kept query that isn't there, after nothing was written
+  pub IfOk-unkept : (name mid : List ℕ) (error : SessionError) → AnswersRows {T = Unit {0}} (Err error) (session_of s) name before mid → IfOk r (TellsError error n mid after) → MayLeave (AskKept name)
+  unfolding effect_of
+  IfOk-unkept name mid (Refused reason) answered = IfOk-weaker r _ _ (λ refused told.
+      let P : Result Query SessionRefusal → Type 0 = λ o. IsDone (kept_effect (session_of s) n o) (session_of s) before after refused in
+      let Q : List ℕ → Type 0 = λ b. TellsRefusal n (session_refusal_text reason) b after refused in
+      subst P (sym answered.0) (IsDone-refused (session_of s) n (session_refusal_text reason) before after refused (subst Q answered.1 told)))
+  IfOk-unkept name mid Memory answered = IfOk-weaker r _ _ (λ refused told. absurd told)
+
+-- a line that says nothing
+pub IsDone-nothing : (s : SessionState) (n : ℕ) (before : List ℕ) → IsDone (effect_of s n Nothing) s before before false
+unfolding effect_of
+IsDone-nothing s n before = record { session_left = refl; printed = sym (append-nil before); answered = refl }
+
+-- one that is too long, and one that fits no form
+module _ (r : Result Bool AllocError) (s : SessionState) (n : ℕ) (before after : List ℕ) where
+  pub IfOk-long : IfOk r (TellsRefusal n (codes "LineTooLong") before after) → IfOk r (IsDone (effect_of s n LongLine) s before after)
+  unfolding effect_of
+  IfOk-long = IfOk-weaker r _ _ (λ refused told. IsDone-refused s n (codes "LineTooLong") before after refused told)
+
+  pub IfOk-bad : IfOk r (TellsRefusal n (codes "BadLine") before after) → IfOk r (IsDone (effect_of s n BadLine) s before after)
+  unfolding effect_of
+  IfOk-bad = IfOk-weaker r _ _ (λ refused told. IsDone-refused s n (codes "BadLine") before after refused told)

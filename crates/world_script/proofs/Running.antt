@@ -7,7 +7,7 @@ use Rattle.std.proofs.lemmas.List.Elements.{All-append, All-nil}
 use Rattle.std.proofs.lemmas.List.Sums.{sum_by-append, sum_by-cons}
 use Rattle.ecs_model.specs.Output.{Effect, effect_of, effects_of}
 use Rattle.ecs_model.specs.Script.{Form}
-use Rattle.ecs_model.specs.Session.{SessionState, first_session}
+use Rattle.ecs_model.specs.stored.Session.{SessionState, first_session}
 use Rattle.script_streams.specs.Lines.{Held, HasNoEnd, TakesLine, kept, most_bytes}
 use Rattle.world_script.specs.declared.lines.Summary.{Summary}
 use Rattle.world_script.specs.Run.{effects_from, line_effect, printed_by, refused_among}

@@ -1,6 +1,6 @@
 -- What the lines of a script do, from any session on.
 use Rattle.std.specs.Prelude.{◌≡◌, ℕ, Bool, List, ◌++◌, flat_map, count_by}
-use Rattle.ecs_model.specs.Session.{SessionState}
+use Rattle.ecs_model.specs.stored.Session.{SessionState}
 use Rattle.ecs_model.specs.Script.{form_of, lines_of}
 use Rattle.ecs_model.specs.Output.{Effect, effect_of, effects}
 

@@ -2,7 +2,7 @@
 use Rattle.std.specs.Prelude.{◌≡◌, ◌+◌, ◌≤◌, ℕ, List, ◌++◌, length, Option, cond}
 use Rattle.std.specs.Io.KnownBytes.{Appends, Consumes}
 use Rattle.ecs_model.specs.Output.{Effect, effects_of, output_of}
-use Rattle.ecs_model.specs.Session.{SessionState}
+use Rattle.ecs_model.specs.stored.Session.{SessionState}
 use Rattle.script_streams.specs.Lines.{Held, HasNoEnd, kept, most_bytes}
 use Rattle.script_streams.specs.declared.lines.FillError.{FillError}
 use Rattle.script_streams.specs.declared.lines.FillError.TheVariants as fill

@@ -1,20 +1,17 @@
--- What is told of a line that a world has answered.
-use Rattle.std.specs.Prelude.{◌≡◌, ℕ, Bool, true, false, List, ◌++◌, codes, decimal, Result, Ok, Err}
+-- What is told of a line that a session has answered.
+use Rattle.std.specs.Prelude.{◌≡◌, ℕ, Bool, true, false, List, [], ◌++◌, flat_map, codes, decimal, Option, Result, Ok, Err}
 use Rattle.ecs_id.specs.declared.EntityId.{EntityId}
 use Rattle.ecs_id.specs.Id.{Id}
-use Rattle.ecs_model.specs.declared.faults.CommandError.{CommandError}
-use Rattle.ecs_model.specs.declared.faults.CommandError.TheVariants.{Refused, Memory}
 use Rattle.ecs_model.specs.declared.faults.Refusal.{Refusal}
-use Rattle.ecs_model.specs.Refusal.{refusal_text}
 use Rattle.ecs_model.specs.World.{WorldState}
-use Rattle.ecs_model.specs.Command.{Changed}
 use Rattle.ecs_model.specs.traits.Command.{Command}
-use Rattle.ecs_model.specs.Session.{SessionState, EntityRef, IdRef, MakeFresh, with_both}
+use Rattle.ecs_model.specs.Orders.{EntityRef, IdRef, MakeFresh, with_both}
 use Rattle.ecs_model.specs.Output.{own_text}
-
--- the session of a world
-abbrev pub session_of : WorldState → SessionState
-session_of w = record { world = w }
+use Rattle.ecs_model.specs.stored.Refusal.{session_refusal_text}
+use Rattle.ecs_model.specs.stored.Session.{SessionState, InWorld, after_events, events}
+use Rattle.ecs_model.specs.stored.Watches.{event_text}
+use Rattle.ecs_observe.specs.declared.errors.SessionError.{SessionError}
+use Rattle.ecs_observe.specs.declared.errors.SessionError.TheVariants.{Refused, Memory}
 
 -- `error LINE KIND` and a line feed
 abbrev pub refused_text : ℕ → List ℕ → List ℕ
@@ -24,20 +21,26 @@ refused_text n kind = codes "error " ++ decimal n ++ codes " " ++ kind ++ codes 
 abbrev pub TellsRefusal : ℕ → List ℕ → List ℕ → List ℕ → Bool → Type 0
 TellsRefusal n kind before after refused = (after ≡ before ++ refused_text n kind) × (refused ≡ true)
 
--- nothing was told
-abbrev pub TellsNothing : List ℕ → List ℕ → Bool → Type 0
-TellsNothing before after refused = (after ≡ before) × (refused ≡ false)
+-- why a session refused a call was told
+abbrev pub TellsError : SessionError → ℕ → List ℕ → List ℕ → Bool → Type 0
+TellsError (Refused reason) n before after refused = TellsRefusal n (session_refusal_text reason) before after refused
+TellsError Memory n before after refused = ⊥
 
--- the answer to a command was told: nothing where it was accepted, or its refusal
-abbrev pub TellsAnswer : Result Changed CommandError → ℕ → List ℕ → List ℕ → Bool → Type 0
-TellsAnswer (Ok changed) n before after refused = TellsNothing before after refused
-TellsAnswer (Err (Refused reason)) n before after refused = TellsRefusal n (refusal_text reason) before after refused
-TellsAnswer (Err Memory) n before after refused = ⊥
+-- behind what an accepted command prints itself, the events that wait were told, and none wait any more
+pub record TellsAccepted (own : List ℕ) (old new : SessionState) (before after : List ℕ) (refused : Bool) : Type 0 where
+  pub session_left : new ≡ after_events old
+  pub printed : after ≡ before ++ (own ++ flat_map event_text (events old))
+  pub answered : refused ≡ false
 
--- the answer to `new` was told: the handle of the entity born, or its refusal
-abbrev pub TellsBorn : Result Changed CommandError → ℕ → List ℕ → List ℕ → Bool → Type 0
-TellsBorn (Ok changed) n before after refused = (after ≡ before ++ own_text MakeFresh changed.born) × (refused ≡ false)
-TellsBorn (Err e) n before after refused = TellsAnswer (Err e) n before after refused
+-- the answer to a command was told: its events where it was accepted, or its refusal
+abbrev pub TellsAnswer : Result (Option EntityId) SessionError → ℕ → SessionState → SessionState → List ℕ → List ℕ → Bool → Type 0
+TellsAnswer (Ok born) n old new before after refused = TellsAccepted [] old new before after refused
+TellsAnswer (Err error) n old new before after refused = TellsError error n before after refused × (new ≡ old)
+
+-- the answer to `new` was told: the handle of the entity born and the events, or its refusal
+abbrev pub TellsBorn : Result (Option EntityId) SessionError → ℕ → SessionState → SessionState → List ℕ → List ℕ → Bool → Type 0
+TellsBorn (Ok born) n old new before after refused = TellsAccepted (own_text (InWorld MakeFresh) born) old new before after refused
+TellsBorn (Err error) n old new before after refused = TellsAnswer (Err error) n old new before after refused
 
 -- the entity and the id of references were found, or the line is refused: so for each command of an entity and an id
 abbrev pub FindsBoth : WorldState → EntityRef → IdRef → Result (EntityId × Id) Refusal → Type 0

@@ -1,5 +1,4 @@
 //! Why a script was not run to its end.
-use ecs_world::Memory;
 use script_streams::{Fault, FillError};
 use std::alloc::AllocError;
 use thiserror::Error;
@@ -28,17 +27,6 @@ impl From<AllocError> for RunError {
     ghost from_gives = { λ _ e. e ≡ Memory };
 
     fn from(_error: AllocError) -> RunError {
-        RunError::Memory
-    }
-}
-
-impl From<Memory> for RunError {
-    ghost use Rattle.std.specs.Prelude.{◌≡◌};
-    ghost use Rattle.world_script.specs.declared.errors.RunError.TheVariants as run;
-
-    ghost from_gives = { λ _ e. e ≡ run.Memory };
-
-    fn from(_error: Memory) -> RunError {
         RunError::Memory
     }
 }

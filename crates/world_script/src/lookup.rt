@@ -3,7 +3,7 @@ ghost use Rattle.std.specs.Prelude.{◌≡◌, IfOk, IfSome, IsTrue};
 ghost use Rattle.std.specs.List.{list_any};
 ghost use Rattle.ecs_id.specs.Id.{IsIndex};
 ghost use Rattle.ecs_model.specs.World.{is_alive};
-ghost use Rattle.ecs_model.specs.Session.{entity_found, found, id_found, is_dead_handle, refs_of_id};
+ghost use Rattle.ecs_model.specs.Orders.{entity_found, found, id_found, is_dead_handle, refs_of_id};
 ghost use Rattle.script_line.specs.Line.{seen_id, seen_reference};
 ghost use Rattle.world_script.specs.Told.{FindsBoth};
 

@@ -1,16 +1,16 @@
 //! Running the lines of a script as they come.
-ghost use Rattle.std.specs.Prelude.{◌≡◌, ◌+◌, ◌≤◌, ◌⊎◌, List, Option, ℕ, [], Err, IfErr, IfOk, OnErr, OnOk, length};
+ghost use Rattle.std.specs.Prelude.{◌≡◌, ◌+◌, ◌≤◌, ◌⊎◌, List, None, Option, ℕ, [], Err, IfErr, IfOk, OnErr, OnOk, length};
 ghost use Rattle.std.specs.Io.KnownBytes.{Appends, IsAtEnd};
-ghost use Rattle.ecs_model.specs.Session.{first_session};
+ghost use Rattle.ecs_model.specs.stored.Session.{first_session};
+ghost use Rattle.ecs_observe.specs.Standing.{session_of};
 ghost use Rattle.script_streams.specs.Lines.{most_bytes};
 ghost use Rattle.script_streams.specs.Streams.{TakesFront};
 ghost use Rattle.world_script.specs.Running.{HasEnded, IsRunning};
-ghost use Rattle.world_script.specs.Told.{session_of};
 ghost use Rattle.world_script.specs.Whole.{FaultyAt, FitsScript, IsCount, IsOutput, WroteFront, WroteFull, WroteToEnd, WroteWhole};
 
 use crate::errors::RunError;
 use crate::lines::{Summary, run_next};
-use ecs_world::World;
+use ecs_observe::Session;
 use script_streams::{Lines, Sink, Source, write_all};
 use std::alloc::{AllocError, Allocator};
 use std::hash::RandomState;
@@ -18,10 +18,10 @@ use std::hash::RandomState;
 /// Output that is longer is written before the next line is run.
 const MOST_OUTPUT: usize = 65_536;
 
-/// A script as it runs: the world, the lines that come, and the output that isn't written yet.
+/// A script as it runs: the session, the lines that come, and the output that isn't written yet.
 #[derive(Drop)]
 pub(crate) struct Runner<A: Allocator> {
-    world: World<A>,
+    session: Session<A>,
     lines: Lines<A>,
     summary: Summary,
     /// The values of a line.
@@ -30,17 +30,20 @@ pub(crate) struct Runner<A: Allocator> {
 }
 
 impl<A: Allocator + Copy> Runner<A> {
-    /// A new world, and no line yet.
+    /// A new session, and no line yet.
     pub(crate) fn new(alloc: A, random: RandomState) -> Result<Self, RunError>
         ensures lines { IfOk result (λ r. r.lines ≡ record { line = []; front = []; unread = []; read = 0 }) }
-        ensures world { IfOk result (λ r. session_of (r.world).state ≡ first_session) }
+        ensures session { IfOk result (λ r. session_of r.session ≡ first_session) }
+        ensures none_wait { IfOk result (λ r. (r.session).waiting ≡ None) }
         ensures summary { IfOk result (λ r. r.summary ≡ record { lines = 0; refused = 0 }) }
         ensures output { IfOk result (λ r. (r.output).items ≡ []) }
         ensures memory { IfErr result (λ error. error ≡ RunError.Memory) }
     {
+        let lines = Lines::new(alloc)?;
+        let session = Session::new(alloc, random)?;
         Ok(Runner {
-            world: World::new(alloc, random)?,
-            lines: Lines::new(alloc)?,
+            session,
+            lines,
             summary: Summary {
                 lines: 0,
                 refused: 0,
@@ -57,8 +60,9 @@ impl<A: Allocator + Copy> Runner<A> {
         reader: &mut R,
         writer: &mut W,
     ) -> Result<(), RunError>
-        requires { IsRunning (R.remaining reader.old) (R.remaining reader.old) (W.contents writer.old) (W.contents writer.old)
-            self.old.lines (session_of self.old.world.state) self.old.summary self.old.output.items }
+        requires none_wait { self.old.session.waiting ≡ None }
+        requires running { IsRunning (R.remaining reader.old) (R.remaining reader.old) (W.contents writer.old) (W.contents writer.old)
+            self.old.lines (session_of self.old.session) self.old.summary self.old.output.items }
         ensures output { OnOk result (IsOutput (R.remaining reader.old) (W.contents writer.old) (W.contents writer.new)) }
         ensures count { OnOk result (IsCount (R.remaining reader.old) self.new.summary) }
         ensures fits { OnOk result (FitsScript (R.remaining reader.old)) }
@@ -88,25 +92,27 @@ impl<A: Allocator + Copy> Runner<A> {
 
     /// Runs the lines whose ends have come, and writes what they print.
     fn run_ended<W: Sink>(&mut self, alloc: A, writer: &mut W) -> Result<(), RunError>
+        requires none_wait { self.old.session.waiting ≡ None }
         requires room { self.old.summary.lines + length self.old.lines.unread ≤ most_bytes }
         requires few { self.old.summary.refused ≤ self.old.summary.lines }
         ensures ran { (told left old : Option (List ℕ))
-            → IsRunning told left old (W.contents writer.old) self.old.lines (session_of self.old.world.state) self.old.summary self.old.output.items
+            → IsRunning told left old (W.contents writer.old) self.old.lines (session_of self.old.session) self.old.summary self.old.output.items
             → OnOk result (IsRunning told left old (W.contents writer.new)
-            self.new.lines (session_of self.new.world.state) self.new.summary self.new.output.items) }
+            self.new.lines (session_of self.new.session) self.new.summary self.new.output.items) }
+        ensures none_wait { OnOk result (self.new.session.waiting ≡ None) }
         ensures taken { OnOk result (self.new.lines.unread ≡ []) }
         ensures written { OnOk result (self.new.output.items ≡ []) }
         ensures read { self.new.lines.read ≡ self.old.lines.read }
         ensures fault { IfErr result (λ error. (error ≡ RunError.Memory) ⊎ (error ≡ RunError.Write)) }
         ensures front { (told left old : Option (List ℕ))
-            → IsRunning told left old (W.contents writer.old) self.old.lines (session_of self.old.world.state) self.old.summary self.old.output.items
+            → IsRunning told left old (W.contents writer.old) self.old.lines (session_of self.old.session) self.old.summary self.old.output.items
             → OnErr result (WroteFront told left old (W.contents writer.new)) }
         ensures writes { FaultyAt RunError.Write (W.calls writer.old) result (W.calls writer.new) }
     {
         while self.lines.take_line()? {
             run_next(
                 alloc,
-                &mut self.world,
+                &mut self.session,
                 &mut self.summary,
                 self.lines.line(),
                 &mut self.values,
@@ -121,11 +127,12 @@ impl<A: Allocator + Copy> Runner<A> {
 
     /// Runs the line behind the last line feed, if it isn't empty.
     fn run_last(&mut self, alloc: A) -> Result<(), AllocError>
+        requires none_wait { self.old.session.waiting ≡ None }
         requires room { self.old.summary.lines ≤ most_bytes }
         requires few { self.old.summary.refused ≤ self.old.summary.lines }
         requires taken { self.old.lines.unread ≡ [] }
         ensures { (told left old new : Option (List ℕ))
-            → IsRunning told left old new self.old.lines (session_of self.old.world.state) self.old.summary self.old.output.items
+            → IsRunning told left old new self.old.lines (session_of self.old.session) self.old.summary self.old.output.items
             → OnOk result (HasEnded told left old new self.new.summary self.new.output.items) }
     {
         if self.lines.front().is_empty() {
@@ -133,7 +140,7 @@ impl<A: Allocator + Copy> Runner<A> {
         }
         run_next(
             alloc,
-            &mut self.world,
+            &mut self.session,
             &mut self.summary,
             self.lines.front(),
             &mut self.values,

@@ -10,7 +10,7 @@ use script_streams::{Sink, Source};
 use std::alloc::Allocator;
 use std::hash::RandomState;
 
-/// Runs the lines of a script in a new world, each when its end was read, and writes what they print before it reads on.
+/// Runs the lines of a script in a new session, each when its end was read, and writes what they print before it reads on.
 ///
 /// Names are hashed with these random keys, so that no script can choose names that make it slow.
 ///

@@ -1,20 +1,22 @@
 //! What a session does with a line.
-ghost use Rattle.std.specs.Prelude.{map, IfOk};
-ghost use Rattle.ecs_model.specs.Script.{Obey, Define, Show, Ask};
-ghost use Rattle.ecs_model.specs.Session.{MakeFresh, MakeEntity, AddTo, SetIn, RemoveFrom, DeleteOne};
+ghost use Rattle.std.specs.Prelude.{◌≡◌, map, IfOk, None, OnOk};
+ghost use Rattle.ecs_model.specs.Orders.{MakeFresh, MakeEntity, AddTo, SetIn, RemoveFrom, DeleteOne};
+ghost use Rattle.ecs_model.specs.Script.{Obey, Define, Show, Ask, AskKept};
 ghost use Rattle.ecs_model.specs.Output.{effect_of};
-ghost use Rattle.script_line.specs.Line.{seen_field, seen_id, seen_reference};
+ghost use Rattle.ecs_model.specs.stored.Session.{Drop, InWorld, Store};
+ghost use Rattle.ecs_observe.specs.Standing.{session_of};
+ghost use Rattle.script_line.specs.Line.{seen, seen_field, seen_id, seen_reference};
 ghost use Rattle.world_script.specs.Run.{IsDone, line_effect};
-ghost use Rattle.world_script.specs.Told.{session_of};
 
 use crate::lookup::{find_both, find_entity};
 use crate::showing::show_entity;
 use crate::telling::{
-    refuse, refuse_command, refuse_query, schema_fault_word, tell_answer, tell_born,
+    refuse, refuse_in_world, refuse_query, schema_fault_word, tell_answer, tell_born, tell_error,
 };
 use ecs_model::Kind;
+use ecs_model::watches::StoredKind;
+use ecs_observe::Session;
 use ecs_schema::{Schema, SchemaError};
-use ecs_world::World;
 use query_model::faults::QueryFault;
 use script_line::{IdReference, Line, Reference, read_line};
 use std::alloc::{AllocError, Allocator};
@@ -23,77 +25,96 @@ use world_query::{read_query, write_rows};
 /// Does what a line says, adds what it prints to the output, and answers whether it was refused. What stands in `values` is lost.
 pub(crate) fn run_line<A: Allocator + Copy>(
     alloc: A,
-    world: &mut World<A>,
+    session: &mut Session<A>,
     number: usize,
     line: &[u8],
     values: &mut Vec<i128, A>,
     output: &mut Vec<u8, A>,
 ) -> Result<bool, AllocError>
-    ensures { IfOk result (IsDone (line_effect (session_of world.old.state) number line.now) (session_of world.new.state) output.old.items output.new.items) }
+    requires none_wait { session.old.waiting ≡ None }
+    ensures done { IfOk result (IsDone (line_effect (session_of session.old) number line.now) (session_of session.new) output.old.items output.new.items) }
+    ensures none_wait { OnOk result (session.new.waiting ≡ None) }
 {
-    match read_line(alloc, line, values)? {
+    let form = read_line(alloc, line, values)?;
+    run_form(alloc, session, number, form, values.as_slice(), output)
+}
+
+/// Does what a line that was read says, with the values of a `set`.
+fn run_form<A: Allocator + Copy>(
+    alloc: A,
+    session: &mut Session<A>,
+    number: usize,
+    line: Line<'_, A>,
+    values: &[i128],
+    output: &mut Vec<u8, A>,
+) -> Result<bool, AllocError>
+    requires none_wait { session.old.waiting ≡ None }
+    ensures { IfOk result (IsDone (effect_of (session_of session.old) number (seen values.now line.entry)) (session_of session.new) output.old.items output.new.items) }
+{
+    match line {
         Line::Nothing => Ok(false),
         Line::TooLong => refuse(number, "LineTooLong", output),
         Line::Bad => refuse(number, "BadLine", output),
-        Line::New => run_new(world, number, output),
-        Line::Entity { name } => run_entity(world, number, name, output),
+        Line::New => run_new(session, number, output),
+        Line::Entity { name } => run_entity(session, number, name, output),
         Line::Component { name, fields } => {
-            run_component(alloc, world, number, name, fields.as_slice(), output)
+            run_component(alloc, session, number, name, fields.as_slice(), output)
         }
-        Line::Add { entity, id } => run_add(world, number, entity, id, output),
-        Line::Set { entity, id } => {
-            run_set(world, number, entity, id, values.as_slice(), output)
-        }
-        Line::Remove { entity, id } => run_remove(world, number, entity, id, output),
-        Line::Delete { entity } => run_delete(world, number, entity, output),
-        Line::Show { entity } => run_show(world, number, entity, output),
-        Line::Query { text } => run_query(alloc, world, number, text, output),
+        Line::Add { entity, id } => run_add(session, number, entity, id, output),
+        Line::Set { entity, id } => run_set(session, number, entity, id, values, output),
+        Line::Remove { entity, id } => run_remove(session, number, entity, id, output),
+        Line::Delete { entity } => run_delete(session, number, entity, output),
+        Line::Show { entity } => run_show(session, number, entity, output),
+        Line::Query { text } => run_query(alloc, session, number, text, output),
+        Line::Store { kind, name, text } => run_store(session, number, kind, name, text, output),
+        Line::Rows { name } => run_rows(session, number, name, output),
+        Line::Drop { name } => run_drop(session, number, name, output),
     }
 }
 
 /// `new`
 fn run_new<A: Allocator + Copy>(
-    world: &mut World<A>,
+    session: &mut Session<A>,
     number: usize,
     output: &mut Vec<u8, A>,
 ) -> Result<bool, AllocError>
-    ensures { IfOk result (IsDone (effect_of (session_of world.old.state) number (Obey MakeFresh))
-        (session_of world.new.state) output.old.items output.new.items) }
+    ensures { IfOk result (IsDone (effect_of (session_of session.old) number (Obey (InWorld MakeFresh)))
+        (session_of session.new) output.old.items output.new.items) }
 {
-    let answer = world.fresh();
-    tell_born(number, answer, output)
+    let answer = session.fresh();
+    tell_born(session, number, answer, output)
 }
 
 /// `entity N`
 fn run_entity<A: Allocator + Copy>(
-    world: &mut World<A>,
+    session: &mut Session<A>,
     number: usize,
     name: &str,
     output: &mut Vec<u8, A>,
 ) -> Result<bool, AllocError>
-    ensures { IfOk result (IsDone (effect_of (session_of world.old.state) number (Obey (MakeEntity name.now)))
-        (session_of world.new.state) output.old.items output.new.items) }
+    ensures { IfOk result (IsDone (effect_of (session_of session.old) number (Obey (InWorld (MakeEntity name.now))))
+        (session_of session.new) output.old.items output.new.items) }
 {
-    let answer = world.entity(name);
-    tell_answer(number, answer, output)
+    let answer = session.entity(name);
+    tell_answer(session, number, answer, output)
 }
 
 /// `component N f:kind ..`
 fn run_component<A: Allocator + Copy>(
     alloc: A,
-    world: &mut World<A>,
+    session: &mut Session<A>,
     number: usize,
     name: &str,
     fields: &[(&str, Kind)],
     output: &mut Vec<u8, A>,
 ) -> Result<bool, AllocError>
-    ensures { IfOk result (IsDone (effect_of (session_of world.old.state) number (Define name.now (map seen_field fields.now)))
-        (session_of world.new.state) output.old.items output.new.items) }
+    ensures { IfOk result (IsDone (effect_of (session_of session.old) number (Define name.now (map seen_field fields.now)))
+        (session_of session.new) output.old.items output.new.items) }
 {
     match Schema::new(alloc, fields) {
         Ok(schema) => {
-            let answer = world.component(name, schema);
-            tell_answer(number, answer, output)
+            let answer = session.component(name, schema);
+            tell_answer(session, number, answer, output)
         }
         Err(SchemaError::Fault(fault)) => refuse(number, schema_fault_word(fault), output),
         Err(SchemaError::Memory) => Err(AllocError),
@@ -102,96 +123,101 @@ fn run_component<A: Allocator + Copy>(
 
 /// `add E ID`
 fn run_add<A: Allocator + Copy>(
-    world: &mut World<A>,
+    session: &mut Session<A>,
     number: usize,
     entity: Reference<'_>,
     id: IdReference<'_>,
     output: &mut Vec<u8, A>,
 ) -> Result<bool, AllocError>
-    ensures { IfOk result (IsDone (effect_of (session_of world.old.state) number (Obey (AddTo (seen_reference entity.entry) (seen_id id.entry))))
-        (session_of world.new.state) output.old.items output.new.items) }
+    requires none_wait { session.old.waiting ≡ None }
+    ensures { IfOk result (IsDone (effect_of (session_of session.old) number (Obey (InWorld (AddTo (seen_reference entity.entry) (seen_id id.entry)))))
+        (session_of session.new) output.old.items output.new.items) }
 {
-    match find_both(world, entity, id) {
-        Err(refusal) => refuse_command(number, refusal, output),
+    match find_both(session.world(), entity, id) {
+        Err(refusal) => refuse_in_world(number, refusal, output),
         Ok(both) => {
-            let answer = world.add(both.0, both.1);
-            tell_answer(number, answer, output)
+            let answer = session.add(both.0, both.1);
+            tell_answer(session, number, answer, output)
         }
     }
 }
 
 /// `set E ID v ..`
 fn run_set<A: Allocator + Copy>(
-    world: &mut World<A>,
+    session: &mut Session<A>,
     number: usize,
     entity: Reference<'_>,
     id: IdReference<'_>,
     values: &[i128],
     output: &mut Vec<u8, A>,
 ) -> Result<bool, AllocError>
-    ensures { IfOk result (IsDone (effect_of (session_of world.old.state) number (Obey (SetIn (seen_reference entity.entry) (seen_id id.entry) values.now)))
-        (session_of world.new.state) output.old.items output.new.items) }
+    requires none_wait { session.old.waiting ≡ None }
+    ensures { IfOk result (IsDone (effect_of (session_of session.old) number (Obey (InWorld (SetIn (seen_reference entity.entry) (seen_id id.entry) values.now))))
+        (session_of session.new) output.old.items output.new.items) }
 {
-    match find_both(world, entity, id) {
-        Err(refusal) => refuse_command(number, refusal, output),
+    match find_both(session.world(), entity, id) {
+        Err(refusal) => refuse_in_world(number, refusal, output),
         Ok(both) => {
-            let answer = world.set(both.0, both.1, values);
-            tell_answer(number, answer, output)
+            let answer = session.set(both.0, both.1, values);
+            tell_answer(session, number, answer, output)
         }
     }
 }
 
 /// `remove E ID`
 fn run_remove<A: Allocator + Copy>(
-    world: &mut World<A>,
+    session: &mut Session<A>,
     number: usize,
     entity: Reference<'_>,
     id: IdReference<'_>,
     output: &mut Vec<u8, A>,
 ) -> Result<bool, AllocError>
-    ensures { IfOk result (IsDone (effect_of (session_of world.old.state) number (Obey (RemoveFrom (seen_reference entity.entry) (seen_id id.entry))))
-        (session_of world.new.state) output.old.items output.new.items) }
+    requires none_wait { session.old.waiting ≡ None }
+    ensures { IfOk result (IsDone (effect_of (session_of session.old) number (Obey (InWorld (RemoveFrom (seen_reference entity.entry) (seen_id id.entry)))))
+        (session_of session.new) output.old.items output.new.items) }
 {
-    match find_both(world, entity, id) {
-        Err(refusal) => refuse_command(number, refusal, output),
+    match find_both(session.world(), entity, id) {
+        Err(refusal) => refuse_in_world(number, refusal, output),
         Ok(both) => {
-            let answer = world.remove(both.0, both.1);
-            tell_answer(number, answer, output)
+            let answer = session.remove(both.0, both.1);
+            tell_answer(session, number, answer, output)
         }
     }
 }
 
 /// `delete E`
 fn run_delete<A: Allocator + Copy>(
-    world: &mut World<A>,
+    session: &mut Session<A>,
     number: usize,
     entity: Reference<'_>,
     output: &mut Vec<u8, A>,
 ) -> Result<bool, AllocError>
-    ensures { IfOk result (IsDone (effect_of (session_of world.old.state) number (Obey (DeleteOne (seen_reference entity.entry))))
-        (session_of world.new.state) output.old.items output.new.items) }
+    requires none_wait { session.old.waiting ≡ None }
+    ensures { IfOk result (IsDone (effect_of (session_of session.old) number (Obey (InWorld (DeleteOne (seen_reference entity.entry)))))
+        (session_of session.new) output.old.items output.new.items) }
 {
-    match find_entity(world, entity) {
-        Err(refusal) => refuse_command(number, refusal, output),
+    match find_entity(session.world(), entity) {
+        Err(refusal) => refuse_in_world(number, refusal, output),
         Ok(found) => {
-            let answer = world.delete(found);
-            tell_answer(number, answer, output)
+            let answer = session.delete(found);
+            tell_answer(session, number, answer, output)
         }
     }
 }
 
 /// `show E`
 fn run_show<A: Allocator + Copy>(
-    world: &World<A>,
+    session: &Session<A>,
     number: usize,
     entity: Reference<'_>,
     output: &mut Vec<u8, A>,
 ) -> Result<bool, AllocError>
-    ensures { IfOk result (IsDone (effect_of (session_of world.now.state) number (Show (seen_reference entity.entry)))
-        (session_of world.now.state) output.old.items output.new.items) }
+    ensures { IfOk result (IsDone (effect_of (session_of session.now) number (Show (seen_reference entity.entry)))
+        (session_of session.now) output.old.items output.new.items) }
 {
+    let world = session.world();
     match find_entity(world, entity) {
-        Err(refusal) => refuse_command(number, refusal, output),
+        Err(refusal) => refuse_in_world(number, refusal, output),
         Ok(found) => {
             show_entity(world, found, output)?;
             Ok(false)
@@ -202,14 +228,15 @@ fn run_show<A: Allocator + Copy>(
 /// `query TEXT`
 fn run_query<A: Allocator + Copy>(
     alloc: A,
-    world: &World<A>,
+    session: &Session<A>,
     number: usize,
     text: &str,
     output: &mut Vec<u8, A>,
 ) -> Result<bool, AllocError>
-    ensures { IfOk result (IsDone (effect_of (session_of world.now.state) number (Ask text.now))
-        (session_of world.now.state) output.old.items output.new.items) }
+    ensures { IfOk result (IsDone (effect_of (session_of session.now) number (Ask text.now))
+        (session_of session.now) output.old.items output.new.items) }
 {
+    let world = session.world();
     let query = match read_query(alloc, world, text) {
         Ok(query) => query,
         Err(QueryFault::Fault(fault)) => return refuse_query(number, fault, output),
@@ -217,4 +244,50 @@ fn run_query<A: Allocator + Copy>(
     };
     write_rows(alloc, world, &query, output)?;
     Ok(false)
+}
+
+/// `keep N TEXT`, `monitor N TEXT` and `on EVENT N TEXT`
+fn run_store<A: Allocator + Copy>(
+    session: &mut Session<A>,
+    number: usize,
+    kind: StoredKind,
+    name: &str,
+    text: &str,
+    output: &mut Vec<u8, A>,
+) -> Result<bool, AllocError>
+    ensures { IfOk result (IsDone (effect_of (session_of session.old) number (Obey (Store kind name.now text.now)))
+        (session_of session.new) output.old.items output.new.items) }
+{
+    let answer = session.store(kind, name, text);
+    tell_answer(session, number, answer, output)
+}
+
+/// `rows N`
+fn run_rows<A: Allocator + Copy>(
+    session: &Session<A>,
+    number: usize,
+    name: &str,
+    output: &mut Vec<u8, A>,
+) -> Result<bool, AllocError>
+    ensures { IfOk result (IsDone (effect_of (session_of session.now) number (AskKept name.now))
+        (session_of session.now) output.old.items output.new.items) }
+{
+    match session.write_kept_rows(name, output) {
+        Ok(()) => Ok(false),
+        Err(error) => tell_error(number, error, output),
+    }
+}
+
+/// `drop N`
+fn run_drop<A: Allocator + Copy>(
+    session: &mut Session<A>,
+    number: usize,
+    name: &str,
+    output: &mut Vec<u8, A>,
+) -> Result<bool, AllocError>
+    ensures { IfOk result (IsDone (effect_of (session_of session.old) number (Obey (Drop name.now)))
+        (session_of session.new) output.old.items output.new.items) }
+{
+    let answer = session.drop_stored(name);
+    tell_answer(session, number, answer, output)
 }

@@ -1,12 +1,17 @@
 //! What lines that are refused print, and what commands print.
-ghost use Rattle.std.specs.Prelude.{◌≡◌, ◌++◌, Err, OnOk, IfOk, codes, decimal};
+ghost use Rattle.std.specs.Prelude.{◌≡◌, ◌++◌, Err, OnOk, IfOk, codes, decimal, flat_map};
 ghost use Rattle.ecs_model.specs.Print.{fault_text, fault_word};
 ghost use Rattle.ecs_model.specs.Refusal.{refusal_text, schema_fault_text};
-ghost use Rattle.world_script.specs.Told.{refused_text, TellsRefusal, TellsAnswer, TellsBorn};
+ghost use Rattle.ecs_model.specs.stored.Refusal.{session_refusal_text};
+ghost use Rattle.ecs_model.specs.stored.Session.{after_events, events};
+ghost use Rattle.ecs_model.specs.stored.Watches.{event_text};
+ghost use Rattle.ecs_observe.specs.Standing.{session_of};
+ghost use Rattle.world_script.specs.Told.{refused_text, TellsAnswer, TellsBorn, TellsError, TellsRefusal};
 
-use ecs_model::faults::{CommandError, Refusal, SchemaFault};
+use ecs_id::EntityId;
+use ecs_model::faults::{Refusal, SchemaFault, SessionRefusal};
+use ecs_observe::{Event, Session, SessionError, write_event};
 use ecs_print::{write_handle, write_number};
-use ecs_world::Changes;
 use query_model::faults::{Fault, FaultKind};
 use std::alloc::{AllocError, Allocator};
 
@@ -24,8 +29,26 @@ pub(crate) fn refuse<A: Allocator>(
     Ok(true)
 }
 
-/// Tells that a command is refused.
-pub(crate) fn refuse_command<A: Allocator>(
+/// Tells that a command is refused, or a kept query.
+fn refuse_command<A: Allocator>(
+    number: usize,
+    refusal: SessionRefusal,
+    output: &mut Vec<u8, A>,
+) -> Result<bool, AllocError>
+    ensures { IfOk result (TellsRefusal number (session_refusal_text refusal) output.old.items output.new.items) }
+{
+    match refusal {
+        SessionRefusal::OfWorld(refusal) => refuse_in_world(number, refusal, output),
+        SessionRefusal::EventsPending => refuse(number, "EventsPending", output),
+        SessionRefusal::UnknownQuery => refuse(number, "UnknownQuery", output),
+        SessionRefusal::QueryTaken => refuse(number, "QueryTaken", output),
+        SessionRefusal::TooManyStored => refuse(number, "TooManyStored", output),
+        SessionRefusal::Faulty(fault) => refuse_query(number, fault, output),
+    }
+}
+
+/// Tells that a line is refused as the world refuses it.
+pub(crate) fn refuse_in_world<A: Allocator>(
     number: usize,
     refusal: Refusal,
     output: &mut Vec<u8, A>,
@@ -49,51 +72,83 @@ pub(crate) fn refuse_query<A: Allocator>(
     Ok(true)
 }
 
-/// Tells what a world answered to a command: nothing where it was accepted.
-pub(crate) fn tell_answer<A: Allocator>(
+/// Tells what a session answered to a command: the events that wait where it was accepted. After that none wait.
+pub(crate) fn tell_answer<A: Allocator + Copy>(
+    session: &mut Session<A>,
     number: usize,
-    answer: Result<Changes<A>, CommandError>,
+    answer: Result<Option<EntityId>, SessionError>,
     output: &mut Vec<u8, A>,
 ) -> Result<bool, AllocError>
-    ensures { IfOk result (TellsAnswer answer number output.old.items output.new.items) }
+    ensures { IfOk result (TellsAnswer answer number (session_of session.old) (session_of session.new) output.old.items output.new.items) }
 {
-    match answer {
-        Ok(_) => Ok(false),
-        Err(error) => tell_error(number, error, output),
+    if let Err(error) = answer {
+        return tell_error(number, error, output);
     }
-}
-
-/// Tells what a world answered to `new`: the entity that it made.
-pub(crate) fn tell_born<A: Allocator>(
-    number: usize,
-    answer: Result<Changes<A>, CommandError>,
-    output: &mut Vec<u8, A>,
-) -> Result<bool, AllocError>
-    ensures { IfOk result (TellsBorn answer number output.old.items output.new.items) }
-{
-    let changes = match answer {
-        Ok(changes) => changes,
-        Err(error) => return tell_error(number, error, output),
-    };
-    if let Some(entity) = changes.born() {
-        write_handle(entity, output)?;
-        output.extend_from_slice(b"\n")?;
-    }
+    tell_events(session, output)?;
     Ok(false)
 }
 
-/// Tells why a world did not accept a command.
-fn tell_error<A: Allocator>(
+/// Tells what a session answered to `new`: the entity that it made, and then the events that wait. After that none wait.
+pub(crate) fn tell_born<A: Allocator + Copy>(
+    session: &mut Session<A>,
     number: usize,
-    error: CommandError,
+    answer: Result<Option<EntityId>, SessionError>,
     output: &mut Vec<u8, A>,
 ) -> Result<bool, AllocError>
-    ensures { IfOk result (TellsAnswer (Err error) number output.old.items output.new.items) }
+    ensures { IfOk result (TellsBorn answer number (session_of session.old) (session_of session.new) output.old.items output.new.items) }
+{
+    let born = match answer {
+        Ok(born) => born,
+        Err(error) => return tell_error(number, error, output),
+    };
+    if let Some(entity) = born {
+        write_handle(entity, output)?;
+        output.extend_from_slice(b"\n")?;
+    }
+    tell_events(session, output)?;
+    Ok(false)
+}
+
+/// Tells why a session did not do what it was called for.
+pub(crate) fn tell_error<A: Allocator>(
+    number: usize,
+    error: SessionError,
+    output: &mut Vec<u8, A>,
+) -> Result<bool, AllocError>
+    ensures { IfOk result (TellsError error number output.old.items output.new.items) }
 {
     match error {
-        CommandError::Refused(refusal) => refuse_command(number, refusal, output),
-        CommandError::Memory => Err(AllocError),
+        SessionError::Refused(refusal) => refuse_command(number, refusal, output),
+        SessionError::Memory => Err(AllocError),
     }
+}
+
+/// Prints the events that wait, if any do. After that none wait.
+fn tell_events<A: Allocator + Copy>(
+    session: &mut Session<A>,
+    output: &mut Vec<u8, A>,
+) -> Result<(), AllocError>
+    ensures printed { OnOk result (output.new.items ≡ output.old.items ++ flat_map event_text (events (session_of session.old))) }
+    ensures after { OnOk result (session_of session.new ≡ after_events (session_of session.old)) }
+{
+    if !session.has_events() {
+        return Ok(());
+    }
+    let events = session.events()?;
+    print_events(events.as_slice(), output)
+}
+
+/// Prints the lines of events.
+fn print_events<A: Allocator>(
+    events: &[Event<A>],
+    output: &mut Vec<u8, A>,
+) -> Result<(), AllocError>
+    ensures { OnOk result (output.new.items ≡ output.old.items ++ flat_map event_text events.now) }
+{
+    for event in events {
+        write_event(event, output)?;
+    }
+    Ok(())
 }
 
 /// Prints `error LINE `.

@@ -8,10 +8,10 @@ use Rattle.world_script.proofs.runs.run.Goals as goal
 pub returns-in_err-runner-clause-memory : goal.returns-in_err-runner-clause-memory
 returns-in_err-runner-clause-memory g c = λ _. WroteFront-none _ _
 
-pub run_script-requires : goal.run_script-requires
-run_script-requires g c =
+pub run_script-requires-clause-running : goal.run_script-requires-clause-running
+run_script-requires-clause-running g c =
     let new = c.in_ok-runner.ensures in
-    IsRunning-start _ _ c.in_ok-runner.runner.lines _ c.in_ok-runner.runner.summary _ new.lines new.world new.summary new.output
+    IsRunning-start _ _ c.in_ok-runner.runner.lines _ c.in_ok-runner.runner.summary _ new.lines new.session new.summary new.output
 
 pub returns-in_err-run_script-clause-read : goal.returns-in_err-run_script-clause-read
 returns-in_err-run_script-clause-read g c = λ is.

@@ -4,10 +4,10 @@ use Rattle.world_script.proofs.sessions.run_add.Goals as goal
 
 pub returns-in-Err : goal.returns-in-Err
 returns-in-Err g c =
-    IfOk-add_unfound c.refuse_command.result c.args.world.now.state c.args.number c.args.output.now.items c.refuse_command.new.output.items
-    c.in-Err.refusal (seen_reference c.args.entity) (seen_id c.args.id) c.in-Err.ensures c.refuse_command.ensures
+    IfOk-add_unfound c.refuse_in_world.result c.args.session.now c.args.number c.args.output.now.items c.refuse_in_world.new.output.items
+    c.world.result.now (seen_reference c.args.entity) (seen_id c.args.id) c.in-Err.refusal c.requires.none_wait c.world.ensures c.in-Err.ensures c.refuse_in_world.ensures
 
 pub returns-in-Ok : goal.returns-in-Ok
 returns-in-Ok g c =
-    IfOk-add c.tell_answer.result c.args.world.now.state c.add-answer.new.self.state c.args.number c.args.output.now.items c.tell_answer.new.output.items
-    c.add-answer.result (seen_reference c.args.entity) (seen_id c.args.id) c.in-Ok.both c.in-Ok.ensures c.add-answer.ensures.answers c.tell_answer.ensures
+    IfOk-add c.tell_answer.result c.args.session.now c.add-answer.new.self c.tell_answer.new.session c.args.number c.args.output.now.items c.tell_answer.new.output.items
+    c.add-answer.result c.world.result.now (seen_reference c.args.entity) (seen_id c.args.id) c.in-Ok.both c.world.ensures c.in-Ok.ensures c.add-answer.ensures c.tell_answer.ensures

@@ -1,19 +1,20 @@
-use Rattle.std.proofs.Common.{Err, refl, ap, subst}
+use Rattle.std.proofs.Common.{Err, ap, subst}
 use Rattle.std.specs.Prelude.{map}
 use Rattle.ecs_model.specs.Schema.{Schema}
-use Rattle.ecs_model.specs.Command.{AnswersStep}
-use Rattle.ecs_model.specs.traits.Command.{Component, step}
+use Rattle.ecs_model.specs.traits.Command.{Component}
+use Rattle.ecs_observe.specs.Answers.{AnswersApply, obeyed}
+use Rattle.ecs_observe.specs.Standing.{session_of}
 use Rattle.script_line.specs.Line.{seen_field}
 use Rattle.world_script.proofs.Orders.{IfOk-component, IfOk-no_schema}
 use Rattle.world_script.proofs.sessions.run_component.Goals as goal
 
 pub returns-in-Ok : goal.returns-in-Ok
 returns-in-Ok g c =
-    let P : Schema → Type 0 = λ s. AnswersStep c.component-answer.result (step c.args.world.now.state (Component c.args.name.now s)) c.args.world.now.state c.component-answer.new.self.state in
-    IfOk-component c.tell_answer.result c.args.world.now.state c.component-answer.new.self.state c.args.number c.args.output.now.items c.tell_answer.new.output.items
-    c.args.name.now (map seen_field c.args.fields.now) c.component-answer.result (c.in-Ok.ensures.sound, subst P c.in-Ok.ensures.made c.component-answer.ensures.answers) c.tell_answer.ensures
+    let P : Schema → Type 0 = λ s. AnswersApply c.component-answer.result (obeyed (session_of c.args.session.now) (Component c.args.name.now s)) c.args.session.now c.component-answer.new.self in
+    IfOk-component c.tell_answer.result c.args.session.now c.component-answer.new.self c.tell_answer.new.session c.args.number c.args.output.now.items c.tell_answer.new.output.items
+    c.component-answer.result c.args.name.now (map seen_field c.args.fields.now) c.in-Ok.ensures.sound (subst P c.in-Ok.ensures.made c.component-answer.ensures) c.tell_answer.ensures
 
 pub returns-in-Err-Fault : goal.returns-in-Err-Fault
 returns-in-Err-Fault g c =
-    IfOk-no_schema c.refuse.result c.args.world.now.state c.args.world.now.state c.args.number c.args.output.now.items c.refuse.new.output.items
-    c.args.name.now (map seen_field c.args.fields.now) c.in-Err-Fault.fault ((c.in-Err-Fault.ensures.refused c.in-Err-Fault.fault).0 (ap Err c.in-Err-Fault.field-0-is), refl) (rw (← c.schema_fault_word.ensures) c.refuse.ensures)
+    IfOk-no_schema c.refuse.result c.args.session.now c.args.number c.args.output.now.items c.refuse.new.output.items
+    c.args.name.now (map seen_field c.args.fields.now) c.in-Err-Fault.fault ((c.in-Err-Fault.ensures.refused c.in-Err-Fault.fault).0 (ap Err c.in-Err-Fault.field-0-is)) (rw (← c.schema_fault_word.ensures) c.refuse.ensures)

@@ -5,10 +5,10 @@ use Rattle.world_script.proofs.sessions.run_delete.Goals as goal
 
 pub returns-in-Err : goal.returns-in-Err
 returns-in-Err g c =
-    IfOk-delete_unfound c.refuse_command.result c.args.world.now.state c.args.number c.args.output.now.items c.refuse_command.new.output.items
-    c.in-Err.refusal (seen_reference c.args.entity) (sym c.in-Err.ensures.value) c.refuse_command.ensures
+    IfOk-delete_unfound c.refuse_in_world.result c.args.session.now c.args.number c.args.output.now.items c.refuse_in_world.new.output.items
+    c.world.result.now (seen_reference c.args.entity) c.in-Err.refusal c.requires.none_wait c.world.ensures (sym c.in-Err.ensures.value) c.refuse_in_world.ensures
 
 pub returns-in-Ok : goal.returns-in-Ok
 returns-in-Ok g c =
-    IfOk-delete c.tell_answer.result c.args.world.now.state c.delete-answer.new.self.state c.args.number c.args.output.now.items c.tell_answer.new.output.items
-    c.delete-answer.result (seen_reference c.args.entity) c.in-Ok.found (sym c.in-Ok.ensures.value) c.delete-answer.ensures.answers c.tell_answer.ensures
+    IfOk-delete c.tell_answer.result c.args.session.now c.delete-answer.new.self c.tell_answer.new.session c.args.number c.args.output.now.items c.tell_answer.new.output.items
+    c.delete-answer.result c.world.result.now (seen_reference c.args.entity) c.in-Ok.found c.world.ensures (sym c.in-Ok.ensures.value) c.delete-answer.ensures c.tell_answer.ensures

@@ -1,13 +1,18 @@
-use Rattle.std.proofs.Common.{refl}
-use Rattle.world_script.specs.Told.{session_of}
-use Rattle.world_script.proofs.Orders.{IsDone-no_order, IfOk-long, IfOk-bad}
+use Rattle.std.proofs.Common.{ap, subst, ◌∙◌}
+use Rattle.std.specs.Prelude.{IfOk}
+use Rattle.ecs_model.specs.Output.{effect_of}
+use Rattle.ecs_model.specs.Script.{Form}
+use Rattle.ecs_observe.specs.Standing.{session_of}
+use Rattle.script_line.specs.Line.{seen}
+use Rattle.world_script.specs.Run.{IsDone}
+use Rattle.world_script.proofs.Waiting.{none_waits-line}
 use Rattle.world_script.proofs.sessions.run_line.Goals as goal
 
-pub returns-in-Nothing : goal.returns-in-Nothing
-returns-in-Nothing g c = IsDone-no_order (session_of c.args.world.now.state) c.args.number c.args.line.now _ _ (rw c.in-Nothing.is at c.in_ok-read_line.ensures) refl
-
-pub returns-in-TooLong : goal.returns-in-TooLong
-returns-in-TooLong g c = IfOk-long (session_of c.args.world.now.state) c.args.number c.args.line.now c.args.output.now.items c.refuse.new.output.items c.refuse.result (rw c.in-TooLong.is at c.in_ok-read_line.ensures) c.refuse.ensures
-
-pub returns-in-Bad : goal.returns-in-Bad
-returns-in-Bad g c = IfOk-bad (session_of c.args.world.now.state) c.args.number c.args.line.now c.args.output.now.items c.refuse-in-Bad.new.output.items c.refuse-in-Bad.result (rw c.in-Bad.is at c.in_ok-read_line.ensures) c.refuse-in-Bad.ensures
+pub returns-clause-none_wait : goal.returns-clause-none_wait
+returns-clause-none_wait g c =
+    let old = c.args.session.now in
+    let before = c.args.output.now.items in
+    let after = c.run_form.new.output.items in
+    let P : Form → Type 0 = λ f. IfOk c.run_form.result (IsDone (effect_of (session_of old) c.args.number f) (session_of c.run_form.new.session) before after) in
+    let form = ap (λ vs. seen vs c.in_ok-form.form) c.as_slice.ensures.value ∙ c.in_ok-form.ensures in
+    none_waits-line c.run_form.result old c.run_form.new.session c.args.number c.args.line.now before after c.requires.none_wait (subst P form c.run_form.ensures)

@@ -18,12 +18,13 @@ returns-in_err-run_next-clause-front g c = λ told left old so.
 pub loop-self-preserved-in-Continue-branch-3 : goal.loop-self-preserved-in-Continue-branch-3
 loop-self-preserved-in-Continue-branch-3 g c =
     let taken = rw c.if-branch.true at c.in_ok-take_line.ensures.taken in
-    let run = rw c.line.ensures at c.in_ok-run_next.ensures in
+    let run = rw c.line.ensures at c.in_ok-run_next.ensures.ran in
     let wrote = c.in_ok-write_out.ensures in
     record {
       running = λ told left old so.
           let at = c.loop-self.invariant.running told left old so in
           IsRunning-written _ _ _ _ _ c.take_line.new.self _ _ _ _ wrote.ok wrote.empty (IsRunning-line _ _ _ _ c.loop-self.self.lines c.take_line.new.self _ _ _ _ _ _ taken c.take_line.ensures.read run at);
+      none_wait = c.in_ok-run_next.ensures.none_wait;
       room = room-line c.loop-self.self.lines c.take_line.new.self _ _ _ _ _ _ taken run c.loop-self.invariant.room;
       few = few-line _ _ _ _ _ _ run c.loop-self.invariant.few;
       read = c.take_line.ensures.read ∙ c.loop-self.invariant.read;
@@ -33,7 +34,7 @@ loop-self-preserved-in-Continue-branch-3 g c =
 pub returns-in_err-write_out-clause-front : goal.returns-in_err-write_out-clause-front
 returns-in_err-write_out-clause-front g c = λ told left old so.
     let taken = rw c.if-branch.true at c.in_ok-take_line.ensures.taken in
-    let run = rw c.line.ensures at c.in_ok-run_next.ensures in
+    let run = rw c.line.ensures at c.in_ok-run_next.ensures.ran in
     let at = c.loop-self.invariant.running told left old so in
     let line = IsRunning-line _ _ _ _ c.loop-self.self.lines c.take_line.new.self _ _ _ _ _ _ taken c.take_line.ensures.read run at in
     on_err_anyway c.from_residual-in_err-write_out.result (WroteFront-at _ _ _ _ _ c.take_line.new.self _ _ _ line c.in_err-write_out.ensures.front)
@@ -41,11 +42,12 @@ returns-in_err-write_out-clause-front g c = λ told left old so.
 pub loop-self-preserved : goal.loop-self-preserved
 loop-self-preserved g c =
     let taken = rw c.if-branch.true at c.in_ok-take_line.ensures.taken in
-    let run = rw c.line.ensures at c.in_ok-run_next.ensures in
+    let run = rw c.line.ensures at c.in_ok-run_next.ensures.ran in
     record {
       running = λ told left old so.
           let at = c.loop-self.invariant.running told left old so in
           IsRunning-line _ _ _ _ c.loop-self.self.lines c.take_line.new.self _ _ _ _ _ _ taken c.take_line.ensures.read run at;
+      none_wait = c.in_ok-run_next.ensures.none_wait;
       room = room-line c.loop-self.self.lines c.take_line.new.self _ _ _ _ _ _ taken run c.loop-self.invariant.room;
       few = few-line _ _ _ _ _ _ run c.loop-self.invariant.few;
       read = c.take_line.ensures.read ∙ c.loop-self.invariant.read;

@@ -30,6 +30,7 @@ loop-has_more-preserved g c =
       running =
           IsRunning-filled _ _ _ _ _ c.run_ended.new.self.lines c.fill.new.self _ _ _ c.in_ok-run_ended.ensures.taken filled.bytes filled.front
           filled.counted filled.few ran;
+      none_wait = c.in_ok-run_ended.ensures.none_wait;
       taken = λ none. (filled.end (ap (λ x. Ok x) none)).0;
       written = λ none. c.in_ok-run_ended.ensures.written;
       at_end = λ none. (filled.end (ap (λ x. Ok x) none)).1;

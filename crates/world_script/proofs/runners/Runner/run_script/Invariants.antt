@@ -1,15 +1,16 @@
-use Rattle.std.proofs.Common.{◌≡◌, ◌+◌, ◌-◌, false, [], cond}
+use Rattle.std.proofs.Common.{◌≡◌, ◌+◌, ◌-◌, false, [], None, cond}
 use Rattle.std.specs.Io.KnownBytes.{IsAtEnd}
+use Rattle.ecs_observe.specs.Standing.{session_of}
 use Rattle.script_streams.specs.Lines.{most_bytes}
 use Rattle.script_streams.specs.Streams.{IsCalm}
 use Rattle.world_script.specs.Running.{IsRunning}
-use Rattle.world_script.specs.Told.{session_of}
 use Rattle.world_script.proofs.runners.Runner.run_script.Given as goal
 
 abbrev pub invariant-loop-has_more : goal.invariant-loop-has_more
 invariant-loop-has_more g l = record {
   running : IsRunning (g.R.Source.remaining l.initial.reader) (g.R.Source.remaining l.reader) (g.W.Sink.contents l.initial.writer) (g.W.Sink.contents l.writer)
-      l.self.lines (session_of l.self.world.state) l.self.summary l.self.output.items;
+      l.self.lines (session_of l.self.session) l.self.summary l.self.output.items;
+  none_wait : l.self.session.waiting ≡ None;
   taken : l.has_more ≡ false → l.self.lines.unread ≡ [];
   written : l.has_more ≡ false → l.self.output.items ≡ [];
   at_end : l.has_more ≡ false → IsAtEnd (g.R.Source.remaining l.reader);
