@@ -1,0 +1,7 @@
+-- A new list fits every store.
+use Rattle.std.proofs.lemmas.Result.{IfOk-weaker}
+use Rattle.cache_tests.proofs.lists.new_list.Goals as goal
+
+-- src/lists.rt:114:1
+pub returns : goal.returns
+returns c = IfOk-weaker c.new.result _ _ (λ kept fits. fits c.args.world.now.tables) c.new.ensures.fits
