@@ -3,3 +3,4 @@ mod Leading
 mod Factual
 mod Told
 mod Rising
+mod Tables

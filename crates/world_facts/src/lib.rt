@@ -2,6 +2,7 @@
 #![tactic(auto)]
 
 ghost use Rattle.std.specs.Prelude.{◌≡◌};
+ghost use Rattle.world_facts.specs.Kept.{KeepsTables};
 
 pub mod laws;
 
@@ -42,6 +43,14 @@ impl<'w, A: Allocator> WorldFacts<'w, A> {
     {
         let links = world.links();
         WorldFacts { world, links }
+    }
+
+    /// Law: the tables that a query lists in the world are kept for it, as runs over given tables ask. The call does nothing.
+    pub fn keeps_tables(&self)
+        ensures { KeepsTables self.now }
+    {
+        // A field is read for what holds of the links.
+        let _world = self.world;
     }
 }
 
