@@ -1,0 +1,9 @@
+pub mod Mentions
+pub mod Passing
+pub mod LocalLevels
+pub mod Ascending
+pub mod Matching
+pub mod Moves
+pub mod Parity
+pub mod Pass
+pub mod Telling

@@ -1,0 +1,4 @@
+pub mod Touched
+pub mod Judging
+pub mod Mentions
+pub mod Telling

@@ -1,0 +1,21 @@
+-- The laws of what queries saw before a command, as statements.
+use Rattle.std.specs.Prelude.{◌≡◌, ℕ, Ok}
+use Rattle.query_model.specs.Query.{Query}
+use Rattle.ecs_model.specs.Command.{Changed}
+use Rattle.ecs_model.specs.World.{WorldState}
+use Rattle.ecs_model.specs.rows.View.{view_of}
+use Rattle.ecs_model.specs.stored.Watches.{matching}
+use Rattle.ecs_model.specs.traits.Command.{Command, step}
+use Rattle.ecs_model.specs.traits.Keeps.{IsWellFormed}
+use Rattle.query_meaning.specs.Local.{IsLocal}
+use Rattle.touched_entities.specs.Before.{view_before}
+
+-- by the world after a command and what has changed, the same entities lived before with the same ids as in the world before
+abbrev pub ShowsWorldBefore : Type 0
+ShowsWorldBefore = (w v : WorldState) (c : Command) (changed : Changed) → IsWellFormed w → step w c ≡ Ok (v, changed)
+    → ((view_before v changed).entities ≡ (view_of w).entities) × ((e : ℕ) → (view_before v changed).ids e ≡ (view_of w).ids e)
+
+-- and a local query had rows of the same entities
+abbrev pub LocalQueriesMatchedBefore : Type 0
+LocalQueriesMatchedBefore = (w v : WorldState) (c : Command) (changed : Changed) (q : Query) → IsWellFormed w → step w c ≡ Ok (v, changed) → IsLocal q
+    → matching (view_before v changed) q ≡ matching (view_of w) q

@@ -1,0 +1,3 @@
+pub mod Before
+pub mod Indexes
+pub mod Laws
