@@ -8,6 +8,7 @@ import tempfile
 import time
 
 import hostile
+import monitors
 
 SCRIPT = b"entity Sun\nquery Sun\n"
 OUTPUT = b"rows 0\n"
@@ -196,6 +197,20 @@ def walk_through_tables_gives_memory_back(program, room):
     return grown <= 10 * 4_032 + 2 * (len(steps) - len(short)) // 1024
 
 
+def local_monitors_cost_what_changed(program, room):
+    """100,000 entities, ten monitors of local queries and 10,000 commands in less than a second."""
+    begun = time.monotonic()
+    ran = run_words(program, [], monitors.many_entities(100_000, 10_000))
+    return time.monotonic() - begun < 1 and answers(ran, 0) and ran.stdout.count(b"\n") > 10_000
+
+
+def local_monitors_are_told_as_whole_rows_tell(program, room):
+    """2,000 commands: each monitor of a local query is told what its twin is told, whose whole rows are compared."""
+    output = run_words(program, [], monitors.twins(2_000)).stdout
+    told = [[monitors.told_to(output, f"{side}{number}") for side in "mn"] for number in range(len(monitors.LOCAL))]
+    return all(one == other and len(one) > 20 for one, other in told)
+
+
 CASES = [
     reads_standard_input,
     reads_a_file,
@@ -217,6 +232,8 @@ CASES = [
     two_thousand_lines_take_less_than_two_seconds,
     colliding_names_take_at_most_twice_as_long,
     walk_through_tables_gives_memory_back,
+    local_monitors_cost_what_changed,
+    local_monitors_are_told_as_whole_rows_tell,
 ]
 
 

@@ -34,9 +34,3 @@ current_answerable w q kept h = record {
 pub matching_ascends : (w : WorldState) (q : Query) → IsWellFormed w → IsStrictlyIncreasing (matching (view_of w) q)
 unfolding matching
 matching_ascends w q kept = IsStrictlyIncreasing-filter (λ e. list_any (is_this e) (rows (view_of w) q)) (view_of w).entities (worlds_ascend w kept)
-
--- so do those of a monitor
-pub they_ascend : {V E : Type 0} (items : V → List ℕ) (r : Result V E) (kind : StoredKind) (w : WorldState) (q : Query) → IsWellFormed w → IfOk r (λ v. items v ≡ matching (view_of w) q)
-    → IfOk r (λ v. kind ≡ Monitor → IsStrictlyIncreasing (items v))
-they_ascend items (Ok v) kind w q kept h = λ _. subst IsStrictlyIncreasing (sym h) (matching_ascends w q kept)
-they_ascend items (Err e) kind w q kept h = tt

@@ -25,8 +25,8 @@ use Rattle.ecs_observe.specs.Standing.{Held, Standing, session_of, stored_of, to
 use Rattle.ecs_observe.specs.Storing.{store_refusal}
 
 -- a session by its parts
-abbrev pub seen : {A : Type 0} → world.Standing → List (String A × StoredQuery A) → Option Changed → Standing
-seen w es waiting = record { world = w; stored = map held_of es; waiting = waiting }
+abbrev pub seen : {A : Type 0} → world.Standing → List (String A × StoredQuery A) → Option Changed → ℕ → Standing
+seen w es waiting compared = record { world = w; stored = map held_of es; waiting = waiting; compared = compared }
 
 -- what is held of a query under a name
 abbrev pub named : {A : Type 0} → List ℕ → StoredQuery A → Held
@@ -129,10 +129,10 @@ module _ (s : SessionState) (n : List ℕ) where
       by false true false false = refl
 
 -- and by those of the map
-pub told_refusal : {A : Type 0} (self : Standing) (w : world.Standing) (es : List (String A × StoredQuery A)) (waiting : Option Changed) (n : List ℕ) (a b c d : Bool)
-    → self ≡ seen w es waiting → is_some waiting ≡ a → is_name n ≡ b → is_some (lookup (is_key n) es) ≡ c → nat_le most_stored (length es) ≡ d
+pub told_refusal : {A : Type 0} (self : Standing) (w : world.Standing) (es : List (String A × StoredQuery A)) (waiting : Option Changed) (compared : ℕ) (n : List ℕ) (a b c d : Bool)
+    → self ≡ seen w es waiting compared → is_some waiting ≡ a → is_name n ≡ b → is_some (lookup (is_key n) es) ≡ c → nat_le most_stored (length es) ≡ d
     → first_of (session_of self) n a b c d ≡ store_refusal (session_of self) n
-told_refusal self w es waiting n a b c d view ea eb ec ed =
+told_refusal self w es waiting compared n a b c d view ea eb ec ed =
     sym (refusal_is (session_of self) n ∙ (λ i. first_of (session_of self) n (wait i) (eb i) (taken i) (full i)))
   where
     wait : is_some (session_of self).waiting ≡ a
@@ -144,3 +144,8 @@ told_refusal self w es waiting n a b c d view ea eb ec ed =
 
     full : nat_le most_stored (length (session_of self).stored) ≡ d
     full = ap (nat_le most_stored) (as_many self ∙ ap (λ (s : Standing). length s.stored) view ∙ length-map es held_of) ∙ ed
+
+-- how often rows were compared is no part of the session of the definitions
+pub same_but_compared : (s : Standing) (n : ℕ) → session_of (record s { compared = n }) ≡ session_of s
+unfolding session_of
+same_but_compared s n = refl

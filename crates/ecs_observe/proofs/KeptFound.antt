@@ -20,7 +20,7 @@ use Rattle.ecs_observe.specs.Parts.{held_of}
 use Rattle.ecs_observe.specs.Standing.{Held, IsHeld, IsSession, Standing, session_of, stored_of}
 use Rattle.ecs_observe.proofs.Found.{holds_of_found, is_key, named, none_found, seen, some_found, stored_is}
 
-module _ {A : Type 0} (self : Standing) (w : world.Standing) (es : List (String A × StoredQuery A)) (waiting : Option Changed) (n : List ℕ) (view : self ≡ seen w es waiting) where
+module _ {A : Type 0} (self : Standing) (w : world.Standing) (es : List (String A × StoredQuery A)) (waiting : Option Changed) (compared : ℕ) (n : List ℕ) (view : self ≡ seen w es waiting compared) where
   pub stored_there : stored_at (session_of self) n ≡ find (λ x. bytes_eq n x.name) (map stored_of (map held_of es))
   stored_there = ap (find (λ x. bytes_eq n x.name)) (stored_is self ∙ ap (λ (s : Standing). map stored_of s.stored) view)
 
@@ -48,5 +48,5 @@ module _ {A : Type 0} (self : Standing) (w : world.Standing) (es : List (String 
         by OnSet other = refl
 
     -- it is current
-    pub current_found : IsSession (seen w es waiting) → IsCurrentIn (self.world).state (s.plan).query
+    pub current_found : IsSession (seen w es waiting compared) → IsCurrentIn (self.world).state (s.plan).query
     current_found h = subst (λ (t : Standing). IsCurrentIn (t.world).state (s.plan).query) (sym view) (holds_of_found n (IsHeld w.state) es s h.held there).current

@@ -10,3 +10,5 @@ pub mod Orders
 pub mod Pinned
 pub mod Retold
 pub mod Tellings
+pub mod Locally
+pub mod Listed

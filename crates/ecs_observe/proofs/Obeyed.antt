@@ -47,7 +47,7 @@ free s c none = ap (λ b. if b then Err EventsPending else in_world (session_of 
 
 -- the session whose world stands so, and where this waits
 abbrev pub left_by : Standing → store.Standing → Option Changed → Standing
-left_by s v waiting = record { world = v; stored = s.stored; waiting = waiting }
+left_by s v waiting = record { world = v; stored = s.stored; waiting = waiting; compared = s.compared }
 
 module _ (s : Standing) (session : IsSession s) (none : is_some s.waiting ≡ false) where
   none_waits : s.waiting ≡ None

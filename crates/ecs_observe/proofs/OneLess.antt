@@ -94,7 +94,7 @@ module _ (n : List ℕ) where
             times-cons h hs ∙ ap (λ y. one y + times i (queries hs)) is ∙ ap (λ ys. one x + times i (queries ys)) (sym (behind_found h hs e apart))
         by false e f rest = omega (arith, times-cons h hs, times-cons h (others hs), rest f)
 
-module _ (w v : world.Standing) (hs : List Held) (x : Held) (waiting : Option Changed) (kept : IsSession (record { world = w; stored = hs; waiting = waiting }))
+module _ (w v : world.Standing) (hs : List Held) (x : Held) (waiting : Option Changed) (n : ℕ) (kept : IsSession (record { world = w; stored = hs; waiting = waiting; compared = n }))
     (found : find (λ h. bytes_eq x.name h.name) hs ≡ Some x) (held : IsHeld w.state x) (new : v.state ≡ unpinned_by w.state (x.query).mentions) where
   mentioned_once : (i : ℕ) → times_in i (x.query).mentions ≤ 1
   mentioned_once = queries_mention_once x.query (held.current).asked
@@ -109,7 +109,7 @@ module _ (w v : world.Standing) (hs : List Held) (x : Held) (waiting : Option Ch
       by true e =
           let here = all ∙ ap (λ b. cond b 1 0 + times i (queries (others x.name hs))) e in
           let less =
-          unpinned_counts w.state (x.query).mentions i (current_alive w.state x.query held.current) (mentioned_once i) (omega (arith, here)) (omega (arith, far_from_most w hs waiting kept i)) in
+          unpinned_counts w.state (x.query).mentions i (current_alive w.state x.query held.current) (mentioned_once i) (omega (arith, here)) (omega (arith, far_from_most w hs waiting n kept i)) in
           let one = ap (λ b. count_at (unpinned_by w.state (x.query).mentions).pins i + (if b then 1 else 0)) (sym e) ∙ less in
           ap (λ (u : WorldState). count_at u.pins i) new ∙ omega (arith, one, here)
       by false e =
@@ -124,7 +124,7 @@ module _ (w v : world.Standing) (hs : List Held) (x : Held) (waiting : Option Ch
   same_view : view_of v.state ≡ view_of w.state
   same_view = ap view_of new ∙ unpinned_view w.state (x.query).mentions
 
-  pub one_less_held : waiting ≡ None → IsSession (record { world = v; stored = others x.name hs; waiting = waiting })
+  pub one_less_held : waiting ≡ None → IsSession (record { world = v; stored = others x.name hs; waiting = waiting; compared = n })
   one_less_held idle = record {
     held = All-filter (λ h. not (bytes_eq x.name h.name)) (IsHeld v.state) hs (λ k d l. still_held w.state v.state current same_view (slice_index_or hs k d) (kept.held k d l));
     pinned = counted;
@@ -163,18 +163,18 @@ module _ {A : Type 0} (n : List ℕ) where
       by true t rest = sym (behind_found n (held_of e) (map held_of es) t apart)
       by false t rest = ap (λ xs. held_of e ∷ xs) rest
 
-  module _ (w v : world.Standing) (es fs : List (String A × StoredQuery A)) (waiting : Option Changed) (kept : IsSession (seen w es waiting)) (d : StoredQuery A)
+  module _ (w v : world.Standing) (es fs : List (String A × StoredQuery A)) (waiting : Option Changed) (m : ℕ) (kept : IsSession (seen w es waiting m)) (d : StoredQuery A)
       (there : lookup (is_key n) es ≡ Some d) (new : v.state ≡ unpinned_by w.state ((d.plan).query).mentions) (entries : fs ≡ remove_entry (is_key n) es) (idle : waiting ≡ None) where
     others_held : map held_of fs ≡ others n (map held_of es)
     others_held = ap (map held_of) entries ∙ left_held es kept.once
 
-    pub one_less_seen : IsSession (seen v fs waiting)
+    pub one_less_seen : IsSession (seen v fs waiting m)
     one_less_seen =
-        subst (λ hs. IsSession (record { world = v; stored = hs; waiting = waiting })) (sym others_held)
-        (one_less_held w v (map held_of es) (named n d) waiting kept (first_named es d there) (holds_of_found n (IsHeld w.state) es d kept.held there) new idle)
+        subst (λ hs. IsSession (record { world = v; stored = hs; waiting = waiting; compared = m })) (sym others_held)
+        (one_less_held w v (map held_of es) (named n d) waiting m kept (first_named es d there) (holds_of_found n (IsHeld w.state) es d kept.held there) new idle)
 
     -- that of the definitions
-    pub without_seen : session_of (seen v fs waiting) ≡ without_stored (session_of (seen w es waiting)) (stored_of (named n d))
+    pub without_seen : session_of (seen v fs waiting m) ≡ without_stored (session_of (seen w es waiting m)) (stored_of (named n d))
     unfolding session_of
     without_seen = λ i. record {
       world = new i;

@@ -42,28 +42,28 @@ module _ (w v : WorldState) (current : (q : Query) → IsCurrentIn w q → IsCur
   still_held h k = record { current = current h.query k.current; fit = k.fit; ascends = k.ascends }
 
   pub still_now : (h : Held) → IsNow w h → IsNow v h
-  still_now h now = λ m. now m ∙ ap (λ u. matching u h.query) (sym same)
+  still_now h now = λ m l. now m l ∙ ap (λ u. matching u h.query) (sym same)
 
 -- as many stored queries as there can be mention an entity fewer times than can be counted
-pub far_from_most : (w : world.Standing) (hs : List Held) (waiting : Option Changed) → IsSession (record { world = w; stored = hs; waiting = waiting }) → (i : ℕ) → count_at (w.state).pins i + 1 < most_pins
-far_from_most w hs waiting kept i =
+pub far_from_most : (w : world.Standing) (hs : List Held) (waiting : Option Changed) (n : ℕ) → IsSession (record { world = w; stored = hs; waiting = waiting; compared = n }) → (i : ℕ) → count_at (w.state).pins i + 1 < most_pins
+far_from_most w hs waiting n kept i =
     let counted : count_at (w.state).pins i ≡ times i (queries hs) = kept.pinned i in
     let some : times i (queries hs) ≤ length (queries hs) = count_by-le-length (λ q. mentions_index q.mentions i) (queries hs) in
     let all : length (queries hs) ≡ length hs = length-map hs (λ h. h.query) in
     let few : length hs ≤ most_stored = kept.few in
     omega arith
 
-module _ (w v : world.Standing) (hs : List Held) (h : Held) (waiting : Option Changed) (kept : IsSession (record { world = w; stored = hs; waiting = waiting }))
+module _ (w v : world.Standing) (hs : List Held) (h : Held) (waiting : Option Changed) (n : ℕ) (kept : IsSession (record { world = w; stored = hs; waiting = waiting; compared = n }))
     (held : IsHeld w.state h) (new : v.state ≡ pinned_by w.state (h.query).mentions) where
   pub mentioned_once : (i : ℕ) → times_in i (h.query).mentions ≤ 1
   mentioned_once = queries_mention_once h.query (held.current).asked
 
   counted : (i : ℕ) → count_at (v.state).pins i ≡ times i (queries (hs ++ h ∷ []))
   counted i =
-      let small : count_at (w.state).pins i < most_pins = omega (arith, far_from_most w hs waiting kept i) in
+      let small : count_at (w.state).pins i < most_pins = omega (arith, far_from_most w hs waiting n kept i) in
       ap (λ (u : WorldState). count_at u.pins i) new
       ∙ (pinned_counts w.state (h.query).mentions i (mentioned_once i) small
-      ∙ (ap (λ n. n + (if mentions_index (h.query).mentions i then 1 else 0)) (kept.pinned i)
+      ∙ (ap (λ k. k + (if mentions_index (h.query).mentions i then 1 else 0)) (kept.pinned i)
       ∙ (sym (sum_by_push (λ (q : Query). cond (mentions_index q.mentions i) 1 0) (queries hs) h.query)
       ∙ ap (times i) (sym (map-append (λ (x : Held). x.query) hs (h ∷ []))))))
 
@@ -73,8 +73,8 @@ module _ (w v : world.Standing) (hs : List Held) (h : Held) (waiting : Option Ch
   same_view : view_of v.state ≡ view_of w.state
   same_view = ap view_of new ∙ pinned_view w.state (h.query).mentions
 
-  pub one_more : waiting ≡ None → All (λ x. x.name ≢ h.name) hs → length hs < most_stored → IsNow w.state h → IsSession (record { world = v; stored = hs ++ h ∷ []; waiting = waiting })
-  one_more idle free few now = record {
+  pub one_more : waiting ≡ None → All (λ x. x.name ≢ h.name) hs → length hs < most_stored → IsNow w.state h → (m : ℕ) → IsSession (record { world = v; stored = hs ++ h ∷ []; waiting = waiting; compared = m })
+  one_more idle free few now m = record {
     held = All-push (IsHeld v.state) hs h (λ k d l. still_held w.state v.state current same_view (slice_index_or hs k d) (kept.held k d l)) (still_held w.state v.state current same_view h held);
     pinned = counted;
     few = omega (arith, length_push hs h);
@@ -84,9 +84,9 @@ module _ (w v : world.Standing) (hs : List Held) (h : Held) (waiting : Option Ch
   }
 
 -- a session that is held in other memory
-pub same_seen : {A : Type 0} (w v : world.Standing) (es fs : List (String A × StoredQuery A)) (waiting : Option Changed) → v.state ≡ w.state → v.tables ≡ w.tables → fs ≡ es
-    → seen v fs waiting ≡ seen w es waiting
-same_seen w v es fs waiting state tables entries = λ i. record { world = record { state = state i; tables = tables i }; stored = map held_of (entries i); waiting = waiting }
+pub same_seen : {A : Type 0} (w v : world.Standing) (es fs : List (String A × StoredQuery A)) (waiting : Option Changed) (n : ℕ) → v.state ≡ w.state → v.tables ≡ w.tables → fs ≡ es
+    → seen v fs waiting n ≡ seen w es waiting n
+same_seen w v es fs waiting n state tables entries = λ i. record { world = record { state = state i; tables = tables i }; stored = map held_of (entries i); waiting = waiting; compared = n }
 
 -- what is so of an accepted call
 pub of_ok : {T E P : Type 0} (r : Result T E) → OnOk r P → IsOk r → P
@@ -105,15 +105,15 @@ module _ {A : Type 0} (k : String A) (s : StoredQuery A) where
       by true t rest other = absurd (other (sym ((bytes_decides (string_bytes k) (string_bytes e.0)).0 t)))
       by false t rest other = ap (λ xs. e ∷ xs) rest
 
-  module _ (w v : world.Standing) (es fs : List (String A × StoredQuery A)) (waiting : Option Changed) (kept : IsSession (seen w es waiting))
+  module _ (w v : world.Standing) (es fs : List (String A × StoredQuery A)) (waiting : Option Changed) (n : ℕ) (kept : IsSession (seen w es waiting n))
       (free : All (λ h. h.name ≢ string_bytes k) (map held_of es)) (new : v.state ≡ pinned_by w.state ((s.plan).query).mentions) (entries : fs ≡ insert_entry string_eq es k s) where
     pub held_behind : map held_of fs ≡ map held_of es ++ held_of (k, s) ∷ []
     held_behind = ap (map held_of) (entries ∙ goes_last es free) ∙ map-append held_of es ((k, s) ∷ [])
 
-    pub one_more_seen : waiting ≡ None → length (map held_of es) < most_stored → IsHeld w.state (held_of (k, s)) → IsNow w.state (held_of (k, s)) → IsSession (seen v fs waiting)
-    one_more_seen idle few held now =
-        subst (λ hs. IsSession (record { world = v; stored = hs; waiting = waiting })) (sym held_behind)
-        (one_more w v (map held_of es) (held_of (k, s)) waiting kept held new idle free few now)
+    pub one_more_seen : waiting ≡ None → length (map held_of es) < most_stored → IsHeld w.state (held_of (k, s)) → IsNow w.state (held_of (k, s)) → (m : ℕ) → IsSession (seen v fs waiting m)
+    one_more_seen idle few held now m =
+        subst (λ hs. IsSession (record { world = v; stored = hs; waiting = waiting; compared = m })) (sym held_behind)
+        (one_more w v (map held_of es) (held_of (k, s)) waiting n kept held new idle free few now m)
 
-    pub with_held_seen : v.tables ≡ w.tables → seen v fs waiting ≡ with_held (seen w es waiting) (held_of (k, s))
-    with_held_seen tables = λ i. record { world = record { state = new i; tables = tables i }; stored = held_behind i; waiting = waiting }
+    pub with_held_seen : v.tables ≡ w.tables → (m : ℕ) → seen v fs waiting m ≡ record (with_held (seen w es waiting n) (held_of (k, s))) { compared = m }
+    with_held_seen tables m = λ i. record { world = record { state = new i; tables = tables i }; stored = held_behind i; waiting = waiting; compared = m }

@@ -8,6 +8,7 @@ use Rattle.std.proofs.lemmas.Bool.Decides.{nat_tests}
 use Rattle.std.proofs.lemmas.List.{map-append}
 use Rattle.std.proofs.lemmas.List.Elements.{All-cons, All-nil}
 use Rattle.query_model.specs.declared.faults.Fault.{Fault}
+use Rattle.query_model.specs.Local.{is_local}
 use Rattle.query_model.specs.Query.{Query}
 use Rattle.ecs_model.specs.declared.faults.SessionRefusal.{SessionRefusal}
 use Rattle.ecs_model.specs.declared.faults.SessionRefusal.TheVariants.{EventsPending, Faulty, UnknownQuery}
@@ -135,7 +136,7 @@ module _ (w : WorldState) (kind : StoredKind) (text : List ℕ) (q : Query) (h :
   }
 
   pub new_now : AreThese w kind q h.these → IsNow w h
-  new_now these = λ m. these (sym is_kind ∙ m) ∙ ap (matching (view_of w)) (sym is_query)
+  new_now these = λ m l. these (sym is_kind ∙ m) (ap is_local (sym is_query) ∙ l) ∙ ap (matching (view_of w)) (sym is_query)
 
 -- a query that can't be stored as one of the kind is told by its fault
 pub told_fault : (self : Standing) (kind : StoredKind) (n text : List ℕ) (e : SessionError) → store_refusal (session_of self) n ≡ None → AnswersWatched (self.world).state kind text (Err e)

@@ -1,5 +1,5 @@
 -- What telling events leaves of a session.
-use Rattle.std.specs.Prelude.{◌≡◌, ℕ, ◌+◌, ◌<◌, ◌≤◌, List, [], ◌∷◌, ◌++◌, All, AllPairs, map, flat_map, length, slice_get, take, Option, None, Some, option_map, Ok, IfSome}
+use Rattle.std.specs.Prelude.{◌≡◌, ℕ, ◌+◌, ◌<◌, ◌≤◌, Bool, true, false, List, [], ◌∷◌, ◌++◌, All, AllPairs, map, flat_map, length, slice_get, take, Option, None, Some, option_map, Ok, IfSome, if◌then◌else◌}
 use Rattle.std.specs.declared.string.String.{String}
 use Rattle.std.specs.declared.vec.Vec.{Vec}
 use Rattle.std.specs.Option.{option_map_or}
@@ -12,6 +12,7 @@ use Rattle.std.proofs.lemmas.List.Elements.{All-map}
 use Rattle.std.proofs.lemmas.List.Kept.{AllPairs-cons}
 use Rattle.std.proofs.lemmas.Option.{get_or_from_slice_get, slice_get-map, slice_get_cases, slice_get_within}
 use Rattle.indexmap.specs.IndexMap.{set_value_at}
+use Rattle.query_model.specs.Local.{is_local}
 use Rattle.query_model.specs.Query.{Query}
 use Rattle.ecs_model.specs.declared.watches.StoredKind.{StoredKind}
 use Rattle.ecs_model.specs.declared.watches.StoredKind.TheVariants.{Kept, Monitor, OnAdd, OnRemove, OnSet}
@@ -149,26 +150,34 @@ apart_now w (h ∷ hs) apart =
     (All-map (λ (b : Held). h.name ≢ b.name) (told_now w) hs (λ k d l. apart 0 (suc k) d (omega arith) (omega arith)))
     (apart_now w hs (λ i j d low high. apart (suc i) (suc j) d (omega arith) (omega arith)))
 
-ascending : (w : WorldState) → IsWellFormed w → (kind : StoredKind) (q : Query) → kind ≡ Monitor → IsStrictlyIncreasing (rows_of w kind q)
-ascending w kept Monitor q e = matching_ascends w q kept
+none_ascend : IsStrictlyIncreasing []
+none_ascend = λ k low. absurd (omega (arith, low))
+
+pub ascending : (w : WorldState) → IsWellFormed w → (kind : StoredKind) (q : Query) → kind ≡ Monitor → IsStrictlyIncreasing (rows_of w kind q)
+ascending w kept Monitor q e = by (is_local q)
+  where
+    by : (b : Bool) → IsStrictlyIncreasing (if b then [] else matching (view_of w) q)
+    by true = none_ascend
+    by false = matching_ascends w q kept
 ascending w kept Kept q e = cc
 ascending w kept OnAdd q e = cc
 ascending w kept OnRemove q e = cc
 ascending w kept OnSet q e = cc
 
-matches_now : (w : WorldState) (kind : StoredKind) (q : Query) → kind ≡ Monitor → rows_of w kind q ≡ matching (view_of w) q
-matches_now w Monitor q e = refl
-matches_now w Kept q e = cc
-matches_now w OnAdd q e = cc
-matches_now w OnRemove q e = cc
-matches_now w OnSet q e = cc
+-- of a monitor whose query isn't local all rows are held
+pub matches_now : (w : WorldState) (kind : StoredKind) (q : Query) → kind ≡ Monitor → is_local q ≡ false → rows_of w kind q ≡ matching (view_of w) q
+matches_now w Monitor q e l = ap (λ b. if b then [] else matching (view_of w) q) l
+matches_now w Kept q e l = cc
+matches_now w OnAdd q e l = cc
+matches_now w OnRemove q e l = cc
+matches_now w OnSet q e l = cc
 
-abbrev pub told_session : Standing → Standing
-told_session s = record { world = s.world; stored = map (told_now (s.world).state) s.stored; waiting = None }
+abbrev pub told_session : Standing → ℕ → Standing
+told_session s n = record { world = s.world; stored = map (told_now (s.world).state) s.stored; waiting = None; compared = n }
 
 module _ (s : Standing) (session : IsSession s) (kept : IsWellFormed (s.world).state) where
-  pub told_is_session : IsSession (told_session s)
-  told_is_session =
+  pub told_is_session : (n : ℕ) → IsSession (told_session s n)
+  told_is_session n =
       let w = (s.world).state in
       record {
         held = All-map (IsHeld w) (told_now w) s.stored (λ k d l.
@@ -181,9 +190,9 @@ module _ (s : Standing) (session : IsSession s) (kept : IsWellFormed (s.world).s
       }
 
 -- none wait any more
-pub told_is_after : (s : Standing) → session_of (told_session s) ≡ after_events (session_of s)
+pub told_is_after : (s : Standing) (n : ℕ) → session_of (told_session s n) ≡ after_events (session_of s)
 unfolding session_of
-told_is_after s = λ j. record { world = (s.world).state; stored = same_stored (s.world).state s.stored j; waiting = None }
+told_is_after s n = λ j. record { world = (s.world).state; stored = same_stored (s.world).state s.stored j; waiting = None }
 
 -- what is told is what waits
 pub told_is_waiting : (s : Standing) (changed : Changed) → s.waiting ≡ Some changed → flat_map (told_to (s.world).state changed) s.stored ≡ events (session_of s)
@@ -213,18 +222,18 @@ module _ {A : Type 0} (s now : Standing) (view_is : s ≡ now) where
       put ∙ (ap (λ r. with_rows r s.stored) rows ∙ with_rows_told (s.world).state s.stored)
 
 module _ (s now : Standing) (view_is : s ≡ now) where
-  module _ (left : List Held) (put : left ≡ map (told_now (s.world).state) s.stored) where
+  module _ (left : List Held) (put : left ≡ map (told_now (s.world).state) s.stored) (n : ℕ) where
     abbrev retold : Standing
-    retold = record { world = s.world; stored = left; waiting = None }
+    retold = record { world = s.world; stored = left; waiting = None; compared = n }
 
-    is_retold : retold ≡ told_session s
-    is_retold = λ j. record { world = s.world; stored = put j; waiting = None }
+    is_retold : retold ≡ told_session s n
+    is_retold = λ j. record { world = s.world; stored = put j; waiting = None; compared = n }
 
-    pub retold_session : IsSession s → IsWellFormed (s.world).state → IsSession (record { world = s.world; stored = left; waiting = None })
-    retold_session session kept = subst IsSession (sym is_retold) (told_is_session s session kept)
+    pub retold_session : IsSession s → IsWellFormed (s.world).state → IsSession (record { world = s.world; stored = left; waiting = None; compared = n })
+    retold_session session kept = subst IsSession (sym is_retold) (told_is_session s session kept n)
 
-    pub retold_after : session_of (record { world = s.world; stored = left; waiting = None }) ≡ after_events (session_of now)
-    retold_after = ap session_of is_retold ∙ (told_is_after s ∙ ap (λ x. after_events (session_of x)) view_is)
+    pub retold_after : session_of (record { world = s.world; stored = left; waiting = None; compared = n }) ≡ after_events (session_of now)
+    retold_after = ap session_of is_retold ∙ (told_is_after s n ∙ ap (λ x. after_events (session_of x)) view_is)
 
   pub told_waits : (changed : Changed) (start all : List Event) → s.waiting ≡ Some changed → start ≡ [] → all ≡ start ++ flat_map (told_to (s.world).state changed) s.stored → all ≡ events (session_of now)
   told_waits changed start all waiting none gathered =

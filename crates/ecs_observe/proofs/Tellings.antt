@@ -1,5 +1,5 @@
 -- What stored queries are told of a command, by what is held of them.
-use Rattle.std.specs.Prelude.{◌≡◌, Bool, true, false, ◌||◌, List, [], ◌∷◌, ◌++◌, All, map, flat_map, Option, None, Some, Result, Ok, if◌then◌else◌}
+use Rattle.std.specs.Prelude.{◌≡◌, ℕ, Bool, true, false, ◌||◌, List, [], ◌∷◌, ◌++◌, All, map, flat_map, Option, None, Some, Result, Ok, if◌then◌else◌}
 use Rattle.std.specs.List.{list_any}
 use Rattle.std.proofs.Common.{refl, ap, sym, subst, ◌∙◌, ◌≢◌, true≢false}
 use Rattle.std.proofs.lemmas.List.Elements.{All-cons, All-head, All-nil, All-tail}
@@ -20,7 +20,10 @@ use Rattle.watch_meaning.specs.Since.{told_since}
 use Rattle.ecs_observe.specs.Answers.{AnswersCommand}
 use Rattle.ecs_observe.specs.Parts.{held_of}
 use Rattle.ecs_observe.specs.declared.stored.StoredQuery.{StoredQuery}
-use Rattle.ecs_observe.specs.Standing.{Held, IsNow, stored_of, told_to}
+use Rattle.ecs_observe.specs.Standing.{Held, IsNow, rows_before, stored_of, told_to}
+use Rattle.query_model.specs.Local.{is_local}
+use Rattle.touched_entities.specs.Before.{view_before}
+use Rattle.touched_entities.proofs.LocalRows.{local_queries_matched_before}
 use Rattle.watch_meaning.proofs.ToldSince.{watches_are_told_since}
 
 -- whether one is a watch is seen of what is held
@@ -45,18 +48,28 @@ none_now w (h ∷ hs) none =
     All-cons (IsNow w) h hs (λ e. absurd (no_monitor h.kind parts.0 e)) (none_now w hs parts.1)
 
 -- only a monitor is told by the entities of its rows before
-same_old : (v : WorldState) (changed : Changed) (kind : StoredKind) (h : Held) (old : _) → (kind ≡ Monitor → h.these ≡ old)
-    → told_since v changed h.name kind h.query old ≡ told_since v changed h.name kind h.query h.these
+same_old : (v : WorldState) (changed : Changed) (kind : StoredKind) (h : Held) (rows old : List ℕ) → (kind ≡ Monitor → rows ≡ old)
+    → told_since v changed h.name kind h.query old ≡ told_since v changed h.name kind h.query rows
 unfolding told_since
-same_old v changed Kept h old same = refl
-same_old v changed Monitor h old same = ap (told_since v changed h.name Monitor h.query) (sym (same refl))
-same_old v changed OnAdd h old same = refl
-same_old v changed OnRemove h old same = refl
-same_old v changed OnSet h old same = refl
+same_old v changed Kept h rows old same = refl
+same_old v changed Monitor h rows old same = ap (told_since v changed h.name Monitor h.query) (sym (same refl))
+same_old v changed OnAdd h rows old same = refl
+same_old v changed OnRemove h rows old same = refl
+same_old v changed OnSet h rows old same = refl
 
 module _ (w v : WorldState) (c : Command) (changed : Changed) (kept : IsWellFormed w) (stepped : step w c ≡ Ok (v, changed)) where
+  -- the rows of a monitor before the command are held, or follow from what has changed
+  before_is : (h : Held) → IsNow w h → h.kind ≡ Monitor → rows_before v changed h ≡ matching (view_of w) h.query
+  before_is h now e = by (is_local h.query) refl
+    where
+      by : (b : Bool) → is_local h.query ≡ b → (if b then matching (view_before v changed) h.query else h.these) ≡ matching (view_of w) h.query
+      by true l = local_queries_matched_before w v c changed h.query kept stepped l
+      by false l = now e l
+
   told_one : (h : Held) → IsNow w h → told w v changed (stored_of h) ≡ told_to v changed h
-  told_one h now = watches_are_told_since w v c changed h.name h.kind h.query kept stepped ∙ same_old v changed h.kind h (matching (view_of w) h.query) now
+  told_one h now =
+      watches_are_told_since w v c changed h.name h.kind h.query kept stepped
+      ∙ same_old v changed h.kind h (rows_before v changed h) (matching (view_of w) h.query) (before_is h now)
 
   -- what all are told of the command follows from what is held
   pub told_all : (hs : List Held) → All (IsNow w) hs → flat_map (told w v changed) (map stored_of hs) ≡ flat_map (told_to v changed) hs

@@ -2,3 +2,5 @@ pub mod Standing
 pub mod Parts
 pub mod Answers
 pub mod Storing
+pub mod Telling
+pub mod Lists

@@ -1,6 +1,7 @@
 -- What is seen of a session, and the session of the definitions that it is.
-use Rattle.std.specs.Prelude.{◌≡◌, ◌≢◌, ℕ, ◌≤◌, List, [], ◌∷◌, All, AllPairs, map, flat_map, length, Option, None, option_map, IfSome, Ok}
+use Rattle.std.specs.Prelude.{◌≡◌, ◌≢◌, ℕ, ◌≤◌, Bool, true, false, not, ◌&&◌, List, [], ◌∷◌, All, AllPairs, map, flat_map, length, Option, None, option_map, IfSome, Ok, if◌then◌else◌}
 use Rattle.std.specs.List.Sorted.{IsStrictlyIncreasing}
+use Rattle.query_model.specs.Local.{is_local}
 use Rattle.query_model.specs.Query.{Query}
 use Rattle.query_meaning.specs.Standing.{IsCurrentIn}
 use Rattle.ecs_model.specs.declared.watches.StoredKind.{StoredKind}
@@ -12,28 +13,46 @@ use Rattle.ecs_model.specs.rows.View.{view_of}
 use Rattle.ecs_model.specs.stored.Session.{SessionState, most_stored}
 use Rattle.ecs_model.specs.stored.Watches.{Event, Stored, matching, watched}
 use Rattle.ecs_world.specs.Standing as world
+use Rattle.touched_entities.specs.Before.{view_before}
 use Rattle.watch_meaning.specs.Mentions.{times}
 use Rattle.watch_meaning.specs.Since.{IsAfter, told_since}
 
--- a stored query as it is held: a monitor with the entities of its rows as they were told last
+-- a stored query as it is held: a monitor with the entities of its rows as they were told last, unless its query is local
 pub record Held : Type 0 where
   pub name : List ℕ
   pub kind : StoredKind
   pub query : Query
   pub these : List ℕ
 
--- a session: its world, the stored queries in the order of making, and what was changed by a command whose events wait
+-- a session: its world, the stored queries in the order of making, what was changed by a command whose events wait, and how often the whole rows of a monitor were taken
 pub record Standing : Type 0 where
   pub world : world.Standing
   pub stored : List Held
   pub waiting : Option Changed
+  pub compared : ℕ
 
 abbrev pub stored_of : Held → Stored
 stored_of h = record { name = h.name; kind = h.kind; query = h.query }
 
+abbrev pub is_monitor : StoredKind → Bool
+is_monitor Monitor = true
+is_monitor kind = false
+
+-- whether it is a monitor of a local query, which is told by the entities that a command touched
+abbrev pub is_told_locally : Held → Bool
+is_told_locally h = is_monitor h.kind && is_local h.query
+
+-- whether it is a monitor of another query, whose whole rows are compared
+abbrev pub is_compared : Held → Bool
+is_compared h = is_monitor h.kind && not (is_local h.query)
+
+-- of a monitor the entities of its rows before a command: of a local query they follow from what has changed, of another they are held
+abbrev pub rows_before : WorldState → Changed → Held → List ℕ
+rows_before w changed h = if is_local h.query then matching (view_before w changed) h.query else h.these
+
 -- what a stored query is told of what has changed
 abbrev pub told_to : WorldState → Changed → Held → List Event
-told_to w changed h = told_since w changed h.name h.kind h.query h.these
+told_to w changed h = told_since w changed h.name h.kind h.query (rows_before w changed h)
 
 -- the session of the definitions
 unfoldable pub session_of : Standing → SessionState
@@ -43,9 +62,9 @@ session_of s = record {
   waiting = option_map (λ changed. flat_map (told_to (s.world).state changed) s.stored) s.waiting;
 }
 
--- of a monitor the entities of its rows
+-- what is held of the rows of a stored query: of a monitor their entities, unless its query is local
 abbrev pub rows_of : WorldState → StoredKind → Query → List ℕ
-rows_of w Monitor q = matching (view_of w) q
+rows_of w Monitor q = if is_local q then [] else matching (view_of w) q
 rows_of w kind q = []
 
 abbrev pub rows_told : WorldState → Held → List ℕ
@@ -64,9 +83,9 @@ pub record IsHeld (w : WorldState) (h : Held) : Type 0 where
   -- each entity of a monitor is there once, by ascending index
   pub ascends : h.kind ≡ Monitor → IsStrictlyIncreasing h.these
 
--- if it is a monitor, the entities are those of its rows now
+-- if it is a monitor whose query isn't local, the entities are those of its rows now
 abbrev pub IsNow : WorldState → Held → Type 0
-IsNow w h = h.kind ≡ Monitor → h.these ≡ matching (view_of w) h.query
+IsNow w h = h.kind ≡ Monitor → is_local h.query ≡ false → h.these ≡ matching (view_of w) h.query
 
 -- what every session has
 pub record IsSession (s : Standing) : Type 0 where

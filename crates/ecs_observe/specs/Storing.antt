@@ -1,5 +1,6 @@
 -- How a new stored query is judged, and what is held of it.
-use Rattle.std.specs.Prelude.{◌≡◌, ⊤, ℕ, List, [], ◌∷◌, ◌++◌, Option, Some, is_some, Result, Ok, Err, if◌then◌else◌}
+use Rattle.std.specs.Prelude.{◌≡◌, ⊤, ℕ, false, List, [], ◌∷◌, ◌++◌, Option, Some, is_some, Result, Ok, Err, if◌then◌else◌}
+use Rattle.query_model.specs.Local.{is_local}
 use Rattle.query_model.specs.Query.{Query}
 use Rattle.query_model.specs.declared.faults.Fault.{Fault}
 use Rattle.ecs_model.specs.declared.faults.SessionRefusal.{SessionRefusal}
@@ -21,9 +22,9 @@ use Rattle.ecs_observe.specs.declared.errors.SessionError.TheVariants.{Refused, 
 abbrev pub store_refusal : SessionState → List ℕ → Option SessionRefusal
 store_refusal s n = if is_some s.waiting then Some EventsPending else first_session_reason (store_reasons s n)
 
--- of a monitor these are the entities of its rows now
+-- of a monitor whose query isn't local these are the entities of its rows now
 abbrev pub AreThese : WorldState → StoredKind → Query → List ℕ → Type 0
-AreThese w kind q these = kind ≡ Monitor → these ≡ matching (view_of w) q
+AreThese w kind q these = kind ≡ Monitor → is_local q ≡ false → these ≡ matching (view_of w) q
 
 -- a query as one of a kind: that which the text asks, or the first fault of the text or of its query for this kind; where memory is refused, it may say so in place of either
 abbrev pub AnswersWatched : WorldState → StoredKind → List ℕ → Result Query SessionError → Type 0

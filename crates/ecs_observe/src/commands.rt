@@ -18,7 +18,8 @@ use std::alloc::Allocator;
 impl<A: Allocator + Copy> Session<A> {
     /// Makes an entity without a name and without facts, and answers it.
     pub fn fresh(&mut self) -> Result<Option<EntityId>, SessionError>
-        ensures { AnswersApply result (obeyed (session_of self.old) (Fresh)) self.old self.new }
+        ensures answers { AnswersApply result (obeyed (session_of self.old) (Fresh)) self.old self.new }
+        ensures compared { (self.new).compared ≡ (self.old).compared }
     {
         if self.has_events() {
             return Err(SessionError::Refused(SessionRefusal::EventsPending));
@@ -30,7 +31,8 @@ impl<A: Allocator + Copy> Session<A> {
 
     /// Makes an entity with a name and without facts, and answers it.
     pub fn entity(&mut self, name: &str) -> Result<Option<EntityId>, SessionError>
-        ensures { AnswersApply result (obeyed (session_of self.old) (Entity name.now)) self.old self.new }
+        ensures answers { AnswersApply result (obeyed (session_of self.old) (Entity name.now)) self.old self.new }
+        ensures compared { (self.new).compared ≡ (self.old).compared }
     {
         if self.has_events() {
             return Err(SessionError::Refused(SessionRefusal::EventsPending));
@@ -46,7 +48,8 @@ impl<A: Allocator + Copy> Session<A> {
         name: &str,
         schema: Schema<A>,
     ) -> Result<Option<EntityId>, SessionError>
-        ensures { AnswersApply result (obeyed (session_of self.old) (Component name.now schema)) self.old self.new }
+        ensures answers { AnswersApply result (obeyed (session_of self.old) (Component name.now schema)) self.old self.new }
+        ensures compared { (self.new).compared ≡ (self.old).compared }
     {
         if self.has_events() {
             return Err(SessionError::Refused(SessionRefusal::EventsPending));
@@ -58,7 +61,8 @@ impl<A: Allocator + Copy> Session<A> {
 
     /// Adds a fact. With it come those that traits ask for.
     pub fn add(&mut self, entity: EntityId, id: Id) -> Result<Option<EntityId>, SessionError>
-        ensures { AnswersApply result (obeyed (session_of self.old) (Add entity id)) self.old self.new }
+        ensures answers { AnswersApply result (obeyed (session_of self.old) (Add entity id)) self.old self.new }
+        ensures compared { (self.new).compared ≡ (self.old).compared }
     {
         if self.has_events() {
             return Err(SessionError::Refused(SessionRefusal::EventsPending));
@@ -75,7 +79,8 @@ impl<A: Allocator + Copy> Session<A> {
         id: Id,
         values: &[i128],
     ) -> Result<Option<EntityId>, SessionError>
-        ensures { AnswersApply result (obeyed (session_of self.old) (SetValue entity id values.now)) self.old self.new }
+        ensures answers { AnswersApply result (obeyed (session_of self.old) (SetValue entity id values.now)) self.old self.new }
+        ensures compared { (self.new).compared ≡ (self.old).compared }
     {
         if self.has_events() {
             return Err(SessionError::Refused(SessionRefusal::EventsPending));
@@ -87,7 +92,8 @@ impl<A: Allocator + Copy> Session<A> {
 
     /// Removes a fact, if it is held.
     pub fn remove(&mut self, entity: EntityId, id: Id) -> Result<Option<EntityId>, SessionError>
-        ensures { AnswersApply result (obeyed (session_of self.old) (Remove entity id)) self.old self.new }
+        ensures answers { AnswersApply result (obeyed (session_of self.old) (Remove entity id)) self.old self.new }
+        ensures compared { (self.new).compared ≡ (self.old).compared }
     {
         if self.has_events() {
             return Err(SessionError::Refused(SessionRefusal::EventsPending));
@@ -99,7 +105,8 @@ impl<A: Allocator + Copy> Session<A> {
 
     /// Deletes an entity, and what its relationships say goes with it.
     pub fn delete(&mut self, entity: EntityId) -> Result<Option<EntityId>, SessionError>
-        ensures { AnswersApply result (obeyed (session_of self.old) (Delete entity)) self.old self.new }
+        ensures answers { AnswersApply result (obeyed (session_of self.old) (Delete entity)) self.old self.new }
+        ensures compared { (self.new).compared ≡ (self.old).compared }
     {
         if self.has_events() {
             return Err(SessionError::Refused(SessionRefusal::EventsPending));

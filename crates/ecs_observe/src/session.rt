@@ -19,19 +19,22 @@ pub struct Session<A: Allocator = Global> {
     pub(crate) stored: StoredQueries<A>,
     /// What the last accepted command has changed, until its events are told. It is there only while a stored query is a watch.
     pub(crate) waiting: Option<Changes<A>>,
+    /// How often the whole rows of a monitor were taken.
+    pub(crate) compared: u64,
     pub(crate) alloc: A,
 }
 
 impl<A: Allocator> Model for Session<A> {
     ghost use Rattle.std.specs.Prelude.{map};
     ghost use Rattle.ecs_observe.specs.Standing.{IsSession, Standing};
+    ghost use Rattle.ecs_observe.specs.Lists.{HaveLists};
     ghost use Rattle.ecs_observe.specs.Parts.{held_of};
 
     ghost Value = { Standing };
 
-    ghost view = { λ s. record { world = s.world; stored = map held_of s.stored.entries; waiting = s.waiting } };
+    ghost view = { λ s. record { world = s.world; stored = map held_of s.stored.entries; waiting = s.waiting; compared = s.compared } };
 
-    ghost invariant = { λ s. IsSession (record { world = s.world; stored = map held_of s.stored.entries; waiting = s.waiting }) };
+    ghost invariant = { λ s. IsSession (record { world = s.world; stored = map held_of s.stored.entries; waiting = s.waiting; compared = s.compared }) × HaveLists (s.world).tables s.stored.entries };
 }
 
 impl<A: Allocator + Copy> Session<A> {
@@ -39,7 +42,8 @@ impl<A: Allocator + Copy> Session<A> {
     ///
     /// Names, ids and tables are hashed with these random keys, so that nobody can choose any that make look-ups slow. Fails where memory is refused.
     pub fn new(alloc: A, random: RandomState) -> Result<Self, AllocError>
-        ensures { IfOk result (λ s. session_of s ≡ first_session) }
+        ensures first { IfOk result (λ s. session_of s ≡ first_session) }
+        ensures compared { IfOk result (λ s. s.compared ≡ 0) }
     {
         let Ok(world) = World::new(alloc, random) else {
             return Err(AllocError);
@@ -48,6 +52,7 @@ impl<A: Allocator + Copy> Session<A> {
             world,
             stored: IndexMap::with_hasher(alloc, random),
             waiting: None,
+            compared: 0,
             alloc,
         })
     }
@@ -59,6 +64,15 @@ impl<A: Allocator> Session<A> {
         ensures { result.now ≡ (self.now).world }
     {
         &self.world
+    }
+
+    /// How often the whole rows of a monitor were taken so far, to be compared with those before. It stays at its greatest number.
+    ///
+    /// Monitors of local queries never have theirs taken: they are told by the entities that a command touched.
+    pub fn compared(&self) -> u64
+        ensures { result ≡ (self.now).compared }
+    {
+        self.compared
     }
 
     /// Whether events wait to be told.

@@ -1,11 +1,13 @@
 //! Storing queries, and dropping them.
 
-ghost use Rattle.std.specs.Prelude.{◌≡◌, ◌≢◌, ◌<◌, All, length, None, OnErr, OnOk};
+ghost use Rattle.std.specs.Prelude.{◌≡◌, ◌≢◌, ◌<◌, All, length, false, None, OnErr, OnOk};
+ghost use Rattle.std.specs.List.{list_any};
 ghost use Rattle.std.specs.String.{string_bytes};
 ghost use Rattle.ecs_model.specs.stored.Session.{Drop, Store, apply, most_stored};
 ghost use Rattle.ecs_observe.specs.Answers.{AnswersApply};
+ghost use Rattle.ecs_observe.specs.Lists.{HasNewList};
 ghost use Rattle.ecs_observe.specs.Parts.{held_of};
-ghost use Rattle.ecs_observe.specs.Standing.{IsHeld, IsNow, session_of};
+ghost use Rattle.ecs_observe.specs.Standing.{IsHeld, IsNow, is_compared, session_of};
 ghost use Rattle.ecs_observe.specs.Storing.{store_refusal, with_held};
 
 use crate::pinning::{pin_all, unpin_all};
@@ -33,21 +35,24 @@ impl<A: Allocator + Copy> Session<A> {
         name: &str,
         text: &str,
     ) -> Result<Option<EntityId>, SessionError>
-        ensures { AnswersApply result (apply (session_of self.old) (Store kind name.now text.now)) self.old self.new }
+        ensures answers { AnswersApply result (apply (session_of self.old) (Store kind name.now text.now)) self.old self.new }
+        ensures compared { list_any is_compared (self.new).stored ≡ false → (self.new).compared ≡ (self.old).compared }
     {
         if let Some(reason) = self.store_refusal(name) {
             return Err(SessionError::Refused(reason));
         }
         let query = read_watched(self.alloc, &self.world, kind, text)?;
-        let stored = stored_query(self.alloc, &self.world, kind, &query)?;
+        let mut compared = self.compared;
+        let stored = stored_query(self.alloc, &self.world, kind, &query, &mut compared)?;
         let name = String::from_str(self.alloc, name)?;
-        self.hold(name, stored)?;
+        self.hold(name, stored, compared)?;
         Ok(None)
     }
 
     /// Ends the stored query of a name. Refused while events wait, and where no stored query has the name. It answers no entity.
     pub fn drop_stored(&mut self, name: &str) -> Result<Option<EntityId>, SessionError>
-        ensures { AnswersApply result (apply (session_of self.old) (Drop name.now)) self.old self.new }
+        ensures answers { AnswersApply result (apply (session_of self.old) (Drop name.now)) self.old self.new }
+        ensures compared { (self.new).compared ≡ (self.old).compared }
     {
         if self.waiting.is_some() {
             return Err(SessionError::Refused(SessionRefusal::EventsPending));
@@ -78,21 +83,28 @@ impl<A: Allocator + Copy> Session<A> {
         None
     }
 
-    /// Puts a stored query behind the others, under a name that none of them has.
+    /// Puts a stored query behind the others, under a name that none of them has. So often the whole rows of a monitor were taken by then.
     ///
     /// Fails where memory is refused, and then nothing has changed.
-    fn hold(&mut self, name: String<A>, stored: StoredQuery<A>) -> Result<(), AllocError>
+    fn hold(
+        &mut self,
+        name: String<A>,
+        stored: StoredQuery<A>,
+        compared: u64,
+    ) -> Result<(), AllocError>
         requires idle { self.old.waiting ≡ None }
         requires free { All (λ h. h.name ≢ string_bytes name) self.old.stored }
         requires few { length self.old.stored < most_stored }
         requires held { IsHeld (self.old.world).state (held_of (name, stored)) }
         requires now { IsNow (self.old.world).state (held_of (name, stored)) }
-        ensures held { OnOk result (self.new ≡ with_held self.old (held_of (name, stored))) }
+        requires list { HasNewList stored }
+        ensures held { OnOk result (self.new ≡ record (with_held self.old (held_of (name, stored))) { compared = compared }) }
         ensures refused { OnErr result (self.new ≡ self.old) }
     {
         self.stored.reserve(1)?;
         pin_all(&mut self.world, stored.plan.query().mentions())?;
         self.stored.insert(name, stored).unwrap();
+        self.compared = compared;
         Ok(())
     }
 }

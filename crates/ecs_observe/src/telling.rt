@@ -1,88 +1,130 @@
 //! Telling the events of a command.
 
-ghost use Rattle.std.specs.Prelude.{◌≡◌, ◌++◌, IfOk, OnErr, OnOk, All, map, flat_map};
+ghost use Rattle.std.specs.Prelude.{◌≡◌, ◌++◌, IfOk, OnErr, OnOk, All, map, flat_map, false, true};
+ghost use Rattle.std.specs.List.{list_any};
 ghost use Rattle.std.specs.String.{string_bytes};
 ghost use Rattle.ecs_model.specs.stored.Session.{after_events, events};
+ghost use Rattle.ecs_observe.specs.Lists.{KeepLists};
 ghost use Rattle.ecs_observe.specs.Parts.{held_as, held_of, rows_in};
-ghost use Rattle.ecs_observe.specs.Standing.{IsHeld, rows_of, rows_told, session_of, told_to, with_rows};
+ghost use Rattle.ecs_observe.specs.Standing.{IsHeld, is_compared, is_told_locally, rows_of, rows_told, session_of, told_to, with_rows};
+ghost use Rattle.ecs_observe.specs.Telling.{AreTouchedBy};
 ghost use Rattle.query_meaning.specs.Standing.{IsCurrentIn};
 ghost use Rattle.watch_meaning.specs.Since.{IsAfter};
 
 use crate::Session;
-use crate::stored::{StoredQueries, StoredQuery};
-use ecs_model::watches::StoredKind;
+use crate::stored::{StoredQueries, StoredQuery, has_local_monitor};
+use crate::watched::held_rows;
 use ecs_world::{Changes, World};
+use local_queries::{Touched, local_told};
 use std::alloc::{AllocError, Allocator};
-use world_events::{Audience, Event, tell};
-use world_query::matching;
+use touched_entities::touched;
+use world_events::{Audience, Event, Moves, tell, tell_moves};
 
 impl<A: Allocator + Copy> Session<A> {
     /// The events that wait, of one stored query after another in the order of making. After that none wait.
     ///
-    /// Of a monitor those that left come first, each by ascending index. Fails where memory is refused, and then they still wait.
+    /// Of a monitor those that left come first, each by ascending index. One whose query is local is told by the entities that the command
+    /// touched, of another all rows are taken and compared. Fails where memory is refused, and then they still wait.
     pub fn events(&mut self) -> Result<Vec<Event<A>, A>, AllocError>
         ensures told { IfOk result (λ told. told.items ≡ events (session_of self.old)) }
         ensures after { OnOk result (session_of self.new ≡ after_events (session_of self.old)) }
         ensures refused { OnErr result (self.new ≡ self.old) }
+        ensures compared { list_any is_compared (self.old).stored ≡ false → (self.new).compared ≡ (self.old).compared }
     {
         let mut events = Vec::new(self.alloc);
         let mut rows = Vec::new(self.alloc);
+        let mut compared = self.compared;
         let Some(changes) = &self.waiting else {
             return Ok(events);
         };
         self.world.keeps();
+        let touched = touched_if_asked(self.alloc, &self.world, changes, &self.stored)?;
         tell_all(
             self.alloc,
             &self.world,
             changes,
+            touched.as_slice(),
             &self.stored,
             &mut rows,
+            &mut compared,
             &mut events,
         )?;
         put_rows(&mut self.stored, rows);
         self.waiting = None;
+        self.compared = compared;
         Ok(events)
     }
 }
 
-/// Puts what all stored queries are told behind other events, and the entities of their rows now behind others.
+/// The entities that a command touched, if a monitor is told by them, and else none.
+fn touched_if_asked<'w, A: Allocator + Copy>(
+    alloc: A,
+    world: &'w World<A>,
+    changes: &Changes<A>,
+    stored: &StoredQueries<A>,
+) -> Result<Vec<Touched<'w, A>, A>, AllocError>
+    requires after { IsAfter world.now.state changes.now }
+    ensures touched { list_any is_told_locally (map held_of stored.now.entries) ≡ true → IfOk result (λ touched. AreTouchedBy world.now.state changes.now touched.items) }
+{
+    if has_local_monitor(stored) {
+        touched(alloc, world, changes)
+    } else {
+        Ok(Vec::new(alloc))
+    }
+}
+
+/// Puts what all stored queries are told behind other events, and the entities of their rows now behind others. Counts the whole rows taken.
 fn tell_all<A: Allocator + Copy>(
     alloc: A,
     world: &World<A>,
     changes: &Changes<A>,
+    touched: &[Touched<'_, A>],
     stored: &StoredQueries<A>,
     rows: &mut Vec<Vec<u32, A>, A>,
+    compared: &mut u64,
     events: &mut Vec<Event<A>, A>,
 ) -> Result<(), AllocError>
     requires after { IsAfter world.now.state changes.now }
     requires held { All (IsHeld world.now.state) (map held_of stored.now.entries) }
+    requires touched { list_any is_told_locally (map held_of stored.now.entries) ≡ true → AreTouchedBy world.now.state changes.now touched.now }
     ensures rows { OnOk result (rows_in rows.new.items ≡ rows_in rows.old.items ++ map (rows_told world.now.state) (map held_of stored.now.entries)) }
     ensures told { OnOk result (events.new.items ≡ events.old.items ++ flat_map (told_to world.now.state changes.now) (map held_of stored.now.entries)) }
+    ensures compared { list_any is_compared (map held_of stored.now.entries) ≡ false → compared.new ≡ compared.old }
 {
     for i in 0..stored.len() {
         if let Some((name, query)) = stored.get_index(i) {
-            let now = tell_one(alloc, world, changes, name, query, events)?;
+            let now = tell_one(
+                alloc, world, changes, touched, name, query, compared, events,
+            )?;
             rows.push(now)?;
         }
     }
     Ok(())
 }
 
-/// Puts what a stored query is told behind other events, and answers the entities of its rows now.
+/// Puts what a stored query is told behind other events, and answers what is held of its rows now.
 fn tell_one<A: Allocator + Copy>(
     alloc: A,
     world: &World<A>,
     changes: &Changes<A>,
+    touched: &[Touched<'_, A>],
     name: &String<A>,
     query: &StoredQuery<A>,
+    compared: &mut u64,
     events: &mut Vec<Event<A>, A>,
 ) -> Result<Vec<u32, A>, AllocError>
     requires after { IsAfter world.now.state changes.now }
     requires held { IsHeld world.now.state (held_as (string_bytes name.now) query.now) }
+    requires touched { is_told_locally (held_as (string_bytes name.now) query.now) ≡ true → AreTouchedBy world.now.state changes.now touched.now }
     ensures rows { IfOk result (λ rows. rows.items ≡ rows_told world.now.state (held_as (string_bytes name.now) query.now)) }
     ensures told { OnOk result (events.new.items ≡ events.old.items ++ told_to world.now.state changes.now (held_as (string_bytes name.now) query.now)) }
+    ensures compared { is_compared (held_as (string_bytes name.now) query.now) ≡ false → compared.new ≡ compared.old }
 {
-    let rows = rows_now(alloc, world, query)?;
+    if query.is_told_locally() {
+        tell_locally(alloc, world, changes, touched, name, query, events)?;
+        return Ok(Vec::new(alloc));
+    }
+    let rows = held_rows(alloc, world, query.kind, &query.plan, compared)?;
     let audience = Audience {
         name: name.as_bytes(),
         kind: query.kind,
@@ -94,25 +136,34 @@ fn tell_one<A: Allocator + Copy>(
     Ok(rows)
 }
 
-/// The entities of the rows of a stored query now, if it is a monitor.
-fn rows_now<A: Allocator + Copy>(
+/// Puts what a monitor of a local query is told behind other events, by the entities that the command touched.
+fn tell_locally<A: Allocator + Copy>(
     alloc: A,
     world: &World<A>,
+    changes: &Changes<A>,
+    touched: &[Touched<'_, A>],
+    name: &String<A>,
     query: &StoredQuery<A>,
-) -> Result<Vec<u32, A>, AllocError>
-    requires { IsCurrentIn world.now.state ((query.now).plan).query }
-    ensures { IfOk result (λ rows. rows.items ≡ rows_of world.now.state (query.now).kind ((query.now).plan).query) }
+    events: &mut Vec<Event<A>, A>,
+) -> Result<(), AllocError>
+    requires after { IsAfter world.now.state changes.now }
+    requires local { is_told_locally (held_as (string_bytes name.now) query.now) ≡ true }
+    requires touched { AreTouchedBy world.now.state changes.now touched.now }
+    ensures told { OnOk result (events.new.items ≡ events.old.items ++ told_to world.now.state changes.now (held_as (string_bytes name.now) query.now)) }
 {
     world.keeps();
-    match query.kind {
-        StoredKind::Monitor => matching(alloc, world, &query.plan),
-        _ => Ok(Vec::new(alloc)),
-    }
+    let told = local_told(alloc, query.plan.query(), touched)?;
+    let moves = Moves {
+        left: told.left.as_slice(),
+        entered: told.entered.as_slice(),
+    };
+    tell_moves(alloc, world, changes, name.as_bytes(), moves, events)
 }
 
 /// Keeps the entities of the rows that stored queries were told.
 fn put_rows<A: Allocator>(stored: &mut StoredQueries<A>, mut rows: Vec<Vec<u32, A>, A>)
-    ensures { map held_of stored.new.entries ≡ with_rows (rows_in rows.items) (map held_of stored.old.entries) }
+    ensures held { map held_of stored.new.entries ≡ with_rows (rows_in rows.items) (map held_of stored.old.entries) }
+    ensures lists { KeepLists stored.old.entries stored.new.entries }
 {
     while let Some(these) = rows.pop() {
         if let Some(query) = stored.get_index_mut(rows.len()) {

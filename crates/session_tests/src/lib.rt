@@ -6,4 +6,6 @@ mod calls;
 #[cfg(test)]
 mod growths;
 #[cfg(test)]
+mod monitors;
+#[cfg(test)]
 mod refusals;

@@ -11,4 +11,5 @@ mod terms;
 mod texts;
 
 pub use event::{Event, write_event};
+pub use rows::{Moves, tell_moves};
 pub use telling::{Audience, tell};

@@ -6,6 +6,7 @@ ghost use Rattle.std.specs.List.Sorted.{IsStrictlyIncreasing};
 ghost use Rattle.ecs_model.specs.declared.watches.EventKind.TheVariants.{Entered};
 ghost use Rattle.ecs_model.specs.stored.Watches.{entity_event, missing_from};
 ghost use Rattle.watch_meaning.specs.Since.{IsAfter, left_event};
+ghost use Rattle.world_events.specs.Told.{told_of_moves};
 
 use crate::before::{entity_before, entity_text_before};
 use crate::event::Event;
@@ -14,6 +15,66 @@ use crate::texts::{entity_now, entity_text};
 use ecs_model::watches::EventKind;
 use ecs_world::{Changes, World};
 use std::alloc::{AllocError, Allocator};
+
+/// Who has left the rows of a monitor and who has entered them, each by ascending index.
+#[derive(Clone, Copy)]
+pub struct Moves<'m> {
+    pub left: &'m [u32],
+    pub entered: &'m [u32],
+}
+
+/// Puts what a monitor is told behind other events, where it is known who has left its rows and who has entered them. Those who left come first.
+///
+/// Fails where memory is refused, and then the events may have grown.
+pub fn tell_moves<A: Allocator + Copy>(
+    alloc: A,
+    world: &World<A>,
+    changes: &Changes<A>,
+    name: &[u8],
+    moves: Moves<'_>,
+    events: &mut Vec<Event<A>, A>,
+) -> Result<(), AllocError>
+    requires { IsAfter world.now.state changes.now }
+    ensures { OnOk result (events.new.items ≡ events.old.items
+        ++ told_of_moves world.now.state changes.now name.now (moves.entry.left).now (moves.entry.entered).now) }
+{
+    tell_each_left(alloc, world, changes, name, moves.left, events)?;
+    tell_each_entered(alloc, world, name, moves.entered, events)
+}
+
+/// Tells a monitor of each that has left.
+fn tell_each_left<A: Allocator + Copy>(
+    alloc: A,
+    world: &World<A>,
+    changes: &Changes<A>,
+    name: &[u8],
+    left: &[u32],
+    events: &mut Vec<Event<A>, A>,
+) -> Result<(), AllocError>
+    requires { IsAfter world.now.state changes.now }
+    ensures { OnOk result (events.new.items ≡ events.old.items ++ map (left_event world.now.state changes.now name.now) left.now) }
+{
+    for index in left {
+        events.push(left_event(alloc, world, changes, name, *index)?)?;
+    }
+    Ok(())
+}
+
+/// Tells a monitor of each that has entered.
+fn tell_each_entered<A: Allocator + Copy>(
+    alloc: A,
+    world: &World<A>,
+    name: &[u8],
+    entered: &[u32],
+    events: &mut Vec<Event<A>, A>,
+) -> Result<(), AllocError>
+    ensures { OnOk result (events.new.items ≡ events.old.items ++ map (entity_event name.now Entered world.now.state) entered.now) }
+{
+    for index in entered {
+        events.push(entered_event(alloc, world, name, *index)?)?;
+    }
+    Ok(())
+}
 
 /// Tells a monitor who has left: those of its rows before that are not in its rows now.
 pub(crate) fn tell_left<A: Allocator + Copy>(

@@ -264,13 +264,13 @@ fn run_store<A: Allocator + Copy>(
 
 /// `rows N`
 fn run_rows<A: Allocator + Copy>(
-    session: &Session<A>,
+    session: &mut Session<A>,
     number: usize,
     name: &str,
     output: &mut Vec<u8, A>,
 ) -> Result<bool, AllocError>
-    ensures { IfOk result (IsDone (effect_of (session_of session.now) number (AskKept name.now))
-        (session_of session.now) output.old.items output.new.items) }
+    ensures { IfOk result (IsDone (effect_of (session_of session.old) number (AskKept name.now))
+        (session_of session.new) output.old.items output.new.items) }
 {
     match session.write_kept_rows(name, output) {
         Ok(()) => Ok(false),

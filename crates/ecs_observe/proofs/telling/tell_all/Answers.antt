@@ -3,6 +3,7 @@ use Rattle.std.specs.String.{string_bytes}
 use Rattle.std.proofs.Common.{ap, arith, sym, true≢false, ◌∙◌}
 use Rattle.ecs_observe.specs.Parts.{held_as, held_of, rows_in}
 use Rattle.ecs_observe.specs.Standing.{IsHeld, rows_told, told_to}
+use Rattle.ecs_observe.proofs.Locally.{none_compared, one_told_locally}
 use Rattle.ecs_observe.proofs.Retold.{all_at, gathered_more, held_at, mapped_more, rows_pushed}
 use Rattle.ecs_observe.proofs.telling.tell_all.Goals as goal
 use Rattle.ecs_observe.proofs.telling.tell_all.Goals.{in-Some+in_ok-now+in_ok-push, in_default}
@@ -10,6 +11,20 @@ use Rattle.ecs_observe.proofs.telling.tell_all.Goals.{in-Some+in_ok-now+in_ok-pu
 pub tell_one-requires-clause-held : goal.tell_one-requires-clause-held
 tell_one-requires-clause-held g c =
     all_at (IsHeld c.args.world.now.state) c.args.stored.now.entries c.loop-i.i c.in-Some.name.now c.in-Some.query.now (sym c.in-Some.ensures.entry) c.requires.held
+
+pub tell_one-requires-clause-touched : goal.tell_one-requires-clause-touched
+tell_one-requires-clause-touched g c = λ e.
+    c.requires.touched (one_told_locally c.args.stored.now.entries c.loop-i.i c.in-Some.name.now c.in-Some.query.now (sym c.in-Some.ensures.entry) e)
+
+pub returns-in_err-now-clause-compared : goal.returns-in_err-now-clause-compared
+returns-in_err-now-clause-compared g c = λ none.
+    c.tell_one.ensures.compared (none_compared c.args.stored.now.entries c.loop-i.i c.in-Some.name.now c.in-Some.query.now (sym c.in-Some.ensures.entry) none)
+    ∙ c.loop-i.invariant.compared none
+
+pub returns-in_err-push-clause-compared : goal.returns-in_err-push-clause-compared
+returns-in_err-push-clause-compared g c = λ none.
+    c.in_ok-now.ensures.compared (none_compared c.args.stored.now.entries c.loop-i.i c.in-Some.name.now c.in-Some.query.now (sym c.in-Some.ensures.entry) none)
+    ∙ c.loop-i.invariant.compared none
 
 pub loop-i-preserved : goal.loop-i-preserved
 loop-i-preserved g c =
@@ -25,6 +40,9 @@ loop-i-preserved g c =
                 (rows_pushed c.loop-i.rows.items b.in_ok-now.now (rows_told w one) c.match-get_index.rows.items (ap (λ v. v.items) b.rows-is ∙ b.in_ok-push.ensures.items) b.in_ok-now.ensures.rows);
             told = gathered_more (told_to w c.args.changes.now) c.args.events.now.items c.loop-i.events.items c.match-get_index.events.items _ i one there c.loop-i.invariant.told
                 (ap (λ v. v.items) b.events-is ∙ b.in_ok-now.ensures.told);
+            compared = λ none. b.compared-is
+                ∙ (b.in_ok-now.ensures.compared (none_compared es i b.in-Some.name.now b.in-Some.query.now (sym b.in-Some.ensures.entry) none)
+                ∙ c.loop-i.invariant.compared none);
           }
       | in_default b ↦ absurd (true≢false (sym (c.get_index.ensures.found.1 (omega (arith, c.loop-i-test.true, c.len-i-end.ensures.len))) ∙ ap is_some b.in_default.is))
     ]

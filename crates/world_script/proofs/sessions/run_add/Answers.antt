@@ -10,4 +10,4 @@ returns-in-Err g c =
 pub returns-in-Ok : goal.returns-in-Ok
 returns-in-Ok g c =
     IfOk-add c.tell_answer.result c.args.session.now c.add-answer.new.self c.tell_answer.new.session c.args.number c.args.output.now.items c.tell_answer.new.output.items
-    c.add-answer.result c.world.result.now (seen_reference c.args.entity) (seen_id c.args.id) c.in-Ok.both c.world.ensures c.in-Ok.ensures c.add-answer.ensures c.tell_answer.ensures
+    c.add-answer.result c.world.result.now (seen_reference c.args.entity) (seen_id c.args.id) c.in-Ok.both c.world.ensures c.in-Ok.ensures c.add-answer.ensures.answers c.tell_answer.ensures

@@ -12,7 +12,7 @@ pub returns-in-Ok : goal.returns-in-Ok
 returns-in-Ok g c =
     let P : Schema → Type 0 = λ s. AnswersApply c.component-answer.result (obeyed (session_of c.args.session.now) (Component c.args.name.now s)) c.args.session.now c.component-answer.new.self in
     IfOk-component c.tell_answer.result c.args.session.now c.component-answer.new.self c.tell_answer.new.session c.args.number c.args.output.now.items c.tell_answer.new.output.items
-    c.component-answer.result c.args.name.now (map seen_field c.args.fields.now) c.in-Ok.ensures.sound (subst P c.in-Ok.ensures.made c.component-answer.ensures) c.tell_answer.ensures
+    c.component-answer.result c.args.name.now (map seen_field c.args.fields.now) c.in-Ok.ensures.sound (subst P c.in-Ok.ensures.made c.component-answer.ensures.answers) c.tell_answer.ensures
 
 pub returns-in-Err-Fault : goal.returns-in-Err-Fault
 returns-in-Err-Fault g c =

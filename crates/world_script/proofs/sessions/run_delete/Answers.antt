@@ -11,4 +11,4 @@ returns-in-Err g c =
 pub returns-in-Ok : goal.returns-in-Ok
 returns-in-Ok g c =
     IfOk-delete c.tell_answer.result c.args.session.now c.delete-answer.new.self c.tell_answer.new.session c.args.number c.args.output.now.items c.tell_answer.new.output.items
-    c.delete-answer.result c.world.result.now (seen_reference c.args.entity) c.in-Ok.found c.world.ensures (sym c.in-Ok.ensures.value) c.delete-answer.ensures c.tell_answer.ensures
+    c.delete-answer.result c.world.result.now (seen_reference c.args.entity) c.in-Ok.found c.world.ensures (sym c.in-Ok.ensures.value) c.delete-answer.ensures.answers c.tell_answer.ensures

@@ -10,4 +10,4 @@ returns-in-Err g c =
 pub returns-in-Ok : goal.returns-in-Ok
 returns-in-Ok g c =
     IfOk-remove c.tell_answer.result c.args.session.now c.remove-answer.new.self c.tell_answer.new.session c.args.number c.args.output.now.items c.tell_answer.new.output.items
-    c.remove-answer.result c.world.result.now (seen_reference c.args.entity) (seen_id c.args.id) c.in-Ok.both c.world.ensures c.in-Ok.ensures c.remove-answer.ensures c.tell_answer.ensures
+    c.remove-answer.result c.world.result.now (seen_reference c.args.entity) (seen_id c.args.id) c.in-Ok.both c.world.ensures c.in-Ok.ensures c.remove-answer.ensures.answers c.tell_answer.ensures

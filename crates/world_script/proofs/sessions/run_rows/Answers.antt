@@ -1,10 +1,15 @@
+use Rattle.std.specs.Prelude.{false, IfOk}
+use Rattle.std.proofs.Common.{sym, subst}
+use Rattle.ecs_observe.specs.Standing.{Standing, session_of}
 use Rattle.world_script.proofs.Orders.{IsDone-kept, IfOk-unkept}
 use Rattle.world_script.proofs.sessions.run_rows.Goals as goal
 
 pub returns-in-Ok : goal.returns-in-Ok
 returns-in-Ok g c =
-    IsDone-kept c.args.session.now c.args.number c.args.output.now.items _ c.args.name.now c.in-Ok.ensures.0 c.in-Ok.ensures.1 c.in-Ok.ensures.2
+    rw c.write_kept_rows.ensures.same
+    (IsDone-kept c.args.session.now c.args.number c.args.output.now.items _ c.args.name.now c.in-Ok.ensures.rows.0 c.in-Ok.ensures.rows.1 c.in-Ok.ensures.rows.2)
 
 pub returns-in-Err : goal.returns-in-Err
 returns-in-Err g c =
-    IfOk-unkept c.tell_error.result c.args.session.now c.args.number c.args.output.now.items _ c.args.name.now _ c.in-Err.error c.in-Err.ensures c.tell_error.ensures
+    rw c.write_kept_rows.ensures.same
+    (IfOk-unkept c.tell_error.result c.args.session.now c.args.number c.args.output.now.items _ c.args.name.now _ c.in-Err.error c.in-Err.ensures.rows c.tell_error.ensures)

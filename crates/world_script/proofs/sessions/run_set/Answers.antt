@@ -10,4 +10,4 @@ returns-in-Err g c =
 pub returns-in-Ok : goal.returns-in-Ok
 returns-in-Ok g c =
     IfOk-set c.tell_answer.result c.args.session.now c.set-answer.new.self c.tell_answer.new.session c.args.number c.args.output.now.items c.tell_answer.new.output.items
-    c.set-answer.result c.world.result.now (seen_reference c.args.entity) (seen_id c.args.id) c.args.values.now c.in-Ok.both c.world.ensures c.in-Ok.ensures c.set-answer.ensures c.tell_answer.ensures
+    c.set-answer.result c.world.result.now (seen_reference c.args.entity) (seen_id c.args.id) c.args.values.now c.in-Ok.both c.world.ensures c.in-Ok.ensures c.set-answer.ensures.answers c.tell_answer.ensures

@@ -1,48 +1,53 @@
 -- The stored query of the name is taken out and counted once less, or there is none.
-use Rattle.std.proofs.Common.{◌≡◌, false, true, None, refl, sym, ap, ◌∙◌, rules}
+use Rattle.std.proofs.Common.{◌≡◌, false, true, None, refl, sym, ap, subst, ◌∙◌, rules}
 use Rattle.std.specs.Prelude.{is_some}
 use Rattle.ecs_model.specs.stored.Session.{unpinned_by, without_stored}
 use Rattle.ecs_model.specs.stored.Watches.{Stored}
 use Rattle.query_model.specs.Query.{Query}
+use Rattle.ecs_observe.specs.Lists.{HaveLists}
 use Rattle.ecs_observe.specs.Standing.{Standing, session_of, stored_of}
 use Rattle.ecs_observe.proofs.Found.{named, none_found, some_found, waits}
 use Rattle.ecs_observe.proofs.KeptFound.{stored_there}
+use Rattle.ecs_observe.proofs.Listed.{lists_less}
 use Rattle.ecs_observe.proofs.OneLess.{one_less_seen, without_seen}
 use Rattle.ecs_observe.proofs.OneMore.{same_seen}
 use Rattle.ecs_observe.proofs.Orders.{drop_done, drop_pending, drop_unknown, none_there}
 use Rattle.ecs_observe.proofs.session.Session.drop_stored.Goals as goal
 
-pub returns-then-is_some : goal.returns-then-is_some
-returns-then-is_some g c =
+pub returns-then-is_some-clause-answers : goal.returns-then-is_some-clause-answers
+returns-then-is_some-clause-answers g c =
     let waiting : is_some c.self.inside.waiting ≡ true = sym c.is_some.ensures ∙ c.if-is_some.true in
     (drop_pending (session_of c.args.self.now) c.args.name.now (waits c.args.self.now ∙ (ap (λ (s : Standing). is_some s.waiting) (sym c.self.view_is) ∙ waiting)), refl)
 
-pub returns-in_default : goal.returns-in_default
-returns-in_default g c =
+pub returns-in_default-clause-answers : goal.returns-in_default-clause-answers
+returns-in_default-clause-answers g c =
     let idle : is_some c.self.inside.waiting ≡ false = sym c.is_some.ensures ∙ c.if-is_some.false in
     let none = none_found c.args.name.now c.self.inside.stored.entries (sym c.in_default.ensures.value) in (
       drop_unknown (session_of c.args.self.now) c.args.name.now (waits c.args.self.now ∙ (ap (λ (s : Standing). is_some s.waiting) (sym c.self.view_is) ∙ idle))
-          (stored_there c.args.self.now c.self.inside.world c.self.inside.stored.entries c.self.inside.waiting c.args.name.now (sym c.self.view_is) ∙ none),
+          (stored_there c.args.self.now c.self.inside.world c.self.inside.stored.entries c.self.inside.waiting c.self.inside.compared c.args.name.now (sym c.self.view_is) ∙ none),
       ap session_of
-          (same_seen c.self.inside.world c.self.inside.world c.self.inside.stored.entries c.shift_remove.new.self.entries c.self.inside.waiting refl refl c.in_default.ensures.unchanged ∙ c.self.view_is),
+          (same_seen c.self.inside.world c.self.inside.world c.self.inside.stored.entries c.shift_remove.new.self.entries c.self.inside.waiting c.self.inside.compared refl refl c.in_default.ensures.unchanged ∙ c.self.view_is),
     )
 
 pub invariant_of-self-2 : goal.invariant_of-self-2
 invariant_of-self-2 g c =
-    let idle : is_some c.self.inside.waiting ≡ false = sym c.is_some.ensures ∙ c.if-is_some.false in
-    one_less_seen c.args.name.now c.self.inside.world c.unpin_all.new.world c.self.inside.stored.entries c.shift_remove.new.self.entries c.self.inside.waiting c.self.invariant
-    c.in-Some.dropped (sym c.in-Some.ensures.value)
-    (c.unpin_all.ensures.state ∙ ap (unpinned_by c.self.inside.world.state) (c.mentions.ensures ∙ ap (λ (q : Query). q.mentions) c.query.ensures))
-    c.shift_remove.ensures.entries (none_there c.self.inside.waiting idle)
+    let idle : is_some c.self.inside.waiting ≡ false = sym c.is_some.ensures ∙ c.if-is_some.false in (
+      one_less_seen c.args.name.now c.self.inside.world c.unpin_all.new.world c.self.inside.stored.entries c.shift_remove.new.self.entries c.self.inside.waiting c.self.inside.compared c.self.invariant.0
+          c.in-Some.dropped (sym c.in-Some.ensures.value)
+          (c.unpin_all.ensures.state ∙ ap (unpinned_by c.self.inside.world.state) (c.mentions.ensures ∙ ap (λ (q : Query). q.mentions) c.query.ensures))
+          c.shift_remove.ensures.entries (none_there c.self.inside.waiting idle),
+      subst (λ t. HaveLists t c.shift_remove.new.self.entries) (sym c.unpin_all.ensures.tables)
+          (subst (HaveLists c.self.inside.world.tables) (sym c.shift_remove.ensures.entries) (lists_less c.self.inside.world.tables c.args.name.now c.self.inside.stored.entries c.self.invariant.1)),
+    )
 
-pub returns : goal.returns
-returns g c =
+pub returns-clause-answers : goal.returns-clause-answers
+returns-clause-answers g c =
     let idle : is_some c.self.inside.waiting ≡ false = sym c.is_some.ensures ∙ c.if-is_some.false in
     drop_done (session_of c.args.self.now) c.args.name.now (stored_of (named c.args.name.now c.in-Some.dropped)) _
     (waits c.args.self.now ∙ (ap (λ (s : Standing). is_some s.waiting) (sym c.self.view_is) ∙ idle))
-    (stored_there c.args.self.now c.self.inside.world c.self.inside.stored.entries c.self.inside.waiting c.args.name.now (sym c.self.view_is)
+    (stored_there c.args.self.now c.self.inside.world c.self.inside.stored.entries c.self.inside.waiting c.self.inside.compared c.args.name.now (sym c.self.view_is)
     ∙ some_found c.args.name.now c.self.inside.stored.entries c.in-Some.dropped (sym c.in-Some.ensures.value))
-    (without_seen c.args.name.now c.self.inside.world c.unpin_all.new.world c.self.inside.stored.entries c.shift_remove.new.self.entries c.self.inside.waiting c.self.invariant
+    (without_seen c.args.name.now c.self.inside.world c.unpin_all.new.world c.self.inside.stored.entries c.shift_remove.new.self.entries c.self.inside.waiting c.self.inside.compared c.self.invariant.0
     c.in-Some.dropped (sym c.in-Some.ensures.value)
     (c.unpin_all.ensures.state ∙ ap (unpinned_by c.self.inside.world.state) (c.mentions.ensures ∙ ap (λ (q : Query). q.mentions) c.query.ensures))
     c.shift_remove.ensures.entries (none_there c.self.inside.waiting idle)

@@ -10,10 +10,12 @@ pub returns-in_default-clause-after : goal.returns-in_default-clause-after
 returns-in_default-clause-after g c = none_waits_after _ c.args.self.now c.self.view_is c.in_default.is
 
 pub invariant_of-self : goal.invariant_of-self
-invariant_of-self g c =
-    retold_session _ c.args.self.now c.self.view_is _
-    (put_told _ c.args.self.now c.self.view_is c.new-rows.result.items c.tell_all.new.rows.items _ c.new-rows.ensures.items c.in_ok-tell_all.ensures.rows c.put_rows.ensures)
-    c.self.invariant c.keeps.ensures
+invariant_of-self g c = (
+  retold_session _ c.args.self.now c.self.view_is _
+      (put_told _ c.args.self.now c.self.view_is c.new-rows.result.items c.tell_all.new.rows.items _ c.new-rows.ensures.items c.in_ok-tell_all.ensures.rows c.put_rows.ensures.held) c.tell_all.new.compared
+      c.self.invariant.0 c.keeps.ensures,
+  c.put_rows.ensures.lists c.self.inside.world.tables c.self.invariant.1,
+)
 
 pub returns-clause-told : goal.returns-clause-told
 returns-clause-told g c =
@@ -22,4 +24,4 @@ returns-clause-told g c =
 pub returns-clause-after : goal.returns-clause-after
 returns-clause-after g c =
     retold_after _ c.args.self.now c.self.view_is _
-    (put_told _ c.args.self.now c.self.view_is c.new-rows.result.items c.tell_all.new.rows.items _ c.new-rows.ensures.items c.in_ok-tell_all.ensures.rows c.put_rows.ensures)
+    (put_told _ c.args.self.now c.self.view_is c.new-rows.result.items c.tell_all.new.rows.items _ c.new-rows.ensures.items c.in_ok-tell_all.ensures.rows c.put_rows.ensures.held) c.tell_all.new.compared

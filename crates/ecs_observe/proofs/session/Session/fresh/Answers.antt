@@ -1,14 +1,17 @@
 use Rattle.ecs_model.specs.traits.Command.{Fresh}
+use Rattle.ecs_observe.proofs.Listed.{lists_later}
 use Rattle.ecs_observe.proofs.Obeyed.{answer_left, pending_now, session_left}
 use Rattle.ecs_observe.proofs.session.Session.fresh.Goals as goal
 
-pub returns-then-has_events : goal.returns-then-has_events
-returns-then-has_events g c = pending_now _ c.args.self.now c.self.view_is c.has_events.result c.has_events.ensures Fresh c.if-has_events.true
+pub returns-then-has_events-clause-answers : goal.returns-then-has_events-clause-answers
+returns-then-has_events-clause-answers g c = pending_now _ c.args.self.now c.self.view_is c.has_events.result c.has_events.ensures Fresh c.if-has_events.true
 
 pub invariant_of-self : goal.invariant_of-self
-invariant_of-self g c =
-    session_left _ c.args.self.now c.self.view_is c.has_events.result c.has_events.ensures c.self.invariant c.if-has_events.false c.fresh-done.new.self Fresh c.keeps.ensures c.fresh-done.result c.answer.result c.answer.new.waiting c.fresh-done.ensures.answers c.answer.ensures
+invariant_of-self g c = (
+  session_left _ c.args.self.now c.self.view_is c.has_events.result c.has_events.ensures c.self.invariant.0 c.if-has_events.false c.fresh-done.new.self Fresh c.keeps.ensures c.fresh-done.result c.answer.result c.answer.new.waiting c.fresh-done.ensures.answers c.answer.ensures,
+  lists_later c.self.inside.world.tables c.fresh-done.new.self.tables c.fresh-done.ensures.goes_on c.self.inside.stored.entries c.self.invariant.1,
+)
 
-pub returns : goal.returns
-returns g c =
-    answer_left _ c.args.self.now c.self.view_is c.has_events.result c.has_events.ensures c.self.invariant c.if-has_events.false c.fresh-done.new.self Fresh c.keeps.ensures c.fresh-done.result c.answer.result c.answer.new.waiting c.fresh-done.ensures.answers c.answer.ensures
+pub returns-clause-answers : goal.returns-clause-answers
+returns-clause-answers g c =
+    answer_left _ c.args.self.now c.self.view_is c.has_events.result c.has_events.ensures c.self.invariant.0 c.if-has_events.false c.fresh-done.new.self Fresh c.keeps.ensures c.fresh-done.result c.answer.result c.answer.new.waiting c.fresh-done.ensures.answers c.answer.ensures

@@ -1,10 +1,11 @@
 use Rattle.std.proofs.Common.{map, refl, ap}
 use Rattle.ecs_observe.specs.Parts.{held_of}
+use Rattle.ecs_observe.proofs.Listed.{none_lists}
 use Rattle.ecs_observe.proofs.First.{first_is_first, first_is_session}
 use Rattle.ecs_observe.proofs.session.Session.new.Goals as goal
 
 pub invariant_of-result : goal.invariant_of-result
-invariant_of-result g c = first_is_session _ c.in-Ok.ensures (ap (map held_of) c.with_hasher.ensures.empty) refl
+invariant_of-result g c = (first_is_session _ c.in-Ok.ensures (ap (map held_of) c.with_hasher.ensures.empty) refl, none_lists _ _ c.with_hasher.ensures.empty)
 
-pub returns : goal.returns
-returns g c = first_is_first _ c.in-Ok.ensures (ap (map held_of) c.with_hasher.ensures.empty) refl
+pub returns-clause-first : goal.returns-clause-first
+returns-clause-first g c = first_is_first _ c.in-Ok.ensures (ap (map held_of) c.with_hasher.ensures.empty) refl

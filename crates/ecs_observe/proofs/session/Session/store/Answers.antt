@@ -1,19 +1,25 @@
 -- What is against a new stored query is told, and else it is held.
 use Rattle.std.proofs.Common.{◌≡◌, ◌≢◌, All, None, Ok, Err, refl, sym, ap, subst, ◌∙◌}
 use Rattle.std.proofs.lemmas.Result.{err_from_is_err_and}
+use Rattle.std.specs.Prelude.{◌&&◌, not}
+use Rattle.std.specs.List.{list_any}
 use Rattle.ecs_model.specs.Query.{query_of}
+use Rattle.query_model.specs.Local.{is_local}
 use Rattle.ecs_observe.specs.Parts.{held_of}
-use Rattle.ecs_observe.specs.Standing.{Held, IsHeld, IsNow, Standing, session_of}
+use Rattle.ecs_observe.specs.Standing.{Held, IsHeld, IsNow, Standing, is_compared, is_monitor, session_of}
 use Rattle.ecs_observe.specs.Storing.{AnswersWatched, store_refusal}
+use Rattle.ecs_observe.proofs.Found.{same_but_compared}
+use Rattle.ecs_observe.specs.Storing.{with_held}
+use Rattle.ecs_observe.proofs.Locally.{last_isnt}
 use Rattle.ecs_observe.proofs.Orders.{has_room, is_idle, is_new, new_held, new_now, still_fits, store_done, store_refused, told_fault}
 use Rattle.query_meaning.proofs.Mentioned.{asked_queries_are_current}
 use Rattle.ecs_observe.proofs.session.Session.store.Goals as goal
 
-pub returns-in-Some : goal.returns-in-Some
-returns-in-Some g c = (store_refused (session_of c.args.self.now) c.args.kind c.args.name.now c.args.text.now c.in-Some.reason (sym c.store_refusal.ensures ∙ c.in-Some.is), refl)
+pub returns-in-Some-clause-answers : goal.returns-in-Some-clause-answers
+returns-in-Some-clause-answers g c = (store_refused (session_of c.args.self.now) c.args.kind c.args.name.now c.args.text.now c.in-Some.reason (sym c.store_refusal.ensures ∙ c.in-Some.is), refl)
 
-pub returns-in_err-query : goal.returns-in_err-query
-returns-in_err-query g c =
+pub returns-in_err-query-clause-answers : goal.returns-in_err-query-clause-answers
+returns-in_err-query-clause-answers g c =
     let free = sym c.store_refusal.ensures ∙ c.in_default.is in
     let p = err_from_is_err_and c.from_residual.result c.from_residual.ensures.1 in
     rw (p.1, p.2)
@@ -40,16 +46,26 @@ hold-requires-clause-held g c =
     (new_held c.self.inside.world.state c.args.kind c.args.text.now c.in_ok-query.query (held_of (c.in_ok-name.name, c.in_ok-stored.stored))
     c.in_ok-stored.ensures.kind c.in_ok-stored.ensures.query c.in_ok-query.ensures.0 c.in_ok-query.ensures.1 c.in_ok-stored.ensures.ascends)
 
+pub hold-requires-clause-list : goal.hold-requires-clause-list
+hold-requires-clause-list g c = c.in_ok-stored.ensures.list
+
 pub hold-requires-clause-now : goal.hold-requires-clause-now
 hold-requires-clause-now g c =
     subst (λ (s : Standing). IsNow (s.world).state (held_of (c.in_ok-name.name, c.in_ok-stored.stored))) c.self.view_is
     (new_now c.self.inside.world.state c.args.kind c.args.text.now c.in_ok-query.query (held_of (c.in_ok-name.name, c.in_ok-stored.stored))
     c.in_ok-stored.ensures.kind c.in_ok-stored.ensures.query c.in_ok-query.ensures.0 c.in_ok-query.ensures.1 c.in_ok-stored.ensures.these)
 
-pub returns : goal.returns
-returns g c =
+pub returns-clause-answers : goal.returns-clause-answers
+returns-clause-answers g c =
     let h = held_of (c.in_ok-name.name, c.in_ok-stored.stored) in
     store_done c.args.self.now c.args.name.now (sym c.store_refusal.ensures ∙ c.in_default.is) c.args.kind c.args.text.now h c.in_ok-name.ensures.ok c.in_ok-stored.ensures.kind
     (subst (λ (s : Standing). query_of (s.world).state c.args.text.now ≡ Ok h.query) c.self.view_is (c.in_ok-query.ensures.0 ∙ ap Ok (sym c.in_ok-stored.ensures.query)))
     (still_fits c.self.inside.world.state c.args.kind c.args.text.now c.in_ok-query.query h c.in_ok-stored.ensures.kind c.in_ok-stored.ensures.query c.in_ok-query.ensures.0 c.in_ok-query.ensures.1)
-    ∙ ap (λ s. Ok (session_of s, None)) (sym c.in_ok-hold.ensures.held)
+    ∙ ap (λ s. Ok (s, None)) (sym (ap session_of c.in_ok-hold.ensures.held ∙ same_but_compared (with_held c.args.self.now h) c.stored_query.new.compared))
+
+pub returns-clause-compared : goal.returns-clause-compared
+returns-clause-compared g c = λ none.
+    let h = held_of (c.in_ok-name.name, c.in_ok-stored.stored) in
+    let last = last_isnt (c.args.self.now).stored h (ap (λ (s : Standing). list_any is_compared s.stored) (sym c.in_ok-hold.ensures.held) ∙ none) in
+    let one = sym (λ i. is_monitor (c.in_ok-stored.ensures.kind i) && not (is_local (c.in_ok-stored.ensures.query i))) ∙ last in
+    ap (λ (s : Standing). s.compared) c.in_ok-hold.ensures.held ∙ (c.stored_query.ensures.compared one ∙ ap (λ (s : Standing). s.compared) c.self.view_is)

@@ -1,0 +1,33 @@
+-- The tables that kept queries list.
+use Rattle.std.specs.Prelude.{◌≡◌, List, All, Option, IfSome, is_some, not}
+use Rattle.std.specs.declared.string.String.{String}
+use Rattle.ecs_model.specs.stored.Watches.{is_told}
+use Rattle.query_cache.specs.Kept.{Fits, Kept}
+use Rattle.query_cache.specs.Patterns.{patterns_of}
+use Rattle.query_model.specs.Query.{Query}
+use Rattle.table_store.specs.Store.{Store}
+use Rattle.ecs_observe.specs.declared.stored.StoredQuery.{StoredQuery}
+
+-- a list of tables is that of a query, and fits a store
+pub record IsListOf (q : Query) (s : Store) (list : Kept) : Type 0 where
+  pub patterns : list.patterns ≡ patterns_of q
+  pub fits : Fits list s
+
+-- a kept query, and no other, has a list: its own, which fits a store
+pub record HasList {A : Type 0} (s : Store) (q : StoredQuery A) : Type 0 where
+  pub kept : is_some q.list ≡ not (is_told q.kind)
+  pub list : IfSome q.list (IsListOf (q.plan).query s)
+
+-- it fits every store, as a new one does
+abbrev pub HasNewList : {A : Type 0} → StoredQuery A → Type 0
+HasNewList q = (s : Store) → HasList s q
+
+abbrev pub IsNewList : Query → Option Kept → Type 0
+IsNewList q list = (s : Store) → IfSome list (IsListOf q s)
+
+abbrev pub HaveLists : {A : Type 0} → Store → List (String A × StoredQuery A) → Type 0
+HaveLists s es = All (λ e. HasList s e.1) es
+
+-- all that have their lists still do
+abbrev pub KeepLists : {A : Type 0} → List (String A × StoredQuery A) → List (String A × StoredQuery A) → Type 0
+KeepLists before after = (s : Store) → HaveLists s before → HaveLists s after

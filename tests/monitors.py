@@ -1,0 +1,71 @@
+"""Scripts with monitors of local queries: many entities, and commands of every kind with a twin of each monitor."""
+import random
+
+LOCAL = [
+    "Position, !Planet",
+    "Hot || Planet",
+    "Position, Hot, ?Planet",
+    "!{ Planet, !{ Hot } }, Position",
+    "(Likes,*), !Hot",
+    "(Likes,$this), Planet",
+    "(*,_), !(Likes,Sun)",
+    "Position, $this != Sun",
+    "Planet, ?Disabled",
+    "!Position, !{ Hot, !Planet }, *",
+]
+
+
+def making(names):
+    return ["component Position x:i32 y:i32"] + [f"entity {name}" for name in names]
+
+
+def bytes_of(lines):
+    return ("\n".join(lines) + "\n").encode()
+
+
+def many_entities(entities, commands):
+    """So many entities, a third of them with a position, ten local monitors, and then so many commands on entities chosen at random."""
+    draw = random.Random(7)
+    lines = making(["Planet", "Hot", "Likes", "Sun"])
+    for number in range(entities):
+        lines.append(f"entity E{number}")
+        if number % 3 == 0:
+            lines.append(f"set E{number} Position {number} 1")
+    lines += [f"monitor m{number} {text}" for number, text in enumerate(LOCAL)]
+    for _ in range(commands):
+        lines.append(f"{draw.choice(['add', 'remove'])} E{draw.randrange(entities)} {draw.choice(['Planet', 'Hot', 'Position'])}")
+    return bytes_of(lines)
+
+
+def command(draw, count):
+    """A command on one of so many entities."""
+    entity, other = (f"E{draw.randrange(count)}" for _ in range(2))
+    ids = ["Planet", "Hot", "Position", "Disabled", "Prefab", "(Likes,Sun)", f"(Likes,{other})", f"(Likes,{entity})"]
+    kind = draw.randrange(20)
+    if kind < 9:
+        return [f"add {entity} {draw.choice(ids)}"]
+    if kind < 17:
+        return [f"remove {entity} {draw.choice(ids)}"]
+    if kind < 18:
+        return [f"set {entity} Position {draw.randrange(99)} {draw.randrange(99)}"]
+    if kind < 19:
+        return [f"add {entity} (ChildOf,{other})"]
+    return [f"delete {entity}", f"entity {entity}"]
+
+
+def twins(commands):
+    """Commands of every kind, with each local monitor beside a twin whose query isn't local: an ancestor that it may have makes no difference
+    to who matches, but all its rows are taken and compared."""
+    draw = random.Random(11)
+    lines = making(["Planet", "Hot", "Likes", "Sun"]) + [f"entity E{number}" for number in range(24)]
+    for number, text in enumerate(LOCAL):
+        lines += [f"monitor m{number} {text}", f"monitor n{number} {text}, ?Hot(up)"]
+    for _ in range(commands):
+        lines += command(draw, 24)
+    return bytes_of(lines)
+
+
+def told_to(output, watch):
+    """What the watch of a name was told, without its name."""
+    words = (line.split() for line in output.decode().splitlines())
+    return [(line[0], line[2:]) for line in words if len(line) > 2 and line[0] in ("enter", "leave") and line[1] == watch]
