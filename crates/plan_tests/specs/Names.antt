@@ -12,4 +12,7 @@ named n =
     else if bytes_eq n (codes "Planet") then entity 65
     else if bytes_eq n (codes "Likes") then entity 66
     else if bytes_eq n (codes "D") then entity 67
+    else if bytes_eq n (codes "Star") then entity 68
+    else if bytes_eq n (codes "Hot") then entity 69
+    else if bytes_eq n (codes "Position") then entity 70
     else None

@@ -5,7 +5,7 @@ ghost use Rattle.std.specs.Prelude.{◌≡◌};
 use ecs_id::EntityId;
 use query_check::Lookup;
 
-/// A world of five names. IsA is transitive and reflexive.
+/// A world of eight names. IsA is transitive and reflexive.
 pub(crate) struct Sky;
 
 fn entity(index: u32) -> EntityId
@@ -36,6 +36,9 @@ impl Lookup for Sky {
             "Planet" => Some(entity(65)),
             "Likes" => Some(entity(66)),
             "D" => Some(entity(67)),
+            "Star" => Some(entity(68)),
+            "Hot" => Some(entity(69)),
+            "Position" => Some(entity(70)),
             _ => None,
         }
     }

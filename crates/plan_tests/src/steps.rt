@@ -128,6 +128,18 @@ fn the_shortest_list_comes_first(rt: HostRuntime) -> Result<(), Fail> {
     Ok(())
 }
 
+#[test]
+fn what_is_tied_to_bound_variables_comes_first(rt: HostRuntime) -> Result<(), Fail> {
+    let alloc = rt.alloc();
+    let text = "Hot($s), (ChildOf,$s), (Likes,$x), Position($x)";
+    let steps = [Scan(0), Scan(1), Targets(2), Check(3)];
+    assert!(rt; planned(alloc, text, &[2, 9, 5, 4], &steps)?);
+    let text = "(ChildOf,$p), ChildOf($p,$s), Star($s), Hot";
+    let steps = [Scan(2), Scan(1), Scan(0), Check(3)];
+    assert!(rt; planned(alloc, text, &[9, 9, 1, 2], &steps)?);
+    Ok(())
+}
+
 /// Whether these are the steps of the plan that a query has without a test of them.
 fn is_planned(alloc: Global, text: &str, lists: &[usize], steps: &[Step]) -> Result<bool, Fail> {
     let query = ask(alloc, text)?;
