@@ -18,7 +18,7 @@ pub not_contained : (xs : List ℕ) (y : ℕ) → contains xs y ≡ false → Co
 not_contained xs y f h = true≢false (sym ((contains_tells xs y).1 h) ∙ f)
 
 module _ {n : ℕ} {entities : List ℕ} {ids : ℕ → List Id} (links : AreLinks n entities ids) (r : ℕ) where
-  source_lives : (s x : ℕ) → Contains (upward ids r s) x → Contains entities s
+  pub source_lives : (s x : ℕ) → Contains (upward ids r s) x → Contains entities s
   source_lives s x h = let f = from_filter_map (target_under r) (ids s) x h in links.held s f.0 f.1
 
   reached_lives : {x y : ℕ} → Reached (upward ids r) x y → Contains entities x → Contains entities y

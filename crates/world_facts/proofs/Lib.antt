@@ -4,3 +4,5 @@ mod Factual
 mod Told
 mod Rising
 mod Tables
+mod Targets
+mod Climbing

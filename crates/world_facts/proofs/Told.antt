@@ -1,5 +1,5 @@
 -- What the calls of a world and of its links tell of what is read.
-use Rattle.std.proofs.Common.{◌≡◌, ◌⊎◌, ℕ, ◌<◌, ◌≤◌, ◌==◌, ◌&&◌, Bool, true, false, zero, suc, List, [], ◌∷◌, length, Option, Some, None, is_some, option_map, refl, sym, ap, subst, ◌∙◌, inl, inr, arith}
+use Rattle.std.proofs.Common.{◌≡◌, ◌⊎◌, ℕ, ◌<◌, ◌≤◌, ◌==◌, ◌&&◌, Bool, true, false, List, [], Option, Some, None, is_some, option_map, refl, sym, ap, subst, ◌∙◌, inl, inr, arith}
 use Rattle.std.specs.Prelude.{find}
 use Rattle.std.specs.List.{Contains, list_any}
 use Rattle.std.specs.Ordering.{nat_cmp}
@@ -9,8 +9,7 @@ use Rattle.ecs_id.specs.Id.{Id}
 use Rattle.component_index.specs.declared.pattern.Pattern.{Pattern}
 use Rattle.component_index.specs.Patterns.{matches}
 use Rattle.ecs_links.specs.Linked.{Linked, ids_at_index, indexes, rows_under, tables_under}
-use Rattle.ecs_model.specs.Line.{line_within}
-use Rattle.ecs_model.specs.Links.{AreLinks, IsReached, is_reflexive, is_transitive, line, reaches, upward}
+use Rattle.ecs_model.specs.Links.{AreLinks, IsReached, is_reflexive, is_transitive, line, reaches}
 use Rattle.ecs_model.specs.Map.{Map, has_key, keys, value_at}
 use Rattle.ecs_model.specs.World.{WorldState, entities, ids_of}
 use Rattle.ecs_model.proofs.Decided.{reaches_tells}
@@ -34,10 +33,6 @@ live_read live f i =
     (λ h. (contains_tells (keys live) i).1 (key_there nat_cmp nat_cmp-IsAntisymmetric live i h))
     (λ h. there_key nat_cmp nat_cmp_total live i ((contains_tells (keys live) i).0 h))
 
-none_in : {X : Type 0} (xs : List X) → ((x : X) → Contains xs x → ⊥) → xs ≡ []
-none_in [] none = refl
-none_in (x ∷ xs) none = absurd (none x (0, omega arith, refl))
-
 with_true : (a : Bool) → a ≡ (a && true)
 with_true true = refl
 with_true false = refl
@@ -46,21 +41,10 @@ with_false : (a : Bool) → false ≡ (a && false)
 with_false true = refl
 with_false false = refl
 
--- where there is no entity no ids are
+-- over entities below a size, with their ids
 module _ {n : ℕ} {live : List ℕ} {ids : ℕ → List Id} (links : AreLinks n live ids) where
   pub live_below : (e : ℕ) → contains live e ≡ true → e < n
   live_below e h = links.below e ((contains_tells live e).0 h)
-
-  nothing_outside : (e : ℕ) → n ≤ e → ids e ≡ []
-  nothing_outside e out = none_in (ids e) (λ i c. let b = links.below e (links.held e i c) in absurd (omega arith))
-
-  no_line : (m : ℕ) (r e : ℕ) → n ≤ e → line_within (upward ids r) m e ≡ []
-  unfolding line_within
-  no_line zero r e out = refl
-  no_line (suc m) r e out = rw (nothing_outside e out) refl
-
-  pub none_above : (p : ℕ → Bool) (r e : ℕ) → n ≤ e → None ≡ find p (line ids live r e)
-  none_above p r e out = ap (find p) (sym (no_line (length live) r e out))
 
   -- outside a relationship leads from an entity to itself alone
   reached_outside : (r s t : ℕ) → (n ≤ s) ⊎ (n ≤ t) → reaches ids live r s t ≡ (is_reflexive ids r && s == t)

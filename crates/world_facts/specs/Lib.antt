@@ -1,3 +1,4 @@
 pub mod Shown
 pub mod Rises
 pub mod Kept
+pub mod Climbing

@@ -4,14 +4,16 @@
 ghost use Rattle.std.specs.Prelude.{◌≡◌};
 ghost use Rattle.world_facts.specs.Kept.{KeepsTables};
 
+mod climb;
 pub mod laws;
 
+use crate::climb::first_up;
 use component_index::Pattern;
 use ecs_id::{EntityId, Id, TableKey};
 use ecs_model::built_ins::REFLEXIVE;
 use ecs_world::{Links, World};
 use plan_exec::Facts;
-use rel_travel::{Graph, Holders, Scratch, above, below, first_up, pull, reaches};
+use rel_travel::{Graph, Holders, Scratch, above, below, pull, reaches};
 use std::alloc::Allocator;
 use std::marker::Model;
 
@@ -142,9 +144,6 @@ impl<A: Allocator> Facts for WorldFacts<'_, A> {
         pattern: Pattern,
         scratch: &mut Scratch<B>,
     ) -> Option<u32> {
-        if self.links.size() <= entity {
-            return None;
-        }
         first_up(&self.links, entity, relationship, pattern, scratch)
     }
 
