@@ -83,7 +83,7 @@ impl<A: Allocator> Facts for WorldFacts<'_, A> {
     }
 
     fn has(&self, entity: u32, id: Id) -> bool {
-        self.world.has(entity, id)
+        self.links.ids(entity).contains(&id)
     }
 
     fn tables_of(&self, pattern: Pattern) -> &[TableKey] {

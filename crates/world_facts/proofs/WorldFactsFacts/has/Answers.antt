@@ -1,6 +1,9 @@
-use Rattle.std.proofs.Common.{sym, ◌∙◌}
-use Rattle.ecs_model.proofs.traits.Facts.{is_held-holds}
+use Rattle.std.proofs.Common.{List, sym, ap, ◌∙◌}
+use Rattle.std.specs.List.{list_any}
+use Rattle.ecs_id.specs.Id.{Id, id_eq}
 use Rattle.world_facts.proofs.WorldFactsFacts.has.Goals as goal
 
 pub returns : goal.returns
-returns g c = rw (← c.self.view_is) (c.has.ensures ∙ sym (is_held-holds (c.self.inside.world.now).state c.args.entity c.args.id))
+returns g c =
+    rw (← c.self.view_is)
+    (c.contains.ensures.value ∙ ap (λ (ids : List Id). list_any (λ i. id_eq i c.args.id) ids) (c.ids.ensures ∙ sym (c.self.invariant.sees.ids_are c.args.entity)))
