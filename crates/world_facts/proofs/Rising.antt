@@ -1,24 +1,21 @@
 -- The instructions of a plan ask ancestors along what the query asks them along.
-use Rattle.std.proofs.Common.{◌≡◌, ℕ, ◌&&◌, IsTrue, Bool, true, false, cond, List, [], ◌∷◌, ◌++◌, map, flat_map, length, get_or, Option, Some, None, refl, sym, ap, ◌∙◌, arith}
-use Rattle.std.specs.Prelude.{slice_get}
-use Rattle.std.specs.Option.{option_map_or}
+use Rattle.std.proofs.Common.{◌≡◌, ℕ, IsTrue, Bool, true, false, cond, List, [], ◌∷◌, ◌++◌, map, flat_map, get_or, Option, Some, None, refl, arith}
 use Rattle.std.specs.List.{All, Contains}
 use Rattle.std.proofs.lemmas.List.Elements.{All-append, All-cons, All-contains, All-map, All-nil, Contains-get_or}
 use Rattle.std.proofs.lemmas.Option.{get_or_from_slice_get, slice_get_within}
 use Rattle.ecs_id.specs.Id.{Id, plain}
-use Rattle.ecs_model.specs.BuiltIns.{acyclic, traversable}
+use Rattle.ecs_model.specs.BuiltIns.{traversable}
 use Rattle.ecs_model.specs.Links.{IsAcyclic}
 use Rattle.ecs_model.specs.World.{holds, ids_of}
 use Rattle.ecs_model.specs.rows.Level.{top}
 use Rattle.ecs_model.specs.rows.Rows.{level_mentions}
 use Rattle.ecs_model.specs.traits.Rules.{prefab, disabled}
 use Rattle.ecs_model.proofs.Members.{in_flat_map}
-use Rattle.plan_exec.specs.Actions.{cut, cuts, drops, entry_instructions, hit_test, instructions_of, is_fixed, item_actions, item_instructions, move_instructions, name_of, pattern_of, simple_of, term_actions, term_test}
+use Rattle.plan_exec.specs.Actions.{cut, cuts, drops, entry_instructions, hit_test, instructions_of, is_fixed, item_actions, item_instructions, move_instructions, name_of, pattern_of, term_actions, term_test}
 use Rattle.plan_exec.specs.Cursor.{IsActionAcyclic, IsStepAcyclic, IsTestAcyclic}
 use Rattle.plan_exec.specs.declared.action.Action.{Action}
 use Rattle.plan_exec.specs.declared.action.Action.TheVariants.{Match, Keep, Drop}
 use Rattle.plan_exec.specs.declared.action.Instruction.TheVariants.{By, Open, Close}
-use Rattle.plan_exec.specs.declared.action.Test.{Test}
 use Rattle.plan_exec.specs.declared.action.Test.TheVariants.{Lacks, Reaches}
 use Rattle.query_meaning.specs.Plan.{move_of, target_or_any}
 use Rattle.query_meaning.specs.Variables.{Entry, simple, group, entries, entry_at}
@@ -28,7 +25,6 @@ use Rattle.query_meaning.specs.declared.steps.Move.{Move}
 use Rattle.query_meaning.specs.declared.steps.Move.TheVariants.{Every, Deal, Enter, Leave}
 use Rattle.query_meaning.specs.declared.steps.Step.{Step}
 use Rattle.query_model.specs.Query.{Item, must, may, either, equal, differ, Query}
-use Rattle.query_model.specs.declared.query.Ref.{Ref}
 use Rattle.query_model.specs.declared.query.Ref.TheVariants.{Var}
 use Rattle.query_model.specs.declared.query.Term.{Term}
 use Rattle.world_facts.specs.Rises.{RisesAreAcyclic, entry_rises, item_rises, rise_in, rises, term_rises}

@@ -1,5 +1,5 @@
 -- Along which relationships a query asks ancestors.
-use Rattle.std.specs.Prelude.{ℕ, List, [], ◌∷◌, flat_map, All, Contains, IsTrue, Option, Some, None}
+use Rattle.std.specs.Prelude.{ℕ, List, [], ◌∷◌, flat_map, All, IsTrue, Option, Some, None}
 use Rattle.ecs_id.specs.Id.{plain}
 use Rattle.ecs_model.specs.BuiltIns.{traversable}
 use Rattle.ecs_model.specs.World.{WorldState, holds, ids_of}
