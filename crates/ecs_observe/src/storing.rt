@@ -43,7 +43,7 @@ impl<A: Allocator + Copy> Session<A> {
         }
         let query = read_watched(self.alloc, &self.world, kind, text)?;
         let mut compared = self.compared;
-        let stored = stored_query(self.alloc, &self.world, kind, &query, &mut compared)?;
+        let stored = stored_query(self.alloc, &self.world, kind, query, &mut compared)?;
         let name = String::from_str(self.alloc, name)?;
         self.hold(name, stored, compared)?;
         Ok(None)

@@ -10,15 +10,15 @@ use world_query::{matching, plan_in, read_query};
 /// The entities that match what a text asks in this world.
 pub fn matches_of(alloc: Global, world: &World, text: &str) -> Result<Vec<u32>, QueryFault> {
     let query = read_query(alloc, world, text)?;
-    match matches_in(alloc, world, &query) {
+    match matches_in(alloc, world, query) {
         Ok(found) => Ok(found),
         Err(_) => Err(QueryFault::Memory),
     }
 }
 
 /// The same of a query that was read.
-fn matches_in(alloc: Global, world: &World, query: &Query) -> Result<Vec<u32>, AllocError>
-    requires { IsAsked world.now.state query.now }
+fn matches_in(alloc: Global, world: &World, query: Query) -> Result<Vec<u32>, AllocError>
+    requires { IsAsked world.now.state query }
 {
     world.keeps();
     let plan = plan_in(alloc, world, query)?;

@@ -13,7 +13,7 @@ use world_query::{read_query, write_rows};
 
 fn ask(alloc: Global, world: &World, text: &str, out: &mut Vec<u8>) -> Result<(), QueryFault> {
     let query = read_query(alloc, world, text)?;
-    match write_rows(alloc, world, &query, out) {
+    match write_rows(alloc, world, query, out) {
         Ok(()) => Ok(()),
         Err(_) => Err(QueryFault::Memory),
     }

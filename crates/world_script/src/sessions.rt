@@ -242,7 +242,7 @@ fn run_query<A: Allocator + Copy>(
         Err(QueryFault::Fault(fault)) => return refuse_query(number, fault, output),
         Err(QueryFault::Memory) => return Err(AllocError),
     };
-    write_rows(alloc, world, &query, output)?;
+    write_rows(alloc, world, query, output)?;
     Ok(false)
 }
 

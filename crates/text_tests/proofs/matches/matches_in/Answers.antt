@@ -5,12 +5,12 @@ use Rattle.world_query.proofs.Asked.{answerable, as_answerable}
 use Rattle.text_tests.proofs.matches.matches_in.Goals as goal
 
 pub plan_in-requires : goal.plan_in-requires
-plan_in-requires c = record { sound = (answerable c.args.world.now.state c.args.query.now c.keeps.ensures c.requires).sound }
+plan_in-requires c = record { sound = (answerable c.args.world.now.state c.args.query c.keeps.ensures c.requires).sound }
 
 pub matching-requires : goal.matching-requires
 matching-requires c =
     record {
       answerable =
-          as_answerable (view_of c.args.world.now.state) (view_of c.args.world.now.state) c.args.query.now _ refl c.in_ok-plan.ensures.query
-          (answerable c.args.world.now.state c.args.query.now c.keeps.ensures c.requires);
+          as_answerable (view_of c.args.world.now.state) (view_of c.args.world.now.state) c.args.query _ refl c.in_ok-plan.ensures.query
+          (answerable c.args.world.now.state c.args.query c.keeps.ensures c.requires);
     }
