@@ -1,0 +1,5 @@
+pub mod Within
+pub mod Reaching
+pub mod Covered
+pub mod Holding
+pub mod Matching

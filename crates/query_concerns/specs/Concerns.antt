@@ -1,0 +1,59 @@
+-- Which ids concern a query: where only facts of others come and go, its rows are of the same entities.
+use Rattle.std.specs.Prelude.{ℕ, ◌==◌, Bool, true, false, ◌&&◌, ◌||◌, Option, Some, None}
+use Rattle.std.specs.List.{list_any}
+use Rattle.ecs_id.specs.Id.{Id, plain, pair}
+use Rattle.ecs_model.specs.BuiltIns.{transitive, reflexive}
+use Rattle.ecs_model.specs.traits.Rules.{prefab, disabled}
+use Rattle.query_model.specs.declared.query.Ref.{Ref}
+use Rattle.query_model.specs.declared.query.Ref.TheVariants.{Is, Var, Any, One}
+use Rattle.query_model.specs.declared.query.Term.{Term}
+use Rattle.query_model.specs.Query.{Item, must, may, either, equal, differ, Piece, item, opening, closing, Query}
+
+-- whether a reference may stand for an entity, whatever variables stand for
+abbrev pub may_be : ℕ → Ref → Bool
+may_be e (Is d) = d == e
+may_be e (Var v) = true
+may_be e Any = true
+may_be e One = true
+
+-- whether a pattern may match an id; without a target it matches plain ids only
+abbrev pub may_match : Ref → Option Ref → Id → Bool
+may_match first None (plain c) = may_be c first
+may_match first None (pair r t) = false
+may_match first (Some target) (plain c) = false
+may_match first (Some target) (pair r t) = may_be r first && may_be t target
+
+-- whether an id is a pair of a relationship, whatever its target
+abbrev pub is_pair_of : Ref → Id → Bool
+is_pair_of first (plain c) = false
+is_pair_of first (pair r t) = may_be r first
+
+-- whether an id is a pair along which a term asks ancestors
+abbrev pub leads_up : Option ℕ → Id → Bool
+leads_up None i = false
+leads_up (Some r) i = is_pair_of (Is r) i
+
+-- whether a term asks for an id, goes up along it, or follows it as transitive or reflexive
+abbrev pub term_concerns : Id → Term → Bool
+term_concerns i t = may_match t.first t.target i || leads_up t.up i || (t.closed && is_pair_of t.first i)
+
+abbrev pub item_concerns : Id → Item → Bool
+item_concerns i (must t) = term_concerns i t
+item_concerns i (may t) = term_concerns i t
+item_concerns i (either ts) = list_any (term_concerns i) ts
+item_concerns i (equal v r) = false
+item_concerns i (differ v r) = false
+
+abbrev pub piece_concerns : Id → Piece → Bool
+piece_concerns i (item x) = item_concerns i x
+piece_concerns i (opening from_term own) = false
+piece_concerns i closing = false
+
+-- the tags that say how far a relationship reaches, and who is passed over
+abbrev pub is_asked_by_all : Id → Bool
+is_asked_by_all (plain c) = c == transitive || c == reflexive || c == prefab || c == disabled
+is_asked_by_all (pair r t) = false
+
+-- whether an id concerns a query, terms inside groups too
+unfoldable pub concerns : Query → Id → Bool
+concerns q i = is_asked_by_all i || list_any (piece_concerns i) q.pieces

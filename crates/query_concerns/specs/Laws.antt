@@ -1,0 +1,15 @@
+-- The law of what concerns a query, as a statement.
+use Rattle.std.specs.Prelude.{◌≡◌, ℕ, filter}
+use Rattle.query_model.specs.Query.{Query}
+use Rattle.ecs_model.specs.rows.View.{View}
+use Rattle.ecs_model.specs.stored.Watches.{matching}
+use Rattle.query_concerns.specs.Concerns.{concerns}
+
+-- the same entities live in two views, and each holds the same ids of those that concern a query
+pub record AreAlikeFor (q : Query) (w v : View) : Type 0 where
+  pub entities : w.entities ≡ v.entities
+  pub ids : (e : ℕ) → filter (concerns q) (w.ids e) ≡ filter (concerns q) (v.ids e)
+
+-- whatever values there are, the same entities are `$this` of the query's rows then
+abbrev pub MatchByWhatConcerns : Type 0
+MatchByWhatConcerns = (w v : View) (q : Query) → AreAlikeFor q w v → matching w q ≡ matching v q

@@ -1,0 +1,2 @@
+pub mod Concerns
+pub mod Laws

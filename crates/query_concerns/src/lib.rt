@@ -1,0 +1,7 @@
+//! Which ids concern a query: where only facts of others come and go, its rows are of the same entities.
+#![tactic(auto)]
+
+mod concerning;
+pub mod laws;
+
+pub use concerning::concerns;
