@@ -100,7 +100,7 @@ module _ (w v : WorldState) (c : Command) (changed : Changed) (kept : IsWellForm
         ))
 
   -- an entity of which no fact came or went held the same ids
-  same_held : (before now : Bool) → (not before && now) ≡ false → (not now && before) ≡ false → before ≡ now
+  pub same_held : (before now : Bool) → (not before && now) ≡ false → (not now && before) ≡ false → before ≡ now
   same_held true true a b = refl
   same_held false false a b = refl
   same_held true false a b = absurd (true≢false b)

@@ -1,9 +1,9 @@
 pub mod InOrder
 pub mod Newborn
 pub mod WorldBefore
-pub mod LocalRows
 pub mod Searching
 pub mod Rising
 pub mod IdsBefore
 pub mod AllTouched
 pub mod After
+pub mod Unconcerned

@@ -16,6 +16,7 @@ use Rattle.ecs_model.specs.traits.Keeps.{IsWellFormed}
 use Rattle.ecs_model.proofs.Maps.{key_cmp_same, key_cmp_total}
 use Rattle.ecs_model.proofs.traits.Order.{accepted_step}
 use Rattle.touched_entities.specs.Before.{entities_before, facts_before, has_come, is_born, view_before}
+use Rattle.touched_entities.specs.Laws.{ShowsWorldBefore}
 use Rattle.touched_entities.proofs.InOrder.{any_left, any_without, in_order_are_keys}
 use Rattle.touched_entities.proofs.Newborn.{newborn}
 
@@ -100,3 +101,6 @@ module _ (w v : WorldState) (c : Command) (changed : Changed) (kept : IsWellForm
 
   pub shown_before : ((view_before v changed).entities ≡ (view_of w).entities) × ((e : ℕ) → (view_before v changed).ids e ≡ (view_of w).ids e)
   shown_before = (entities_before_are, λ e. ap (filter_map (λ k. if k.0 == e then Some k.1 else None)) facts_before_are)
+
+pub shows_world_before : ShowsWorldBefore
+shows_world_before w v c changed kept done = shown_before w v c changed kept done

@@ -1,5 +1,5 @@
 -- The laws of what queries saw before a command, as statements.
-use Rattle.std.specs.Prelude.{◌≡◌, ℕ, Ok}
+use Rattle.std.specs.Prelude.{◌≡◌, ℕ, false, Ok}
 use Rattle.query_model.specs.Query.{Query}
 use Rattle.ecs_model.specs.Command.{Changed}
 use Rattle.ecs_model.specs.World.{WorldState}
@@ -7,15 +7,21 @@ use Rattle.ecs_model.specs.rows.View.{view_of}
 use Rattle.ecs_model.specs.stored.Watches.{matching}
 use Rattle.ecs_model.specs.traits.Command.{Command, step}
 use Rattle.ecs_model.specs.traits.Keeps.{IsWellFormed}
-use Rattle.query_meaning.specs.Local.{IsLocal}
 use Rattle.touched_entities.specs.Before.{view_before}
+use Rattle.touched_entities.specs.Concerned.{is_concerned}
+use Rattle.watch_meaning.specs.Since.{IsAfter}
 
 -- by the world after a command and what has changed, the same entities lived before with the same ids as in the world before
 abbrev pub ShowsWorldBefore : Type 0
 ShowsWorldBefore = (w v : WorldState) (c : Command) (changed : Changed) → IsWellFormed w → step w c ≡ Ok (v, changed)
     → ((view_before v changed).entities ≡ (view_of w).entities) × ((e : ℕ) → (view_before v changed).ids e ≡ (view_of w).ids e)
 
--- and a local query had rows of the same entities
-abbrev pub LocalQueriesMatchedBefore : Type 0
-LocalQueriesMatchedBefore = (w v : WorldState) (c : Command) (changed : Changed) (q : Query) → IsWellFormed w → step w c ≡ Ok (v, changed) → IsLocal q
+-- and a query had rows of the same entities
+abbrev pub QueriesMatchedBefore : Type 0
+QueriesMatchedBefore = (w v : WorldState) (c : Command) (changed : Changed) (q : Query) → IsWellFormed w → step w c ≡ Ok (v, changed)
     → matching (view_before v changed) q ≡ matching (view_of w) q
+
+-- one that a command doesn't concern has rows of the same entities after it
+abbrev pub UnconcernedQueriesMatchOn : Type 0
+UnconcernedQueriesMatchOn = (v : WorldState) (changed : Changed) (q : Query) → IsWellFormed v → IsAfter v changed → is_concerned q changed ≡ false
+    → matching (view_before v changed) q ≡ matching (view_of v) q

@@ -1,3 +1,4 @@
 pub mod Before
 pub mod Indexes
+pub mod Concerned
 pub mod Laws

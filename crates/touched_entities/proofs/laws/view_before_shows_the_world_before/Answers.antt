@@ -1,4 +1,4 @@
-use Rattle.touched_entities.proofs.LocalRows.{shows_world_before}
+use Rattle.touched_entities.proofs.WorldBefore.{shows_world_before}
 use Rattle.touched_entities.proofs.laws.view_before_shows_the_world_before.Goals as goal
 
 pub returns : goal.returns

@@ -1,0 +1,104 @@
+-- A query had rows of the same entities by what follows of the world before, and has them after a command that doesn't concern it.
+use Rattle.std.specs.Prelude.{◌≡◌, ℕ, suc, ◌==◌, Bool, true, false, not, ◌&&◌, ◌||◌, List, [], ◌∷◌, ◌++◌, filter, length, map, Ok, Option, Some, None, is_some}
+use Rattle.std.specs.Cmp.{nat_cmp_total}
+use Rattle.std.specs.FinMap.{nat_cmp-IsAntisymmetric}
+use Rattle.std.specs.List.{Contains, list_any}
+use Rattle.std.specs.Option.{option_map_or}
+use Rattle.std.specs.Ordering.{nat_cmp, eq_by_cmp}
+use Rattle.std.proofs.Common.{refl, sym, ap, ◌∙◌, true≢false, arith}
+use Rattle.std.proofs.lemmas.Bool.{ne_eqb, or_parts}
+use Rattle.std.proofs.lemmas.List.Folds.{list_any-append}
+use Rattle.std.proofs.lemmas.List.Kept.{IsStrictlySortedBy-filter}
+use Rattle.ecs_id.specs.declared.EntityId.{EntityId}
+use Rattle.ecs_id.specs.Id.{Id, id_cmp, id_cmp_same, id_cmp_total}
+use Rattle.ecs_model.specs.Command.{Changed}
+use Rattle.ecs_model.specs.World.{WorldState, Key, entities, holds, ids_of, is_live, key_cmp, key_eq}
+use Rattle.ecs_model.specs.rows.View.{view_of}
+use Rattle.ecs_model.specs.traits.Command.{Command, step}
+use Rattle.ecs_model.specs.traits.Keeps.{IsWellFormed}
+use Rattle.ecs_model.proofs.Members.{any_passes, filtered}
+use Rattle.ecs_model.proofs.traits.Facts.{held_listed, listed_held}
+use Rattle.ecs_model.proofs.traits.Kept.{refuted}
+use Rattle.query_model.specs.Query.{Query}
+use Rattle.query_concerns.specs.Concerns.{concerns}
+use Rattle.query_concerns.specs.Laws.{AreAlikeFor}
+use Rattle.query_concerns.proofs.Matching.{match_by_what_concerns}
+use Rattle.watch_meaning.specs.Since.{IsAfter}
+use Rattle.touched_entities.specs.Before.{entities_before, is_born, view_before}
+use Rattle.touched_entities.specs.Concerned.{any_concerns, is_concerned}
+use Rattle.touched_entities.specs.Laws.{QueriesMatchedBefore, UnconcernedQueriesMatchOn}
+use Rattle.touched_entities.proofs.IdsBefore.{is_among, same_held}
+use Rattle.touched_entities.proofs.InOrder.{any_left, in_order_are_keys}
+use Rattle.touched_entities.proofs.Rising.{ids_rise, keys_rise, one_list}
+use Rattle.touched_entities.proofs.WorldBefore.{dead, has_gone, is_new, shown_before}
+
+pub queries_matched_before : QueriesMatchedBefore
+queries_matched_before w v c changed q kept done =
+    let shown = shown_before w v c changed kept done in
+    match_by_what_concerns (view_before v changed) (view_of w) q (record { entities = shown.0; ids = λ e. ap (filter (concerns q)) (shown.1 e) })
+
+-- ---- where nobody was born and nobody died, the same live
+
+no_birth : (o : Option EntityId) → is_some o ≡ false → (i : ℕ) → option_map_or (λ e. e.index == i) o false ≡ false
+no_birth None none i = refl
+no_birth (Some e) none i = absurd (true≢false none)
+
+no_items : {X : Type 0} (xs : List X) → not (length xs == 0) ≡ false → xs ≡ []
+no_items [] none = refl
+no_items (x ∷ xs) none = absurd (true≢false (sym (ap not (ne_eqb (suc (length xs)) 0 (λ e. absurd (omega (arith, e))))) ∙ none))
+
+stay : (v : WorldState) (changed : Changed) → IsWellFormed v → is_some changed.born ≡ false → changed.died ≡ [] → (view_before v changed).entities ≡ entities v
+unfolding entities_before
+stay v changed kept none_born none_died =
+    in_order_are_keys nat_cmp nat_cmp_total nat_cmp-IsAntisymmetric v.live (lasting ++ dead changed) (kept.in_order).live alive
+  where
+    lasting : List ℕ
+    lasting = filter (λ i. not (is_born changed i)) (entities v)
+
+    or_none : (b : Bool) → (b || false) ≡ b
+    or_none true = refl
+    or_none false = refl
+
+    alive : (i : ℕ) → list_any (eq_by_cmp nat_cmp i) (lasting ++ dead changed) ≡ is_live v i
+    alive i =
+        list_any-append (eq_by_cmp nat_cmp i) lasting (dead changed)
+        ∙ ap (λ ds. list_any (eq_by_cmp nat_cmp i) lasting || list_any (eq_by_cmp nat_cmp i) (map (λ d. (d.0).index) ds)) none_died
+        ∙ or_none (list_any (eq_by_cmp nat_cmp i) lasting)
+        ∙ any_left nat_cmp nat_cmp_total nat_cmp-IsAntisymmetric v.live (is_born changed) i
+        ∙ ap (λ b. not b && is_live v i) (no_birth changed.born none_born i)
+
+-- ---- and where no fact came or went that concerns a query, each holds the same ids of those that do
+
+-- no fact of an id that concerns a query is among facts of which none does
+not_among : (q : Query) (ks : List Key) → any_concerns q ks ≡ false → (k : Key) → concerns q k.1 ≡ true → list_any (key_eq k) ks ≡ false
+not_among q ks none k h = refuted (list_any (key_eq k) ks) (λ t. true≢false (sym (any_passes (λ x. concerns q x.1) ks k (is_among ks k t) h) ∙ none))
+
+module _ (w v : WorldState) (c : Command) (changed : Changed) (kept : IsWellFormed w) (kept_now : IsWellFormed v) (done : step w c ≡ Ok (v, changed)) (q : Query) where
+  same_concerning : any_concerns q changed.came ≡ false → any_concerns q changed.went ≡ false → (e : ℕ) → filter (concerns q) (ids_of w e) ≡ filter (concerns q) (ids_of v e)
+  same_concerning none_came none_went e =
+      one_list id_cmp id_cmp_total id_cmp_same (filter (concerns q) (ids_of w e)) (filter (concerns q) (ids_of v e))
+      (IsStrictlySortedBy-filter id_cmp (concerns q) (ids_of w e) (ids_rise e _ (keys_rise key_cmp w.facts (kept.in_order).facts)))
+      (IsStrictlySortedBy-filter id_cmp (concerns q) (ids_of v e) (ids_rise e _ (keys_rise key_cmp v.facts (kept_now.in_order).facts)))
+      (λ i. (
+        λ h. let f = (filtered (concerns q) (ids_of w e) i).0 h in
+            (filtered (concerns q) (ids_of v e) i).1 (held_listed v e i (sym (same i f.1) ∙ listed_held w e i f.0), f.1),
+        λ h. let f = (filtered (concerns q) (ids_of v e) i).0 h in
+            (filtered (concerns q) (ids_of w e) i).1 (held_listed w e i (same i f.1 ∙ listed_held v e i f.0), f.1),
+      ))
+    where
+      same : (i : Id) → concerns q i ≡ true → holds w e i ≡ holds v e i
+      same i h = same_held w v c changed kept done e (holds w e i) (holds v e i)
+          (sym (is_new w v c changed kept done (e, i)) ∙ not_among q changed.came none_came (e, i) h)
+          (sym (has_gone w v c changed kept done (e, i)) ∙ not_among q changed.went none_went (e, i) h)
+
+pub unconcerned_queries_match_on : UnconcernedQueriesMatchOn
+unfolding is_concerned
+unconcerned_queries_match_on v changed q kept_now after none =
+    let three = or_parts _ _ none in
+    let two = or_parts _ _ three.0 in
+    let one = or_parts _ _ two.0 in
+    let shown = shown_before after.before v after.command changed after.kept after.stepped in
+    match_by_what_concerns (view_before v changed) (view_of v) q (record {
+      entities = stay v changed kept_now one.0 (no_items changed.died one.1);
+      ids = λ e. ap (filter (concerns q)) (shown.1 e) ∙ same_concerning after.before v after.command changed after.kept kept_now after.stepped q two.1 three.1 e;
+    })

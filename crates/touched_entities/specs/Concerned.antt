@@ -1,0 +1,15 @@
+-- Whether what a command has changed concerns a query.
+use Rattle.std.specs.Prelude.{◌==◌, Bool, not, ◌||◌, List, length, is_some}
+use Rattle.std.specs.List.{list_any}
+use Rattle.ecs_model.specs.Command.{Changed}
+use Rattle.ecs_model.specs.World.{Key}
+use Rattle.query_concerns.specs.Concerns.{concerns}
+use Rattle.query_model.specs.Query.{Query}
+
+-- whether one of these facts does, by its id
+abbrev pub any_concerns : Query → List Key → Bool
+any_concerns q ks = list_any (λ k. concerns q k.1) ks
+
+-- whether somebody was born or died, or a fact came or went that does
+unfoldable pub is_concerned : Query → Changed → Bool
+is_concerned q changed = is_some changed.born || not (length changed.died == 0) || any_concerns q changed.came || any_concerns q changed.went

@@ -1,0 +1,36 @@
+//! Which queries a command concerns.
+
+ghost use Rattle.std.specs.Prelude.{◌≡◌};
+ghost use Rattle.touched_entities.specs.Concerned.{any_concerns, is_concerned};
+
+use ecs_model::FactKey;
+use ecs_world::Changes;
+use query_check::Query;
+use query_concerns::concerns;
+use std::alloc::Allocator;
+
+/// Whether a command concerns a query: somebody was born or died, or a fact came or went whose id concerns it. If not, the query has rows of
+/// the same entities as before.
+///
+/// Takes no memory, and time in the facts that came and went and in the terms of the query.
+#[tactic(auto, unfolding(crate::specs::Concerned::is_concerned))]
+pub fn is_concerned<A: Allocator>(query: &Query<A>, changes: &Changes<A>) -> bool
+    ensures { result ≡ is_concerned query.now changes.now }
+{
+    changes.born().is_some()
+        || !changes.died().is_empty()
+        || any_concerns(query, changes.came())
+        || any_concerns(query, changes.went())
+}
+
+/// Whether one of these facts concerns a query.
+fn any_concerns<A: Allocator>(query: &Query<A>, facts: &[FactKey]) -> bool
+    ensures { result ≡ any_concerns query.now facts.now }
+{
+    for fact in facts {
+        if concerns(query, fact.id()) {
+            return true;
+        }
+    }
+    false
+}
