@@ -1,4 +1,4 @@
-"""Scripts with monitors of local queries: many entities, and commands of every kind with a twin of each monitor."""
+"""Scripts with monitors: of local queries, many entities, and commands of every kind with a twin of each monitor; of others, commands that don't concern them."""
 import random
 
 LOCAL = [
@@ -34,6 +34,23 @@ def many_entities(entities, commands):
     lines += [f"monitor m{number} {text}" for number, text in enumerate(LOCAL)]
     for _ in range(commands):
         lines.append(f"{draw.choice(['add', 'remove'])} E{draw.randrange(entities)} {draw.choice(['Planet', 'Hot', 'Position'])}")
+    return bytes_of(lines)
+
+
+def unconcerned(entities, commands):
+    """A monitor that asks ancestors, so many entities, a third of them among its rows, and then so many commands that set values and bring tags
+    which its query doesn't mention; and at last three that change its rows."""
+    draw = random.Random(13)
+    lines = making(["Planet", "Hot", "Sun"]) + ["add Sun Hot"]
+    for number in range(entities):
+        lines.append(f"entity E{number}")
+        if number % 3 == 0:
+            lines += [f"add E{number} (ChildOf,Sun)", f"set E{number} Position {number} 1"]
+    lines.append("monitor m Hot(up), Position")
+    for _ in range(commands):
+        entity = 3 * draw.randrange(entities // 3)
+        lines.append(draw.choice([f"set E{entity} Position 2 {entity}", f"add E{entity} Planet", f"remove E{entity} Planet"]))
+    lines += ["set E1 Position 1 1", "add E1 (ChildOf,Sun)", "add E3 Disabled", "remove E0 Position"]
     return bytes_of(lines)
 
 

@@ -211,6 +211,14 @@ def local_monitors_are_told_as_whole_rows_tell(program, room):
     return all(one == other and len(one) > 20 for one, other in told)
 
 
+def unconcerned_monitors_cost_nothing(program, room):
+    """30,000 entities, a monitor that asks ancestors, and 10,000 commands that don't concern it, in less than a second; and three that do."""
+    begun = time.monotonic()
+    ran = run_words(program, [], monitors.unconcerned(30_000, 10_000))
+    told = monitors.told_to(ran.stdout, "m")
+    return time.monotonic() - begun < 1 and answers(ran, 0) and told == [("enter", ["E1"]), ("leave", ["E3"]), ("leave", ["E0"])]
+
+
 CASES = [
     reads_standard_input,
     reads_a_file,
@@ -234,6 +242,7 @@ CASES = [
     walk_through_tables_gives_memory_back,
     local_monitors_cost_what_changed,
     local_monitors_are_told_as_whole_rows_tell,
+    unconcerned_monitors_cost_nothing,
 ]
 
 

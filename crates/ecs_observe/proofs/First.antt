@@ -8,7 +8,7 @@ use Rattle.ecs_model.specs.World.{WorldState, first_world}
 use Rattle.ecs_model.specs.stored.Session.{SessionState, first_session}
 use Rattle.watch_meaning.specs.Mentions.{times}
 use Rattle.watch_meaning.specs.Since.{IsAfter}
-use Rattle.ecs_observe.specs.Standing.{Held, IsHeld, IsNow, IsSession, Standing, session_of, stored_of, told_to}
+use Rattle.ecs_observe.specs.Standing.{Held, IsHeld, IsNow, IsSession, Standing, WasNow, session_of, stored_of, told_to}
 
 none_pinned : (i : ℕ) → count_at first_world.pins i ≡ 0
 unfolding first_world
@@ -23,6 +23,7 @@ module _ (s : Standing) (first : (s.world).state ≡ first_world) (empty : s.sto
     once = subst (AllPairs (λ a b. a.name ≢ b.name)) (sym empty) (λ i j d low high. absurd (omega arith));
     now = λ e. subst (All (IsNow (s.world).state)) (sym empty) (All-nil (IsNow (s.world).state));
     after = subst (λ o. IfSome o (IsAfter (s.world).state)) (sym none) tt;
+    before = subst (λ o. IfSome o (λ changed. All (WasNow (s.world).state changed) s.stored)) (sym none) tt;
   }
 
   pub first_is_first : session_of s ≡ first_session

@@ -8,6 +8,7 @@ pub mod OneLess
 pub mod OneMore
 pub mod Orders
 pub mod Pinned
+pub mod Staying
 pub mod Retold
 pub mod Tellings
 pub mod Locally

@@ -21,20 +21,14 @@ use Rattle.query_model.specs.Query.{Query}
 use Rattle.local_queries.specs.Touched.{AreTouched, Touch}
 use Rattle.query_answers.proofs.Worlds.{worlds_ascend}
 use Rattle.touched_entities.specs.Before.{view_before}
-use Rattle.touched_entities.proofs.LocalRows.{shows_world_before}
+use Rattle.touched_entities.proofs.WorldBefore.{shows_world_before}
 use Rattle.watch_meaning.specs.Since.{IsAfter, left_event, told_since}
 use Rattle.world_events.specs.Told.{told_of_moves}
 use Rattle.ecs_observe.specs.Parts.{held_as, held_of}
 use Rattle.ecs_observe.specs.Standing.{Held, is_compared, is_monitor, is_told_locally, rows_before, told_to}
 use Rattle.ecs_observe.specs.declared.stored.StoredQuery.{StoredQuery}
 use Rattle.ecs_observe.proofs.Retold.{held_at}
-
-monitor_is : (kind : StoredKind) → is_monitor kind ≡ true → kind ≡ Monitor
-monitor_is Monitor e = refl
-monitor_is Kept e = absurd (true≢false (sym e))
-monitor_is OnAdd e = absurd (true≢false (sym e))
-monitor_is OnRemove e = absurd (true≢false (sym e))
-monitor_is OnSet e = absurd (true≢false (sym e))
+use Rattle.ecs_observe.proofs.Staying.{monitor_is}
 
 pub is_local_query : (h : Held) → is_told_locally h ≡ true → is_local h.query ≡ true
 is_local_query h e = (and_parts (is_monitor h.kind) (is_local h.query) e).1
@@ -106,11 +100,12 @@ module _ {A : Type 0} (es : List (String A × StoredQuery A)) (i : ℕ) (name : 
   pub one_told_locally : is_told_locally (held_as (string_bytes name) q) ≡ true → list_any is_told_locally (map held_of es) ≡ true
   one_told_locally e = any_passes_from_place is_told_locally (map held_of es) i (held_as (string_bytes name) q) (held_at es i name q there) e
 
-  pub none_compared : list_any is_compared (map held_of es) ≡ false → is_compared (held_as (string_bytes name) q) ≡ false
-  none_compared none = by (is_compared (held_as (string_bytes name) q)) refl
+  -- what none passes, it doesn't
+  pub none_at : (p : Held → Bool) → list_any p (map held_of es) ≡ false → p (held_as (string_bytes name) q) ≡ false
+  none_at p none = by (p (held_as (string_bytes name) q)) refl
     where
-      by : (b : Bool) → is_compared (held_as (string_bytes name) q) ≡ b → b ≡ false
-      by true e = absurd (true≢false (sym (any_passes_from_place is_compared (map held_of es) i (held_as (string_bytes name) q) (held_at es i name q there) e) ∙ none))
+      by : (b : Bool) → p (held_as (string_bytes name) q) ≡ b → b ≡ false
+      by true e = absurd (true≢false (sym (any_passes_from_place p (map held_of es) i (held_as (string_bytes name) q) (held_at es i name q there) e) ∙ none))
       by false e = refl
 
 -- the same of the values of a map

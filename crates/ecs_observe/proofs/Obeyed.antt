@@ -18,10 +18,11 @@ use Rattle.ecs_model.specs.traits.Keeps.{IsWellFormed}
 use Rattle.ecs_world.specs.Standing as store
 use Rattle.query_meaning.specs.Standing.{IsPinnedIn}
 use Rattle.query_meaning.proofs.Standing.{steps_keep_pins, steps_keep_queries_current}
+use Rattle.touched_entities.proofs.Unconcerned.{queries_matched_before}
 use Rattle.watch_meaning.specs.Mentions.{times}
 use Rattle.watch_meaning.specs.Since.{IsAfter}
 use Rattle.ecs_observe.specs.Answers.{AnswersApply, AnswersCommand, awaited, obeyed}
-use Rattle.ecs_observe.specs.Standing.{Held, IsHeld, IsNow, IsSession, Standing, session_of, stored_of, told_to}
+use Rattle.ecs_observe.specs.Standing.{Held, IsHeld, IsNow, IsSession, Standing, WasNow, session_of, stored_of, told_to}
 use Rattle.ecs_observe.specs.declared.errors.SessionError.{SessionError}
 use Rattle.ecs_observe.specs.declared.errors.SessionError.TheVariants.{Refused, Memory}
 use Rattle.ecs_observe.proofs.Pinned.{all_pinned}
@@ -76,6 +77,14 @@ module _ (s : Standing) (session : IsSession s) (none : is_some s.waiting ≡ fa
     is_after true = record { before = (s.world).state; command = c; kept = kept; stepped = stepped }
     is_after false = tt
 
+    -- what monitors were told before the command
+    was_now : All (WasNow v.state changed) s.stored
+    was_now = λ k d l m other. all_now k d l m other ∙ sym (queries_matched_before (s.world).state v.state c changed _ kept stepped)
+
+    is_before : (b : Bool) → IfSome (if b then Some changed else None) (λ done. All (WasNow v.state done) s.stored)
+    is_before true = was_now
+    is_before false = tt
+
     accepted_session : IsSession (left_by s v (awaited s.stored changed))
     accepted_session = record {
       held = still_held;
@@ -84,6 +93,7 @@ module _ (s : Standing) (session : IsSession s) (none : is_some s.waiting ≡ fa
       once = session.once;
       now = still_now (list_any (λ h. is_told h.kind) s.stored) refl;
       after = is_after (list_any (λ h. is_told h.kind) s.stored);
+      before = is_before (list_any (λ h. is_told h.kind) s.stored);
     }
 
     waiting_same : (b : Bool)
@@ -110,6 +120,8 @@ module _ (s : Standing) (session : IsSession s) (none : is_some s.waiting ≡ fa
     refused_session : IsSession (left_by s v s.waiting)
     refused_session =
         let after : IfSome s.waiting (IsAfter v.state) = subst (λ w. IfSome s.waiting (IsAfter w)) (sym same) session.after in
+        let before : IfSome s.waiting (λ changed. All (WasNow v.state changed) s.stored)
+        = subst (λ w. IfSome s.waiting (λ changed. All (WasNow w changed) s.stored)) (sym same) session.before in
         let now : s.waiting ≡ None → All (IsNow v.state) s.stored = λ e. subst (λ w. All (IsNow w) s.stored) (sym same) (session.now e) in
         record {
           held = subst (λ w. All (IsHeld w) s.stored) (sym same) session.held;
@@ -118,6 +130,7 @@ module _ (s : Standing) (session : IsSession s) (none : is_some s.waiting ≡ fa
           once = session.once;
           now = now;
           after = after;
+          before = before;
         }
 
     refused_state : session_of (left_by s v s.waiting) ≡ session_of s

@@ -25,7 +25,7 @@ use Rattle.watch_meaning.proofs.MentionedOnce.{count_by-cons, queries_mention_on
 use Rattle.watch_meaning.proofs.Pinning.{current_alive, unpinned_counts, unpinned_current, unpinned_once, unpinned_view}
 use Rattle.ecs_observe.specs.declared.stored.StoredQuery.{StoredQuery}
 use Rattle.ecs_observe.specs.Parts.{held_of}
-use Rattle.ecs_observe.specs.Standing.{Held, IsHeld, IsNow, IsSession, Standing, session_of, stored_of, told_to}
+use Rattle.ecs_observe.specs.Standing.{Held, IsHeld, IsNow, IsSession, Standing, WasNow, session_of, stored_of, told_to}
 use Rattle.ecs_observe.proofs.Found.{holds_of_found, is_key, named, seen}
 use Rattle.ecs_observe.proofs.OneMore.{far_from_most, none_waits, queries, still_held, still_now}
 
@@ -132,6 +132,7 @@ module _ (w v : world.Standing) (hs : List Held) (x : Held) (waiting : Option Ch
     once = AllPairs-filter (λ a b. a.name ≢ b.name) (λ h. not (bytes_eq x.name h.name)) hs kept.once;
     now = λ _. All-filter (λ h. not (bytes_eq x.name h.name)) (IsNow v.state) hs (λ k d l. still_now w.state v.state current same_view (slice_index_or hs k d) (kept.now idle k d l));
     after = subst (λ o. IfSome o (IsAfter v.state)) (sym idle) tt;
+    before = subst (λ o. IfSome o (λ changed. All (WasNow v.state changed) (others x.name hs))) (sym idle) tt;
   }
 
 -- ---- in the map

@@ -25,7 +25,7 @@ use Rattle.watch_meaning.proofs.MentionedOnce.{queries_mention_once}
 use Rattle.watch_meaning.proofs.Pinning.{pinned_counts, pinned_current, pinned_view}
 use Rattle.ecs_observe.specs.declared.stored.StoredQuery.{StoredQuery}
 use Rattle.ecs_observe.specs.Parts.{held_of}
-use Rattle.ecs_observe.specs.Standing.{Held, IsHeld, IsNow, IsSession, Standing}
+use Rattle.ecs_observe.specs.Standing.{Held, IsHeld, IsNow, IsSession, Standing, WasNow}
 use Rattle.ecs_observe.specs.Storing.{with_held}
 use Rattle.ecs_observe.proofs.Found.{seen}
 
@@ -81,6 +81,7 @@ module _ (w v : world.Standing) (hs : List Held) (h : Held) (waiting : Option Ch
     once = all_pairs_push (λ a b. a.name ≢ b.name) hs h kept.once free;
     now = λ _. All-push (IsNow v.state) hs h (λ k d l. still_now w.state v.state current same_view (slice_index_or hs k d) (kept.now idle k d l)) (still_now w.state v.state current same_view h now);
     after = subst (λ o. IfSome o (IsAfter v.state)) (sym idle) tt;
+    before = subst (λ o. IfSome o (λ changed. All (WasNow v.state changed) (hs ++ h ∷ []))) (sym idle) tt;
   }
 
 -- a session that is held in other memory

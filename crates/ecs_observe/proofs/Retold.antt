@@ -1,8 +1,9 @@
 -- What telling events leaves of a session.
-use Rattle.std.specs.Prelude.{◌≡◌, ℕ, ◌+◌, ◌<◌, ◌≤◌, Bool, true, false, List, [], ◌∷◌, ◌++◌, All, AllPairs, map, flat_map, length, slice_get, take, Option, None, Some, option_map, Ok, IfSome, if◌then◌else◌}
+use Rattle.std.specs.Prelude.{◌≡◌, ℕ, ◌+◌, ◌<◌, ◌≤◌, Bool, true, false, List, [], ◌∷◌, ◌++◌, All, AllPairs, map, flat_map, length, slice_get, take, Option, None, Some, option_map, unwrap_or, Ok, IfSome, if◌then◌else◌}
 use Rattle.std.specs.declared.string.String.{String}
 use Rattle.std.specs.declared.vec.Vec.{Vec}
 use Rattle.std.specs.Option.{option_map_or}
+use Rattle.std.specs.List.{list_any}
 use Rattle.std.specs.List.Sorted.{IsStrictlyIncreasing}
 use Rattle.std.specs.String.{string_bytes}
 use Rattle.std.proofs.Common.{refl, ap, inl, inr, sym, subst, ◌∙◌, ◌≢◌, suc, zero, arith, add-one, append_assoc, append-nil, get_or}
@@ -25,10 +26,11 @@ use Rattle.ecs_model.specs.stored.Watches.{Event, matching}
 use Rattle.ecs_model.specs.traits.Keeps.{IsWellFormed}
 use Rattle.watch_meaning.specs.Mentions.{times}
 use Rattle.watch_meaning.specs.Since.{IsAfter}
-use Rattle.ecs_observe.specs.Parts.{held_as, held_of, rows_in}
-use Rattle.ecs_observe.specs.Standing.{Held, IsHeld, IsNow, IsSession, Standing, rows_of, rows_told, session_of, stored_of, told_to, with_rows}
+use Rattle.ecs_observe.specs.Parts.{held_as, held_of, put_in, rows_in}
+use Rattle.ecs_observe.specs.Standing.{Held, IsHeld, IsNow, IsSession, Standing, WasNow, has_searched, is_searched, rows_of, rows_put, session_of, stored_of, told_to, with_rows, with_these}
 use Rattle.ecs_observe.specs.declared.stored.StoredQuery.{StoredQuery}
 use Rattle.ecs_observe.proofs.Answering.{matching_ascends}
+use Rattle.ecs_observe.proofs.Staying.{matches_now, told_now, with_rows_told}
 
 none_is_not_some : {X : Type 0} {x : X} → None ≡ Some x → ⊥
 none_is_not_some e = cc
@@ -73,48 +75,57 @@ module _ {A : Type 0} where
       subst P (get_or_from_slice_get (map held_of es) i one one there) (all i one (slice_get_within (map held_of es) i one there))
 
   -- the entities of one more query's rows
-  pub rows_pushed : (rows : List (Vec ℕ A)) (now : Vec ℕ A) (these : List ℕ) (all : List (Vec ℕ A)) → all ≡ rows ++ now ∷ [] → now.items ≡ these → rows_in all ≡ rows_in rows ++ these ∷ []
-  rows_pushed rows now these all e same = ap rows_in e ∙ (map-append (λ (r : Vec ℕ A). r.items) rows (now ∷ []) ∙ ap (λ t. rows_in rows ++ t ∷ []) same)
+  pub rows_pushed : (rows : List (Option (Vec ℕ A))) (now : Option (Vec ℕ A)) (these : Option (List ℕ)) (all : List (Option (Vec ℕ A))) → all ≡ rows ++ now ∷ [] → put_in now ≡ these → rows_in all ≡ rows_in rows ++ these ∷ []
+  rows_pushed rows now these all e same = ap rows_in e ∙ (map-append (λ (r : Option (Vec ℕ A)). put_in r) rows (now ∷ []) ∙ ap (λ t. rows_in rows ++ t ∷ []) same)
 
 -- ---- the rows that were told are kept
-pub put_past : (ss : List (List ℕ)) (s : List ℕ) (hs : List Held) → length hs ≤ length ss → with_rows ss hs ≡ with_rows (ss ++ s ∷ []) hs
+pub put_past : (ss : List (Option (List ℕ))) (s : Option (List ℕ)) (hs : List Held) → length hs ≤ length ss → with_rows ss hs ≡ with_rows (ss ++ s ∷ []) hs
 put_past [] s [] l = refl
 put_past [] s (h ∷ hs) l = absurd (omega arith)
 put_past (t ∷ ss) s [] l = refl
-put_past (t ∷ ss) s (h ∷ hs) l = ap (λ xs. record h { these = t } ∷ xs) (put_past ss s hs (omega arith))
+put_past (t ∷ ss) s (h ∷ hs) l = ap (λ xs. with_these t h ∷ xs) (put_past ss s hs (omega arith))
 
 module _ {A : Type 0} where
-  module _ (s : List ℕ) (q w : StoredQuery A) (kind : w.kind ≡ q.kind) (query : (w.plan).query ≡ (q.plan).query) (these : (w.these).items ≡ s) where
-    put_one : (e : String A × StoredQuery A) → e.1 ≡ q → held_of (e.0, w) ≡ record (held_of e) { these = s }
-    put_one e same =
-        let kinds : w.kind ≡ (e.1).kind = kind ∙ ap (λ (x : StoredQuery A). x.kind) (sym same) in
-        let queries : (w.plan).query ≡ ((e.1).plan).query = query ∙ ap (λ (x : StoredQuery A). (x.plan).query) (sym same) in
-        λ j. record { name = string_bytes e.0; kind = kinds j; query = queries j; these = these j }
+  module _ (s : Option (List ℕ)) (q w : StoredQuery A) (kind : w.kind ≡ q.kind) (query : (w.plan).query ≡ (q.plan).query) (these : (w.these).items ≡ unwrap_or s (q.these).items) where
+    put_one : (e : String A × StoredQuery A) → e.1 ≡ q → held_of (e.0, w) ≡ with_these s (held_of e)
+    put_one e same = by s these
+      where
+        kinds : w.kind ≡ (e.1).kind
+        kinds = kind ∙ ap (λ (x : StoredQuery A). x.kind) (sym same)
 
-    pub put_more : (ss : List (List ℕ)) (es : List (String A × StoredQuery A)) → slice_get (map (λ e. e.1) es) (length ss) ≡ Some q
+        queries : (w.plan).query ≡ ((e.1).plan).query
+        queries = query ∙ ap (λ (x : StoredQuery A). (x.plan).query) (sym same)
+
+        by : (o : Option (List ℕ)) → (w.these).items ≡ unwrap_or o (q.these).items → held_of (e.0, w) ≡ with_these o (held_of e)
+        by None t =
+            let stay : (w.these).items ≡ ((e.1).these).items = t ∙ ap (λ (x : StoredQuery A). (x.these).items) (sym same) in
+            λ j. record { name = string_bytes e.0; kind = kinds j; query = queries j; these = stay j }
+        by (Some rows) t = λ j. record { name = string_bytes e.0; kind = kinds j; query = queries j; these = t j }
+
+    pub put_more : (ss : List (Option (List ℕ))) (es : List (String A × StoredQuery A)) → slice_get (map (λ e. e.1) es) (length ss) ≡ Some q
         → with_rows ss (map held_of (set_value_at es (length ss) w)) ≡ with_rows (ss ++ s ∷ []) (map held_of es)
     put_more ss [] h = cc
     put_more [] (e ∷ es) h = let same : e.1 ≡ q = cc in ap (λ x. x ∷ map held_of es) (put_one e same)
-    put_more (t ∷ ss) (e ∷ es) h = ap (λ xs. record (held_of e) { these = t } ∷ xs) (put_more ss es h)
+    put_more (t ∷ ss) (e ∷ es) h = ap (λ xs. with_these t (held_of e) ∷ xs) (put_more ss es h)
 
   -- one of those that were told is put in its place
-  module _ (rows old : List (Vec ℕ A)) (these : Vec ℕ A) (es : List (String A × StoredQuery A)) (n : ℕ) (goal : List Held)
+  module _ (rows old : List (Option (Vec ℕ A))) (these : Option (Vec ℕ A)) (es : List (String A × StoredQuery A)) (n : ℕ) (goal : List Held)
       (popped : old ≡ rows ++ these ∷ []) (last : n ≡ length rows) (so : with_rows (rows_in old) (map held_of es) ≡ goal) where
-    split_rows : rows_in old ≡ rows_in rows ++ these.items ∷ []
-    split_rows = rows_pushed rows these these.items old popped refl
+    split_rows : rows_in old ≡ rows_in rows ++ put_in these ∷ []
+    split_rows = rows_pushed rows these (put_in these) old popped refl
 
     last_row : n ≡ length (rows_in rows)
-    last_row = last ∙ sym (length-map rows (λ (r : Vec ℕ A). r.items))
+    last_row = last ∙ sym (length-map rows (λ (r : Option (Vec ℕ A)). put_in r))
 
-    then_goal : with_rows (rows_in rows ++ these.items ∷ []) (map held_of es) ≡ goal
+    then_goal : with_rows (rows_in rows ++ put_in these ∷ []) (map held_of es) ≡ goal
     then_goal = ap (λ rs. with_rows rs (map held_of es)) (sym split_rows) ∙ so
 
-    pub put_step : (q w : StoredQuery A) → w.kind ≡ q.kind → (w.plan).query ≡ (q.plan).query → (w.these).items ≡ these.items
+    pub put_step : (q w : StoredQuery A) → w.kind ≡ q.kind → (w.plan).query ≡ (q.plan).query → (w.these).items ≡ unwrap_or (put_in these) (q.these).items
         → slice_get (map (λ e. e.1) es) n ≡ Some q → with_rows (rows_in rows) (map held_of (set_value_at es n w)) ≡ goal
     put_step q w kind query same at =
         let there : slice_get (map (λ e. e.1) es) (length (rows_in rows)) ≡ Some q = subst (λ k. slice_get (map (λ e. e.1) es) k ≡ Some q) last_row at in
         ap (λ k. with_rows (rows_in rows) (map held_of (set_value_at es k w))) last_row
-        ∙ (put_more these.items q w kind query same (rows_in rows) es there ∙ then_goal)
+        ∙ (put_more (put_in these) q w kind query same (rows_in rows) es there ∙ then_goal)
 
     past : (r : Option (StoredQuery A)) → slice_get (map (λ e. e.1) es) n ≡ None → length (map held_of es) ≤ length (rows_in rows)
     past r none = elim (slice_get_cases (map (λ e. e.1) es) n).1 [
@@ -123,17 +134,9 @@ module _ {A : Type 0} where
     ]
 
     pub skip_step : slice_get (map (λ e. e.1) es) n ≡ None → with_rows (rows_in rows) (map held_of es) ≡ goal
-    skip_step none = put_past (rows_in rows) these.items (map held_of es) (past None none) ∙ then_goal
+    skip_step none = put_past (rows_in rows) (put_in these) (map held_of es) (past None none) ∙ then_goal
 
 -- ---- the session
--- a stored query with the entities of its rows as they are now
-abbrev pub told_now : WorldState → Held → Held
-told_now w h = record h { these = rows_told w h }
-
-pub with_rows_told : (w : WorldState) (hs : List Held) → with_rows (map (rows_told w) hs) hs ≡ map (told_now w) hs
-with_rows_told w [] = refl
-with_rows_told w (h ∷ hs) = ap (λ xs. told_now w h ∷ xs) (with_rows_told w hs)
-
 same_stored : (w : WorldState) (hs : List Held) → map stored_of (map (told_now w) hs) ≡ map stored_of hs
 same_stored w [] = refl
 same_stored w (h ∷ hs) = ap (λ xs. stored_of h ∷ xs) (same_stored w hs)
@@ -164,14 +167,6 @@ ascending w kept OnAdd q e = cc
 ascending w kept OnRemove q e = cc
 ascending w kept OnSet q e = cc
 
--- of a monitor whose query isn't local all rows are held
-pub matches_now : (w : WorldState) (kind : StoredKind) (q : Query) → kind ≡ Monitor → is_local q ≡ false → rows_of w kind q ≡ matching (view_of w) q
-matches_now w Monitor q e l = ap (λ b. if b then [] else matching (view_of w) q) l
-matches_now w Kept q e l = cc
-matches_now w OnAdd q e l = cc
-matches_now w OnRemove q e l = cc
-matches_now w OnSet q e l = cc
-
 abbrev pub told_session : Standing → ℕ → Standing
 told_session s n = record { world = s.world; stored = map (told_now (s.world).state) s.stored; waiting = None; compared = n }
 
@@ -187,6 +182,7 @@ module _ (s : Standing) (session : IsSession s) (kept : IsWellFormed (s.world).s
         once = apart_now w s.stored session.once;
         now = λ e. All-map (IsNow w) (told_now w) s.stored (λ k d l. matches_now w _ _);
         after = tt;
+        before = tt;
       }
 
 -- none wait any more
@@ -215,11 +211,14 @@ none_after s e =
 -- ---- the same of a session as a call takes it
 module _ {A : Type 0} (s now : Standing) (view_is : s ≡ now) where
   -- what is held after the rows were put in their places
-  pub put_told : (start all : List (Vec ℕ A)) (left : List Held) → start ≡ [] → rows_in all ≡ rows_in start ++ map (rows_told (s.world).state) s.stored
-      → left ≡ with_rows (rows_in all) s.stored → left ≡ map (told_now (s.world).state) s.stored
-  put_told start all left none gathered put =
-      let rows : rows_in all ≡ map (rows_told (s.world).state) s.stored = gathered ∙ ap (λ (r : List (Vec ℕ A)). rows_in r ++ map (rows_told (s.world).state) s.stored) none in
-      put ∙ (ap (λ r. with_rows r s.stored) rows ∙ with_rows_told (s.world).state s.stored)
+  pub put_told : IsSession s → IsWellFormed (s.world).state → (changed : Changed) → s.waiting ≡ Some changed → (start all : List (Option (Vec ℕ A))) (left : List Held) → start ≡ []
+      → rows_in all ≡ rows_in start ++ map (rows_put (s.world).state changed) s.stored → left ≡ with_rows (rows_in all) s.stored → left ≡ map (told_now (s.world).state) s.stored
+  put_told session kept changed waiting start all left none gathered put =
+      let w = (s.world).state in
+      let rows : rows_in all ≡ map (rows_put w changed) s.stored = gathered ∙ ap (λ (r : List (Option (Vec ℕ A))). rows_in r ++ map (rows_put w changed) s.stored) none in
+      let after : IsAfter w changed = subst (λ o. IfSome o (IsAfter w)) waiting session.after in
+      let was : All (WasNow w changed) s.stored = subst (λ o. IfSome o (λ done. All (WasNow w done) s.stored)) waiting session.before in
+      put ∙ (ap (λ r. with_rows r s.stored) rows ∙ with_rows_told w changed kept after s.stored was)
 
 module _ (s now : Standing) (view_is : s ≡ now) where
   module _ (left : List Held) (put : left ≡ map (told_now (s.world).state) s.stored) (n : ℕ) where
@@ -244,3 +243,8 @@ module _ (s now : Standing) (view_is : s ≡ now) where
 
   pub none_waits_after : s.waiting ≡ None → session_of now ≡ after_events (session_of now)
   none_waits_after waiting = subst (λ x. session_of x ≡ after_events (session_of x)) view_is (none_after s waiting)
+
+  -- where none of the stored queries is searched for what waits, none is
+  pub none_for : (changed : Changed) → s.waiting ≡ Some changed → has_searched now ≡ false → list_any (is_searched changed) s.stored ≡ false
+  none_for changed waiting none =
+      sym (ap (λ o. option_map_or (λ done. list_any (is_searched done) s.stored) o false) waiting) ∙ (ap has_searched view_is ∙ none)

@@ -23,7 +23,7 @@ use Rattle.ecs_observe.specs.declared.stored.StoredQuery.{StoredQuery}
 use Rattle.ecs_observe.specs.Standing.{Held, IsNow, rows_before, stored_of, told_to}
 use Rattle.query_model.specs.Local.{is_local}
 use Rattle.touched_entities.specs.Before.{view_before}
-use Rattle.touched_entities.proofs.LocalRows.{local_queries_matched_before}
+use Rattle.touched_entities.proofs.Unconcerned.{queries_matched_before}
 use Rattle.watch_meaning.proofs.ToldSince.{watches_are_told_since}
 
 -- whether one is a watch is seen of what is held
@@ -63,7 +63,7 @@ module _ (w v : WorldState) (c : Command) (changed : Changed) (kept : IsWellForm
   before_is h now e = by (is_local h.query) refl
     where
       by : (b : Bool) → is_local h.query ≡ b → (if b then matching (view_before v changed) h.query else h.these) ≡ matching (view_of w) h.query
-      by true l = local_queries_matched_before w v c changed h.query kept stepped l
+      by true l = queries_matched_before w v c changed h.query kept stepped
       by false l = now e l
 
   told_one : (h : Held) → IsNow w h → told w v changed (stored_of h) ≡ told_to v changed h

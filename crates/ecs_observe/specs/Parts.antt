@@ -1,5 +1,5 @@
 -- What is seen of the parts of a session.
-use Rattle.std.specs.Prelude.{ℕ, List, map}
+use Rattle.std.specs.Prelude.{ℕ, List, Option, map, option_map}
 use Rattle.std.specs.declared.string.String.{String}
 use Rattle.std.specs.declared.vec.Vec.{Vec}
 use Rattle.std.specs.String.{string_bytes}
@@ -14,6 +14,10 @@ held_as name q = record { name = name; kind = q.kind; query = (q.plan).query; th
 abbrev pub held_of : {A : Type 0} → String A × StoredQuery A → Held
 held_of p = held_as (string_bytes p.0) p.1
 
--- the entities of the rows of some queries
-abbrev pub rows_in : {A : Type 0} → List (Vec ℕ A) → List (List ℕ)
-rows_in rows = map (λ r. r.items) rows
+-- the entities of the rows of a query, if any are put in the place of those that are held
+abbrev pub put_in : {A : Type 0} → Option (Vec ℕ A) → Option (List ℕ)
+put_in rows = option_map (λ r. r.items) rows
+
+-- the same of some queries
+abbrev pub rows_in : {A : Type 0} → List (Option (Vec ℕ A)) → List (Option (List ℕ))
+rows_in rows = map put_in rows

@@ -1,6 +1,8 @@
 -- What is seen of a session, and the session of the definitions that it is.
-use Rattle.std.specs.Prelude.{◌≡◌, ◌≢◌, ℕ, ◌≤◌, Bool, true, false, not, ◌&&◌, List, [], ◌∷◌, All, AllPairs, map, flat_map, length, Option, None, option_map, IfSome, Ok, if◌then◌else◌}
+use Rattle.std.specs.Prelude.{◌≡◌, ◌≢◌, ℕ, ◌≤◌, Bool, true, false, not, ◌&&◌, List, [], ◌∷◌, All, AllPairs, map, flat_map, length, Option, Some, None, option_map, IfSome, Ok, if◌then◌else◌}
+use Rattle.std.specs.List.{list_any}
 use Rattle.std.specs.List.Sorted.{IsStrictlyIncreasing}
+use Rattle.std.specs.Option.{option_map_or}
 use Rattle.query_model.specs.Local.{is_local}
 use Rattle.query_model.specs.Query.{Query}
 use Rattle.query_meaning.specs.Standing.{IsCurrentIn}
@@ -14,6 +16,7 @@ use Rattle.ecs_model.specs.stored.Session.{SessionState, most_stored}
 use Rattle.ecs_model.specs.stored.Watches.{Event, Stored, matching, watched}
 use Rattle.ecs_world.specs.Standing as world
 use Rattle.touched_entities.specs.Before.{view_before}
+use Rattle.touched_entities.specs.Concerned.{is_concerned}
 use Rattle.watch_meaning.specs.Mentions.{times}
 use Rattle.watch_meaning.specs.Since.{IsAfter, told_since}
 
@@ -46,6 +49,18 @@ is_told_locally h = is_monitor h.kind && is_local h.query
 abbrev pub is_compared : Held → Bool
 is_compared h = is_monitor h.kind && not (is_local h.query)
 
+-- whether its whole rows are taken after a command: it is compared, and the command concerns its query
+abbrev pub is_searched : Changed → Held → Bool
+is_searched changed h = is_compared h && is_concerned h.query changed
+
+-- whether those that are held stay after it: it is compared, and the command doesn't concern its query
+abbrev pub stays : Changed → Held → Bool
+stays changed h = is_compared h && not (is_concerned h.query changed)
+
+-- whether the whole rows of some stored query are to be taken for what waits
+abbrev pub has_searched : Standing → Bool
+has_searched s = option_map_or (λ changed. list_any (is_searched changed) s.stored) s.waiting false
+
 -- of a monitor the entities of its rows before a command: of a local query they follow from what has changed, of another they are held
 abbrev pub rows_before : WorldState → Changed → Held → List ℕ
 rows_before w changed h = if is_local h.query then matching (view_before w changed) h.query else h.these
@@ -70,11 +85,20 @@ rows_of w kind q = []
 abbrev pub rows_told : WorldState → Held → List ℕ
 rows_told w h = rows_of w h.kind h.query
 
--- stored queries with these as the entities of their rows, as far as there are any
-abbrev pub with_rows : List (List ℕ) → List Held → List Held
+-- what is put in their place after a command, unless they stay
+abbrev pub rows_put : WorldState → Changed → Held → Option (List ℕ)
+rows_put w changed h = if stays changed h then None else Some (rows_told w h)
+
+-- a stored query with these as the entities of its rows, if any are put in their place
+abbrev pub with_these : Option (List ℕ) → Held → Held
+with_these None h = h
+with_these (Some these) h = record h { these = these }
+
+-- the same of one stored query after another, as far as there are any
+abbrev pub with_rows : List (Option (List ℕ)) → List Held → List Held
 with_rows [] hs = hs
 with_rows (these ∷ rows) [] = []
-with_rows (these ∷ rows) (h ∷ hs) = record h { these = these } ∷ with_rows rows hs
+with_rows (these ∷ rows) (h ∷ hs) = with_these these h ∷ with_rows rows hs
 
 -- a stored query that is current, and one of its kind
 pub record IsHeld (w : WorldState) (h : Held) : Type 0 where
@@ -86,6 +110,10 @@ pub record IsHeld (w : WorldState) (h : Held) : Type 0 where
 -- if it is a monitor whose query isn't local, the entities are those of its rows now
 abbrev pub IsNow : WorldState → Held → Type 0
 IsNow w h = h.kind ≡ Monitor → is_local h.query ≡ false → h.these ≡ matching (view_of w) h.query
+
+-- and these are those of its rows before what has changed
+abbrev pub WasNow : WorldState → Changed → Held → Type 0
+WasNow w changed h = h.kind ≡ Monitor → is_local h.query ≡ false → h.these ≡ matching (view_before w changed) h.query
 
 -- what every session has
 pub record IsSession (s : Standing) : Type 0 where
@@ -99,3 +127,5 @@ pub record IsSession (s : Standing) : Type 0 where
   pub now : s.waiting ≡ None → All (IsNow (s.world).state) s.stored
   -- what waits was changed by the command that left this world
   pub after : IfSome s.waiting (IsAfter (s.world).state)
+  -- and monitors were told all before it
+  pub before : IfSome s.waiting (λ changed. All (WasNow (s.world).state changed) s.stored)

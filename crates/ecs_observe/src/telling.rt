@@ -1,14 +1,16 @@
 //! Telling the events of a command.
 
-ghost use Rattle.std.specs.Prelude.{◌≡◌, ◌++◌, IfOk, OnErr, OnOk, All, map, flat_map, false, true};
+ghost use Rattle.std.specs.Prelude.{◌≡◌, ◌++◌, ◌&&◌, IfOk, OnErr, OnOk, All, map, flat_map, false, not, true};
 ghost use Rattle.std.specs.List.{list_any};
 ghost use Rattle.std.specs.String.{string_bytes};
 ghost use Rattle.ecs_model.specs.stored.Session.{after_events, events};
 ghost use Rattle.ecs_observe.specs.Lists.{KeepLists};
-ghost use Rattle.ecs_observe.specs.Parts.{held_as, held_of, rows_in};
-ghost use Rattle.ecs_observe.specs.Standing.{IsHeld, is_compared, is_told_locally, rows_of, rows_told, session_of, told_to, with_rows};
+ghost use Rattle.ecs_observe.specs.Parts.{held_as, held_of, put_in, rows_in};
+ghost use Rattle.ecs_observe.specs.Standing.{IsHeld, WasNow, has_searched, is_compared, is_monitor, is_searched, is_told_locally, rows_put, session_of, told_to, with_rows};
 ghost use Rattle.ecs_observe.specs.Telling.{AreTouchedBy};
 ghost use Rattle.query_meaning.specs.Standing.{IsCurrentIn};
+ghost use Rattle.query_model.specs.Local.{is_local};
+ghost use Rattle.touched_entities.specs.Concerned.{is_concerned};
 ghost use Rattle.watch_meaning.specs.Since.{IsAfter};
 
 use crate::Session;
@@ -17,19 +19,21 @@ use crate::watched::held_rows;
 use ecs_world::{Changes, World};
 use local_queries::{Touched, local_told};
 use std::alloc::{AllocError, Allocator};
-use touched_entities::touched;
+use touched_entities::{is_concerned, touched};
 use world_events::{Audience, Event, Moves, tell, tell_moves};
 
 impl<A: Allocator + Copy> Session<A> {
     /// The events that wait, of one stored query after another in the order of making. After that none wait.
     ///
     /// Of a monitor those that left come first, each by ascending index. One whose query is local is told by the entities that the command
-    /// touched, of another all rows are taken and compared. Fails where memory is refused, and then they still wait.
+    /// touched. Of another all rows are taken and compared, if the command concerns its query: else they are of the same entities, and it is
+    /// told nothing. Fails where memory is refused, and then they still wait.
     pub fn events(&mut self) -> Result<Vec<Event<A>, A>, AllocError>
         ensures told { IfOk result (λ told. told.items ≡ events (session_of self.old)) }
         ensures after { OnOk result (session_of self.new ≡ after_events (session_of self.old)) }
         ensures refused { OnErr result (self.new ≡ self.old) }
         ensures compared { list_any is_compared (self.old).stored ≡ false → (self.new).compared ≡ (self.old).compared }
+        ensures spared { has_searched self.old ≡ false → (self.new).compared ≡ (self.old).compared }
     {
         let mut events = Vec::new(self.alloc);
         let mut rows = Vec::new(self.alloc);
@@ -73,23 +77,25 @@ fn touched_if_asked<'w, A: Allocator + Copy>(
     }
 }
 
-/// Puts what all stored queries are told behind other events, and the entities of their rows now behind others. Counts the whole rows taken.
+/// Puts what all stored queries are told behind other events, and the entities of their rows now behind others, unless they stay. Counts the
+/// whole rows taken.
 fn tell_all<A: Allocator + Copy>(
     alloc: A,
     world: &World<A>,
     changes: &Changes<A>,
     touched: &[Touched<'_, A>],
     stored: &StoredQueries<A>,
-    rows: &mut Vec<Vec<u32, A>, A>,
+    rows: &mut Vec<Option<Vec<u32, A>>, A>,
     compared: &mut u64,
     events: &mut Vec<Event<A>, A>,
 ) -> Result<(), AllocError>
     requires after { IsAfter world.now.state changes.now }
     requires held { All (IsHeld world.now.state) (map held_of stored.now.entries) }
+    requires was { All (WasNow world.now.state changes.now) (map held_of stored.now.entries) }
     requires touched { list_any is_told_locally (map held_of stored.now.entries) ≡ true → AreTouchedBy world.now.state changes.now touched.now }
-    ensures rows { OnOk result (rows_in rows.new.items ≡ rows_in rows.old.items ++ map (rows_told world.now.state) (map held_of stored.now.entries)) }
+    ensures rows { OnOk result (rows_in rows.new.items ≡ rows_in rows.old.items ++ map (rows_put world.now.state changes.now) (map held_of stored.now.entries)) }
     ensures told { OnOk result (events.new.items ≡ events.old.items ++ flat_map (told_to world.now.state changes.now) (map held_of stored.now.entries)) }
-    ensures compared { list_any is_compared (map held_of stored.now.entries) ≡ false → compared.new ≡ compared.old }
+    ensures compared { list_any (is_searched changes.now) (map held_of stored.now.entries) ≡ false → compared.new ≡ compared.old }
 {
     for i in 0..stored.len() {
         if let Some((name, query)) = stored.get_index(i) {
@@ -102,7 +108,7 @@ fn tell_all<A: Allocator + Copy>(
     Ok(())
 }
 
-/// Puts what a stored query is told behind other events, and answers what is held of its rows now.
+/// Puts what a stored query is told behind other events, and answers what is held of its rows now, unless they stay.
 fn tell_one<A: Allocator + Copy>(
     alloc: A,
     world: &World<A>,
@@ -112,17 +118,22 @@ fn tell_one<A: Allocator + Copy>(
     query: &StoredQuery<A>,
     compared: &mut u64,
     events: &mut Vec<Event<A>, A>,
-) -> Result<Vec<u32, A>, AllocError>
+) -> Result<Option<Vec<u32, A>>, AllocError>
     requires after { IsAfter world.now.state changes.now }
     requires held { IsHeld world.now.state (held_as (string_bytes name.now) query.now) }
+    requires was { WasNow world.now.state changes.now (held_as (string_bytes name.now) query.now) }
     requires touched { is_told_locally (held_as (string_bytes name.now) query.now) ≡ true → AreTouchedBy world.now.state changes.now touched.now }
-    ensures rows { IfOk result (λ rows. rows.items ≡ rows_told world.now.state (held_as (string_bytes name.now) query.now)) }
+    ensures rows { IfOk result (λ rows. put_in rows ≡ rows_put world.now.state changes.now (held_as (string_bytes name.now) query.now)) }
     ensures told { OnOk result (events.new.items ≡ events.old.items ++ told_to world.now.state changes.now (held_as (string_bytes name.now) query.now)) }
-    ensures compared { is_compared (held_as (string_bytes name.now) query.now) ≡ false → compared.new ≡ compared.old }
+    ensures compared { is_searched changes.now (held_as (string_bytes name.now) query.now) ≡ false → compared.new ≡ compared.old }
 {
     if query.is_told_locally() {
         tell_locally(alloc, world, changes, touched, name, query, events)?;
-        return Ok(Vec::new(alloc));
+        return Ok(Some(Vec::new(alloc)));
+    }
+    world.keeps();
+    if stays(query, changes) {
+        return Ok(None);
     }
     let rows = held_rows(alloc, world, query.kind, &query.plan, compared)?;
     let audience = Audience {
@@ -133,7 +144,14 @@ fn tell_one<A: Allocator + Copy>(
         new: rows.as_slice(),
     };
     tell(alloc, world, changes, audience, events)?;
-    Ok(rows)
+    Ok(Some(rows))
+}
+
+/// Whether the entities of a stored query's rows stay after a command: it is compared, and the command doesn't concern its query.
+fn stays<A: Allocator>(query: &StoredQuery<A>, changes: &Changes<A>) -> bool
+    ensures { result ≡ ((is_monitor query.now.kind && not (is_local (query.now.plan).query)) && not (is_concerned (query.now.plan).query changes.now)) }
+{
+    query.is_compared() && !is_concerned(query.plan.query(), changes)
 }
 
 /// Puts what a monitor of a local query is told behind other events, by the entities that the command touched.
@@ -160,14 +178,14 @@ fn tell_locally<A: Allocator + Copy>(
     tell_moves(alloc, world, changes, name.as_bytes(), moves, events)
 }
 
-/// Keeps the entities of the rows that stored queries were told.
-fn put_rows<A: Allocator>(stored: &mut StoredQueries<A>, mut rows: Vec<Vec<u32, A>, A>)
+/// Keeps the entities of the rows that stored queries were told, where they don't stay.
+fn put_rows<A: Allocator>(stored: &mut StoredQueries<A>, mut rows: Vec<Option<Vec<u32, A>>, A>)
     ensures held { map held_of stored.new.entries ≡ with_rows (rows_in rows.items) (map held_of stored.old.entries) }
     ensures lists { KeepLists stored.old.entries stored.new.entries }
 {
     while let Some(these) = rows.pop() {
         if let Some(query) = stored.get_index_mut(rows.len()) {
-            query.these = these;
+            query.keep(these);
         }
     }
 }

@@ -13,6 +13,8 @@ use world_query::read_query;
 
 const CHILD_OF: u32 = 1;
 
+const DISABLED: u32 = 5;
+
 const POSITION: u32 = 64;
 
 const PLANET: u32 = 65;
@@ -31,6 +33,9 @@ const MOON: EntityId = EntityId {
     index: 68,
     generation: 0,
 };
+
+/// The index of the entity that is made after the system.
+const HOT: u32 = 69;
 
 /// The sun with a position, and the earth, a planet with one, around it; the moon around the earth.
 fn make_system(alloc: Global, session: &mut Session) -> Result<(), Fail> {
@@ -121,6 +126,42 @@ fn other_monitors_compare_all_rows(rt: HostRuntime) -> Result<(), Fail> {
     let mut session = Session::new(rt.alloc(), RandomState::new(&rt)?)?;
     let mut out = Vec::new(rt.alloc());
     let done = run_through_parents(&rt, rt.alloc(), &mut session, &mut out);
+    drop(session);
+    done
+}
+
+/// Of a query that asks ancestors nothing is searched where a value is set or a tag comes that it doesn't mention.
+fn run_unconcerned(
+    rt: &impl Abort,
+    alloc: Global,
+    session: &mut Session,
+    out: &mut Vec<u8>,
+) -> Result<(), Fail> {
+    make_system(alloc, session)?;
+    session.entity("Hot")?;
+    session.add(SUN, Id::plain(HOT))?;
+    session.store(StoredKind::Monitor, "m", "Hot(up), Position")?;
+    let compared = session.compared();
+    session.set(EARTH, Id::plain(POSITION), &[1, 1])?;
+    tell(session, out)?;
+    session.remove(EARTH, Id::plain(PLANET))?;
+    tell(session, out)?;
+    assert!(rt; session.compared() == compared);
+    session.set(MOON, Id::plain(POSITION), &[2, 2])?;
+    tell(session, out)?;
+    session.remove(MOON, Id::pair(CHILD_OF, EARTH.index))?;
+    tell(session, out)?;
+    session.add(EARTH, Id::plain(DISABLED))?;
+    tell(session, out)?;
+    assert_eq!(rt; out.as_slice(), b"enter m Moon\nleave m Moon\nleave m Earth\n".as_slice());
+    Ok(())
+}
+
+#[test]
+fn unconcerned_monitors_compare_no_rows(rt: HostRuntime) -> Result<(), Fail> {
+    let mut session = Session::new(rt.alloc(), RandomState::new(&rt)?)?;
+    let mut out = Vec::new(rt.alloc());
+    let done = run_unconcerned(&rt, rt.alloc(), &mut session, &mut out);
     drop(session);
     done
 }

@@ -2,8 +2,8 @@ use Rattle.std.specs.Prelude.{is_some}
 use Rattle.std.specs.String.{string_bytes}
 use Rattle.std.proofs.Common.{ap, arith, sym, true≢false, ◌∙◌}
 use Rattle.ecs_observe.specs.Parts.{held_as, held_of, rows_in}
-use Rattle.ecs_observe.specs.Standing.{IsHeld, rows_told, told_to}
-use Rattle.ecs_observe.proofs.Locally.{none_compared, one_told_locally}
+use Rattle.ecs_observe.specs.Standing.{IsHeld, WasNow, is_searched, rows_put, told_to}
+use Rattle.ecs_observe.proofs.Locally.{none_at, one_told_locally}
 use Rattle.ecs_observe.proofs.Retold.{all_at, gathered_more, held_at, mapped_more, rows_pushed}
 use Rattle.ecs_observe.proofs.telling.tell_all.Goals as goal
 use Rattle.ecs_observe.proofs.telling.tell_all.Goals.{in-Some+in_ok-now+in_ok-push, in_default}
@@ -12,18 +12,22 @@ pub tell_one-requires-clause-held : goal.tell_one-requires-clause-held
 tell_one-requires-clause-held g c =
     all_at (IsHeld c.args.world.now.state) c.args.stored.now.entries c.loop-i.i c.in-Some.name.now c.in-Some.query.now (sym c.in-Some.ensures.entry) c.requires.held
 
+pub tell_one-requires-clause-was : goal.tell_one-requires-clause-was
+tell_one-requires-clause-was g c =
+    all_at (WasNow c.args.world.now.state c.args.changes.now) c.args.stored.now.entries c.loop-i.i c.in-Some.name.now c.in-Some.query.now (sym c.in-Some.ensures.entry) c.requires.was
+
 pub tell_one-requires-clause-touched : goal.tell_one-requires-clause-touched
 tell_one-requires-clause-touched g c = λ e.
     c.requires.touched (one_told_locally c.args.stored.now.entries c.loop-i.i c.in-Some.name.now c.in-Some.query.now (sym c.in-Some.ensures.entry) e)
 
 pub returns-in_err-now-clause-compared : goal.returns-in_err-now-clause-compared
 returns-in_err-now-clause-compared g c = λ none.
-    c.tell_one.ensures.compared (none_compared c.args.stored.now.entries c.loop-i.i c.in-Some.name.now c.in-Some.query.now (sym c.in-Some.ensures.entry) none)
+    c.tell_one.ensures.compared (none_at c.args.stored.now.entries c.loop-i.i c.in-Some.name.now c.in-Some.query.now (sym c.in-Some.ensures.entry) (is_searched c.args.changes.now) none)
     ∙ c.loop-i.invariant.compared none
 
 pub returns-in_err-push-clause-compared : goal.returns-in_err-push-clause-compared
 returns-in_err-push-clause-compared g c = λ none.
-    c.in_ok-now.ensures.compared (none_compared c.args.stored.now.entries c.loop-i.i c.in-Some.name.now c.in-Some.query.now (sym c.in-Some.ensures.entry) none)
+    c.in_ok-now.ensures.compared (none_at c.args.stored.now.entries c.loop-i.i c.in-Some.name.now c.in-Some.query.now (sym c.in-Some.ensures.entry) (is_searched c.args.changes.now) none)
     ∙ c.loop-i.invariant.compared none
 
 pub loop-i-preserved : goal.loop-i-preserved
@@ -36,12 +40,12 @@ loop-i-preserved g c =
           let one = held_as (string_bytes b.in-Some.name.now) b.in-Some.query.now in
           let there = held_at es i b.in-Some.name.now b.in-Some.query.now (sym b.in-Some.ensures.entry) in
           record {
-            rows = mapped_more (rows_told w) (rows_in c.args.rows.now.items) (rows_in c.loop-i.rows.items) (rows_in c.match-get_index.rows.items) _ i one there c.loop-i.invariant.rows
-                (rows_pushed c.loop-i.rows.items b.in_ok-now.now (rows_told w one) c.match-get_index.rows.items (ap (λ v. v.items) b.rows-is ∙ b.in_ok-push.ensures.items) b.in_ok-now.ensures.rows);
+            rows = mapped_more (rows_put w c.args.changes.now) (rows_in c.args.rows.now.items) (rows_in c.loop-i.rows.items) (rows_in c.match-get_index.rows.items) _ i one there c.loop-i.invariant.rows
+                (rows_pushed c.loop-i.rows.items b.in_ok-now.now (rows_put w c.args.changes.now one) c.match-get_index.rows.items (ap (λ v. v.items) b.rows-is ∙ b.in_ok-push.ensures.items) b.in_ok-now.ensures.rows);
             told = gathered_more (told_to w c.args.changes.now) c.args.events.now.items c.loop-i.events.items c.match-get_index.events.items _ i one there c.loop-i.invariant.told
                 (ap (λ v. v.items) b.events-is ∙ b.in_ok-now.ensures.told);
             compared = λ none. b.compared-is
-                ∙ (b.in_ok-now.ensures.compared (none_compared es i b.in-Some.name.now b.in-Some.query.now (sym b.in-Some.ensures.entry) none)
+                ∙ (b.in_ok-now.ensures.compared (none_at es i b.in-Some.name.now b.in-Some.query.now (sym b.in-Some.ensures.entry) (is_searched c.args.changes.now) none)
                 ∙ c.loop-i.invariant.compared none);
           }
       | in_default b ↦ absurd (true≢false (sym (c.get_index.ensures.found.1 (omega (arith, c.loop-i-test.true, c.len-i-end.ensures.len))) ∙ ap is_some b.in_default.is))

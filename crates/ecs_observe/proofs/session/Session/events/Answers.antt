@@ -12,7 +12,7 @@ returns-in_default-clause-after g c = none_waits_after _ c.args.self.now c.self.
 pub invariant_of-self : goal.invariant_of-self
 invariant_of-self g c = (
   retold_session _ c.args.self.now c.self.view_is _
-      (put_told _ c.args.self.now c.self.view_is c.new-rows.result.items c.tell_all.new.rows.items _ c.new-rows.ensures.items c.in_ok-tell_all.ensures.rows c.put_rows.ensures.held) c.tell_all.new.compared
+      (put_told _ c.args.self.now c.self.view_is c.self.invariant.0 c.keeps.ensures c.in-Some.changes c.in-Some.is c.new-rows.result.items c.tell_all.new.rows.items _ c.new-rows.ensures.items c.in_ok-tell_all.ensures.rows c.put_rows.ensures.held) c.tell_all.new.compared
       c.self.invariant.0 c.keeps.ensures,
   c.put_rows.ensures.lists c.self.inside.world.tables c.self.invariant.1,
 )
@@ -24,4 +24,4 @@ returns-clause-told g c =
 pub returns-clause-after : goal.returns-clause-after
 returns-clause-after g c =
     retold_after _ c.args.self.now c.self.view_is _
-    (put_told _ c.args.self.now c.self.view_is c.new-rows.result.items c.tell_all.new.rows.items _ c.new-rows.ensures.items c.in_ok-tell_all.ensures.rows c.put_rows.ensures.held) c.tell_all.new.compared
+    (put_told _ c.args.self.now c.self.view_is c.self.invariant.0 c.keeps.ensures c.in-Some.changes c.in-Some.is c.new-rows.result.items c.tell_all.new.rows.items _ c.new-rows.ensures.items c.in_ok-tell_all.ensures.rows c.put_rows.ensures.held) c.tell_all.new.compared
