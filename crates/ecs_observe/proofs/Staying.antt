@@ -105,6 +105,15 @@ put_locally w changed h locally =
     sym (ap (λ k. if (is_monitor k && not (is_local h.query)) && not (is_concerned h.query changed) then None else Some (rows_of w k h.query)) (monitor_is h.kind parts.0)
     ∙ ap (λ b. if not b && not (is_concerned h.query changed) then None else Some (if b then [] else matching (view_of w) h.query)) parts.1)
 
+-- one whose rows neither stay nor are searched isn't compared
+pub isnt_compared : (changed : Changed) (h : Held) → stays changed h ≡ false → is_searched changed h ≡ false → is_compared h ≡ false
+isnt_compared changed h stay searched = by (is_compared h) (is_concerned h.query changed) stay searched
+  where
+    by : (a b : Bool) → (a && not b) ≡ false → (a && b) ≡ false → a ≡ false
+    by true true stay searched = absurd (true≢false searched)
+    by true false stay searched = absurd (true≢false stay)
+    by false b stay searched = refl
+
 -- where none is compared, none is searched
 pub none_searched : (changed : Changed) (hs : List Held) → list_any is_compared hs ≡ false → list_any (is_searched changed) hs ≡ false
 none_searched changed [] none = refl

@@ -1,6 +1,10 @@
-use Rattle.std.proofs.Common.{map, refl}
+use Rattle.std.proofs.Common.{All, map, refl, ap, subst, ◌∙◌}
+use Rattle.std.specs.List.{list_any}
+use Rattle.std.specs.Prelude.{IfSome}
 use Rattle.ecs_observe.specs.Parts.{held_of}
-use Rattle.ecs_observe.proofs.Retold.{none_waits_after, none_waits_told, put_told, retold_after, retold_session, told_waits}
+use Rattle.ecs_observe.specs.Standing.{Standing, WasNow, is_compared}
+use Rattle.ecs_observe.proofs.Retold.{none_for, none_waits_after, none_waits_told, put_told, retold_after, retold_session, told_waits}
+use Rattle.ecs_observe.proofs.Staying.{none_searched}
 use Rattle.ecs_observe.proofs.session.Session.events.Goals as goal
 
 pub returns-in_default-clause-told : goal.returns-in_default-clause-told
@@ -9,11 +13,15 @@ returns-in_default-clause-told g c = none_waits_told _ c.args.self.now c.self.vi
 pub returns-in_default-clause-after : goal.returns-in_default-clause-after
 returns-in_default-clause-after g c = none_waits_after _ c.args.self.now c.self.view_is c.in_default.is
 
+pub tell_all-requires-clause-was : goal.tell_all-requires-clause-was
+tell_all-requires-clause-was g c =
+    subst (λ o. IfSome o (λ done. All (WasNow c.self.inside.world.state done) (map held_of c.self.inside.stored.entries))) c.in-Some.is c.self.invariant.0.before
+
 pub invariant_of-self : goal.invariant_of-self
 invariant_of-self g c = (
   retold_session _ c.args.self.now c.self.view_is _
-      (put_told _ c.args.self.now c.self.view_is c.self.invariant.0 c.keeps.ensures c.in-Some.changes c.in-Some.is c.new-rows.result.items c.tell_all.new.rows.items _ c.new-rows.ensures.items c.in_ok-tell_all.ensures.rows c.put_rows.ensures.held) c.tell_all.new.compared
-      c.self.invariant.0 c.keeps.ensures,
+      (put_told _ c.args.self.now c.self.view_is c.self.invariant.0 c.keeps.ensures c.in-Some.changes c.in-Some.is c.new-rows.result.items c.tell_all.new.rows.items _ c.new-rows.ensures.items c.in_ok-tell_all.ensures.rows c.put_rows.ensures.held)
+      c.tell_all.new.compared c.self.invariant.0 c.keeps.ensures,
   c.put_rows.ensures.lists c.self.inside.world.tables c.self.invariant.1,
 )
 
@@ -24,4 +32,14 @@ returns-clause-told g c =
 pub returns-clause-after : goal.returns-clause-after
 returns-clause-after g c =
     retold_after _ c.args.self.now c.self.view_is _
-    (put_told _ c.args.self.now c.self.view_is c.self.invariant.0 c.keeps.ensures c.in-Some.changes c.in-Some.is c.new-rows.result.items c.tell_all.new.rows.items _ c.new-rows.ensures.items c.in_ok-tell_all.ensures.rows c.put_rows.ensures.held) c.tell_all.new.compared
+    (put_told _ c.args.self.now c.self.view_is c.self.invariant.0 c.keeps.ensures c.in-Some.changes c.in-Some.is c.new-rows.result.items c.tell_all.new.rows.items _ c.new-rows.ensures.items c.in_ok-tell_all.ensures.rows c.put_rows.ensures.held)
+    c.tell_all.new.compared
+
+pub returns-clause-compared : goal.returns-clause-compared
+returns-clause-compared g c = λ none.
+    c.in_ok-tell_all.ensures.compared (none_searched c.in-Some.changes _ (ap (λ (s : Standing). list_any is_compared s.stored) c.self.view_is ∙ none))
+    ∙ ap (λ (s : Standing). s.compared) c.self.view_is
+
+pub returns-clause-spared : goal.returns-clause-spared
+returns-clause-spared g c = λ none.
+    c.in_ok-tell_all.ensures.compared (none_for _ c.args.self.now c.self.view_is c.in-Some.changes c.in-Some.is none) ∙ ap (λ (s : Standing). s.compared) c.self.view_is
