@@ -37,7 +37,7 @@ returns-clause-after g c =
 
 pub returns-clause-compared : goal.returns-clause-compared
 returns-clause-compared g c = λ none.
-    c.in_ok-tell_all.ensures.compared (none_searched c.in-Some.changes _ (ap (λ (s : Standing). list_any is_compared s.stored) c.self.view_is ∙ none))
+    c.in_ok-tell_all.ensures.compared (none_searched c.in-Some.changes (map held_of c.self.inside.stored.entries) (ap (λ (s : Standing). list_any is_compared s.stored) c.self.view_is ∙ none))
     ∙ ap (λ (s : Standing). s.compared) c.self.view_is
 
 pub returns-clause-spared : goal.returns-clause-spared
