@@ -1,12 +1,8 @@
 -- A current query can be answered, and the entities that it matches ascend.
-use Rattle.std.specs.Prelude.{◌≡◌, ℕ, List, Result, Ok, Err, IfOk}
 use Rattle.std.specs.List.Sorted.{IsStrictlyIncreasing}
 use Rattle.std.specs.List.{list_any}
-use Rattle.std.proofs.Common.{sym, subst}
 use Rattle.std.proofs.lemmas.List.Kept.{IsStrictlyIncreasing-filter}
 use Rattle.ecs_model.specs.Query.{known_of}
-use Rattle.ecs_model.specs.declared.watches.StoredKind.{StoredKind}
-use Rattle.ecs_model.specs.declared.watches.StoredKind.TheVariants.{Monitor}
 use Rattle.ecs_model.specs.World.{WorldState}
 use Rattle.ecs_model.specs.rows.Rows.{rows}
 use Rattle.ecs_model.specs.rows.View.{view_of}

@@ -1,11 +1,10 @@
 -- The first session.
-use Rattle.std.specs.Prelude.{◌≡◌, ℕ, List, [], All, AllPairs, map, length, Option, None, IfSome, option_map, flat_map}
+use Rattle.std.specs.Prelude.{◌≡◌, ℕ, List, [], All, AllPairs, map, length, None, IfSome, option_map, flat_map}
 use Rattle.std.proofs.Common.{refl, ap, sym, subst, ◌∙◌, ◌≢◌, arith}
 use Rattle.std.proofs.lemmas.List.Elements.{All-nil}
-use Rattle.ecs_model.specs.Command.{Changed}
 use Rattle.ecs_model.specs.Map.{count_at}
 use Rattle.ecs_model.specs.World.{WorldState, first_world}
-use Rattle.ecs_model.specs.stored.Session.{SessionState, first_session}
+use Rattle.ecs_model.specs.stored.Session.{first_session}
 use Rattle.watch_meaning.specs.Mentions.{times}
 use Rattle.watch_meaning.specs.Since.{IsAfter}
 use Rattle.ecs_observe.specs.Standing.{Held, IsHeld, IsNow, IsSession, Standing, WasNow, session_of, stored_of, told_to}

@@ -1,23 +1,20 @@
 -- Stored queries by their names: in the map that holds them, as they are held, and in the session of the definitions.
-use Rattle.std.specs.Prelude.{◌≡◌, ◌≢◌, ℕ, ◌+◌, ◌≤◌, Bool, true, false, not, cond, List, [], ◌∷◌, ◌++◌, All, AllPairs, map, flat_map, filter, length, count_by, bytes_eq, Option, None, Some, is_some, option_map, nat_le, if◌then◌else◌}
+use Rattle.std.specs.Prelude.{◌≡◌, ℕ, Bool, true, false, not, cond, List, [], ◌∷◌, All, map, flat_map, length, bytes_eq, Option, None, Some, is_some, option_map, nat_le, if◌then◌else◌}
 use Rattle.std.specs.List.{find}
-use Rattle.std.specs.Map.{lookup, remove_entry}
+use Rattle.std.specs.Map.{lookup}
 use Rattle.std.specs.Cmp.Lexicographic.{bytes_decides}
 use Rattle.std.specs.declared.string.String.{String}
 use Rattle.std.specs.String.{string_bytes}
-use Rattle.std.proofs.Common.{refl, sym, ap, subst, ◌∙◌, arith, true≢false}
+use Rattle.std.proofs.Common.{refl, sym, ap, subst, ◌∙◌}
 use Rattle.std.proofs.lemmas.List.{length-map}
-use Rattle.std.proofs.lemmas.List.Elements.{All-cons, All-head, All-nil, All-tail}
-use Rattle.std.proofs.lemmas.List.Kept.{AllPairs-cons}
+use Rattle.std.proofs.lemmas.List.Elements.{All-head, All-tail}
 use Rattle.ecs_model.specs.declared.faults.Refusal.TheVariants.{BadName}
 use Rattle.ecs_model.specs.declared.faults.SessionRefusal.{SessionRefusal}
 use Rattle.ecs_model.specs.declared.faults.SessionRefusal.TheVariants.{EventsPending, OfWorld, QueryTaken, TooManyStored}
 use Rattle.ecs_model.specs.Command.{Changed}
 use Rattle.ecs_model.specs.Text.{is_name}
-use Rattle.ecs_model.specs.World.{WorldState}
 use Rattle.ecs_model.specs.stored.Refusal.{first_session_reason}
 use Rattle.ecs_model.specs.stored.Session.{SessionState, most_stored, stored_at}
-use Rattle.ecs_model.specs.stored.Watches.{Stored}
 use Rattle.ecs_world.specs.Standing as world
 use Rattle.ecs_observe.specs.declared.stored.StoredQuery.{StoredQuery}
 use Rattle.ecs_observe.specs.Parts.{held_of}

@@ -1,13 +1,11 @@
 -- The kept query of a name, as a session holds it.
-use Rattle.std.specs.Prelude.{◌≡◌, ◌≢◌, ℕ, List, All, map, bytes_eq, Option, None, Some, Ok, Err, Result}
+use Rattle.std.specs.Prelude.{◌≡◌, ◌≢◌, ℕ, List, map, bytes_eq, Option, None, Some, Ok, Err}
 use Rattle.std.specs.List.{find}
 use Rattle.std.specs.Option.{option_map_or}
 use Rattle.std.specs.Map.{lookup}
 use Rattle.std.specs.declared.string.String.{String}
 use Rattle.std.proofs.Common.{refl, sym, ap, subst, ◌∙◌}
-use Rattle.query_model.specs.Query.{Query}
 use Rattle.query_meaning.specs.Standing.{IsCurrentIn}
-use Rattle.ecs_model.specs.declared.faults.SessionRefusal.{SessionRefusal}
 use Rattle.ecs_model.specs.declared.faults.SessionRefusal.TheVariants.{UnknownQuery}
 use Rattle.ecs_model.specs.declared.watches.StoredKind.{StoredKind}
 use Rattle.ecs_model.specs.declared.watches.StoredKind.TheVariants.{Kept, Monitor, OnAdd, OnRemove, OnSet}
@@ -17,7 +15,7 @@ use Rattle.ecs_model.specs.stored.Watches.{Stored}
 use Rattle.ecs_world.specs.Standing as world
 use Rattle.ecs_observe.specs.declared.stored.StoredQuery.{StoredQuery}
 use Rattle.ecs_observe.specs.Parts.{held_of}
-use Rattle.ecs_observe.specs.Standing.{Held, IsHeld, IsSession, Standing, session_of, stored_of}
+use Rattle.ecs_observe.specs.Standing.{IsHeld, IsSession, Standing, session_of, stored_of}
 use Rattle.ecs_observe.proofs.Found.{holds_of_found, is_key, named, none_found, seen, some_found, stored_is}
 
 module _ {A : Type 0} (self : Standing) (w : world.Standing) (es : List (String A × StoredQuery A)) (waiting : Option Changed) (compared : ℕ) (n : List ℕ) (view : self ≡ seen w es waiting compared) where

@@ -1,8 +1,7 @@
 -- The lists of kept queries, whatever becomes of the world and of what is stored.
-use Rattle.std.specs.Prelude.{◌≡◌, ◌≢◌, ℕ, Bool, true, false, cond, List, [], ◌∷◌, ◌++◌, All, map, length, slice_get, Option, None, Some, IfSome, is_some, not, bytes_eq}
+use Rattle.std.specs.Prelude.{◌≡◌, ◌≢◌, ℕ, Bool, true, false, cond, List, [], ◌∷◌, All, map, slice_get, Option, None, Some, IfSome, is_some, not}
 use Rattle.std.specs.Map.{lookup, remove_entry, set_value}
 use Rattle.std.specs.declared.string.String.{String}
-use Rattle.std.specs.declared.vec.Vec.{Vec}
 use Rattle.std.specs.String.{string_bytes, string_eq}
 use Rattle.std.proofs.Common.{refl, sym, ap, subst, ◌∙◌, suc, zero, true≢false}
 use Rattle.std.proofs.lemmas.List.Elements.{All-cons, All-head, All-nil, All-push, All-tail, All-weaker}

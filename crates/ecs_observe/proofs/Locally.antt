@@ -1,5 +1,5 @@
 -- What monitors of local queries are told, and who is one.
-use Rattle.std.specs.Prelude.{◌≡◌, ℕ, Bool, true, false, ◌&&◌, ◌||◌, List, [], ◌∷◌, ◌++◌, map, Option, None, Some, Ok, slice_get, if◌then◌else◌}
+use Rattle.std.specs.Prelude.{◌≡◌, ℕ, Bool, true, false, ◌&&◌, ◌||◌, List, [], ◌∷◌, ◌++◌, map, Some, slice_get, if◌then◌else◌}
 use Rattle.std.specs.List.{list_any}
 use Rattle.std.specs.List.Sorted.{IsStrictlyIncreasing}
 use Rattle.std.specs.declared.string.String.{String}
@@ -9,11 +9,10 @@ use Rattle.std.proofs.lemmas.Bool.{and_parts}
 use Rattle.std.proofs.lemmas.Map.Keys.{any_passes_from_place}
 use Rattle.ecs_model.specs.Command.{Changed}
 use Rattle.ecs_model.specs.World.{WorldState}
-use Rattle.ecs_model.specs.declared.watches.EventKind.TheVariants.{Entered}
 use Rattle.ecs_model.specs.declared.watches.StoredKind.{StoredKind}
 use Rattle.ecs_model.specs.declared.watches.StoredKind.TheVariants.{Kept, Monitor, OnAdd, OnRemove, OnSet}
 use Rattle.ecs_model.specs.rows.View.{View, view_of}
-use Rattle.ecs_model.specs.stored.Watches.{entity_event, matching, missing_from}
+use Rattle.ecs_model.specs.stored.Watches.{matching, missing_from}
 use Rattle.ecs_model.specs.traits.Keeps.{IsWellFormed}
 use Rattle.ecs_model.proofs.Reasons.{neither}
 use Rattle.query_model.specs.Local.{is_local}
@@ -22,7 +21,7 @@ use Rattle.local_queries.specs.Touched.{AreTouched, Touch}
 use Rattle.query_answers.proofs.Worlds.{worlds_ascend}
 use Rattle.touched_entities.specs.Before.{view_before}
 use Rattle.touched_entities.proofs.WorldBefore.{shows_world_before}
-use Rattle.watch_meaning.specs.Since.{IsAfter, left_event, told_since}
+use Rattle.watch_meaning.specs.Since.{IsAfter, told_since}
 use Rattle.world_events.specs.Told.{told_of_moves}
 use Rattle.ecs_observe.specs.Parts.{held_as, held_of}
 use Rattle.ecs_observe.specs.Standing.{Held, is_compared, is_monitor, is_told_locally, rows_before, told_to}

@@ -1,30 +1,26 @@
 -- What commands leave of a session, and how they answer.
-use Rattle.std.specs.Prelude.{◌≡◌, ⊤, ℕ, ◌≤◌, Bool, true, false, List, All, map, flat_map, Option, None, Some, is_some, option_map, Result, Ok, Err, IfSome, if◌then◌else◌}
+use Rattle.std.specs.Prelude.{◌≡◌, Bool, true, false, All, map, flat_map, Option, None, Some, is_some, option_map, Result, Ok, Err, IfSome, if◌then◌else◌}
 use Rattle.std.specs.List.{list_any}
 use Rattle.std.proofs.Common.{refl, ap, sym, subst, ◌∙◌, arith}
-use Rattle.std.proofs.lemmas.List.Elements.{All-weaker}
 use Rattle.ecs_id.specs.declared.EntityId.{EntityId}
 use Rattle.ecs_model.specs.declared.faults.CommandError.{CommandError}
 use Rattle.ecs_model.specs.declared.faults.CommandError.TheVariants as world
-use Rattle.ecs_model.specs.declared.faults.Refusal.{Refusal}
-use Rattle.ecs_model.specs.declared.faults.SessionRefusal.TheVariants.{EventsPending, OfWorld}
+use Rattle.ecs_model.specs.declared.faults.SessionRefusal.TheVariants.{EventsPending}
 use Rattle.ecs_model.specs.Command.{AnswersStep, Changed}
 use Rattle.ecs_model.specs.Map.{count_at}
 use Rattle.ecs_model.specs.World.{WorldState}
-use Rattle.ecs_model.specs.stored.Session.{Answer, SessionState, in_world, world_answer}
+use Rattle.ecs_model.specs.stored.Session.{in_world, world_answer}
 use Rattle.ecs_model.specs.stored.Watches.{is_told, is_watch, told}
 use Rattle.ecs_model.specs.traits.Command.{Command, step}
 use Rattle.ecs_model.specs.traits.Keeps.{IsWellFormed}
 use Rattle.ecs_world.specs.Standing as store
-use Rattle.query_meaning.specs.Standing.{IsPinnedIn}
 use Rattle.query_meaning.proofs.Standing.{steps_keep_pins, steps_keep_queries_current}
 use Rattle.touched_entities.proofs.Unconcerned.{queries_matched_before}
-use Rattle.watch_meaning.specs.Mentions.{times}
 use Rattle.watch_meaning.specs.Since.{IsAfter}
 use Rattle.ecs_observe.specs.Answers.{AnswersApply, AnswersCommand, awaited, obeyed}
-use Rattle.ecs_observe.specs.Standing.{Held, IsHeld, IsNow, IsSession, Standing, WasNow, session_of, stored_of, told_to}
+use Rattle.ecs_observe.specs.Standing.{IsHeld, IsNow, IsSession, Standing, WasNow, session_of, stored_of, told_to}
 use Rattle.ecs_observe.specs.declared.errors.SessionError.{SessionError}
-use Rattle.ecs_observe.specs.declared.errors.SessionError.TheVariants.{Refused, Memory}
+use Rattle.ecs_observe.specs.declared.errors.SessionError.TheVariants.{Refused}
 use Rattle.ecs_observe.proofs.Pinned.{all_pinned}
 use Rattle.ecs_observe.proofs.Tellings.{any_watch, none_now, told_all}
 

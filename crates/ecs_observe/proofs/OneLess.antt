@@ -1,12 +1,11 @@
 -- What a session has once a stored query less is held.
-use Rattle.std.specs.Prelude.{◌≡◌, ◌≢◌, ℕ, suc, ◌+◌, ◌<◌, ◌≤◌, cond, not, Bool, true, false, List, [], ◌∷◌, ◌++◌, slice_index_or, All, AllPairs, filter, flat_map, map, length, count_by, bytes_eq, Option, None, Some, IfSome, if◌then◌else◌}
+use Rattle.std.specs.Prelude.{◌≡◌, ◌≢◌, ℕ, suc, ◌+◌, ◌≤◌, cond, not, Bool, true, false, List, [], ◌∷◌, slice_index_or, All, AllPairs, filter, flat_map, map, bytes_eq, Option, None, Some, IfSome, if◌then◌else◌}
 use Rattle.std.specs.List.{find}
 use Rattle.std.specs.Map.{lookup, remove_entry}
 use Rattle.std.specs.declared.string.String.{String}
 use Rattle.std.specs.String.{string_bytes}
 use Rattle.std.specs.Cmp.Lexicographic.{bytes_decides}
-use Rattle.std.proofs.Common.{refl, sym, ap, subst, ◌∙◌, arith, true≢false}
-use Rattle.std.proofs.lemmas.List.{length-map}
+use Rattle.std.proofs.Common.{refl, sym, ap, subst, ◌∙◌, arith}
 use Rattle.std.proofs.lemmas.List.Elements.{All-filter, All-head, All-tail}
 use Rattle.std.proofs.lemmas.List.Kept.{AllPairs-filter}
 use Rattle.std.proofs.lemmas.List.Sums.{count_by-le-length, length-filter}
@@ -14,8 +13,8 @@ use Rattle.ecs_model.specs.Command.{Changed}
 use Rattle.ecs_model.specs.Map.{count_at}
 use Rattle.ecs_model.specs.World.{WorldState}
 use Rattle.ecs_model.specs.rows.View.{view_of}
-use Rattle.ecs_model.specs.stored.Session.{most_stored, unpinned_by, without_stored}
-use Rattle.ecs_model.specs.traits.Pins.{most_pins, one_less}
+use Rattle.ecs_model.specs.stored.Session.{unpinned_by, without_stored}
+use Rattle.ecs_model.specs.traits.Pins.{one_less}
 use Rattle.ecs_world.specs.Standing as world
 use Rattle.query_model.specs.Query.{Query}
 use Rattle.query_meaning.specs.Standing.{IsCurrentIn}
@@ -25,7 +24,7 @@ use Rattle.watch_meaning.proofs.MentionedOnce.{count_by-cons, queries_mention_on
 use Rattle.watch_meaning.proofs.Pinning.{current_alive, unpinned_counts, unpinned_current, unpinned_once, unpinned_view}
 use Rattle.ecs_observe.specs.declared.stored.StoredQuery.{StoredQuery}
 use Rattle.ecs_observe.specs.Parts.{held_of}
-use Rattle.ecs_observe.specs.Standing.{Held, IsHeld, IsNow, IsSession, Standing, WasNow, session_of, stored_of, told_to}
+use Rattle.ecs_observe.specs.Standing.{Held, IsHeld, IsNow, IsSession, WasNow, session_of, stored_of, told_to}
 use Rattle.ecs_observe.proofs.Found.{holds_of_found, is_key, named, seen}
 use Rattle.ecs_observe.proofs.OneMore.{far_from_most, none_waits, queries, still_held, still_now}
 

@@ -1,5 +1,5 @@
 -- What a session has once one stored query more is held.
-use Rattle.std.specs.Prelude.{◌≡◌, ◌≢◌, ℕ, ◌+◌, ◌<◌, ◌≤◌, cond, Bool, true, false, List, [], ◌∷◌, ◌++◌, slice_index_or, All, map, length, count_by, Option, None, option_map, flat_map, IfSome, Result, Ok, Err, OnOk, IsOk, if◌then◌else◌}
+use Rattle.std.specs.Prelude.{◌≡◌, ◌≢◌, ℕ, ◌+◌, ◌<◌, ◌≤◌, cond, Bool, true, false, List, [], ◌∷◌, ◌++◌, slice_index_or, All, map, length, Option, None, option_map, IfSome, Result, Ok, Err, OnOk, IsOk, if◌then◌else◌}
 use Rattle.std.specs.declared.string.String.{String}
 use Rattle.std.specs.String.{string_bytes, string_eq}
 use Rattle.std.specs.Cmp.Lexicographic.{bytes_decides}
@@ -25,7 +25,7 @@ use Rattle.watch_meaning.proofs.MentionedOnce.{queries_mention_once}
 use Rattle.watch_meaning.proofs.Pinning.{pinned_counts, pinned_current, pinned_view}
 use Rattle.ecs_observe.specs.declared.stored.StoredQuery.{StoredQuery}
 use Rattle.ecs_observe.specs.Parts.{held_of}
-use Rattle.ecs_observe.specs.Standing.{Held, IsHeld, IsNow, IsSession, Standing, WasNow}
+use Rattle.ecs_observe.specs.Standing.{Held, IsHeld, IsNow, IsSession, WasNow}
 use Rattle.ecs_observe.specs.Storing.{with_held}
 use Rattle.ecs_observe.proofs.Found.{seen}
 

@@ -1,5 +1,5 @@
 -- What the session of the definitions answers to a new stored query, and to the end of one.
-use Rattle.std.specs.Prelude.{◌≡◌, ◌≢◌, ℕ, ◌<◌, ◌≤◌, Bool, true, false, not, List, [], ◌∷◌, ◌++◌, All, map, flat_map, length, bytes_eq, nat_le, Option, None, Some, is_some, option_map, Result, Ok, Err, if◌then◌else◌}
+use Rattle.std.specs.Prelude.{◌≡◌, ◌≢◌, ℕ, ◌<◌, Bool, true, false, List, [], ◌∷◌, ◌++◌, All, map, flat_map, length, bytes_eq, nat_le, Option, None, Some, is_some, Result, Ok, Err, if◌then◌else◌}
 use Rattle.std.specs.List.{find}
 use Rattle.std.specs.Option.{option_map_or}
 use Rattle.std.specs.Cmp.Lexicographic.{bytes_decides}
@@ -22,9 +22,7 @@ use Rattle.std.specs.List.Sorted.{IsStrictlyIncreasing}
 use Rattle.ecs_observe.specs.Answers.{AnswersApply}
 use Rattle.ecs_observe.specs.declared.errors.SessionError.{SessionError}
 use Rattle.ecs_observe.specs.declared.errors.SessionError.TheVariants.{Refused, Memory}
-use Rattle.ecs_model.specs.Command.{Changed}
 use Rattle.ecs_model.specs.Query.{query_of}
-use Rattle.ecs_model.specs.Text.{is_name}
 use Rattle.ecs_model.specs.stored.Refusal.{first_session_reason}
 use Rattle.ecs_model.specs.stored.Session.{SessionState, Answer, Drop, Store, apply, free_order, most_stored, pinned_by, store_reasons, stored_at, watched_if_read, with_stored, without_stored}
 use Rattle.ecs_model.specs.stored.Watches.{Stored, matching, watched}

@@ -1,13 +1,12 @@
 -- What telling events leaves of a session.
-use Rattle.std.specs.Prelude.{◌≡◌, ℕ, ◌+◌, ◌<◌, ◌≤◌, Bool, true, false, List, [], ◌∷◌, ◌++◌, All, AllPairs, map, flat_map, length, slice_get, take, Option, None, Some, option_map, unwrap_or, Ok, IfSome, if◌then◌else◌}
+use Rattle.std.specs.Prelude.{◌≡◌, ℕ, ◌+◌, ◌≤◌, Bool, true, false, List, [], ◌∷◌, ◌++◌, All, AllPairs, map, flat_map, length, slice_get, take, Option, None, Some, option_map, unwrap_or, IfSome, if◌then◌else◌}
 use Rattle.std.specs.declared.string.String.{String}
 use Rattle.std.specs.declared.vec.Vec.{Vec}
 use Rattle.std.specs.Option.{option_map_or}
 use Rattle.std.specs.List.{list_any}
 use Rattle.std.specs.List.Sorted.{IsStrictlyIncreasing}
 use Rattle.std.specs.String.{string_bytes}
-use Rattle.std.proofs.Common.{refl, ap, inl, inr, sym, subst, ◌∙◌, ◌≢◌, suc, zero, arith, add-one, append_assoc, append-nil, get_or}
-use Rattle.std.proofs.lemmas.Grind.{flat_map-append}
+use Rattle.std.proofs.Common.{refl, ap, inl, inr, sym, subst, ◌∙◌, ◌≢◌, suc, zero, arith, add-one, append_assoc, append-nil}
 use Rattle.std.proofs.lemmas.List.{map-append, length-map}
 use Rattle.std.proofs.lemmas.List.Elements.{All-map}
 use Rattle.std.proofs.lemmas.List.Kept.{AllPairs-cons}
@@ -18,10 +17,9 @@ use Rattle.query_model.specs.Query.{Query}
 use Rattle.ecs_model.specs.declared.watches.StoredKind.{StoredKind}
 use Rattle.ecs_model.specs.declared.watches.StoredKind.TheVariants.{Kept, Monitor, OnAdd, OnRemove, OnSet}
 use Rattle.ecs_model.specs.Command.{Changed}
-use Rattle.ecs_model.specs.Map.{count_at}
 use Rattle.ecs_model.specs.World.{WorldState}
 use Rattle.ecs_model.specs.rows.View.{view_of}
-use Rattle.ecs_model.specs.stored.Session.{SessionState, after_events, events}
+use Rattle.ecs_model.specs.stored.Session.{after_events, events}
 use Rattle.ecs_model.specs.stored.Watches.{Event, matching}
 use Rattle.ecs_model.specs.traits.Keeps.{IsWellFormed}
 use Rattle.watch_meaning.specs.Mentions.{times}

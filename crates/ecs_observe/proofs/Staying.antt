@@ -1,5 +1,5 @@
 -- Stored queries whose rows stay after a command: they are compared, and it doesn't concern them.
-use Rattle.std.specs.Prelude.{◌≡◌, ℕ, ◌==◌, Bool, true, false, cond, not, ◌&&◌, ◌||◌, List, [], ◌∷◌, ◌++◌, All, map, Option, None, Some, if◌then◌else◌}
+use Rattle.std.specs.Prelude.{◌≡◌, ℕ, ◌==◌, Bool, true, false, cond, not, ◌&&◌, ◌||◌, List, [], ◌∷◌, ◌++◌, All, map, None, Some, if◌then◌else◌}
 use Rattle.std.specs.List.{list_any}
 use Rattle.std.proofs.Common.{refl, ap, sym, ◌∙◌, true≢false}
 use Rattle.std.proofs.lemmas.Bool.{and_parts, not-true, or_left, or_right}
@@ -10,7 +10,7 @@ use Rattle.ecs_model.specs.declared.watches.EventKind.TheVariants.{Entered}
 use Rattle.ecs_model.specs.declared.watches.StoredKind.{StoredKind}
 use Rattle.ecs_model.specs.declared.watches.StoredKind.TheVariants.{Kept, Monitor, OnAdd, OnRemove, OnSet}
 use Rattle.ecs_model.specs.rows.View.{view_of}
-use Rattle.ecs_model.specs.stored.Watches.{Event, entity_event, matching, missing_from}
+use Rattle.ecs_model.specs.stored.Watches.{entity_event, matching, missing_from}
 use Rattle.ecs_model.specs.traits.Keeps.{IsWellFormed}
 use Rattle.ecs_model.proofs.Members.{eq_itself}
 use Rattle.ecs_model.proofs.Reasons.{neither}

@@ -1,5 +1,5 @@
 -- What telling the events of a command needs of the entities that it touched.
-use Rattle.std.specs.Prelude.{ℕ, List, map}
+use Rattle.std.specs.Prelude.{List, map}
 use Rattle.std.specs.List.Sorted.{IsStrictlyIncreasing}
 use Rattle.ecs_model.specs.Command.{Changed}
 use Rattle.ecs_model.specs.World.{WorldState}

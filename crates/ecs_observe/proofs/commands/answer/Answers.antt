@@ -1,6 +1,5 @@
-use Rattle.std.specs.Prelude.{Bool, Option, Some, None, if◌then◌else◌}
+use Rattle.std.specs.Prelude.{Some, None, if◌then◌else◌}
 use Rattle.std.proofs.Common.{◌≡◌, ap, sym, ◌∙◌}
-use Rattle.ecs_model.specs.Command.{Changed}
 use Rattle.ecs_observe.proofs.Tellings.{waits_after}
 use Rattle.ecs_observe.proofs.commands.answer.Goals as goal
 use Rattle.ecs_observe.proofs.commands.answer.Goals.{then-has_watch, else-has_watch}

@@ -1,6 +1,6 @@
-use Rattle.std.proofs.Common.{◌≡◌, ℕ, false, take, sym, ap, ◌∙◌, arith}
+use Rattle.std.proofs.Common.{◌≡◌, false, take, sym, ap, ◌∙◌, arith}
 use Rattle.ecs_model.specs.World.{WorldState}
-use Rattle.ecs_model.specs.stored.Session.{pinned_by, unpinned_by}
+use Rattle.ecs_model.specs.stored.Session.{unpinned_by}
 use Rattle.query_model.specs.declared.query.Mention.{Mention}
 use Rattle.ecs_observe.proofs.Counted.{not_pinned, one_more_pinned, taken_back}
 use Rattle.ecs_observe.proofs.pinning.pin_all.Goals as goal

@@ -1,7 +1,7 @@
 use Rattle.std.specs.Prelude.{is_some}
 use Rattle.std.specs.String.{string_bytes}
 use Rattle.std.proofs.Common.{ap, arith, sym, true≢false, ◌∙◌}
-use Rattle.ecs_observe.specs.Parts.{held_as, held_of, rows_in}
+use Rattle.ecs_observe.specs.Parts.{held_as, rows_in}
 use Rattle.ecs_observe.specs.Standing.{IsHeld, WasNow, is_searched, rows_put, told_to}
 use Rattle.ecs_observe.proofs.Locally.{none_at, one_told_locally}
 use Rattle.ecs_observe.proofs.Retold.{all_at, gathered_more, held_at, mapped_more, rows_pushed}

@@ -1,8 +1,7 @@
 -- The stored query of the name is taken out and counted once less, or there is none.
-use Rattle.std.proofs.Common.{◌≡◌, false, true, None, refl, sym, ap, subst, ◌∙◌, rules}
+use Rattle.std.proofs.Common.{◌≡◌, false, true, refl, sym, ap, subst, ◌∙◌}
 use Rattle.std.specs.Prelude.{is_some}
 use Rattle.ecs_model.specs.stored.Session.{unpinned_by, without_stored}
-use Rattle.ecs_model.specs.stored.Watches.{Stored}
 use Rattle.query_model.specs.Query.{Query}
 use Rattle.ecs_observe.specs.Lists.{HaveLists}
 use Rattle.ecs_observe.specs.Standing.{Standing, session_of, stored_of}

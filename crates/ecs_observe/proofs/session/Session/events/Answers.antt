@@ -1,4 +1,4 @@
-use Rattle.std.proofs.Common.{All, map, refl, ap, subst, ◌∙◌}
+use Rattle.std.proofs.Common.{All, map, ap, subst, ◌∙◌}
 use Rattle.std.specs.List.{list_any}
 use Rattle.std.specs.Prelude.{IfSome}
 use Rattle.ecs_observe.specs.Parts.{held_of}

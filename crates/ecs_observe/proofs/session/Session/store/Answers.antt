@@ -7,7 +7,7 @@ use Rattle.ecs_model.specs.Query.{query_of}
 use Rattle.query_model.specs.Local.{is_local}
 use Rattle.ecs_observe.specs.Parts.{held_of}
 use Rattle.ecs_observe.specs.Standing.{Held, IsHeld, IsNow, Standing, is_compared, is_monitor, session_of}
-use Rattle.ecs_observe.specs.Storing.{AnswersWatched, store_refusal}
+use Rattle.ecs_observe.specs.Storing.{AnswersWatched}
 use Rattle.ecs_observe.proofs.Found.{same_but_compared}
 use Rattle.ecs_observe.specs.Storing.{with_held}
 use Rattle.ecs_observe.proofs.Locally.{last_isnt}

@@ -1,10 +1,8 @@
-use Rattle.std.proofs.Common.{◌≡◌, ◌<◌, ◌≤◌, Bool, true, false, sym, ap, ◌∙◌, refl, arith, rules}
+use Rattle.std.proofs.Common.{◌<◌, ◌≤◌, true, false, sym, ◌∙◌, refl, arith, rules}
 use Rattle.std.proofs.lemmas.Bool.Decides.{nat_tests}
-use Rattle.std.specs.Prelude.{nat_le, length, is_some}
-use Rattle.std.specs.Map.{lookup}
-use Rattle.ecs_model.specs.Text.{is_name}
+use Rattle.std.specs.Prelude.{length}
 use Rattle.ecs_model.specs.stored.Session.{most_stored}
-use Rattle.ecs_observe.proofs.Found.{is_key, told_refusal}
+use Rattle.ecs_observe.proofs.Found.{told_refusal}
 use Rattle.ecs_observe.proofs.session.Session.store_refusal.Goals as goal
 
 pub returns-then-is_some : goal.returns-then-is_some
