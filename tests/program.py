@@ -199,8 +199,9 @@ def walk_through_tables_gives_memory_back(program, room):
 
 def local_monitors_cost_what_changed(program, room):
     """100,000 entities, ten monitors of local queries and 10,000 commands in less than a second."""
+    script = monitors.many_entities(100_000, 10_000)
     begun = time.monotonic()
-    ran = run_words(program, [], monitors.many_entities(100_000, 10_000))
+    ran = run_words(program, [], script)
     return time.monotonic() - begun < 1 and answers(ran, 0) and ran.stdout.count(b"\n") > 10_000
 
 
@@ -213,8 +214,9 @@ def local_monitors_are_told_as_whole_rows_tell(program, room):
 
 def unconcerned_monitors_cost_nothing(program, room):
     """30,000 entities, a monitor that asks ancestors, and 10,000 commands that don't concern it, in less than a second; and three that do."""
+    script = monitors.unconcerned(30_000, 10_000)
     begun = time.monotonic()
-    ran = run_words(program, [], monitors.unconcerned(30_000, 10_000))
+    ran = run_words(program, [], script)
     told = monitors.told_to(ran.stdout, "m")
     return time.monotonic() - begun < 1 and answers(ran, 0) and told == [("enter", ["E1"]), ("leave", ["E3"]), ("leave", ["E0"])]
 
