@@ -24,7 +24,7 @@ use Rattle.rel_travel.specs.Holders.{holders}
 use Rattle.rel_travel.proofs.Lists as lists
 use Rattle.world_facts.specs.Shown.{Shown, all_above, all_below, reading_of, standing_in}
 use Rattle.world_facts.proofs.Leading.{contains_tells, not_contained, reach_ends}
-use Rattle.world_facts.proofs.Standing.{one_table, row_once, rows_once, same_ids, same_rows}
+use Rattle.world_facts.proofs.Standing.{one_table, row_once, rows_once, same_ids, same_peers, same_rows}
 
 module _ (l : Linked) (linked : AreLinked l.housing l.size) (sound : IsHoused l.housing) (rows : HaveRows l.housing) (are_lists : AreListsOf l.housing l.lists)
     (all : (p : Pattern) (y : ℕ) → Contains (flat_map (rows_under l) (tables_under l p)) y ↔ Contains (holders (live_in l) (ids_at_index l) p) y) where
@@ -117,6 +117,7 @@ module _ (s : Shown) (linked : AreLinked (s.links).housing (s.links).size) (soun
         listed_exactly = listed_exactly l linked sound rows are_lists all;
         standing_once = λ k. subst (λ xs. AllPairs (λ a b. a ≢ b) xs) (sym (same_rows l k)) (row_once l sound rows k);
         one_table = λ k q e a b. one_table l sound rows k q e (subst (λ xs. Contains xs e) (same_rows l k) a) (subst (λ xs. Contains xs e) (same_rows l q) b);
+        peers = λ k e h. same_peers l sound rows k e (subst (λ xs. Contains xs e) (same_rows l k) h);
         same_ids = λ k e h. same_ids l sound rows k e (subst (λ xs. Contains xs e) (same_rows l k) h);
         above_once = above_once l linked sound rows are_lists all;
         above_exactly = above_exactly l linked sound rows are_lists all;

@@ -3,6 +3,7 @@
 
 ghost use Rattle.std.specs.Prelude.{◌≡◌};
 ghost use Rattle.world_facts.specs.Kept.{KeepsTables};
+ghost use Rattle.world_facts.specs.Shown.{table_of};
 
 mod climb;
 pub mod laws;
@@ -54,6 +55,15 @@ impl<'w, A: Allocator> WorldFacts<'w, A> {
         // A field is read for what holds of the links.
         let _world = self.world;
     }
+
+    /// The table in which the entity of an index stands.
+    fn table_of(&self, entity: u32) -> Option<TableKey>
+        ensures { result ≡ table_of (self.now).links entity }
+    {
+        let index = self.links.tables().index();
+        let place = index.place(index.at(entity)?)?;
+        Some(place.table)
+    }
 }
 
 impl<A: Allocator> Facts for WorldFacts<'_, A> {
@@ -93,6 +103,13 @@ impl<A: Allocator> Facts for WorldFacts<'_, A> {
     fn rows_of(&self, table: TableKey) -> &[EntityId] {
         match self.links.tables().store().get(table) {
             Some(table) => table.rows(),
+            None => &[],
+        }
+    }
+
+    fn peers_of(&self, entity: u32) -> &[EntityId] {
+        match self.table_of(entity) {
+            Some(table) => self.rows_of(table),
             None => &[],
         }
     }
