@@ -2,13 +2,16 @@
 
 ghost use Rattle.std.specs.Prelude.{◌≡◌, ◌++◌, OnOk, flat_map, length, map};
 ghost use Rattle.std.specs.List.{zip};
+ghost use Rattle.std.specs.Option.{option_copied};
 ghost use Rattle.ecs_model.specs.Print.{binding_text, field_text, row_text, value_text};
+ghost use Rattle.ecs_model.specs.World.{type_of_id};
 ghost use Rattle.ecs_model.specs.rows.View.{view_of};
 ghost use Rattle.plan_exec.specs.Fields.{shown_field};
 ghost use Rattle.world_query.specs.Lines.{AreTexts, IsEntityText, IsLabel, names_in, row_shown};
 
 use crate::labels::{EntityText, Label};
 use ecs_print::write_fields;
+use ecs_schema::Schema;
 use ecs_world::World;
 use plan_exec::{Fields, ShownFact};
 use std::alloc::{AllocError, Allocator};
@@ -118,30 +121,28 @@ fn write_field<'w, A: Allocator>(
     };
     label.turn_to(world, fact.id)?;
     last.turn_to(world, fact.source)?;
-    out.extend_from_slice(b" [")?;
     out.extend_from_slice(label.text.as_slice())?;
-    out.extend_from_slice(b"@")?;
     out.extend_from_slice(last.text.as_slice())?;
     if fact.valued {
-        write_value(world, fact.source, label, out)?;
+        write_value(world, fact, label.schema, out)?;
     }
     out.extend_from_slice(b"]")
 }
 
-/// Writes the value of an entity's fact, whose id the label is of: nothing without fields.
+/// Writes the value of a fact, with the fields of its id's values: nothing without fields.
 fn write_value<A: Allocator>(
     world: &World<A>,
-    source: u32,
-    label: &Label<'_, A>,
+    fact: ShownFact,
+    schema: Option<&Schema<A>>,
     out: &mut Vec<u8, A>,
 ) -> Result<(), AllocError>
-    requires { IsLabel world.now.state label.now }
-    ensures { OnOk result (out.new.items ≡ out.old.items ++ value_text ((view_of world.now.state).value source label.now.id)) }
+    requires { option_copied schema ≡ type_of_id world.now.state fact.id }
+    ensures { OnOk result (out.new.items ≡ out.old.items ++ value_text ((view_of world.now.state).value fact.source fact.id)) }
 {
-    let Some(schema) = label.schema else {
+    let Some(schema) = schema else {
         return Ok(());
     };
-    match world.bytes(source, label.id) {
+    match world.bytes(fact.source, fact.id) {
         None => Ok(()),
         Some(bytes) => write_fields(schema, bytes, out),
     }
