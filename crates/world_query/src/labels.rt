@@ -13,22 +13,26 @@ use std::alloc::{AllocError, Allocator};
 
 /// An entity by its index, with its text.
 #[derive(Drop)]
-pub(crate) struct EntityText<A: Allocator> {
+pub(crate) struct EntityText<B: Allocator> {
     pub(crate) index: u32,
-    pub(crate) text: Vec<u8, A>,
+    pub(crate) text: Vec<u8, B>,
 }
 
 /// An id with what all fields of it share: how they begin, ` [ID@`, and the fields of its values. Of no id yet, it has neither.
 #[derive(Drop)]
-pub(crate) struct Label<'w, A: Allocator> {
+pub(crate) struct Label<'w, A: Allocator, B: Allocator> {
     pub(crate) id: Option<Id>,
-    pub(crate) text: Vec<u8, A>,
+    pub(crate) text: Vec<u8, B>,
     pub(crate) schema: Option<&'w Schema<A>>,
 }
 
-impl<A: Allocator> EntityText<A> {
+impl<B: Allocator> EntityText<B> {
     /// The text of the entity at an index: its name or handle, and nothing where none lives.
-    pub(crate) fn new(alloc: A, world: &World<A>, index: u32) -> Result<Self, AllocError>
+    pub(crate) fn new<A: Allocator>(
+        alloc: B,
+        world: &World<A>,
+        index: u32,
+    ) -> Result<Self, AllocError>
         ensures index { IfOk result (λ t. t.index ≡ index) }
         ensures text { IfOk result (IsEntityText world.now.state) }
     {
@@ -38,7 +42,11 @@ impl<A: Allocator> EntityText<A> {
     }
 
     /// Becomes the text of another entity, if it isn't of this one.
-    pub(crate) fn turn_to(&mut self, world: &World<A>, index: u32) -> Result<(), AllocError>
+    pub(crate) fn turn_to<A: Allocator>(
+        &mut self,
+        world: &World<A>,
+        index: u32,
+    ) -> Result<(), AllocError>
         requires { IsEntityText world.now.state self.old }
         ensures index { OnOk result (self.new.index ≡ index) }
         ensures text { OnOk result (IsEntityText world.now.state self.new) }
@@ -52,9 +60,9 @@ impl<A: Allocator> EntityText<A> {
     }
 }
 
-impl<'w, A: Allocator> Label<'w, A> {
+impl<'w, A: Allocator, B: Allocator> Label<'w, A, B> {
     /// A label of no id.
-    pub(crate) fn new(alloc: A) -> Self
+    pub(crate) fn new(alloc: B) -> Self
         ensures { (w : WorldState) → IsLabel w result }
     {
         Label {

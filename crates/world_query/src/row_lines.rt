@@ -18,18 +18,18 @@ use std::alloc::{AllocError, Allocator};
 
 /// What is kept while the rows of a query are printed: the entity that was written last, and a label for each field.
 #[derive(Drop)]
-pub(crate) struct Texts<'w, A: Allocator> {
-    pub(crate) entity: EntityText<A>,
-    pub(crate) labels: Vec<Label<'w, A>, A>,
+pub(crate) struct Texts<'w, A: Allocator, B: Allocator> {
+    pub(crate) entity: EntityText<B>,
+    pub(crate) labels: Vec<Label<'w, A, B>, B>,
 }
 
 /// Writes the line of a row: `row`, a binding for each visible variable, and its fields.
-pub(crate) fn write_row<'w, A: Allocator>(
+pub(crate) fn write_row<'w, A: Allocator, B: Allocator>(
     world: &'w World<A>,
-    variables: &[Vec<u8, A>],
+    variables: &[Vec<u8, B>],
     entities: &[u32],
-    fields: &Fields<'w, A>,
-    texts: &mut Texts<'w, A>,
+    fields: &Fields<'w, B>,
+    texts: &mut Texts<'w, A, B>,
     out: &mut Vec<u8, A>,
 ) -> Result<(), AllocError>
     requires texts { AreTexts world.now.state (length (fields.now).items) texts.old }
@@ -43,11 +43,11 @@ pub(crate) fn write_row<'w, A: Allocator>(
 }
 
 /// Writes the entities of variables, ` $v=E` for each.
-fn write_bindings<A: Allocator>(
+fn write_bindings<A: Allocator, B: Allocator>(
     world: &World<A>,
-    variables: &[Vec<u8, A>],
+    variables: &[Vec<u8, B>],
     entities: &[u32],
-    last: &mut EntityText<A>,
+    last: &mut EntityText<B>,
     out: &mut Vec<u8, A>,
 ) -> Result<(), AllocError>
     requires last { IsEntityText world.now.state last.old }
@@ -61,10 +61,10 @@ fn write_bindings<A: Allocator>(
 }
 
 /// Writes the current choice of fields.
-fn write_all_fields<'w, A: Allocator>(
+fn write_all_fields<'w, A: Allocator, B: Allocator>(
     world: &'w World<A>,
-    fields: &Fields<'w, A>,
-    texts: &mut Texts<'w, A>,
+    fields: &Fields<'w, B>,
+    texts: &mut Texts<'w, A, B>,
     out: &mut Vec<u8, A>,
 ) -> Result<(), AllocError>
     requires texts { AreTexts world.now.state (length (fields.now).items) texts.old }
@@ -84,11 +84,11 @@ fn write_all_fields<'w, A: Allocator>(
 }
 
 /// Writes ` $v=E`.
-fn write_binding<A: Allocator>(
+fn write_binding<A: Allocator, B: Allocator>(
     world: &World<A>,
     variable: &[u8],
     entity: u32,
-    last: &mut EntityText<A>,
+    last: &mut EntityText<B>,
     out: &mut Vec<u8, A>,
 ) -> Result<(), AllocError>
     requires last { IsEntityText world.now.state last.old }
@@ -103,11 +103,11 @@ fn write_binding<A: Allocator>(
 }
 
 /// Writes a field: ` [ID@E=v,v]`, ` [ID@E]` without a value, and ` [-]` where it is unset.
-fn write_field<'w, A: Allocator>(
+fn write_field<'w, A: Allocator, B: Allocator>(
     world: &'w World<A>,
     shown: Option<ShownFact>,
-    last: &mut EntityText<A>,
-    label: &mut Label<'w, A>,
+    last: &mut EntityText<B>,
+    label: &mut Label<'w, A, B>,
     out: &mut Vec<u8, A>,
 ) -> Result<(), AllocError>
     requires last { IsEntityText world.now.state last.old }
