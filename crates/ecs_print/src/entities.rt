@@ -18,10 +18,10 @@ pub fn write_handle<A: Allocator>(entity: EntityId, out: &mut Vec<u8, A>) -> Res
 }
 
 /// Writes an entity: its name, or its handle where it has none.
-pub fn write_entity<A: Allocator>(
+pub fn write_entity<A: Allocator, B: Allocator>(
     world: &World<A>,
     entity: EntityId,
-    out: &mut Vec<u8, A>,
+    out: &mut Vec<u8, B>,
 ) -> Result<(), AllocError>
     ensures { OnOk result (out.new.items ≡ out.old.items ++ entity_text world.now.state entity) }
 {
@@ -33,10 +33,10 @@ pub fn write_entity<A: Allocator>(
 
 /// Writes the live entity at an index, and nothing where none lives.
 #[inline(always)]
-pub fn write_index<A: Allocator>(
+pub fn write_index<A: Allocator, B: Allocator>(
     world: &World<A>,
     index: u32,
-    out: &mut Vec<u8, A>,
+    out: &mut Vec<u8, B>,
 ) -> Result<(), AllocError>
     ensures { OnOk result (out.new.items ≡ out.old.items ++ index_text world.now.state index) }
 {
@@ -52,10 +52,10 @@ pub fn write_index<A: Allocator>(
 
 /// Writes an id: the entity of a component or tag, or `(R,T)` for a pair.
 #[inline(always)]
-pub fn write_id<A: Allocator>(
+pub fn write_id<A: Allocator, B: Allocator>(
     world: &World<A>,
     id: Id,
-    out: &mut Vec<u8, A>,
+    out: &mut Vec<u8, B>,
 ) -> Result<(), AllocError>
     ensures { OnOk result (out.new.items ≡ out.old.items ++ id_text world.now.state id) }
 {

@@ -2,7 +2,8 @@
 
 ghost use Rattle.std.specs.Prelude.{◌≡◌, ◌++◌, IfOk, OnOk, Some, is_some};
 ghost use Rattle.ecs_model.specs.Print.{id_text, index_text};
-ghost use Rattle.world_query.specs.Lines.{IsEntityText, IsLabel};
+ghost use Rattle.ecs_model.specs.World.{WorldState};
+ghost use Rattle.world_query.specs.Lines.{IsEntityText, IsLabel, IsLabelOf};
 
 use ecs_id::Id;
 use ecs_print::{write_id, write_index};
@@ -12,22 +13,26 @@ use std::alloc::{AllocError, Allocator};
 
 /// An entity by its index, with its text.
 #[derive(Drop)]
-pub(crate) struct EntityText<A: Allocator> {
+pub(crate) struct EntityText<B: Allocator> {
     pub(crate) index: u32,
-    pub(crate) text: Vec<u8, A>,
+    pub(crate) text: Vec<u8, B>,
 }
 
-/// An id with what all fields of it share: its text, and the fields of its values.
+/// An id with what all fields of it share: how they begin, ` [ID@`, and the fields of its values. Of no id yet, it has neither.
 #[derive(Drop)]
-pub(crate) struct Label<'w, A: Allocator> {
-    pub(crate) id: Id,
-    pub(crate) text: Vec<u8, A>,
+pub(crate) struct Label<'w, A: Allocator, B: Allocator> {
+    pub(crate) id: Option<Id>,
+    pub(crate) text: Vec<u8, B>,
     pub(crate) schema: Option<&'w Schema<A>>,
 }
 
-impl<A: Allocator> EntityText<A> {
+impl<B: Allocator> EntityText<B> {
     /// The text of the entity at an index: its name or handle, and nothing where none lives.
-    pub(crate) fn new(alloc: A, world: &World<A>, index: u32) -> Result<Self, AllocError>
+    pub(crate) fn new<A: Allocator>(
+        alloc: B,
+        world: &World<A>,
+        index: u32,
+    ) -> Result<Self, AllocError>
         ensures index { IfOk result (λ t. t.index ≡ index) }
         ensures text { IfOk result (IsEntityText world.now.state) }
     {
@@ -37,7 +42,11 @@ impl<A: Allocator> EntityText<A> {
     }
 
     /// Becomes the text of another entity, if it isn't of this one.
-    pub(crate) fn turn_to(&mut self, world: &World<A>, index: u32) -> Result<(), AllocError>
+    pub(crate) fn turn_to<A: Allocator>(
+        &mut self,
+        world: &World<A>,
+        index: u32,
+    ) -> Result<(), AllocError>
         requires { IsEntityText world.now.state self.old }
         ensures index { OnOk result (self.new.index ≡ index) }
         ensures text { OnOk result (IsEntityText world.now.state self.new) }
@@ -51,33 +60,35 @@ impl<A: Allocator> EntityText<A> {
     }
 }
 
-impl<'w, A: Allocator> Label<'w, A> {
-    /// The label of an id.
-    pub(crate) fn new(alloc: A, world: &'w World<A>, id: Id) -> Result<Self, AllocError>
-        ensures id { IfOk result (λ label. label.id ≡ id) }
-        ensures label { IfOk result (IsLabel world.now.state) }
+impl<'w, A: Allocator, B: Allocator> Label<'w, A, B> {
+    /// A label of no id.
+    pub(crate) fn new(alloc: B) -> Self
+        ensures { (w : WorldState) → IsLabel w result }
     {
-        let mut text = Vec::new(alloc);
-        write_id(world, id, &mut text)?;
-        Ok(Label {
-            id,
-            text,
-            schema: world.type_of(id),
-        })
+        Label {
+            id: None,
+            text: Vec::new(alloc),
+            schema: None,
+        }
     }
 
-    /// Becomes the label of another id, if it isn't of this one.
+    /// Becomes the label of an id, if it isn't yet.
     pub(crate) fn turn_to(&mut self, world: &'w World<A>, id: Id) -> Result<(), AllocError>
         requires { IsLabel world.now.state self.old }
-        ensures id { OnOk result (self.new.id ≡ id) }
-        ensures label { OnOk result (IsLabel world.now.state self.new) }
+        ensures id { OnOk result (self.new.id ≡ Some id) }
+        ensures label { OnOk result (IsLabelOf world.now.state self.new id) }
     {
-        if self.id != id {
-            self.text.clear();
-            write_id(world, id, &mut self.text)?;
-            self.schema = world.type_of(id);
-            self.id = id;
+        if let Some(last) = self.id {
+            if last == id {
+                return Ok(());
+            }
         }
+        self.text.clear();
+        self.text.extend_from_slice(b" [")?;
+        write_id(world, id, &mut self.text)?;
+        self.text.extend_from_slice(b"@")?;
+        self.schema = world.type_of(id);
+        self.id = Some(id);
         Ok(())
     }
 }

@@ -14,11 +14,11 @@ use std::alloc::Allocator;
 /// The query that a text asks in a world.
 ///
 /// Fails with the first fault of the text, or where memory is refused.
-pub fn read_query<A: Allocator + Copy>(
-    alloc: A,
+pub fn read_query<A: Allocator, B: Allocator + Copy>(
+    alloc: B,
     world: &World<A>,
     text: &str,
-) -> Result<Query<A>, QueryFault>
+) -> Result<Query<B>, QueryFault>
     ensures { AnswersAsked world.now.state text.now result }
 {
     let tokens = lex(alloc, text)?;

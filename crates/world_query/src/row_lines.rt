@@ -2,31 +2,34 @@
 
 ghost use Rattle.std.specs.Prelude.{◌≡◌, ◌++◌, OnOk, flat_map, length, map};
 ghost use Rattle.std.specs.List.{zip};
+ghost use Rattle.std.specs.Option.{option_copied};
 ghost use Rattle.ecs_model.specs.Print.{binding_text, field_text, row_text, value_text};
+ghost use Rattle.ecs_model.specs.World.{type_of_id};
 ghost use Rattle.ecs_model.specs.rows.View.{view_of};
 ghost use Rattle.plan_exec.specs.Fields.{shown_field};
 ghost use Rattle.world_query.specs.Lines.{AreTexts, IsEntityText, IsLabel, names_in, row_shown};
 
 use crate::labels::{EntityText, Label};
 use ecs_print::write_fields;
+use ecs_schema::Schema;
 use ecs_world::World;
 use plan_exec::{Fields, ShownFact};
 use std::alloc::{AllocError, Allocator};
 
 /// What is kept while the rows of a query are printed: the entity that was written last, and a label for each field.
 #[derive(Drop)]
-pub(crate) struct Texts<'w, A: Allocator> {
-    pub(crate) entity: EntityText<A>,
-    pub(crate) labels: Vec<Label<'w, A>, A>,
+pub(crate) struct Texts<'w, A: Allocator, B: Allocator> {
+    pub(crate) entity: EntityText<B>,
+    pub(crate) labels: Vec<Label<'w, A, B>, B>,
 }
 
 /// Writes the line of a row: `row`, a binding for each visible variable, and its fields.
-pub(crate) fn write_row<'w, A: Allocator>(
+pub(crate) fn write_row<'w, A: Allocator, B: Allocator>(
     world: &'w World<A>,
-    variables: &[Vec<u8, A>],
+    variables: &[Vec<u8, B>],
     entities: &[u32],
-    fields: &Fields<'w, A>,
-    texts: &mut Texts<'w, A>,
+    fields: &Fields<'w, B>,
+    texts: &mut Texts<'w, A, B>,
     out: &mut Vec<u8, A>,
 ) -> Result<(), AllocError>
     requires texts { AreTexts world.now.state (length (fields.now).items) texts.old }
@@ -40,11 +43,11 @@ pub(crate) fn write_row<'w, A: Allocator>(
 }
 
 /// Writes the entities of variables, ` $v=E` for each.
-fn write_bindings<A: Allocator>(
+fn write_bindings<A: Allocator, B: Allocator>(
     world: &World<A>,
-    variables: &[Vec<u8, A>],
+    variables: &[Vec<u8, B>],
     entities: &[u32],
-    last: &mut EntityText<A>,
+    last: &mut EntityText<B>,
     out: &mut Vec<u8, A>,
 ) -> Result<(), AllocError>
     requires last { IsEntityText world.now.state last.old }
@@ -58,10 +61,10 @@ fn write_bindings<A: Allocator>(
 }
 
 /// Writes the current choice of fields.
-fn write_all_fields<'w, A: Allocator>(
+fn write_all_fields<'w, A: Allocator, B: Allocator>(
     world: &'w World<A>,
-    fields: &Fields<'w, A>,
-    texts: &mut Texts<'w, A>,
+    fields: &Fields<'w, B>,
+    texts: &mut Texts<'w, A, B>,
     out: &mut Vec<u8, A>,
 ) -> Result<(), AllocError>
     requires texts { AreTexts world.now.state (length (fields.now).items) texts.old }
@@ -81,11 +84,11 @@ fn write_all_fields<'w, A: Allocator>(
 }
 
 /// Writes ` $v=E`.
-fn write_binding<A: Allocator>(
+fn write_binding<A: Allocator, B: Allocator>(
     world: &World<A>,
     variable: &[u8],
     entity: u32,
-    last: &mut EntityText<A>,
+    last: &mut EntityText<B>,
     out: &mut Vec<u8, A>,
 ) -> Result<(), AllocError>
     requires last { IsEntityText world.now.state last.old }
@@ -100,11 +103,11 @@ fn write_binding<A: Allocator>(
 }
 
 /// Writes a field: ` [ID@E=v,v]`, ` [ID@E]` without a value, and ` [-]` where it is unset.
-fn write_field<'w, A: Allocator>(
+fn write_field<'w, A: Allocator, B: Allocator>(
     world: &'w World<A>,
     shown: Option<ShownFact>,
-    last: &mut EntityText<A>,
-    label: &mut Label<'w, A>,
+    last: &mut EntityText<B>,
+    label: &mut Label<'w, A, B>,
     out: &mut Vec<u8, A>,
 ) -> Result<(), AllocError>
     requires last { IsEntityText world.now.state last.old }
@@ -118,30 +121,28 @@ fn write_field<'w, A: Allocator>(
     };
     label.turn_to(world, fact.id)?;
     last.turn_to(world, fact.source)?;
-    out.extend_from_slice(b" [")?;
     out.extend_from_slice(label.text.as_slice())?;
-    out.extend_from_slice(b"@")?;
     out.extend_from_slice(last.text.as_slice())?;
     if fact.valued {
-        write_value(world, fact.source, label, out)?;
+        write_value(world, fact, label.schema, out)?;
     }
     out.extend_from_slice(b"]")
 }
 
-/// Writes the value of an entity's fact, whose id the label is of: nothing without fields.
+/// Writes the value of a fact, with the fields of its id's values: nothing without fields.
 fn write_value<A: Allocator>(
     world: &World<A>,
-    source: u32,
-    label: &Label<'_, A>,
+    fact: ShownFact,
+    schema: Option<&Schema<A>>,
     out: &mut Vec<u8, A>,
 ) -> Result<(), AllocError>
-    requires { IsLabel world.now.state label.now }
-    ensures { OnOk result (out.new.items ≡ out.old.items ++ value_text ((view_of world.now.state).value source label.now.id)) }
+    requires { option_copied schema ≡ type_of_id world.now.state fact.id }
+    ensures { OnOk result (out.new.items ≡ out.old.items ++ value_text ((view_of world.now.state).value fact.source fact.id)) }
 {
-    let Some(schema) = label.schema else {
+    let Some(schema) = schema else {
         return Ok(());
     };
-    match world.bytes(source, label.id) {
+    match world.bytes(fact.source, fact.id) {
         None => Ok(()),
         Some(bytes) => write_fields(schema, bytes, out),
     }

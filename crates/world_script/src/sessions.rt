@@ -13,6 +13,7 @@ use crate::showing::show_entity;
 use crate::telling::{
     refuse, refuse_in_world, refuse_query, schema_fault_word, tell_answer, tell_born, tell_error,
 };
+use bumpalo::Bump;
 use ecs_model::Kind;
 use ecs_model::watches::StoredKind;
 use ecs_observe::Session;
@@ -225,6 +226,9 @@ fn run_show<A: Allocator + Copy>(
     }
 }
 
+/// The bytes of the first piece of memory that a query takes. All its small blocks stand in it, and go with it.
+const QUERY_ROOM: usize = 4096;
+
 /// `query TEXT`
 fn run_query<A: Allocator + Copy>(
     alloc: A,
@@ -237,12 +241,13 @@ fn run_query<A: Allocator + Copy>(
         (session_of session.now) output.old.items output.new.items) }
 {
     let world = session.world();
-    let query = match read_query(alloc, world, text) {
+    let room = Bump::try_with_capacity(alloc, QUERY_ROOM)?;
+    let query = match read_query(&room, world, text) {
         Ok(query) => query,
         Err(QueryFault::Fault(fault)) => return refuse_query(number, fault, output),
         Err(QueryFault::Memory) => return Err(AllocError),
     };
-    write_rows(alloc, world, query, output)?;
+    write_rows(&room, world, query, output)?;
     Ok(false)
 }
 

@@ -11,13 +11,13 @@ use Rattle.world_query.proofs.reading.read_query.Goals as goal
 pub returns-in_err-tokens : goal.returns-in_err-tokens
 returns-in_err-tokens g c =
     let p = err_from_is_err_and c.from_residual.result c.from_residual.ensures.1 in
-    rw (p.1, p.2) (lex_fault {T = Vec Token g.row.A.Denot} c.args.world.now.state c.args.text.now (λ tokens. map seen tokens.items) c.in_err-tokens.field-0.0 c.in_err-tokens.ensures.answers)
+    rw (p.1, p.2) (lex_fault {T = Vec Token g.row.B.Denot} c.args.world.now.state c.args.text.now (λ tokens. map seen tokens.items) c.in_err-tokens.field-0.0 c.in_err-tokens.ensures.answers)
 
 pub returns-in_err-syntax : goal.returns-in_err-syntax
 returns-in_err-syntax g c =
     let p = err_from_is_err_and c.from_residual-in_err-syntax.result c.from_residual-in_err-syntax.ensures.1 in
     let tokens = c.as_slice.result.now in
-    rw (p.1, p.2) (syntax_fault {T = Syntax g.row.A.Denot} c.args.world.now.state c.args.text.now (λ syntax. map seen_part (syntax.parts).items) (map seen tokens) c.in_err-syntax.field-0.0
+    rw (p.1, p.2) (syntax_fault {T = Syntax g.row.B.Denot} c.args.world.now.state c.args.text.now (λ syntax. map seen_part (syntax.parts).items) (map seen tokens) c.in_err-syntax.field-0.0
     (c.in_ok-tokens.ensures.answers ∙ ap (λ ts. Ok (map seen ts)) (sym c.as_slice.ensures.value)) c.in_err-syntax.ensures.answers)
 
 pub returns : goal.returns

@@ -1,11 +1,13 @@
--- Ids that are not told apart are one.
-use Rattle.std.specs.Prelude.{not, Bool, true, false, ◌≡◌}
-use Rattle.ecs_id.specs.Id.{id_eq, id_eq_same}
+-- An id that isn't told apart from the label's is its id.
+use Rattle.std.proofs.Common.{ap, subst, sym, ◌∙◌}
+use Rattle.std.specs.Prelude.{Some, IfSome}
+use Rattle.ecs_id.specs.Id.{id_eq_same}
+use Rattle.world_query.specs.Lines.{IsLabelOf}
 use Rattle.world_query.proofs.labels.Label.turn_to.Goals as goal
 
-told : (b r : Bool) → r ≡ not b → r ≡ false → b ≡ true
-told true r h k = cc
-told false r h k = cc
+pub returns-then-eq-clause-id : goal.returns-then-eq-clause-id
+returns-then-eq-clause-id g c = c.in-Some.is ∙ ap Some (id_eq_same c.in-Some.last c.args.id (sym c.eq.ensures ∙ c.if-eq.true))
 
-pub returns-else-ne-clause-id : goal.returns-else-ne-clause-id
-returns-else-ne-clause-id g c = id_eq_same c.args.self.now.id c.args.id (told (id_eq c.args.self.now.id c.args.id) c.ne.result c.ne.ensures c.if-ne.false)
+pub returns-then-eq-clause-label : goal.returns-then-eq-clause-label
+returns-then-eq-clause-label g c =
+    subst (λ o. IfSome o (IsLabelOf c.args.world.now.state c.args.self.now)) (returns-then-eq-clause-id g c) c.requires
