@@ -24,9 +24,9 @@ pub(crate) struct Texts<'w, A: Allocator, B: Allocator> {
 }
 
 /// Writes the line of a row: `row`, a binding for each visible variable, and its fields.
-pub(crate) fn write_row<'w, A: Allocator, B: Allocator>(
+pub(crate) fn write_row<'w, A: Allocator, B: Allocator, C: Allocator>(
     world: &'w World<A>,
-    variables: &[Vec<u8, B>],
+    variables: &[Vec<u8, C>],
     entities: &[u32],
     fields: &Fields<'w, B>,
     texts: &mut Texts<'w, A, B>,
@@ -43,9 +43,9 @@ pub(crate) fn write_row<'w, A: Allocator, B: Allocator>(
 }
 
 /// Writes the entities of variables, ` $v=E` for each.
-fn write_bindings<A: Allocator, B: Allocator>(
+fn write_bindings<A: Allocator, B: Allocator, C: Allocator>(
     world: &World<A>,
-    variables: &[Vec<u8, B>],
+    variables: &[Vec<u8, C>],
     entities: &[u32],
     last: &mut EntityText<B>,
     out: &mut Vec<u8, A>,

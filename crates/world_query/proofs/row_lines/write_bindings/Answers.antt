@@ -14,7 +14,7 @@ returns-clause-text g c =
     let vs = c.args.variables.now in
     let es = c.args.entities.now in
     let z = c.zip-variable-items.ensures in
-    let line = λ (p : Vec ℕ g.row.B.Denot × ℕ). binding_text w ((p.0).items, p.1) in
+    let line = λ (p : Vec ℕ g.row.C.Denot × ℕ). binding_text w ((p.0).items, p.1) in
     let road = YieldsList-at c.into_iter-variable-iterator.ensures.into_iter_gives (YieldsList-from_zip (YieldsList-at z.first (YieldsList-from_slice vs c.iter.ensures.rest)) (YieldsList-from_slice es z.second.0)) in
     let all = YieldsList-end road c.loop-variable.yielded c.loop-variable.variable-iterator c.loop-variable.yielded_by c.next.result c.next.new.self c.in-None.is c.next.ensures.steps in
     c.loop-variable.invariant.1.1
