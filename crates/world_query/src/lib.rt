@@ -13,4 +13,4 @@ mod rows;
 mod table_counts;
 
 pub use reading::read_query;
-pub use rows::{matching, plan_in, write_planned_rows, write_rows, write_rows_in};
+pub use rows::{QUERY_ROOM, matching, plan_in, write_planned_rows, write_rows, write_rows_in};

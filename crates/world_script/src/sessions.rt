@@ -21,7 +21,7 @@ use ecs_schema::{Schema, SchemaError};
 use query_model::faults::QueryFault;
 use script_line::{IdReference, Line, Reference, read_line};
 use std::alloc::{AllocError, Allocator};
-use world_query::{read_query, write_rows};
+use world_query::{QUERY_ROOM, read_query, write_rows};
 
 /// Does what a line says, adds what it prints to the output, and answers whether it was refused. What stands in `values` is lost.
 pub(crate) fn run_line<A: Allocator + Copy>(
@@ -225,9 +225,6 @@ fn run_show<A: Allocator + Copy>(
         }
     }
 }
-
-/// The bytes of the first piece of memory that a query takes. All its small blocks stand in it, and go with it.
-const QUERY_ROOM: usize = 4096;
 
 /// `query TEXT`
 fn run_query<A: Allocator + Copy>(
