@@ -51,7 +51,7 @@ module _ (w : WorldState) (changed : Changed) (h : Held) (locally : is_told_loca
       ∙ ap (λ b. told_since w changed h.name Monitor h.query (if b then before_rows else h.these)) (is_local_query h locally)
 
 -- what isn't a monitor is told whatever the rows before were
-same_told : (w : WorldState) (changed : Changed) (name : List ℕ) (q : Query) (k : StoredKind) (a b : List ℕ) → is_monitor k ≡ false → told_since w changed name k q a ≡ told_since w changed name k q b
+pub same_told : (w : WorldState) (changed : Changed) (name : List ℕ) (q : Query) (k : StoredKind) (a b : List ℕ) → is_monitor k ≡ false → told_since w changed name k q a ≡ told_since w changed name k q b
 unfolding told_since
 same_told w changed name q Kept a b o = refl
 same_told w changed name q Monitor a b o = absurd (true≢false o)

@@ -1,12 +1,12 @@
 -- What telling events leaves of a session.
-use Rattle.std.specs.Prelude.{◌≡◌, ℕ, ◌+◌, ◌≤◌, Bool, true, false, List, [], ◌∷◌, ◌++◌, All, AllPairs, map, flat_map, length, slice_get, take, Option, None, Some, option_map, unwrap_or, IfSome, if◌then◌else◌}
+use Rattle.std.specs.Prelude.{◌≡◌, ℕ, ◌+◌, ◌≤◌, Bool, true, false, not, ◌&&◌, List, [], ◌∷◌, ◌++◌, All, AllPairs, map, flat_map, length, slice_get, take, Option, None, Some, option_map, unwrap_or, IfSome, if◌then◌else◌}
 use Rattle.std.specs.declared.string.String.{String}
 use Rattle.std.specs.declared.vec.Vec.{Vec}
 use Rattle.std.specs.Option.{option_map_or}
 use Rattle.std.specs.List.{list_any}
 use Rattle.std.specs.List.Sorted.{IsStrictlyIncreasing}
 use Rattle.std.specs.String.{string_bytes}
-use Rattle.std.proofs.Common.{refl, ap, inl, inr, sym, subst, ◌∙◌, ◌≢◌, suc, zero, arith, add-one, append_assoc, append-nil}
+use Rattle.std.proofs.Common.{refl, ap, get_or, inl, inr, sym, subst, ◌∙◌, ◌≢◌, suc, zero, arith, add-one, append_assoc, append-nil}
 use Rattle.std.proofs.lemmas.List.{map-append, length-map}
 use Rattle.std.proofs.lemmas.List.Elements.{All-map}
 use Rattle.std.proofs.lemmas.List.Kept.{AllPairs-cons}
@@ -25,10 +25,10 @@ use Rattle.ecs_model.specs.traits.Keeps.{IsWellFormed}
 use Rattle.watch_meaning.specs.Mentions.{times}
 use Rattle.watch_meaning.specs.Since.{IsAfter}
 use Rattle.ecs_observe.specs.Parts.{held_as, held_of, put_in, rows_in}
-use Rattle.ecs_observe.specs.Standing.{Held, IsHeld, IsNow, IsSession, Standing, WasNow, has_searched, is_searched, rows_of, rows_put, session_of, stored_of, told_to, with_rows, with_these}
+use Rattle.ecs_observe.specs.Standing.{Held, IsHeld, IsNow, IsSession, Standing, WasNow, has_searched, is_compared, is_monitor, is_searched, rows_of, rows_put, session_of, stored_of, told_to, with_rows, with_these}
 use Rattle.ecs_observe.specs.declared.stored.StoredQuery.{StoredQuery}
 use Rattle.ecs_observe.proofs.Answering.{matching_ascends}
-use Rattle.ecs_observe.proofs.Staying.{matches_now, told_now, with_rows_told}
+use Rattle.ecs_observe.proofs.Staying.{told_now, with_rows_told}
 
 none_is_not_some : {X : Type 0} {x : X} → None ≡ Some x → ⊥
 none_is_not_some e = cc
@@ -168,17 +168,30 @@ ascending w kept OnSet q e = cc
 abbrev pub told_session : Standing → ℕ → Standing
 told_session s n = record { world = s.world; stored = map (told_now (s.world).state) s.stored; waiting = None; compared = n }
 
+-- what every stored query has, it still has
+module _ (w : WorldState) (kept : IsWellFormed w) (h : Held) where
+  now_held : IsHeld w h → IsHeld w (told_now w h)
+  now_held held = record { current = held.current; fit = held.fit; ascends = λ m. by (is_compared h) m }
+    where
+      by : (b : Bool) → h.kind ≡ Monitor → IsStrictlyIncreasing (if b then matching (view_of w) h.query else h.these)
+      by true m = matching_ascends w h.query kept
+      by false m = held.ascends m
+
+  is_now : IsNow w (told_now w h)
+  is_now m far =
+      let compared : is_compared h ≡ true = ap (λ k. is_monitor k && not (is_local h.query)) m ∙ ap not far in
+      ap (λ b. if b then matching (view_of w) h.query else h.these) compared
+
 module _ (s : Standing) (session : IsSession s) (kept : IsWellFormed (s.world).state) where
   pub told_is_session : (n : ℕ) → IsSession (told_session s n)
   told_is_session n =
       let w = (s.world).state in
       record {
-        held = All-map (IsHeld w) (told_now w) s.stored (λ k d l.
-            let held = session.held k d l in record { current = held.current; fit = held.fit; ascends = ascending w kept _ _ });
+        held = All-map (IsHeld w) (told_now w) s.stored (λ k d l. now_held w kept _ (session.held k d l));
         pinned = λ i. session.pinned i ∙ ap (times i) (sym (same_queries w s.stored));
         few = let same : length (map (told_now w) s.stored) ≡ length s.stored = length-map s.stored (told_now w) in omega (arith, same, session.few);
         once = apart_now w s.stored session.once;
-        now = λ e. All-map (IsNow w) (told_now w) s.stored (λ k d l. matches_now w _ _);
+        now = λ e. All-map (IsNow w) (told_now w) s.stored (λ k d l. is_now w kept (get_or s.stored k d));
         after = tt;
         before = tt;
       }

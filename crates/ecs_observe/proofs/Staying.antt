@@ -1,4 +1,4 @@
--- Stored queries whose rows stay after a command: they are compared, and it doesn't concern them.
+-- Which stored queries' rows stay after a command, and which are put in their places.
 use Rattle.std.specs.Prelude.{◌≡◌, ℕ, ◌==◌, Bool, true, false, cond, not, ◌&&◌, ◌||◌, List, [], ◌∷◌, ◌++◌, All, map, None, Some, if◌then◌else◌}
 use Rattle.std.specs.List.{list_any}
 use Rattle.std.proofs.Common.{refl, ap, sym, ◌∙◌, true≢false}
@@ -20,7 +20,8 @@ use Rattle.touched_entities.specs.Before.{view_before}
 use Rattle.touched_entities.specs.Concerned.{is_concerned}
 use Rattle.touched_entities.proofs.Unconcerned.{unconcerned_queries_match_on}
 use Rattle.watch_meaning.specs.Since.{IsAfter, left_event, told_since}
-use Rattle.ecs_observe.specs.Standing.{Held, WasNow, is_compared, is_monitor, is_searched, rows_before, rows_of, rows_put, rows_told, stays, told_to, with_rows, with_these}
+use Rattle.world_events.specs.Hits.{may_tell}
+use Rattle.ecs_observe.specs.Standing.{Held, WasNow, is_compared, is_monitor, is_searched, is_told_locally, rows_before, rows_put, told_to, with_rows, with_these}
 
 pub monitor_is : (kind : StoredKind) → is_monitor kind ≡ true → kind ≡ Monitor
 monitor_is Monitor e = refl
@@ -28,14 +29,6 @@ monitor_is Kept e = absurd (true≢false (sym e))
 monitor_is OnAdd e = absurd (true≢false (sym e))
 monitor_is OnRemove e = absurd (true≢false (sym e))
 monitor_is OnSet e = absurd (true≢false (sym e))
-
--- of a monitor whose query isn't local all rows are held
-pub matches_now : (w : WorldState) (kind : StoredKind) (q : Query) → kind ≡ Monitor → is_local q ≡ false → rows_of w kind q ≡ matching (view_of w) q
-matches_now w Monitor q e l = ap (λ b. if b then [] else matching (view_of w) q) l
-matches_now w Kept q e l = cc
-matches_now w OnAdd q e l = cc
-matches_now w OnRemove q e l = cc
-matches_now w OnSet q e l = cc
 
 -- ---- between equal rows nobody leaves or enters
 
@@ -53,21 +46,17 @@ none_moved w changed name q old same =
     ap (λ es. map (left_event w changed name) (missing_from es now) ++ map (entity_event name Entered w) (missing_from now es)) same
     ∙ ap (λ es. map (left_event w changed name) es ++ map (entity_event name Entered w) es) none
 
-module _ (w : WorldState) (changed : Changed) (h : Held) (kept : IsWellFormed w) (after : IsAfter w changed) (was : WasNow w changed h) (stay : stays changed h ≡ true) where
+module _ (w : WorldState) (changed : Changed) (h : Held) (kept : IsWellFormed w) (after : IsAfter w changed) (was : WasNow w changed h)
+    (compared : is_compared h ≡ true) (spared : is_concerned h.query changed ≡ false) where
   its_kind : h.kind ≡ Monitor
-  its_kind = monitor_is h.kind (and_parts (is_monitor h.kind) (not (is_local h.query)) (and_parts (is_compared h) (not (is_concerned h.query changed)) stay).0).0
+  its_kind = monitor_is h.kind (and_parts (is_monitor h.kind) (not (is_local h.query)) compared).0
 
   not_local : is_local h.query ≡ false
-  not_local = not-true (is_local h.query) (and_parts (is_monitor h.kind) (not (is_local h.query)) (and_parts (is_compared h) (not (is_concerned h.query changed)) stay).0).1
-
-  rows_stay : h.these ≡ matching (view_of w) h.query
-  rows_stay =
-      was its_kind not_local
-      ∙ unconcerned_queries_match_on w changed h.query kept after (not-true (is_concerned h.query changed) (and_parts (is_compared h) (not (is_concerned h.query changed)) stay).1)
+  not_local = not-true (is_local h.query) (and_parts (is_monitor h.kind) (not (is_local h.query)) compared).1
 
   -- what is held is what would be put in its place
-  pub held_is_told : h.these ≡ rows_told w h
-  held_is_told = rows_stay ∙ sym (matches_now w h.kind h.query its_kind not_local)
+  pub rows_stay : h.these ≡ matching (view_of w) h.query
+  rows_stay = was its_kind not_local ∙ unconcerned_queries_match_on w changed h.query kept after spared
 
   pub nothing_told : told_to w changed h ≡ []
   nothing_told =
@@ -75,19 +64,21 @@ module _ (w : WorldState) (changed : Changed) (h : Held) (kept : IsWellFormed w)
       ∙ ap (λ b. told_since w changed h.name Monitor h.query (if b then matching (view_before w changed) h.query else h.these)) not_local
       ∙ none_moved w changed h.name h.query h.these rows_stay
 
--- a stored query with the entities of its rows as they are now
+-- a stored query after a command: if it is compared, with the entities of its rows as they are now
 abbrev pub told_now : WorldState → Held → Held
-told_now w h = record h { these = rows_told w h }
+told_now w h = record h { these = if is_compared h then matching (view_of w) h.query else h.these }
 
 module _ (w : WorldState) (changed : Changed) (kept : IsWellFormed w) (after : IsAfter w changed) where
   one_put : (h : Held) → WasNow w changed h → with_these (rows_put w changed h) h ≡ told_now w h
-  one_put h was = by (stays changed h) refl
+  one_put h was = by (is_compared h) (is_concerned h.query changed) refl refl
     where
-      by : (b : Bool) → stays changed h ≡ b → with_these (if b then None else Some (rows_told w h)) h ≡ told_now w h
-      by true stay =
-          let same = held_is_told w changed h kept after was stay in
+      by : (a b : Bool) → is_compared h ≡ a → is_concerned h.query changed ≡ b
+          → with_these (if a && b then Some (matching (view_of w) h.query) else None) h ≡ record h { these = if a then matching (view_of w) h.query else h.these }
+      by true true compared concerned = refl
+      by true false compared spared =
+          let same = rows_stay w changed h kept after was compared spared in
           λ j. record h { these = same j }
-      by false put = refl
+      by false b other concerned = refl
 
   pub with_rows_told : (hs : List Held) → All (WasNow w changed) hs → with_rows (map (rows_put w changed) hs) hs ≡ map (told_now w) hs
   with_rows_told [] was = refl
@@ -98,21 +89,32 @@ module _ (w : WorldState) (changed : Changed) (kept : IsWellFormed w) (after : I
 
 -- ---- which rows are put, and which are searched
 
--- one that is told locally holds none
-pub put_locally : (w : WorldState) (changed : Changed) (h : Held) → (is_monitor h.kind && is_local h.query) ≡ true → Some [] ≡ rows_put w changed h
-put_locally w changed h locally =
-    let parts = and_parts (is_monitor h.kind) (is_local h.query) locally in
-    sym (ap (λ k. if (is_monitor k && not (is_local h.query)) && not (is_concerned h.query changed) then None else Some (rows_of w k h.query)) (monitor_is h.kind parts.0)
-    ∙ ap (λ b. if not b && not (is_concerned h.query changed) then None else Some (if b then [] else matching (view_of w) h.query)) parts.1)
+-- none of one that isn't searched
+pub none_put : (w : WorldState) (changed : Changed) (h : Held) → is_searched changed h ≡ false → None ≡ rows_put w changed h
+none_put w changed h spared = sym (ap (λ b. if b then Some (matching (view_of w) h.query) else None) spared)
 
--- one whose rows neither stay nor are searched isn't compared
-pub isnt_compared : (changed : Changed) (h : Held) → stays changed h ≡ false → is_searched changed h ≡ false → is_compared h ≡ false
-isnt_compared changed h stay searched = by (is_compared h) (is_concerned h.query changed) stay searched
+pub isnt_searched : (changed : Changed) (h : Held) → is_compared h ≡ false → is_searched changed h ≡ false
+isnt_searched changed h other = ap (λ b. b && is_concerned h.query changed) other
+
+-- what may be told nothing isn't compared
+pub untold_isnt : (changed : Changed) (h : Held) → may_tell changed h.kind h.query ≡ false → is_compared h ≡ false
+untold_isnt changed h none = ap (λ b. b && not (is_local h.query)) (by h.kind none)
   where
-    by : (a b : Bool) → (a && not b) ≡ false → (a && b) ≡ false → a ≡ false
-    by true true stay searched = absurd (true≢false searched)
-    by true false stay searched = absurd (true≢false stay)
-    by false b stay searched = refl
+    by : (kind : StoredKind) → may_tell changed kind h.query ≡ false → is_monitor kind ≡ false
+    by Kept none = refl
+    by Monitor none = absurd (true≢false none)
+    by OnAdd none = refl
+    by OnRemove none = refl
+    by OnSet none = refl
+
+-- one that is neither compared nor told locally is no monitor
+pub neither_monitors : (h : Held) → is_compared h ≡ false → is_told_locally h ≡ false → is_monitor h.kind ≡ false
+neither_monitors h other far = by (is_monitor h.kind) (is_local h.query) other far
+  where
+    by : (m l : Bool) → (m && not l) ≡ false → (m && l) ≡ false → m ≡ false
+    by true true other far = absurd (true≢false far)
+    by true false other far = absurd (true≢false other)
+    by false l other far = refl
 
 -- where none is compared, none is searched
 pub none_searched : (changed : Changed) (hs : List Held) → list_any is_compared hs ≡ false → list_any (is_searched changed) hs ≡ false

@@ -53,10 +53,6 @@ is_compared h = is_monitor h.kind && not (is_local h.query)
 abbrev pub is_searched : Changed → Held → Bool
 is_searched changed h = is_compared h && is_concerned h.query changed
 
--- whether those that are held stay after it: it is compared, and the command doesn't concern its query
-abbrev pub stays : Changed → Held → Bool
-stays changed h = is_compared h && not (is_concerned h.query changed)
-
 -- whether the whole rows of some stored query are to be taken for what waits
 abbrev pub has_searched : Standing → Bool
 has_searched s = option_map_or (λ changed. list_any (is_searched changed) s.stored) s.waiting false
@@ -82,12 +78,9 @@ abbrev pub rows_of : WorldState → StoredKind → Query → List ℕ
 rows_of w Monitor q = if is_local q then [] else matching (view_of w) q
 rows_of w kind q = []
 
-abbrev pub rows_told : WorldState → Held → List ℕ
-rows_told w h = rows_of w h.kind h.query
-
--- what is put in their place after a command, unless they stay
+-- what is put in their place after a command: where the whole rows are taken, their entities
 abbrev pub rows_put : WorldState → Changed → Held → Option (List ℕ)
-rows_put w changed h = if stays changed h then None else Some (rows_told w h)
+rows_put w changed h = if is_searched changed h then Some (matching (view_of w) h.query) else None
 
 -- a stored query with these as the entities of its rows, if any are put in their place
 abbrev pub with_these : Option (List ℕ) → Held → Held

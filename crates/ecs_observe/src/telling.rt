@@ -15,12 +15,12 @@ ghost use Rattle.watch_meaning.specs.Since.{IsAfter};
 
 use crate::Session;
 use crate::stored::{StoredQueries, StoredQuery, has_local_monitor};
-use crate::watched::held_rows;
+use crate::watched::whole_rows;
 use ecs_world::{Changes, World};
 use local_queries::{Touched, local_told};
 use std::alloc::{AllocError, Allocator};
 use touched_entities::{is_concerned, touched};
-use world_events::{Audience, Event, Moves, tell, tell_moves};
+use world_events::{Audience, Event, Moves, may_tell, tell, tell_moves};
 
 impl<A: Allocator + Copy> Session<A> {
     /// The events that wait, of one stored query after another in the order of making. After that none wait.
@@ -108,7 +108,8 @@ fn tell_all<A: Allocator + Copy>(
     Ok(())
 }
 
-/// Puts what a stored query is told behind other events, and answers what is held of its rows now, unless they stay.
+/// Puts what a stored query is told behind other events, and answers the entities of its rows now, unless those that are held stay. Most observers
+/// are told nothing, which is asked first.
 fn tell_one<A: Allocator + Copy>(
     alloc: A,
     world: &World<A>,
@@ -127,15 +128,44 @@ fn tell_one<A: Allocator + Copy>(
     ensures told { OnOk result (events.new.items ≡ events.old.items ++ told_to world.now.state changes.now (held_as (string_bytes name.now) query.now)) }
     ensures compared { is_searched changes.now (held_as (string_bytes name.now) query.now) ≡ false → compared.new ≡ compared.old }
 {
-    if query.is_told_locally() {
-        tell_locally(alloc, world, changes, touched, name, query, events)?;
-        return Ok(Some(Vec::new(alloc)));
-    }
-    world.keeps();
-    if stays(query, changes) {
+    if !may_tell(query.kind, query.plan.query(), changes) {
         return Ok(None);
     }
-    let rows = held_rows(alloc, world, query.kind, &query.plan, compared)?;
+    if query.is_compared() {
+        return tell_compared(alloc, world, changes, name, query, compared, events);
+    }
+    if query.is_told_locally() {
+        tell_locally(alloc, world, changes, touched, name, query, events)?;
+    } else {
+        tell_observer(alloc, world, changes, name, query, events)?;
+    }
+    Ok(None)
+}
+
+/// Puts what a monitor whose query isn't local is told behind other events, and answers the entities of its rows now, unless the command doesn't
+/// concern its query. Counts the whole rows taken.
+fn tell_compared<A: Allocator + Copy>(
+    alloc: A,
+    world: &World<A>,
+    changes: &Changes<A>,
+    name: &String<A>,
+    query: &StoredQuery<A>,
+    compared: &mut u64,
+    events: &mut Vec<Event<A>, A>,
+) -> Result<Option<Vec<u32, A>>, AllocError>
+    requires after { IsAfter world.now.state changes.now }
+    requires held { IsHeld world.now.state (held_as (string_bytes name.now) query.now) }
+    requires was { WasNow world.now.state changes.now (held_as (string_bytes name.now) query.now) }
+    requires compared { is_compared (held_as (string_bytes name.now) query.now) ≡ true }
+    ensures rows { IfOk result (λ rows. put_in rows ≡ rows_put world.now.state changes.now (held_as (string_bytes name.now) query.now)) }
+    ensures told { OnOk result (events.new.items ≡ events.old.items ++ told_to world.now.state changes.now (held_as (string_bytes name.now) query.now)) }
+    ensures compared { is_searched changes.now (held_as (string_bytes name.now) query.now) ≡ false → compared.new ≡ compared.old }
+{
+    world.keeps();
+    if !is_concerned(query.plan.query(), changes) {
+        return Ok(None);
+    }
+    let rows = whole_rows(alloc, world, &query.plan, compared)?;
     let audience = Audience {
         name: name.as_bytes(),
         kind: query.kind,
@@ -147,11 +177,27 @@ fn tell_one<A: Allocator + Copy>(
     Ok(Some(rows))
 }
 
-/// Whether the entities of a stored query's rows stay after a command: it is compared, and the command doesn't concern its query.
-fn stays<A: Allocator>(query: &StoredQuery<A>, changes: &Changes<A>) -> bool
-    ensures { result ≡ ((is_monitor query.now.kind && not (is_local (query.now.plan).query)) && not (is_concerned (query.now.plan).query changes.now)) }
+/// Puts what an event observer is told behind other events.
+fn tell_observer<A: Allocator + Copy>(
+    alloc: A,
+    world: &World<A>,
+    changes: &Changes<A>,
+    name: &String<A>,
+    query: &StoredQuery<A>,
+    events: &mut Vec<Event<A>, A>,
+) -> Result<(), AllocError>
+    requires after { IsAfter world.now.state changes.now }
+    requires observes { is_monitor query.now.kind ≡ false }
+    ensures told { OnOk result (events.new.items ≡ events.old.items ++ told_to world.now.state changes.now (held_as (string_bytes name.now) query.now)) }
 {
-    query.is_compared() && !is_concerned(query.plan.query(), changes)
+    let audience = Audience {
+        name: name.as_bytes(),
+        kind: query.kind,
+        query: query.plan.query(),
+        old: &[],
+        new: &[],
+    };
+    tell(alloc, world, changes, audience, events)
 }
 
 /// Puts what a monitor of a local query is told behind other events, by the entities that the command touched.

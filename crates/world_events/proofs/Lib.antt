@@ -4,3 +4,4 @@ pub mod InOrder
 pub mod ByTerm
 pub mod Told
 pub mod EachKind
+pub mod Missing

@@ -1,3 +1,4 @@
 pub mod Told
 pub mod Terms
 pub mod Values
+pub mod Hits

@@ -4,6 +4,7 @@
 mod before;
 mod event;
 mod facts;
+mod hits;
 mod removals;
 mod rows;
 mod telling;
@@ -11,5 +12,6 @@ mod terms;
 mod texts;
 
 pub use event::{Event, write_event};
+pub use hits::may_tell;
 pub use rows::{Moves, tell_moves};
 pub use telling::{Audience, tell};

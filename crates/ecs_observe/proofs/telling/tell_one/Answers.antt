@@ -1,43 +1,29 @@
-use Rattle.std.specs.Prelude.{None, Some, if◌then◌else◌}
 use Rattle.std.specs.String.{string_bytes}
-use Rattle.std.proofs.Common.{◌≡◌, ◌++◌, append-nil, ap, sym, ◌∙◌}
+use Rattle.std.proofs.Common.{◌++◌, append-nil, ap, sym, ◌∙◌}
 use Rattle.watch_meaning.specs.Since.{told_since}
+use Rattle.world_events.specs.Hits.{may_tell}
 use Rattle.ecs_observe.specs.Parts.{held_as}
-use Rattle.ecs_observe.specs.Standing.{rows_told, told_to}
-use Rattle.ecs_observe.proofs.Locally.{told_of_held}
-use Rattle.ecs_observe.proofs.Staying.{isnt_compared, nothing_told, put_locally}
+use Rattle.ecs_observe.specs.Standing.{rows_before}
+use Rattle.ecs_observe.proofs.Staying.{isnt_searched, neither_monitors, none_put, untold_isnt}
 use Rattle.ecs_observe.proofs.telling.tell_one.Goals as goal
 
-pub returns-then-is_told_locally-clause-rows : goal.returns-then-is_told_locally-clause-rows
-returns-then-is_told_locally-clause-rows g c =
-    ap Some c.new.ensures.items
-    ∙ put_locally c.args.world.now.state c.args.changes.now (held_as (string_bytes c.args.name.now) c.args.query.now) (sym c.is_told_locally.ensures ∙ c.if-is_told_locally.true)
-
-pub returns-then-stays-clause-rows : goal.returns-then-stays-clause-rows
-returns-then-stays-clause-rows g c =
-    sym (ap (λ b. if b then None else Some (rows_told c.args.world.now.state (held_as (string_bytes c.args.name.now) c.args.query.now))) (sym c.stays.ensures ∙ c.if-stays.true))
-
-pub returns-then-stays-clause-told : goal.returns-then-stays-clause-told
-returns-then-stays-clause-told g c =
+pub returns-then-not-may_tell-clause-rows : goal.returns-then-not-may_tell-clause-rows
+returns-then-not-may_tell-clause-rows g c =
+    let changed = c.args.changes.now in
     let h = held_as (string_bytes c.args.name.now) c.args.query.now in
-    sym (ap (λ es. c.args.events.now.items ++ es) (nothing_told c.args.world.now.state c.args.changes.now h c.keeps.ensures c.requires.after c.requires.was (sym c.stays.ensures ∙ c.if-stays.true))
-    ∙ append-nil c.args.events.now.items)
+    let untold = ap (may_tell changed h.kind) (sym c.query.ensures) ∙ (sym c.may_tell.ensures.may ∙ c.if-not-may_tell.true) in
+    none_put c.args.world.now.state changed h (isnt_searched changed h (untold_isnt changed h untold))
 
-pub returns-clause-rows : goal.returns-clause-rows
-returns-clause-rows g c =
-    let h = held_as (string_bytes c.args.name.now) c.args.query.now in
-    ap Some c.in_ok-rows.ensures.rows ∙ sym (ap (λ b. if b then None else Some (rows_told c.args.world.now.state h)) (sym c.stays.ensures ∙ c.if-stays.false))
-
-pub returns-clause-told : goal.returns-clause-told
-returns-clause-told g c =
+pub returns-then-not-may_tell-clause-told : goal.returns-then-not-may_tell-clause-told
+returns-then-not-may_tell-clause-told g c =
     let w = c.args.world.now.state in
     let changed = c.args.changes.now in
     let h = held_as (string_bytes c.args.name.now) c.args.query.now in
-    let told : told_since w changed c.as_bytes.result.now h.kind c.query.result.now c.as_slice.result.now ≡ told_to w changed h
-    = (λ i. told_since w changed (c.as_bytes.ensures.value i) h.kind (c.query.ensures i) (c.as_slice.ensures.value i))
-    ∙ sym (told_of_held w changed h (sym c.is_told_locally.ensures ∙ c.if-is_told_locally.false)) in
-    c.in_ok-tell.ensures ∙ ap (λ es. c.args.events.now.items ++ es) told
+    let old = rows_before w changed h in
+    let none = ap (λ q. told_since w changed h.name h.kind q old) (sym c.query.ensures) ∙ c.may_tell.ensures.nothing c.if-not-may_tell.true w h.name old in
+    sym (ap (λ es. c.args.events.now.items ++ es) none ∙ append-nil c.args.events.now.items)
 
-pub returns-clause-compared : goal.returns-clause-compared
-returns-clause-compared g c = λ none.
-    c.in_ok-rows.ensures.compared (isnt_compared c.args.changes.now (held_as (string_bytes c.args.name.now) c.args.query.now) (sym c.stays.ensures ∙ c.if-stays.false) none)
+pub tell_observer-requires-clause-observes : goal.tell_observer-requires-clause-observes
+tell_observer-requires-clause-observes g c =
+    let h = held_as (string_bytes c.args.name.now) c.args.query.now in
+    neither_monitors h (sym c.is_compared.ensures ∙ c.if-is_compared.false) (sym c.is_told_locally.ensures ∙ c.if-is_told_locally.false)
