@@ -1,6 +1,7 @@
-ghost use Rattle.std.specs.Prelude.{◌<◌, ◌≤◌, ◌≡◌, ℕ, length, slice_index};
+ghost use Rattle.std.specs.Prelude.{◌<◌, ◌≤◌, ◌≡◌, ◌∷◌, [], ℕ, length, slice_index};
+ghost use Rattle.raw_column.specs.Contents.{empty_contents};
 
-use raw_column::Block;
+use raw_column::{Block, Memory};
 use std::alloc::Global;
 use std::process::Abort;
 use std::test::Fail;
@@ -68,7 +69,40 @@ fn remove(listed: &mut Listed, row: usize) {
     }
 }
 
+/// Removes all but ten, and gives memory back.
+fn remove_most(rt: &impl Abort, listed: &mut Listed) {
+    for row in 0..COUNT as usize - 10 {
+        remove(listed, row % 7);
+    }
+    listed.block.shrink_to(16);
+    assert!(rt; listed.block.room() <= 6);
+    expect_same(rt, listed);
+}
+
+fn remove_all(rt: &impl Abort, listed: &mut Listed) {
+    for _ in 0..110 {
+        remove(listed, 0);
+    }
+    listed.block.shrink_to(0);
+    assert_eq!(rt; listed.block.len(), 0);
+    assert_eq!(rt; listed.block.room(), 0);
+}
+
 /// Pushes, removes most, gives memory back, and pushes again.
+fn fill_and_empty(rt: &impl Abort, listed: &mut Listed) -> Result<(), Fail> {
+    for seed in 0..COUNT {
+        push(listed, seed.wrapping_mul(2_654_435_761))?;
+    }
+    expect_same(rt, listed);
+    remove_most(rt, listed);
+    for seed in 0..100 {
+        push(listed, seed)?;
+    }
+    expect_same(rt, listed);
+    remove_all(rt, listed);
+    Ok(())
+}
+
 fn exercise(rt: &impl Abort, alloc: Global, sizes: &[usize]) -> Result<(), Fail>
     requires { (k : ℕ) → k < length sizes.now → (0 < slice_index sizes.now k) × (slice_index sizes.now k ≤ 64) }
 {
@@ -76,27 +110,9 @@ fn exercise(rt: &impl Abort, alloc: Global, sizes: &[usize]) -> Result<(), Fail>
         block: Block::new(alloc, sizes)?,
         list: Vec::new(alloc),
     };
-    for seed in 0..COUNT {
-        push(&mut listed, seed.wrapping_mul(2_654_435_761))?;
-    }
-    expect_same(rt, &listed);
-    for row in 0..COUNT as usize - 10 {
-        remove(&mut listed, row % 7);
-    }
-    listed.block.shrink_to(16);
-    assert!(rt; listed.block.room() <= 6);
-    expect_same(rt, &listed);
-    for seed in 0..100 {
-        push(&mut listed, seed)?;
-    }
-    expect_same(rt, &listed);
-    for _ in 0..110 {
-        remove(&mut listed, 0);
-    }
-    listed.block.shrink_to(0);
-    assert_eq!(rt; listed.block.len(), 0);
-    assert_eq!(rt; listed.block.room(), 0);
-    Ok(())
+    let done = fill_and_empty(rt, &mut listed);
+    drop(listed);
+    done
 }
 
 #[test]
@@ -119,9 +135,9 @@ fn eight_columns(rt: HostRuntime) -> Result<(), Fail> {
     exercise(&rt, rt.alloc(), &[1, 3, 4, 8, 64, 1, 8, 4])
 }
 
-#[test]
-fn the_last_row_fills_the_gap(rt: HostRuntime) -> Result<(), Fail> {
-    let mut block = Block::new(rt.alloc(), &[4, 1])?;
+fn fill_gap_of_row(rt: &impl Abort, block: &mut Block) -> Result<(), Memory>
+    requires { block.old ≡ empty_contents (4 ∷ 1 ∷ []) }
+{
     block.reserve(2)?;
     block.push_zero();
     block.push_zero();
@@ -135,8 +151,16 @@ fn the_last_row_fills_the_gap(rt: HostRuntime) -> Result<(), Fail> {
 }
 
 #[test]
-fn the_last_element_fills_the_gap(rt: HostRuntime) -> Result<(), Fail> {
-    let mut column = Block::new(rt.alloc(), &[4])?;
+fn the_last_row_fills_the_gap(rt: HostRuntime) -> Result<(), Fail> {
+    let mut block = Block::new(rt.alloc(), &[4, 1])?;
+    let done = fill_gap_of_row(&rt, &mut block);
+    drop(block);
+    Ok(done?)
+}
+
+fn fill_gap_of_element(rt: &impl Abort, column: &mut Block) -> Result<(), Memory>
+    requires { column.old ≡ empty_contents (4 ∷ []) }
+{
     column.reserve(2)?;
     column.push_zero();
     column.push_zero();
@@ -149,20 +173,46 @@ fn the_last_element_fills_the_gap(rt: HostRuntime) -> Result<(), Fail> {
 }
 
 #[test]
-fn a_row_moves_with_the_column_that_is_told(rt: HostRuntime) -> Result<(), Fail> {
-    let mut from = Block::new(rt.alloc(), &[4, 1])?;
-    let mut to = Block::new(rt.alloc(), &[1, 2])?;
+fn the_last_element_fills_the_gap(rt: HostRuntime) -> Result<(), Fail> {
+    let mut column = Block::new(rt.alloc(), &[4])?;
+    let done = fill_gap_of_element(&rt, &mut column);
+    drop(column);
+    Ok(done?)
+}
+
+fn move_one_column(rt: &impl Abort, from: &mut Block, to: &mut Block) -> Result<(), Memory>
+    requires from { from.old ≡ empty_contents (4 ∷ 1 ∷ []) }
+    requires to { to.old ≡ empty_contents (1 ∷ 2 ∷ []) }
+{
     from.reserve(1)?;
     to.reserve(1)?;
     from.push_zero();
     from.set(0, 0, &[1, 2, 3, 4]);
     from.set(1, 0, &[7]);
-    from.move_row(0, &mut to, &[(1, 0)]);
+    from.move_row(0, to, &[(1, 0)]);
     assert_eq!(rt; from.len(), 0);
     assert_eq!(rt; to.len(), 1);
     assert_eq!(rt; to.get(0, 0), [7u8].as_slice());
     assert_eq!(rt; to.get(1, 0), [0u8, 0].as_slice());
     Ok(())
+}
+
+/// Moves a row into a block of its own.
+fn move_to_another(rt: &impl Abort, alloc: Global, from: &mut Block) -> Result<(), Memory>
+    requires { from.old ≡ empty_contents (4 ∷ 1 ∷ []) }
+{
+    let mut to = Block::new(alloc, &[1, 2])?;
+    let done = move_one_column(rt, from, &mut to);
+    drop(to);
+    done
+}
+
+#[test]
+fn a_row_moves_with_the_column_that_is_told(rt: HostRuntime) -> Result<(), Fail> {
+    let mut from = Block::new(rt.alloc(), &[4, 1])?;
+    let done = move_to_another(&rt, rt.alloc(), &mut from);
+    drop(from);
+    Ok(done?)
 }
 
 fn sent<T: Send>(value: T) -> T {
