@@ -34,6 +34,7 @@ pub fn may_tell<A: Allocator>(kind: StoredKind, query: &Query<A>, changes: &Chan
 }
 
 /// Whether an observer's term matches the id of one of these facts.
+#[inline(always)]
 fn any_matches<A: Allocator>(query: &Query<A>, facts: &[FactKey]) -> bool
     ensures { result ≡ any_matches query.now facts.now }
 {
@@ -44,6 +45,7 @@ fn any_matches<A: Allocator>(query: &Query<A>, facts: &[FactKey]) -> bool
 }
 
 /// Whether a term matches the id of one of these facts.
+#[inline(always)]
 fn any_fits(term: &Term, facts: &[FactKey]) -> bool
     ensures { result ≡ list_any (λ k. matches [] term.now.first term.now.target k.1) facts.now }
 {

@@ -31,6 +31,7 @@ pub(crate) fn find_entity<A: Allocator>(
 }
 
 /// The entity of a reference and the id of others.
+#[inline(always)]
 pub(crate) fn find_both<A: Allocator>(
     world: &World<A>,
     entity: Reference<'_>,

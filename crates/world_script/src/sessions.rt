@@ -41,6 +41,7 @@ pub(crate) fn run_line<A: Allocator + Copy>(
 }
 
 /// Does what a line that was read says, with the values of a `set`.
+#[inline(always)]
 fn run_form<A: Allocator + Copy>(
     alloc: A,
     session: &mut Session<A>,
