@@ -1,0 +1,5 @@
+//! Runs of queries in worlds, a row a pull.
+#![tactic(auto)]
+
+#[cfg(test)]
+mod pulls;
