@@ -178,7 +178,7 @@ fn the_shortest_list_of_tables_is_judged(rt: HostRuntime) -> Result<(), Fail> {
 }
 
 /// A diamond of IsA with a tag at its top, parents, and pairs of one relationship.
-fn make_family(world: &mut World) -> Result<(), CommandError> {
+pub(crate) fn make_family(world: &mut World) -> Result<(), CommandError> {
     for name in ["C", "Likes", "Top", "Left", "Right", "Low", "Child"] {
         world.entity(name)?;
     }
