@@ -1,0 +1,25 @@
+-- the steps stay as many, and the world and the query the same
+use Rattle.std.proofs.Common.{◌≡◌, ◌<◌, length, ◌-◌}
+use Rattle.run_tests.proofs.orders.Tried.+all_run.Given as goal
+
+abbrev pub decreases-all_run : goal.decreases-all_run
+decreases-all_run l = length l.steps.now - l.at
+
+abbrev pub invariant-loop-mode : goal.invariant-loop-mode
+invariant-loop-mode l = record {
+    kept : length l.steps ≡ length l.fn.steps;
+    world : l.self.world.now ≡ l.fn.self.world.now;
+    query : l.self.query.now ≡ l.fn.self.query.now;
+    end : l.other-end ≡ length l.fn.steps;
+    other : l.other < length l.fn.steps;
+    within : l.at < length l.fn.steps
+}
+
+abbrev pub invariant-loop-other : goal.invariant-loop-other
+invariant-loop-other l = record {
+    kept : length l.steps ≡ length l.fn.steps;
+    world : l.self.world.now ≡ l.fn.self.world.now;
+    query : l.self.query.now ≡ l.fn.self.query.now;
+    end : l.other-end ≡ length l.fn.steps;
+    within : l.at < length l.fn.steps
+}
