@@ -1,23 +1,23 @@
 -- Whether a level holds is the same in two views that agree in the ids that concern its items.
-use Rattle.std.proofs.Common.{◌≡◌, ℕ, suc, Bool, true, false, cond, List, [], ◌∷◌, ◌++◌, length, refl, sym, ap, ◌∙◌, arith}
-use Rattle.std.specs.Prelude.{◌==◌, ◌&&◌, ◌||◌, filter, map, not, take, Option, Some, None, if◌then◌else◌}
+use Rattle.std.proofs.Common.{◌≡◌, ℕ, suc, Bool, true, false, List, [], ◌∷◌, ◌++◌, length, refl, sym, ap, ◌∙◌, arith}
+use Rattle.std.specs.Prelude.{◌==◌, ◌&&◌, ◌||◌, map, not, take, Option, Some, None, if◌then◌else◌}
 use Rattle.std.specs.List.{list_any, list_all}
 use Rattle.std.specs.Option.{option_map_or}
 use Rattle.std.proofs.lemmas.Bool.{and_from, and_parts, eq-eqb, ne_eqb, or_left, or_right}
+use Rattle.std.proofs.lemmas.List.Folds.{list_any-append}
 use Rattle.std.proofs.lemmas.Option.{same_Some}
 use Rattle.ecs_id.specs.Id.{Id, plain, pair}
-use Rattle.ecs_model.specs.BuiltIns.{transitive, reflexive}
 use Rattle.ecs_model.specs.Links.{line}
 use Rattle.ecs_model.specs.rows.Level.{Level, done, also, unless}
-use Rattle.ecs_model.specs.rows.Rows.{Assignment, Field, Unset, asked, assignments, closed_fields, fields_at, fields_of_item, fields_of_term, first_nonempty, fits, hits, keeps_one, matches, meant, product, same_entity, shown, shown_fields, solutions}
+use Rattle.ecs_model.specs.rows.Rows.{Assignment, Unset, asked, assignments, closed_fields, fields_at, fields_of_item, fields_of_term, first_nonempty, fits, hits, keeps_one, matches, meant, product, shown, shown_fields, solutions}
 use Rattle.ecs_model.specs.rows.View.{View}
 use Rattle.query_model.specs.declared.query.Ref.{Ref}
 use Rattle.query_model.specs.declared.query.Ref.TheVariants.{Is, Var, Any, One}
 use Rattle.query_model.specs.declared.query.Term.{Term}
 use Rattle.query_model.specs.Query.{Item, must, may, either, equal, differ}
-use Rattle.query_concerns.specs.Concerns.{is_pair_of, item_concerns, leads_up, may_be, may_match, term_concerns}
+use Rattle.query_concerns.specs.Concerns.{is_pair_of, leads_up, may_be, may_match, term_concerns}
 use Rattle.query_concerns.proofs.Covered.{Covers, CoversLevel}
-use Rattle.query_concerns.proofs.Reaching.{Agree, HasPairs, line_same, reaches_same}
+use Rattle.query_concerns.proofs.Reaching.{Agree, HasPairs}
 use Rattle.query_concerns.proofs.Within.{filter_same}
 
 -- ---- whether there is a choice
@@ -35,7 +35,7 @@ module _ {X : Type 0} where
   some-append [] ys = refl
   some-append (x ∷ xs) ys = refl
 
-  some-first : (xss : List (List X)) → some (first_nonempty xss) ≡ list_any some xss
+  pub some-first : (xss : List (List X)) → some (first_nonempty xss) ≡ list_any some xss
   some-first [] = refl
   some-first ([] ∷ xss) = some-first xss
   some-first ((x ∷ xs) ∷ xss) = refl
@@ -44,9 +44,13 @@ module _ {X : Type 0} where
   some-if true xs = refl
   some-if false xs = refl
 
-some-map : {X Y : Type 0} (f : X → Y) (xs : List X) → some (map f xs) ≡ some xs
+pub some-map : {X Y : Type 0} (f : X → Y) (xs : List X) → some (map f xs) ≡ some xs
 some-map f [] = refl
 some-map f (x ∷ xs) = refl
+
+pub any-map : {X Y : Type 0} (f : X → List Y) (xs : List X) → list_any some (map f xs) ≡ list_any (λ x. some (f x)) xs
+any-map f [] = refl
+any-map f (x ∷ xs) = ap (λ b. some (f x) || b) (any-map f xs)
 
 some-product : {X : Type 0} (xs ys : List (List X)) → some (product xs ys) ≡ (some xs && some ys)
 some-product [] ys = refl
@@ -61,6 +65,10 @@ some-product (x ∷ xs) ys =
     absorbed true false = refl
     absorbed false true = refl
     absorbed false false = refl
+
+-- the ids of an entity, with it
+abbrev pub at_each : ℕ → List Id → List (ℕ × Id)
+at_each m = map (λ i. (m, i))
 
 -- ---- what a term matches, whatever variables stand for
 
@@ -94,19 +102,19 @@ module _ (i : Id) (t : Term) where
   by_closure : (t.closed && is_pair_of t.first i) ≡ true → term_concerns i t ≡ true
   by_closure h = or_right (may_match t.first t.target i || leads_up t.up i) (t.closed && is_pair_of t.first i) h
 
-module _ (wide : Id → Bool) (w v : View) (agree : Agree wide w v) (has_transitive : wide (plain transitive) ≡ true) (has_reflexive : wide (plain reflexive) ≡ true) where
+module _ (wide : Id → Bool) (w v : View) (agree : Agree wide w v) where
   -- ---- a term
 
   module _ (a : Assignment) (t : Term) (covered : (i : Id) → term_concerns i t ≡ true → wide i ≡ true) where
     matched_covered : (i : Id) → matches a t.first t.target i ≡ true → wide i ≡ true
     matched_covered i h = covered i (by_match i t (matches_may a t.first t.target i h))
 
-    risen_covered : (r : ℕ) → t.up ≡ Some r → HasPairs wide w v agree r
+    risen_covered : (r : ℕ) → t.up ≡ Some r → HasPairs wide r
     risen_covered r up u =
         let leads : leads_up t.up (pair r u) ≡ true = ap (λ o. leads_up o (pair r u)) up ∙ eq-eqb r r refl in
         covered (pair r u) (by_rise (pair r u) t leads)
 
-    closed_covered : t.closed ≡ true → (r : ℕ) → meant a t.first ≡ Some r → HasPairs wide w v agree r
+    closed_covered : t.closed ≡ true → (r : ℕ) → meant a t.first ≡ Some r → HasPairs wide r
     closed_covered closed r means u =
         let follows : (t.closed && is_pair_of t.first (pair r u)) ≡ true = and_from _ _ closed (meant_may a t.first r means) in
         covered (pair r u) (by_closure (pair r u) t follows)
@@ -117,40 +125,58 @@ module _ (wide : Id → Bool) (w v : View) (agree : Agree wide w v) (has_transit
         let all = filter_same wide (w.ids m) (v.ids m) (agree.ids m) (matches a t.first t.target) matched_covered in
         λ k. if keeps_one t then take 1 (all k) else all k
 
-    lines_same : (s : ℕ) (o : Option ℕ) → t.up ≡ o → option_map_or (λ r. line w.ids w.entities r s) o [] ≡ option_map_or (λ r. line v.ids v.entities r s) o []
-    lines_same s None up = refl
-    lines_same s (Some r) up = line_same wide w v agree r (risen_covered r up) s
+    -- the same source has among those that are asked one that passes a test
+    module _ (p : ℕ → Bool) (s : ℕ) where
+      lines_same : (o : Option ℕ) → t.up ≡ o → list_any p (option_map_or (λ r. line w.ids w.entities r s) o []) ≡ list_any p (option_map_or (λ r. line v.ids v.entities r s) o [])
+      lines_same None up = refl
+      lines_same (Some r) up = agree.risen r (risen_covered r up) s p
 
-    asked_same : (s : ℕ) → asked w t s ≡ asked v t s
-    asked_same s = ap (λ es. (if t.on_source then s ∷ [] else []) ++ es) (lines_same s t.up refl)
+      asked_same : list_any p (asked w t s) ≡ list_any p (asked v t s)
+      asked_same =
+          let itself = if t.on_source then s ∷ [] else [] in
+          list_any-append p itself (option_map_or (λ r. line w.ids w.entities r s) t.up [])
+          ∙ ap (λ b. list_any p itself || b) (lines_same t.up refl)
+          ∙ sym (list_any-append p itself (option_map_or (λ r. line v.ids v.entities r s) t.up []))
 
-    closed_same : (first : Option ℕ) → ((r : ℕ) → first ≡ Some r → HasPairs wide w v agree r) → (s : ℕ) (target : Option ℕ) → closed_fields w first s target ≡ closed_fields v first s target
+    closed_same : (first : Option ℕ) → ((r : ℕ) → first ≡ Some r → HasPairs wide r) → (s : ℕ) (target : Option ℕ) → closed_fields w first s target ≡ closed_fields v first s target
     closed_same None h s target = refl
     closed_same (Some r) h s None = refl
-    closed_same (Some r) h s (Some u) = ap (λ b. if b then (s, pair r u) ∷ [] else []) (reaches_same wide w v agree has_transitive has_reflexive r (h r refl) s u)
+    closed_same (Some r) h s (Some u) = ap (λ b. if b then (s, pair r u) ∷ [] else []) (agree.reached r (h r refl) s u)
 
-    at_same : (s : ℕ) → fields_at w a t s ≡ fields_at v a t s
+    -- there is a hit of one that is asked
+    stored_same : (s : ℕ) → some (first_nonempty (map (λ m. at_each m (hits w a t m)) (asked w t s))) ≡ some (first_nonempty (map (λ m. at_each m (hits v a t m)) (asked v t s)))
+    stored_same s =
+        some-first (map (λ m. at_each m (hits w a t m)) (asked w t s))
+        ∙ any-map (λ m. at_each m (hits w a t m)) (asked w t s)
+        ∙ asked_same (λ m. some (at_each m (hits w a t m))) s
+        ∙ (λ k. list_any (λ m. some (at_each m (hits_same m k))) (asked v t s))
+        ∙ sym (any-map (λ m. at_each m (hits v a t m)) (asked v t s))
+        ∙ sym (some-first (map (λ m. at_each m (hits v a t m)) (asked v t s)))
+
+    at_same : (s : ℕ) → some (fields_at w a t s) ≡ some (fields_at v a t s)
     at_same s = by t.closed refl
       where
         target : Option ℕ
         target = option_map_or (meant a) t.target None
 
         by : (b : Bool) → t.closed ≡ b
-            → (if b then closed_fields w (meant a t.first) s target else first_nonempty (map (λ m. map (λ i. (m, i)) (hits w a t m)) (asked w t s)))
-            ≡ (if b then closed_fields v (meant a t.first) s target else first_nonempty (map (λ m. map (λ i. (m, i)) (hits v a t m)) (asked v t s)))
-        by true closed = closed_same (meant a t.first) (closed_covered closed) s target
-        by false stored =
-            let asks = asked_same s in
-            λ k. first_nonempty (map (λ m. map (λ i. (m, i)) (hits_same m k)) (asks k))
+            → some (if b then closed_fields w (meant a t.first) s target else first_nonempty (map (λ m. map (λ i. (m, i)) (hits w a t m)) (asked w t s)))
+            ≡ some (if b then closed_fields v (meant a t.first) s target else first_nonempty (map (λ m. map (λ i. (m, i)) (hits v a t m)) (asked v t s)))
+        by true closed = ap some (closed_same (meant a t.first) (closed_covered closed) s target)
+        by false stored = stored_same s
 
-    fields_same : fields_of_term w a t ≡ fields_of_term v a t
+    fields_same : some (fields_of_term w a t) ≡ some (fields_of_term v a t)
     unfolding fields_of_term
-    fields_same = λ k. option_map_or (λ s. at_same s k) (meant a t.source) []
+    fields_same = by (meant a t.source)
+      where
+        by : (o : Option ℕ) → some (option_map_or (fields_at w a t) o []) ≡ some (option_map_or (fields_at v a t) o [])
+        by None = refl
+        by (Some s) = at_same s
 
     shown_same : some (shown_fields w a t) ≡ some (shown_fields v a t)
     shown_same =
         some-map (λ f. shown w t f ∷ []) (fields_of_term w a t)
-        ∙ ap some fields_same
+        ∙ fields_same
         ∙ sym (some-map (λ f. shown v t f ∷ []) (fields_of_term v a t))
 
   -- ---- an item
@@ -163,7 +189,7 @@ module _ (wide : Id → Bool) (w v : View) (agree : Agree wide w v) (has_transit
       let rest = alternatives_same a ts (λ i x. h i (or_right (term_concerns i t) (list_any (term_concerns i) ts) x)) in
       λ k. first k || rest k
 
-  item_same : (a : Assignment) (x : Item) → Covers wide x → some (fields_of_item w a x) ≡ some (fields_of_item v a x)
+  pub item_same : (a : Assignment) (x : Item) → Covers wide x → some (fields_of_item w a x) ≡ some (fields_of_item v a x)
   unfolding fields_of_item
   item_same a (must t) h = shown_same a t h
   item_same a (may t) h =
@@ -174,22 +200,22 @@ module _ (wide : Id → Bool) (w v : View) (agree : Agree wide w v) (has_transit
   item_same a (equal u r) h = refl
   item_same a (differ u r) h = refl
 
-  -- ---- a level
+  -- ---- a level, where the same live
 
-  pub level_same : (l : Level) → CoversLevel wide l → (a : Assignment) → some (solutions w l a) ≡ some (solutions v l a)
-  unfolding solutions
-  level_same done h a = refl
-  level_same (also x rest) h a =
-      let first = item_same a x h.0 in
-      let others = level_same rest h.1 a in
-      some-product (fields_of_item w a x) (solutions w rest a)
-      ∙ (λ k. first k && others k)
-      ∙ sym (some-product (fields_of_item v a x) (solutions v rest a))
-  level_same (unless from_term own inner rest) h a =
-      let lives = agree.entities in
-      let counted : (b : Assignment) → (length (solutions w inner b) == 0) ≡ (length (solutions v inner b) == 0)
-      = λ b. none_counted (solutions w inner b) ∙ ap not (level_same inner h.0 b) ∙ sym (none_counted (solutions v inner b)) in
-      let others = level_same rest h.1 a in
-      some-if (list_all (λ b. length (solutions w inner b) == 0) (assignments own w.entities a)) (solutions w rest a)
-      ∙ (λ k. list_all (λ b. counted b k) (assignments own (lives k) a) && others k)
-      ∙ sym (some-if (list_all (λ b. length (solutions v inner b) == 0) (assignments own v.entities a)) (solutions v rest a))
+  module _ (lives : w.entities ≡ v.entities) where
+    pub level_same : (l : Level) → CoversLevel wide l → (a : Assignment) → some (solutions w l a) ≡ some (solutions v l a)
+    unfolding solutions
+    level_same done h a = refl
+    level_same (also x rest) h a =
+        let first = item_same a x h.0 in
+        let others = level_same rest h.1 a in
+        some-product (fields_of_item w a x) (solutions w rest a)
+        ∙ (λ k. first k && others k)
+        ∙ sym (some-product (fields_of_item v a x) (solutions v rest a))
+    level_same (unless from_term own inner rest) h a =
+        let counted : (b : Assignment) → (length (solutions w inner b) == 0) ≡ (length (solutions v inner b) == 0)
+        = λ b. none_counted (solutions w inner b) ∙ ap not (level_same inner h.0 b) ∙ sym (none_counted (solutions v inner b)) in
+        let others = level_same rest h.1 a in
+        some-if (list_all (λ b. length (solutions w inner b) == 0) (assignments own w.entities a)) (solutions w rest a)
+        ∙ (λ k. list_all (λ b. counted b k) (assignments own (lives k) a) && others k)
+        ∙ sym (some-if (list_all (λ b. length (solutions v inner b) == 0) (assignments own v.entities a)) (solutions v rest a))

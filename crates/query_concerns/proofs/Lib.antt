@@ -3,3 +3,8 @@ pub mod Reaching
 pub mod Covered
 pub mod Holding
 pub mod Matching
+pub mod FromLeft
+pub mod Ranges
+pub mod Ancestors
+pub mod Living
+pub mod WhoeverLives

@@ -7,7 +7,6 @@ use Rattle.std.specs.Ordering.{nat_cmp}
 use Rattle.std.proofs.lemmas.List.Folds.{list_any-append}
 use Rattle.ecs_id.specs.Id.{plain}
 use Rattle.ecs_model.specs.BuiltIns.{transitive, reflexive}
-use Rattle.ecs_model.specs.Links.{is_held}
 use Rattle.ecs_model.specs.Map.{value_at}
 use Rattle.ecs_model.specs.rows.Level.{top}
 use Rattle.ecs_model.specs.rows.Rows.{Assignment, Field, assignments, candidates, level_mentions, passes_over, row_of, rows, rows_under, solutions, visible}
@@ -19,13 +18,13 @@ use Rattle.query_concerns.specs.Concerns.{concerns}
 use Rattle.query_concerns.specs.Laws.{AreAlikeFor, MatchByWhatConcerns}
 use Rattle.query_concerns.proofs.Covered.{asked_by_all, top_covered}
 use Rattle.query_concerns.proofs.Holding.{level_same, some}
-use Rattle.query_concerns.proofs.Reaching.{Agree, held_same}
+use Rattle.query_concerns.proofs.Reaching.{HoldAlike, agree_alive, held_same}
 
 -- whether an entity is the first that an assignment has
-abbrev is_first_of : ℕ → Assignment → Bool
+abbrev pub is_first_of : ℕ → Assignment → Bool
 is_first_of e a = list_any (λ x. x == e) (take 1 (map (λ u. u.1) a))
 
-this_of_rows : (e : ℕ) (a : Assignment) (fs : List (List Field)) → list_any (is_this e) (map (row_of a) fs) ≡ (is_first_of e a && some fs)
+pub this_of_rows : (e : ℕ) (a : Assignment) (fs : List (List Field)) → list_any (is_this e) (map (row_of a) fs) ≡ (is_first_of e a && some fs)
 this_of_rows e a [] = none (is_first_of e a)
   where
     none : (b : Bool) → false ≡ (b && false)
@@ -37,23 +36,23 @@ this_of_rows e a (f ∷ fs) = ap (λ b. is_first_of e a || b) (this_of_rows e a 
     by true b = refl
     by false b = refl
 
+-- the same assignments are passed over where each holds the same ids of those that concern a query
+pub passed_same : (w v : View) (q : Query) → HoldAlike (concerns q) w v → (a : Assignment) → passes_over w q a ≡ passes_over v q a
+passed_same w v q alike a =
+    let in_prefab = held_same (concerns q) w v alike (plain prefab) (asked_by_all q (plain prefab) refl) in
+    let in_disabled = held_same (concerns q) w v alike (plain disabled) (asked_by_all q (plain disabled) refl) in
+    λ k. q.has_this && option_map_or (λ e. in_prefab e k && not (level_mentions prefab (top q)) || in_disabled e k && not (level_mentions disabled (top q))) (value_at nat_cmp a 0) false
+
 module _ (w v : View) (q : Query) (alike : AreAlikeFor q w v) where
-  agree : Agree (concerns q) w v
-  agree = record { entities = alike.entities; ids = alike.ids }
-
   solved_same : (a : Assignment) → some (solutions w (top q) a) ≡ some (solutions v (top q) a)
-  solved_same = level_same (concerns q) w v agree (asked_by_all q (plain transitive) refl) (asked_by_all q (plain reflexive) refl) (top q) (top_covered q)
-
-  passed_same : (a : Assignment) → passes_over w q a ≡ passes_over v q a
-  passed_same a =
-      let in_prefab = held_same (concerns q) w v agree (plain prefab) (asked_by_all q (plain prefab) refl) in
-      let in_disabled = held_same (concerns q) w v agree (plain disabled) (asked_by_all q (plain disabled) refl) in
-      λ k. q.has_this && option_map_or (λ e. in_prefab e k && not (level_mentions prefab (top q)) || in_disabled e k && not (level_mentions disabled (top q))) (value_at nat_cmp a 0) false
+  solved_same =
+      let agree = agree_alive (concerns q) w v alike.ids alike.entities (asked_by_all q (plain transitive) refl) (asked_by_all q (plain reflexive) refl) in
+      level_same (concerns q) w v agree alike.entities (top q) (top_covered q)
 
   candidates_same : candidates w q ≡ candidates v q
   candidates_same =
       let lives = alike.entities in
-      λ k. filter (λ a. not (passed_same a k)) (assignments (visible q) (lives k) [])
+      λ k. filter (λ a. not (passed_same w v q alike.ids a k)) (assignments (visible q) (lives k) [])
 
   under_same : (e : ℕ) (a : Assignment) → list_any (is_this e) (rows_under w q a) ≡ list_any (is_this e) (rows_under v q a)
   under_same e a =

@@ -1,8 +1,11 @@
--- The law of what concerns a query, as a statement.
-use Rattle.std.specs.Prelude.{◌≡◌, ℕ, filter}
+-- The laws of what concerns a query, as statements.
+use Rattle.std.specs.Prelude.{◌≡◌, ◌↔◌, ℕ, true, filter}
+use Rattle.std.specs.List.{Contains}
 use Rattle.query_model.specs.Query.{Query}
+use Rattle.ecs_model.specs.Links.{AreLinks}
 use Rattle.ecs_model.specs.rows.View.{View}
 use Rattle.ecs_model.specs.stored.Watches.{matching}
+use Rattle.query_concerns.specs.Anchored.{is_anchored}
 use Rattle.query_concerns.specs.Concerns.{concerns}
 
 -- the same entities live in two views, and each holds the same ids of those that concern a query
@@ -13,3 +16,9 @@ pub record AreAlikeFor (q : Query) (w v : View) : Type 0 where
 -- whatever values there are, the same entities are `$this` of the query's rows then
 abbrev pub MatchByWhatConcerns : Type 0
 MatchByWhatConcerns = (w v : View) (q : Query) → AreAlikeFor q w v → matching w q ≡ matching v q
+
+-- and of an anchored query it doesn't matter who else lives, where facts are of the living alone
+abbrev pub MatchWhoeverElseLives : Type 0
+MatchWhoeverElseLives = (m n : ℕ) (w v : View) (q : Query) → AreLinks m w.entities w.ids → AreLinks n v.entities v.ids → is_anchored q ≡ true
+    → ((e : ℕ) → filter (concerns q) (w.ids e) ≡ filter (concerns q) (v.ids e))
+    → (e : ℕ) → Contains (matching w q) e ↔ Contains (matching v q) e

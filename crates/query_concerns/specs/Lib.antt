@@ -1,2 +1,4 @@
 pub mod Concerns
+pub mod Anchored
+pub mod FromLeft
 pub mod Laws

@@ -1,8 +1,13 @@
-//! What is proved of the definitions alone: the function's contract is a law, and its body does nothing.
+//! What is proved of the definitions alone: each function's contract is a law, and its body does nothing.
 
-ghost use Rattle.query_concerns.specs.Laws.{MatchByWhatConcerns};
+ghost use Rattle.query_concerns.specs.Laws.{MatchByWhatConcerns, MatchWhoeverElseLives};
 
 /// Law: where the same entities live and each holds the same ids of those that concern a query, the same entities are `$this` of its rows.
 pub fn queries_match_by_what_concerns_them()
     ensures { MatchByWhatConcerns }
+{}
+
+/// Law: and of an anchored query it doesn't matter who else lives, where facts are of the living and mention them alone.
+pub fn anchored_queries_match_whoever_else_lives()
+    ensures { MatchWhoeverElseLives }
 {}

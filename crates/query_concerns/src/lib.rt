@@ -1,7 +1,9 @@
 //! Which ids concern a query: where only facts of others come and go, its rows are of the same entities.
 #![tactic(auto)]
 
+mod anchoring;
 mod concerning;
 pub mod laws;
 
+pub use anchoring::is_anchored;
 pub use concerning::concerns;

@@ -2,30 +2,34 @@
 use Rattle.std.specs.Prelude.{◌≡◌, ℕ, suc, ◌==◌, Bool, true, false, not, ◌&&◌, ◌||◌, List, [], ◌∷◌, ◌++◌, filter, length, map, Ok, Option, Some, None, is_some}
 use Rattle.std.specs.Cmp.{nat_cmp_total}
 use Rattle.std.specs.FinMap.{nat_cmp-IsAntisymmetric}
-use Rattle.std.specs.List.{Contains, list_any}
+use Rattle.std.specs.List.{list_any}
 use Rattle.std.specs.Option.{option_map_or}
 use Rattle.std.specs.Ordering.{nat_cmp, eq_by_cmp}
-use Rattle.std.proofs.Common.{refl, sym, ap, ◌∙◌, true≢false, arith}
-use Rattle.std.proofs.lemmas.Bool.{ne_eqb, or_parts}
+use Rattle.std.specs.List.Sorted.{IsStrictlySortedBy}
+use Rattle.std.proofs.Common.{refl, sym, ap, ◌∙◌, inl, inr, true≢false, arith}
+use Rattle.std.proofs.lemmas.Bool.{cases_Bool, ne_eqb, or_parts}
 use Rattle.std.proofs.lemmas.List.Folds.{list_any-append}
 use Rattle.std.proofs.lemmas.List.Kept.{IsStrictlySortedBy-filter}
 use Rattle.ecs_id.specs.declared.EntityId.{EntityId}
-use Rattle.ecs_id.specs.Id.{Id, id_cmp, id_cmp_same, id_cmp_total}
+use Rattle.ecs_id.specs.Id.{Id, id_cmp, id_cmp_same, id_cmp_total, last_index}
 use Rattle.ecs_model.specs.Command.{Changed}
 use Rattle.ecs_model.specs.World.{WorldState, Key, entities, holds, ids_of, is_live, key_cmp, key_eq}
+use Rattle.ecs_model.specs.rows.Rows.{rows}
 use Rattle.ecs_model.specs.rows.View.{view_of}
+use Rattle.ecs_model.specs.stored.Watches.{is_this, matching}
 use Rattle.ecs_model.specs.traits.Command.{Command, step}
 use Rattle.ecs_model.specs.traits.Keeps.{IsWellFormed}
 use Rattle.ecs_model.proofs.Members.{any_passes, filtered}
 use Rattle.ecs_model.proofs.traits.Facts.{held_listed, listed_held}
-use Rattle.ecs_model.proofs.traits.Kept.{refuted}
+use Rattle.ecs_model.proofs.traits.Kept.{are_links, refuted}
 use Rattle.query_model.specs.Query.{Query}
+use Rattle.query_concerns.specs.Anchored.{is_anchored}
 use Rattle.query_concerns.specs.Concerns.{concerns}
-use Rattle.query_concerns.specs.Laws.{AreAlikeFor}
 use Rattle.query_concerns.proofs.Matching.{match_by_what_concerns}
+use Rattle.query_concerns.proofs.WhoeverLives.{match_whoever_else_lives}
 use Rattle.watch_meaning.specs.Since.{IsAfter}
 use Rattle.touched_entities.specs.Before.{entities_before, is_born, view_before}
-use Rattle.touched_entities.specs.Concerned.{any_concerns, is_concerned}
+use Rattle.touched_entities.specs.Concerned.{any_concerns, has_births_or_deaths, is_concerned}
 use Rattle.touched_entities.specs.Laws.{QueriesMatchedBefore, UnconcernedQueriesMatchOn}
 use Rattle.touched_entities.proofs.IdsBefore.{is_among, same_held}
 use Rattle.touched_entities.proofs.InOrder.{any_left, in_order_are_keys}
@@ -91,14 +95,45 @@ module _ (w v : WorldState) (c : Command) (changed : Changed) (kept : IsWellForm
           (sym (is_new w v c changed kept done (e, i)) ∙ not_among q changed.came none_came (e, i) h)
           (sym (has_gone w v c changed kept done (e, i)) ∙ not_among q changed.went none_went (e, i) h)
 
+-- ---- of an anchored query it doesn't matter who was born and who died
+
+matching_rises : (w : WorldState) → IsWellFormed w → (q : Query) → IsStrictlySortedBy nat_cmp (matching (view_of w) q)
+unfolding matching
+matching_rises w kept q = IsStrictlySortedBy-filter nat_cmp (λ e. list_any (is_this e) (rows (view_of w) q)) (entities w) (keys_rise nat_cmp w.live (kept.in_order).live)
+
+module _ (v : WorldState) (changed : Changed) (q : Query) (kept_now : IsWellFormed v) (after : IsAfter v changed)
+    (none_came : any_concerns q changed.came ≡ false) (none_went : any_concerns q changed.went ≡ false) where
+  concerning_stay : (e : ℕ) → filter (concerns q) (ids_of after.before e) ≡ filter (concerns q) (ids_of v e)
+  concerning_stay = same_concerning after.before v after.command changed after.kept kept_now after.stepped q none_came none_went
+
+  anchored_match_on : is_anchored q ≡ true → matching (view_before v changed) q ≡ matching (view_of v) q
+  anchored_match_on anchored =
+      queries_matched_before after.before v after.command changed q after.kept after.stepped
+      ∙ one_list nat_cmp nat_cmp_total nat_cmp-IsAntisymmetric (matching (view_of after.before) q) (matching (view_of v) q)
+      (matching_rises after.before after.kept q)
+      (matching_rises v kept_now q)
+      (match_whoever_else_lives (suc last_index) (suc last_index) (view_of after.before) (view_of v) q (are_links after.before after.kept) (are_links v kept_now) anchored concerning_stay)
+
+  same_live_match_on : has_births_or_deaths changed ≡ false → matching (view_before v changed) q ≡ matching (view_of v) q
+  same_live_match_on none =
+      let parts = or_parts _ _ none in
+      let shown = shown_before after.before v after.command changed after.kept after.stepped in
+      match_by_what_concerns (view_before v changed) (view_of v) q (record {
+        entities = stay v changed kept_now parts.0 (no_items changed.died parts.1);
+        ids = λ e. ap (filter (concerns q)) (shown.1 e) ∙ concerning_stay e;
+      })
+
+not_both : (a b : Bool) → (a && not b) ≡ false → b ≡ false → a ≡ false
+not_both true true h k = absurd (true≢false k)
+not_both true false h k = absurd (true≢false h)
+not_both false b h k = refl
+
 pub unconcerned_queries_match_on : UnconcernedQueriesMatchOn
 unfolding is_concerned
 unconcerned_queries_match_on v changed q kept_now after none =
-    let three = or_parts _ _ none in
-    let two = or_parts _ _ three.0 in
-    let one = or_parts _ _ two.0 in
-    let shown = shown_before after.before v after.command changed after.kept after.stepped in
-    match_by_what_concerns (view_before v changed) (view_of v) q (record {
-      entities = stay v changed kept_now one.0 (no_items changed.died one.1);
-      ids = λ e. ap (filter (concerns q)) (shown.1 e) ∙ same_concerning after.before v after.command changed after.kept kept_now after.stepped q two.1 three.1 e;
-    })
+    let parts = or_parts _ _ none in
+    let before = or_parts _ _ parts.0 in
+    elim (cases_Bool (is_anchored q)) [
+      | inl anchored ↦ anchored_match_on v changed q kept_now after before.1 parts.1 anchored
+      | inr loose ↦ same_live_match_on v changed q kept_now after before.1 parts.1 (not_both (has_births_or_deaths changed) (is_anchored q) before.0 loose)
+    ]

@@ -1,26 +1,33 @@
 //! Which queries a command concerns.
 
 ghost use Rattle.std.specs.Prelude.{◌≡◌};
-ghost use Rattle.touched_entities.specs.Concerned.{any_concerns, is_concerned};
+ghost use Rattle.touched_entities.specs.Concerned.{any_concerns, has_births_or_deaths, is_concerned};
 
 use ecs_model::FactKey;
 use ecs_world::Changes;
 use query_check::Query;
-use query_concerns::concerns;
+use query_concerns::{concerns, is_anchored};
 use std::alloc::Allocator;
 
-/// Whether a command concerns a query: somebody was born or died, or a fact came or went whose id concerns it. If not, the query has rows of
-/// the same entities as before.
+/// Whether a command concerns a query: a fact came or went whose id concerns it, or somebody was born or died and it isn't anchored. If not, the
+/// query has rows of the same entities as before.
 ///
-/// Takes no memory, and time in the facts that came and went and in the terms of the query.
+/// Takes no memory, and time in the facts that came and went and in the terms of the query; after a birth or a death, in the terms for each of
+/// its variables.
 #[tactic(auto, unfolding(crate::specs::Concerned::is_concerned))]
 pub fn is_concerned<A: Allocator>(query: &Query<A>, changes: &Changes<A>) -> bool
     ensures { result ≡ is_concerned query.now changes.now }
 {
-    changes.born().is_some()
-        || !changes.died().is_empty()
+    (has_births_or_deaths(changes) && !is_anchored(query))
         || any_concerns(query, changes.came())
         || any_concerns(query, changes.went())
+}
+
+/// Whether somebody was born or died.
+fn has_births_or_deaths<A: Allocator>(changes: &Changes<A>) -> bool
+    ensures { result ≡ has_births_or_deaths changes.now }
+{
+    changes.born().is_some() || !changes.died().is_empty()
 }
 
 /// Whether one of these facts concerns a query.

@@ -1,0 +1,23 @@
+use Rattle.std.proofs.Common.{◌≡◌, ◌∙◌, arith}
+use Rattle.std.specs.Prelude.{true, map}
+use Rattle.std.proofs.lemmas.Grind.{common_steps}
+use Rattle.query_check.specs.Seen.{seen_piece}
+use Rattle.query_concerns.specs.FromLeft.{anchors_from}
+use Rattle.query_concerns.proofs.Ranges.{rest_at, rest_ended}
+use Rattle.query_concerns.proofs.anchoring.all_visible_anchored.Goals as goal
+
+pub loop-variable-preserved : goal.loop-variable-preserved
+loop-variable-preserved g c =
+    let step = rest_at (λ v. anchors_from true v 0 (map seen_piece c.args.pieces.now)) c.args.visible c.loop-variable.variable c.loop-variable-test.true in
+    c.loop-variable.invariant ∙ step ∙ grind (arith, common_steps)
+
+pub returns-then-not-anchors : goal.returns-then-not-anchors
+returns-then-not-anchors g c =
+    let step = rest_at (λ v. anchors_from true v 0 (map seen_piece c.args.pieces.now)) c.args.visible c.loop-variable.variable c.loop-variable-test.true in
+    grind (arith, common_steps, c.loop-variable.invariant ∙ step)
+
+pub returns : goal.returns
+returns g c =
+    let end : c.loop-variable.variable ≡ c.args.visible = omega arith in
+    let done = rest_ended (λ v. anchors_from true v 0 (map seen_piece c.args.pieces.now)) c.args.visible in
+    grind (arith, common_steps, c.loop-variable.invariant, done)

@@ -1,0 +1,48 @@
+-- Anchored queries: a fact is about each entity that a variable stands for, so births and deaths alone change no row.
+use Rattle.std.specs.Prelude.{ℕ, ◌==◌, Bool, true, false, not, ◌&&◌, ◌||◌, Option}
+use Rattle.std.specs.List.{list_all}
+use Rattle.std.specs.Option.{option_map_or}
+use Rattle.ecs_model.specs.rows.Level.{Level, done, also, unless, top}
+use Rattle.ecs_model.specs.rows.Rows.{visible}
+use Rattle.query_model.specs.declared.query.Ref.{Ref}
+use Rattle.query_model.specs.declared.query.Ref.TheVariants.{Is, Var, Any, One}
+use Rattle.query_model.specs.declared.query.Term.{Term}
+use Rattle.query_model.specs.Query.{Item, must, may, either, equal, differ, Query}
+
+-- whether a reference is a variable
+abbrev pub is_variable : ℕ → Ref → Bool
+is_variable v (Is e) = false
+is_variable v (Var u) = u == v
+is_variable v Any = false
+is_variable v One = false
+
+abbrev pub may_be_variable : ℕ → Option Ref → Bool
+may_be_variable v r = option_map_or (is_variable v) r false
+
+-- whether a term that matches shows a fact about the entity of a variable: of its source, or one that mentions it. A closed term may reach an entity from itself without a fact
+abbrev pub term_anchors : ℕ → Term → Bool
+term_anchors v t = not t.closed && (is_variable v t.source || is_variable v t.first || may_be_variable v t.target)
+
+-- whether an item holds only where there is such a fact
+abbrev pub item_anchors : ℕ → Item → Bool
+item_anchors v (must t) = term_anchors v t
+item_anchors v (may t) = false
+item_anchors v (either ts) = list_all (term_anchors v) ts
+item_anchors v (equal u r) = false
+item_anchors v (differ u r) = false
+
+-- whether an item directly in a level does
+abbrev pub anchors : ℕ → Level → Bool
+anchors v done = false
+anchors v (also x rest) = item_anchors v x || anchors v rest
+anchors v (unless from_term own inner rest) = anchors v rest
+
+-- whether the own variables of each group in a level are anchored directly in the group
+abbrev pub groups_are_anchored : Level → Bool
+groups_are_anchored done = true
+groups_are_anchored (also x rest) = groups_are_anchored rest
+groups_are_anchored (unless from_term own inner rest) = list_all (λ v. anchors v inner) own && groups_are_anchored inner && groups_are_anchored rest
+
+-- whether each variable of a query is anchored in its own level
+unfoldable pub is_anchored : Query → Bool
+is_anchored q = list_all (λ v. anchors v (top q)) (visible q) && groups_are_anchored (top q)
