@@ -6,3 +6,4 @@ mod Rising
 mod Tables
 mod Targets
 mod Climbing
+mod Noting

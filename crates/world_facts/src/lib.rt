@@ -8,7 +8,7 @@ ghost use Rattle.world_facts.specs.Shown.{table_of};
 mod climb;
 pub mod laws;
 
-use crate::climb::first_up;
+use crate::climb::{first_up, first_up_known};
 use component_index::Pattern;
 use ecs_id::{EntityId, Id, TableKey};
 use ecs_model::built_ins::REFLEXIVE;
@@ -162,6 +162,17 @@ impl<A: Allocator> Facts for WorldFacts<'_, A> {
         scratch: &mut Scratch<B>,
     ) -> Option<u32> {
         first_up(&self.links, entity, relationship, pattern, scratch)
+    }
+
+    fn first_up_known<B: Allocator>(
+        &self,
+        entity: u32,
+        relationship: u32,
+        pattern: Pattern,
+        known: &mut [u32],
+        scratch: &mut Scratch<B>,
+    ) -> Option<u32> {
+        first_up_known(&self.links, entity, relationship, pattern, known, scratch)
     }
 
     fn pull<B: Allocator>(&self, scratch: &mut Scratch<B>) -> Option<u32> {
