@@ -12,9 +12,9 @@ use Rattle.world_facts.specs.declared.climb.Wanted.{Wanted}
 
 pub known_with : (above : ℕ → Option ℕ) (words : List ℕ) (i word : ℕ) → i < length words → IfSome (told word) (λ found. found ≡ above i) → AreKnown above words → AreKnown above (set words i word)
 known_with above words i word lt here known e = elim (cases_eq e i) [
-    | inl a ↦ subst (λ w. IfSome (told w) (λ found. found ≡ above e)) (sym (get_or-set_at words i e word 0 a lt)) (subst (λ s. IfSome (told word) (λ found. found ≡ above s)) (sym a) here)
-    | inr b ↦ subst (λ w. IfSome (told w) (λ found. found ≡ above e)) (sym (get_or-set_other words i e word 0 b)) (known e)
-  ]
+  | inl a ↦ subst (λ w. IfSome (told w) (λ found. found ≡ above e)) (sym (get_or-set_at words i e word 0 a lt)) (subst (λ s. IfSome (told word) (λ found. found ≡ above s)) (sym a) here)
+  | inr b ↦ subst (λ w. IfSome (told w) (λ found. found ≡ above e)) (sym (get_or-set_other words i e word 0 b)) (known e)
+]
 
 -- what is above one entity is above another
 pub tells_too : (above : ℕ → Option ℕ) (i j word : ℕ) → above i ≡ above j → IfSome (told word) (λ found. found ≡ above i) → IfSome (told word) (λ found. found ≡ above j)

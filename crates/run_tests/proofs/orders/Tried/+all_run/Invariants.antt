@@ -7,19 +7,19 @@ decreases-all_run l = length l.steps.now - l.at
 
 abbrev pub invariant-loop-mode : goal.invariant-loop-mode
 invariant-loop-mode l = record {
-    kept : length l.steps ≡ length l.fn.steps;
-    world : l.self.world.now ≡ l.fn.self.world.now;
-    query : l.self.query.now ≡ l.fn.self.query.now;
-    end : l.other-end ≡ length l.fn.steps;
-    other : l.other < length l.fn.steps;
-    within : l.at < length l.fn.steps
+  kept : length l.steps ≡ length l.fn.steps;
+  world : l.self.world.now ≡ l.fn.self.world.now;
+  query : l.self.query.now ≡ l.fn.self.query.now;
+  end : l.other-end ≡ length l.fn.steps;
+  other : l.other < length l.fn.steps;
+  within : l.at < length l.fn.steps;
 }
 
 abbrev pub invariant-loop-other : goal.invariant-loop-other
 invariant-loop-other l = record {
-    kept : length l.steps ≡ length l.fn.steps;
-    world : l.self.world.now ≡ l.fn.self.world.now;
-    query : l.self.query.now ≡ l.fn.self.query.now;
-    end : l.other-end ≡ length l.fn.steps;
-    within : l.at < length l.fn.steps
+  kept : length l.steps ≡ length l.fn.steps;
+  world : l.self.world.now ≡ l.fn.self.world.now;
+  query : l.self.query.now ≡ l.fn.self.query.now;
+  end : l.other-end ≡ length l.fn.steps;
+  within : l.at < length l.fn.steps;
 }
