@@ -6,13 +6,14 @@ ghost use Rattle.rel_traits.specs.After.{ClosesAt, ClosesOne, TellsCycles};
 use ecs_id::Id;
 use ecs_model::FactKey;
 use ecs_model::built_ins::ACYCLIC;
-use rel_travel::{Graph, Scratch, would_cycle};
+use rel_travel::{Holders, Scratch, may_be_target, would_cycle};
 use std::alloc::Allocator;
 
 /// Whether one of the facts that come with a fact of the entity closes a cycle of a relationship that must have none.
 ///
-/// It goes through the ids of the ancestors of a pair's target, for each pair of an acyclic relationship.
-pub fn adds_cycle<G: Graph, A: Allocator>(
+/// It goes through the ids of the ancestors of a pair's target, for each pair of an acyclic relationship; of an entity to which nothing is related so
+/// yet, as of one that is new, none needs to be looked at.
+pub fn adds_cycle<G: Holders, A: Allocator>(
     graph: &G,
     entity: u32,
     added: &[FactKey],
@@ -35,7 +36,7 @@ pub fn adds_cycle<G: Graph, A: Allocator>(
 }
 
 /// Whether one of them does.
-fn closes<G: Graph, A: Allocator>(
+fn closes<G: Holders, A: Allocator>(
     graph: &G,
     entity: u32,
     fact: FactKey,
@@ -52,6 +53,10 @@ fn closes<G: Graph, A: Allocator>(
         if graph.ids(id.first()).contains(&Id::plain(ACYCLIC)) {
             if fact.entity() != entity {
                 return true;
+            }
+            // No chain leads to what is nobody's target.
+            if target != entity && !may_be_target(graph, id.first(), entity) {
+                return false;
             }
             return would_cycle(graph, id.first(), entity, target, scratch);
         }

@@ -14,20 +14,19 @@ use std::marker::Model;
 pub struct Found<A: Allocator = Global> {
     /// Whether an entity was found, by its index.
     marks: Vec<bool, A>,
-    /// As many places as marks or more, of which the first `count` are used.
+    /// Those that were found. It has room for as many as there are marks, which nothing needs to fill.
     order: Vec<u32, A>,
-    count: usize,
 }
 
 impl<A: Allocator> Model for Found<A> {
-    ghost use Rattle.std.specs.Prelude.{length, take};
+    ghost use Rattle.std.specs.Prelude.{◌≤◌, length, vec_capacity};
     ghost use Rattle.rel_travel.specs.Finds.{AreMarked, Finds};
 
     ghost Value = { Finds };
 
-    ghost view = { λ f. record { size = length f.marks.items; items = take f.count f.order.items } };
+    ghost view = { λ f. record { size = length f.marks.items; items = f.order.items } };
 
-    ghost invariant = { λ f. AreMarked f.marks.items f.order.items f.count };
+    ghost invariant = { λ f. AreMarked f.marks.items f.order.items × (length f.marks.items ≤ vec_capacity f.order) };
 }
 
 impl<A: Allocator + Copy> Found<A> {
@@ -38,7 +37,6 @@ impl<A: Allocator + Copy> Found<A> {
         Found {
             marks: Vec::new(alloc),
             order: Vec::new(alloc),
-            count: 0,
         }
     }
 
@@ -49,10 +47,8 @@ impl<A: Allocator + Copy> Found<A> {
         ensures err { OnErr result (self.new.size ≡ self.old.size) }
     {
         let size = size as usize;
-        if self.order.len() < size {
-            self.order.resize(size, 0)?;
-        }
         if self.marks.len() < size {
+            self.order.reserve(size - self.order.len())?;
             self.marks.resize(size, false)?;
         }
         Ok(())
@@ -74,7 +70,7 @@ impl<A: Allocator> Found<A> {
         ensures fits { result ≤ self.now.size }
         ensures once { IsDistinct ◌==◌ self.now.items }
     {
-        self.count
+        self.order.len()
     }
 
     /// Every index below it fits.
@@ -89,7 +85,7 @@ impl<A: Allocator> Found<A> {
         ensures items { result.now ≡ self.now.items }
         ensures once { IsDistinct ◌==◌ self.now.items }
     {
-        &self.order[..self.count]
+        self.order.as_slice()
     }
 
     /// The entity that was found as one of the first, counted from 0.
@@ -109,8 +105,7 @@ impl<A: Allocator> Found<A> {
     {
         if !self.marks[index as usize] {
             self.marks[index as usize] = true;
-            self.order[self.count] = index;
-            self.count += 1;
+            self.order.push(index).unwrap();
         }
     }
 
@@ -118,9 +113,7 @@ impl<A: Allocator> Found<A> {
     pub fn clear(&mut self)
         ensures { self.new ≡ none_found self.old.size }
     {
-        while self.count > 0 {
-            self.count -= 1;
-            let last = self.order[self.count];
+        'marks: while let Some(last) = self.order.pop() {
             self.marks[last as usize] = false;
         }
     }

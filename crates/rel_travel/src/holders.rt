@@ -1,5 +1,6 @@
 //! Who holds an id that a pattern matches.
-ghost use Rattle.std.specs.Prelude.{◌≡◌, ◌<◌, ◌↔◌, ℕ, All, Contains, flat_map, map};
+ghost use Rattle.std.specs.Prelude.{◌≡◌, ◌<◌, ◌↔◌, ℕ, false, All, Contains, flat_map, map};
+ghost use Rattle.ecs_model.specs.Links.{upward};
 ghost use Rattle.rel_travel.specs.Holders.{holders, holders_of_pair};
 ghost use Rattle.rel_travel.specs.Coming.{downward, with_finds};
 ghost use Rattle.rel_travel.specs.Growing.{IsGrownBy};
@@ -56,6 +57,18 @@ impl<G: Holders> Rule for Downward<'_, G> {
         let second = Some(Part::Is(index));
         add_holders(self.graph, Pattern { first, second }, found);
     }
+}
+
+/// Whether a table is listed for the pairs of a relationship with this target. Where none is, the relationship leads to it in no step from anywhere.
+///
+/// It looks one list up: who stands in its tables is not asked.
+pub fn may_be_target<G: Holders>(graph: &G, relationship: u32, index: u32) -> bool
+    ensures { result ≡ false → (y : ℕ) → ¬ (Contains (upward (G.ids graph.now) relationship y) index) }
+{
+    let _ = graph.size();
+    let first = Part::Is(relationship);
+    let second = Some(Part::Is(index));
+    !graph.tables_of(Pattern { first, second }).is_empty()
 }
 
 /// Adds the entities that hold an id which the pattern matches, table by table.

@@ -16,7 +16,7 @@ mod work_list;
 pub use falls::Falling;
 pub use found::Found;
 pub use graph::{Graph, Upward, target_under};
-pub use holders::{Downward, Holders, add_holders};
+pub use holders::{Downward, Holders, add_holders, may_be_target};
 pub use scratch::{
     Scratch, above, below, deleted, deletion_is_forbidden, find_referrers, first_up, gather, pull,
     reaches, would_cycle,
