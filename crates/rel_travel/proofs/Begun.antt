@@ -48,7 +48,7 @@ module _ {A : Type 0} where
   )
 
   -- from one item
-  alone : (next : A → List A) (x y : A) → IsReachedFrom next (x ∷ []) y ↔ Reached next x y
+  pub alone : (next : A → List A) (x y : A) → IsReachedFrom next (x ∷ []) y ↔ Reached next x y
   alone next x y = (λ r. elim (Contains-push_cases [] x r.0 r.1) [ inl n ↦ absurd (omega (arith, n.1)) | inr q ↦ rw q r.2 ], λ r. (x, Contains-push [] x, r))
 
   -- the least list from one item

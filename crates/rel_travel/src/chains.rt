@@ -6,7 +6,7 @@ ghost use Rattle.rel_travel.specs.Lists.{IsListed};
 
 use crate::found::Found;
 use crate::graph::{Graph, Upward};
-use crate::work_list::{Rule, gather_found};
+use crate::work_list::{Rule, gather_until};
 use ecs_id::Id;
 use ecs_model::built_ins::{REFLEXIVE, TRANSITIVE};
 use std::alloc::Allocator;
@@ -79,7 +79,7 @@ pub fn leads<G: Graph, A: Allocator>(
     };
     begin(&rule, source, reach, found);
     if reach.is_transitive {
-        gather_found(&rule, found);
+        return gather_until(&rule, target, found);
     }
     found.is_found(target)
 }
@@ -101,12 +101,9 @@ pub fn leads_back<G: Graph, A: Allocator>(
     let _ = graph.size();
     found.clear();
     found.add(target);
-    gather_found(
-        &Upward {
-            graph,
-            relationship,
-        },
-        found,
-    );
-    found.is_found(source)
+    let rule = Upward {
+        graph,
+        relationship,
+    };
+    gather_until(&rule, source, found)
 }

@@ -1,7 +1,7 @@
 //! The least set that holds what it begins with, and all that its members bring.
-ghost use Rattle.std.specs.Prelude.{◌≡◌, ◌<◌, ℕ, All};
+ghost use Rattle.std.specs.Prelude.{◌≡◌, ◌<◌, ◌↔◌, ℕ, All, IsTrue};
 ghost use Rattle.rel_travel.specs.Growing.{IsGrownBy};
-ghost use Rattle.ecs_model.specs.Reach.{IsLeast};
+ghost use Rattle.ecs_model.specs.Reach.{IsLeast, IsReachedFrom};
 
 use crate::found::Found;
 use std::alloc::Allocator;
@@ -32,4 +32,24 @@ pub fn gather_found<R: Rule, A: Allocator>(rule: &R, found: &mut Found<A>)
         rule.follow(found.at(done), found);
         done += 1;
     }
+}
+
+/// Whether one is among the found entities, what they bring, what that brings, and so on.
+///
+/// As `gather_found`, it follows each entity once, but it ends as soon as the one is found.
+pub fn gather_until<R: Rule, A: Allocator>(rule: &R, index: u32, found: &mut Found<A>) -> bool
+    requires closed { (x : ℕ) → All (λ y. y < found.old.size) (R.next rule.now x) }
+    requires inside { index < found.old.size }
+    ensures size { found.new.size ≡ found.old.size }
+    ensures reached { IsTrue result ↔ IsReachedFrom (R.next rule.now) found.old.items index }
+{
+    let mut done = 0;
+    while !found.is_found(index) {
+        if found.len() <= done {
+            return false;
+        }
+        rule.follow(found.at(done), found);
+        done += 1;
+    }
+    true
 }
