@@ -1,5 +1,5 @@
 -- What a line that was read asks, as a form.
-use Rattle.std.specs.Prelude.{ℕ, ℤ, List, map}
+use Rattle.std.specs.Prelude.{ℕ, ℤ, List, drop, map}
 use denote.Ref.{Bor}
 use Rattle.ecs_id.specs.declared.EntityId.{EntityId}
 use Rattle.ecs_model.specs.declared.Kind.{Kind}
@@ -59,3 +59,7 @@ seen values (Drop name) = Obey (Session.Drop name.now)
 -- what a line of text asks by its first word, if it says anything
 abbrev pub by_first_word : List ℕ → Form
 by_first_word line = form_or_bad (λ f. f (word_and_rest line).1) (looked_up forms (word_and_rest line).0)
+
+-- what a line asks by its first word, but for the four forms that most lines have
+abbrev pub by_rarer_word : List ℕ → List ℕ → Form
+by_rarer_word word rest = form_or_bad (λ f. f rest) (looked_up (drop 4 forms) word)

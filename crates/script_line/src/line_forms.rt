@@ -4,7 +4,7 @@ ghost use Rattle.ecs_model.specs.Text.{trim_front, words};
 ghost use Rattle.ecs_model.specs.Script.{Form, AskKept, Obey, Show, all_of, component_line, entity_line, fact_line, field_of_word, form_or_bad, nothing_more, on_line, one_word, says_nothing, set_line, store_line, value_of_word};
 ghost use Rattle.ecs_model.specs.Orders.{EntityRef, IdRef, AddTo, DeleteOne, MakeEntity, MakeFresh, RemoveFrom};
 ghost use Rattle.ecs_model.specs.stored.Session.{Drop, InWorld};
-ghost use Rattle.script_line.specs.Line.{by_first_word, seen, seen_field, seen_id, seen_reference};
+ghost use Rattle.script_line.specs.Line.{by_first_word, by_rarer_word, seen, seen_field, seen_id, seen_reference};
 
 use crate::blanks::{blanks_at_front, next_word, trim_front, trimmed, word_and_rest};
 use crate::references::{id_and_rest, reference_of};
@@ -43,23 +43,33 @@ pub(crate) fn read_form<'a, A: Allocator + Copy>(
 {
     let (word, rest) = word_and_rest(line);
     match word {
-        "new" => Ok(new_line(rest)),
+        "set" => set_line(rest, values),
+        "add" => Ok(add_line(rest)),
         "entity" => Ok(entity_line(rest)),
         "component" => component_line(alloc, rest),
-        "add" => Ok(add_line(rest)),
-        "set" => set_line(rest, values),
-        "remove" => Ok(remove_line(rest)),
-        "delete" => Ok(delete_line(rest)),
-        "show" => Ok(show_line(rest)),
-        "query" => Ok(Line::Query {
+        _ => Ok(rarer_line(word, rest)),
+    }
+}
+
+/// Reads a line by its first word, which is none of those that most lines begin with.
+#[tactic(auto, unfolding(ecs_model::specs::Script::forms))]
+fn rarer_line<'a, A: Allocator>(word: &str, rest: &'a str) -> Line<'a, A>
+    ensures { (values : List ℤ) → seen values result ≡ by_rarer_word word.now rest.now }
+{
+    match word {
+        "remove" => remove_line(rest),
+        "delete" => delete_line(rest),
+        "new" => new_line(rest),
+        "show" => show_line(rest),
+        "query" => Line::Query {
             text: trimmed(rest),
-        }),
-        "keep" => Ok(store_line(StoredKind::Kept, rest)),
-        "monitor" => Ok(store_line(StoredKind::Monitor, rest)),
-        "on" => Ok(on_line(rest)),
-        "rows" => Ok(rows_line(rest)),
-        "drop" => Ok(drop_line(rest)),
-        _ => Ok(Line::Bad),
+        },
+        "keep" => store_line(StoredKind::Kept, rest),
+        "monitor" => store_line(StoredKind::Monitor, rest),
+        "on" => on_line(rest),
+        "rows" => rows_line(rest),
+        "drop" => drop_line(rest),
+        _ => Line::Bad,
     }
 }
 

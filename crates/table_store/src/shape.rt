@@ -22,10 +22,13 @@ pub fn next_shape<A: Allocator + Copy>(
     requires { IsTrue (is_sorted id_cmp (zip ids.now sizes.now)) }
     ensures { IfOk result (λ cells. cells.items ≡ stepped (zip ids.now sizes.now) id added) }
 {
-    let shape = paired(alloc, ids, sizes)?;
+    let mut shape = paired(alloc, ids, sizes)?;
     match added {
-        Some(size) => shape_with(alloc, shape.as_slice(), id, size),
-        None => shape_without(alloc, shape.as_slice(), id),
+        Some(size) => shape_with(alloc, &mut shape, id, size),
+        None => {
+            keep_others(&mut shape, id);
+            Ok(shape)
+        }
     }
 }
 
@@ -44,24 +47,24 @@ fn paired<A: Allocator>(
         .collect(alloc)
 }
 
-// The shape with one id more.
+// The shape with one id more. What stands in the list afterwards is lost.
 fn shape_with<A: Allocator + Copy>(
     alloc: A,
-    shape: &[SizedId],
+    shape: &mut Vec<SizedId, A>,
     id: Id,
     size: usize,
 ) -> Result<Vec<SizedId, A>, AllocError>
-    requires { IsTrue (is_sorted id_cmp shape.now) }
-    ensures { IfOk result (λ cells. cells.items ≡ with_id shape.now id size) }
+    requires { IsTrue (is_sorted id_cmp shape.old.items) }
+    ensures { IfOk result (λ cells. cells.items ≡ with_id shape.old.items id size) }
 {
-    let above = ids_above(alloc, shape, id)?;
-    let mut cells = ids_below(alloc, shape, id)?;
+    let mut cells = ids_below(alloc, shape.as_slice(), id)?;
+    keep_above(shape, id);
     cells.push(SizedId::new(id, size))?;
-    cells.extend_from_slice(above.as_slice())?;
+    cells.extend_from_slice(shape.as_slice())?;
     Ok(cells)
 }
 
-// The part of a shape whose ids are below this one.
+// The part of a shape whose ids are below this one, with room for the whole shape and one id more.
 fn ids_below<A: Allocator>(
     alloc: A,
     shape: &[SizedId],
@@ -69,41 +72,24 @@ fn ids_below<A: Allocator>(
 ) -> Result<Vec<SizedId, A>, AllocError>
     ensures { IfOk result (λ cells. cells.items ≡ filter (λ c. is_lt (id_cmp c.0 id)) shape.now) }
 {
-    shape
-        .iter()
-        .copied()
-        .filter(|cell| cell.id() < id)
-        .collect(alloc)
+    let mut cells = Vec::with_capacity(alloc, shape.len() + 1)?;
+    cells.extend_from_slice(shape)?;
+    cells.retain(|cell| cell.id() < id);
+    Ok(cells)
 }
 
-// The part of a shape whose ids are above this one.
-fn ids_above<A: Allocator>(
-    alloc: A,
-    shape: &[SizedId],
-    id: Id,
-) -> Result<Vec<SizedId, A>, AllocError>
-    ensures { IfOk result (λ cells. cells.items ≡ filter (λ c. is_lt (id_cmp id c.0)) shape.now) }
+// Keeps the part of a shape whose ids are above this one.
+fn keep_above<A: Allocator>(shape: &mut Vec<SizedId, A>, id: Id)
+    ensures { shape.new.items ≡ filter (λ c. is_lt (id_cmp id c.0)) shape.old.items }
 {
-    shape
-        .iter()
-        .copied()
-        .filter(|cell| id < cell.id())
-        .collect(alloc)
+    shape.retain(|cell| id < cell.id());
 }
 
-// The shape with one id less.
-fn shape_without<A: Allocator>(
-    alloc: A,
-    shape: &[SizedId],
-    id: Id,
-) -> Result<Vec<SizedId, A>, AllocError>
-    ensures { IfOk result (λ cells. cells.items ≡ without_id shape.now id) }
+// Makes it the shape with one id less.
+fn keep_others<A: Allocator>(shape: &mut Vec<SizedId, A>, id: Id)
+    ensures { shape.new.items ≡ without_id shape.old.items id }
 {
-    shape
-        .iter()
-        .copied()
-        .filter(|cell| cell.id() != id)
-        .collect(alloc)
+    shape.retain(|cell| cell.id() != id);
 }
 
 /// The ids of a shape.
