@@ -1,7 +1,7 @@
 -- The instructions of a plan ask ancestors along what the query asks them along.
-use Rattle.std.proofs.Common.{◌≡◌, ℕ, IsTrue, Bool, true, false, cond, List, [], ◌∷◌, ◌++◌, map, flat_map, get_or, Option, Some, None, refl, arith}
+use Rattle.std.proofs.Common.{◌≡◌, ℕ, IsTrue, Bool, true, false, cond, List, [], ◌∷◌, ◌++◌, map, flat_map, Option, Some, None, refl, arith}
 use Rattle.std.specs.List.{All, Contains}
-use Rattle.std.proofs.lemmas.List.Elements.{All-append, All-cons, All-contains, All-map, All-nil, Contains-get_or}
+use Rattle.std.proofs.lemmas.List.Elements.{All-append, All-cons, All-contains, All-map, All-nil, Contains-append_left, Contains-append_right}
 use Rattle.std.proofs.lemmas.Option.{get_or_from_slice_get, slice_get_within}
 use Rattle.ecs_id.specs.Id.{Id, plain}
 use Rattle.ecs_model.specs.BuiltIns.{traversable}
@@ -11,7 +11,7 @@ use Rattle.ecs_model.specs.rows.Level.{top}
 use Rattle.ecs_model.specs.rows.Rows.{level_mentions}
 use Rattle.ecs_model.specs.traits.Rules.{prefab, disabled}
 use Rattle.ecs_model.proofs.Members.{in_flat_map}
-use Rattle.plan_exec.specs.Actions.{cut, cuts, drops, entry_instructions, hit_test, instructions_of, is_fixed, item_actions, item_instructions, move_instructions, name_of, pattern_of, term_actions, term_test}
+use Rattle.plan_exec.specs.Actions.{cut, cuts, drops, drops_from, entry_instructions, hit_test, instructions_of, is_fixed, item_actions, item_instructions, move_instructions, name_of, pattern_of, term_actions, term_test}
 use Rattle.plan_exec.specs.Cursor.{IsActionAcyclic, IsStepAcyclic, IsTestAcyclic}
 use Rattle.plan_exec.specs.declared.action.Action.{Action}
 use Rattle.plan_exec.specs.declared.action.Action.TheVariants.{Match, Keep, Drop}
@@ -66,10 +66,13 @@ module _ (ids : ℕ → List Id) where
   term_acyclic mode.Check t h = one (Keep (term_test t)) (test_acyclic t h)
   term_acyclic mode.Fix t h = none
 
-  drops_acyclic : (ts : List Term) → Acyclic (flat_map term_rises ts) → AllActions (drops ts)
-  drops_acyclic ts h =
-      All-map (IsActionAcyclic ids) (λ t. Drop (term_test t)) ts
-      (λ k d in'. test_acyclic (get_or ts k d) (λ r c. h r (in_flat_map term_rises ts (get_or ts k d) r (Contains-get_or ts k d in') c)))
+  drops_acyclic : (first : Bool) (ts : List Term) → Acyclic (flat_map term_rises ts) → AllActions (drops_from first ts)
+  drops_acyclic first [] h = none
+  drops_acyclic first (t ∷ ts) h =
+      let others : List ℕ = flat_map term_rises ts in
+      let here : Acyclic (term_rises t) = λ r c. h r (Contains-append_left (term_rises t) others r c) in
+      let behind : Acyclic others = λ r c. h r (Contains-append_right (term_rises t) others r c) in
+      All-cons (IsActionAcyclic ids) (Drop (term_test t) first) (drops_from false ts) (test_acyclic t here) (drops_acyclic false ts behind)
 
   by_acyclic : (actions : List Action) → AllActions actions → All (IsStepAcyclic ids) (map By actions)
   by_acyclic actions h = All-map (IsStepAcyclic ids) By actions h
@@ -77,7 +80,7 @@ module _ (ids : ℕ → List Id) where
   item_acyclic : (m : Mode) (i : Item) → Acyclic (item_rises i) → All (IsStepAcyclic ids) (item_instructions m i)
   item_acyclic m (either ts) h =
       All-cons (IsStepAcyclic ids) Open _ tt
-      (All-append (IsStepAcyclic ids) (map By (drops ts)) (Close ∷ []) (by_acyclic (drops ts) (drops_acyclic ts h)) (All-cons (IsStepAcyclic ids) Close [] tt (All-nil (IsStepAcyclic ids))))
+      (All-append (IsStepAcyclic ids) (map By (drops ts)) (Close ∷ []) (by_acyclic (drops ts) (drops_acyclic true ts h)) (All-cons (IsStepAcyclic ids) Close [] tt (All-nil (IsStepAcyclic ids))))
   item_acyclic m (must t) h = by_acyclic (term_actions m t) (term_acyclic m t h)
   item_acyclic m (may t) h = by_acyclic (item_actions m (may t)) none
   item_acyclic mode.Scan (equal u r) h = by_acyclic [] none

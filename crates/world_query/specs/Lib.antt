@@ -1,3 +1,4 @@
 pub mod Reading
 pub mod Answerable
 pub mod Lines
+pub mod Probes

@@ -6,6 +6,7 @@
 
 mod answering;
 mod labels;
+pub mod laws;
 mod names;
 mod reading;
 mod row_lines;
