@@ -27,6 +27,13 @@ impl Hashing {
     }
 }
 
+impl Hashing {
+    /// How the keys of tables are hashed then.
+    pub fn of_keys(self) -> KeyHashing {
+        KeyHashing { begun: self.begun }
+    }
+}
+
 impl BuildHasher for Hashing {
     type Hasher = SecretHasher;
 
@@ -62,5 +69,49 @@ impl Hasher for SecretHasher {
 
     fn write(&mut self, bytes: &[u8]) {
         self.folded.write(bytes);
+    }
+}
+
+/// Hashes the keys of tables by one multiplication that begins with a secret number.
+///
+/// Nobody chooses the keys: their serials are counted.
+#[derive(Clone, Copy)]
+pub struct KeyHashing {
+    begun: FoldHasher,
+}
+
+impl BuildHasher for KeyHashing {
+    type Hasher = LastHasher;
+
+    ghost build_hasher = { λ s. record { begun = s.begun; folded = s.begun } };
+
+    fn build_hasher(&self) -> LastHasher {
+        LastHasher {
+            begun: self.begun,
+            folded: self.begun,
+        }
+    }
+}
+
+/// Folds in what is written last alone: of a table's key its serial, which no other key has.
+#[derive(Clone, Copy)]
+pub struct LastHasher {
+    begun: FoldHasher,
+    folded: FoldHasher,
+}
+
+impl Hasher for LastHasher {
+    ghost write = { λ s bytes. record s { folded = folding.write s.begun bytes } };
+
+    ghost finish = { λ s. folding.finish s.folded };
+
+    fn finish(&self) -> u64 {
+        self.folded.finish()
+    }
+
+    fn write(&mut self, bytes: &[u8]) {
+        let mut last = self.begun;
+        last.write(bytes);
+        self.folded = last;
     }
 }

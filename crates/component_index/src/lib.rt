@@ -15,7 +15,7 @@ mod listings;
 mod lists;
 mod pattern;
 
-use crate::hashing::Hashing;
+use crate::hashing::{Hashing, KeyHashing};
 use crate::lists::{Lists, list_all, unlist_all};
 use ecs_id::{Id, TableKey};
 use indexmap::IndexMap;
@@ -25,7 +25,7 @@ use std::alloc::{AllocError, Allocator, Global};
 use std::hash::RandomState;
 use std::marker::Model;
 
-type Entered<A> = IndexMap<TableKey, Vec<Id, A>, Hashing, A>;
+type Entered<A> = IndexMap<TableKey, Vec<Id, A>, KeyHashing, A>;
 
 /// For each pattern, the tables that have an id that it matches.
 ///
@@ -36,7 +36,7 @@ type Entered<A> = IndexMap<TableKey, Vec<Id, A>, Hashing, A>;
 pub struct ComponentIndex<A: Allocator = Global> {
     entered: Entered<A>,
     lists: Lists<A>,
-    hashing: Hashing,
+    hashing: KeyHashing,
 }
 
 impl<A: Allocator> Model for ComponentIndex<A> {
@@ -62,9 +62,9 @@ impl<A: Allocator + Copy> ComponentIndex<A> {
     {
         let hashing = Hashing::new(random);
         ComponentIndex {
-            entered: IndexMap::with_hasher(alloc, hashing),
+            entered: IndexMap::with_hasher(alloc, hashing.of_keys()),
             lists: IndexMap::with_hasher(alloc, hashing),
-            hashing,
+            hashing: hashing.of_keys(),
         }
     }
 
