@@ -126,7 +126,7 @@ fn write_ended<A: Allocator>(
 }
 
 /// Writes the value that bytes mean: `=` and the number of each field, with commas between.
-pub fn write_fields<A: Allocator>(
+fn write_fields<A: Allocator>(
     schema: &Schema<A>,
     bytes: &[u8],
     out: &mut Vec<u8, A>,

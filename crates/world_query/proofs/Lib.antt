@@ -3,3 +3,4 @@ mod Texts
 mod Printed
 pub mod Asked
 mod Answered
+mod Sheets

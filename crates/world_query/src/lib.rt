@@ -10,6 +10,7 @@ mod names;
 mod reading;
 mod row_lines;
 mod rows;
+mod sheet;
 mod table_counts;
 
 pub use reading::read_query;
