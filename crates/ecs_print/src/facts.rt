@@ -16,7 +16,7 @@ use ecs_world::World;
 use std::alloc::{AllocError, Allocator};
 
 /// The numbers of a value take at most so many bytes: eight of up to twenty digits, each with a sign and what stands before it.
-const MOST_TEXT: usize = 176;
+pub const MOST_TEXT: usize = 176;
 
 /// Writes the facts of a live entity, in the order of ids.
 pub fn write_facts<A: Allocator>(
@@ -126,7 +126,7 @@ fn write_ended<A: Allocator>(
 }
 
 /// Writes the value that bytes mean: `=` and the number of each field, with commas between.
-pub fn write_fields<A: Allocator>(
+fn write_fields<A: Allocator>(
     schema: &Schema<A>,
     bytes: &[u8],
     out: &mut Vec<u8, A>,
@@ -139,8 +139,8 @@ pub fn write_fields<A: Allocator>(
     out.extend_from_slice(&text[start..])
 }
 
-/// Writes the value that bytes mean right before `MOST_TEXT`, and answers where it starts.
-fn put_fields<A: Allocator>(schema: &Schema<A>, bytes: &[u8], text: &mut [u8]) -> usize
+/// Writes the value that bytes mean, as `write_value` does of a fact, right before the place `MOST_TEXT` of a text, and answers where it starts.
+pub fn put_fields<A: Allocator>(schema: &Schema<A>, bytes: &[u8], text: &mut [u8]) -> usize
     requires size { length bytes.now ≡ size_of schema.now }
     requires room { 176 ≤ length text.old }
     ensures within { result ≤ 176 }

@@ -9,4 +9,4 @@ mod facts;
 
 pub use digits::write_number;
 pub use entities::{write_entity, write_handle, write_id, write_index};
-pub use facts::{write_fact, write_facts, write_fields, write_value};
+pub use facts::{MOST_TEXT, put_fields, write_fact, write_facts, write_value};

@@ -4,3 +4,4 @@ mod Printed
 pub mod Asked
 mod Answered
 mod Probes
+mod Sheets

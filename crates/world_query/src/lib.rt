@@ -11,6 +11,7 @@ mod names;
 mod reading;
 mod row_lines;
 mod rows;
+mod sheet;
 mod table_counts;
 
 pub use reading::read_query;

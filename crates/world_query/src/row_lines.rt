@@ -1,16 +1,18 @@
 //! The line of a row.
 
-ghost use Rattle.std.specs.Prelude.{◌≡◌, ◌++◌, OnOk, flat_map, length, map};
+ghost use Rattle.std.specs.Prelude.{◌≡◌, ◌++◌, OnOk, Some, codes, flat_map, length, map};
 ghost use Rattle.std.specs.List.{zip};
 ghost use Rattle.std.specs.Option.{option_copied};
-ghost use Rattle.ecs_model.specs.Print.{binding_text, field_text, row_text, value_text};
+ghost use Rattle.ecs_model.specs.Bytes.{size_of, values_in};
+ghost use Rattle.ecs_model.specs.Print.{field_text, index_text, value_text};
 ghost use Rattle.ecs_model.specs.World.{type_of_id};
 ghost use Rattle.ecs_model.specs.rows.View.{view_of};
 ghost use Rattle.plan_exec.specs.Fields.{shown_field};
-ghost use Rattle.world_query.specs.Lines.{AreTexts, IsEntityText, IsLabel, names_in, row_shown};
+ghost use Rattle.world_query.specs.Lines.{AreTexts, IsEntityText, IsLabel, line_started, started, starts_in, text_of, written};
 
-use crate::labels::{EntityText, Label};
-use ecs_print::write_fields;
+use crate::labels::{EntityText, Label, Piece};
+use crate::sheet::{CHUNK, put};
+use ecs_print::{MOST_TEXT, put_fields};
 use ecs_schema::Schema;
 use ecs_world::World;
 use plan_exec::{Fields, ShownFact};
@@ -23,39 +25,41 @@ pub(crate) struct Texts<'w, A: Allocator, B: Allocator> {
     pub(crate) labels: Vec<Label<'w, A, B>, B>,
 }
 
-/// Writes the line of a row: `row`, a binding for each visible variable, and its fields.
-pub(crate) fn write_row<'w, A: Allocator, B: Allocator, C: Allocator>(
+/// Writes the line of a row: `row`, a binding for each visible variable, and its fields. Each binding has its start, ` $v=`.
+pub(crate) fn write_row<'w, A: Allocator, B: Allocator>(
     world: &'w World<A>,
-    variables: &[Vec<u8, C>],
+    starts: &[Piece<B>],
     entities: &[u32],
     fields: &Fields<'w, B>,
     texts: &mut Texts<'w, A, B>,
+    end: &mut usize,
     out: &mut Vec<u8, A>,
 ) -> Result<(), AllocError>
     requires texts { AreTexts world.now.state (length (fields.now).items) texts.old }
     ensures texts { OnOk result (AreTexts world.now.state (length (fields.now).items) texts.new) }
-    ensures row { OnOk result (out.new.items ≡ out.old.items ++ row_text world.now.state (names_in variables.now) (row_shown world.now.state entities.now (fields.now).current)) }
+    ensures row { OnOk result (written out.new end.new ≡ written out.old end.old ++ line_started world.now.state (starts_in starts.now) entities.now (fields.now).current) }
 {
-    out.extend_from_slice(b"row")?;
-    write_bindings(world, variables, entities, &mut texts.entity, out)?;
-    write_all_fields(world, fields, texts, out)?;
-    out.extend_from_slice(b"\n")
+    put(b"row                             ", 3, end, out)?;
+    write_bindings(world, starts, entities, &mut texts.entity, end, out)?;
+    write_all_fields(world, fields, texts, end, out)?;
+    put(b"\n                               ", 1, end, out)
 }
 
 /// Writes the entities of variables, ` $v=E` for each.
-fn write_bindings<A: Allocator, B: Allocator, C: Allocator>(
+fn write_bindings<A: Allocator, B: Allocator>(
     world: &World<A>,
-    variables: &[Vec<u8, C>],
+    starts: &[Piece<B>],
     entities: &[u32],
     last: &mut EntityText<B>,
+    end: &mut usize,
     out: &mut Vec<u8, A>,
 ) -> Result<(), AllocError>
     requires last { IsEntityText world.now.state last.old }
     ensures last { OnOk result (IsEntityText world.now.state last.new) }
-    ensures text { OnOk result (out.new.items ≡ out.old.items ++ flat_map (binding_text world.now.state) (zip (names_in variables.now) entities.now)) }
+    ensures text { OnOk result (written out.new end.new ≡ written out.old end.old ++ flat_map (started world.now.state) (zip (starts_in starts.now) entities.now)) }
 {
-    for (variable, entity) in variables.iter().zip(entities) {
-        write_binding(world, variable.as_slice(), *entity, last, out)?;
+    for (start, entity) in starts.iter().zip(entities) {
+        write_binding(world, start, *entity, last, end, out)?;
     }
     Ok(())
 }
@@ -65,11 +69,12 @@ fn write_all_fields<'w, A: Allocator, B: Allocator>(
     world: &'w World<A>,
     fields: &Fields<'w, B>,
     texts: &mut Texts<'w, A, B>,
+    end: &mut usize,
     out: &mut Vec<u8, A>,
 ) -> Result<(), AllocError>
     requires texts { AreTexts world.now.state (length (fields.now).items) texts.old }
     ensures texts { OnOk result (AreTexts world.now.state (length (fields.now).items) texts.new) }
-    ensures text { OnOk result (out.new.items ≡ out.old.items ++ flat_map (field_text world.now.state) (map (shown_field (view_of world.now.state)) (fields.now).current)) }
+    ensures text { OnOk result (written out.new end.new ≡ written out.old end.old ++ flat_map (field_text world.now.state) (map (shown_field (view_of world.now.state)) (fields.now).current)) }
 {
     for number in 0..fields.len() {
         write_field(
@@ -77,29 +82,29 @@ fn write_all_fields<'w, A: Allocator, B: Allocator>(
             fields.field(number),
             &mut texts.entity,
             &mut texts.labels[number],
+            end,
             out,
         )?;
     }
     Ok(())
 }
 
-/// Writes ` $v=E`.
+/// Writes a binding behind its start.
 fn write_binding<A: Allocator, B: Allocator>(
     world: &World<A>,
-    variable: &[u8],
+    start: &Piece<B>,
     entity: u32,
     last: &mut EntityText<B>,
+    end: &mut usize,
     out: &mut Vec<u8, A>,
 ) -> Result<(), AllocError>
     requires last { IsEntityText world.now.state last.old }
     ensures last { OnOk result (IsEntityText world.now.state last.new) }
-    ensures text { OnOk result (out.new.items ≡ out.old.items ++ binding_text world.now.state (variable.now, entity)) }
+    ensures text { OnOk result (written out.new end.new ≡ written out.old end.old ++ started world.now.state (text_of start.now, entity)) }
 {
-    out.extend_from_slice(b" $")?;
-    out.extend_from_slice(variable)?;
-    out.extend_from_slice(b"=")?;
+    put(start.bytes.as_slice(), start.count, end, out)?;
     last.turn_to(world, entity)?;
-    out.extend_from_slice(last.text.as_slice())
+    put(last.bytes.as_slice(), last.alone, end, out)
 }
 
 /// Writes a field: ` [ID@E=v,v]`, ` [ID@E]` without a value, and ` [-]` where it is unset.
@@ -108,42 +113,63 @@ fn write_field<'w, A: Allocator, B: Allocator>(
     shown: Option<ShownFact>,
     last: &mut EntityText<B>,
     label: &mut Label<'w, A, B>,
+    end: &mut usize,
     out: &mut Vec<u8, A>,
 ) -> Result<(), AllocError>
     requires last { IsEntityText world.now.state last.old }
     requires label { IsLabel world.now.state label.old }
     ensures last { OnOk result (IsEntityText world.now.state last.new) }
     ensures label { OnOk result (IsLabel world.now.state label.new) }
-    ensures text { OnOk result (out.new.items ≡ out.old.items ++ field_text world.now.state (shown_field (view_of world.now.state) shown)) }
+    ensures text { OnOk result (written out.new end.new ≡ written out.old end.old ++ field_text world.now.state (shown_field (view_of world.now.state) shown)) }
 {
     let Some(fact) = shown else {
-        return out.extend_from_slice(b" [-]");
+        return put(b" [-]                            ", 4, end, out);
     };
     label.turn_to(world, fact.id)?;
     last.turn_to(world, fact.source)?;
-    out.extend_from_slice(label.text.as_slice())?;
-    out.extend_from_slice(last.text.as_slice())?;
+    put(label.text.bytes.as_slice(), label.text.count, end, out)?;
     if fact.valued {
-        write_value(world, fact, label.schema, out)?;
+        return write_valued(world, fact, label.schema, last, end, out);
     }
-    out.extend_from_slice(b"]")
+    put(last.bytes.as_slice(), last.closed, end, out)
 }
 
-/// Writes the value of a fact, with the fields of its id's values: nothing without fields.
-fn write_value<A: Allocator>(
+/// Writes the source of a fact, the value with the fields of its id's values (nothing without fields), and the bracket that closes its field.
+fn write_valued<A: Allocator, B: Allocator>(
     world: &World<A>,
     fact: ShownFact,
     schema: Option<&Schema<A>>,
+    source: &EntityText<B>,
+    end: &mut usize,
     out: &mut Vec<u8, A>,
 ) -> Result<(), AllocError>
-    requires { option_copied schema ≡ type_of_id world.now.state fact.id }
-    ensures { OnOk result (out.new.items ≡ out.old.items ++ value_text ((view_of world.now.state).value fact.source fact.id)) }
+    requires schema { option_copied schema ≡ type_of_id world.now.state fact.id }
+    requires source { IsEntityText world.now.state source.now }
+    ensures { OnOk result (written out.new end.new ≡ written out.old end.old ++ index_text world.now.state (source.now).index ++ value_text ((view_of world.now.state).value fact.source fact.id) ++ codes "]") }
 {
     let Some(schema) = schema else {
-        return Ok(());
+        return put(source.bytes.as_slice(), source.closed, end, out);
     };
     match world.bytes(fact.source, fact.id) {
-        None => Ok(()),
-        Some(bytes) => write_fields(schema, bytes, out),
+        None => put(source.bytes.as_slice(), source.closed, end, out),
+        Some(bytes) => {
+            put(source.bytes.as_slice(), source.alone, end, out)?;
+            write_numbers(schema, bytes, end, out)
+        }
     }
+}
+
+/// Writes the value that bytes mean, and the bracket that closes its field.
+fn write_numbers<A: Allocator>(
+    schema: &Schema<A>,
+    bytes: &[u8],
+    end: &mut usize,
+    out: &mut Vec<u8, A>,
+) -> Result<(), AllocError>
+    requires { length bytes.now ≡ size_of schema.now }
+    ensures { OnOk result (written out.new end.new ≡ written out.old end.old ++ value_text (Some (values_in schema.now bytes.now)) ++ codes "]") }
+{
+    let mut text = [b']'; MOST_TEXT + CHUNK];
+    let start = put_fields(schema, bytes, &mut text);
+    put(&text[start..], MOST_TEXT + 1 - start, end, out)
 }

@@ -7,7 +7,7 @@ use Rattle.std.proofs.lemmas.List.Folds.{flat_map-map}
 use Rattle.ecs_model.specs.Print.{field_text}
 use Rattle.ecs_model.specs.rows.View.{view_of}
 use Rattle.plan_exec.specs.Fields.{shown_field}
-use Rattle.world_query.specs.Lines.{IsLabel}
+use Rattle.world_query.specs.Lines.{IsLabel, written}
 use Rattle.world_query.proofs.Printed.{one_more}
 use Rattle.world_query.proofs.row_lines.write_all_fields.Goals as goal
 
@@ -20,7 +20,7 @@ loop-number-preserved g c =
         labels = All-set (IsLabel w) (c.loop-number.texts.labels).items c.loop-number.number c.write_field.new.label c.in_ok-write_field.ensures.label kept.0.labels;
         enough = kept.0.enough ∙ sym (length-set (c.loop-number.texts.labels).items c.loop-number.number c.write_field.new.label);
       },
-      one_more (λ s. field_text w (shown_field (view_of w) s)) c.args.fields.now.current c.loop-number.number c.field.result c.args.out.now.items c.loop-number.out.items c.write_field.new.out.items (omega arith) c.field.ensures kept.1 c.in_ok-write_field.ensures.text,
+      one_more (λ s. field_text w (shown_field (view_of w) s)) c.args.fields.now.current c.loop-number.number c.field.result (written c.args.out.now c.args.end.now) (written c.loop-number.out c.loop-number.end) (written c.write_field.new.out c.write_field.new.end) (omega arith) c.field.ensures kept.1 c.in_ok-write_field.ensures.text,
     )
 
 pub returns-clause-text : goal.returns-clause-text
@@ -29,5 +29,5 @@ returns-clause-text g c =
     let current = c.args.fields.now.current in
     let all : length current ≤ c.loop-number.number = omega arith in
     c.loop-number.invariant.1
-    ∙ ap (λ l. c.args.out.now.items ++ flat_map (λ s. field_text w (shown_field (view_of w) s)) l) (take_all c.loop-number.number current all)
-    ∙ ap (λ t. c.args.out.now.items ++ t) (sym (flat_map-map (field_text w) (shown_field (view_of w)) current))
+    ∙ ap (λ l. written c.args.out.now c.args.end.now ++ flat_map (λ s. field_text w (shown_field (view_of w) s)) l) (take_all c.loop-number.number current all)
+    ∙ ap (λ t. written c.args.out.now c.args.end.now ++ t) (sym (flat_map-map (field_text w) (shown_field (view_of w)) current))

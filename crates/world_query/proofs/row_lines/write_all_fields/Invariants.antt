@@ -3,10 +3,10 @@ use Rattle.std.specs.Prelude.{flat_map}
 use Rattle.ecs_model.specs.Print.{field_text}
 use Rattle.ecs_model.specs.rows.View.{view_of}
 use Rattle.plan_exec.specs.Fields.{shown_field}
-use Rattle.world_query.specs.Lines.{AreTexts}
+use Rattle.world_query.specs.Lines.{AreTexts, written}
 use Rattle.world_query.proofs.row_lines.write_all_fields.Given as goal
 
 abbrev pub invariant-loop-number : goal.invariant-loop-number
 invariant-loop-number g l =
     AreTexts l.world.state (length l.fields.items) l.texts
-    × (l.out.items ≡ l.initial.out.items ++ flat_map (λ s. field_text l.world.state (shown_field (view_of l.world.state) s)) (take l.number l.fields.current))
+    × (written l.out l.end ≡ written l.initial.out l.initial.end ++ flat_map (λ s. field_text l.world.state (shown_field (view_of l.world.state) s)) (take l.number l.fields.current))

@@ -1,10 +1,9 @@
 use Rattle.std.proofs.Common.{◌≡◌, ◌++◌}
 use Rattle.std.specs.Prelude.{flat_map}
-use Rattle.ecs_model.specs.Print.{binding_text}
-use Rattle.world_query.specs.Lines.{IsEntityText}
+use Rattle.world_query.specs.Lines.{IsEntityText, started, text_of, written}
 use Rattle.world_query.proofs.row_lines.write_bindings.Given as goal
 
-abbrev pub invariant-loop-variable : goal.invariant-loop-variable
-invariant-loop-variable g l =
-    ((goal.iterator-loop-variable g).can_next l.variable-iterator × (goal.iterator-loop-variable g).is_finite l.variable-iterator)
-    × (IsEntityText l.world.state l.last × (l.out.items ≡ l.initial.out.items ++ flat_map (λ p. binding_text l.world.state ((p.0).now.items, (p.1).now)) l.yielded))
+abbrev pub invariant-loop-start : goal.invariant-loop-start
+invariant-loop-start g l =
+    ((goal.iterator-loop-start g).can_next l.start-iterator × (goal.iterator-loop-start g).is_finite l.start-iterator)
+    × (IsEntityText l.world.state l.last × (written l.out l.end ≡ written l.initial.out l.initial.end ++ flat_map (λ p. started l.world.state (text_of (p.0).now, (p.1).now)) l.yielded))
