@@ -203,6 +203,8 @@ fn fields_of<'a, A: Allocator>(alloc: A, text: &'a str) -> Result<Option<Fields<
 }
 
 /// Reads an entity and an id, and what stands behind them.
+// A call would write the answer to memory, and its caller clear that before.
+#[inline(always)]
 fn fact_of(text: &str) -> Option<Fact<'_>>
     ensures { (f : EntityRef → IdRef → List (List ℕ) → Form) → fact_line f text.now
         ≡ form_or_bad (λ t. f (seen_reference t.entity) (seen_id t.id) (words t.behind.now)) result }
@@ -214,6 +216,7 @@ fn fact_of(text: &str) -> Option<Fact<'_>>
 }
 
 /// Reads an entity and an id behind which no word stands.
+#[inline(always)]
 fn bare_fact(text: &str) -> Option<Fact<'_>>
     ensures { (f : EntityRef → IdRef → Form) → fact_line (λ r i. nothing_more (f r i)) text.now
         ≡ form_or_bad (λ t. f (seen_reference t.entity) (seen_id t.id)) result }
