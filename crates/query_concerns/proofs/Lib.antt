@@ -8,3 +8,6 @@ pub mod Ranges
 pub mod Ancestors
 pub mod Living
 pub mod WhoeverLives
+pub mod This
+pub mod Lacking
+pub mod OwnFacts

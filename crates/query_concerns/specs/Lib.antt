@@ -1,4 +1,5 @@
 pub mod Concerns
 pub mod Anchored
 pub mod FromLeft
+pub mod Others
 pub mod Laws

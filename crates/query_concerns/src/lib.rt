@@ -4,6 +4,8 @@
 mod anchoring;
 mod concerning;
 pub mod laws;
+mod others;
 
 pub use anchoring::is_anchored;
 pub use concerning::concerns;
+pub use others::{concerns_below, concerns_others, lacks};

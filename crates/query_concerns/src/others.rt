@@ -1,0 +1,200 @@
+//! Which ids concern a query for others than the entity that holds them, and who lacks what it asks of `$this` itself.
+
+ghost use Rattle.std.specs.Prelude.{◌≡◌, map};
+ghost use Rattle.std.specs.List.{list_any};
+ghost use Rattle.query_check.specs.Seen.{seen_item, seen_piece};
+ghost use Rattle.query_model.specs.Local.{asks_first};
+ghost use Rattle.query_model.specs.Observers.{is_first};
+ghost use Rattle.query_concerns.specs.Concerns.{may_match};
+ghost use Rattle.query_concerns.specs.Others.{asks_this, concerns_below, concerns_others, item_concerns_below, item_concerns_others, item_lacks, lacks, lacks_from, piece_concerns_below, piece_concerns_others, says_how_far, term_concerns_below, term_concerns_others};
+
+use crate::concerning::{may_match, term_concerns};
+use ecs_id::Id;
+use ecs_model::built_ins::{REFLEXIVE, TRANSITIVE};
+use query_check::{Item, Piece, Query};
+use query_model::query::{Ref, Term};
+use std::alloc::Allocator;
+
+/// Whether an id concerns a query for others than the entity that holds it and those whose ancestor that is: if a term asks for it that asks
+/// somebody else than `$this` and its ancestors, or if it is Transitive or Reflexive. Where only facts of other ids come and go, the rows of an
+/// anchored query stay of the same entities, but for those whose facts came and went and those below them.
+///
+/// Takes no memory, and time in the terms of the query.
+#[tactic(auto, unfolding(crate::specs::Others::concerns_others))]
+pub fn concerns_others<A: Allocator>(query: &Query<A>, id: Id) -> bool
+    ensures { result ≡ concerns_others query.now id }
+{
+    says_how_far(id) || pieces_concern_others(query.pieces(), id)
+}
+
+/// Whether an id is a tag that says how far a relationship reaches.
+fn says_how_far(id: Id) -> bool
+    ensures { result ≡ says_how_far id }
+{
+    if id.second().is_some() {
+        return false;
+    }
+    let tag = id.first();
+    tag == TRANSITIVE || tag == REFLEXIVE
+}
+
+fn pieces_concern_others<A: Allocator>(pieces: &[Piece<A>], id: Id) -> bool
+    ensures { result ≡ list_any (piece_concerns_others id) (map seen_piece pieces.now) }
+{
+    for piece in pieces {
+        if piece_concerns_others(piece, id) {
+            return true;
+        }
+    }
+    false
+}
+
+fn piece_concerns_others<A: Allocator>(piece: &Piece<A>, id: Id) -> bool
+    ensures { result ≡ piece_concerns_others id (seen_piece piece.now) }
+{
+    match piece {
+        Piece::Item(item) => item_concerns_others(item, id),
+        Piece::Opening(_, _) | Piece::Closing => false,
+    }
+}
+
+fn item_concerns_others<A: Allocator>(item: &Item<A>, id: Id) -> bool
+    ensures { result ≡ item_concerns_others id (seen_item item.now) }
+{
+    match item {
+        Item::And(term) | Item::Optional(term) => term_concerns_others(term, id),
+        Item::Or(terms) => any_concerns_others(terms.as_slice(), id),
+        Item::Equal(_, _) | Item::Differ(_, _) => false,
+    }
+}
+
+fn any_concerns_others(terms: &[Term], id: Id) -> bool
+    ensures { result ≡ list_any (term_concerns_others id) terms.now }
+{
+    terms.iter().any(|term| term_concerns_others(term, id))
+}
+
+/// Whether an id concerns a term that asks somebody else than `$this` and its ancestors.
+fn term_concerns_others(term: &Term, id: Id) -> bool
+    ensures { result ≡ term_concerns_others id term.now }
+{
+    !asks_this(term) && term_concerns(term, id)
+}
+
+/// Whether an id concerns a query for those whose ancestor the entity that holds it is: if a term asks the ancestors of `$this` for it, or along it.
+///
+/// Takes no memory, and time in the terms of the query.
+#[tactic(auto, unfolding(crate::specs::Others::concerns_below))]
+pub fn concerns_below<A: Allocator>(query: &Query<A>, id: Id) -> bool
+    ensures { result ≡ concerns_below query.now id }
+{
+    pieces_concern_below(query.pieces(), id)
+}
+
+fn pieces_concern_below<A: Allocator>(pieces: &[Piece<A>], id: Id) -> bool
+    ensures { result ≡ list_any (piece_concerns_below id) (map seen_piece pieces.now) }
+{
+    for piece in pieces {
+        if piece_concerns_below(piece, id) {
+            return true;
+        }
+    }
+    false
+}
+
+fn piece_concerns_below<A: Allocator>(piece: &Piece<A>, id: Id) -> bool
+    ensures { result ≡ piece_concerns_below id (seen_piece piece.now) }
+{
+    match piece {
+        Piece::Item(item) => item_concerns_below(item, id),
+        Piece::Opening(_, _) | Piece::Closing => false,
+    }
+}
+
+fn item_concerns_below<A: Allocator>(item: &Item<A>, id: Id) -> bool
+    ensures { result ≡ item_concerns_below id (seen_item item.now) }
+{
+    match item {
+        Item::And(term) | Item::Optional(term) => term_concerns_below(term, id),
+        Item::Or(terms) => any_concerns_below(terms.as_slice(), id),
+        Item::Equal(_, _) | Item::Differ(_, _) => false,
+    }
+}
+
+fn any_concerns_below(terms: &[Term], id: Id) -> bool
+    ensures { result ≡ list_any (term_concerns_below id) terms.now }
+{
+    terms.iter().any(|term| term_concerns_below(term, id))
+}
+
+/// Whether an id concerns a term that asks the ancestors of `$this`.
+fn term_concerns_below(term: &Term, id: Id) -> bool
+    ensures { result ≡ term_concerns_below id term.now }
+{
+    asks_this(term) && term.up.is_some() && term_concerns(term, id)
+}
+
+/// Whether a term asks `$this`, itself or its ancestors, for ids that are stored.
+fn asks_this(term: &Term) -> bool
+    ensures { result ≡ asks_this term.now }
+{
+    is_first(term.source) && !term.closed
+}
+
+/// Whether a term asks `$this` itself, for ids that are stored.
+fn asks_first(term: &Term) -> bool
+    ensures { result ≡ asks_first term.now }
+{
+    is_first(term.source) && term.on_source && term.up.is_none() && !term.closed
+}
+
+fn is_first(reference: Ref) -> bool
+    ensures { result ≡ is_first reference }
+{
+    match reference {
+        Ref::Var(number) => number == 0,
+        Ref::Is(_) | Ref::Any | Ref::One => false,
+    }
+}
+
+/// Whether an entity with these ids lacks what a term in front of all groups asks of `$this` itself. Then it is `$this` of no row of the query.
+///
+/// Takes no memory, and time in the terms and the ids.
+#[tactic(auto, unfolding(crate::specs::Others::lacks))]
+pub fn lacks<A: Allocator>(query: &Query<A>, ids: &[Id]) -> bool
+    ensures { result ≡ lacks query.now ids.now }
+{
+    pieces_lack(query.pieces(), ids)
+}
+
+fn pieces_lack<A: Allocator>(pieces: &[Piece<A>], ids: &[Id]) -> bool
+    ensures { result ≡ lacks_from ids.now (map seen_piece pieces.now) }
+{
+    for piece in pieces {
+        match piece {
+            Piece::Item(item) => {
+                if item_lacks(item, ids) {
+                    return true;
+                }
+            }
+            Piece::Opening(_, _) | Piece::Closing => return false,
+        }
+    }
+    false
+}
+
+fn item_lacks<A: Allocator>(item: &Item<A>, ids: &[Id]) -> bool
+    ensures { result ≡ item_lacks ids.now (seen_item item.now) }
+{
+    match item {
+        Item::And(term) => asks_first(term) && !any_matches(term, ids),
+        Item::Optional(_) | Item::Or(_) | Item::Equal(_, _) | Item::Differ(_, _) => false,
+    }
+}
+
+/// Whether a term may match one of these ids.
+fn any_matches(term: &Term, ids: &[Id]) -> bool
+    ensures { result ≡ list_any (may_match term.now.first term.now.target) ids.now }
+{
+    ids.iter().any(|id| may_match(term.first, term.target, *id))
+}
