@@ -29,8 +29,8 @@ impl<A: Allocator + Copy> Session<A> {
     /// The events that wait, of one stored query after another in the order of making. After that none wait.
     ///
     /// Of a monitor those that left come first, each by ascending index. One whose query is local is told by the entities that the command
-    /// touched. Of another all rows are taken and compared, if the command concerns its query: else they are of the same entities, and it is
-    /// told nothing. Fails where memory is refused, and then they still wait.
+    /// touched. Of another all rows are compared, if the command concerns its query: else they are of the same entities, and it is told nothing.
+    /// They are taken where those before and the facts that came and went don't tell them. Fails where memory is refused, and then they still wait.
     pub fn events(&mut self) -> Result<Vec<Event<A>, A>, AllocError>
         ensures told { IfOk result (λ told. told.items ≡ events (session_of self.old)) }
         ensures after { OnOk result (session_of self.new ≡ after_events (session_of self.old)) }

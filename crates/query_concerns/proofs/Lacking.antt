@@ -1,10 +1,10 @@
 -- Who lacks what a query asks of `$this` itself is `$this` of no row.
 use Rattle.std.proofs.Common.{◌≡◌, ℕ, Bool, true, false, cond, inl, inr, List, [], ◌∷◌, refl, sym, ap, ◌∙◌, subst}
-use Rattle.std.specs.Prelude.{◌&&◌, ◌||◌, filter, map, not, Some}
+use Rattle.std.specs.Prelude.{◌||◌, filter, map, Some}
 use Rattle.std.specs.List.{list_any}
 use Rattle.std.proofs.lemmas.Bool.{and_parts, false≢true, not-true, or_cases, true≢false}
 use Rattle.ecs_model.specs.rows.Level.{Level, also, first_level, joined, open_levels, other_levels, top}
-use Rattle.ecs_model.specs.rows.Rows.{Assignment, fields_of_item, fields_of_term, hits, keeps_one, matches, shown, shown_fields}
+use Rattle.ecs_model.specs.rows.Rows.{Assignment, fields_of_item, fields_of_term, hits, keeps_one, matches, shown}
 use Rattle.ecs_model.specs.rows.View.{View}
 use Rattle.ecs_model.proofs.Members.{any_passes, passing}
 use Rattle.query_model.specs.declared.query.Term.{Term}
@@ -14,7 +14,7 @@ use Rattle.query_meaning.proofs.Assignments.{at}
 use Rattle.query_meaning.proofs.Holding.{Holds}
 use Rattle.query_concerns.specs.Concerns.{may_match}
 use Rattle.query_concerns.specs.Laws.{LackingMatchNothing}
-use Rattle.query_concerns.specs.Others.{item_lacks, lacks, lacks_from}
+use Rattle.query_concerns.specs.OwnIds.{item_lacks, lacks, lacks_from}
 use Rattle.query_concerns.proofs.Holding.{any-map, at_each, matches_may, some, some-first, some-map}
 use Rattle.query_concerns.proofs.Living.{has-some, some-taken}
 use Rattle.query_concerns.proofs.This.{asked_itself, this_of}
@@ -27,12 +27,12 @@ alone : (b : Bool) → (b || false) ≡ b
 alone true = refl
 alone false = refl
 
-behind_item : (x : Item) (ls : List Level) → joined (also x (first_level ls) ∷ other_levels ls) ≡ also x (joined ls)
+pub behind_item : (x : Item) (ls : List Level) → joined (also x (first_level ls) ∷ other_levels ls) ≡ also x (joined ls)
 behind_item x [] = refl
 behind_item x (l ∷ ls) = refl
 
 module _ (w : View) (a : Assignment) (e : ℕ) (this : at a 0 ≡ Some e) where
-  hits_itself : (t : Term) → asks_first t ≡ true → some (fields_of_term w a t) ≡ list_any (matches a t.first t.target) (w.ids e)
+  pub hits_itself : (t : Term) → asks_first t ≡ true → some (fields_of_term w a t) ≡ list_any (matches a t.first t.target) (w.ids e)
   unfolding hits
   hits_itself t asks =
       ap some (asked_itself w a e t this asks)
@@ -43,7 +43,7 @@ module _ (w : View) (a : Assignment) (e : ℕ) (this : at a 0 ≡ Some e) where
       ∙ some-taken (keeps_one t) (filter (matches a t.first t.target) (w.ids e))
       ∙ some-filter (matches a t.first t.target) (w.ids e)
 
-  item_fails : (x : Item) → item_lacks (w.ids e) x ≡ true → some (fields_of_item w a x) ≡ true → ⊥
+  pub item_fails : (x : Item) → item_lacks (w.ids e) x ≡ true → some (fields_of_item w a x) ≡ true → ⊥
   unfolding fields_of_item
   item_fails (must t) lack holds =
       let both = and_parts _ _ lack in

@@ -10,4 +10,5 @@ pub mod Living
 pub mod WhoeverLives
 pub mod This
 pub mod Lacking
+pub mod Meeting
 pub mod OwnFacts

@@ -11,14 +11,14 @@ use Rattle.ecs_model.specs.Links.{AreLinks, is_held, line, target_under, upward}
 use Rattle.ecs_model.specs.Reach.{HasChain, Reached, itself, onward}
 use Rattle.ecs_model.proofs.Linked.{upward_lives}
 use Rattle.ecs_model.specs.rows.Level.{Level, done, also, unless, top}
-use Rattle.ecs_model.specs.rows.Rows.{Assignment, Unset, asked, assignments, candidates, fields_of_item, fields_of_term, first_nonempty, hits, is_cut, keeps_one, level_mentions, matches, passes_over, rows, shown, shown_fields, solutions, visible}
+use Rattle.ecs_model.specs.rows.Rows.{Assignment, Unset, asked, assignments, candidates, fields_of_item, fields_of_term, hits, is_cut, keeps_one, level_mentions, matches, passes_over, rows, shown, shown_fields, solutions, visible}
 use Rattle.ecs_model.specs.rows.View.{View}
 use Rattle.ecs_model.specs.stored.Watches.{is_this, matching}
 use Rattle.ecs_model.specs.traits.Rules.{prefab, disabled}
 use Rattle.ecs_model.proofs.Members.{alike, any_passes, filtered, passing}
 use Rattle.query_model.specs.declared.query.Term.{Term}
 use Rattle.query_model.specs.Query.{Item, must, may, either, equal, differ, Piece, item, opening, closing, Query}
-use Rattle.query_meaning.specs.Sound.{IsSound, is_sound}
+use Rattle.query_meaning.specs.Sound.{is_sound}
 use Rattle.query_meaning.specs.Variables.{contains}
 use Rattle.query_meaning.proofs.Assignments.{assignments-from_Extends, at}
 use Rattle.query_meaning.proofs.Holding.{Holds, Holds-solutions}
@@ -33,7 +33,7 @@ use Rattle.query_concerns.proofs.Holding.{any-map, at_each, by_match, by_rise, m
 use Rattle.query_concerns.proofs.Living.{has-some}
 use Rattle.query_concerns.proofs.Matching.{is_first_of}
 use Rattle.query_concerns.proofs.Reaching.{Agree, HasPairs, no_target}
-use Rattle.query_concerns.proofs.This.{IsThis, KeepsThis, asked_of_this, sound_keeps_this, this_of}
+use Rattle.query_concerns.proofs.This.{KeepsThis, asked_of_this, sound_keeps_this, this_of}
 use Rattle.query_concerns.proofs.WhoeverLives.{any_row, first_lives, lives_too}
 use Rattle.query_concerns.proofs.Within.{any_same, filter_same, maps_same}
 

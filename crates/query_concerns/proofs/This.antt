@@ -1,9 +1,9 @@
 -- The assignment under which a row has an entity first gives it to the first variable; and what a term gives that asks it itself.
-use Rattle.std.proofs.Common.{◌≡◌, ℕ, zero, suc, ◌<◌, ◌⊎◌, Bool, true, false, cond, inl, inr, List, [], ◌∷◌, ◌++◌, length, Less, refl, sym, ap, ◌∙◌, arith}
-use Rattle.std.specs.Prelude.{◌==◌, ◌&&◌, filter, map, not, take, Option, Some, None, is_none, is_some, if◌then◌else◌}
+use Rattle.std.proofs.Common.{◌≡◌, ℕ, zero, suc, ◌<◌, ◌⊎◌, true, false, cond, inl, inr, List, [], ◌∷◌, ◌++◌, length, Less, refl, sym, ap, ◌∙◌, arith}
+use Rattle.std.specs.Prelude.{◌==◌, ◌&&◌, map, not, Option, Some, None, is_none, is_some, if◌then◌else◌}
 use Rattle.std.specs.Cmp.{nat_cmp_is}
 use Rattle.std.specs.FinMap.Entries.{by_order}
-use Rattle.std.specs.List.{Contains, list_any, list_all, range_with_len}
+use Rattle.std.specs.List.{Contains, list_any, range_with_len}
 use Rattle.std.specs.Option.{option_map_or}
 use Rattle.std.specs.Ordering.{nat_cmp}
 use Rattle.std.proofs.lemmas.Cmp.{eq_by_cmp_equiv, nat_cmp_total}
@@ -33,7 +33,7 @@ use Rattle.query_concerns.proofs.WhoeverLives.{all_at, any_row, first_bound, to_
 
 -- ---- the first variable
 
-head_at : (u y : ℕ) (rest : Assignment) → at ((u, y) ∷ rest) u ≡ Some y
+pub head_at : (u y : ℕ) (rest : Assignment) → at ((u, y) ∷ rest) u ≡ Some y
 head_at u y rest = ap (λ b. cond b (Some y) (at rest u)) ((eq_by_cmp_equiv nat_cmp_total).refl u)
 
 -- whoever is first in an assignment is the first variable's, where it has one

@@ -7,7 +7,8 @@ use Rattle.ecs_model.specs.rows.View.{View}
 use Rattle.ecs_model.specs.stored.Watches.{matching}
 use Rattle.query_concerns.specs.Anchored.{is_anchored}
 use Rattle.query_concerns.specs.Concerns.{concerns}
-use Rattle.query_concerns.specs.Others.{concerns_below, concerns_others, lacks}
+use Rattle.query_concerns.specs.Others.{concerns_below, concerns_others}
+use Rattle.query_concerns.specs.OwnIds.{lacks, meets}
 use Rattle.query_meaning.specs.Sound.{IsSound}
 
 -- the same entities live in two views, and each holds the same ids of those that concern a query
@@ -37,3 +38,7 @@ MatchByOwnFacts = (m n : ℕ) (w v : View) (q : Query) → AreLinks m w.entities
 -- who lacks what a query asks of `$this` itself is `$this` of no row
 abbrev pub LackingMatchNothing : Type 0
 LackingMatchNothing = (w : View) (q : Query) (e : ℕ) → lacks q (w.ids e) ≡ true → Contains (matching w q) e → ⊥
+
+-- and who meets all that it asks by its own ids is `$this` of a row
+abbrev pub MeetingMatch : Type 0
+MeetingMatch = (w : View) (q : Query) → IsSound q → (e : ℕ) → Contains w.entities e → meets q (w.ids e) ≡ true → Contains (matching w q) e

@@ -1,13 +1,12 @@
--- Which ids concern a query for others than the entity that holds them, and which entities lack what the query asks of `$this` itself.
-use Rattle.std.specs.Prelude.{◌==◌, Bool, true, false, not, ◌&&◌, ◌||◌, List, [], ◌∷◌, is_some}
+-- Which ids concern a query for others than the entity that holds them.
+use Rattle.std.specs.Prelude.{◌==◌, Bool, false, not, ◌&&◌, ◌||◌, is_some}
 use Rattle.std.specs.List.{list_any}
 use Rattle.ecs_id.specs.Id.{Id, plain, pair}
 use Rattle.ecs_model.specs.BuiltIns.{transitive, reflexive}
 use Rattle.query_model.specs.declared.query.Term.{Term}
-use Rattle.query_model.specs.Local.{asks_first}
 use Rattle.query_model.specs.Observers.{is_first}
 use Rattle.query_model.specs.Query.{Item, must, may, either, equal, differ, Piece, item, opening, closing, Query}
-use Rattle.query_concerns.specs.Concerns.{may_match, term_concerns}
+use Rattle.query_concerns.specs.Concerns.{term_concerns}
 
 -- whether a term asks `$this`, itself or its ancestors, for ids that are stored
 abbrev pub asks_this : Term → Bool
@@ -57,19 +56,3 @@ piece_concerns_below i closing = false
 -- whether an id concerns a query for those whose ancestor its holder is, terms inside groups too
 unfoldable pub concerns_below : Query → Id → Bool
 concerns_below q i = list_any (piece_concerns_below i) q.pieces
-
--- whether these ids lack what a term asks of `$this` itself that must match
-abbrev pub item_lacks : List Id → Item → Bool
-item_lacks ids (must t) = asks_first t && not (list_any (may_match t.first t.target) ids)
-item_lacks ids x = false
-
--- whether they lack it for an item in front of all groups
-abbrev pub lacks_from : List Id → List Piece → Bool
-lacks_from ids [] = false
-lacks_from ids (item x ∷ ps) = item_lacks ids x || lacks_from ids ps
-lacks_from ids (opening from_term own ∷ ps) = false
-lacks_from ids (closing ∷ ps) = false
-
--- so an entity with these ids is `$this` of no row
-unfoldable pub lacks : Query → List Id → Bool
-lacks q ids = lacks_from ids q.pieces

@@ -1,6 +1,6 @@
 //! What is proved of the definitions alone: each function's contract is a law, and its body does nothing.
 
-ghost use Rattle.query_concerns.specs.Laws.{LackingMatchNothing, MatchByOwnFacts, MatchByWhatConcerns, MatchWhoeverElseLives};
+ghost use Rattle.query_concerns.specs.Laws.{LackingMatchNothing, MatchByOwnFacts, MatchByWhatConcerns, MatchWhoeverElseLives, MeetingMatch};
 
 /// Law: where the same entities live and each holds the same ids of those that concern a query, the same entities are `$this` of its rows.
 pub fn queries_match_by_what_concerns_them()
@@ -21,4 +21,9 @@ pub fn anchored_queries_match_by_own_facts()
 /// Law: who lacks what a query asks of `$this` itself is `$this` of no row.
 pub fn entities_that_lack_match_nothing()
     ensures { LackingMatchNothing }
+{}
+
+/// Law: and a live entity that meets all that a query asks by its own ids alone is `$this` of a row.
+pub fn entities_that_meet_match()
+    ensures { MeetingMatch }
 {}

@@ -1,14 +1,12 @@
-//! Which ids concern a query for others than the entity that holds them, and who lacks what it asks of `$this` itself.
+//! Which ids concern a query for others than the entity that holds them.
 
 ghost use Rattle.std.specs.Prelude.{◌≡◌, map};
 ghost use Rattle.std.specs.List.{list_any};
 ghost use Rattle.query_check.specs.Seen.{seen_item, seen_piece};
-ghost use Rattle.query_model.specs.Local.{asks_first};
 ghost use Rattle.query_model.specs.Observers.{is_first};
-ghost use Rattle.query_concerns.specs.Concerns.{may_match};
-ghost use Rattle.query_concerns.specs.Others.{asks_this, concerns_below, concerns_others, item_concerns_below, item_concerns_others, item_lacks, lacks, lacks_from, piece_concerns_below, piece_concerns_others, says_how_far, term_concerns_below, term_concerns_others};
+ghost use Rattle.query_concerns.specs.Others.{asks_this, concerns_below, concerns_others, item_concerns_below, item_concerns_others, piece_concerns_below, piece_concerns_others, says_how_far, term_concerns_below, term_concerns_others};
 
-use crate::concerning::{may_match, term_concerns};
+use crate::concerning::term_concerns;
 use ecs_id::Id;
 use ecs_model::built_ins::{REFLEXIVE, TRANSITIVE};
 use query_check::{Item, Piece, Query};
@@ -141,60 +139,11 @@ fn asks_this(term: &Term) -> bool
     is_first(term.source) && !term.closed
 }
 
-/// Whether a term asks `$this` itself, for ids that are stored.
-fn asks_first(term: &Term) -> bool
-    ensures { result ≡ asks_first term.now }
-{
-    is_first(term.source) && term.on_source && term.up.is_none() && !term.closed
-}
-
-fn is_first(reference: Ref) -> bool
+pub(crate) fn is_first(reference: Ref) -> bool
     ensures { result ≡ is_first reference }
 {
     match reference {
         Ref::Var(number) => number == 0,
         Ref::Is(_) | Ref::Any | Ref::One => false,
     }
-}
-
-/// Whether an entity with these ids lacks what a term in front of all groups asks of `$this` itself. Then it is `$this` of no row of the query.
-///
-/// Takes no memory, and time in the terms and the ids.
-#[tactic(auto, unfolding(crate::specs::Others::lacks))]
-pub fn lacks<A: Allocator>(query: &Query<A>, ids: &[Id]) -> bool
-    ensures { result ≡ lacks query.now ids.now }
-{
-    pieces_lack(query.pieces(), ids)
-}
-
-fn pieces_lack<A: Allocator>(pieces: &[Piece<A>], ids: &[Id]) -> bool
-    ensures { result ≡ lacks_from ids.now (map seen_piece pieces.now) }
-{
-    for piece in pieces {
-        match piece {
-            Piece::Item(item) => {
-                if item_lacks(item, ids) {
-                    return true;
-                }
-            }
-            Piece::Opening(_, _) | Piece::Closing => return false,
-        }
-    }
-    false
-}
-
-fn item_lacks<A: Allocator>(item: &Item<A>, ids: &[Id]) -> bool
-    ensures { result ≡ item_lacks ids.now (seen_item item.now) }
-{
-    match item {
-        Item::And(term) => asks_first(term) && !any_matches(term, ids),
-        Item::Optional(_) | Item::Or(_) | Item::Equal(_, _) | Item::Differ(_, _) => false,
-    }
-}
-
-/// Whether a term may match one of these ids.
-fn any_matches(term: &Term, ids: &[Id]) -> bool
-    ensures { result ≡ list_any (may_match term.now.first term.now.target) ids.now }
-{
-    ids.iter().any(|id| may_match(term.first, term.target, *id))
 }

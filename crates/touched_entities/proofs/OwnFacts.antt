@@ -1,17 +1,19 @@
 -- Where a command concerns a query through what it asks `$this` itself alone, only the entities whose facts these are can leave its rows or enter them.
-use Rattle.std.specs.Prelude.{◌≡◌, ◌↔◌, ℕ, suc, ◌==◌, Bool, true, false, not, ◌&&◌, ◌||◌, List, [], ◌∷◌, filter, length, Option, Some, None, is_some, if◌then◌else◌}
+use Rattle.std.specs.Prelude.{◌≡◌, ◌↔◌, ℕ, suc, ◌==◌, Bool, true, false, not, ◌&&◌, ◌||◌, List, ◌++◌, filter, length, Some, None, is_some, if◌then◌else◌}
 use Rattle.std.specs.FinMap.{nat_cmp-IsAntisymmetric}
 use Rattle.std.specs.Cmp.{nat_cmp_total}
 use Rattle.std.specs.List.{Contains, list_all, list_any}
-use Rattle.std.specs.List.Sorted.{IsStrictlySortedBy}
+use Rattle.std.specs.List.Sorted.{IsStrictlyIncreasing}
 use Rattle.std.specs.Ordering.{nat_cmp}
-use Rattle.std.proofs.Common.{refl, sym, ap, subst, ◌∙◌, inl, inr, true≢false}
+use Rattle.std.proofs.Common.{sym, ap, subst, ◌∙◌, inl, inr, true≢false}
 use Rattle.std.proofs.lemmas.Option.{same_Some}
-use Rattle.std.proofs.lemmas.Bool.{and_from, and_parts, false≢true, not-true, or_parts}
+use Rattle.std.proofs.lemmas.Bool.{and_from, and_parts, cases_Bool, false≢true, not-true, or_parts}
 use Rattle.std.proofs.lemmas.List.Kept.{IsStrictlySortedBy-filter}
+use Rattle.std.proofs.lemmas.List.Elements.{Contains-append_cases, Contains-append_left, Contains-append_right}
+use Rattle.std.proofs.lemmas.Map.Keys.{sorted_from_strictly_increasing}
 use Rattle.ecs_id.specs.Id.{Id, plain, pair, id_cmp, id_cmp_same, id_cmp_total, last_index}
 use Rattle.ecs_model.specs.Command.{Changed}
-use Rattle.ecs_model.specs.World.{WorldState, Key, entities, holds, ids_of, key_cmp, key_eq}
+use Rattle.ecs_model.specs.World.{WorldState, Key, entities, holds, ids_of, is_live, key_cmp, key_eq}
 use Rattle.ecs_model.specs.rows.View.{view_of}
 use Rattle.ecs_model.specs.stored.Watches.{matching}
 use Rattle.ecs_model.specs.traits.Keeps.{IsWellFormed}
@@ -20,21 +22,24 @@ use Rattle.ecs_model.specs.Links.{line, target_under, upward}
 use Rattle.ecs_model.specs.Reach.{HasChain, Reached, itself, onward}
 use Rattle.component_index.specs.Patterns.{matches}
 use Rattle.query_concerns.proofs.Ancestors.{line_chain}
+use Rattle.ecs_model.proofs.traits.Adding.{from_map, in_map}
 use Rattle.ecs_model.proofs.traits.Facts.{held_listed, listed_held}
 use Rattle.ecs_model.proofs.traits.Kept.{are_links, refuted}
 use Rattle.query_model.specs.Query.{Query}
 use Rattle.query_meaning.specs.Sound.{IsSound}
 use Rattle.query_meaning.proofs.Holding.{In-list_all}
 use Rattle.query_meaning.proofs.Lists.{In-from_place}
-use Rattle.query_concerns.specs.Anchored.{is_anchored}
 use Rattle.query_concerns.specs.Concerns.{concerns}
-use Rattle.query_concerns.specs.Others.{concerns_below, concerns_others, lacks}
+use Rattle.query_concerns.specs.Others.{concerns_below, concerns_others}
+use Rattle.query_concerns.specs.OwnIds.{lacks}
 use Rattle.query_concerns.proofs.Lacking.{lacking_match_nothing}
+use Rattle.query_concerns.proofs.Meeting.{meeting_match}
 use Rattle.query_concerns.proofs.OwnFacts.{match_by_own_facts}
 use Rattle.watch_meaning.specs.Since.{IsAfter}
 use Rattle.touched_entities.specs.Before.{view_before}
 use Rattle.touched_entities.specs.Laws.{OwnFactsMoveTheirEntities}
-use Rattle.touched_entities.specs.Own.{all_lack, any_concerns_below, any_concerns_others, is_moved, is_own, is_target, moves, pairs_to}
+use Rattle.touched_entities.specs.Own.{all_told, any_concerns_below, any_concerns_others, is_moved, is_own, is_target, is_told, matched_by, moves, pairs_to}
+use Rattle.touched_entities.proofs.AllTouched.{listed_lives}
 use Rattle.touched_entities.proofs.IdsBefore.{is_among, same_held}
 use Rattle.touched_entities.proofs.Rising.{ids_rise, keys_rise, one_list}
 use Rattle.touched_entities.proofs.Unconcerned.{matching_rises, queries_matched_before}
@@ -42,6 +47,11 @@ use Rattle.touched_entities.proofs.WorldBefore.{has_gone, is_new}
 
 all_passes : {X : Type 0} (p : X → Bool) (xs : List X) (x : X) → Contains xs x → list_all p xs ≡ true → p x ≡ true
 all_passes p xs x h all = In-list_all p xs all x (In-from_place xs h.0 x h.1 h.2)
+
+listed : (v : WorldState) (e : ℕ) → is_live v e ≡ true → Contains (entities v) e
+listed v e h =
+    let found = passing (λ u. u == e) (entities v) (listed_lives v e ∙ h) in
+    subst (Contains (entities v)) (eq_same found.0 e found.2) found.1
 
 -- ---- whoever is above somebody is the target of a pair
 
@@ -122,36 +132,84 @@ module _ (v : WorldState) (changed : Changed) (kept_now : IsWellFormed v) (after
       pub own_facts_move : (e : ℕ) → is_moved q changed e ≡ false → Contains (matching (view_before v changed) q) e ↔ Contains (matching (view_of v) q) e
       own_facts_move e still = subst (λ es. Contains es e ↔ Contains (matching (view_of v) q) e) (sym were_before) (unmoved_stay e still)
 
-      -- whose facts came or went is `$this` of no row, where all these lack what the query asks of it
-      moved_lacks : (ks : List Key) (e : ℕ) → all_lack q v ks ≡ true → moves q ks e ≡ true → lacks q (ids_of v e) ≡ true
-      moved_lacks ks e all h =
+      -- one of these facts that is the entity's and concerns the query
+      moving : (ks : List Key) (e : ℕ) → moves q ks e ≡ true → (k : Key) × Contains ks k × (k.0 ≡ e) × (concerns q k.1 ≡ true)
+      moving ks e h =
           let found = passing (λ k. k.0 == e && concerns q k.1) ks h in
-          let k = found.0 in
+          let k : Key = found.0 in
           let both = and_parts _ _ found.2 in
-          let lack = all_passes (λ k. not (concerns q k.1) || lacks q (ids_of v k.0)) ks k found.1 all in
-          sym (ap (λ i. lacks q (ids_of v i)) (eq_same k.0 e both.0)) ∙ second (concerns q k.1) (lacks q (ids_of v k.0)) both.1 lack
+          (k, found.1, eq_same k.0 e both.0, both.1)
+
+      -- who doesn't lack what it asks, and is told, is `$this` of a row
+      told_matches : (ks : List Key) (e : ℕ) → all_told q v ks ≡ true → Contains (matched_by q v ks) e → Contains (matching (view_of v) q) e
+      told_matches ks e all h =
+          let mine : Key → Bool = λ k. concerns q k.1 && not (lacks q (ids_of v k.0)) in
+          let from = from_map (λ (k : Key). k.0) (filter mine ks) e h in
+          let k : Key = from.0 in
+          let f = (filtered mine ks k).0 from.1 in
+          let both = and_parts _ _ f.1 in
+          let told = all_passes (λ k. not (concerns q k.1) || is_told q v k.0) ks k f.0 all in
+          let met = and_parts _ _ (meets_left (concerns q k.1) (lacks q (ids_of v k.0)) _ both.0 both.1 told) in
+          subst (Contains (matching (view_of v) q)) from.2 (meeting_match (view_of v) q sound k.0 (listed v k.0 met.0) met.1)
         where
-          second : (a b : Bool) → a ≡ true → (not a || b) ≡ true → b ≡ true
-          second true b h k = k
-          second false b h k = absurd (false≢true h)
+          meets_left : (a b c : Bool) → a ≡ true → not b ≡ true → (not a || (b || c)) ≡ true → c ≡ true
+          meets_left true false c h k t = t
+          meets_left true true c h k t = absurd (false≢true k)
+          meets_left false b c h k t = absurd (false≢true h)
 
-      module _ (lack_came : all_lack q v changed.came ≡ true) (lack_went : all_lack q v changed.went ≡ true) where
-        still_if_matched : (e : ℕ) → Contains (matching (view_of v) q) e → is_moved q changed e ≡ false
-        still_if_matched e h = refuted (is_moved q changed e) (λ moved. elim (from_or (moves q changed.came e) (moves q changed.went e) moved) [
-          | inl m ↦ lacking_match_nothing (view_of v) q e (moved_lacks changed.came e lack_came m) h
-          | inr m ↦ lacking_match_nothing (view_of v) q e (moved_lacks changed.went e lack_went m) h
-        ])
+      -- and who is one doesn't lack it
+      matched_told : (ks : List Key) (e : ℕ) → Contains (matching (view_of v) q) e → moves q ks e ≡ true → Contains (matched_by q v ks) e
+      matched_told ks e h moved =
+          let mine : Key → Bool = λ k. concerns q k.1 && not (lacks q (ids_of v k.0)) in
+          let found = moving ks e moved in
+          let k : Key = found.0 in
+          let has : lacks q (ids_of v k.0) ≡ false = refuted (lacks q (ids_of v k.0)) (λ l. lacking_match_nothing (view_of v) q k.0 l (subst (Contains (matching (view_of v) q)) (sym found.2) h)) in
+          subst (Contains (matched_by q v ks)) found.2 (in_map (λ (k : Key). k.0) (filter mine ks) k ((filtered mine ks k).1 (found.1, and_from _ _ found.3 (ap not has))))
 
-        pub unmoved_are_rows : filter (λ e. not (is_moved q changed e)) (matching (view_before v changed) q) ≡ matching (view_of v) q
-        unmoved_are_rows =
-            let still : ℕ → Bool = λ e. not (is_moved q changed e) in
-            let old = matching (view_before v changed) q in
-            one_list nat_cmp nat_cmp_total nat_cmp-IsAntisymmetric (filter still old) (matching (view_of v) q)
-            (IsStrictlySortedBy-filter nat_cmp still old (subst (IsStrictlySortedBy nat_cmp) (sym were_before) (matching_rises after.before after.kept q)))
+      module _ (told_came : all_told q v changed.came ≡ true) (told_went : all_told q v changed.went ≡ true) where
+        abbrev gathered : List ℕ
+        gathered = filter (λ e. not (is_moved q changed e)) (matching (view_before v changed) q) ++ matched_by q v changed.came ++ matched_by q v changed.went
+
+        to : (e : ℕ) → Contains gathered e → Contains (matching (view_of v) q) e
+        to e h =
+            let old = filter (λ e. not (is_moved q changed e)) (matching (view_before v changed) q) in
+            elim (Contains-append_cases (old ++ matched_by q v changed.came) (matched_by q v changed.went) e h) [
+              | inl first ↦ elim (Contains-append_cases old (matched_by q v changed.came) e first) [
+                | inl stays ↦
+                    let f = (filtered (λ e. not (is_moved q changed e)) (matching (view_before v changed) q) e).0 stays in
+                    (own_facts_move e (not-true (is_moved q changed e) f.1)).0 f.0
+                | inr came ↦ told_matches changed.came e told_came came
+              ]
+              | inr went ↦ told_matches changed.went e told_went went
+            ]
+
+        from : (e : ℕ) → Contains (matching (view_of v) q) e → Contains gathered e
+        from e h =
+            let old = filter (λ e. not (is_moved q changed e)) (matching (view_before v changed) q) in
+            let came = matched_by q v changed.came in
+            let went = matched_by q v changed.went in
+            elim (cases_Bool (is_moved q changed e)) [
+              | inl moved ↦ elim (from_or (moves q changed.came e) (moves q changed.went e) moved) [
+                | inl m ↦ Contains-append_left (old ++ came) went e (Contains-append_right old came e (matched_told changed.came e h m))
+                | inr m ↦ Contains-append_right (old ++ came) went e (matched_told changed.went e h m)
+              ]
+              | inr unmoved ↦
+                  Contains-append_left (old ++ came) went e (Contains-append_left old came e
+                  ((filtered (λ e. not (is_moved q changed e)) (matching (view_before v changed) q) e).1 ((own_facts_move e unmoved).1 h, ap not unmoved)))
+            ]
+
+        -- so these, in order, are the entities of the rows
+        pub gathered_are_rows : (first second all rows before : List ℕ) → before ≡ matching (view_before v changed) q → first ≡ filter (λ e. not (is_moved q changed e)) before
+            → second ≡ first ++ matched_by q v changed.came → all ≡ second ++ matched_by q v changed.went
+            → IsStrictlyIncreasing rows → ((e : ℕ) → Contains rows e ↔ Contains all e) → rows ≡ matching (view_of v) q
+        gathered_are_rows first second all rows before were kept more most ascend same =
+            let whole : all ≡ gathered = most ∙ ap (λ es. es ++ matched_by q v changed.went) (more ∙ ap (λ es. es ++ matched_by q v changed.came) (kept ∙ ap (filter (λ e. not (is_moved q changed e))) were)) in
+            one_list nat_cmp nat_cmp_total nat_cmp-IsAntisymmetric rows (matching (view_of v) q)
+            (sorted_from_strictly_increasing rows ascend)
             (matching_rises v kept_now q)
             (λ e. (
-              λ h. let f = (filtered still old e).0 h in (own_facts_move e (not-true (is_moved q changed e) f.1)).0 f.0,
-              λ h. let n = still_if_matched e h in (filtered still old e).1 ((own_facts_move e n).1 h, ap not n),
+              λ h. to e (subst (λ es. Contains es e) whole ((same e).0 h)),
+              λ h. (same e).1 (subst (λ es. Contains es e) (sym whole) (from e h)),
             ))
 
 pub own_facts_move_their_entities : OwnFactsMoveTheirEntities

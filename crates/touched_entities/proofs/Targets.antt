@@ -1,7 +1,7 @@
 -- Somebody holds an id of a pattern exactly if a table with such an id has rows.
-use Rattle.std.specs.Prelude.{◌≡◌, ◌↔◌, ℕ, suc, ◌==◌, Bool, true, false, not, List, [], ◌∷◌, filter, flat_map, length}
+use Rattle.std.specs.Prelude.{◌≡◌, ◌↔◌, ℕ, suc, ◌==◌, Bool, true, not, List, [], ◌∷◌, filter, flat_map, length}
 use Rattle.std.specs.List.{Contains, list_any}
-use Rattle.std.proofs.Common.{refl, ap, sym, ◌∙◌, true≢false, arith}
+use Rattle.std.proofs.Common.{refl, ap, sym, true≢false, arith}
 use Rattle.std.proofs.lemmas.Bool.{ne_eqb}
 use Rattle.ecs_model.proofs.Members.{alike, any_passes, filtered, from_flat_map, in_flat_map, passing}
 

@@ -1,14 +1,15 @@
 -- Commands that concern a query through what it asks `$this` itself, or the ancestors of `$this`, alone.
-use Rattle.std.specs.Prelude.{ℕ, ◌==◌, Bool, not, ◌&&◌, ◌||◌, List, Some}
+use Rattle.std.specs.Prelude.{ℕ, ◌==◌, Bool, not, ◌&&◌, ◌||◌, List, Some, filter, map}
 use Rattle.std.specs.List.{list_all, list_any}
 use Rattle.component_index.specs.Patterns.{matches}
 use Rattle.component_index.specs.declared.pattern.Part.TheVariants.{Is, Any}
 use Rattle.component_index.specs.declared.pattern.Pattern.{Pattern}
 use Rattle.ecs_model.specs.Command.{Changed}
-use Rattle.ecs_model.specs.World.{WorldState, Key, entities, ids_of}
+use Rattle.ecs_model.specs.World.{WorldState, Key, entities, ids_of, is_live}
 use Rattle.query_concerns.specs.Anchored.{is_anchored}
 use Rattle.query_concerns.specs.Concerns.{concerns}
-use Rattle.query_concerns.specs.Others.{concerns_below, concerns_others, lacks}
+use Rattle.query_concerns.specs.Others.{concerns_below, concerns_others}
+use Rattle.query_concerns.specs.OwnIds.{lacks, meets}
 use Rattle.query_model.specs.Query.{Query}
 
 -- the pairs with this entity as their target
@@ -44,6 +45,14 @@ module _ (q : Query) where
   abbrev pub is_moved : Changed → ℕ → Bool
   is_moved changed e = moves changed.came e || moves changed.went e
 
-  -- whether the entities of all these facts that concern the query lack what it asks of `$this` itself, in this world
-  abbrev pub all_lack : WorldState → List Key → Bool
-  all_lack w ks = list_all (λ k. not (concerns q k.1) || lacks q (ids_of w k.0)) ks
+  -- whether an entity's ids tell in this world whether it is `$this` of a row: it lacks what the query asks, or lives and meets all of it
+  abbrev pub is_told : WorldState → ℕ → Bool
+  is_told w e = lacks q (ids_of w e) || is_live w e && meets q (ids_of w e)
+
+  -- whether those of all entities of these facts do whose facts concern the query
+  abbrev pub all_told : WorldState → List Key → Bool
+  all_told w ks = list_all (λ k. not (concerns q k.1) || is_told w k.0) ks
+
+  -- those that don't lack it
+  abbrev pub matched_by : WorldState → List Key → List ℕ
+  matched_by w ks = map (λ k. k.0) (filter (λ k. concerns q k.1 && not (lacks q (ids_of w k.0))) ks)

@@ -1,27 +1,28 @@
 //! What becomes of a query's rows where no search is needed to tell.
 
-ghost use Rattle.std.specs.Prelude.{◌≡◌, ◌==◌, ◌&&◌, filter, length, not, IfOk, IfSome};
+ghost use Rattle.std.specs.Prelude.{◌≡◌, ◌==◌, ◌&&◌, ◌++◌, filter, length, not, IfOk, IfSome, OnOk};
 ghost use Rattle.std.specs.List.{list_any};
-ghost use Rattle.ecs_model.specs.World.{ids_of};
+ghost use Rattle.ecs_model.specs.World.{ids_of, is_live};
 ghost use Rattle.ecs_model.specs.rows.View.{view_of};
 ghost use Rattle.ecs_model.specs.stored.Watches.{matching};
 ghost use Rattle.query_meaning.specs.Sound.{IsSound};
 ghost use Rattle.touched_entities.specs.Before.{view_before};
-ghost use Rattle.touched_entities.specs.Own.{all_lack, all_own, any_concerns_below, any_concerns_others, is_moved, is_own, is_target, moves};
+ghost use Rattle.touched_entities.specs.Own.{all_own, all_told, any_concerns_below, any_concerns_others, is_moved, is_own, is_target, is_told, matched_by, moves};
 ghost use Rattle.watch_meaning.specs.Since.{IsAfter};
 
+use crate::indexes::put_in_order;
 use crate::touching::ids_now;
 use component_index::{Part, Pattern};
 use ecs_id::{Id, TableKey};
 use ecs_model::FactKey;
 use ecs_world::{Changes, World};
 use query_check::Query;
-use query_concerns::{concerns, concerns_below, concerns_others, is_anchored, lacks};
+use query_concerns::{concerns, concerns_below, concerns_others, is_anchored, lacks, meets};
 use rel_travel::Holders;
 use std::alloc::{AllocError, Allocator};
 
 /// The entities of a query's rows after a command, by those before it, where it is told without a search of rows: if what came and went
-/// concerns the query for nobody but the entities whose facts these are, and each of them lacks by now what the query asks of `$this` itself.
+/// concerns the query for nobody but the entities whose facts these are, and the ids of each of them tell whether it is `$this` of a row now.
 ///
 /// It takes time in the facts that came and went for each of the rows' entities. Fails where memory is refused.
 pub fn rows_by_own_facts<A: Allocator + Copy, B: Allocator>(
@@ -37,10 +38,13 @@ pub fn rows_by_own_facts<A: Allocator + Copy, B: Allocator>(
     ensures { IfOk result (λ found. IfSome found (λ rows. rows.items ≡ matching (view_of world.now.state) query.now)) }
 {
     world.keeps();
-    if !is_own(query, world, changes) || !all_moved_lack(world, query, changes) {
+    if !is_own(query, world, changes) || !all_moved_told(query, world, changes) {
         return Ok(None);
     }
-    let rows = unmoved(alloc, query, changes, before)?;
+    let mut rows = unmoved(alloc, query, changes, before)?;
+    push_matched(query, world, changes.came(), &mut rows)?;
+    push_matched(query, world, changes.went(), &mut rows)?;
+    put_in_order(&mut rows);
     Ok(Some(rows))
 }
 
@@ -119,30 +123,61 @@ fn has_rows<G: Holders>(graph: &G, tables: &[TableKey]) -> bool
     false
 }
 
-/// Whether each entity of whom a fact that concerns a query came or went lacks by now what the query asks of it.
-fn all_moved_lack<A: Allocator, B: Allocator>(
-    world: &World<A>,
+/// Whether the ids of each entity of whom a fact that concerns a query came or went tell whether it is `$this` of a row now.
+fn all_moved_told<A: Allocator, B: Allocator>(
     query: &Query<B>,
+    world: &World<A>,
     changes: &Changes<A>,
 ) -> bool
-    ensures { result ≡ (all_lack query.now world.now.state changes.now.came && all_lack query.now world.now.state changes.now.went) }
+    ensures { result ≡ (all_told query.now world.now.state changes.now.came && all_told query.now world.now.state changes.now.went) }
 {
-    all_lack(world, query, changes.came()) && all_lack(world, query, changes.went())
+    all_told(query, world, changes.came()) && all_told(query, world, changes.went())
 }
 
-fn all_lack<A: Allocator, B: Allocator>(
-    world: &World<A>,
+fn all_told<A: Allocator, B: Allocator>(
     query: &Query<B>,
+    world: &World<A>,
     facts: &[FactKey],
 ) -> bool
-    ensures { result ≡ all_lack query.now world.now.state facts.now }
+    ensures { result ≡ all_told query.now world.now.state facts.now }
 {
     for fact in facts {
-        if concerns(query, fact.id()) && !lacks(query, ids_at(world, fact.entity())) {
+        if concerns(query, fact.id()) && !is_told(query, world, fact.entity()) {
             return false;
         }
     }
     true
+}
+
+/// Whether an entity's ids tell whether it is `$this` of a row of a query.
+fn is_told<A: Allocator, B: Allocator>(query: &Query<B>, world: &World<A>, entity: u32) -> bool
+    ensures { result ≡ is_told query.now world.now.state entity }
+{
+    let ids = ids_at(world, entity);
+    lacks(query, ids) || (lives(world, entity) && meets(query, ids))
+}
+
+fn lives<A: Allocator>(world: &World<A>, entity: u32) -> bool
+    ensures { result ≡ is_live world.now.state entity }
+{
+    world.at(entity).is_some()
+}
+
+/// Adds the entities of those facts that concern a query which don't lack what it asks of `$this` itself.
+fn push_matched<A: Allocator, B: Allocator>(
+    query: &Query<B>,
+    world: &World<A>,
+    facts: &[FactKey],
+    rows: &mut Vec<u32, A>,
+) -> Result<(), AllocError>
+    ensures { OnOk result (rows.new.items ≡ rows.old.items ++ matched_by query.now world.now.state facts.now) }
+{
+    for fact in facts {
+        if concerns(query, fact.id()) && !lacks(query, ids_at(world, fact.entity())) {
+            rows.push(fact.entity())?;
+        }
+    }
+    Ok(())
 }
 
 /// The ids of the entity at an index, in order: none where none lives.
