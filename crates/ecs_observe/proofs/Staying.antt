@@ -46,22 +46,27 @@ none_moved w changed name q old same =
     ap (λ es. map (left_event w changed name) (missing_from es now) ++ map (entity_event name Entered w) (missing_from now es)) same
     ∙ ap (λ es. map (left_event w changed name) es ++ map (entity_event name Entered w) es) none
 
-module _ (w : WorldState) (changed : Changed) (h : Held) (kept : IsWellFormed w) (after : IsAfter w changed) (was : WasNow w changed h)
-    (compared : is_compared h ≡ true) (spared : is_concerned h.query changed ≡ false) where
+module _ (w : WorldState) (changed : Changed) (h : Held) (was : WasNow w changed h) (compared : is_compared h ≡ true) where
   its_kind : h.kind ≡ Monitor
   its_kind = monitor_is h.kind (and_parts (is_monitor h.kind) (not (is_local h.query)) compared).0
 
   not_local : is_local h.query ≡ false
   not_local = not-true (is_local h.query) (and_parts (is_monitor h.kind) (not (is_local h.query)) compared).1
 
+  -- what is held of one that is compared
+  pub rows_were : h.these ≡ matching (view_before w changed) h.query
+  rows_were = was its_kind not_local
+
+module _ (w : WorldState) (changed : Changed) (h : Held) (kept : IsWellFormed w) (after : IsAfter w changed) (was : WasNow w changed h)
+    (compared : is_compared h ≡ true) (spared : is_concerned h.query changed ≡ false) where
   -- what is held is what would be put in its place
   pub rows_stay : h.these ≡ matching (view_of w) h.query
-  rows_stay = was its_kind not_local ∙ unconcerned_queries_match_on w changed h.query kept after spared
+  rows_stay = rows_were w changed h was compared ∙ unconcerned_queries_match_on w changed h.query kept after spared
 
   pub nothing_told : told_to w changed h ≡ []
   nothing_told =
-      ap (λ k. told_since w changed h.name k h.query (rows_before w changed h)) its_kind
-      ∙ ap (λ b. told_since w changed h.name Monitor h.query (if b then matching (view_before w changed) h.query else h.these)) not_local
+      ap (λ k. told_since w changed h.name k h.query (rows_before w changed h)) (its_kind w changed h was compared)
+      ∙ ap (λ b. told_since w changed h.name Monitor h.query (if b then matching (view_before w changed) h.query else h.these)) (not_local w changed h was compared)
       ∙ none_moved w changed h.name h.query h.these rows_stay
 
 -- a stored query after a command: if it is compared, with the entities of its rows as they are now

@@ -3,13 +3,16 @@
 ghost use Rattle.std.specs.Prelude.{◌≡◌, ◌++◌, ◌&&◌, IfOk, OnErr, OnOk, All, map, flat_map, false, not, true};
 ghost use Rattle.std.specs.List.{list_any};
 ghost use Rattle.std.specs.String.{string_bytes};
+ghost use Rattle.ecs_model.specs.rows.View.{view_of};
 ghost use Rattle.ecs_model.specs.stored.Session.{after_events, events};
+ghost use Rattle.ecs_model.specs.stored.Watches.{matching};
 ghost use Rattle.ecs_observe.specs.Lists.{KeepLists};
 ghost use Rattle.ecs_observe.specs.Parts.{held_as, held_of, put_in, rows_in};
 ghost use Rattle.ecs_observe.specs.Standing.{IsHeld, WasNow, has_searched, is_compared, is_monitor, is_searched, is_told_locally, rows_put, session_of, told_to, with_rows};
 ghost use Rattle.ecs_observe.specs.Telling.{AreTouchedBy};
 ghost use Rattle.query_meaning.specs.Standing.{IsCurrentIn};
 ghost use Rattle.query_model.specs.Local.{is_local};
+ghost use Rattle.touched_entities.specs.Before.{view_before};
 ghost use Rattle.touched_entities.specs.Concerned.{is_concerned};
 ghost use Rattle.watch_meaning.specs.Since.{IsAfter};
 
@@ -19,15 +22,15 @@ use crate::watched::whole_rows;
 use ecs_world::{Changes, World};
 use local_queries::{Touched, local_told};
 use std::alloc::{AllocError, Allocator};
-use touched_entities::{is_concerned, touched};
+use touched_entities::{is_concerned, rows_by_own_facts, touched};
 use world_events::{Audience, Event, Moves, may_tell, tell, tell_moves};
 
 impl<A: Allocator + Copy> Session<A> {
     /// The events that wait, of one stored query after another in the order of making. After that none wait.
     ///
     /// Of a monitor those that left come first, each by ascending index. One whose query is local is told by the entities that the command
-    /// touched. Of another all rows are taken and compared, if the command concerns its query: else they are of the same entities, and it is
-    /// told nothing. Fails where memory is refused, and then they still wait.
+    /// touched. Of another all rows are compared, if the command concerns its query: else they are of the same entities, and it is told nothing.
+    /// They are taken where those before and the facts that came and went don't tell them. Fails where memory is refused, and then they still wait.
     pub fn events(&mut self) -> Result<Vec<Event<A>, A>, AllocError>
         ensures told { IfOk result (λ told. told.items ≡ events (session_of self.old)) }
         ensures after { OnOk result (session_of self.new ≡ after_events (session_of self.old)) }
@@ -165,7 +168,7 @@ fn tell_compared<A: Allocator + Copy>(
     if !is_concerned(query.plan.query(), changes) {
         return Ok(None);
     }
-    let rows = whole_rows(alloc, world, &query.plan, compared)?;
+    let rows = rows_after(alloc, world, changes, query, compared)?;
     let audience = Audience {
         name: name.as_bytes(),
         kind: query.kind,
@@ -175,6 +178,27 @@ fn tell_compared<A: Allocator + Copy>(
     };
     tell(alloc, world, changes, audience, events)?;
     Ok(Some(rows))
+}
+
+/// The entities of the rows of a monitor whose query isn't local, after a command. Where it is told without a search of rows, none is made; else
+/// all rows are taken, and counted.
+fn rows_after<A: Allocator + Copy>(
+    alloc: A,
+    world: &World<A>,
+    changes: &Changes<A>,
+    query: &StoredQuery<A>,
+    compared: &mut u64,
+) -> Result<Vec<u32, A>, AllocError>
+    requires after { IsAfter world.now.state changes.now }
+    requires current { IsCurrentIn world.now.state (query.now.plan).query }
+    requires was { query.now.these.items ≡ matching (view_before world.now.state changes.now) (query.now.plan).query }
+    ensures { IfOk result (λ rows. rows.items ≡ matching (view_of world.now.state) (query.now.plan).query) }
+{
+    let these = query.these.as_slice();
+    match rows_by_own_facts(alloc, world, changes, query.plan.query(), these)? {
+        Some(rows) => Ok(rows),
+        None => whole_rows(alloc, world, &query.plan, compared),
+    }
 }
 
 /// Puts what an event observer is told behind other events.

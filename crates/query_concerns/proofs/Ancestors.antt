@@ -71,7 +71,7 @@ module _ (next : ℕ → List ℕ) where
       there n u y (inl e) = (0, omega arith, e)
       there n u y (inr h) = Contains-append_right (u ∷ []) (line_within next n u) y h
 
-  chain_line : (live : List ℕ) → ((x y : ℕ) → Contains (next x) y → Contains live y) → (s t : ℕ) → HasChain next s t → Contains (line_within next (length live) s) t
+  pub chain_line : (live : List ℕ) → ((x y : ℕ) → Contains (next x) y → Contains live y) → (s t : ℕ) → HasChain next s t → Contains (line_within next (length live) s) t
   unfolding line_within
   chain_line [] steps s t c = absurd (omega (arith, (steps s c.0 c.1).1))
   chain_line (l ∷ ls) steps s t c =

@@ -78,7 +78,7 @@ fits_may a e (Var v) h = refl
 fits_may a e Any h = refl
 fits_may a e One h = refl
 
-matches_may : (a : Assignment) (first : Ref) (target : Option Ref) (i : Id) → matches a first target i ≡ true → may_match first target i ≡ true
+pub matches_may : (a : Assignment) (first : Ref) (target : Option Ref) (i : Id) → matches a first target i ≡ true → may_match first target i ≡ true
 matches_may a first None (plain c) h = fits_may a c first h
 matches_may a first None (pair r t) h = h
 matches_may a first (Some target) (plain c) h = h
@@ -93,10 +93,10 @@ meant_may a Any r h = refl
 meant_may a One r h = refl
 
 module _ (i : Id) (t : Term) where
-  by_match : may_match t.first t.target i ≡ true → term_concerns i t ≡ true
+  pub by_match : may_match t.first t.target i ≡ true → term_concerns i t ≡ true
   by_match h = or_left (may_match t.first t.target i || leads_up t.up i) (t.closed && is_pair_of t.first i) (or_left (may_match t.first t.target i) (leads_up t.up i) h)
 
-  by_rise : leads_up t.up i ≡ true → term_concerns i t ≡ true
+  pub by_rise : leads_up t.up i ≡ true → term_concerns i t ≡ true
   by_rise h = or_left (may_match t.first t.target i || leads_up t.up i) (t.closed && is_pair_of t.first i) (or_right (may_match t.first t.target i) (leads_up t.up i) h)
 
   by_closure : (t.closed && is_pair_of t.first i) ≡ true → term_concerns i t ≡ true
@@ -173,7 +173,7 @@ module _ (wide : Id → Bool) (w v : View) (agree : Agree wide w v) where
         by None = refl
         by (Some s) = at_same s
 
-    shown_same : some (shown_fields w a t) ≡ some (shown_fields v a t)
+    pub shown_same : some (shown_fields w a t) ≡ some (shown_fields v a t)
     shown_same =
         some-map (λ f. shown w t f ∷ []) (fields_of_term w a t)
         ∙ fields_same

@@ -8,3 +8,7 @@ pub mod Ranges
 pub mod Ancestors
 pub mod Living
 pub mod WhoeverLives
+pub mod This
+pub mod Lacking
+pub mod Meeting
+pub mod OwnFacts

@@ -33,7 +33,7 @@ first_there : {X : Type 0} (xs : List X) → some xs ≡ true → (x : X) × Con
 first_there [] h = absurd (false≢true h)
 first_there (x ∷ xs) h = (x, (0, omega arith, refl))
 
-some-taken : {X : Type 0} (b : Bool) (xs : List X) → some (if b then take 1 xs else xs) ≡ some xs
+pub some-taken : {X : Type 0} (b : Bool) (xs : List X) → some (if b then take 1 xs else xs) ≡ some xs
 some-taken true [] = refl
 some-taken true (x ∷ xs) = refl
 some-taken false xs = refl

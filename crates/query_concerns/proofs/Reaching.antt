@@ -20,7 +20,7 @@ module _ (wide : Id → Bool) where
   abbrev pub HoldAlike : View → View → Type 0
   HoldAlike w v = (e : ℕ) → filter wide (w.ids e) ≡ filter wide (v.ids e)
 
-  no_target : (r : ℕ) → HasPairs r → (i : Id) → wide i ≡ false → target_under r i ≡ None
+  pub no_target : (r : ℕ) → HasPairs r → (i : Id) → wide i ≡ false → target_under r i ≡ None
   no_target r h (plain c) out = refl
   no_target r h (pair q t) out = elim (cases_Bool (q == r)) [
     | inl same ↦ absurd (false≢true (sym out ∙ ap (λ p. wide (pair p t)) (eqb-true q r same) ∙ h t))

@@ -29,17 +29,17 @@ use Rattle.query_concerns.proofs.Living.{anchored_lives, has-some}
 use Rattle.query_concerns.proofs.Matching.{is_first_of, passed_same, this_of_rows}
 use Rattle.query_concerns.proofs.Reaching.{Agree, HoldAlike}
 
-to_place : {X : Type 0} (xs : List X) (x : X) → Contains xs x → In x xs
+pub to_place : {X : Type 0} (xs : List X) (x : X) → Contains xs x → In x xs
 to_place xs x h = In-from_place xs h.0 x h.1 h.2
 
-all_at : (p : ℕ → Bool) (vs : List ℕ) (u : ℕ) → list_all p vs ≡ true → contains vs u ≡ true → p u ≡ true
+pub all_at : (p : ℕ → Bool) (vs : List ℕ) (u : ℕ) → list_all p vs ≡ true → contains vs u ≡ true → p u ≡ true
 all_at p [] u h c = absurd (false≢true c)
 all_at p (x ∷ vs) u h c =
     let each = and_parts _ _ h in
     elim (or_cases _ _ c) [ inl here ↦ ap p (sym (eqb-true x u here)) ∙ each.0 | inr later ↦ all_at p vs u each.1 later ]
 
 -- what an assignment gives to anchored variables lives, wherever the level holds
-lives_too : {n : ℕ} (w v : View) → AreLinks n v.entities v.ids → (vs : List ℕ) (l : Level) → list_all (λ u. anchors u l) vs ≡ true
+pub lives_too : {n : ℕ} (w v : View) → AreLinks n v.entities v.ids → (vs : List ℕ) (l : Level) → list_all (λ u. anchors u l) vs ≡ true
     → (a b : Assignment) → Extends vs w.entities a b → Holds v l b → Extends vs v.entities a b
 lives_too w v links vs l anchored a b ext holds = record {
   in_order = ext.in_order;
@@ -74,12 +74,12 @@ any_under w q e (a ∷ given) =
     let rest = any_under w q e given in
     list_any-append (is_this e) (rows_under w q a) (flat_map (rows_under w q) given) ∙ (λ k. first k || rest k)
 
-any_row : (w : View) (q : Query) (e : ℕ) → list_any (is_this e) (rows w q) ≡ list_any (λ a. is_first_of e a && some (solutions w (top q) a)) (candidates w q)
+pub any_row : (w : View) (q : Query) (e : ℕ) → list_any (is_this e) (rows w q) ≡ list_any (λ a. is_first_of e a && some (solutions w (top q) a)) (candidates w q)
 unfolding rows
 any_row w q e = any_under w q e (candidates w q)
 
 -- whoever an assignment has first, it has at some variable
-first_bound : (e : ℕ) (a : Assignment) → is_first_of e a ≡ true → (u : ℕ) × (at a u ≡ Some e)
+pub first_bound : (e : ℕ) (a : Assignment) → is_first_of e a ≡ true → (u : ℕ) × (at a u ≡ Some e)
 first_bound e [] h = absurd (false≢true h)
 first_bound e ((u, x) ∷ a) h =
     elim (or_cases _ _ h) [
@@ -87,7 +87,7 @@ first_bound e ((u, x) ∷ a) h =
       | inr none ↦ absurd (false≢true none)
     ]
 
-first_lives : (es : List ℕ) (vs : List ℕ) (e : ℕ) (a : Assignment) → Extends vs es [] a → is_first_of e a ≡ true → In e es
+pub first_lives : (es : List ℕ) (vs : List ℕ) (e : ℕ) (a : Assignment) → Extends vs es [] a → is_first_of e a ≡ true → In e es
 first_lives es vs e a ext first =
     let u = first_bound e a first in
     elim (cases_Bool (contains vs u.0)) [

@@ -2,11 +2,14 @@
 use Rattle.std.specs.Prelude.{◌≡◌, ◌↔◌, ℕ, true, filter}
 use Rattle.std.specs.List.{Contains}
 use Rattle.query_model.specs.Query.{Query}
-use Rattle.ecs_model.specs.Links.{AreLinks}
+use Rattle.ecs_model.specs.Links.{AreLinks, line}
 use Rattle.ecs_model.specs.rows.View.{View}
 use Rattle.ecs_model.specs.stored.Watches.{matching}
 use Rattle.query_concerns.specs.Anchored.{is_anchored}
 use Rattle.query_concerns.specs.Concerns.{concerns}
+use Rattle.query_concerns.specs.Others.{concerns_below, concerns_others}
+use Rattle.query_concerns.specs.OwnIds.{lacks, meets}
+use Rattle.query_meaning.specs.Sound.{IsSound}
 
 -- the same entities live in two views, and each holds the same ids of those that concern a query
 pub record AreAlikeFor (q : Query) (w v : View) : Type 0 where
@@ -22,3 +25,20 @@ abbrev pub MatchWhoeverElseLives : Type 0
 MatchWhoeverElseLives = (m n : ℕ) (w v : View) (q : Query) → AreLinks m w.entities w.ids → AreLinks n v.entities v.ids → is_anchored q ≡ true
     → ((e : ℕ) → filter (concerns q) (w.ids e) ≡ filter (concerns q) (v.ids e))
     → (e : ℕ) → Contains (matching w q) e ↔ Contains (matching v q) e
+
+-- nor what others hold of ids that concern it for their holders alone. An entity is `$this` of a row in both views or in neither, if it holds the same of all ids that concern the query,
+-- and its ancestors hold the same of those that concern it for whoever is below them
+abbrev pub MatchByOwnFacts : Type 0
+MatchByOwnFacts = (m n : ℕ) (w v : View) (q : Query) → AreLinks m w.entities w.ids → AreLinks n v.entities v.ids → IsSound q → is_anchored q ≡ true
+    → ((x : ℕ) → filter (concerns_others q) (w.ids x) ≡ filter (concerns_others q) (v.ids x))
+    → (e : ℕ) → filter (concerns q) (w.ids e) ≡ filter (concerns q) (v.ids e)
+    → ((r x : ℕ) → Contains (line v.ids v.entities r e) x → filter (concerns_below q) (w.ids x) ≡ filter (concerns_below q) (v.ids x))
+    → Contains (matching w q) e ↔ Contains (matching v q) e
+
+-- who lacks what a query asks of `$this` itself is `$this` of no row
+abbrev pub LackingMatchNothing : Type 0
+LackingMatchNothing = (w : View) (q : Query) (e : ℕ) → lacks q (w.ids e) ≡ true → Contains (matching w q) e → ⊥
+
+-- and who meets all that it asks by its own ids is `$this` of a row
+abbrev pub MeetingMatch : Type 0
+MeetingMatch = (w : View) (q : Query) → IsSound q → (e : ℕ) → Contains w.entities e → meets q (w.ids e) ≡ true → Contains (matching w q) e

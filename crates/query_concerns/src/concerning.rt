@@ -76,7 +76,7 @@ fn any_concerns(terms: &[Term], id: Id) -> bool
 }
 
 /// Whether a term asks for an id, goes up along it, or follows it.
-fn term_concerns(term: &Term, id: Id) -> bool
+pub(crate) fn term_concerns(term: &Term, id: Id) -> bool
     ensures { result ≡ term_concerns id term.now }
 {
     may_match(term.first, term.target, id)
@@ -85,7 +85,7 @@ fn term_concerns(term: &Term, id: Id) -> bool
 }
 
 /// Whether a pattern may match an id: a pair where it has a target, and a plain id where it has none.
-fn may_match(first: Ref, target: Option<Ref>, id: Id) -> bool
+pub(crate) fn may_match(first: Ref, target: Option<Ref>, id: Id) -> bool
     ensures { result ≡ may_match first target id }
 {
     match (target, id.second()) {

@@ -4,6 +4,10 @@
 mod anchoring;
 mod concerning;
 pub mod laws;
+mod others;
+mod own_ids;
 
 pub use anchoring::is_anchored;
 pub use concerning::concerns;
+pub use others::{concerns_below, concerns_others};
+pub use own_ids::{lacks, meets};

@@ -7,3 +7,5 @@ pub mod IdsBefore
 pub mod AllTouched
 pub mod After
 pub mod Unconcerned
+pub mod OwnFacts
+pub mod Targets

@@ -97,7 +97,7 @@ module _ (w v : WorldState) (c : Command) (changed : Changed) (kept : IsWellForm
 
 -- ---- of an anchored query it doesn't matter who was born and who died
 
-matching_rises : (w : WorldState) → IsWellFormed w → (q : Query) → IsStrictlySortedBy nat_cmp (matching (view_of w) q)
+pub matching_rises : (w : WorldState) → IsWellFormed w → (q : Query) → IsStrictlySortedBy nat_cmp (matching (view_of w) q)
 unfolding matching
 matching_rises w kept q = IsStrictlySortedBy-filter nat_cmp (λ e. list_any (is_this e) (rows (view_of w) q)) (entities w) (keys_rise nat_cmp w.live (kept.in_order).live)
 

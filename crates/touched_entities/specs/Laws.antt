@@ -1,5 +1,6 @@
 -- The laws of what queries saw before a command, as statements.
-use Rattle.std.specs.Prelude.{◌≡◌, ℕ, false, Ok}
+use Rattle.std.specs.Prelude.{◌≡◌, ◌↔◌, ℕ, true, false, Ok}
+use Rattle.std.specs.List.{Contains}
 use Rattle.query_model.specs.Query.{Query}
 use Rattle.ecs_model.specs.Command.{Changed}
 use Rattle.ecs_model.specs.World.{WorldState}
@@ -9,6 +10,8 @@ use Rattle.ecs_model.specs.traits.Command.{Command, step}
 use Rattle.ecs_model.specs.traits.Keeps.{IsWellFormed}
 use Rattle.touched_entities.specs.Before.{view_before}
 use Rattle.touched_entities.specs.Concerned.{is_concerned}
+use Rattle.touched_entities.specs.Own.{is_moved, is_own}
+use Rattle.query_meaning.specs.Sound.{IsSound}
 use Rattle.watch_meaning.specs.Since.{IsAfter}
 
 -- by the world after a command and what has changed, the same entities lived before with the same ids as in the world before
@@ -25,3 +28,8 @@ QueriesMatchedBefore = (w v : WorldState) (c : Command) (changed : Changed) (q :
 abbrev pub UnconcernedQueriesMatchOn : Type 0
 UnconcernedQueriesMatchOn = (v : WorldState) (changed : Changed) (q : Query) → IsWellFormed v → IsAfter v changed → is_concerned q changed ≡ false
     → matching (view_before v changed) q ≡ matching (view_of v) q
+
+-- where what came and went concerns a query for nobody but the entities whose facts these are, only the entities whose facts these are can leave its rows or enter them
+abbrev pub OwnFactsMoveTheirEntities : Type 0
+OwnFactsMoveTheirEntities = (v : WorldState) (changed : Changed) (q : Query) → IsWellFormed v → IsAfter v changed → IsSound q → is_own q v changed ≡ true
+    → (e : ℕ) → is_moved q changed e ≡ false → Contains (matching (view_before v changed) q) e ↔ Contains (matching (view_of v) q) e

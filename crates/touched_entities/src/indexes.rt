@@ -51,7 +51,7 @@ fn push_entities<A: Allocator>(
 }
 
 /// Puts indexes in order, each once.
-fn put_in_order<A: Allocator>(indexes: &mut Vec<u32, A>)
+pub(crate) fn put_in_order<A: Allocator>(indexes: &mut Vec<u32, A>)
     ensures ascend { IsStrictlyIncreasing indexes.new.items }
     ensures same { (i : ℕ) → Contains indexes.new.items i ↔ Contains indexes.old.items i }
 {

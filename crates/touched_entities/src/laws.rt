@@ -1,6 +1,6 @@
 //! What is proved of the definitions alone: each function's contract is a law, and its body does nothing.
 
-ghost use Rattle.touched_entities.specs.Laws.{QueriesMatchedBefore, ShowsWorldBefore, UnconcernedQueriesMatchOn};
+ghost use Rattle.touched_entities.specs.Laws.{OwnFactsMoveTheirEntities, QueriesMatchedBefore, ShowsWorldBefore, UnconcernedQueriesMatchOn};
 
 /// Law: by the world after a command and what has changed, the same entities lived before, with the same ids, as in the world before.
 pub fn view_before_shows_the_world_before()
@@ -15,4 +15,9 @@ pub fn queries_matched_before()
 /// Law: a query that a command doesn't concern has rows of the same entities after it.
 pub fn unconcerned_queries_match_on()
     ensures { UnconcernedQueriesMatchOn }
+{}
+
+/// Law: one that a command concerns for nobody but the entities whose facts came and went has rows of the same entities, but for these.
+pub fn own_facts_move_their_entities()
+    ensures { OwnFactsMoveTheirEntities }
 {}

@@ -5,7 +5,9 @@ mod concerned;
 mod facts;
 mod indexes;
 pub mod laws;
+mod own;
 mod touching;
 
 pub use concerned::is_concerned;
+pub use own::rows_by_own_facts;
 pub use touching::touched;

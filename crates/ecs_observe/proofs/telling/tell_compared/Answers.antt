@@ -2,7 +2,7 @@ use Rattle.std.specs.String.{string_bytes}
 use Rattle.std.proofs.Common.{◌++◌, append-nil, ap, sym, ◌∙◌}
 use Rattle.touched_entities.specs.Concerned.{is_concerned}
 use Rattle.ecs_observe.specs.Parts.{held_as}
-use Rattle.ecs_observe.proofs.Staying.{nothing_told}
+use Rattle.ecs_observe.proofs.Staying.{nothing_told, rows_were}
 use Rattle.ecs_observe.proofs.telling.tell_compared.Goals as goal
 
 pub returns-then-not-is_concerned-clause-told : goal.returns-then-not-is_concerned-clause-told
@@ -12,3 +12,7 @@ returns-then-not-is_concerned-clause-told g c =
     let spared = ap (λ q. is_concerned q changed) (sym c.query.ensures) ∙ (sym c.is_concerned.ensures ∙ c.if-not-is_concerned.true) in
     sym (ap (λ es. c.args.events.now.items ++ es) (nothing_told c.args.world.now.state changed h c.keeps.ensures c.requires.after c.requires.was c.requires.compared spared)
     ∙ append-nil c.args.events.now.items)
+
+pub rows_after-requires-clause-was : goal.rows_after-requires-clause-was
+rows_after-requires-clause-was g c =
+    rows_were c.args.world.now.state c.args.changes.now (held_as (string_bytes c.args.name.now) c.args.query.now) c.requires.was c.requires.compared

@@ -1,0 +1,74 @@
+-- Who lacks what a query asks of `$this` itself is `$this` of no row.
+use Rattle.std.proofs.Common.{◌≡◌, ℕ, Bool, true, false, cond, inl, inr, List, [], ◌∷◌, refl, sym, ap, ◌∙◌, subst}
+use Rattle.std.specs.Prelude.{◌||◌, filter, map, Some}
+use Rattle.std.specs.List.{list_any}
+use Rattle.std.proofs.lemmas.Bool.{and_parts, false≢true, not-true, or_cases, true≢false}
+use Rattle.ecs_model.specs.rows.Level.{Level, also, first_level, joined, open_levels, other_levels, top}
+use Rattle.ecs_model.specs.rows.Rows.{Assignment, fields_of_item, fields_of_term, hits, keeps_one, matches, shown}
+use Rattle.ecs_model.specs.rows.View.{View}
+use Rattle.ecs_model.proofs.Members.{any_passes, passing}
+use Rattle.query_model.specs.declared.query.Term.{Term}
+use Rattle.query_model.specs.Local.{asks_first}
+use Rattle.query_model.specs.Query.{Item, Piece, must, may, either, equal, differ, item, opening, closing}
+use Rattle.query_meaning.proofs.Assignments.{at}
+use Rattle.query_meaning.proofs.Holding.{Holds}
+use Rattle.query_concerns.specs.Concerns.{may_match}
+use Rattle.query_concerns.specs.Laws.{LackingMatchNothing}
+use Rattle.query_concerns.specs.OwnIds.{item_lacks, lacks, lacks_from}
+use Rattle.query_concerns.proofs.Holding.{any-map, at_each, matches_may, some, some-first, some-map}
+use Rattle.query_concerns.proofs.Living.{has-some, some-taken}
+use Rattle.query_concerns.proofs.This.{asked_itself, this_of}
+
+some-filter : {X : Type 0} (p : X → Bool) (xs : List X) → some (filter p xs) ≡ list_any p xs
+some-filter p [] = refl
+some-filter p (x ∷ xs) = elim (p x) as (λ b. some (cond b (x ∷ filter p xs) (filter p xs)) ≡ (b || list_any p xs)) [ true ↦ refl | false ↦ some-filter p xs ]
+
+alone : (b : Bool) → (b || false) ≡ b
+alone true = refl
+alone false = refl
+
+pub behind_item : (x : Item) (ls : List Level) → joined (also x (first_level ls) ∷ other_levels ls) ≡ also x (joined ls)
+behind_item x [] = refl
+behind_item x (l ∷ ls) = refl
+
+module _ (w : View) (a : Assignment) (e : ℕ) (this : at a 0 ≡ Some e) where
+  pub hits_itself : (t : Term) → asks_first t ≡ true → some (fields_of_term w a t) ≡ list_any (matches a t.first t.target) (w.ids e)
+  unfolding hits
+  hits_itself t asks =
+      ap some (asked_itself w a e t this asks)
+      ∙ some-first (map (λ m. at_each m (hits w a t m)) (e ∷ []))
+      ∙ any-map (λ m. at_each m (hits w a t m)) (e ∷ [])
+      ∙ alone (some (at_each e (hits w a t e)))
+      ∙ some-map (λ i. (e, i)) (hits w a t e)
+      ∙ some-taken (keeps_one t) (filter (matches a t.first t.target) (w.ids e))
+      ∙ some-filter (matches a t.first t.target) (w.ids e)
+
+  pub item_fails : (x : Item) → item_lacks (w.ids e) x ≡ true → some (fields_of_item w a x) ≡ true → ⊥
+  unfolding fields_of_item
+  item_fails (must t) lack holds =
+      let both = and_parts _ _ lack in
+      let hit = sym (hits_itself t both.0) ∙ sym (some-map (λ f. shown w t f ∷ []) (fields_of_term w a t)) ∙ holds in
+      let found = passing (matches a t.first t.target) (w.ids e) hit in
+      true≢false (sym (any_passes (may_match t.first t.target) (w.ids e) found.0 found.1 (matches_may a t.first t.target found.0 found.2)) ∙ not-true _ both.1)
+  item_fails (may t) lack holds = false≢true lack
+  item_fails (either ts) lack holds = false≢true lack
+  item_fails (equal u r) lack holds = false≢true lack
+  item_fails (differ u r) lack holds = false≢true lack
+
+  level_fails : (ps : List Piece) → lacks_from (w.ids e) ps ≡ true → Holds w (joined (open_levels ps)) a → ⊥
+  level_fails [] lack holds = false≢true lack
+  level_fails (item x ∷ ps) lack holds =
+      let both = subst (λ l. Holds w l a) (behind_item x (open_levels ps)) holds in
+      elim (or_cases _ _ lack) [
+        | inl here ↦ item_fails x here (sym (has-some (fields_of_item w a x)) ∙ both.0)
+        | inr later ↦ level_fails ps later both.1
+      ]
+  level_fails (opening from_term own ∷ ps) lack holds = false≢true lack
+  level_fails (closing ∷ ps) lack holds = false≢true lack
+
+pub lacking_match_nothing : LackingMatchNothing
+unfolding lacks top
+lacking_match_nothing w q e lack h =
+    let found = this_of w q e h in
+    let is = found.1 in
+    level_fails w found.0 e is.this q.pieces lack is.holds
