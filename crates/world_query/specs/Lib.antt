@@ -1,4 +1,5 @@
 pub mod Reading
 pub mod Answerable
 pub mod Lines
+pub mod Planned
 pub mod Probes
