@@ -14,6 +14,20 @@ LOCAL = [
     "!Position, !{ Hot, !Planet }, *",
 ]
 
+# of ancestors, and of others whom `$this` holds as a target
+OTHERS = [
+    "Hot(up), Position",
+    "Planet(self|up), !Hot",
+    "(Likes,$x), Planet($x), Hot",
+    "Hot, !{ (Likes,$x), Planet($x) }",
+    "(Likes,$x), !Hot($x), Position",
+    "(Likes,$x), (Likes,$y), $x != $y, Hot($y)",
+    "(ChildOf,$x), Planet($x), !{ (Likes,$y), Hot($y), !Planet($y) }",
+    "(Likes,$x), ?Planet($x), Hot(up)",
+    "(Likes,$x), Likes($x,$this)",
+    "(Likes,$x), Hot($x) || Planet($x)",
+]
+
 
 def making(names):
     return ["component Position x:i32 y:i32"] + [f"entity {name}" for name in names]
@@ -70,13 +84,12 @@ def command(draw, count):
     return [f"delete {entity}", f"entity {entity}"]
 
 
-def twins(commands):
-    """Commands of every kind, with each local monitor beside a twin whose query isn't local: an ancestor that it may have makes no difference
-    to who matches, but all its rows are taken and compared."""
+def twins(texts, more, commands):
+    """Commands of every kind, with a monitor of each text beside a twin whose query has more terms, which make no difference to who matches."""
     draw = random.Random(11)
     lines = making(["Planet", "Hot", "Likes", "Sun"]) + [f"entity E{number}" for number in range(24)]
-    for number, text in enumerate(LOCAL):
-        lines += [f"monitor m{number} {text}", f"monitor n{number} {text}, ?Hot(up)"]
+    for number, text in enumerate(texts):
+        lines += [f"monitor m{number} {text}", f"monitor n{number} {text}, {more}"]
     for _ in range(commands):
         lines += command(draw, 24)
     return bytes_of(lines)

@@ -205,11 +205,21 @@ def local_monitors_cost_what_changed(program, room):
     return time.monotonic() - begun < 1 and answers(ran, 0) and ran.stdout.count(b"\n") > 10_000
 
 
+def are_told_as_twins(program, texts, more):
+    """2,000 commands: whether each monitor is told what its twin is told, whose whole rows are taken."""
+    output = run_words(program, [], monitors.twins(texts, more, 2_000)).stdout
+    told = [[monitors.told_to(output, f"{side}{number}") for side in "mn"] for number in range(len(texts))]
+    return all(one == other and len(one) >= 10 for one, other in told)
+
+
 def local_monitors_are_told_as_whole_rows_tell(program, room):
-    """2,000 commands: each monitor of a local query is told what its twin is told, whose whole rows are compared."""
-    output = run_words(program, [], monitors.twins(2_000)).stdout
-    told = [[monitors.told_to(output, f"{side}{number}") for side in "mn"] for number in range(len(monitors.LOCAL))]
-    return all(one == other and len(one) > 20 for one, other in told)
+    """A twin asks an ancestor that it may have, so its query isn't local."""
+    return are_told_as_twins(program, monitors.LOCAL, "?Hot(up)")
+
+
+def other_monitors_are_told_as_whole_rows_tell(program, room):
+    """A twin asks Sun for any id that it may have, so each fact concerns it for somebody who isn't told by its own."""
+    return are_told_as_twins(program, monitors.OTHERS, "?*(Sun)")
 
 
 def unconcerned_monitors_cost_nothing(program, room):
@@ -244,6 +254,7 @@ CASES = [
     walk_through_tables_gives_memory_back,
     local_monitors_cost_what_changed,
     local_monitors_are_told_as_whole_rows_tell,
+    other_monitors_are_told_as_whole_rows_tell,
     unconcerned_monitors_cost_nothing,
 ]
 
