@@ -1,16 +1,16 @@
 -- What telling events leaves of a session.
-use Rattle.std.specs.Prelude.{◌≡◌, ℕ, ◌+◌, ◌≤◌, Bool, true, false, not, ◌&&◌, List, [], ◌∷◌, ◌++◌, All, AllPairs, map, flat_map, length, slice_get, take, Option, None, Some, option_map, unwrap_or, IfSome, if◌then◌else◌}
+use Rattle.std.specs.Prelude.{◌≡◌, ℕ, ◌+◌, Bool, true, false, not, ◌&&◌, List, [], ◌∷◌, ◌++◌, All, AllPairs, map, flat_map, length, slice_get, take, Option, None, Some, option_map, IfSome, if◌then◌else◌}
 use Rattle.std.specs.declared.string.String.{String}
 use Rattle.std.specs.declared.vec.Vec.{Vec}
 use Rattle.std.specs.Option.{option_map_or}
 use Rattle.std.specs.List.{list_any}
 use Rattle.std.specs.List.Sorted.{IsStrictlyIncreasing}
 use Rattle.std.specs.String.{string_bytes}
-use Rattle.std.proofs.Common.{refl, ap, get_or, inl, inr, sym, subst, ◌∙◌, ◌≢◌, suc, zero, arith, add-one, append_assoc, append-nil}
+use Rattle.std.proofs.Common.{refl, ap, get_or, sym, subst, ◌∙◌, ◌≢◌, suc, zero, arith, add-one, append_assoc, append-nil}
 use Rattle.std.proofs.lemmas.List.{map-append, length-map}
 use Rattle.std.proofs.lemmas.List.Elements.{All-map}
 use Rattle.std.proofs.lemmas.List.Kept.{AllPairs-cons}
-use Rattle.std.proofs.lemmas.Option.{get_or_from_slice_get, slice_get-map, slice_get_cases, slice_get_within}
+use Rattle.std.proofs.lemmas.Option.{get_or_from_slice_get, slice_get-map, slice_get_within}
 use Rattle.indexmap.specs.IndexMap.{set_value_at}
 use Rattle.query_model.specs.Local.{is_local}
 use Rattle.query_model.specs.Query.{Query}
@@ -24,8 +24,8 @@ use Rattle.ecs_model.specs.stored.Watches.{Event, matching}
 use Rattle.ecs_model.specs.traits.Keeps.{IsWellFormed}
 use Rattle.watch_meaning.specs.Mentions.{times}
 use Rattle.watch_meaning.specs.Since.{IsAfter}
-use Rattle.ecs_observe.specs.Parts.{held_as, held_of, put_in, rows_in}
-use Rattle.ecs_observe.specs.Standing.{Held, IsHeld, IsNow, IsSession, Standing, WasNow, has_searched, is_compared, is_monitor, is_searched, rows_of, rows_put, session_of, stored_of, told_to, with_rows, with_these}
+use Rattle.ecs_observe.specs.Parts.{held_as, held_of, placed_in}
+use Rattle.ecs_observe.specs.Standing.{ArePlaced, Held, IsHeld, IsNow, IsSession, Standing, WasNow, has_searched, is_compared, is_monitor, is_searched, rows_of, rows_put, session_of, stored_of, told_to, with_placed, with_rows, with_these, with_these_at}
 use Rattle.ecs_observe.specs.declared.stored.StoredQuery.{StoredQuery}
 use Rattle.ecs_observe.proofs.Answering.{matching_ascends}
 use Rattle.ecs_observe.proofs.Staying.{told_now, with_rows_told}
@@ -72,67 +72,81 @@ module _ {A : Type 0} where
       let one = held_as (string_bytes name) q in
       subst P (get_or_from_slice_get (map held_of es) i one one there) (all i one (slice_get_within (map held_of es) i one there))
 
-  -- the entities of one more query's rows
-  pub rows_pushed : (rows : List (Option (Vec ℕ A))) (now : Option (Vec ℕ A)) (these : Option (List ℕ)) (all : List (Option (Vec ℕ A))) → all ≡ rows ++ now ∷ [] → put_in now ≡ these → rows_in all ≡ rows_in rows ++ these ∷ []
-  rows_pushed rows now these all e same = ap rows_in e ∙ (map-append (λ (r : Option (Vec ℕ A)). put_in r) rows (now ∷ []) ∙ ap (λ t. rows_in rows ++ t ∷ []) same)
-
 -- ---- the rows that were told are kept
-pub put_past : (ss : List (Option (List ℕ))) (s : Option (List ℕ)) (hs : List Held) → length hs ≤ length ss → with_rows ss hs ≡ with_rows (ss ++ s ∷ []) hs
-put_past [] s [] l = refl
-put_past [] s (h ∷ hs) l = absurd (omega arith)
-put_past (t ∷ ss) s [] l = refl
-put_past (t ∷ ss) s (h ∷ hs) l = ap (λ xs. with_these t h ∷ xs) (put_past ss s hs (omega arith))
+placed_more : (ps : List (ℕ × List ℕ)) (n : ℕ) (these : List ℕ) (hs : List Held) → with_placed (ps ++ (n, these) ∷ []) hs ≡ with_placed ps (with_these_at n these hs)
+placed_more [] n these hs = refl
+placed_more (p ∷ ps) n these hs = ap (with_these_at p.0 p.1) (placed_more ps n these hs)
+
+rows_more : (rs : List (Option (List ℕ))) (these : List ℕ) (hs : List Held) → with_rows (rs ++ Some these ∷ []) hs ≡ with_rows rs (with_these_at (length rs) these hs)
+rows_more [] these [] = refl
+rows_more [] these (h ∷ hs) = refl
+rows_more (r ∷ rs) these [] = refl
+rows_more (r ∷ rs) these (h ∷ hs) = ap (λ xs. with_these r h ∷ xs) (rows_more rs these hs)
+
+rows_none : (rs : List (Option (List ℕ))) (hs : List Held) → with_rows (rs ++ None ∷ []) hs ≡ with_rows rs hs
+rows_none [] [] = refl
+rows_none [] (h ∷ hs) = refl
+rows_none (r ∷ rs) [] = refl
+rows_none (r ∷ rs) (h ∷ hs) = ap (λ xs. with_these r h ∷ xs) (rows_none rs hs)
+
+-- one stored query more, at whose place something is put or not
+module _ (f : Held → Option (List ℕ)) where
+  taken_length : (hs : List Held) (i : ℕ) (h : Held) → slice_get hs i ≡ Some h → i ≡ length (map f (take i hs))
+  taken_length [] i h there = cc
+  taken_length (x ∷ hs) zero h there = refl
+  taken_length (x ∷ hs) (suc i) h there = ap suc (taken_length hs i h there)
+
+  module _ (hs : List Held) (i : ℕ) (h : Held) (there : slice_get hs i ≡ Some h) (placed more : List (ℕ × List ℕ)) (so : ArePlaced (map f (take i hs)) placed) where
+    rows_next : (o : Option (List ℕ)) → f h ≡ o → map f (take (i + 1) hs) ≡ map f (take i hs) ++ o ∷ []
+    rows_next o is =
+        let step : map f (take (i + 1) hs) ≡ map f (take i hs) ++ f h ∷ [] = rw add-one (map_more f hs i h there) in
+        step ∙ ap (λ r. map f (take i hs) ++ r ∷ []) is
+
+    pub one_placed : (these : List ℕ) → f h ≡ Some these → more ≡ placed ++ (i, these) ∷ [] → ArePlaced (map f (take (i + 1) hs)) more
+    one_placed these is e = λ gs.
+        ap (λ ps. with_placed ps gs) e
+        ∙ (placed_more placed i these gs
+        ∙ (so (with_these_at i these gs)
+        ∙ (ap (λ n. with_rows (map f (take i hs)) (with_these_at n these gs)) (taken_length hs i h there)
+        ∙ (sym (rows_more (map f (take i hs)) these gs) ∙ ap (λ rs. with_rows rs gs) (sym (rows_next (Some these) is))))))
+
+    pub none_placed : f h ≡ None → more ≡ placed → ArePlaced (map f (take (i + 1) hs)) more
+    none_placed is e = λ gs.
+        ap (λ ps. with_placed ps gs) e ∙ (so gs ∙ (sym (rows_none (map f (take i hs)) gs) ∙ ap (λ rs. with_rows rs gs) (sym (rows_next None is))))
 
 module _ {A : Type 0} where
-  module _ (s : Option (List ℕ)) (q w : StoredQuery A) (kind : w.kind ≡ q.kind) (query : (w.plan).query ≡ (q.plan).query) (these : (w.these).items ≡ unwrap_or s (q.these).items) where
-    put_one : (e : String A × StoredQuery A) → e.1 ≡ q → held_of (e.0, w) ≡ with_these s (held_of e)
-    put_one e same = by s these
-      where
-        kinds : w.kind ≡ (e.1).kind
-        kinds = kind ∙ ap (λ (x : StoredQuery A). x.kind) (sym same)
-
-        queries : (w.plan).query ≡ ((e.1).plan).query
-        queries = query ∙ ap (λ (x : StoredQuery A). (x.plan).query) (sym same)
-
-        by : (o : Option (List ℕ)) → (w.these).items ≡ unwrap_or o (q.these).items → held_of (e.0, w) ≡ with_these o (held_of e)
-        by None t =
-            let stay : (w.these).items ≡ ((e.1).these).items = t ∙ ap (λ (x : StoredQuery A). (x.these).items) (sym same) in
-            λ j. record { name = string_bytes e.0; kind = kinds j; query = queries j; these = stay j }
-        by (Some rows) t = λ j. record { name = string_bytes e.0; kind = kinds j; query = queries j; these = t j }
-
-    pub put_more : (ss : List (Option (List ℕ))) (es : List (String A × StoredQuery A)) → slice_get (map (λ e. e.1) es) (length ss) ≡ Some q
-        → with_rows ss (map held_of (set_value_at es (length ss) w)) ≡ with_rows (ss ++ s ∷ []) (map held_of es)
-    put_more ss [] h = cc
-    put_more [] (e ∷ es) h = let same : e.1 ≡ q = cc in ap (λ x. x ∷ map held_of es) (put_one e same)
-    put_more (t ∷ ss) (e ∷ es) h = ap (λ xs. with_these t (held_of e) ∷ xs) (put_more ss es h)
+  -- the entities of one more query's rows
+  pub placed_pushed : (rows all : List (ℕ × Vec ℕ A)) (n : ℕ) (these : Vec ℕ A) → all ≡ rows ++ (n, these) ∷ [] → placed_in all ≡ placed_in rows ++ (n, these.items) ∷ []
+  placed_pushed rows all n these e = ap placed_in e ∙ map-append (λ (p : ℕ × Vec ℕ A). (p.0, (p.1).items)) rows ((n, these) ∷ [])
 
   -- one of those that were told is put in its place
-  module _ (rows old : List (Option (Vec ℕ A))) (these : Option (Vec ℕ A)) (es : List (String A × StoredQuery A)) (n : ℕ) (goal : List Held)
-      (popped : old ≡ rows ++ these ∷ []) (last : n ≡ length rows) (so : with_rows (rows_in old) (map held_of es) ≡ goal) where
-    split_rows : rows_in old ≡ rows_in rows ++ put_in these ∷ []
-    split_rows = rows_pushed rows these (put_in these) old popped refl
+  module _ (rows old : List (ℕ × Vec ℕ A)) (n : ℕ) (these : Vec ℕ A) (es : List (String A × StoredQuery A)) (goal : List Held)
+      (popped : old ≡ rows ++ (n, these) ∷ []) (so : with_placed (placed_in old) (map held_of es) ≡ goal) where
+    then_goal : with_placed (placed_in rows) (with_these_at n these.items (map held_of es)) ≡ goal
+    then_goal = sym (placed_more (placed_in rows) n these.items (map held_of es)) ∙ (ap (λ ps. with_placed ps (map held_of es)) (sym (placed_pushed rows old n these popped)) ∙ so)
 
-    last_row : n ≡ length (rows_in rows)
-    last_row = last ∙ sym (length-map rows (λ (r : Option (Vec ℕ A)). put_in r))
+    module _ (q w : StoredQuery A) (kind : w.kind ≡ q.kind) (query : (w.plan).query ≡ (q.plan).query) (same : (w.these).items ≡ these.items) where
+      put_one : (e : String A × StoredQuery A) → e.1 ≡ q → held_of (e.0, w) ≡ record (held_of e) { these = these.items }
+      put_one e is =
+          let kinds : w.kind ≡ (e.1).kind = kind ∙ ap (λ (x : StoredQuery A). x.kind) (sym is) in
+          let queries : (w.plan).query ≡ ((e.1).plan).query = query ∙ ap (λ (x : StoredQuery A). (x.plan).query) (sym is) in
+          λ j. record { name = string_bytes e.0; kind = kinds j; query = queries j; these = same j }
 
-    then_goal : with_rows (rows_in rows ++ put_in these ∷ []) (map held_of es) ≡ goal
-    then_goal = ap (λ rs. with_rows rs (map held_of es)) (sym split_rows) ∙ so
+      put_at : (fs : List (String A × StoredQuery A)) (k : ℕ) → slice_get (map (λ e. e.1) fs) k ≡ Some q → map held_of (set_value_at fs k w) ≡ with_these_at k these.items (map held_of fs)
+      put_at [] k h = cc
+      put_at (e ∷ fs) zero h = let is : e.1 ≡ q = cc in ap (λ x. x ∷ map held_of fs) (put_one e is)
+      put_at (e ∷ fs) (suc k) h = ap (λ xs. held_of e ∷ xs) (put_at fs k h)
 
-    pub put_step : (q w : StoredQuery A) → w.kind ≡ q.kind → (w.plan).query ≡ (q.plan).query → (w.these).items ≡ unwrap_or (put_in these) (q.these).items
-        → slice_get (map (λ e. e.1) es) n ≡ Some q → with_rows (rows_in rows) (map held_of (set_value_at es n w)) ≡ goal
-    put_step q w kind query same at =
-        let there : slice_get (map (λ e. e.1) es) (length (rows_in rows)) ≡ Some q = subst (λ k. slice_get (map (λ e. e.1) es) k ≡ Some q) last_row at in
-        ap (λ k. with_rows (rows_in rows) (map held_of (set_value_at es k w))) last_row
-        ∙ (put_more (put_in these) q w kind query same (rows_in rows) es there ∙ then_goal)
+      pub put_step : slice_get (map (λ e. e.1) es) n ≡ Some q → with_placed (placed_in rows) (map held_of (set_value_at es n w)) ≡ goal
+      put_step at = ap (with_placed (placed_in rows)) (put_at es n at) ∙ then_goal
 
-    past : (r : Option (StoredQuery A)) → slice_get (map (λ e. e.1) es) n ≡ None → length (map held_of es) ≤ length (rows_in rows)
-    past r none = elim (slice_get_cases (map (λ e. e.1) es) n).1 [
-      | inl at ↦ absurd (none_is_not_some (sym none ∙ at.2))
-      | inr out ↦ omega (arith, out.0, last_row, length-map es (λ (e : String A × StoredQuery A). e.1), length-map es (held_of {A = A}))
-    ]
+    nowhere : (fs : List (String A × StoredQuery A)) (k : ℕ) → slice_get (map (λ e. e.1) fs) k ≡ None → with_these_at k these.items (map held_of fs) ≡ map held_of fs
+    nowhere [] k h = refl
+    nowhere (e ∷ fs) zero h = cc
+    nowhere (e ∷ fs) (suc k) h = ap (λ xs. held_of e ∷ xs) (nowhere fs k h)
 
-    pub skip_step : slice_get (map (λ e. e.1) es) n ≡ None → with_rows (rows_in rows) (map held_of es) ≡ goal
-    skip_step none = put_past (rows_in rows) (put_in these) (map held_of es) (past None none) ∙ then_goal
+    pub skip_step : slice_get (map (λ e. e.1) es) n ≡ None → with_placed (placed_in rows) (map held_of es) ≡ goal
+    skip_step none = ap (with_placed (placed_in rows)) (sym (nowhere es n none)) ∙ then_goal
 
 -- ---- the session
 same_stored : (w : WorldState) (hs : List Held) → map stored_of (map (told_now w) hs) ≡ map stored_of hs
@@ -220,16 +234,14 @@ none_after s e =
     λ j. record { world = (s.world).state; stored = map stored_of s.stored; waiting = waiting j }
 
 -- ---- the same of a session as a call takes it
-module _ {A : Type 0} (s now : Standing) (view_is : s ≡ now) where
-  -- what is held after the rows were put in their places
-  pub put_told : IsSession s → IsWellFormed (s.world).state → (changed : Changed) → s.waiting ≡ Some changed → (start all : List (Option (Vec ℕ A))) (left : List Held) → start ≡ []
-      → rows_in all ≡ rows_in start ++ map (rows_put (s.world).state changed) s.stored → left ≡ with_rows (rows_in all) s.stored → left ≡ map (told_now (s.world).state) s.stored
-  put_told session kept changed waiting start all left none gathered put =
-      let w = (s.world).state in
-      let rows : rows_in all ≡ map (rows_put w changed) s.stored = gathered ∙ ap (λ (r : List (Option (Vec ℕ A))). rows_in r ++ map (rows_put w changed) s.stored) none in
-      let after : IsAfter w changed = subst (λ o. IfSome o (IsAfter w)) waiting session.after in
-      let was : All (WasNow w changed) s.stored = subst (λ o. IfSome o (λ done. All (WasNow w done) s.stored)) waiting session.before in
-      put ∙ (ap (λ r. with_rows r s.stored) rows ∙ with_rows_told w changed kept after s.stored was)
+-- what is held after the rows were put in their places
+pub put_told : (s : Standing) → IsSession s → IsWellFormed (s.world).state → (changed : Changed) → s.waiting ≡ Some changed → (placed : List (ℕ × List ℕ)) (left : List Held)
+    → ArePlaced (map (rows_put (s.world).state changed) s.stored) placed → left ≡ with_placed placed s.stored → left ≡ map (told_now (s.world).state) s.stored
+put_told s session kept changed waiting placed left are put =
+    let w = (s.world).state in
+    let after : IsAfter w changed = subst (λ o. IfSome o (IsAfter w)) waiting session.after in
+    let was : All (WasNow w changed) s.stored = subst (λ o. IfSome o (λ done. All (WasNow w done) s.stored)) waiting session.before in
+    put ∙ (are s.stored ∙ with_rows_told w changed kept after s.stored was)
 
 module _ (s now : Standing) (view_is : s ≡ now) where
   module _ (left : List Held) (put : left ≡ map (told_now (s.world).state) s.stored) (n : ℕ) where

@@ -18,6 +18,6 @@ held_of p = held_as (string_bytes p.0) p.1
 abbrev pub put_in : {A : Type 0} → Option (Vec ℕ A) → Option (List ℕ)
 put_in rows = option_map (λ r. r.items) rows
 
--- the same of some queries
-abbrev pub rows_in : {A : Type 0} → List (Option (Vec ℕ A)) → List (Option (List ℕ))
-rows_in rows = map put_in rows
+-- the entities of the rows of some queries, each behind the place of its query
+abbrev pub placed_in : {A : Type 0} → List (ℕ × Vec ℕ A) → List (ℕ × List ℕ)
+placed_in rows = map (λ p. (p.0, (p.1).items)) rows

@@ -1,14 +1,14 @@
 //! Telling the events of a command.
 
-ghost use Rattle.std.specs.Prelude.{◌≡◌, ◌++◌, ◌&&◌, IfOk, OnErr, OnOk, All, map, flat_map, false, not, true};
+ghost use Rattle.std.specs.Prelude.{◌≡◌, [], ◌++◌, ◌&&◌, IfOk, OnErr, OnOk, All, map, flat_map, false, not, true};
 ghost use Rattle.std.specs.List.{list_any};
 ghost use Rattle.std.specs.String.{string_bytes};
 ghost use Rattle.ecs_model.specs.rows.View.{view_of};
 ghost use Rattle.ecs_model.specs.stored.Session.{after_events, events};
 ghost use Rattle.ecs_model.specs.stored.Watches.{matching};
 ghost use Rattle.ecs_observe.specs.Lists.{KeepLists};
-ghost use Rattle.ecs_observe.specs.Parts.{held_as, held_of, put_in, rows_in};
-ghost use Rattle.ecs_observe.specs.Standing.{IsHeld, WasNow, has_searched, is_compared, is_monitor, is_searched, is_told_locally, rows_put, session_of, told_to, with_rows};
+ghost use Rattle.ecs_observe.specs.Parts.{held_as, held_of, placed_in, put_in};
+ghost use Rattle.ecs_observe.specs.Standing.{ArePlaced, IsHeld, WasNow, has_searched, is_compared, is_monitor, is_searched, is_told_locally, rows_put, session_of, told_to, with_placed};
 ghost use Rattle.ecs_observe.specs.Telling.{AreTouchedBy};
 ghost use Rattle.query_meaning.specs.Standing.{IsCurrentIn};
 ghost use Rattle.query_model.specs.Local.{is_local};
@@ -80,15 +80,15 @@ fn touched_if_asked<'w, A: Allocator + Copy>(
     }
 }
 
-/// Puts what all stored queries are told behind other events, and the entities of their rows now behind others, unless they stay. Counts the
-/// whole rows taken.
+/// Puts what all stored queries are told behind other events. Gives the entities of their rows now, each with the place of its query, unless they
+/// stay. Counts the whole rows taken.
 fn tell_all<A: Allocator + Copy>(
     alloc: A,
     world: &World<A>,
     changes: &Changes<A>,
     touched: &[Touched<'_, A>],
     stored: &StoredQueries<A>,
-    rows: &mut Vec<Option<Vec<u32, A>>, A>,
+    rows: &mut Vec<(usize, Vec<u32, A>), A>,
     compared: &mut u64,
     events: &mut Vec<Event<A>, A>,
 ) -> Result<(), AllocError>
@@ -96,7 +96,8 @@ fn tell_all<A: Allocator + Copy>(
     requires held { All (IsHeld world.now.state) (map held_of stored.now.entries) }
     requires was { All (WasNow world.now.state changes.now) (map held_of stored.now.entries) }
     requires touched { list_any is_told_locally (map held_of stored.now.entries) ≡ true → AreTouchedBy world.now.state changes.now touched.now }
-    ensures rows { OnOk result (rows_in rows.new.items ≡ rows_in rows.old.items ++ map (rows_put world.now.state changes.now) (map held_of stored.now.entries)) }
+    requires none { rows.old.items ≡ [] }
+    ensures rows { OnOk result (ArePlaced (map (rows_put world.now.state changes.now) (map held_of stored.now.entries)) (placed_in rows.new.items)) }
     ensures told { OnOk result (events.new.items ≡ events.old.items ++ flat_map (told_to world.now.state changes.now) (map held_of stored.now.entries)) }
     ensures compared { list_any (is_searched changes.now) (map held_of stored.now.entries) ≡ false → compared.new ≡ compared.old }
 {
@@ -105,7 +106,9 @@ fn tell_all<A: Allocator + Copy>(
             let now = tell_one(
                 alloc, world, changes, touched, name, query, compared, events,
             )?;
-            rows.push(now)?;
+            if let Some(these) = now {
+                rows.push((i, these))?;
+            }
         }
     }
     Ok(())
@@ -197,7 +200,7 @@ fn rows_after<A: Allocator + Copy>(
     let these = query.these.as_slice();
     match rows_by_own_facts(alloc, world, changes, query.plan.query(), these)? {
         Some(rows) => Ok(rows),
-        None => whole_rows(alloc, world, &query.plan, compared),
+        None => whole_rows(alloc, world, query.plan.plan(), compared),
     }
 }
 
@@ -249,12 +252,12 @@ fn tell_locally<A: Allocator + Copy>(
 }
 
 /// Keeps the entities of the rows that stored queries were told, where they don't stay.
-fn put_rows<A: Allocator>(stored: &mut StoredQueries<A>, mut rows: Vec<Option<Vec<u32, A>>, A>)
-    ensures held { map held_of stored.new.entries ≡ with_rows (rows_in rows.items) (map held_of stored.old.entries) }
+fn put_rows<A: Allocator>(stored: &mut StoredQueries<A>, mut rows: Vec<(usize, Vec<u32, A>), A>)
+    ensures held { map held_of stored.new.entries ≡ with_placed (placed_in rows.items) (map held_of stored.old.entries) }
     ensures lists { KeepLists stored.old.entries stored.new.entries }
 {
-    while let Some(these) = rows.pop() {
-        if let Some(query) = stored.get_index_mut(rows.len()) {
+    while let Some((place, these)) = rows.pop() {
+        if let Some(query) = stored.get_index_mut(place) {
             query.keep(these);
         }
     }

@@ -1,7 +1,7 @@
 use Rattle.std.proofs.Common.{All, map, ap, subst, ◌∙◌}
 use Rattle.std.specs.List.{list_any}
 use Rattle.std.specs.Prelude.{IfSome}
-use Rattle.ecs_observe.specs.Parts.{held_of}
+use Rattle.ecs_observe.specs.Parts.{held_of, placed_in}
 use Rattle.ecs_observe.specs.Standing.{Standing, WasNow, is_compared}
 use Rattle.ecs_observe.proofs.Retold.{none_for, none_waits_after, none_waits_told, put_told, retold_after, retold_session, told_waits}
 use Rattle.ecs_observe.proofs.Staying.{none_searched}
@@ -20,7 +20,7 @@ tell_all-requires-clause-was g c =
 pub invariant_of-self : goal.invariant_of-self
 invariant_of-self g c = (
   retold_session _ c.args.self.now c.self.view_is _
-      (put_told _ c.args.self.now c.self.view_is c.self.invariant.0 c.keeps.ensures c.in-Some.changes c.in-Some.is c.new-rows.result.items c.tell_all.new.rows.items _ c.new-rows.ensures.items c.in_ok-tell_all.ensures.rows c.put_rows.ensures.held)
+      (put_told _ c.self.invariant.0 c.keeps.ensures c.in-Some.changes c.in-Some.is (placed_in c.tell_all.new.rows.items) _ c.in_ok-tell_all.ensures.rows c.put_rows.ensures.held)
       c.tell_all.new.compared c.self.invariant.0 c.keeps.ensures,
   c.put_rows.ensures.lists c.self.inside.world.tables c.self.invariant.1,
 )
@@ -32,7 +32,7 @@ returns-clause-told g c =
 pub returns-clause-after : goal.returns-clause-after
 returns-clause-after g c =
     retold_after _ c.args.self.now c.self.view_is _
-    (put_told _ c.args.self.now c.self.view_is c.self.invariant.0 c.keeps.ensures c.in-Some.changes c.in-Some.is c.new-rows.result.items c.tell_all.new.rows.items _ c.new-rows.ensures.items c.in_ok-tell_all.ensures.rows c.put_rows.ensures.held)
+    (put_told _ c.self.invariant.0 c.keeps.ensures c.in-Some.changes c.in-Some.is (placed_in c.tell_all.new.rows.items) _ c.in_ok-tell_all.ensures.rows c.put_rows.ensures.held)
     c.tell_all.new.compared
 
 pub returns-clause-compared : goal.returns-clause-compared
