@@ -1,5 +1,5 @@
 -- Where a text may be cut at blanks, and what is left without the bytes at its end.
-use Rattle.std.proofs.Common.{not, ◌≡◌, ℕ, zero, suc, ◌+◌, ◌-◌, ◌<◌, ◌≤◌, true, List, ◌++◌, length, get_or, take, drop, refl, ap, ◌∙◌, sym, subst, inl, inr, add-one, arith, length-drop}
+use Rattle.std.proofs.Common.{not, ◌≡◌, ℕ, zero, suc, ◌+◌, ◌-◌, ◌<◌, ◌≤◌, Bool, true, List, ◌++◌, length, get_or, take, drop, refl, ap, ◌∙◌, sym, subst, inl, inr, add-one, arith, length-drop}
 use Rattle.std.specs.Prelude.{reverse}
 use Rattle.std.specs.List.{prefix_len, position_or_len}
 use Rattle.std.specs.Str.{IsUtf8, IsCharBoundary}
@@ -9,33 +9,56 @@ use Rattle.std.proofs.lemmas.List.Sums.{prefix_len_passes, passes_at_first, pref
 use Rattle.std.proofs.lemmas.Bool.{cases_lt}
 use Rattle.std.proofs.lemmas.Bool.Decides.{nat_tests}
 use Rattle.std.proofs.lemmas.Str.{IsCharBoundary-start, IsCharBoundary-end, IsCharBoundary-before_ascii, IsCharBoundary-after_ascii}
+use Rattle.query_model.specs.Text.{is_digit}
 use Rattle.ecs_model.specs.Text.{is_blank}
+use Rattle.script_line.specs.Line.{ends_reference}
 
 -- blanks are ASCII
 blank_is_ascii : (b : ℕ) → is_blank b ≡ true → b < 128
 blank_is_ascii b h = grind (arith, nat_tests)
 
--- behind n blanks at its front
-cut_behind : (bs : List ℕ) (n : ℕ) → IsUtf8 bs → prefix_len is_blank bs ≡ n → IsCharBoundary bs n
-cut_behind bs zero u e = IsCharBoundary-start bs u
-cut_behind bs (suc n) u e =
-    let fits : prefix_len is_blank bs ≤ length bs = prefix_len-le-length is_blank bs in
-    let blank : is_blank (get_or bs n 0) ≡ true = prefix_len_passes is_blank bs n 0 (omega arith) in
-    rw (← add-one n) (IsCharBoundary-after_ascii bs n u (omega arith) (blank_is_ascii (get_or bs n 0) blank))
+-- digits and the bytes that end a reference are ASCII too
+digit_is_ascii : (b : ℕ) → is_digit b ≡ true → b < 128
+digit_is_ascii b h = grind (arith, nat_tests)
 
--- behind the blanks at its front
+end_is_ascii : (b : ℕ) → ends_reference b ≡ true → b < 128
+end_is_ascii b h = grind (arith, nat_tests)
+
+-- bytes that pass are ASCII
+abbrev AreAscii : (ℕ → Bool) → Type 0
+AreAscii p = (b : ℕ) → p b ≡ true → b < 128
+
+-- behind the n bytes at its front that pass
+cut_behind : (p : ℕ → Bool) → AreAscii p → (bs : List ℕ) (n : ℕ) → IsUtf8 bs → prefix_len p bs ≡ n → IsCharBoundary bs n
+cut_behind p ascii bs zero u e = IsCharBoundary-start bs u
+cut_behind p ascii bs (suc n) u e =
+    let fits : prefix_len p bs ≤ length bs = prefix_len-le-length p bs in
+    let passes : p (get_or bs n 0) ≡ true = prefix_len_passes p bs n 0 (omega arith) in
+    rw (← add-one n) (IsCharBoundary-after_ascii bs n u (omega arith) (ascii (get_or bs n 0) passes))
+
+-- behind the blanks and behind the digits at its front
 pub cut_behind_blanks : (bs : List ℕ) → IsUtf8 bs → IsCharBoundary bs (prefix_len is_blank bs)
-cut_behind_blanks bs u = cut_behind bs (prefix_len is_blank bs) u refl
+cut_behind_blanks bs u = cut_behind is_blank blank_is_ascii bs (prefix_len is_blank bs) u refl
 
--- before the first blank
-pub cut_at_blank : (bs : List ℕ) → IsCharBoundary bs (position_or_len is_blank bs)
-cut_at_blank bs =
+pub cut_behind_digits : (bs : List ℕ) → IsUtf8 bs → IsCharBoundary bs (prefix_len is_digit bs)
+cut_behind_digits bs u = cut_behind is_digit digit_is_ascii bs (prefix_len is_digit bs) u refl
+
+-- before the first byte that passes
+cut_at : (p : ℕ → Bool) → AreAscii p → (bs : List ℕ) → IsCharBoundary bs (position_or_len p bs)
+cut_at p ascii bs =
     let P : ℕ → Type 0 = IsCharBoundary bs in
-    let i : ℕ = position_or_len is_blank bs in
+    let i : ℕ = position_or_len p bs in
     elim (cases_lt i (length bs)) [
-      | inl before ↦ IsCharBoundary-before_ascii bs i before (blank_is_ascii (get_or bs i 0) (passes_at_first is_blank bs 0 before))
-      | inr behind ↦ subst P (omega (arith, prefix_len-le-length (λ b. not (is_blank b)) bs)) (IsCharBoundary-end bs)
+      | inl before ↦ IsCharBoundary-before_ascii bs i before (ascii (get_or bs i 0) (passes_at_first p bs 0 before))
+      | inr behind ↦ subst P (omega (arith, prefix_len-le-length (λ b. not (p b)) bs)) (IsCharBoundary-end bs)
     ]
+
+-- before the first blank, and before the first byte that ends a reference
+pub cut_at_blank : (bs : List ℕ) → IsCharBoundary bs (position_or_len is_blank bs)
+cut_at_blank = cut_at is_blank blank_is_ascii
+
+pub cut_at_end : (bs : List ℕ) → IsCharBoundary bs (position_or_len ends_reference bs)
+cut_at_end = cut_at ends_reference end_is_ascii
 
 -- before the last n bytes, which are blanks
 cut_before : (bs : List ℕ) (n : ℕ) → prefix_len is_blank (reverse bs) ≡ n → n ≤ length bs → IsCharBoundary bs (length bs - n)

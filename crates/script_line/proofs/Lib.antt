@@ -3,4 +3,5 @@ mod Cuts
 mod WordLists
 mod Forms
 mod Digits
+mod Stops
 mod Named

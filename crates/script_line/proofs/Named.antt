@@ -1,28 +1,37 @@
 -- References and ids by how they begin, and texts without a separator.
-use Rattle.std.proofs.Common.{◌≡◌, ◌≢◌, ℕ, ◌+◌, ◌==◌, ◌||◌, ◌&&◌, suc, Bool, false, not, cond, inl, inr, List, [], ◌∷◌, length, Option, Some, None, option_map, refl, ap, ◌∙◌, sym, arith}
+use Rattle.std.proofs.Common.{◌≡◌, ◌≢◌, ℕ, ◌+◌, ◌==◌, ◌||◌, ◌&&◌, suc, Bool, false, not, cond, inl, inr, List, [], ◌∷◌, length, drop, Option, Some, None, option_map, refl, ap, ◌∙◌, sym, arith}
 use Rattle.std.specs.Prelude.{if◌then◌else◌}
 use Rattle.std.specs.List.{list_any, position_or_len, before_first, after_first}
 use Rattle.std.proofs.lemmas.Bool.{cases_Bool, eqb-true, false_from_ne_true}
 use Rattle.std.proofs.lemmas.List.{drop_all}
-use Rattle.ecs_model.specs.Text.{is_blank, trimmed}
-use Rattle.ecs_model.specs.Orders.{EntityRef, by_name, plain_of}
-use Rattle.ecs_model.specs.Script.{handle_of, id_and_rest, is_apart, pair_and_rest, pair_in, pair_ref, reference_of, word_and_rest}
+use Rattle.ecs_model.specs.Text.{is_blank, trim_front, trimmed}
+use Rattle.ecs_model.specs.Orders.{EntityRef, IdRef, by_name, plain_of}
+use Rattle.ecs_model.specs.Script.{handle_of, id_and_rest, is_apart, pair_and_rest, pair_in, pair_ref, reference_of}
+use Rattle.script_line.specs.Line.{ends_reference, word_read}
 
 -- a text that doesn't begin with a byte
-begins_not : (c b : ℕ) (bs : List ℕ) → ((rest : List ℕ) → b ∷ bs ≢ c ∷ rest) → (b == c) ≡ false
+pub begins_not : (c b : ℕ) (bs : List ℕ) → ((rest : List ℕ) → b ∷ bs ≢ c ∷ rest) → (b == c) ≡ false
 begins_not c b bs p = false_from_ne_true (b == c) (λ e. p bs (ap (λ x. x ∷ bs) (eqb-true b c e)))
 
 -- a name
-pub name_read : (bs : List ℕ) → (length bs == 0) ≡ false → list_any (λ c. is_blank c || c == 40 || c == 41 || c == 44) bs ≡ false → ((rest : List ℕ) → bs ≢ 35 ∷ rest) → Some (by_name bs) ≡ reference_of bs
-name_read [] n h p = absurd (cc)
-name_read (b ∷ bs) n h p =
+pub name_read : (bs : List ℕ) → list_any ends_reference bs ≡ false → bs ≢ [] → ((rest : List ℕ) → bs ≢ 35 ∷ rest) → Some (by_name bs) ≡ reference_of bs
+name_read [] h n p = absurd (n refl)
+name_read (b ∷ bs) h n p =
     sym (ap (λ v. if v then None else if b == 35 then handle_of bs else Some (by_name (b ∷ bs))) h ∙ ap (λ v. if v then handle_of bs else Some (by_name (b ∷ bs))) (begins_not 35 b bs p))
 
+-- f behind g
+both_mapped : {A B C : Type 0} (g : A → B) (f : B → C) (o : Option A) → option_map f (option_map g o) ≡ option_map (λ x. f (g x)) o
+both_mapped g f None = refl
+both_mapped g f (Some x) = refl
+
 -- an id that is no pair
-pub plain_read : (bs : List ℕ) → ((rest : List ℕ) → bs ≢ 40 ∷ rest) → option_map (λ r. (plain_of r, (word_and_rest bs).1)) (reference_of ((word_and_rest bs).0)) ≡ id_and_rest bs
-plain_read [] p = refl
-plain_read (b ∷ bs) p =
-    sym (ap (λ v. if v then pair_and_rest bs else option_map (λ r. (plain_of r, (word_and_rest (b ∷ bs)).1)) (reference_of ((word_and_rest (b ∷ bs)).0))) (begins_not 40 b bs p))
+pub plain_read : (bs : List ℕ) → trim_front bs ≡ bs → ((rest : List ℕ) → bs ≢ 40 ∷ rest) → option_map (λ r. (plain_of r.0, r.1)) (word_read reference_of bs) ≡ id_and_rest bs
+plain_read [] e p = refl
+plain_read (b ∷ bs) e p =
+    let plain : List ℕ → Option (IdRef × List ℕ) = λ t. option_map (λ r. (plain_of r, drop (length (before_first is_blank t)) t)) (reference_of (before_first is_blank t)) in
+    both_mapped (λ r. (r, drop (length (before_first is_blank (b ∷ bs))) (b ∷ bs))) (λ r. (plain_of r.0, r.1)) (reference_of (before_first is_blank (b ∷ bs)))
+    ∙ sym (ap plain e)
+    ∙ sym (ap (λ v. if v then pair_and_rest bs else plain (trim_front (b ∷ bs))) (begins_not 40 b bs p))
 
 -- behind a separator that isn't there stands nothing, and no byte is one
 nothing_behind : (f : ℕ → Bool) (bs : List ℕ) → position_or_len f bs ≡ length bs → after_first f bs ≡ []

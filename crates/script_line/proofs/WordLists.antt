@@ -2,7 +2,7 @@
 use Rattle.std.proofs.Common.{◌≡◌, ℕ, suc, ◌+◌, ◌==◌, Bool, true, false, not, cond, List, [], ◌∷◌, length, take, drop, refl, ap, ◌∙◌, sym, inl, inr, arith}
 use Rattle.std.specs.Prelude.{filter}
 use Rattle.std.specs.List.{slice_split, onto_first, prefix_len, position_or_len, before_first}
-use Rattle.std.proofs.lemmas.Bool.{cases_Bool}
+use Rattle.std.proofs.lemmas.Bool.{cases_Bool, eqb-true, eqb-false, false_from_ne_true}
 use Rattle.std.proofs.lemmas.List.Folds.{length-prefix_len}
 use Rattle.std.proofs.lemmas.List.Splits.{slice_split-cons_yes, slice_split-cons_no}
 use Rattle.ecs_model.specs.Text.{is_blank, trim_front, words}
@@ -24,13 +24,13 @@ rest_by p bs = drop (position_or_len p bs) bs
 
 -- each of them at a separator, and at another byte
 module _ (p : ℕ → Bool) (b : ℕ) (bs : List ℕ) where
-  past_one : (n : ℕ) → drop (1 + n) (b ∷ bs) ≡ drop n bs
+  pub past_one : (n : ℕ) → drop (1 + n) (b ∷ bs) ≡ drop n bs
   past_one n = let one : 1 + n ≡ suc n = omega arith in ap (λ k. drop k (b ∷ bs)) one
 
-  trim_yes : p b ≡ true → trim_by p (b ∷ bs) ≡ trim_by p bs
+  pub trim_yes : p b ≡ true → trim_by p (b ∷ bs) ≡ trim_by p bs
   trim_yes e = ap (λ v. drop (cond v (1 + prefix_len p bs) 0) (b ∷ bs)) e ∙ past_one (prefix_len p bs)
 
-  trim_no : p b ≡ false → trim_by p (b ∷ bs) ≡ b ∷ bs
+  pub trim_no : p b ≡ false → trim_by p (b ∷ bs) ≡ b ∷ bs
   trim_no e = ap (λ v. drop (cond v (1 + prefix_len p bs) 0) (b ∷ bs)) e
 
   rest_yes : p b ≡ true → rest_by p (b ∷ bs) ≡ b ∷ bs
@@ -39,10 +39,10 @@ module _ (p : ℕ → Bool) (b : ℕ) (bs : List ℕ) where
   rest_no : p b ≡ false → rest_by p (b ∷ bs) ≡ rest_by p bs
   rest_no e = ap (λ v. drop (cond (not v) (1 + position_or_len p bs) 0) (b ∷ bs)) e ∙ past_one (position_or_len p bs)
 
-  front_yes : p b ≡ true → before_first p (b ∷ bs) ≡ []
+  pub front_yes : p b ≡ true → before_first p (b ∷ bs) ≡ []
   front_yes e = ap (λ v. take (cond (not v) (1 + position_or_len p bs) 0) (b ∷ bs)) e
 
-  front_no : p b ≡ false → before_first p (b ∷ bs) ≡ b ∷ before_first p bs
+  pub front_no : p b ≡ false → before_first p (b ∷ bs) ≡ b ∷ before_first p bs
   front_no e =
       let one : 1 + position_or_len p bs ≡ suc (position_or_len p bs) = omega arith in
       ap (λ v. take (cond (not v) (1 + position_or_len p bs) 0) (b ∷ bs)) e ∙ ap (λ k. take k (b ∷ bs)) one
@@ -105,3 +105,23 @@ words_none bs h = words-trim is_blank bs ∙ ap words (no_word is_blank bs h)
 -- the first word, and the words behind it
 pub words_next : (bs : List ℕ) → (length (word_and_rest bs).0 == 0) ≡ false → words bs ≡ (word_and_rest bs).0 ∷ words (word_and_rest bs).1
 words_next bs h = words-trim is_blank bs ∙ first_word is_blank (trim_front bs) h
+
+-- no text behind the blanks: no word
+pub words_at_end : (bs : List ℕ) → length (trim_front bs) ≡ 0 → words bs ≡ []
+words_at_end bs h = words-trim is_blank bs ∙ ap words (none (trim_front bs) h)
+  where
+    none : (t : List ℕ) → length t ≡ 0 → t ≡ []
+    none [] e = refl
+    none (b ∷ t) e = absurd (omega arith)
+
+-- a text without blanks at its front begins with its first word
+pub words_from : (bs : List ℕ) → (length (trim_front bs) == 0) ≡ false → words bs ≡ (word_and_rest bs).0 ∷ words (word_and_rest bs).1
+words_from bs h = words_next bs (false_from_ne_true _ (λ e. eqb-false (length (trim_front bs)) 0 h (ap length (no_word is_blank bs (eqb-true (length (word_and_rest bs).0) 0 e)))))
+
+-- blanks at the front are left out once
+pub trim_twice : (bs : List ℕ) → trim_front (trim_front bs) ≡ trim_front bs
+trim_twice [] = refl
+trim_twice (b ∷ bs) = elim (cases_Bool (is_blank b)) [
+  | inl e ↦ ap trim_front (trim_yes is_blank b bs e) ∙ trim_twice bs ∙ sym (trim_yes is_blank b bs e)
+  | inr e ↦ ap trim_front (trim_no is_blank b bs e)
+]

@@ -1,16 +1,20 @@
 -- What a line that was read asks, as a form.
-use Rattle.std.specs.Prelude.{ℕ, ℤ, List, drop, map}
+use Rattle.std.specs.Prelude.{ℕ, ℤ, ◌==◌, ◌||◌, Bool, List, Option, Some, None, drop, length, map, option_map, pos, if◌then◌else◌}
+use Rattle.std.specs.List.{before_first}
 use denote.Ref.{Bor}
 use Rattle.ecs_id.specs.declared.EntityId.{EntityId}
 use Rattle.ecs_model.specs.declared.Kind.{Kind}
 use Rattle.ecs_model.specs.Schema.{Field}
+use Rattle.ecs_model.specs.Text.{is_blank, is_number, number_of, words}
 use Rattle.ecs_model.specs.Orders.{EntityRef, by_name, by_handle, IdRef, plain_of, pair_of, MakeFresh, MakeEntity, AddTo, SetIn, RemoveFrom, DeleteOne}
-use Rattle.ecs_model.specs.Script.{Form, LongLine, BadLine, Obey, Define, Ask, AskKept, form_or_bad, forms, looked_up, word_and_rest}
+use Rattle.ecs_model.specs.Script.{Form, LongLine, BadLine, Obey, Define, Ask, AskKept, fact_line, form_or_bad, forms, looked_up, nothing_more, one_word, set_line, word_and_rest}
 use Rattle.ecs_model.specs.Script
 use Rattle.ecs_model.specs.stored.Session.{InWorld}
 use Rattle.ecs_model.specs.stored.Session
 use Rattle.script_line.specs.declared.Line.{Line}
 use Rattle.script_line.specs.declared.Line.TheVariants.{Nothing, TooLong, Bad, New, Entity, Component, Add, Set, Remove, Delete, Show, Query, Store, Rows, Drop}
+use Rattle.script_line.specs.declared.Opening.{Opening}
+use Rattle.script_line.specs.declared.Opening.TheVariants as opening
 use Rattle.script_line.specs.declared.references.Reference.{Reference}
 use Rattle.script_line.specs.declared.references.Reference.TheVariants.{Name, Handle}
 use Rattle.script_line.specs.declared.references.IdReference.{IdReference}
@@ -29,6 +33,10 @@ abbrev pub seen_reference : Reference → EntityRef
 seen_reference (Name name) = by_name name.now
 seen_reference (Handle e) = seen_handle e
 
+-- a reference that was read, and what stands behind it
+abbrev pub seen_reference_and_rest : Reference × Bor (List ℕ) → EntityRef × List ℕ
+seen_reference_and_rest p = (seen_reference p.0, (p.1).now)
+
 -- an id that was read
 abbrev pub seen_id : IdReference → IdRef
 seen_id (Plain r) = plain_of (seen_reference r)
@@ -37,6 +45,26 @@ seen_id (Pair r t) = pair_of (seen_reference r) (seen_reference t)
 -- an id that was read, and what stands behind it
 abbrev pub seen_id_and_rest : IdReference × Bor (List ℕ) → IdRef × List ℕ
 seen_id_and_rest p = (seen_id p.0, (p.1).now)
+
+-- a byte that stands in no reference
+abbrev pub ends_reference : ℕ → Bool
+ends_reference c = is_blank c || c == 40 || c == 41 || c == 44
+
+-- 1 to 38 digits
+abbrev pub unsigned_of_word : List ℕ → Option ℤ
+unsigned_of_word w = if is_number 1 38 w then Some (pos (number_of w)) else None
+
+-- a value that was read, and what stands behind it
+abbrev pub seen_value_and_rest : ℤ × Bor (List ℕ) → ℤ × List ℕ
+seen_value_and_rest p = (p.0, (p.1).now)
+
+-- what was read, if anything was, and what stands behind it
+abbrev pub followed_by : {A : Type 0} → List ℕ → Option A → Option (A × List ℕ)
+followed_by rest read = option_map (λ x. (x, rest)) read
+
+-- what f makes of the word at the very front of a text, and what stands behind the word
+abbrev pub word_read : {A : Type 0} → (List ℕ → Option A) → List ℕ → Option (A × List ℕ)
+word_read f bs = followed_by (drop (length (before_first is_blank bs)) bs) (f (before_first is_blank bs))
 
 -- the form of a line that was read with these values
 abbrev pub seen : {A : Type 0} → List ℤ → Line A → Form
@@ -63,3 +91,14 @@ by_first_word line = form_or_bad (λ f. f (word_and_rest line).1) (looked_up for
 -- what a line asks by its first word, but for the four forms that most lines have
 abbrev pub by_rarer_word : List ℕ → List ℕ → Form
 by_rarer_word word rest = form_or_bad (λ f. f rest) (looked_up (drop 4 forms) word)
+
+-- the form of a line whose first word was read
+abbrev pub form_opened : Opening → Form
+form_opened opening.Nothing = Script.Nothing
+form_opened opening.TooLong = LongLine
+form_opened opening.Bad = BadLine
+form_opened (opening.Set rest) = fact_line set_line rest.now
+form_opened (opening.Add rest) = fact_line (λ r i. nothing_more (Obey (InWorld (AddTo r i)))) rest.now
+form_opened (opening.Remove rest) = fact_line (λ r i. nothing_more (Obey (InWorld (RemoveFrom r i)))) rest.now
+form_opened (opening.Entity rest) = one_word (λ n. Obey (InWorld (MakeEntity n))) (words rest.now)
+form_opened (opening.Other text) = by_first_word text.now

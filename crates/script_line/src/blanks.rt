@@ -1,8 +1,8 @@
 //! Blanks and the words between them.
-ghost use Rattle.std.specs.Prelude.{◌≡◌, ◌<◌, ◌≤◌, [], ◌∷◌, length, reverse, IfSome, MatchOption};
-ghost use Rattle.std.specs.List.{position_or_len, prefix_len};
+ghost use Rattle.std.specs.Prelude.{◌≡◌, ◌<◌, ◌≤◌, [], ◌∷◌, drop, length, reverse, IfSome, MatchOption};
+ghost use Rattle.std.specs.List.{before_first, position_or_len, prefix_len};
 ghost use Rattle.ecs_model.specs.Text.{is_blank, trim_front, trimmed, words};
-ghost use Rattle.ecs_model.specs.Script.{word_and_rest};
+ghost use Rattle.ecs_model.specs.Script.{is_apart, word_and_rest};
 
 /// Whether a byte is a space, a tab or a carriage return.
 pub(crate) fn is_blank(byte: u8) -> bool
@@ -25,6 +25,16 @@ fn blanks_at_end(bytes: &[u8]) -> usize
     ensures within { result ≤ length bytes.now }
 {
     bytes.iter().rev().take_while(|b| is_blank(**b)).count()
+}
+
+/// Whether a text is empty or begins with a blank.
+pub(crate) fn is_apart(text: &str) -> bool
+    ensures { result ≡ is_apart text.now }
+{
+    match text.as_bytes() {
+        [] => true,
+        [first, ..] => is_blank(*first),
+    }
 }
 
 /// How many bytes stand before the first blank.
@@ -56,6 +66,19 @@ pub(crate) fn word_and_rest(text: &str) -> (&str, &str)
 {
     let text = trim_front(text);
     text.split_at(word_len(text.as_bytes()))
+}
+
+/// The text from its first word on, if there is a word.
+#[inline(always)]
+pub(crate) fn word_start(text: &str) -> Option<&str>
+    ensures cases { MatchOption result (words text.now ≡ []) (λ t. words text.now ≡ before_first is_blank t.now ∷ words (drop (length (before_first is_blank t.now)) t.now)) }
+    ensures within { IfSome result (λ t. length t.now ≤ length text.now) }
+{
+    let text = trim_front(text);
+    if text.is_empty() {
+        return None;
+    }
+    Some(text)
 }
 
 /// The first word and what stands behind it, if there is a word.

@@ -1,6 +1,6 @@
 //! Numbers in decimal.
 ghost use Rattle.std.specs.Prelude.{◌≡◌, ◌^◌, ◌<◌, ◌≤◌, IfSome, IsTrue, length, if◌then◌else◌};
-ghost use Rattle.std.specs.List.{list_all};
+ghost use Rattle.std.specs.List.{list_all, prefix_len};
 ghost use Rattle.ecs_model.specs.Text.{is_number, number_of};
 ghost use Rattle.query_model.specs.Text.{is_digit};
 
@@ -8,23 +8,33 @@ ghost use Rattle.query_model.specs.Text.{is_digit};
 const SHORT: usize = 19;
 
 /// Reads a number of 1 to `most` digits.
-pub(crate) fn number_within(digits: &[u8], most: usize) -> Option<u128>
+pub(crate) fn number_within(text: &[u8], most: usize) -> Option<u128>
     requires { most ≤ 38 }
-    ensures value { result ≡ (if is_number 1 most digits.now then Some (number_of digits.now) else None) }
+    ensures value { result ≡ (if is_number 1 most text.now then Some (number_of text.now) else None) }
     ensures bound { IfSome result (λ n. n < 10 ^ most) }
 {
-    if is_number(digits, most) {
-        Some(number_of(digits))
+    if all_digits(text) {
+        number_among(text, most)
     } else {
         None
     }
 }
 
-/// Whether a text is 1 to `most` digits.
-fn is_number(text: &[u8], most: usize) -> bool
-    ensures { result ≡ is_number 1 most text.now }
+/// The number that digits spell, if they are 1 to `most`.
+pub(crate) fn number_among(digits: &[u8], most: usize) -> Option<u128>
+    requires digits { IsTrue (list_all is_digit digits.now) }
+    requires most { most ≤ 38 }
+    ensures value { result ≡ (if is_number 1 most digits.now then Some (number_of digits.now) else None) }
+    ensures bound { IfSome result (λ n. n < 10 ^ most) }
+    ensures some { IfSome result (λ _. 0 < length digits.now) }
 {
-    all_digits(text) && !text.is_empty() && text.len() <= most
+    if digits.is_empty() {
+        return None;
+    }
+    if digits.len() > most {
+        return None;
+    }
+    Some(number_of(digits))
 }
 
 /// Whether each byte is a decimal digit.
@@ -32,6 +42,13 @@ fn all_digits(bytes: &[u8]) -> bool
     ensures { result ≡ list_all is_digit bytes.now }
 {
     bytes.iter().all(|b| is_digit(*b))
+}
+
+/// How many digits stand at the front.
+pub(crate) fn digits_len(bytes: &[u8]) -> usize
+    ensures { result ≡ prefix_len is_digit bytes.now }
+{
+    bytes.iter().take_while(|b| is_digit(**b)).count()
 }
 
 /// Whether a byte is a decimal digit.

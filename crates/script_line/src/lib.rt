@@ -5,7 +5,7 @@
 
 ghost use Rattle.std.specs.Prelude.{◌≡◌, IfOk};
 ghost use Rattle.ecs_model.specs.Script.{form_of};
-ghost use Rattle.script_line.specs.Line.{seen};
+ghost use Rattle.script_line.specs.Line.{form_opened, seen};
 
 mod blanks;
 mod decimals;
@@ -15,6 +15,7 @@ mod words;
 
 use ecs_model::Kind;
 use ecs_model::watches::StoredKind;
+pub use line_forms::{bare_fact, only_word, valued_fact};
 pub use references::{IdReference, Reference};
 use std::alloc::{AllocError, Allocator, Global};
 use std::str;
@@ -87,6 +88,53 @@ pub enum Line<'a, A: Allocator = Global> {
     },
 }
 
+/// A line whose first word was read: of the forms that most lines have, what stands behind it.
+#[derive(Clone, Copy, Debug)]
+pub enum Opening<'a> {
+    /// The line is blank or a comment.
+    Nothing,
+    /// The line has more than 4,096 bytes.
+    TooLong,
+    /// The line is no UTF-8.
+    Bad,
+    /// `set ..`
+    Set { rest: &'a str },
+    /// `add ..`
+    Add { rest: &'a str },
+    /// `remove ..`
+    Remove { rest: &'a str },
+    /// `entity ..`
+    Entity { rest: &'a str },
+    /// Any other line, from its start.
+    Other { text: &'a str },
+}
+
+/// An entity and an id of which a line says something.
+#[derive(Clone, Copy, Debug)]
+pub struct Fact<'a> {
+    pub entity: Reference<'a>,
+    pub id: IdReference<'a>,
+}
+
+/// Reads the first word of a line, which is given without its line feed.
+///
+/// A line of more than 4,096 bytes is too long whatever it holds, and a comment may hold any bytes.
+#[inline(always)]
+pub fn line_opened(line: &[u8]) -> Opening<'_>
+    ensures { form_opened result ≡ form_of line.now }
+{
+    if line.len() > MAX_LINE {
+        return Opening::TooLong;
+    }
+    if line_forms::says_nothing(line) {
+        return Opening::Nothing;
+    }
+    match str::from_utf8(line) {
+        Ok(text) => line_forms::text_opened(text),
+        Err(_) => Opening::Bad,
+    }
+}
+
 /// Reads a line, which is given without its line feed.
 ///
 /// The values of a `set` come into `values`, in place of what stood there, so that one list serves all lines of a script.
@@ -100,14 +148,28 @@ pub fn read_line<'a, A: Allocator + Copy>(
 ) -> Result<Line<'a, A>, AllocError>
     ensures { IfOk result (λ l. seen values.new.items l ≡ form_of line.now) }
 {
-    if line.len() > MAX_LINE {
-        return Ok(Line::TooLong);
+    read_opened(alloc, line_opened(line), values)
+}
+
+/// Reads a line whose first word was read.
+///
+/// The values of a `set` come into `values`, in place of what stood there. The only error is that memory for fields or values was
+/// refused.
+pub fn read_opened<'a, A: Allocator + Copy>(
+    alloc: A,
+    opening: Opening<'a>,
+    values: &mut Vec<i128, A>,
+) -> Result<Line<'a, A>, AllocError>
+    ensures { IfOk result (λ l. seen values.new.items l ≡ form_opened opening.entry) }
+{
+    match opening {
+        Opening::Nothing => Ok(Line::Nothing),
+        Opening::TooLong => Ok(Line::TooLong),
+        Opening::Bad => Ok(Line::Bad),
+        Opening::Set { rest } => line_forms::set_line(rest, values),
+        Opening::Add { rest } => Ok(line_forms::add_line(rest)),
+        Opening::Remove { rest } => Ok(line_forms::remove_line(rest)),
+        Opening::Entity { rest } => Ok(line_forms::entity_line(rest)),
+        Opening::Other { text } => line_forms::read_form(alloc, text, values),
     }
-    if line_forms::says_nothing(line) {
-        return Ok(Line::Nothing);
-    }
-    let Ok(text) = str::from_utf8(line) else {
-        return Ok(Line::Bad);
-    };
-    line_forms::read_form(alloc, text, values)
 }

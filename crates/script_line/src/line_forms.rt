@@ -2,28 +2,36 @@
 ghost use Rattle.std.specs.Prelude.{◌≡◌, ℕ, ℤ, List, map, IfOk, None, Some, option_map, if◌then◌else◌};
 ghost use Rattle.ecs_model.specs.Text.{trim_front, words};
 ghost use Rattle.ecs_model.specs.Script.{Form, AskKept, Obey, Show, all_of, component_line, entity_line, fact_line, field_of_word, form_or_bad, nothing_more, on_line, one_word, says_nothing, set_line, store_line, value_of_word};
-ghost use Rattle.ecs_model.specs.Orders.{EntityRef, IdRef, AddTo, DeleteOne, MakeEntity, MakeFresh, RemoveFrom};
+ghost use Rattle.ecs_model.specs.Orders.{EntityRef, IdRef, AddTo, DeleteOne, MakeEntity, MakeFresh, RemoveFrom, SetIn};
 ghost use Rattle.ecs_model.specs.stored.Session.{Drop, InWorld};
-ghost use Rattle.script_line.specs.Line.{by_first_word, by_rarer_word, seen, seen_field, seen_id, seen_reference};
+ghost use Rattle.script_line.specs.Line.{by_first_word, by_rarer_word, form_opened, seen, seen_field, seen_id, seen_reference};
 
-use crate::blanks::{blanks_at_front, next_word, trim_front, trimmed, word_and_rest};
-use crate::references::{id_and_rest, reference_of};
-use crate::words::{event_of_word, field_of_word, value_of_word};
-use crate::{IdReference, Line, Reference};
+use crate::blanks::{blanks_at_front, next_word, trim_front, trimmed, word_and_rest, word_start};
+use crate::references::{id_and_rest, reference_and_rest, reference_of};
+use crate::words::{event_of_word, field_of_word, value_and_rest};
+use crate::{Fact, Line, Opening};
 use ecs_model::Kind;
 use ecs_model::watches::StoredKind;
 use std::alloc::{AllocError, Allocator};
 
-/// The front of a line about a fact: an entity, an id, and what stands behind them.
-#[derive(Clone, Copy)]
-struct Fact<'a> {
-    entity: Reference<'a>,
-    id: IdReference<'a>,
-    behind: &'a str,
-}
-
 /// The fields of a component.
 type Fields<'a, A> = Vec<(&'a str, Kind), A>;
+
+/// Reads the first word of a line of text.
+#[inline(always)]
+#[tactic(auto, unfolding(ecs_model::specs::Script::forms))]
+pub(crate) fn text_opened(text: &str) -> Opening<'_>
+    ensures { form_opened result ≡ by_first_word text.now }
+{
+    let (word, rest) = word_and_rest(text);
+    match word {
+        "set" => Opening::Set { rest },
+        "add" => Opening::Add { rest },
+        "entity" => Opening::Entity { rest },
+        "remove" => Opening::Remove { rest },
+        _ => Opening::Other { text },
+    }
+}
 
 /// Whether a line is blank or a comment.
 pub(crate) fn says_nothing(line: &[u8]) -> bool
@@ -84,7 +92,7 @@ fn new_line<'a, A: Allocator>(rest: &'a str) -> Line<'a, A>
 }
 
 /// Reads what stands behind `entity`: one word.
-fn entity_line<'a, A: Allocator>(rest: &'a str) -> Line<'a, A>
+pub(crate) fn entity_line<'a, A: Allocator>(rest: &'a str) -> Line<'a, A>
     ensures { (values : List ℤ) → seen values result ≡ one_word (λ n. Obey (InWorld (MakeEntity n))) (words rest.now) }
 {
     match only_word(rest) {
@@ -160,11 +168,12 @@ fn store_line<'a, A: Allocator>(kind: StoredKind, rest: &'a str) -> Line<'a, A>
 }
 
 /// The word of a text of one word.
-fn only_word(text: &str) -> Option<&str>
+#[inline(always)]
+pub fn only_word(text: &str) -> Option<&str>
     ensures { (f : List ℕ → Form) → one_word f (words text.now) ≡ form_or_bad (λ w. f w.now) result }
 {
     match next_word(text) {
-        Some((word, behind)) if next_word(behind).is_none() => Some(word),
+        Some((word, behind)) if word_start(behind).is_none() => Some(word),
         _ => None,
     }
 }
@@ -205,31 +214,50 @@ fn fields_of<'a, A: Allocator>(alloc: A, text: &'a str) -> Result<Option<Fields<
 /// Reads an entity and an id, and what stands behind them.
 // A call would write the answer to memory, and its caller clear that before.
 #[inline(always)]
-fn fact_of(text: &str) -> Option<Fact<'_>>
+fn fact_and_rest(text: &str) -> Option<(Fact<'_>, &str)>
     ensures { (f : EntityRef → IdRef → List (List ℕ) → Form) → fact_line f text.now
-        ≡ form_or_bad (λ t. f (seen_reference t.entity) (seen_id t.id) (words t.behind.now)) result }
+        ≡ form_or_bad (λ t. f (seen_reference (t.0).entity) (seen_id (t.0).id) (words t.1.now)) result }
 {
-    let (entity, behind) = word_and_rest(text);
-    let entity = reference_of(entity)?;
-    let (id, behind) = id_and_rest(trim_front(behind))?;
-    Some(Fact { entity, id, behind })
+    let (entity, behind) = reference_and_rest(trim_front(text))?;
+    let (id, rest) = id_and_rest(behind)?;
+    Some((Fact { entity, id }, rest))
 }
 
-/// Reads an entity and an id behind which no word stands.
+/// Reads what stands behind `add` or `remove`: an entity and an id.
 #[inline(always)]
-fn bare_fact(text: &str) -> Option<Fact<'_>>
+pub fn bare_fact(text: &str) -> Option<Fact<'_>>
     ensures { (f : EntityRef → IdRef → Form) → fact_line (λ r i. nothing_more (f r i)) text.now
         ≡ form_or_bad (λ t. f (seen_reference t.entity) (seen_id t.id)) result }
 {
-    let fact = fact_of(text)?;
-    match next_word(fact.behind) {
+    let (fact, rest) = fact_and_rest(text)?;
+    match word_start(rest) {
         None => Some(fact),
         Some(_) => None,
     }
 }
 
+/// Reads what stands behind `set`: an entity, an id and one or more values, which come into `values` in place of what stood there.
+#[inline(always)]
+pub fn valued_fact<'a, A: Allocator>(
+    text: &'a str,
+    values: &mut Vec<i128, A>,
+) -> Result<Option<Fact<'a>>, AllocError>
+    ensures { IfOk result (λ o. fact_line set_line text.now
+        ≡ form_or_bad (λ t. Obey (InWorld (SetIn (seen_reference t.entity) (seen_id t.id) values.new.items))) o) }
+{
+    let Some((fact, rest)) = fact_and_rest(text) else {
+        return Ok(None);
+    };
+    let are_values = read_values(rest, values)?;
+    if are_values && !values.is_empty() {
+        Ok(Some(fact))
+    } else {
+        Ok(None)
+    }
+}
+
 /// Reads what stands behind `add`: an entity and an id.
-fn add_line<'a, A: Allocator>(rest: &'a str) -> Line<'a, A>
+pub(crate) fn add_line<'a, A: Allocator>(rest: &'a str) -> Line<'a, A>
     ensures { (values : List ℤ) → seen values result ≡ fact_line (λ r i. nothing_more (Obey (InWorld (AddTo r i)))) rest.now }
 {
     match bare_fact(rest) {
@@ -242,7 +270,7 @@ fn add_line<'a, A: Allocator>(rest: &'a str) -> Line<'a, A>
 }
 
 /// Reads what stands behind `remove`: an entity and an id.
-fn remove_line<'a, A: Allocator>(rest: &'a str) -> Line<'a, A>
+pub(crate) fn remove_line<'a, A: Allocator>(rest: &'a str) -> Line<'a, A>
     ensures { (values : List ℤ) → seen values result ≡ fact_line (λ r i. nothing_more (Obey (InWorld (RemoveFrom r i)))) rest.now }
 {
     match bare_fact(rest) {
@@ -254,21 +282,19 @@ fn remove_line<'a, A: Allocator>(rest: &'a str) -> Line<'a, A>
     }
 }
 
-/// Reads what stands behind `set`: an entity, an id and one or more values.
-fn set_line<'a, A: Allocator>(
+/// Reads what stands behind `set`.
+pub(crate) fn set_line<'a, A: Allocator>(
     rest: &'a str,
     values: &mut Vec<i128, A>,
 ) -> Result<Line<'a, A>, AllocError>
     ensures { IfOk result (λ l. seen values.new.items l ≡ fact_line set_line rest.now) }
 {
-    let Some(Fact { entity, id, behind }) = fact_of(rest) else {
-        return Ok(Line::Bad);
-    };
-    let are_values = read_values(behind, values)?;
-    if are_values && !values.is_empty() {
-        Ok(Line::Set { entity, id })
-    } else {
-        Ok(Line::Bad)
+    match valued_fact(rest, values)? {
+        Some(fact) => Ok(Line::Set {
+            entity: fact.entity,
+            id: fact.id,
+        }),
+        None => Ok(Line::Bad),
     }
 }
 
@@ -279,8 +305,8 @@ fn read_values<A: Allocator>(text: &str, values: &mut Vec<i128, A>) -> Result<bo
 {
     values.clear();
     let mut rest = text;
-    while let Some((word, behind)) = next_word(rest) {
-        let Some(value) = value_of_word(word) else {
+    while let Some(word) = word_start(rest) {
+        let Some((value, behind)) = value_and_rest(word) else {
             return Ok(false);
         };
         values.push(value)?;

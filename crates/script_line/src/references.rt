@@ -1,12 +1,12 @@
 //! Entities and ids as lines name them.
-ghost use Rattle.std.specs.Prelude.{◌≡◌, ◌==◌, ◌||◌, option_map};
-ghost use Rattle.std.specs.List.{list_any};
-ghost use Rattle.ecs_model.specs.Text.{is_blank};
-ghost use Rattle.ecs_model.specs.Script.{handle_of, id_and_rest, is_apart, pair_and_rest, pair_in, reference_of, word_and_rest};
+ghost use Rattle.std.specs.Prelude.{◌≡◌, option_map, false};
+ghost use Rattle.std.specs.List.{list_any, position_or_len};
+ghost use Rattle.ecs_model.specs.Text.{trim_front};
+ghost use Rattle.ecs_model.specs.Script.{handle_of, id_and_rest, pair_and_rest, pair_in, reference_of};
 ghost use Rattle.ecs_model.specs.Orders.{plain_of};
-ghost use Rattle.script_line.specs.Line.{seen_handle, seen_id, seen_id_and_rest, seen_reference};
+ghost use Rattle.script_line.specs.Line.{ends_reference, seen_handle, seen_id, seen_id_and_rest, seen_reference, seen_reference_and_rest, word_read};
 
-use crate::blanks::{is_blank, trimmed, word_and_rest};
+use crate::blanks::{is_apart, is_blank, trim_front, trimmed};
 use crate::decimals::number_within;
 use ecs_id::EntityId;
 
@@ -41,25 +41,57 @@ pub enum IdReference<'a> {
 pub(crate) fn reference_of(word: &str) -> Option<Reference<'_>>
     ensures { option_map seen_reference result ≡ reference_of word.now }
 {
-    if word.is_empty() || ends_within(word.as_bytes()) {
+    if ends_within(word.as_bytes()) {
         return None;
     }
-    match word.strip_prefix('#') {
-        Some(handle) => Some(Reference::Handle(handle_of(handle)?)),
-        None => Some(Reference::Name(word)),
+    whole_reference(word)
+}
+
+/// Reads the first word of a text that begins with it as a reference, and what stands behind it.
+// The text is gone over once: the first byte that ends a reference has to end the word too.
+#[inline(always)]
+pub(crate) fn reference_and_rest(text: &str) -> Option<(Reference<'_>, &str)>
+    ensures { option_map seen_reference_and_rest result ≡ word_read reference_of text.now }
+{
+    let (word, behind) = text.split_at(reference_len(text.as_bytes()));
+    if !is_apart(behind) {
+        return None;
     }
+    Some((whole_reference(word)?, behind))
+}
+
+/// Reads a reference of bytes that may all stand in one.
+#[inline(always)]
+fn whole_reference(word: &str) -> Option<Reference<'_>>
+    requires { list_any ends_reference word.now ≡ false }
+    ensures { option_map seen_reference result ≡ reference_of word.now }
+{
+    if word.is_empty() {
+        return None;
+    }
+    if word.as_bytes()[0] == b'#' {
+        return Some(Reference::Handle(handle_of(&word[1..])?));
+    }
+    Some(Reference::Name(word))
+}
+
+/// How many bytes stand before the first one that stands in no reference.
+fn reference_len(bytes: &[u8]) -> usize
+    ensures { result ≡ position_or_len ends_reference bytes.now }
+{
+    bytes.iter().take_while(|b| !ends_reference(**b)).count()
 }
 
 /// Whether some byte stands in no reference.
 fn ends_within(bytes: &[u8]) -> bool
-    ensures { result ≡ list_any (λ c. is_blank c || c == 40 || c == 41 || c == 44) bytes.now }
+    ensures { result ≡ list_any ends_reference bytes.now }
 {
     bytes.iter().any(|b| ends_reference(*b))
 }
 
 /// Whether a byte stands in no reference.
 fn ends_reference(byte: u8) -> bool
-    ensures { result ≡ (is_blank byte || byte == 40 || byte == 41 || byte == 44) }
+    ensures { result ≡ ends_reference byte }
 {
     byte <= b',' && (is_blank(byte) || byte == b'(' || byte == b')' || byte == b',')
 }
@@ -81,9 +113,11 @@ fn handle_of(text: &str) -> Option<EntityId>
 }
 
 /// Reads an id at the front of a text, and what stands behind it.
+#[inline(always)]
 pub(crate) fn id_and_rest(text: &str) -> Option<(IdReference<'_>, &str)>
-    ensures { option_map seen_id_and_rest result ≡ id_and_rest text.now }
+    ensures { option_map seen_id_and_rest result ≡ id_and_rest (trim_front text.now) }
 {
+    let text = trim_front(text);
     match text.strip_prefix('(') {
         Some(pair) => pair_and_rest(pair),
         None => plain_and_rest(text),
@@ -101,16 +135,6 @@ fn pair_and_rest(text: &str) -> Option<(IdReference<'_>, &str)>
     Some((pair_in(inside)?, rest))
 }
 
-/// Whether a text is empty or begins with a blank.
-fn is_apart(text: &str) -> bool
-    ensures { result ≡ is_apart text.now }
-{
-    match text.as_bytes() {
-        [] => true,
-        [first, ..] => is_blank(*first),
-    }
-}
-
 /// Reads what stands between the brackets of a pair: two references with one `,` between, and blanks around each.
 fn pair_in(text: &str) -> Option<IdReference<'_>>
     ensures { option_map seen_id result ≡ pair_in text.now }
@@ -122,10 +146,11 @@ fn pair_in(text: &str) -> Option<IdReference<'_>>
     })
 }
 
-/// Reads the first word of a text as an id, and what stands behind it.
+/// Reads the first word of a text that begins with it as an id, and what stands behind it.
+#[inline(always)]
 fn plain_and_rest(text: &str) -> Option<(IdReference<'_>, &str)>
-    ensures { option_map seen_id_and_rest result ≡ option_map (λ r. (plain_of r, (word_and_rest text.now).1)) (reference_of ((word_and_rest text.now).0)) }
+    ensures { option_map seen_id_and_rest result ≡ option_map (λ r. (plain_of r.0, r.1)) (word_read reference_of text.now) }
 {
-    let (word, rest) = word_and_rest(text);
-    Some((IdReference::Plain(reference_of(word)?), rest))
+    let (reference, rest) = reference_and_rest(text)?;
+    Some((IdReference::Plain(reference), rest))
 }

@@ -1,31 +1,54 @@
 //! What words stand for.
-ghost use Rattle.std.specs.Prelude.{◌≡◌, option_map, pos, if◌then◌else◌};
-ghost use Rattle.ecs_model.specs.Text.{is_number, number_of};
+ghost use Rattle.std.specs.Prelude.{◌≡◌, ◌<◌, IfSome, IsTrue, length, option_map};
+ghost use Rattle.std.specs.List.{list_all};
+ghost use Rattle.query_model.specs.Text.{is_digit};
 ghost use Rattle.ecs_model.specs.Script.{event_words, field_of_word, kind_words, looked_up, value_of_word};
-ghost use Rattle.script_line.specs.Line.{seen_field};
+ghost use Rattle.script_line.specs.Line.{seen_field, seen_value_and_rest, unsigned_of_word, word_read};
 
-use crate::decimals::number_within;
+use crate::blanks::is_apart;
+use crate::decimals::{digits_len, number_among};
 use ecs_model::Kind;
 use ecs_model::watches::StoredKind;
 
 /// The greatest number of digits of a value.
 const MAX_DIGITS: usize = 38;
 
-/// Reads a value: an optional `-` and 1 to 38 digits.
-pub(crate) fn value_of_word(word: &str) -> Option<i128>
-    ensures { result ≡ value_of_word word.now }
+/// Reads the first word of a text that begins with it as a value, an optional `-` and 1 to 38 digits, and what stands behind it.
+#[inline(always)]
+pub(crate) fn value_and_rest(text: &str) -> Option<(i128, &str)>
+    ensures value { option_map seen_value_and_rest result ≡ word_read value_of_word text.now }
+    ensures shorter { IfSome result (λ p. length p.1.now < length text.now) }
 {
-    match word.as_bytes() {
-        [b'-', digits @ ..] => Some(-unsigned_value(digits)?),
-        digits => unsigned_value(digits),
+    match text.strip_prefix('-') {
+        Some(digits) => {
+            let (value, rest) = unsigned_and_rest(digits)?;
+            Some((-value, rest))
+        }
+        None => unsigned_and_rest(text),
     }
 }
 
-/// Reads 1 to 38 digits.
-fn unsigned_value(digits: &[u8]) -> Option<i128>
-    ensures { result ≡ (if is_number 1 38 digits.now then Some (pos (number_of digits.now)) else None) }
+/// Reads the first word of a text that begins with it as 1 to 38 digits, and what stands behind it.
+// The text is gone over once for both: the first byte that is no digit has to end the word.
+#[inline(always)]
+fn unsigned_and_rest(text: &str) -> Option<(i128, &str)>
+    ensures value { option_map seen_value_and_rest result ≡ word_read unsigned_of_word text.now }
+    ensures shorter { IfSome result (λ p. length p.1.now < length text.now) }
 {
-    Some(number_within(digits, MAX_DIGITS)? as i128)
+    let (digits, rest) = text.split_at(digits_len(text.as_bytes()));
+    if !is_apart(rest) {
+        return None;
+    }
+    Some((unsigned_value(digits.as_bytes())?, rest))
+}
+
+/// The value that digits spell, if they are 1 to 38.
+fn unsigned_value(digits: &[u8]) -> Option<i128>
+    requires { IsTrue (list_all is_digit digits.now) }
+    ensures value { result ≡ unsigned_of_word digits.now }
+    ensures some { IfSome result (λ _. 0 < length digits.now) }
+{
+    Some(number_among(digits, MAX_DIGITS)? as i128)
 }
 
 /// Reads a field: a name, which may be empty, one `:` and a kind.

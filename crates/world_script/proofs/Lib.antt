@@ -5,5 +5,6 @@ pub mod Faults
 pub mod FirstLine
 pub mod Kept
 pub mod Orders
+pub mod Read
 pub mod Running
 pub mod Waiting

@@ -1,5 +1,5 @@
 -- What lines do, by what the session answered and what was told of it.
-use Rattle.std.proofs.Common.{◌≡◌, ℕ, ℤ, Bool, true, false, List, [], ◌++◌, Option, None, Some, Result, Ok, Err, refl, sym, ◌∙◌, ap, subst, append-nil}
+use Rattle.std.proofs.Common.{◌≡◌, ℕ, ℤ, Bool, false, List, [], ◌++◌, Option, None, Some, Result, Ok, Err, refl, sym, ◌∙◌, ap, subst, append-nil}
 use Rattle.std.specs.Prelude.{IfOk, codes, flat_map, is_some, if◌then◌else◌}
 use Rattle.std.specs.Result.{result_map_both}
 use Rattle.std.specs.declared.alloc.AllocError.{AllocError}
@@ -16,13 +16,12 @@ use Rattle.ecs_model.specs.declared.watches.StoredKind.{StoredKind}
 use Rattle.ecs_model.specs.Schema.{Schema, schema_fault}
 use Rattle.ecs_model.specs.Refusal.{refusal_text, schema_fault_text}
 use Rattle.ecs_model.specs.Print.{fault_text}
-use Rattle.ecs_model.specs.World.{WorldState}
 use Rattle.ecs_model.specs.traits.Command.{Command, Fresh, Entity, Component, Add, SetValue, Remove, Delete}
-use Rattle.ecs_model.specs.Orders.{EntityRef, IdRef, Order, MakeFresh, MakeEntity, MakeComponent, AddTo, SetIn, RemoveFrom, DeleteOne, command_of, entity_found, with_both}
+use Rattle.ecs_model.specs.Orders.{EntityRef, IdRef, Order, MakeFresh, MakeEntity, MakeComponent, AddTo, SetIn, RemoveFrom, DeleteOne, command_of, entity_found}
 use Rattle.ecs_model.specs.Query.{query_of}
 use Rattle.ecs_model.specs.rows.Text.{rows_text}
 use Rattle.ecs_model.specs.Script.{Form, Nothing, LongLine, BadLine, Obey, Define, Show, Ask, AskKept}
-use Rattle.ecs_model.specs.Output.{Effect, effect_of, own_text, order_effect, define_effect, show_effect, ask_effect, kept_effect, refused_line, accepted_line, show_text}
+use Rattle.ecs_model.specs.Output.{effect_of, own_text, order_effect, define_effect, show_effect, ask_effect, kept_effect, refused_line, show_text}
 use Rattle.ecs_model.specs.stored.Session.{Answer, Drop, InWorld, SessionOrder, SessionState, Store, apply, events, free_order, in_world, kept_query}
 use Rattle.ecs_model.specs.stored.Refusal.{session_refusal_text}
 use Rattle.ecs_model.specs.stored.Watches.{event_text}

@@ -75,6 +75,7 @@ fn names_dead_handle<A: Allocator>(world: &World<A>, id: IdReference<'_>) -> boo
 }
 
 /// The live entity of a reference.
+#[inline(always)]
 fn live_entity<A: Allocator>(world: &World<A>, reference: Reference<'_>) -> Option<EntityId>
     ensures value { result ≡ found world.now.state (seen_reference reference.entry) }
     ensures index { IfSome result (λ e. IsIndex e.index) }
@@ -93,6 +94,7 @@ fn live_entity<A: Allocator>(world: &World<A>, reference: Reference<'_>) -> Opti
 }
 
 /// The id of references, where each is that of a live entity.
+#[inline(always)]
 fn live_id<A: Allocator>(world: &World<A>, id: IdReference<'_>) -> Option<Id>
     ensures { result ≡ id_found world.now.state (seen_id id.entry) }
 {

@@ -1,12 +1,14 @@
 //! What a session does with a line.
-ghost use Rattle.std.specs.Prelude.{◌≡◌, map, IfOk, None, OnOk};
-ghost use Rattle.ecs_model.specs.Orders.{MakeFresh, MakeEntity, AddTo, SetIn, RemoveFrom, DeleteOne};
-ghost use Rattle.ecs_model.specs.Script.{Obey, Define, Show, Ask, AskKept};
+ghost use Rattle.std.specs.Prelude.{◌≡◌, map, IfOk, None, Ok, OnOk};
+ghost use Rattle.ecs_model.specs.Text.{words};
+ghost use Rattle.ecs_model.specs.Orders.{EntityRef, IdRef, MakeFresh, MakeEntity, AddTo, SetIn, RemoveFrom, DeleteOne};
+ghost use Rattle.ecs_model.specs.Script.{Obey, Define, Show, Ask, AskKept, fact_line, nothing_more, one_word, set_line};
 ghost use Rattle.ecs_model.specs.Output.{effect_of};
 ghost use Rattle.ecs_model.specs.stored.Session.{Drop, InWorld, Store};
 ghost use Rattle.ecs_observe.specs.Standing.{session_of};
-ghost use Rattle.script_line.specs.Line.{seen, seen_field, seen_id, seen_reference};
+ghost use Rattle.script_line.specs.Line.{form_opened, seen, seen_field, seen_id, seen_reference};
 ghost use Rattle.world_script.specs.Run.{IsDone, line_effect};
+ghost use Rattle.world_script.specs.Told.{FindsBoth};
 
 use crate::lookup::{find_both, find_entity};
 use crate::showing::show_entity;
@@ -14,12 +16,16 @@ use crate::telling::{
     refuse, refuse_in_world, refuse_query, schema_fault_word, tell_answer, tell_born, tell_error,
 };
 use bumpalo::Bump;
+use ecs_id::{EntityId, Id};
 use ecs_model::Kind;
 use ecs_model::watches::StoredKind;
 use ecs_observe::Session;
 use ecs_schema::{Schema, SchemaError};
 use query_model::faults::QueryFault;
-use script_line::{IdReference, Line, Reference, read_line};
+use script_line::{
+    IdReference, Line, Opening, Reference, bare_fact, line_opened, only_word, read_opened,
+    valued_fact,
+};
 use std::alloc::{AllocError, Allocator};
 use world_query::{QUERY_ROOM, read_query, write_rows};
 
@@ -36,8 +42,125 @@ pub(crate) fn run_line<A: Allocator + Copy>(
     ensures done { IfOk result (IsDone (line_effect (session_of session.old) number line.now) (session_of session.new) output.old.items output.new.items) }
     ensures none_wait { OnOk result (session.new.waiting ≡ None) }
 {
-    let form = read_line(alloc, line, values)?;
+    run_opened(alloc, session, number, line_opened(line), values, output)
+}
+
+/// Does what a line says whose first word was read.
+// The forms of most lines are run where they are read: what was read needn't go through memory then.
+#[inline(always)]
+fn run_opened<A: Allocator + Copy>(
+    alloc: A,
+    session: &mut Session<A>,
+    number: usize,
+    opening: Opening<'_>,
+    values: &mut Vec<i128, A>,
+    output: &mut Vec<u8, A>,
+) -> Result<bool, AllocError>
+    requires none_wait { session.old.waiting ≡ None }
+    ensures { IfOk result (IsDone (effect_of (session_of session.old) number (form_opened opening.entry)) (session_of session.new) output.old.items output.new.items) }
+{
+    match opening {
+        Opening::Set { rest } => run_set_line(session, number, rest, values, output),
+        Opening::Add { rest } => run_add_line(session, number, rest, output),
+        Opening::Remove { rest } => run_remove_line(session, number, rest, output),
+        Opening::Entity { rest } => run_entity_line(session, number, rest, output),
+        _ => run_rarer(alloc, session, number, opening, values, output),
+    }
+}
+
+/// Does what any line says whose first word was read.
+#[inline(never)]
+fn run_rarer<A: Allocator + Copy>(
+    alloc: A,
+    session: &mut Session<A>,
+    number: usize,
+    opening: Opening<'_>,
+    values: &mut Vec<i128, A>,
+    output: &mut Vec<u8, A>,
+) -> Result<bool, AllocError>
+    requires none_wait { session.old.waiting ≡ None }
+    ensures { IfOk result (IsDone (effect_of (session_of session.old) number (form_opened opening.entry)) (session_of session.new) output.old.items output.new.items) }
+{
+    let form = read_opened(alloc, opening, values)?;
     run_form(alloc, session, number, form, values.as_slice(), output)
+}
+
+/// A line behind its `set`.
+#[inline(always)]
+fn run_set_line<A: Allocator + Copy>(
+    session: &mut Session<A>,
+    number: usize,
+    rest: &str,
+    values: &mut Vec<i128, A>,
+    output: &mut Vec<u8, A>,
+) -> Result<bool, AllocError>
+    requires none_wait { session.old.waiting ≡ None }
+    ensures { IfOk result (IsDone (effect_of (session_of session.old) number (fact_line set_line rest.now)) (session_of session.new) output.old.items output.new.items) }
+{
+    match valued_fact(rest, values)? {
+        Some(fact) => run_set(
+            session,
+            number,
+            fact.entity,
+            fact.id,
+            values.as_slice(),
+            output,
+        ),
+        None => refuse(number, "BadLine", output),
+    }
+}
+
+/// A line behind its `add`.
+#[inline(always)]
+fn run_add_line<A: Allocator + Copy>(
+    session: &mut Session<A>,
+    number: usize,
+    rest: &str,
+    output: &mut Vec<u8, A>,
+) -> Result<bool, AllocError>
+    requires none_wait { session.old.waiting ≡ None }
+    ensures { IfOk result (IsDone (effect_of (session_of session.old) number (fact_line (λ r i. nothing_more (Obey (InWorld (AddTo r i)))) rest.now))
+        (session_of session.new) output.old.items output.new.items) }
+{
+    match bare_fact(rest) {
+        Some(fact) => run_add(session, number, fact.entity, fact.id, output),
+        None => refuse(number, "BadLine", output),
+    }
+}
+
+/// A line behind its `remove`.
+#[inline(always)]
+fn run_remove_line<A: Allocator + Copy>(
+    session: &mut Session<A>,
+    number: usize,
+    rest: &str,
+    output: &mut Vec<u8, A>,
+) -> Result<bool, AllocError>
+    requires none_wait { session.old.waiting ≡ None }
+    ensures { IfOk result (IsDone (effect_of (session_of session.old) number (fact_line (λ r i. nothing_more (Obey (InWorld (RemoveFrom r i)))) rest.now))
+        (session_of session.new) output.old.items output.new.items) }
+{
+    match bare_fact(rest) {
+        Some(fact) => run_remove(session, number, fact.entity, fact.id, output),
+        None => refuse(number, "BadLine", output),
+    }
+}
+
+/// A line behind its `entity`.
+#[inline(always)]
+fn run_entity_line<A: Allocator + Copy>(
+    session: &mut Session<A>,
+    number: usize,
+    rest: &str,
+    output: &mut Vec<u8, A>,
+) -> Result<bool, AllocError>
+    ensures { IfOk result (IsDone (effect_of (session_of session.old) number (one_word (λ n. Obey (InWorld (MakeEntity n))) (words rest.now)))
+        (session_of session.new) output.old.items output.new.items) }
+{
+    match only_word(rest) {
+        Some(name) => run_entity(session, number, name, output),
+        None => refuse(number, "BadLine", output),
+    }
 }
 
 /// Does what a line that was read says, with the values of a `set`.
@@ -124,6 +247,7 @@ fn run_component<A: Allocator + Copy>(
 }
 
 /// `add E ID`
+#[inline(always)]
 fn run_add<A: Allocator + Copy>(
     session: &mut Session<A>,
     number: usize,
@@ -137,14 +261,28 @@ fn run_add<A: Allocator + Copy>(
 {
     match find_both(session.world(), entity, id) {
         Err(refusal) => refuse_in_world(number, refusal, output),
-        Ok(both) => {
-            let answer = session.add(both.0, both.1);
-            tell_answer(session, number, answer, output)
-        }
+        Ok(both) => add_found(session, number, both.0, both.1, output),
     }
 }
 
+/// `add` of an entity and an id that were found.
+#[inline(never)]
+fn add_found<A: Allocator + Copy>(
+    session: &mut Session<A>,
+    number: usize,
+    entity: EntityId,
+    id: Id,
+    output: &mut Vec<u8, A>,
+) -> Result<bool, AllocError>
+    ensures { (r : EntityRef) → (i : IdRef) → FindsBoth (session.old.world).state r i (Ok (entity, id))
+        → IfOk result (IsDone (effect_of (session_of session.old) number (Obey (InWorld (AddTo r i)))) (session_of session.new) output.old.items output.new.items) }
+{
+    let answer = session.add(entity, id);
+    tell_answer(session, number, answer, output)
+}
+
 /// `set E ID v ..`
+#[inline(always)]
 fn run_set<A: Allocator + Copy>(
     session: &mut Session<A>,
     number: usize,
@@ -159,14 +297,29 @@ fn run_set<A: Allocator + Copy>(
 {
     match find_both(session.world(), entity, id) {
         Err(refusal) => refuse_in_world(number, refusal, output),
-        Ok(both) => {
-            let answer = session.set(both.0, both.1, values);
-            tell_answer(session, number, answer, output)
-        }
+        Ok(both) => set_found(session, number, both.0, both.1, values, output),
     }
 }
 
+/// `set` of an entity and an id that were found.
+#[inline(never)]
+fn set_found<A: Allocator + Copy>(
+    session: &mut Session<A>,
+    number: usize,
+    entity: EntityId,
+    id: Id,
+    values: &[i128],
+    output: &mut Vec<u8, A>,
+) -> Result<bool, AllocError>
+    ensures { (r : EntityRef) → (i : IdRef) → FindsBoth (session.old.world).state r i (Ok (entity, id))
+        → IfOk result (IsDone (effect_of (session_of session.old) number (Obey (InWorld (SetIn r i values.now)))) (session_of session.new) output.old.items output.new.items) }
+{
+    let answer = session.set(entity, id, values);
+    tell_answer(session, number, answer, output)
+}
+
 /// `remove E ID`
+#[inline(always)]
 fn run_remove<A: Allocator + Copy>(
     session: &mut Session<A>,
     number: usize,
@@ -180,11 +333,24 @@ fn run_remove<A: Allocator + Copy>(
 {
     match find_both(session.world(), entity, id) {
         Err(refusal) => refuse_in_world(number, refusal, output),
-        Ok(both) => {
-            let answer = session.remove(both.0, both.1);
-            tell_answer(session, number, answer, output)
-        }
+        Ok(both) => remove_found(session, number, both.0, both.1, output),
     }
+}
+
+/// `remove` of an entity and an id that were found.
+#[inline(never)]
+fn remove_found<A: Allocator + Copy>(
+    session: &mut Session<A>,
+    number: usize,
+    entity: EntityId,
+    id: Id,
+    output: &mut Vec<u8, A>,
+) -> Result<bool, AllocError>
+    ensures { (r : EntityRef) → (i : IdRef) → FindsBoth (session.old.world).state r i (Ok (entity, id))
+        → IfOk result (IsDone (effect_of (session_of session.old) number (Obey (InWorld (RemoveFrom r i)))) (session_of session.new) output.old.items output.new.items) }
+{
+    let answer = session.remove(entity, id);
+    tell_answer(session, number, answer, output)
 }
 
 /// `delete E`

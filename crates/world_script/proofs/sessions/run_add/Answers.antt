@@ -1,5 +1,8 @@
+use Rattle.std.proofs.Common.{Ok, subst}
+use Rattle.ecs_world.specs.Standing.{Standing as World}
 use Rattle.script_line.specs.Line.{seen_reference, seen_id}
-use Rattle.world_script.proofs.Orders.{IfOk-add, IfOk-add_unfound}
+use Rattle.world_script.specs.Told.{FindsBoth}
+use Rattle.world_script.proofs.Orders.{IfOk-add_unfound}
 use Rattle.world_script.proofs.sessions.run_add.Goals as goal
 
 pub returns-in-Err : goal.returns-in-Err
@@ -9,5 +12,7 @@ returns-in-Err g c =
 
 pub returns-in-Ok : goal.returns-in-Ok
 returns-in-Ok g c =
-    IfOk-add c.tell_answer.result c.args.session.now c.add-answer.new.self c.tell_answer.new.session c.args.number c.args.output.now.items c.tell_answer.new.output.items
-    c.add-answer.result c.world.result.now (seen_reference c.args.entity) (seen_id c.args.id) c.in-Ok.both c.world.ensures c.in-Ok.ensures c.add-answer.ensures.answers c.tell_answer.ensures
+    let entity = seen_reference c.args.entity in
+    let id = seen_id c.args.id in
+    let P : World → Type 0 = λ w. FindsBoth w.state entity id (Ok c.in-Ok.both) in
+    c.add_found.ensures entity id (subst P c.world.ensures c.in-Ok.ensures)

@@ -1,5 +1,8 @@
+use Rattle.std.proofs.Common.{Ok, subst}
+use Rattle.ecs_world.specs.Standing.{Standing as World}
 use Rattle.script_line.specs.Line.{seen_reference, seen_id}
-use Rattle.world_script.proofs.Orders.{IfOk-remove, IfOk-remove_unfound}
+use Rattle.world_script.specs.Told.{FindsBoth}
+use Rattle.world_script.proofs.Orders.{IfOk-remove_unfound}
 use Rattle.world_script.proofs.sessions.run_remove.Goals as goal
 
 pub returns-in-Err : goal.returns-in-Err
@@ -9,5 +12,7 @@ returns-in-Err g c =
 
 pub returns-in-Ok : goal.returns-in-Ok
 returns-in-Ok g c =
-    IfOk-remove c.tell_answer.result c.args.session.now c.remove-answer.new.self c.tell_answer.new.session c.args.number c.args.output.now.items c.tell_answer.new.output.items
-    c.remove-answer.result c.world.result.now (seen_reference c.args.entity) (seen_id c.args.id) c.in-Ok.both c.world.ensures c.in-Ok.ensures c.remove-answer.ensures.answers c.tell_answer.ensures
+    let entity = seen_reference c.args.entity in
+    let id = seen_id c.args.id in
+    let P : World → Type 0 = λ w. FindsBoth w.state entity id (Ok c.in-Ok.both) in
+    c.remove_found.ensures entity id (subst P c.world.ensures c.in-Ok.ensures)

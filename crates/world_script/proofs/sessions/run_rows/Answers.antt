@@ -1,6 +1,3 @@
-use Rattle.std.specs.Prelude.{false, IfOk}
-use Rattle.std.proofs.Common.{sym, subst}
-use Rattle.ecs_observe.specs.Standing.{Standing, session_of}
 use Rattle.world_script.proofs.Orders.{IsDone-kept, IfOk-unkept}
 use Rattle.world_script.proofs.sessions.run_rows.Goals as goal
 
