@@ -1,4 +1,5 @@
 pub mod Answering
+pub mod Joined
 pub mod Counted
 pub mod First
 pub mod Found

@@ -4,6 +4,7 @@
 //! told them.
 #![tactic(auto)]
 
+mod asking;
 mod commands;
 mod errors;
 mod kept;

@@ -69,7 +69,8 @@ impl<A: Allocator> Session<A> {
     /// How often the whole rows of a monitor were taken so far, to be compared with those before. It stays at its greatest number.
     ///
     /// Those of a monitor are taken when it is stored, and after commands that concern its query alone, unless the facts that came and went tell
-    /// its rows. Monitors of local queries never have theirs taken: they are told by the entities that a command touched.
+    /// its rows but for few entities, who are asked. Monitors of local queries never have theirs taken: they are told by the entities that a
+    /// command touched.
     pub fn compared(&self) -> u64
         ensures { result ≡ (self.now).compared }
     {

@@ -14,15 +14,17 @@ ghost use Rattle.query_meaning.specs.Standing.{IsCurrentIn};
 ghost use Rattle.query_model.specs.Local.{is_local};
 ghost use Rattle.touched_entities.specs.Before.{view_before};
 ghost use Rattle.touched_entities.specs.Concerned.{is_concerned};
+ghost use Rattle.touched_entities.specs.Moving.{TellsRows};
 ghost use Rattle.watch_meaning.specs.Since.{IsAfter};
 
 use crate::Session;
-use crate::stored::{StoredQueries, StoredQuery, has_local_monitor};
+use crate::asking::rows_with_found;
+use crate::stored::{JudgedPlan, StoredQueries, StoredQuery, has_local_monitor};
 use crate::watched::whole_rows;
 use ecs_world::{Changes, World};
 use local_queries::{Touched, local_told};
 use std::alloc::{AllocError, Allocator};
-use touched_entities::{is_concerned, rows_by_own_facts, touched};
+use touched_entities::{Moved, is_concerned, rows_but_for_asked, touched};
 use world_events::{Audience, Event, Moves, may_tell, tell, tell_moves};
 
 impl<A: Allocator + Copy> Session<A> {
@@ -30,7 +32,8 @@ impl<A: Allocator + Copy> Session<A> {
     ///
     /// Of a monitor those that left come first, each by ascending index. One whose query is local is told by the entities that the command
     /// touched. Of another all rows are compared, if the command concerns its query: else they are of the same entities, and it is told nothing.
-    /// They are taken where those before and the facts that came and went don't tell them. Fails where memory is refused, and then they still wait.
+    /// Where those before and the facts that came and went tell them but for few entities, these alone are searched for; else all are taken. Fails
+    /// where memory is refused, and then they still wait.
     pub fn events(&mut self) -> Result<Vec<Event<A>, A>, AllocError>
         ensures told { IfOk result (λ told. told.items ≡ events (session_of self.old)) }
         ensures after { OnOk result (session_of self.new ≡ after_events (session_of self.old)) }
@@ -168,7 +171,8 @@ fn tell_compared<A: Allocator + Copy>(
     ensures compared { is_searched changes.now (held_as (string_bytes name.now) query.now) ≡ false → compared.new ≡ compared.old }
 {
     world.keeps();
-    if !is_concerned(query.plan.query(), changes) {
+    let bonds = query.plan.bonds();
+    if !is_concerned(query.plan.query(), bonds, changes) {
         return Ok(None);
     }
     let rows = rows_after(alloc, world, changes, query, compared)?;
@@ -183,7 +187,7 @@ fn tell_compared<A: Allocator + Copy>(
     Ok(Some(rows))
 }
 
-/// The entities of the rows of a monitor whose query isn't local, after a command. Where it is told without a search of rows, none is made; else
+/// The entities of the rows of a monitor whose query isn't local, after a command. Where they are told but for few entities, these are asked; else
 /// all rows are taken, and counted.
 fn rows_after<A: Allocator + Copy>(
     alloc: A,
@@ -198,9 +202,33 @@ fn rows_after<A: Allocator + Copy>(
     ensures { IfOk result (λ rows. rows.items ≡ matching (view_of world.now.state) (query.now.plan).query) }
 {
     let these = query.these.as_slice();
-    match rows_by_own_facts(alloc, world, changes, query.plan.query(), these)? {
-        Some(rows) => Ok(rows),
+    let bonds = query.plan.bonds();
+    match rows_but_for_asked(alloc, world, changes, query.plan.query(), bonds, these)? {
+        Some(moved) => rows_by_asking(alloc, world, &query.plan, moved, compared),
         None => whole_rows(alloc, world, query.plan.plan(), compared),
+    }
+}
+
+/// The entities of the rows of a monitor that are told but for those who are to be asked. They are asked where instructions are held for it; else all rows
+/// are taken, and counted.
+fn rows_by_asking<A: Allocator + Copy>(
+    alloc: A,
+    world: &World<A>,
+    plan: &JudgedPlan<A>,
+    moved: Moved<A>,
+    compared: &mut u64,
+) -> Result<Vec<u32, A>, AllocError>
+    requires current { IsCurrentIn world.now.state (plan.now).query }
+    requires told { TellsRows (plan.now).query world.now.state moved.rows.items moved.asked.items }
+    ensures { IfOk result (λ rows. rows.items ≡ matching (view_of world.now.state) (plan.now).query) }
+{
+    world.keeps();
+    if moved.asked.is_empty() {
+        return Ok(moved.rows);
+    }
+    match plan.asking() {
+        Some(asking) => rows_with_found(alloc, world, plan.query(), asking, moved),
+        None => whole_rows(alloc, world, plan.plan(), compared),
     }
 }
 

@@ -12,3 +12,4 @@ pub mod This
 pub mod Lacking
 pub mod Meeting
 pub mod OwnFacts
+pub mod Tied

@@ -46,7 +46,7 @@ means a v e (Var u) h is = ap (at a) (eqb-true u v h) ∙ is
 means a v e Any h is = absurd (false≢true h)
 means a v e One h is = absurd (false≢true h)
 
-fits_only : (a : Assignment) (v e d : ℕ) (r : Ref) → is_variable v r ≡ true → at a v ≡ Some e → fits a d r ≡ true → e ≡ d
+pub fits_only : (a : Assignment) (v e d : ℕ) (r : Ref) → is_variable v r ≡ true → at a v ≡ Some e → fits a d r ≡ true → e ≡ d
 fits_only a v e d (Is c) h is f = absurd (false≢true h)
 fits_only a v e d (Var u) h is f = eqb-true e d (sym (ap (λ o. option_eq ◌==◌ o (Some d)) (ap (at a) (eqb-true u v h) ∙ is)) ∙ f)
 fits_only a v e d Any h is f = absurd (false≢true h)

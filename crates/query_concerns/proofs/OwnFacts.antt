@@ -54,24 +54,26 @@ module _ (next next' : ℕ → List ℕ) (e : ℕ) (here : next e ≡ next' e) (
   chain_back : (y : ℕ) → HasChain next' e y → HasChain next e y
   chain_back y k = (k.0, subst (λ l. Contains l k.0) (sym here) k.1, reached_back k.0 k.1 k.2)
 
-module _ (q : Query) {m n : ℕ} (w v : View) (links : AreLinks m w.entities w.ids) (links' : AreLinks n v.entities v.ids) (agree : Agree (concerns_others q) w v) (e : ℕ)
+-- whatever concerns a term concerns the query, for those for whom it does so
+pub record IsCovered (q : Query) (t : Term) : Type 0 where
+  pub concerned : (i : Id) → term_concerns i t ≡ true → concerns q i ≡ true
+  pub others : (i : Id) → term_concerns_others i t ≡ true → concerns_others q i ≡ true
+  pub below : (i : Id) → term_concerns_below i t ≡ true → concerns_below q i ≡ true
+
+-- ---- a term
+
+module _ (w v : View) (a : Assignment) (t : Term) where
+  -- what it matches of an entity's ids
+  pub hits_alike : (wide : Id → Bool) (x : ℕ) → ((i : Id) → term_concerns i t ≡ true → wide i ≡ true) → filter wide (w.ids x) ≡ filter wide (v.ids x) → hits w a t x ≡ hits v a t x
+  unfolding hits
+  hits_alike wide x h same =
+      let all = filter_same wide (w.ids x) (v.ids x) same (matches a t.first t.target) (λ i k. h i (by_match i t (matches_may a t.first t.target i k))) in
+      λ k. if keeps_one t then take 1 (all k) else all k
+
+module _ (q : Query) {m n : ℕ} (w v : View) (links : AreLinks m w.entities w.ids) (links' : AreLinks n v.entities v.ids) (e : ℕ)
     (own : filter (concerns q) (w.ids e) ≡ filter (concerns q) (v.ids e))
     (above : (r x : ℕ) → Contains (line v.ids v.entities r e) x → filter (concerns_below q) (w.ids x) ≡ filter (concerns_below q) (v.ids x)) where
-  -- ---- a term
-
-  -- whatever concerns it concerns the query, for those for whom it does so
-  record IsCovered (t : Term) : Type 0 where
-    concerned : (i : Id) → term_concerns i t ≡ true → concerns q i ≡ true
-    others : (i : Id) → term_concerns_others i t ≡ true → concerns_others q i ≡ true
-    below : (i : Id) → term_concerns_below i t ≡ true → concerns_below q i ≡ true
-
-  module _ (a : Assignment) (this : at a 0 ≡ Some e) (t : Term) (covered : IsCovered t) (asks : asks_this t ≡ true) where
-    hits_alike : (wide : Id → Bool) (x : ℕ) → ((i : Id) → term_concerns i t ≡ true → wide i ≡ true) → filter wide (w.ids x) ≡ filter wide (v.ids x) → hits w a t x ≡ hits v a t x
-    unfolding hits
-    hits_alike wide x h same =
-        let all = filter_same wide (w.ids x) (v.ids x) same (matches a t.first t.target) (λ i k. h i (by_match i t (matches_may a t.first t.target i k))) in
-        λ k. if keeps_one t then take 1 (all k) else all k
-
+  module _ (a : Assignment) (this : at a 0 ≡ Some e) (t : Term) (covered : IsCovered q t) (asks : asks_this t ≡ true) where
     -- whether an entity has a hit
     abbrev has : View → ℕ → Bool
     has u x = some (at_each x (hits u a t x))
@@ -110,14 +112,14 @@ module _ (q : Query) {m n : ℕ} (w v : View) (links : AreLinks m w.entities w.i
           any_passes (has w) (line w.ids w.entities r e) x.0 (chain_line (upward w.ids r) w.entities (upward_lives links r) e x.0 back) (has_alike x.0 x.1 ∙ x.2))
         where
           has_alike : (x : ℕ) → Contains (line v.ids v.entities r e) x → has w x ≡ has v x
-          has_alike x i = ap (λ is. some (at_each x is)) (hits_alike (concerns_below q) x covered_below (above r x i))
+          has_alike x i = ap (λ is. some (at_each x is)) (hits_alike w v a t (concerns_below q) x covered_below (above r x i))
 
     lines_alike : (o : Option ℕ) → t.up ≡ o → list_any (has w) (option_map_or (λ r. line w.ids w.entities r e) o []) ≡ list_any (has v) (option_map_or (λ r. line v.ids v.entities r e) o [])
     lines_alike None up = refl
     lines_alike (Some r) up = line_alike r up
 
     source_alike : (b : Bool) → list_any (has w) (if b then e ∷ [] else []) ≡ list_any (has v) (if b then e ∷ [] else [])
-    source_alike true = ap (λ is. some (at_each e is) || false) (hits_alike (concerns q) e covered.concerned own)
+    source_alike true = ap (λ is. some (at_each e is) || false) (hits_alike w v a t (concerns q) e covered.concerned own)
     source_alike false = refl
 
     found : (u : View) → some (shown_fields u a t) ≡ (list_any (has u) (if t.on_source then e ∷ [] else []) || list_any (has u) (option_map_or (λ r. line u.ids u.entities r e) t.up []))
@@ -128,15 +130,18 @@ module _ (q : Query) {m n : ℕ} (w v : View) (links : AreLinks m w.entities w.i
         ∙ any-map (λ m. at_each m (hits u a t m)) (asked u t e)
         ∙ list_any-append (has u) (if t.on_source then e ∷ [] else []) (option_map_or (λ r. line u.ids u.entities r e) t.up [])
 
-    this_alike : some (shown_fields w a t) ≡ some (shown_fields v a t)
+    pub this_alike : some (shown_fields w a t) ≡ some (shown_fields v a t)
     this_alike =
         let source = source_alike t.on_source in
         let risen = lines_alike t.up refl in
         found w ∙ (λ k. source k || risen k) ∙ sym (found v)
 
-  term_alike : (a : Assignment) → at a 0 ≡ Some e → (t : Term) → IsCovered t → some (shown_fields w a t) ≡ some (shown_fields v a t)
+module _ (q : Query) {m n : ℕ} (w v : View) (links : AreLinks m w.entities w.ids) (links' : AreLinks n v.entities v.ids) (agree : Agree (concerns_others q) w v) (e : ℕ)
+    (own : filter (concerns q) (w.ids e) ≡ filter (concerns q) (v.ids e))
+    (above : (r x : ℕ) → Contains (line v.ids v.entities r e) x → filter (concerns_below q) (w.ids x) ≡ filter (concerns_below q) (v.ids x)) where
+  term_alike : (a : Assignment) → at a 0 ≡ Some e → (t : Term) → IsCovered q t → some (shown_fields w a t) ≡ some (shown_fields v a t)
   term_alike a this t covered = elim (cases_Bool (asks_this t)) [
-    | inl asks ↦ this_alike a this t covered asks
+    | inl asks ↦ this_alike q w v links links' e own above a this t covered asks
     | inr other ↦ shown_same (concerns_others q) w v agree a t (λ i h. covered.others i (and_from _ _ (ap not other) h))
   ]
 
@@ -157,7 +162,7 @@ module _ (q : Query) {m n : ℕ} (w v : View) (links : AreLinks m w.entities w.i
     λ i t. h.2 i (or_right (b i x) (list_any (b i) xs) t),
   )
 
-  term_covered : (t : Term) (ts : List Term) → AreCovered term_concerns term_concerns_others term_concerns_below (t ∷ ts) → IsCovered t
+  term_covered : (t : Term) (ts : List Term) → AreCovered term_concerns term_concerns_others term_concerns_below (t ∷ ts) → IsCovered q t
   term_covered t ts h = record {
     concerned = λ i x. h.0 i (or_left (term_concerns i t) (list_any (term_concerns i) ts) x);
     others = λ i x. h.1 i (or_left (term_concerns_others i t) (list_any (term_concerns_others i) ts) x);
@@ -221,8 +226,9 @@ module _ (q : Query) {m n : ℕ} (w v : View) (links : AreLinks m w.entities w.i
         λ y. (λ b ext holds. let there = (within b (ext.rest 0 keeps.0 ∙ this)).0 holds in y.0 b (lives_too w v links' own inner both.0 a b ext there) there, others.1 y.1),
       )
 
-  -- the entity is passed over in both views or in neither
-  passed_alike : (a : Assignment) → at a 0 ≡ Some e → passes_over w q a ≡ passes_over v q a
+-- the entity is passed over in both views or in neither
+module _ (q : Query) (w v : View) (e : ℕ) (own : filter (concerns q) (w.ids e) ≡ filter (concerns q) (v.ids e)) where
+  pub passed_alike : (a : Assignment) → at a 0 ≡ Some e → passes_over w q a ≡ passes_over v q a
   passed_alike a this =
       let tagged : (tag : ℕ) → concerns q (plain tag) ≡ true → is_held (w.ids e) (plain tag) ≡ is_held (v.ids e) (plain tag)
       = λ tag h. any_same (concerns q) (w.ids e) (v.ids e) own (λ j. id_eq j (plain tag)) (λ j t. ap (concerns q) (id_eq_same j (plain tag) t) ∙ h) in
@@ -239,7 +245,7 @@ asked_of_others q i t = or_left (says_how_far i) (list_any (piece_concerns_other
 -- ---- the entities of rows
 
 -- who is `$this` of a row in one view is so in another where the query holds too and who isn't passed over
-carried_over : {n : ℕ} (w v : View) (q : Query) (e : ℕ) → AreLinks n v.entities v.ids → list_all (λ u. anchors u (top q)) (visible q) ≡ true
+pub carried_over : {n : ℕ} (w v : View) (q : Query) (e : ℕ) → AreLinks n v.entities v.ids → list_all (λ u. anchors u (top q)) (visible q) ≡ true
     → ((a : Assignment) → at a 0 ≡ Some e → passes_over w q a ≡ passes_over v q a)
     → ((a : Assignment) → at a 0 ≡ Some e → contains (visible q) 0 ≡ true → Holds w (top q) a → Holds v (top q) a)
     → Contains (matching w q) e → Contains (matching v q) e
@@ -264,7 +270,7 @@ match_by_own_facts m n w v q links links' sound anchored held e own above =
     let agree = agree_linked (concerns_others q) w v links links' held (asked_of_others q (plain transitive) refl) (asked_of_others q (plain reflexive) refl) in
     let both = and_parts _ _ anchored in
     let keeps = λ (shown : contains (visible q) 0 ≡ true). sound_keeps_this (visible q) (top q) shown (and_parts _ _ sound).0 in
-    let passed = passed_alike q w v links links' agree e own above in
+    let passed = passed_alike q w v e own in
     let levels = λ (a : Assignment) (this : at a 0 ≡ Some e) (shown : contains (visible q) 0 ≡ true).
     level_alike q w v links links' agree e own above (top q) (top_alike q w v links links' agree e own above) (keeps shown) both.1 a this in (
       carried_over w v q e links' both.0 passed (λ a this shown. (levels a this shown).0),

@@ -1,13 +1,13 @@
 -- Anchored queries: a fact is about each entity that a variable stands for, so births and deaths alone change no row.
-use Rattle.std.specs.Prelude.{ℕ, ◌==◌, Bool, true, false, not, ◌&&◌, ◌||◌, Option}
+use Rattle.std.specs.Prelude.{ℕ, ◌==◌, Bool, false, not, ◌&&◌, ◌||◌, Option}
 use Rattle.std.specs.List.{list_all}
 use Rattle.std.specs.Option.{option_map_or}
-use Rattle.ecs_model.specs.rows.Level.{Level, done, also, unless, top}
-use Rattle.ecs_model.specs.rows.Rows.{visible}
+use Rattle.ecs_model.specs.rows.Level.{Level}
 use Rattle.query_model.specs.declared.query.Ref.{Ref}
 use Rattle.query_model.specs.declared.query.Ref.TheVariants.{Is, Var, Any, One}
 use Rattle.query_model.specs.declared.query.Term.{Term}
 use Rattle.query_model.specs.Query.{Item, must, may, either, equal, differ, Query}
+use Rattle.query_concerns.specs.Bonds.{are_all_bound, groups_are_bound, has_directly}
 
 -- whether a reference is a variable
 abbrev pub is_variable : ℕ → Ref → Bool
@@ -33,16 +33,12 @@ item_anchors v (differ u r) = false
 
 -- whether an item directly in a level does
 abbrev pub anchors : ℕ → Level → Bool
-anchors v done = false
-anchors v (also x rest) = item_anchors v x || anchors v rest
-anchors v (unless from_term own inner rest) = anchors v rest
+anchors v l = has_directly (item_anchors v) l
 
 -- whether the own variables of each group in a level are anchored directly in the group
 abbrev pub groups_are_anchored : Level → Bool
-groups_are_anchored done = true
-groups_are_anchored (also x rest) = groups_are_anchored rest
-groups_are_anchored (unless from_term own inner rest) = list_all (λ v. anchors v inner) own && groups_are_anchored inner && groups_are_anchored rest
+groups_are_anchored l = groups_are_bound anchors l
 
 -- whether each variable of a query is anchored in its own level
 unfoldable pub is_anchored : Query → Bool
-is_anchored q = list_all (λ v. anchors v (top q)) (visible q) && groups_are_anchored (top q)
+is_anchored q = are_all_bound anchors q

@@ -1,13 +1,29 @@
--- Anchored queries, read from the pieces from the left.
-use Rattle.std.specs.Prelude.{ℕ, ◌+◌, ◌-◌, ◌==◌, Bool, true, false, not, ◌&&◌, List, [], ◌∷◌, if◌then◌else◌}
+-- Bonds of variables, read from the pieces from the left.
+use Rattle.std.specs.Prelude.{ℕ, ◌+◌, ◌-◌, ◌==◌, Bool, true, false, not, ◌&&◌, ◌||◌, List, [], ◌∷◌, if◌then◌else◌}
 use Rattle.std.specs.List.{list_all}
-use Rattle.query_model.specs.Query.{Piece, item, opening, closing}
+use Rattle.ecs_model.specs.rows.Level.{Level}
+use Rattle.query_model.specs.Query.{Item, Piece, item, opening, closing}
+use Rattle.query_concerns.specs.declared.bonds.Bond.{Bond}
+use Rattle.query_concerns.specs.declared.bonds.Bond.TheVariants.{Anchor, Tie}
 use Rattle.query_concerns.specs.Anchored.{item_anchors}
+use Rattle.query_concerns.specs.Bonds.{has_directly}
+use Rattle.query_concerns.specs.Tied.{item_ties, needs_no_tie}
 
-abbrev pub piece_anchors : ℕ → Piece → Bool
-piece_anchors v (item x) = item_anchors v x
-piece_anchors v (opening from_term own) = false
-piece_anchors v closing = false
+-- ---- the bonds of the code
+
+abbrev pub item_binds : Bond → ℕ → Item → Bool
+item_binds Anchor v x = item_anchors v x
+item_binds Tie v x = item_ties v x
+
+-- whether a variable needs no bond, by the pieces of its query
+abbrev pub is_free : Bond → List Piece → ℕ → Bool
+is_free Anchor ps v = false
+is_free Tie ps v = needs_no_tie ps v
+
+abbrev pub binds : Bond → List Piece → ℕ → Level → Bool
+binds bond ps v l = is_free bond ps v || has_directly (item_binds bond v) l
+
+-- ---- the pieces
 
 abbrev pub is_end : Piece → Bool
 is_end (item x) = false
@@ -20,21 +36,29 @@ depth_behind depth (item x) = depth
 depth_behind depth (opening from_term own) = depth + 1
 depth_behind depth closing = depth - 1
 
--- whether an item in no group of those that are opened here anchors a variable. The pieces are those of a whole query, or of a group up to its end
-abbrev pub anchors_from : Bool → ℕ → ℕ → List Piece → Bool
-anchors_from whole v depth [] = false
-anchors_from whole v depth (p ∷ ps) =
-    if depth == 0 && piece_anchors v p then true
-    else if depth == 0 && not whole && is_end p then false
-    else anchors_from whole v (depth_behind depth p) ps
+module _ (test : Item → Bool) where
+  abbrev pub piece_passes : Piece → Bool
+  piece_passes (item x) = test x
+  piece_passes (opening from_term own) = false
+  piece_passes closing = false
 
--- whether these variables are anchored in the group that begins here
-abbrev pub are_anchored : List Piece → List ℕ → Bool
-are_anchored ps own = list_all (λ v. anchors_from false v 0 ps) own
+  -- whether an item in no group of those that are opened here passes. The pieces are those of a whole query, or of a group up to its end
+  abbrev pub passes_from : Bool → ℕ → List Piece → Bool
+  passes_from whole depth [] = false
+  passes_from whole depth (p ∷ ps) =
+      if depth == 0 && piece_passes p then true
+      else if depth == 0 && not whole && is_end p then false
+      else passes_from whole (depth_behind depth p) ps
 
--- whether the own variables of each group are
-abbrev pub groups_from : List Piece → Bool
-groups_from [] = true
-groups_from (item x ∷ ps) = groups_from ps
-groups_from (opening from_term own ∷ ps) = are_anchored ps own && groups_from ps
-groups_from (closing ∷ ps) = groups_from ps
+-- by all pieces of a query
+module _ (bond : Bond) (all : List Piece) where
+  -- whether a variable is bound in the level that begins here
+  abbrev pub binds_from : Bool → List Piece → ℕ → Bool
+  binds_from whole ps v = is_free bond all v || passes_from (item_binds bond v) whole 0 ps
+
+  -- whether the own variables of each group are
+  abbrev pub groups_from : List Piece → Bool
+  groups_from [] = true
+  groups_from (item x ∷ ps) = groups_from ps
+  groups_from (opening from_term own ∷ ps) = list_all (binds_from false ps) own && groups_from ps
+  groups_from (closing ∷ ps) = groups_from ps

@@ -1,6 +1,7 @@
 -- The laws of what concerns a query, as statements.
 use Rattle.std.specs.Prelude.{◌≡◌, ◌↔◌, ℕ, true, filter}
 use Rattle.std.specs.List.{Contains}
+use Rattle.ecs_id.specs.Id.{pair}
 use Rattle.query_model.specs.Query.{Query}
 use Rattle.ecs_model.specs.Links.{AreLinks, line}
 use Rattle.ecs_model.specs.rows.View.{View}
@@ -9,6 +10,7 @@ use Rattle.query_concerns.specs.Anchored.{is_anchored}
 use Rattle.query_concerns.specs.Concerns.{concerns}
 use Rattle.query_concerns.specs.Others.{concerns_below, concerns_others}
 use Rattle.query_concerns.specs.OwnIds.{lacks, meets}
+use Rattle.query_concerns.specs.Tied.{is_tied}
 use Rattle.query_meaning.specs.Sound.{IsSound}
 
 -- the same entities live in two views, and each holds the same ids of those that concern a query
@@ -33,6 +35,14 @@ MatchByOwnFacts = (m n : ℕ) (w v : View) (q : Query) → AreLinks m w.entities
     → ((x : ℕ) → filter (concerns_others q) (w.ids x) ≡ filter (concerns_others q) (v.ids x))
     → (e : ℕ) → filter (concerns q) (w.ids e) ≡ filter (concerns q) (v.ids e)
     → ((r x : ℕ) → Contains (line v.ids v.entities r e) x → filter (concerns_below q) (w.ids x) ≡ filter (concerns_below q) (v.ids x))
+    → Contains (matching w q) e ↔ Contains (matching v q) e
+
+-- of a tied query the others who matter are those alone with whom the entity holds a pair that concerns it: they hold the same of ids that concern it for others
+abbrev pub MatchByTies : Type 0
+MatchByTies = (m n : ℕ) (w v : View) (q : Query) → AreLinks m w.entities w.ids → AreLinks n v.entities v.ids → IsSound q → is_anchored q ≡ true → is_tied q ≡ true
+    → (e : ℕ) → filter (concerns q) (w.ids e) ≡ filter (concerns q) (v.ids e)
+    → ((r x : ℕ) → Contains (line v.ids v.entities r e) x → filter (concerns_below q) (w.ids x) ≡ filter (concerns_below q) (v.ids x))
+    → ((r x : ℕ) → Contains (v.ids e) (pair r x) → concerns q (pair r x) ≡ true → filter (concerns_others q) (w.ids x) ≡ filter (concerns_others q) (v.ids x))
     → Contains (matching w q) e ↔ Contains (matching v q) e
 
 -- who lacks what a query asks of `$this` itself is `$this` of no row

@@ -1,6 +1,8 @@
 pub mod Concerns
+pub mod Bonds
 pub mod Anchored
-pub mod FromLeft
 pub mod Others
 pub mod OwnIds
+pub mod Tied
+pub mod FromLeft
 pub mod Laws

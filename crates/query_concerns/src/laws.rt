@@ -1,6 +1,6 @@
 //! What is proved of the definitions alone: each function's contract is a law, and its body does nothing.
 
-ghost use Rattle.query_concerns.specs.Laws.{LackingMatchNothing, MatchByOwnFacts, MatchByWhatConcerns, MatchWhoeverElseLives, MeetingMatch};
+ghost use Rattle.query_concerns.specs.Laws.{LackingMatchNothing, MatchByOwnFacts, MatchByTies, MatchByWhatConcerns, MatchWhoeverElseLives, MeetingMatch};
 
 /// Law: where the same entities live and each holds the same ids of those that concern a query, the same entities are `$this` of its rows.
 pub fn queries_match_by_what_concerns_them()
@@ -16,6 +16,12 @@ pub fn anchored_queries_match_whoever_else_lives()
 /// an entity of ids that concern the query for whoever is below them.
 pub fn anchored_queries_match_by_own_facts()
     ensures { MatchByOwnFacts }
+{}
+
+/// Law: of an anchored query that is tied, the others who matter are those alone with whom an entity holds a pair that concerns the query, besides
+/// its ancestors.
+pub fn tied_queries_match_by_facts_of_their_targets()
+    ensures { MatchByTies }
 {}
 
 /// Law: who lacks what a query asks of `$this` itself is `$this` of no row.

@@ -2,12 +2,15 @@
 #![tactic(auto)]
 
 mod anchoring;
+mod bonds;
 mod concerning;
 pub mod laws;
 mod others;
 mod own_ids;
+mod ties;
 
 pub use anchoring::is_anchored;
 pub use concerning::concerns;
 pub use others::{concerns_below, concerns_others};
 pub use own_ids::{lacks, meets};
+pub use ties::is_tied;

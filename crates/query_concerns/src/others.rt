@@ -133,7 +133,7 @@ fn term_concerns_below(term: &Term, id: Id) -> bool
 }
 
 /// Whether a term asks `$this`, itself or its ancestors, for ids that are stored.
-fn asks_this(term: &Term) -> bool
+pub(crate) fn asks_this(term: &Term) -> bool
     ensures { result ≡ asks_this term.now }
 {
     is_first(term.source) && !term.closed

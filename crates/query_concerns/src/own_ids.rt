@@ -156,7 +156,7 @@ fn may_be_no_variable(reference: Option<Ref>) -> bool
     }
 }
 
-fn is_no_variable(reference: Ref) -> bool
+pub(crate) fn is_no_variable(reference: Ref) -> bool
     ensures { result ≡ is_no_variable reference }
 {
     match reference {
@@ -166,7 +166,7 @@ fn is_no_variable(reference: Ref) -> bool
 }
 
 /// Whether a term asks `$this` itself, for ids that are stored.
-fn asks_first(term: &Term) -> bool
+pub(crate) fn asks_first(term: &Term) -> bool
     ensures { result ≡ asks_first term.now }
 {
     is_first(term.source) && term.on_source && term.up.is_none() && !term.closed

@@ -130,7 +130,8 @@ fn other_monitors_compare_all_rows(rt: HostRuntime) -> Result<(), Fail> {
     done
 }
 
-/// Of a query that asks ancestors nothing is searched where a value is set or a tag comes that it doesn't mention.
+/// Of a query that asks ancestors nothing is searched where a value is set or a tag comes that it doesn't mention, and where few entities may have
+/// moved, these alone are asked.
 fn run_unconcerned(
     rt: &impl Abort,
     alloc: Global,
@@ -154,6 +155,7 @@ fn run_unconcerned(
     session.add(EARTH, Id::plain(DISABLED))?;
     tell(session, out)?;
     assert_eq!(rt; out.as_slice(), b"enter m Moon\nleave m Earth\n".as_slice());
+    assert!(rt; session.compared() == compared);
     Ok(())
 }
 

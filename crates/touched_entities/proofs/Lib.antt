@@ -7,5 +7,9 @@ pub mod IdsBefore
 pub mod AllTouched
 pub mod After
 pub mod Unconcerned
-pub mod OwnFacts
-pub mod Targets
+pub mod Grown
+pub mod Below
+pub mod AllMoving
+pub mod Covered
+pub mod Followed
+pub mod ButForAsked

@@ -1,5 +1,5 @@
 -- The laws of what queries saw before a command, as statements.
-use Rattle.std.specs.Prelude.{◌≡◌, ◌↔◌, ℕ, true, false, Ok}
+use Rattle.std.specs.Prelude.{◌≡◌, ◌↔◌, ℕ, List, true, false, Ok}
 use Rattle.std.specs.List.{Contains}
 use Rattle.query_model.specs.Query.{Query}
 use Rattle.ecs_model.specs.Command.{Changed}
@@ -10,7 +10,7 @@ use Rattle.ecs_model.specs.traits.Command.{Command, step}
 use Rattle.ecs_model.specs.traits.Keeps.{IsWellFormed}
 use Rattle.touched_entities.specs.Before.{view_before}
 use Rattle.touched_entities.specs.Concerned.{is_concerned}
-use Rattle.touched_entities.specs.Own.{is_moved, is_own}
+use Rattle.touched_entities.specs.Moving.{AreMoving, is_followed}
 use Rattle.query_meaning.specs.Sound.{IsSound}
 use Rattle.watch_meaning.specs.Since.{IsAfter}
 
@@ -29,7 +29,7 @@ abbrev pub UnconcernedQueriesMatchOn : Type 0
 UnconcernedQueriesMatchOn = (v : WorldState) (changed : Changed) (q : Query) → IsWellFormed v → IsAfter v changed → is_concerned q changed ≡ false
     → matching (view_before v changed) q ≡ matching (view_of v) q
 
--- where what came and went concerns a query for nobody but the entities whose facts these are, only the entities whose facts these are can leave its rows or enter them
-abbrev pub OwnFactsMoveTheirEntities : Type 0
-OwnFactsMoveTheirEntities = (v : WorldState) (changed : Changed) (q : Query) → IsWellFormed v → IsAfter v changed → IsSound q → is_own q v changed ≡ true
-    → (e : ℕ) → is_moved q changed e ≡ false → Contains (matching (view_before v changed) q) e ↔ Contains (matching (view_of v) q) e
+-- where all who may move can be found, and are among some entities, all others that were in its rows stay there, and none of them enters
+abbrev pub OthersThanMovingStay : Type 0
+OthersThanMovingStay = (v : WorldState) (changed : Changed) (q : Query) → IsWellFormed v → IsAfter v changed → IsSound q → is_followed q changed ≡ true
+    → (es : List ℕ) → AreMoving q v changed es → (e : ℕ) → (Contains es e → ⊥) → Contains (matching (view_before v changed) q) e ↔ Contains (matching (view_of v) q) e

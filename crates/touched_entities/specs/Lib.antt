@@ -1,5 +1,7 @@
 pub mod Before
 pub mod Indexes
+pub mod Bonds
 pub mod Concerned
-pub mod Own
+pub mod Leaning
+pub mod Moving
 pub mod Laws

@@ -1,24 +1,26 @@
 //! Which queries a command concerns.
 
 ghost use Rattle.std.specs.Prelude.{◌≡◌};
+ghost use Rattle.touched_entities.specs.Bonds.{bonds_of};
 ghost use Rattle.touched_entities.specs.Concerned.{any_concerns, has_births_or_deaths, is_concerned};
 
+use crate::Bonds;
 use ecs_model::FactKey;
 use ecs_world::Changes;
 use query_check::Query;
-use query_concerns::{concerns, is_anchored};
+use query_concerns::concerns;
 use std::alloc::Allocator;
 
 /// Whether a command concerns a query: a fact came or went whose id concerns it, or somebody was born or died and it isn't anchored. If not, the
 /// query has rows of the same entities as before.
 ///
-/// Takes no memory, and time in the facts that came and went and in the terms of the query; after a birth or a death, in the terms for each of
-/// its variables.
+/// Takes no memory, and time in the facts that came and went and in the terms of the query.
 #[tactic(auto, unfolding(crate::specs::Concerned::is_concerned))]
-pub fn is_concerned<A: Allocator>(query: &Query<A>, changes: &Changes<A>) -> bool
+pub fn is_concerned<A: Allocator>(query: &Query<A>, bonds: Bonds, changes: &Changes<A>) -> bool
+    requires bonds { bonds ≡ bonds_of query.now }
     ensures { result ≡ is_concerned query.now changes.now }
 {
-    (has_births_or_deaths(changes) && !is_anchored(query))
+    (has_births_or_deaths(changes) && !bonds.anchored)
         || any_concerns(query, changes.came())
         || any_concerns(query, changes.went())
 }

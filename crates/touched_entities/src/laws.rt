@@ -1,6 +1,6 @@
 //! What is proved of the definitions alone: each function's contract is a law, and its body does nothing.
 
-ghost use Rattle.touched_entities.specs.Laws.{OwnFactsMoveTheirEntities, QueriesMatchedBefore, ShowsWorldBefore, UnconcernedQueriesMatchOn};
+ghost use Rattle.touched_entities.specs.Laws.{OthersThanMovingStay, QueriesMatchedBefore, ShowsWorldBefore, UnconcernedQueriesMatchOn};
 
 /// Law: by the world after a command and what has changed, the same entities lived before, with the same ids, as in the world before.
 pub fn view_before_shows_the_world_before()
@@ -17,7 +17,7 @@ pub fn unconcerned_queries_match_on()
     ensures { UnconcernedQueriesMatchOn }
 {}
 
-/// Law: one that a command concerns for nobody but the entities whose facts came and went has rows of the same entities, but for these.
-pub fn own_facts_move_their_entities()
-    ensures { OwnFactsMoveTheirEntities }
+/// Law: where all who may move in or out of a query's rows by a command can be found, all others stay where they are.
+pub fn others_than_moving_stay()
+    ensures { OthersThanMovingStay }
 {}

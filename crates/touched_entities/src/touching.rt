@@ -75,11 +75,19 @@ fn was_born<A: Allocator>(changes: &Changes<A>, index: u32) -> bool
 }
 
 /// The ids of the entity at an index, in order, if one lives there.
-pub(crate) fn ids_now<A: Allocator>(world: &World<A>, index: u32) -> Option<&[Id]>
+fn ids_now<A: Allocator>(world: &World<A>, index: u32) -> Option<&[Id]>
     ensures { option_copied result ≡ held_in (view_of world.now.state) index }
 {
     let entity = world.at(index)?;
     world.ids_of(entity)
+}
+
+/// The ids of the entity at an index, in order: none where none lives.
+pub(crate) fn ids_at<A: Allocator>(world: &World<A>, index: u32) -> &[Id]
+    ensures { result.now ≡ ids_of world.now.state index }
+{
+    world.keeps();
+    ids_now(world, index).unwrap_or(&[])
 }
 
 /// The ids that an entity held, in order: those that it holds now and that haven't come, and those that went.

@@ -15,4 +15,7 @@ mod sheet;
 mod table_counts;
 
 pub use reading::read_query;
-pub use rows::{QUERY_ROOM, matching, plan_in, write_planned_rows, write_rows, write_rows_in};
+pub use rows::{
+    QUERY_ROOM, asking_in, matching, matching_among, plan_in, write_planned_rows, write_rows,
+    write_rows_in,
+};

@@ -1,0 +1,24 @@
+-- Whether each variable of a query is bound in the level that it belongs to: the whole query's, or a group's.
+use Rattle.std.specs.Prelude.{ℕ, Bool, true, false, ◌&&◌, ◌||◌}
+use Rattle.std.specs.List.{list_all}
+use Rattle.ecs_model.specs.rows.Level.{Level, done, also, unless, top}
+use Rattle.ecs_model.specs.rows.Rows.{visible}
+use Rattle.query_model.specs.Query.{Item, Query}
+
+-- whether an item directly in a level passes a test
+abbrev pub has_directly : (Item → Bool) → Level → Bool
+has_directly p done = false
+has_directly p (also x rest) = p x || has_directly p rest
+has_directly p (unless from_term own inner rest) = has_directly p rest
+
+-- where a test says which variables are bound in a level
+module _ (bound : ℕ → Level → Bool) where
+  -- whether the own variables of each group in a level are bound in the group
+  abbrev pub groups_are_bound : Level → Bool
+  groups_are_bound done = true
+  groups_are_bound (also x rest) = groups_are_bound rest
+  groups_are_bound (unless from_term own inner rest) = list_all (λ v. bound v inner) own && groups_are_bound inner && groups_are_bound rest
+
+  -- whether each variable of a query is bound in its own level
+  abbrev pub are_all_bound : Query → Bool
+  are_all_bound q = list_all (λ v. bound v (top q)) (visible q) && groups_are_bound (top q)

@@ -1,0 +1,254 @@
+-- Who isn't among those that may have moved stays as before: no fact that concerns the query came or went of its own, nor one that concerns others of somebody with whom it holds a pair,
+-- nor one that concerns those below of somebody above it.
+use Rattle.std.specs.Prelude.{◌≡◌, ◌↔◌, ℕ, suc, ◌==◌, Bool, true, false, ◌&&◌, List, [], ◌∷◌, filter, length, Some, None, is_some, if◌then◌else◌}
+use Rattle.std.specs.List.{Contains, list_any}
+use Rattle.std.proofs.Common.{refl, sym, ap, subst, ◌∙◌, inl, inr, cond, true≢false}
+use Rattle.std.proofs.lemmas.Option.{same_Some}
+use Rattle.std.proofs.lemmas.Bool.{and_from, and_parts, cases_Bool, false≢true, not-true, or_left, or_right}
+use Rattle.std.proofs.lemmas.List.Kept.{IsStrictlySortedBy-filter}
+use Rattle.std.proofs.lemmas.List.Elements.{Contains-append_left, Contains-append_right}
+use Rattle.ecs_id.specs.Id.{Id, plain, pair, id_cmp, id_cmp_same, id_cmp_total, last_index}
+use Rattle.ecs_model.specs.Command.{Changed}
+use Rattle.ecs_model.specs.Links.{AreLinks, line, target_under, upward}
+use Rattle.ecs_model.specs.Reach.{HasChain, Reached, itself, onward}
+use Rattle.ecs_model.specs.World.{WorldState, Key, entities, holds, ids_of, key_cmp, key_eq}
+use Rattle.ecs_model.specs.rows.View.{View, view_of}
+use Rattle.ecs_model.specs.stored.Watches.{matching}
+use Rattle.ecs_model.specs.traits.Keeps.{IsWellFormed}
+use Rattle.ecs_model.proofs.Members.{any_passes, eq_itself, eq_same, filtered, from_filter_map, from_or}
+use Rattle.ecs_model.proofs.Reaching.{chain_reached}
+use Rattle.ecs_model.proofs.traits.Adding.{in_map}
+use Rattle.ecs_model.proofs.traits.Facts.{held_listed, listed_held}
+use Rattle.ecs_model.proofs.traits.Kept.{are_links, refuted}
+use Rattle.component_index.specs.Patterns.{matches}
+use Rattle.query_model.specs.Query.{Query}
+use Rattle.query_meaning.specs.Sound.{IsSound}
+use Rattle.query_concerns.specs.Concerns.{concerns}
+use Rattle.query_concerns.specs.Others.{concerns_below, concerns_others}
+use Rattle.query_concerns.specs.Tied.{is_tied}
+use Rattle.query_concerns.proofs.Ancestors.{line_chain}
+use Rattle.query_concerns.proofs.OwnFacts.{match_by_own_facts}
+use Rattle.query_concerns.proofs.Tied.{match_by_ties}
+use Rattle.watch_meaning.specs.Since.{IsAfter}
+use Rattle.touched_entities.specs.Before.{view_before}
+use Rattle.touched_entities.specs.Laws.{OthersThanMovingStay}
+use Rattle.touched_entities.specs.Leaning.{concerns_beyond, leaning, leans, pairs_to}
+use Rattle.touched_entities.specs.Moving.{AreMoving, any_concerns_others, entities_by, entities_of, is_followed}
+use Rattle.touched_entities.proofs.Covered.{below_concern, others_concern}
+use Rattle.touched_entities.proofs.IdsBefore.{is_among, same_held}
+use Rattle.touched_entities.proofs.Rising.{ids_rise, keys_rise, one_list}
+use Rattle.touched_entities.proofs.Unconcerned.{queries_matched_before}
+use Rattle.touched_entities.proofs.WorldBefore.{has_gone, is_new}
+
+-- ---- two tests
+
+-- what passes two tests, one after the other, passes both
+filter_twice : (p r : Id → Bool) (is : List Id) → filter p (filter r is) ≡ filter (λ i. r i && p i) is
+filter_twice p r [] = refl
+filter_twice p r (i ∷ is) = by (filter_twice p r is) (r i)
+  where
+    by : filter p (filter r is) ≡ filter (λ i. r i && p i) is → (b : Bool) → filter p (cond b (i ∷ filter r is) (filter r is)) ≡ cond (b && p i) (i ∷ filter (λ i. r i && p i) is) (filter (λ i. r i && p i) is)
+    by rest true = ap (λ is. cond (p i) (i ∷ is) is) rest
+    by rest false = rest
+
+wider_and : (a b : Bool) → (b ≡ true → a ≡ true) → (a && b) ≡ b
+wider_and true b h = refl
+wider_and false true h = absurd (false≢true (h refl))
+wider_and false false h = refl
+
+-- so a wider test before changes nothing
+filter_within : (p r : Id → Bool) → ((i : Id) → p i ≡ true → r i ≡ true) → (is : List Id) → filter p is ≡ filter p (filter r is)
+filter_within p r wider is = sym (filter_twice p r is ∙ (λ j. filter (λ i. wider_and (r i) (p i) (wider i) j) is))
+
+-- ---- facts
+
+to_pair : (r x : ℕ) (i : Id) → target_under r i ≡ Some x → i ≡ pair r x
+to_pair r x (plain c) h = absurd (false≢true (ap is_some h))
+to_pair r x (pair q t) h = by (q == r) refl h
+  where
+    by : (b : Bool) → (q == r) ≡ b → (if b then Some t else None) ≡ Some x → pair q t ≡ pair r x
+    by true same k = ap (λ s. pair s t) (eq_same q r same) ∙ ap (pair r) (same_Some t x k)
+    by false same k = absurd (false≢true (ap is_some k))
+
+-- whoever isn't listed by a test has no fact among these whose id passes it
+unlisted : (p : Id → Bool) (ks : List Key) (x : ℕ) → (Contains (entities_by p ks) x → ⊥) → (i : Id) → p i ≡ true → list_any (key_eq (x, i)) ks ≡ false
+unlisted p ks x none i h =
+    refuted (list_any (key_eq (x, i)) ks)
+    (λ t. none (in_map (λ (k : Key). k.0) (filter (λ k. p k.1) ks) (x, i) ((filtered (λ k. p k.1) ks (x, i)).1 (is_among ks (x, i) t, h))))
+
+-- where none of these facts concerns a query for others, no fact whose id does is among them
+others_not_among : (q : Query) (ks : List Key) → any_concerns_others q ks ≡ false → (e : ℕ) (i : Id) → concerns_others q i ≡ true → list_any (key_eq (e, i)) ks ≡ false
+others_not_among q ks none e i h = refuted (list_any (key_eq (e, i)) ks) (λ t. true≢false (sym (any_passes (λ x. concerns_others q x.1) ks (e, i) (is_among ks (e, i) t) h) ∙ none))
+
+module _ (v : WorldState) (changed : Changed) (kept_now : IsWellFormed v) (after : IsAfter v changed) where
+  -- where no fact came or went of the entity's ids that pass a test, it holds the same of these
+  passing_stay : (p : Id → Bool) (e : ℕ) → ((i : Id) → p i ≡ true → list_any (key_eq (e, i)) changed.came ≡ false) → ((i : Id) → p i ≡ true → list_any (key_eq (e, i)) changed.went ≡ false)
+      → filter p (ids_of after.before e) ≡ filter p (ids_of v e)
+  passing_stay p e none_came none_went =
+      let w = after.before in
+      let same : (i : Id) → p i ≡ true → holds w e i ≡ holds v e i = λ i h. same_held w v after.command changed after.kept after.stepped e (holds w e i) (holds v e i)
+      (sym (is_new w v after.command changed after.kept after.stepped (e, i)) ∙ none_came i h)
+      (sym (has_gone w v after.command changed after.kept after.stepped (e, i)) ∙ none_went i h) in
+      one_list id_cmp id_cmp_total id_cmp_same (filter p (ids_of w e)) (filter p (ids_of v e))
+      (IsStrictlySortedBy-filter id_cmp p (ids_of w e) (ids_rise e _ (keys_rise key_cmp w.facts ((after.kept).in_order).facts)))
+      (IsStrictlySortedBy-filter id_cmp p (ids_of v e) (ids_rise e _ (keys_rise key_cmp v.facts (kept_now.in_order).facts)))
+      (λ i. (
+        λ h. let f = (filtered p (ids_of w e) i).0 h in (filtered p (ids_of v e) i).1 (held_listed v e i (sym (same i f.1) ∙ listed_held w e i f.0), f.1),
+        λ h. let f = (filtered p (ids_of v e) i).0 h in (filtered p (ids_of w e) i).1 (held_listed w e i (same i f.1 ∙ listed_held v e i f.0), f.1),
+      ))
+
+  -- who isn't listed by a test holds the same before and after of ids that pass it and another one
+  unlisted_stay : (r p : Id → Bool) (x : ℕ) → (Contains (entities_of p changed) x → ⊥) → filter p (filter r (ids_of after.before x)) ≡ filter p (filter r (ids_of v x))
+  unlisted_stay r p x none =
+      let came = entities_by p changed.came in
+      let went = entities_by p changed.went in
+      filter_twice p r (ids_of after.before x)
+      ∙ passing_stay (λ i. r i && p i) x
+      (λ i h. unlisted p changed.came x (λ m. none (Contains-append_left came went x m)) i (and_parts _ _ h).1)
+      (λ i h. unlisted p changed.went x (λ m. none (Contains-append_right came went x m)) i (and_parts _ _ h).1)
+      ∙ sym (filter_twice p r (ids_of v x))
+
+  module _ (q : Query) (sound : IsSound q) (followed : is_followed q changed ≡ true) (es : List ℕ) (all : AreMoving q v changed es) (e : ℕ) (apart : Contains es e → ⊥) where
+    -- ---- what matters for the entity: of its own ids those that concern the query, of others' ids those that do so for somebody else
+
+    abbrev matters : ℕ → Id → Bool
+    matters x i = if x == e then concerns q i else concerns_beyond q i
+
+    matters_covers : (p : Id → Bool) → ((i : Id) → p i ≡ true → concerns q i ≡ true) → ((i : Id) → p i ≡ true → concerns_beyond q i ≡ true) → (x : ℕ) (i : Id) → p i ≡ true → matters x i ≡ true
+    matters_covers p own beyond x i h = by (x == e)
+      where
+        by : (b : Bool) → (if b then concerns q i else concerns_beyond q i) ≡ true
+        by true = own i h
+        by false = beyond i h
+
+    matters_itself : (i : Id) → matters e i ≡ concerns q i
+    matters_itself i = ap (λ b. if b then concerns q i else concerns_beyond q i) (eq_itself e)
+
+    below_matters : (x : ℕ) (i : Id) → concerns_below q i ≡ true → matters x i ≡ true
+    below_matters = matters_covers (concerns_below q) (below_concern q) (λ i h. or_left (concerns_below q i) (concerns_others q i) h)
+
+    others_matter : (x : ℕ) (i : Id) → concerns_others q i ≡ true → matters x i ≡ true
+    others_matter = matters_covers (concerns_others q) (others_concern q) (λ i h. or_right (concerns_below q i) (concerns_others q i) h)
+
+    -- what is seen of a world but for the rest
+    abbrev seen : WorldState → View
+    seen w = record {
+      entities = entities w;
+      ids = λ x. filter (matters x) (ids_of w x);
+      value = (view_of w).value;
+    }
+
+    seen_links : (w : WorldState) → IsWellFormed w → AreLinks (suc last_index) (entities w) (λ x. filter (matters x) (ids_of w x))
+    seen_links w kept = record {
+      indexes = (are_links w kept).indexes;
+      below = (are_links w kept).below;
+      held = λ x i h. (are_links w kept).held x i ((filtered (matters x) (ids_of w x) i).0 h).0;
+      live = λ x i h. (are_links w kept).live x i ((filtered (matters x) (ids_of w x) i).0 h).0;
+    }
+
+    -- ---- two views
+
+    -- the entity holds the same of what concerns the query; whoever is above it, of what does so for those below; and with whom it holds a pair, of what does so for others,
+    -- as all do where no such fact came or went
+    record AreAlike (w u : View) : Type 0 where
+      own : filter (concerns q) (w.ids e) ≡ filter (concerns q) (u.ids e)
+      above : (r x : ℕ) → Contains (line u.ids u.entities r e) x → filter (concerns_below q) (w.ids x) ≡ filter (concerns_below q) (u.ids x)
+      held : (r x : ℕ) → Contains (u.ids e) (pair r x) → concerns q (pair r x) ≡ true → filter (concerns_others q) (w.ids x) ≡ filter (concerns_others q) (u.ids x)
+      others : any_concerns_others q changed.came ≡ false → any_concerns_others q changed.went ≡ false → (x : ℕ) → filter (concerns_others q) (w.ids x) ≡ filter (concerns_others q) (u.ids x)
+
+    match_alike : (w u : View) → AreLinks (suc last_index) w.entities w.ids → AreLinks (suc last_index) u.entities u.ids → AreAlike w u → Contains (matching w q) e ↔ Contains (matching u q) e
+    match_alike w u links links' alike =
+        let parts = and_parts _ _ followed in
+        elim (from_or (is_tied q) _ parts.1) [
+          | inl tied ↦ match_by_ties (suc last_index) (suc last_index) w u q links links' sound parts.0 tied e alike.own alike.above alike.held
+          | inr none ↦
+              let both = and_parts _ _ none in
+              match_by_own_facts (suc last_index) (suc last_index) w u q links links' sound parts.0
+              (alike.others (not-true (any_concerns_others q changed.came) both.0) (not-true (any_concerns_others q changed.went) both.1)) e alike.own alike.above
+        ]
+
+    -- what doesn't matter makes no difference
+    match_seen : (w : WorldState) → IsWellFormed w → Contains (matching (view_of w) q) e ↔ Contains (matching (seen w) q) e
+    match_seen w kept = match_alike (view_of w) (seen w) (are_links w kept) (seen_links w kept) (record {
+      own = filter_within (concerns q) (matters e) (λ i h. matters_itself i ∙ h) (ids_of w e);
+      above = λ r x there. filter_within (concerns_below q) (matters x) (below_matters x) (ids_of w x);
+      held = λ r x there concerned. filter_within (concerns_others q) (matters x) (others_matter x) (ids_of w x);
+      others = λ came went x. filter_within (concerns_others q) (matters x) (others_matter x) (ids_of w x);
+    })
+
+    -- ---- whoever is above the entity
+
+    -- who holds a pair that matters leans on its target
+    holder_leans : (p : Id → Bool) (y r x : ℕ) → Contains (filter p (ids_of v y)) (pair r x) → Contains (leaning p v x) y
+    holder_leans p y r x held =
+        let f = (filtered p (ids_of v y) (pair r x)).0 held in
+        (filtered (leans p v x) (entities v) y).1
+        ((are_links v kept_now).held y (pair r x) f.0, any_passes (λ i. matches (pairs_to x) i && p i) (ids_of v y) (pair r x) f.0 (and_from _ _ (eq_itself x) f.1))
+
+    abbrev up : ℕ → ℕ → List ℕ
+    up r = upward (λ x. filter (matters x) (ids_of v x)) r
+
+    -- the entity by a pair that concerns the query, another one by one that does so for somebody else
+    itself_leans : (r x : ℕ) → Contains (up r e) x → Contains (leaning (concerns q) v x) e
+    itself_leans r x h =
+        let found = from_filter_map (target_under r) (filter (matters e) (ids_of v e)) x h in
+        subst (λ (p : Id → Bool). Contains (leaning p v x) e) (λ j i. matters_itself i j) (holder_leans (matters e) e r x (subst (Contains (filter (matters e) (ids_of v e))) (to_pair r x found.0 found.2) found.1))
+
+    other_leans : (r y x : ℕ) → (y == e) ≡ false → Contains (up r y) x → Contains (leaning (concerns_beyond q) v x) y
+    other_leans r y x other h =
+        let found = from_filter_map (target_under r) (filter (matters y) (ids_of v y)) x h in
+        subst (λ (p : Id → Bool). Contains (leaning p v x) y) (λ j i. if other j then concerns q i else concerns_beyond q i)
+        (holder_leans (matters y) y r x (subst (Contains (filter (matters y) (ids_of v y))) (to_pair r x found.0 found.2) found.1))
+
+    -- so it leans on whoever is above it, or on somebody below that
+    leans_below : (r x : ℕ) → HasChain (up r) e x → (y : ℕ) × Reached (leaning (concerns_beyond q) v) x y × Contains (leaning (concerns q) v y) e
+    leans_below r x chain = by chain.2
+      where
+        by : {z : ℕ} → Reached (up r) chain.0 z → (y : ℕ) × Reached (leaning (concerns_beyond q) v) z y × Contains (leaning (concerns q) v y) e
+        by itself = (chain.0, itself, itself_leans r chain.0 chain.1)
+        by (onward {y} {z} reached h) = elim (cases_Bool (y == e)) [
+          | inl same ↦ (z, itself, itself_leans r z (subst (λ y. Contains (up r y) z) (eq_same y e same) h))
+          | inr other ↦
+              let rest = by reached in
+              (rest.0, chain_reached (leaning (concerns_beyond q) v) z rest.0 (y, other_leans r y z other h, rest.1), rest.2)
+        ]
+
+    -- ---- before and after
+
+    -- where what came and went concerns no others, all hold the same of what does
+    all_others_stay : any_concerns_others q changed.came ≡ false → any_concerns_others q changed.went ≡ false
+        → (x : ℕ) → filter (concerns_others q) (filter (matters x) (ids_of after.before x)) ≡ filter (concerns_others q) (filter (matters x) (ids_of v x))
+    all_others_stay came went x =
+        filter_twice (concerns_others q) (matters x) (ids_of after.before x)
+        ∙ passing_stay (λ i. matters x i && concerns_others q i) x
+        (λ i h. others_not_among q changed.came came x i (and_parts _ _ h).1)
+        (λ i h. others_not_among q changed.went went x i (and_parts _ _ h).1)
+        ∙ sym (filter_twice (concerns_others q) (matters x) (ids_of v x))
+
+    seen_alike : AreAlike (seen after.before) (seen v)
+    seen_alike = record {
+      own = unlisted_stay (matters e) (concerns q) e (λ h. apart (all.own e h));
+      above = λ r x there. unlisted_stay (matters x) (concerns_below q) x
+          (λ h.
+          let low = leans_below r x (line_chain (up r) (length (entities v)) e x there) in
+          apart (all.held low.0 e ((all.are_targets).below x low.0 h low.1) low.2));
+      held = λ r x there concerned. unlisted_stay (matters x) (concerns_others q) x
+          (λ h.
+          let f = (filtered (matters e) (ids_of v e) (pair r x)).0 there in
+          let held = (filtered (concerns q) (ids_of v e) (pair r x)).1 (f.0, concerned) in
+          apart (all.held x e ((all.are_targets).others x h) (holder_leans (concerns q) e r x held)));
+      others = all_others_stay;
+    }
+
+    pub stay_put : Contains (matching (view_before v changed) q) e ↔ Contains (matching (view_of v) q) e
+    stay_put =
+        let first = match_seen after.before after.kept in
+        let middle = match_alike (seen after.before) (seen v) (seen_links after.before after.kept) (seen_links v kept_now) seen_alike in
+        let last = match_seen v kept_now in
+        let were = queries_matched_before after.before v after.command changed q after.kept after.stepped in (
+          λ h. last.1 (middle.0 (first.0 (subst (λ es. Contains es e) were h))),
+          λ h. subst (λ es. Contains es e) (sym were) (first.1 (middle.1 (last.0 h))),
+        )
+
+pub others_than_moving_stay : OthersThanMovingStay
+others_than_moving_stay v changed q kept_now after sound followed es all e apart = stay_put v changed kept_now after q sound followed es all e apart

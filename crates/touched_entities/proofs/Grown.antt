@@ -1,0 +1,91 @@
+-- Lists that have grown, and have all that were wanted.
+use Rattle.std.specs.Prelude.{◌≡◌, ℕ, ◌+◌, ◌<◌, ◌==◌, ◌&&◌, Bool, true, false, List, [], ◌∷◌, ◌++◌, filter, flat_map, length, map, take}
+use Rattle.std.specs.List.{Contains, list_any}
+use Rattle.std.proofs.Common.{refl, sym, ap, subst, ◌∙◌, inl, inr, append_assoc, arith, cond, get_or}
+use Rattle.std.proofs.lemmas.Bool.{and_parts}
+use Rattle.std.proofs.lemmas.Grind.{flat_map-append}
+use Rattle.std.proofs.lemmas.List.{map-append, take_more}
+use Rattle.std.proofs.lemmas.List.Elements.{Contains-append_cases, Contains-append_left, filter-append}
+use Rattle.component_index.specs.Patterns.{matches}
+use Rattle.ecs_id.specs.Id.{Id}
+use Rattle.ecs_model.specs.World.{WorldState, entities, ids_of}
+use Rattle.ecs_model.proofs.Members.{any_passes, eq_same, filtered, head_or_tail, passing}
+use Rattle.touched_entities.specs.Leaning.{Adds, leaning, leans, pairs_to}
+
+-- whoever was there still is
+pub still : (a x y : List ℕ) → Adds a x y → (e : ℕ) → Contains x e → Contains y e
+still a x y h e m = subst (λ zs. Contains zs e) (sym h.behind) (Contains-append_left x h.more e m)
+
+pub nothing_behind : (xs : List ℕ) → xs ≡ xs ++ []
+nothing_behind [] = refl
+nothing_behind (x ∷ xs) = ap (λ ys. x ∷ ys) (nothing_behind xs)
+
+-- all that are wanted may be there already
+pub already : (a x : List ℕ) → ((e : ℕ) → Contains a e → Contains x e) → Adds a x x
+already a x there = record { more = []; behind = nothing_behind x; all = there }
+
+-- it grows in two steps
+pub and_then : (a b x y z : List ℕ) → Adds a x y → Adds b y z → Adds (a ++ b) x z
+and_then a b x y z h k = record {
+  more = h.more ++ k.more;
+  behind = k.behind ∙ ap (λ zs. zs ++ k.more) h.behind ∙ append_assoc x h.more k.more;
+  all = λ e m. elim (Contains-append_cases a b e m) [ inl first ↦ still b y z k e (h.all e first) | inr later ↦ k.all e later ];
+}
+
+-- fewer may be wanted
+pub fewer : (a b x y : List ℕ) → Adds a x y → ((e : ℕ) → Contains b e → Contains a e) → Adds b x y
+fewer a b x y h less = record { more = h.more; behind = h.behind; all = λ e m. h.all e (less e m) }
+
+-- all who lean on an entity are among those who hold a pair with it
+module _ (p : Id → Bool) (w : WorldState) (x : ℕ) (holders : List ℕ)
+    (exactly : (e : ℕ) → Contains (filter (λ e. list_any (matches (pairs_to x)) (ids_of w e)) (entities w)) e → Contains holders e) where
+  pub leaning_are_holders : (e : ℕ) → Contains (leaning p w x) e → Contains (filter (leans p w x) holders) e
+  leaning_are_holders e h =
+      let f = (filtered (leans p w x) (entities w) e).0 h in
+      let found = passing (λ i. matches (pairs_to x) i && p i) (ids_of w e) f.1 in
+      let i : Id = found.0 in
+      let pair_held = any_passes (matches (pairs_to x)) (ids_of w e) i found.1 (and_parts _ _ found.2).0 in
+      (filtered (leans p w x) holders e).1 (exactly e ((filtered (λ e. list_any (matches (pairs_to x)) (ids_of w e)) (entities w) e).1 (f.0, pair_held)), f.1)
+
+-- whoever is there already needn't be added
+pub there_already : (xs : List ℕ) (x : ℕ) → list_any (λ y. y == x) xs ≡ true → Adds (x ∷ []) xs xs
+there_already xs x h =
+    let found = passing (λ y. y == x) xs h in
+    already (x ∷ []) xs
+    (λ e m. elim (head_or_tail x e [] m) [ inl same ↦ subst (Contains xs) (eq_same found.0 x found.2 ∙ same) found.1 | inr none ↦ absurd (omega (arith, none.1)) ])
+
+-- ---- one item more of a list
+
+module _ {X : Type 0} (p : ℕ → Bool) (index : X → ℕ) (xs : List X) (i : ℕ) (inside : i < length xs) (d : X) where
+  one_more : filter p (map index (take (i + 1) xs)) ≡ filter p (map index (take i xs)) ++ filter p (index (get_or xs i d) ∷ [])
+  one_more =
+      ap (λ ys. filter p (map index ys)) (take_more xs i d inside)
+      ∙ ap (filter p) (map-append index (take i xs) (get_or xs i d ∷ []))
+      ∙ filter-append p (map index (take i xs)) (index (get_or xs i d) ∷ [])
+
+  by_test : (b : Bool) → p (index (get_or xs i d)) ≡ b → filter p (map index (take i xs)) ++ cond b (index (get_or xs i d) ∷ []) [] ≡ filter p (map index (take (i + 1) xs))
+  by_test b is = ap (λ b. filter p (map index (take i xs)) ++ cond b (index (get_or xs i d) ∷ []) []) (sym is) ∙ sym one_more
+
+  pub passed : (x y z : List ℕ) → Adds (filter p (map index (take i xs))) x y → p (index (get_or xs i d)) ≡ true → Adds (index (get_or xs i d) ∷ []) y z → Adds (filter p (map index (take (i + 1) xs))) x z
+  passed x y z h passes k =
+      subst (λ a. Adds a x z) (by_test true passes) (and_then (filter p (map index (take i xs))) (index (get_or xs i d) ∷ []) x y z h k)
+
+  pub failed : (x y : List ℕ) → Adds (filter p (map index (take i xs))) x y → p (index (get_or xs i d)) ≡ false → Adds (filter p (map index (take (i + 1) xs))) x y
+  failed x y h fails =
+      subst (λ a. Adds a x y) (by_test false fails) (and_then (filter p (map index (take i xs))) [] x y y h (already [] y (λ e m. absurd (omega (arith, m.1)))))
+
+more_of : {X : Type 0} (next : X → List ℕ) (xs : List X) (x : X) → flat_map next (xs ++ (x ∷ [])) ≡ flat_map next xs ++ next x
+more_of next xs x = flat_map-append next xs (x ∷ []) ∙ ap (λ ys. flat_map next xs ++ ys) (sym (nothing_behind (next x)))
+
+-- all that one item more gives
+pub given : {X : Type 0} (next : X → List ℕ) (xs : List X) (i : ℕ) → i < length xs → (d : X) (x y z : List ℕ) → Adds (flat_map next (take i xs)) x y → Adds (next (get_or xs i d)) y z → Adds (flat_map next (take (i + 1) xs)) x z
+given next xs i inside d x y z h k =
+    subst (λ a. Adds a x z) (sym (ap (flat_map next) (take_more xs i d inside) ∙ more_of next (take i xs) (get_or xs i d))) (and_then (flat_map next (take i xs)) (next (get_or xs i d)) x y z h k)
+
+-- those of it that pass a test
+pub given_within : {X : Type 0} (p : ℕ → Bool) (next : X → List ℕ) (xs : List X) (i : ℕ) → i < length xs → (d : X) (x y z : List ℕ) → Adds (filter p (flat_map next (take i xs))) x y → Adds (filter p (next (get_or xs i d))) y z
+    → Adds (filter p (flat_map next (take (i + 1) xs))) x z
+given_within p next xs i inside d x y z h k =
+    subst (λ a. Adds a x z)
+    (sym (ap (λ ys. filter p (flat_map next ys)) (take_more xs i d inside) ∙ ap (filter p) (more_of next (take i xs) (get_or xs i d)) ∙ filter-append p (flat_map next (take i xs)) (next (get_or xs i d))))
+    (and_then (filter p (flat_map next (take i xs))) (filter p (next (get_or xs i d))) x y z h k)

@@ -1,0 +1,64 @@
+-- Who may move in or out of a query's rows by a command, and what is told of the rows but for those who have to be asked.
+use Rattle.std.specs.Prelude.{◌⊎◌, ℕ, Bool, not, ◌&&◌, ◌||◌, List, ◌++◌, filter, map}
+use Rattle.std.specs.List.{Contains, list_any}
+use Rattle.std.specs.List.Sorted.{IsStrictlyIncreasing}
+use Rattle.ecs_id.specs.Id.{Id}
+use Rattle.ecs_model.specs.Command.{Changed}
+use Rattle.ecs_model.specs.World.{WorldState, Key, entities, ids_of, is_live}
+use Rattle.ecs_model.specs.rows.View.{view_of}
+use Rattle.ecs_model.specs.stored.Watches.{matching}
+use Rattle.query_concerns.specs.Anchored.{is_anchored}
+use Rattle.query_concerns.specs.Concerns.{concerns}
+use Rattle.query_concerns.specs.Others.{concerns_below, concerns_others}
+use Rattle.query_concerns.specs.OwnIds.{lacks, meets}
+use Rattle.query_concerns.specs.Tied.{is_tied}
+use Rattle.query_model.specs.Query.{Query}
+use Rattle.touched_entities.specs.Leaning.{HasAllBelow, concerns_beyond, leaning}
+
+-- the entities of those facts that pass a test by their ids
+abbrev pub entities_by : (Id → Bool) → List Key → List ℕ
+entities_by p ks = map (λ k. k.0) (filter (λ k. p k.1) ks)
+
+-- those of whom such a fact came or went
+abbrev pub entities_of : (Id → Bool) → Changed → List ℕ
+entities_of p changed = entities_by p changed.came ++ entities_by p changed.went
+
+-- whether one of these facts concerns a query for others than its own entity and those below that
+abbrev pub any_concerns_others : Query → List Key → Bool
+any_concerns_others q ks = list_any (λ k. concerns_others q k.1) ks
+
+-- whether all who may move can be found: births and deaths don't matter, and what came and went concerns the query for no others, or it is tied
+abbrev pub is_followed : Query → Changed → Bool
+is_followed q changed = is_anchored q && (is_tied q || (not (any_concerns_others q changed.came) && not (any_concerns_others q changed.went)))
+
+module _ (q : Query) (w : WorldState) where
+  -- among these are all with whom somebody holds a pair who may move by another one's fact: those of whom a fact that concerns others came or went,
+  -- those of whom one did that concerns those below, and all below these
+  pub record AreTargets (changed : Changed) (xs : List ℕ) : Type 0 where
+    pub others : (x : ℕ) → Contains (entities_of (concerns_others q) changed) x → Contains xs x
+    pub below : HasAllBelow (concerns_beyond q) w (entities_of (concerns_below q) changed) xs
+
+  -- among these are all who may move: those whose own facts came or went, and those who hold a pair that concerns the query with one of such targets.
+  -- They hold it now: who held one before alone has lost it by a fact of its own
+  pub record AreMoving (changed : Changed) (es : List ℕ) : Type 0 where
+    pub own : (e : ℕ) → Contains (entities_of (concerns q) changed) e → Contains es e
+    pub targets : List ℕ
+    pub are_targets : AreTargets changed targets
+    pub held : (x e : ℕ) → Contains targets x → Contains (leaning (concerns q) w x) e → Contains es e
+
+  -- whether an entity's ids tell that it is `$this` of a row
+  abbrev pub is_sure : ℕ → Bool
+  is_sure e = is_live w e && not (lacks q (ids_of w e)) && meets q (ids_of w e)
+
+  -- whether they don't tell whether it is
+  abbrev pub is_open : ℕ → Bool
+  is_open e = is_live w e && not (lacks q (ids_of w e)) && not (meets q (ids_of w e))
+
+  -- some entities of rows, and some more who are to be asked: all entities of the rows are among both
+  pub record TellsRows (rows asked : List ℕ) : Type 0 where
+    pub rows_ascend : IsStrictlyIncreasing rows
+    pub asked_ascend : IsStrictlyIncreasing asked
+    pub apart : (e : ℕ) → Contains rows e → Contains asked e → ⊥
+    pub lives : (e : ℕ) → Contains asked e → Contains (entities w) e
+    pub matched : (e : ℕ) → Contains rows e → Contains (matching (view_of w) q) e
+    pub all : (e : ℕ) → Contains (matching (view_of w) q) e → Contains rows e ⊎ Contains asked e

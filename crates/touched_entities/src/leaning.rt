@@ -1,0 +1,183 @@
+//! Who leans on an entity: who holds a pair with it that concerns a query.
+
+ghost use Rattle.std.specs.Prelude.{◌≡◌, ◌==◌, ◌∷◌, [], true, filter, flat_map, map, IfOk, OnOk};
+ghost use Rattle.std.specs.List.{list_any};
+ghost use Rattle.component_index.specs.Patterns.{matches};
+ghost use Rattle.touched_entities.specs.Leaning.{Adds, HasAllBelow, concerns_for, leaning, leans, pairs_to};
+
+use crate::touching::ids_at;
+use crate::whom::{Whom, concerns_for};
+use component_index::{Part, Pattern};
+use ecs_id::{EntityId, Id, TableKey};
+use ecs_world::World;
+use query_check::Query;
+use rel_travel::Holders;
+use std::alloc::{AllocError, Allocator};
+
+/// How many entities are found at most, and how many are looked at for one of them: if there are more, all rows are found in less time.
+pub(crate) const MOST: usize = 64;
+
+/// How many tables are gone through for one of them. Most may be empty.
+const MOST_TABLES: usize = 256;
+
+/// Adds those who lean on one of these entities by a pair that concerns a query so. False, where these may be too many: then not all are added.
+pub(crate) fn push_leaning_on_all<A: Allocator, B: Allocator>(
+    query: &Query<B>,
+    whom: Whom,
+    world: &World<A>,
+    targets: &[u32],
+    found: &mut Vec<u32, A>,
+) -> Result<bool, AllocError>
+    ensures { IfOk result (λ done. done ≡ true → Adds (flat_map (leaning (concerns_for whom query.now) world.now.state) targets.now) found.old.items found.new.items) }
+{
+    if targets.len() > MOST {
+        return Ok(false);
+    }
+    for target in targets {
+        if !push_leaning(query, whom, world, *target, found)? {
+            return Ok(false);
+        }
+    }
+    Ok(true)
+}
+
+/// Adds those who lean on one of these, those who lean on one of those, and so on. False, where these may be too many.
+pub(crate) fn push_all_below<A: Allocator, B: Allocator>(
+    query: &Query<B>,
+    whom: Whom,
+    world: &World<A>,
+    found: &mut Vec<u32, A>,
+) -> Result<bool, AllocError>
+    ensures { IfOk result (λ done. done ≡ true → HasAllBelow (concerns_for whom query.now) world.now.state found.old.items found.new.items) }
+{
+    for next in 0..MOST {
+        if next >= found.len() {
+            return Ok(true);
+        }
+        let target = found[next];
+        if !push_leaning(query, whom, world, target, found)? {
+            return Ok(false);
+        }
+    }
+    Ok(found.len() <= MOST)
+}
+
+/// Adds those who lean on this entity. False, where these may be too many.
+fn push_leaning<A: Allocator, B: Allocator>(
+    query: &Query<B>,
+    whom: Whom,
+    world: &World<A>,
+    target: u32,
+    found: &mut Vec<u32, A>,
+) -> Result<bool, AllocError>
+    ensures { IfOk result (λ done. done ≡ true → Adds (leaning (concerns_for whom query.now) world.now.state target) found.old.items found.new.items) }
+{
+    let links = world.links();
+    let pattern = Pattern {
+        first: Part::Any,
+        second: Some(Part::Is(target)),
+    };
+    let tables = links.tables_of(pattern);
+    if !are_few(&links, tables) {
+        return Ok(false);
+    }
+    push_from_tables(query, whom, world, &links, tables, target, found)?;
+    Ok(found.len() <= MOST)
+}
+
+/// Whether few entities stand in these tables, and these are few.
+fn are_few<G: Holders>(graph: &G, tables: &[TableKey]) -> bool {
+    if tables.len() > MOST_TABLES {
+        return false;
+    }
+    let mut free = MOST;
+    for table in tables {
+        let count = graph.rows(*table).len();
+        if count > free {
+            return false;
+        }
+        free -= count;
+    }
+    true
+}
+
+/// Adds those in these tables who lean on an entity.
+fn push_from_tables<G: Holders, A: Allocator, B: Allocator>(
+    query: &Query<B>,
+    whom: Whom,
+    world: &World<A>,
+    graph: &G,
+    tables: &[TableKey],
+    target: u32,
+    found: &mut Vec<u32, A>,
+) -> Result<(), AllocError>
+    ensures { OnOk result (Adds (filter (leans (concerns_for whom query.now) world.now.state target) (flat_map (G.rows graph.now) tables.now)) found.old.items found.new.items) }
+{
+    for table in tables {
+        push_from(query, whom, world, graph.rows(*table), target, found)?;
+    }
+    Ok(())
+}
+
+/// Adds those of these entities who lean on another one.
+fn push_from<A: Allocator, B: Allocator>(
+    query: &Query<B>,
+    whom: Whom,
+    world: &World<A>,
+    entities: &[EntityId],
+    target: u32,
+    found: &mut Vec<u32, A>,
+) -> Result<(), AllocError>
+    ensures { OnOk result (Adds (filter (leans (concerns_for whom query.now) world.now.state target) (map (λ e. e.index) entities.now)) found.old.items found.new.items) }
+{
+    for entity in entities {
+        if leans(query, whom, world, target, entity.index) {
+            push_new(entity.index, found)?;
+        }
+    }
+    Ok(())
+}
+
+/// Adds an entity that isn't there yet.
+fn push_new<A: Allocator>(entity: u32, found: &mut Vec<u32, A>) -> Result<(), AllocError>
+    ensures { OnOk result (Adds (entity ∷ []) found.old.items found.new.items) }
+{
+    if !is_among(found.as_slice(), entity) {
+        found.push(entity)?;
+    }
+    Ok(())
+}
+
+pub(crate) fn is_among(entities: &[u32], entity: u32) -> bool
+    ensures { result ≡ list_any (λ x. x == entity) entities.now }
+{
+    entities.iter().any(|x| *x == entity)
+}
+
+/// Whether an entity leans on this target.
+fn leans<A: Allocator, B: Allocator>(
+    query: &Query<B>,
+    whom: Whom,
+    world: &World<A>,
+    target: u32,
+    entity: u32,
+) -> bool
+    ensures { result ≡ leans (concerns_for whom query.now) world.now.state target entity }
+{
+    let ids = ids_at(world, entity);
+    for id in ids {
+        if is_pair_to(*id, target) && concerns_for(query, whom, *id) {
+            return true;
+        }
+    }
+    false
+}
+
+fn is_pair_to(id: Id, target: u32) -> bool
+    ensures { result ≡ matches (pairs_to target) id }
+{
+    match id.second() {
+        Some(second) => second == target,
+        None => false,
+    }
+}

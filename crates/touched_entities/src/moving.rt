@@ -1,0 +1,219 @@
+//! What becomes of a query's rows where few entities have to be asked to tell.
+
+ghost use Rattle.std.specs.Prelude.{◌≡◌, ◌↔◌, ◌==◌, ◌++◌, ℕ, Contains, filter, not, IfOk, IfSome, OnOk};
+ghost use Rattle.std.specs.List.{list_any};
+ghost use Rattle.std.specs.List.Sorted.{IsStrictlyIncreasing};
+ghost use Rattle.ecs_model.specs.World.{is_live};
+ghost use Rattle.ecs_model.specs.rows.View.{view_of};
+ghost use Rattle.ecs_model.specs.stored.Watches.{matching};
+ghost use Rattle.query_meaning.specs.Sound.{IsSound};
+ghost use Rattle.touched_entities.specs.Before.{view_before};
+ghost use Rattle.touched_entities.specs.Bonds.{bonds_of};
+ghost use Rattle.touched_entities.specs.Leaning.{concerns_for};
+ghost use Rattle.touched_entities.specs.Moving.{AreMoving, AreTargets, TellsRows, any_concerns_others, entities_by, entities_of, is_followed, is_open, is_sure};
+ghost use Rattle.watch_meaning.specs.Since.{IsAfter};
+
+use crate::Bonds;
+use crate::indexes::put_in_order;
+use crate::leaning::{MOST, is_among, push_all_below, push_leaning_on_all};
+use crate::touching::ids_at;
+use crate::whom::{Whom, concerns_for};
+use ecs_model::FactKey;
+use ecs_world::{Changes, World};
+use query_check::Query;
+use query_concerns::{concerns_others, lacks, meets};
+use std::alloc::{AllocError, Allocator};
+
+/// What is told of a query's rows after a command without a search of all: entities of rows, and those of whom a search has to tell whether they
+/// are. Both ascend.
+#[derive(Drop)]
+pub struct Moved<A: Allocator> {
+    pub rows: Vec<u32, A>,
+    pub asked: Vec<u32, A>,
+}
+
+/// What is told of a query's rows after a command by those before it: who is in them for sure, and who has to be asked. Others aren't in them.
+/// Those asked are few.
+///
+/// None, where that can't be told: of a query that isn't anchored, where a fact concerns others than its entity and the query isn't tied, or where
+/// too many may have moved. Takes time in what has changed, and in the rows before for each that may have moved. Fails where memory is refused.
+pub fn rows_but_for_asked<A: Allocator + Copy, B: Allocator>(
+    alloc: A,
+    world: &World<A>,
+    changes: &Changes<A>,
+    query: &Query<B>,
+    bonds: Bonds,
+    before: &[u32],
+) -> Result<Option<Moved<A>>, AllocError>
+    requires bonds { bonds ≡ bonds_of query.now }
+    requires after { IsAfter world.now.state changes.now }
+    requires sound { IsSound query.now }
+    requires before { before.now ≡ matching (view_before world.now.state changes.now) query.now }
+    ensures { IfOk result (λ found. IfSome found (λ moved. TellsRows query.now world.now.state moved.rows.items moved.asked.items)) }
+{
+    world.keeps();
+    if !is_followed(query, bonds, changes) {
+        return Ok(None);
+    }
+    let Some(found) = moving(alloc, query, world, changes)? else {
+        return Ok(None);
+    };
+    let moving = found.as_slice();
+    if moving.len() > MOST {
+        return Ok(None);
+    }
+    let mut rows = apart_from(alloc, moving, before)?;
+    let mut asked = Vec::new(alloc);
+    push_by_ids(query, world, moving, &mut rows, &mut asked)?;
+    put_in_order(&mut rows);
+    Ok(Some(Moved { rows, asked }))
+}
+
+/// Those of some entities who aren't moving.
+fn apart_from<A: Allocator + Copy>(
+    alloc: A,
+    moving: &[u32],
+    entities: &[u32],
+) -> Result<Vec<u32, A>, AllocError>
+    ensures { IfOk result (λ rows. rows.items ≡ filter (λ e. not (list_any (λ x. x == e) moving.now)) entities.now) }
+{
+    let mut rows = Vec::with_capacity(alloc, entities.len())?;
+    for entity in entities {
+        if !is_among(moving, *entity) {
+            rows.push(*entity)?;
+        }
+    }
+    Ok(rows)
+}
+
+/// Adds those of some entities to rows whose ids tell that they are `$this` of one, and to those who have to be asked whose ids don't tell.
+fn push_by_ids<A: Allocator, B: Allocator>(
+    query: &Query<B>,
+    world: &World<A>,
+    entities: &[u32],
+    rows: &mut Vec<u32, A>,
+    asked: &mut Vec<u32, A>,
+) -> Result<(), AllocError>
+    ensures rows { OnOk result (rows.new.items ≡ rows.old.items ++ filter (is_sure query.now world.now.state) entities.now) }
+    ensures asked { OnOk result (asked.new.items ≡ asked.old.items ++ filter (is_open query.now world.now.state) entities.now) }
+{
+    for entity in entities {
+        let ids = ids_at(world, *entity);
+        if lives(world, *entity) && !lacks(query, ids) {
+            if meets(query, ids) {
+                rows.push(*entity)?;
+            } else {
+                asked.push(*entity)?;
+            }
+        }
+    }
+    Ok(())
+}
+
+fn lives<A: Allocator>(world: &World<A>, entity: u32) -> bool
+    ensures { result ≡ is_live world.now.state entity }
+{
+    world.at(entity).is_some()
+}
+
+/// Whether all who may have moved can be found: births and deaths don't matter, and what came and went concerns a query for no others than the
+/// entities whose facts these are and those below, or for those alone who hold a pair with one of these.
+fn is_followed<A: Allocator, B: Allocator>(
+    query: &Query<B>,
+    bonds: Bonds,
+    changes: &Changes<A>,
+) -> bool
+    requires bonds { bonds ≡ bonds_of query.now }
+    ensures { result ≡ is_followed query.now changes.now }
+{
+    bonds.anchored
+        && (bonds.tied
+            || (!any_concerns_others(query, changes.came())
+                && !any_concerns_others(query, changes.went())))
+}
+
+/// Whether one of these facts concerns a query for others than its own entity and those below that.
+fn any_concerns_others<B: Allocator>(query: &Query<B>, facts: &[FactKey]) -> bool
+    ensures { result ≡ any_concerns_others query.now facts.now }
+{
+    for fact in facts {
+        if concerns_others(query, fact.id()) {
+            return true;
+        }
+    }
+    false
+}
+
+/// All who may have moved, in order, unless they may be too many.
+fn moving<A: Allocator + Copy, B: Allocator>(
+    alloc: A,
+    query: &Query<B>,
+    world: &World<A>,
+    changes: &Changes<A>,
+) -> Result<Option<Vec<u32, A>>, AllocError>
+    ensures ascend { IfOk result (λ found. IfSome found (λ moving. IsStrictlyIncreasing moving.items)) }
+    ensures all { IfOk result (λ found. IfSome found (λ moving. AreMoving query.now world.now.state changes.now moving.items)) }
+{
+    let Some(targets) = targets(alloc, query, world, changes)? else {
+        return Ok(None);
+    };
+    let mut moving = Vec::new(alloc);
+    push_entities(query, Whom::Anyone, changes, &mut moving)?;
+    put_in_order(&mut moving);
+    if !push_leaning_on_all(query, Whom::Anyone, world, targets.as_slice(), &mut moving)? {
+        return Ok(None);
+    }
+    put_in_order(&mut moving);
+    Ok(Some(moving))
+}
+
+/// All with whom somebody holds a pair who may have moved by another one's fact, in order, unless they may be too many: those of whom a fact that
+/// concerns others came or went, those of whom one did that concerns those below, and all below these.
+fn targets<A: Allocator + Copy, B: Allocator>(
+    alloc: A,
+    query: &Query<B>,
+    world: &World<A>,
+    changes: &Changes<A>,
+) -> Result<Option<Vec<u32, A>>, AllocError>
+    ensures { IfOk result (λ found. IfSome found (λ targets. AreTargets query.now world.now.state changes.now targets.items)) }
+{
+    let mut targets = Vec::new(alloc);
+    push_entities(query, Whom::Below, changes, &mut targets)?;
+    put_in_order(&mut targets);
+    if !push_all_below(query, Whom::Beyond, world, &mut targets)? {
+        return Ok(None);
+    }
+    push_entities(query, Whom::Others, changes, &mut targets)?;
+    put_in_order(&mut targets);
+    Ok(Some(targets))
+}
+
+/// Adds those of whom a fact that concerns a query so came or went.
+fn push_entities<A: Allocator, B: Allocator>(
+    query: &Query<B>,
+    whom: Whom,
+    changes: &Changes<A>,
+    found: &mut Vec<u32, A>,
+) -> Result<(), AllocError>
+    ensures { OnOk result (found.new.items ≡ found.old.items ++ entities_of (concerns_for whom query.now) changes.now) }
+{
+    push_entities_by(query, whom, changes.came(), found)?;
+    push_entities_by(query, whom, changes.went(), found)
+}
+
+/// Adds the entities of those facts that concern a query so.
+fn push_entities_by<A: Allocator, B: Allocator>(
+    query: &Query<B>,
+    whom: Whom,
+    facts: &[FactKey],
+    found: &mut Vec<u32, A>,
+) -> Result<(), AllocError>
+    ensures { OnOk result (found.new.items ≡ found.old.items ++ entities_by (concerns_for whom query.now) facts.now) }
+{
+    for fact in facts {
+        if concerns_for(query, whom, fact.id()) {
+            found.push(fact.entity())?;
+        }
+    }
+    Ok(())
+}
