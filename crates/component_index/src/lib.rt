@@ -10,22 +10,21 @@ ghost use Rattle.component_index.specs.Entered.{table_eq, IsMatched};
 ghost use Rattle.component_index.specs.Listings.{listed_in, ListsEntered};
 ghost use Rattle.component_index.specs.declared.pattern.Pattern.{Pattern as Asked};
 
-mod hashing;
 mod listings;
 mod lists;
 mod pattern;
 
-use crate::hashing::{Hashing, KeyHashing};
 use crate::lists::{Lists, list_all, unlist_all};
 use ecs_id::{Id, TableKey};
 use indexmap::IndexMap;
 pub use listings::Listings;
 pub use pattern::{Part, Pattern};
+use secret_hashing::{Hashing, SerialHashing};
 use std::alloc::{AllocError, Allocator, Global};
 use std::hash::RandomState;
 use std::marker::Model;
 
-type Entered<A> = IndexMap<TableKey, Vec<Id, A>, KeyHashing, A>;
+type Entered<A> = IndexMap<TableKey, Vec<Id, A>, SerialHashing, A>;
 
 /// For each pattern, the tables that have an id that it matches.
 ///
@@ -36,7 +35,7 @@ type Entered<A> = IndexMap<TableKey, Vec<Id, A>, KeyHashing, A>;
 pub struct ComponentIndex<A: Allocator = Global> {
     entered: Entered<A>,
     lists: Lists<A>,
-    hashing: KeyHashing,
+    hashing: SerialHashing,
 }
 
 impl<A: Allocator> Model for ComponentIndex<A> {
@@ -62,9 +61,9 @@ impl<A: Allocator + Copy> ComponentIndex<A> {
     {
         let hashing = Hashing::new(random);
         ComponentIndex {
-            entered: IndexMap::with_hasher(alloc, hashing.of_keys()),
+            entered: IndexMap::with_hasher(alloc, hashing.of_serials()),
             lists: IndexMap::with_hasher(alloc, hashing),
-            hashing: hashing.of_keys(),
+            hashing: hashing.of_serials(),
         }
     }
 

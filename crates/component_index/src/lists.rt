@@ -7,13 +7,13 @@ ghost use Rattle.component_index.specs.Patterns.{matches, matches_some};
 ghost use Rattle.component_index.specs.SamePattern.{pattern_eq};
 ghost use Rattle.component_index.specs.Listed.{is_among, is_new, patterns_of, Adds, Drops, Keeps};
 
-use crate::hashing::{Hashing, KeyHashing};
 use crate::pattern::{Part, Pattern};
 use ecs_id::{Id, TableKey};
 use indexmap::{IndexMap, IndexSet};
+use secret_hashing::{Hashing, SerialHashing};
 use std::alloc::{AllocError, Allocator};
 
-pub type List<A> = IndexSet<TableKey, KeyHashing, A>;
+pub type List<A> = IndexSet<TableKey, SerialHashing, A>;
 
 // No list is empty: the entry of a pattern goes with the last table of its list.
 pub type Lists<A> = IndexMap<Pattern, List<A>, Hashing, A>;
@@ -34,7 +34,7 @@ fn make_room<A: Allocator>(list: &mut List<A>) -> Result<(), AllocError>
 /// Puts the table into the list of the pattern, where it isn't in it.
 fn list<A: Allocator + Copy>(
     lists: &mut Lists<A>,
-    hashing: KeyHashing,
+    hashing: SerialHashing,
     pattern: Pattern,
     key: TableKey,
 ) -> Result<(), AllocError>
@@ -68,7 +68,7 @@ fn unlist<A: Allocator>(lists: &mut Lists<A>, pattern: Pattern, key: TableKey)
 /// Puts the table into the list of the pattern, but for one that matches the id before, in whose list the table is.
 fn list_new<A: Allocator + Copy>(
     lists: &mut Lists<A>,
-    hashing: KeyHashing,
+    hashing: SerialHashing,
     before: &Option<Id>,
     pattern: Pattern,
     key: TableKey,
@@ -84,7 +84,7 @@ fn list_new<A: Allocator + Copy>(
 
 fn list_each<A: Allocator + Copy>(
     lists: &mut Lists<A>,
-    hashing: KeyHashing,
+    hashing: SerialHashing,
     before: &Option<Id>,
     patterns: &[Pattern],
     key: TableKey,
@@ -128,7 +128,7 @@ fn unlist_each<A: Allocator>(
 /// Puts the table into the lists of the patterns that match the id, but for those that match the id before.
 fn list_id<A: Allocator + Copy>(
     lists: &mut Lists<A>,
-    hashing: KeyHashing,
+    hashing: SerialHashing,
     before: &Option<Id>,
     id: Id,
     key: TableKey,
@@ -155,7 +155,7 @@ fn unlist_id<A: Allocator>(lists: &mut Lists<A>, before: &Option<Id>, id: Id, ke
 /// Puts the table into the lists of the patterns that match one of the ids. After an error it is in some of them.
 pub fn list_all<A: Allocator + Copy>(
     lists: &mut Lists<A>,
-    hashing: KeyHashing,
+    hashing: SerialHashing,
     ids: &[Id],
     key: TableKey,
 ) -> Result<(), AllocError>

@@ -95,7 +95,7 @@ impl<A: Allocator + Copy> Archetypes<A> {
         ensures whole { IfOk result IsHoused }
     {
         let entities = EntityIndex::new(alloc, LAST_INDEX)?;
-        let tables = TableStore::new(alloc);
+        let tables = TableStore::new(alloc, random);
         let components = ComponentIndex::new(alloc, random);
         Ok(Archetypes {
             entities,

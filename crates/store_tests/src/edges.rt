@@ -2,13 +2,14 @@ use crate::sized::Sized;
 use ecs_id::Id;
 use raw_column::Memory;
 use refusing_alloc::Refusing;
+use std::hash::RandomState;
 use std::test::Fail;
 
 /// An edge is followed without memory. A table that is looked for by its ids takes some, so it shows that they were followed.
 #[test]
 fn edges_need_no_memory(rt: HostRuntime) -> Result<(), Fail> {
     let heap = Refusing::new(rt.alloc());
-    let mut tables = Sized::new(&heap);
+    let mut tables = Sized::new(&heap, RandomState::new(&rt)?);
     let (tag, position) = (Id::plain(100), Id::plain(64));
     let root = tables.root()?;
     let first = tables.with(root, tag)?;

@@ -1,6 +1,7 @@
 use crate::sized::Sized;
 use ecs_id::{Id, TableKey};
 use std::alloc::Global;
+use std::hash::RandomState;
 use std::process::Abort;
 use std::test::Fail;
 
@@ -70,7 +71,7 @@ fn count_since(rt: &impl Abort, tables: &Sized<Global>, serial: u128) -> usize {
 
 #[test]
 fn two_thousand_tables(rt: HostRuntime) -> Result<(), Fail> {
-    let mut tables = Sized::new(rt.alloc());
+    let mut tables = Sized::new(rt.alloc(), RandomState::new(&rt)?);
     let mut made = Vec::new(rt.alloc());
     let root = tables.root()?;
     make_each(&rt, &mut tables, root, &mut made)?;

@@ -3,6 +3,7 @@ use ecs_id::{Id, TableKey};
 use raw_column::Memory;
 use refusing_alloc::Refusing;
 use std::alloc::Allocator;
+use std::hash::RandomState;
 use std::test::Fail;
 
 /// Makes two tables, and room in the second.
@@ -16,9 +17,10 @@ fn grow<A: Allocator + Copy>(tables: &mut Sized<A>) -> Result<TableKey, Memory> 
 #[test]
 fn a_refused_table_is_not_made(rt: HostRuntime) -> Result<(), Fail> {
     let heap = Refusing::new(rt.alloc());
+    let random = RandomState::new(&rt)?;
     let mut refusals = 0;
     for allowed in 0..64u64 {
-        let mut tables = Sized::new(&heap);
+        let mut tables = Sized::new(&heap, random);
         heap.refuse_after(allowed);
         let made = grow(&mut tables);
         heap.refuse_none();

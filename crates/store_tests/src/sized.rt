@@ -5,6 +5,7 @@ ghost use Rattle.store_tests.specs.Sizes.{IsSized, bytes_of};
 use ecs_id::{Id, TableKey};
 use raw_column::Memory;
 use std::alloc::Allocator;
+use std::hash::RandomState;
 use table_store::{SizedId, TableStore};
 
 /// A store in which values of the plain id 64 have 4 bytes, and all other ids are tags.
@@ -25,9 +26,9 @@ fn bytes(id: Id) -> usize
 }
 
 impl<A: Allocator + Copy> Sized<A> {
-    pub fn new(alloc: A) -> Sized<A> {
+    pub fn new(alloc: A, random: RandomState) -> Sized<A> {
         Sized {
-            store: TableStore::new(alloc),
+            store: TableStore::new(alloc, random),
         }
     }
 

@@ -5,15 +5,13 @@ use Rattle.slab.specs.Slab as slots
 use Rattle.slab.specs.Slab.{Slab, Updates, with_value}
 use Rattle.slab.proofs.SlabLemmas.{Updates-with_value}
 use Rattle.std.specs.BTreeMap.{BTreeMap}
-use Rattle.std.specs.declared.vec.Vec.{Vec}
-use Rattle.ecs_id.specs.Id.{Id}
 use Rattle.ecs_id.specs.declared.Place.{Place}
 use Rattle.ecs_id.specs.declared.TableKey.{TableKey}
 use Rattle.ecs_table.specs.Archetype.{Archetype, IsSound}
 use Rattle.table_store.specs.declared.store.Slot.{Slot}
 use Rattle.table_store.specs.Store.{Store, table_at, shape_at, shape_of, key_eq, changed_at, room_at}
 use Rattle.table_store.specs.Rows.{Row, row_at, row_of, rows_in, IsStored, with_row_at}
-use Rattle.table_store.specs.Kept.{Held, store_of, standing, key_of, IsKept, IsSlot}
+use Rattle.table_store.specs.Kept.{ByIds, Held, store_of, standing, key_of, IsKept, IsSlot}
 use Rattle.table_store.proofs.Slots.{table_at-slots, table_at-changed, same_key, key_eq_true, listed_in, none_is_some, one_some, same_seen}
 use Rattle.table_store.proofs.StoreLemmas.{IsStore-shapes, IsSlot-shapes, IsOrder-shapes, same_ids, stored}
 
@@ -82,7 +80,7 @@ module _ {Y : Type 0} (tables new : Slab (Held Y)) (last : ℕ) (s : Store) (vie
     pub shapes : (q : TableKey) → shape_at (store_of new last) q ≡ shape_at s q
     shapes q = ap (option_map shape_of) (changed q) ∙ changed_shape f t (key_eq q k) (table_at s q) (at_key q) same
 
-  module _ (by_ids : BTreeMap (Vec Id Y) TableKey) (by_serial : BTreeMap ℕ TableKey) (kept : IsKept tables by_ids by_serial last) (same : shape_of (f t) ≡ shape_of t) (sound : IsSound (f t))
+  module _ (by_ids : ByIds Y) (by_serial : BTreeMap ℕ TableKey) (kept : IsKept tables by_ids by_serial last) (same : shape_of (f t) ≡ shape_of t) (sound : IsSound (f t))
       (sizes : y.value.sizes ≡ x.value.sizes) (more : y.value.more ≡ x.value.more) (less : y.value.less ≡ x.value.less) where
     abbrev n : Store
     n = store_of new last
@@ -158,7 +156,7 @@ module _ {Y : Type 0} (tables : Slab (Held Y)) (last : ℕ) (s : Store) (view : 
   pub written_shapes : shape_of (f t) ≡ shape_of t → (q : TableKey) → shape_at (store_of new last) q ≡ shape_at s q
   written_shapes = shapes tables new last s view k t at x y is updates f made serial
 
-  pub written_kept : (by_ids : BTreeMap (Vec Id Y) TableKey) (by_serial : BTreeMap ℕ TableKey) → IsKept tables by_ids by_serial last → shape_of (f t) ≡ shape_of t → IsSound (f t) → IsKept new by_ids by_serial last
+  pub written_kept : (by_ids : ByIds Y) (by_serial : BTreeMap ℕ TableKey) → IsKept tables by_ids by_serial last → shape_of (f t) ≡ shape_of t → IsSound (f t) → IsKept new by_ids by_serial last
   written_kept by_ids by_serial kept same sound = IsKept-changed tables new last s view k t at x y is updates f made serial by_ids by_serial kept same sound (ap (λ v. v.sizes) lent) (ap (λ v. v.more) lent) (ap (λ v. v.less) lent)
 
   at_key_new : table_at (store_of new last) k ≡ Some (f t)
@@ -167,7 +165,7 @@ module _ {Y : Type 0} (tables : Slab (Held Y)) (last : ℕ) (s : Store) (view : 
   pub written_room : room_at (store_of new last) k ≡ (f t).room
   written_room = ap (λ o. unwrap_or (option_map (λ v. v.room) o) 0) at_key_new
 
-  pub written_stored : (by_ids : BTreeMap (Vec Id Y) TableKey) (by_serial : BTreeMap ℕ TableKey) → IsKept tables by_ids by_serial last → shape_of (f t) ≡ shape_of t → IsSound (f t) → IsStored (store_of new last)
+  pub written_stored : (by_ids : ByIds Y) (by_serial : BTreeMap ℕ TableKey) → IsKept tables by_ids by_serial last → shape_of (f t) ≡ shape_of t → IsSound (f t) → IsStored (store_of new last)
   written_stored by_ids by_serial kept same sound = stored new by_ids by_serial last (written_kept by_ids by_serial kept same sound) (store_of new last) refl
 
   -- nothing is seen, where the table stays

@@ -2,31 +2,25 @@
 use Rattle.std.proofs.Common.{◌≡◌, ◌≢◌, ◌⊎◌, ◌==◌, ℕ, Bool, true, false, cond, List, Option, refl, sym, ap, subst, ◌∙◌, arith, true≢false, inl, inr}
 use Rattle.std.proofs.lemmas.Slice.Eq.{slice_eq-Decides}
 use Rattle.std.proofs.lemmas.Bool.Decides.{Decides-eqb, nat_tests}
-use Rattle.std.specs.Cmp.Lexicographic.{pointwise, lists_equiv, lists_ties, slice_cmp}
+use Rattle.std.specs.Cmp.Lexicographic.{lists_equiv}
 use Rattle.std.specs.Map.{lookup, KeepsOthers}
+use Rattle.indexmap.specs.IndexMap as hashed
 use Rattle.std.specs.BTreeMap as ordered
 use Rattle.std.specs.BTreeMap.{BTreeMap}
 use Rattle.std.specs.Ordering.{nat_cmp, is_eq}
 use Rattle.std.specs.declared.vec.Vec.{Vec}
-use Rattle.ecs_id.specs.Id.{Id, id_cmp, id_eq, id_decides, id_eq_equiv}
+use Rattle.ecs_id.specs.Id.{Id, id_decides, id_eq_equiv}
 use Rattle.ecs_id.specs.declared.TableKey.{TableKey}
-use Rattle.table_store.specs.Kept.{SetsIds, key_of}
-
--- whether two lists of ids are one, as the index finds it
-abbrev pub ids_eq : List Id → List Id → Bool
-ids_eq xs ys = is_eq (slice_cmp id_cmp xs ys)
-
-as_pairs : (xs ys : List Id) → pointwise id_eq xs ys ≡ ids_eq xs ys
-as_pairs = lists_ties id_cmp (λ x y. refl)
+use Rattle.table_store.specs.Kept.{ByIds, SetsIds, ids_eq, key_of}
 
 pub ids_same : (xs ys : List Id) → ids_eq xs ys ≡ true → xs ≡ ys
-ids_same xs ys e = (slice_eq-Decides id_decides xs ys (pointwise id_eq xs ys) refl).0 (as_pairs xs ys ∙ e)
+ids_same xs ys e = (slice_eq-Decides id_decides xs ys (ids_eq xs ys) refl).0 e
 
 pub ids_eq_true : (xs ys : List Id) → xs ≡ ys → ids_eq xs ys ≡ true
-ids_eq_true xs ys e = sym (as_pairs xs ys) ∙ (slice_eq-Decides id_decides xs ys (pointwise id_eq xs ys) refl).1 e
+ids_eq_true xs ys e = (slice_eq-Decides id_decides xs ys (ids_eq xs ys) refl).1 e
 
 turned : (xs ys : List Id) → ids_eq xs ys ≡ ids_eq ys xs
-turned xs ys = sym (as_pairs xs ys) ∙ (lists_equiv id_eq_equiv).symm xs ys ∙ as_pairs ys xs
+turned xs ys = (lists_equiv id_eq_equiv).symm xs ys
 
 congr : (xs ys zs : List Id) → ids_eq xs ys ≡ true → ids_eq xs zs ≡ ids_eq ys zs
 congr xs ys zs e = ap (λ l. ids_eq l zs) (ids_same xs ys e)
@@ -40,12 +34,21 @@ module _ {Y X : Type 0} where
       apart l at = subst (λ z. ids_eq ys z ≡ false) (ids_same xs l at) (turned ys xs ∙ differ)
 
 -- a look-up after the change of one list's key
-pub get_ids : {Y : Type 0} (m n : BTreeMap (Vec Id Y) TableKey) (xs : List Id) (w : Option TableKey) → SetsIds xs w m n → (ys : List Id) → key_of n ys ≡ cond (ids_eq xs ys) w (key_of m ys)
+pub get_ids : {Y : Type 0} (m n : ByIds Y) (xs : List Id) (w : Option TableKey) → SetsIds xs w m n → (ys : List Id) → key_of n ys ≡ cond (ids_eq xs ys) w (key_of m ys)
 get_ids m n xs w u ys = by (ids_eq xs ys) refl
   where
     by : (b : Bool) → ids_eq xs ys ≡ b → key_of n ys ≡ cond b w (key_of m ys)
     by true e = subst (λ z. key_of n z ≡ w) (ids_same xs ys e) u.1
     by false e = others m.entries n.entries xs ys u.3 e
+
+-- what is set in an index that has grown is set in the index before
+pub SetsIds-grown : {Y : Type 0} (old grown new : ByIds Y) (ids : List Id) (w : Option TableKey) → grown.entries ≡ old.entries → SetsIds ids w grown new → SetsIds ids w old new
+SetsIds-grown {Y} old grown new ids w same u = subst IsSetFrom same u
+  where
+    IsSetFrom : List (Vec Id Y × TableKey) → Type 0
+    IsSetFrom es = ((q : Vec Id Y) → hashed.get (λ v u. ids_eq v.items u.items) new q ≡ cond (ids_eq ids q.items) w (lookup (λ v. ids_eq q.items v.items) es)) × (key_of new ids ≡ w)
+        × ((q : Vec Id Y) → ids_eq ids q.items ≡ false → hashed.get (λ v u. ids_eq v.items u.items) new q ≡ lookup (λ v. ids_eq q.items v.items) es)
+        × KeepsOthers (λ v u. ids_eq v.items u.items) (λ v. ids_eq ids v.items) es new.entries
 
 unequal : (a b : ℕ) → a ≢ b → is_eq (nat_cmp a b) ≡ false
 unequal a b d = grind (arith, nat_tests)

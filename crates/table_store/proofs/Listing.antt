@@ -11,14 +11,11 @@ use Rattle.std.specs.List.Sorted.{IsStrictlySortedBy}
 use Rattle.std.specs.Map.{lookup}
 use Rattle.std.specs.BTreeMap as ordered
 use Rattle.std.specs.BTreeMap.{BTreeMap}
-use Rattle.std.specs.declared.vec.Vec.{Vec}
-use Rattle.std.specs.Cmp.Lexicographic.{slice_cmp}
 use Rattle.slab.specs.Slab as slots
 use Rattle.slab.specs.Slab.{Slab}
-use Rattle.ecs_id.specs.Id.{Id, id_cmp}
 use Rattle.ecs_id.specs.declared.TableKey.{TableKey}
 use Rattle.table_store.specs.Store.{Store, ids_at, shape_at, table_at}
-use Rattle.table_store.specs.Kept.{Held, store_of, standing, tables_from, IsKept, IsOrder, IsSlot}
+use Rattle.table_store.specs.Kept.{ByIds, Held, store_of, standing, tables_from, IsKept, IsOrder, IsSlot, ids_eq}
 use Rattle.table_store.proofs.Slots.{none_is_some, table_at-slots}
 
 module _ {X : Type 0} (p : X → Bool) where
@@ -110,7 +107,7 @@ if_none None P e = tt
 if_none (Some x) P e = absurd (none_is_some x (sym e))
 
 -- a store at its beginning
-module _ {Y : Type 0} (tables : Slab (Held Y)) (by_ids : BTreeMap (Vec Id Y) TableKey) (by_serial : BTreeMap ℕ TableKey) (no_slots : tables.slots ≡ []) (no_ids : by_ids.entries ≡ []) (no_serials : by_serial.entries ≡ []) where
+module _ {Y : Type 0} (tables : Slab (Held Y)) (by_ids : ByIds Y) (by_serial : BTreeMap ℕ TableKey) (no_slots : tables.slots ≡ []) (no_ids : by_ids.entries ≡ []) (no_serials : by_serial.entries ≡ []) where
   abbrev s : Store
   s = store_of tables 0
 
@@ -139,6 +136,6 @@ module _ {Y : Type 0} (tables : Slab (Held Y)) (by_ids : BTreeMap (Vec Id Y) Tab
       listed = λ j. if_none _ _ (ap (λ l. slice_get (tables_from 0 l) j) no_slots ∙ get_nil j);
     };
     slots = λ n. subst (λ o. IfSome o (λ z. IsSlot s z.value)) (sym (vacant n)) tt;
-    index = λ ids k. (λ h. absurd (none_is_some k (sym (ap (lookup (λ v. Rattle.std.specs.Ordering.is_eq (slice_cmp id_cmp ids v.items))) no_ids) ∙ h)), λ h. absurd (none_is_some ids (sym (ap (Rattle.std.specs.Prelude.option_map (λ t. t.ids)) (none_at k)) ∙ h)));
+    index = λ ids k. (λ h. absurd (none_is_some k (sym (ap (lookup (λ v. ids_eq ids v.items)) no_ids) ∙ h)), λ h. absurd (none_is_some ids (sym (ap (Rattle.std.specs.Prelude.option_map (λ t. t.ids)) (none_at k)) ∙ h)));
     order = λ n k. (λ h. absurd (none_is_some k (sym (ap (lookup (λ j. Rattle.std.specs.Ordering.is_eq (nat_cmp n j))) no_serials) ∙ h)), λ h. absurd (absent k h.0));
   }

@@ -8,7 +8,6 @@ use Rattle.slab.specs.Slab as slots
 use Rattle.slab.specs.Slab.{Slab, Updates}
 use Rattle.std.specs.BTreeMap as ordered
 use Rattle.std.specs.BTreeMap.{BTreeMap}
-use Rattle.std.specs.declared.vec.Vec.{Vec}
 use Rattle.ecs_id.specs.Id.{Id, id_cmp}
 use Rattle.ecs_id.specs.declared.Place.{Place}
 use Rattle.ecs_id.specs.declared.TableKey.{TableKey}
@@ -16,11 +15,11 @@ use Rattle.ecs_table.specs.Archetype.{Archetype, IsSound}
 use Rattle.table_store.specs.declared.store.Slot.{Slot}
 use Rattle.table_store.specs.Store.{Store, Shape, IsStore, table_at, ids_at, shape_at, shape_of, shaped, shaped_at, with_id, without_id, find_in, key_eq, made_at}
 use Rattle.table_store.specs.Rows.{row_at, row_of}
-use Rattle.table_store.specs.Kept.{Held, HasNoEdge, store_of, key_of, SetsIds, IsKept, IsSlot, IsIndex, IsOrder}
+use Rattle.table_store.specs.Kept.{ByIds, Held, HasNoEdge, store_of, key_of, SetsIds, IsKept, IsSlot, IsIndex, IsOrder, ids_eq}
 use Rattle.table_store.proofs.Slots.{table_at-made, same_key, key_eq_true, key_eq_false, listed_in, none_is_some, one_some}
 use Rattle.table_store.proofs.StoreLemmas.{ids_of, ids_in_shape}
 use Rattle.table_store.proofs.Shapes.{HaveSizes, size_found, shape_of_shaped, all_small}
-use Rattle.table_store.proofs.Indexes.{ids_eq, ids_same, ids_eq_true, get_ids, get_serial}
+use Rattle.table_store.proofs.Indexes.{ids_same, ids_eq_true, get_ids, get_serial}
 
 pub none_of : {X : Type 0} (o : Option X) → ((x : X) → o ≡ Some x → ⊥) → o ≡ None
 none_of None h = refl
@@ -45,7 +44,7 @@ zip_parts : (f : Shape) → ◌≡◌ {A = Shape} (zip (ids_of f) (map (λ c. c.
 zip_parts [] = refl
 zip_parts (c ∷ f) = ap (λ l. c ∷ l) (zip_parts f)
 
-module _ {Y : Type 0} (tables new : Slab (Held Y)) (by_ids named : BTreeMap (Vec Id Y) TableKey) (by_serial dated : BTreeMap ℕ TableKey) (last : ℕ) (kept : IsKept tables by_ids by_serial last)
+module _ {Y : Type 0} (tables new : Slab (Held Y)) (by_ids named : ByIds Y) (by_serial dated : BTreeMap ℕ TableKey) (last : ℕ) (kept : IsKept tables by_ids by_serial last)
     (f : Shape) (k : TableKey) (y : Held Y) (sorted : IsTrue (is_sorted id_cmp f)) (small : (j : ℕ) → IfSome (slice_get f j) (λ c. c.1 ≤ 64)) (sizes : HaveSizes (store_of tables last) f)
     (missing : key_of by_ids (ids_of f) ≡ None) (serial : k.serial ≡ last + 1) (free : slots.get tables k.slot ≡ None) (u : Updates tables new k.slot (Some y))
     (ys : y.value.serial ≡ k.serial) (yt : y.value.table ≡ shaped f) (yf : y.value.sizes.items ≡ map (λ c. c.1) f) (no_more : HasNoEdge y.value.more) (no_less : HasNoEdge y.value.less) (numbered : k.slot < 2 ^ 32 - 1) where

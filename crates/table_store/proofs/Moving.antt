@@ -5,8 +5,6 @@ use Rattle.slab.specs.Slab as slots
 use Rattle.slab.specs.Slab.{Slab, Updates, with_value, slab_len}
 use Rattle.slab.proofs.SlabLemmas.{Updates-with_value}
 use Rattle.std.specs.BTreeMap.{BTreeMap}
-use Rattle.std.specs.declared.vec.Vec.{Vec}
-use Rattle.ecs_id.specs.Id.{Id}
 use Rattle.ecs_id.specs.declared.Place.{Place}
 use Rattle.ecs_id.specs.declared.TableKey.{TableKey}
 use Rattle.ecs_table.specs.Archetype.{Archetype, HaveEqualSizes, HaveOneSize, IsSound, with_moved, without_row}
@@ -15,7 +13,7 @@ use Rattle.ecs_table.proofs.Soundness.{sound_with_moved, sound_without_row}
 use Rattle.table_store.specs.declared.store.Slot.{Slot}
 use Rattle.table_store.specs.Store.{Shape, Store, changed_at, key_eq, moved_at, shape_at, shape_of, table_at}
 use Rattle.table_store.specs.Rows.{IsStored, Row, carried, filler, gap_filled, last_place, moved_rows, removed_rows, row_at, row_of, same_place, with_row_at, without_row_at}
-use Rattle.table_store.specs.Kept.{Held, store_of, IsKept}
+use Rattle.table_store.specs.Kept.{ByIds, Held, store_of, IsKept}
 use Rattle.table_store.proofs.Slots.{key_eq_false, one_some, same_key}
 use Rattle.table_store.proofs.StoreLemmas.{stored}
 use Rattle.table_store.proofs.Changes.{IsKept-changed, changed, row_changed, row_here, shape_here, shapes, table_here, the_slot, written, written_kept, written_row, written_shapes}
@@ -55,7 +53,7 @@ both_first false b h = h
 other_table : (r q p : Place) → q.table ≢ p.table → same_place r q ≡ true → same_place r p ≡ false
 other_table r q p apart e = ap (λ b. b && r.row == p.row) (key_eq_false r.table p.table (λ same. apart (sym (same_key r.table q.table (both_first (key_eq r.table q.table) (r.row == q.row) e)) ∙ same)))
 
-module _ {Y : Type 0} (tables out back : Slab (Held Y)) (last : ℕ) (s : Store) (view : store_of tables last ≡ s) (by_ids : BTreeMap (Vec Id Y) TableKey) (by_serial : BTreeMap ℕ TableKey) (kept : IsKept tables by_ids by_serial last)
+module _ {Y : Type 0} (tables out back : Slab (Held Y)) (last : ℕ) (s : Store) (view : store_of tables last ≡ s) (by_ids : ByIds Y) (by_serial : BTreeMap ℕ TableKey) (kept : IsKept tables by_ids by_serial last)
     (from to : TableKey) (apart : from ≢ to) (src tgt : Archetype) (at_from : table_at s from ≡ Some src) (at_to : table_at s to ≡ Some tgt) (row : ℕ) (there : row < length src.entities)
     (x : Held Y) (is_x : slots.get tables from.slot ≡ Some x) (u1 : Updates tables out from.slot None) where
   slots_differ : to.slot ≢ from.slot

@@ -8,7 +8,6 @@ use Rattle.slab.specs.Slab as slots
 use Rattle.slab.specs.Slab.{Slab, Updates}
 use Rattle.std.specs.BTreeMap as ordered
 use Rattle.std.specs.BTreeMap.{BTreeMap}
-use Rattle.std.specs.declared.vec.Vec.{Vec}
 use Rattle.ecs_id.specs.Id.{Id, id_cmp}
 use Rattle.ecs_id.specs.declared.Place.{Place}
 use Rattle.ecs_id.specs.declared.TableKey.{TableKey}
@@ -17,11 +16,11 @@ use Rattle.ecs_table.proofs.Rows.{row_past}
 use Rattle.table_store.specs.declared.store.Slot.{Slot}
 use Rattle.table_store.specs.Store.{Store, Shape, IsStore, table_at, ids_at, shape_at, shape_of, with_id, without_id, key_eq, released_at}
 use Rattle.table_store.specs.Rows.{row_at, row_of, rows_in, IsStored}
-use Rattle.table_store.specs.Kept.{Held, SetsIds, key_of, store_of, standing, IsKept, IsSlot, IsIndex, IsOrder}
+use Rattle.table_store.specs.Kept.{ByIds, Held, SetsIds, key_of, store_of, standing, IsKept, IsSlot, IsIndex, IsOrder, ids_eq}
 use Rattle.table_store.proofs.Slots.{table_at-released, table_at-slots, same_key, key_eq_true, listed_in, none_is_some, one_some}
 use Rattle.table_store.proofs.StoreLemmas.{stored}
 use Rattle.table_store.proofs.Changes.{rows_here}
-use Rattle.table_store.proofs.Indexes.{ids_eq, ids_same, ids_eq_true, get_ids, get_serial}
+use Rattle.table_store.proofs.Indexes.{ids_same, ids_eq_true, get_ids, get_serial}
 
 -- where no table stands, none is released
 gone : (s : Store) (k : TableKey) → table_at s k ≡ None → (q : TableKey) → table_at s q ≡ released_at s k q
@@ -53,7 +52,7 @@ ids_some : (o : Option Archetype) (l : List Id) → option_map (λ t. t.ids) o �
 ids_some None l h = absurd (none_is_some l h)
 ids_some (Some t) l h = refl
 
-module _ {Y : Type 0} (tables new : Slab (Held Y)) (by_ids named : BTreeMap (Vec Id Y) TableKey) (by_serial dated : BTreeMap ℕ TableKey) (last : ℕ) (kept : IsKept tables by_ids by_serial last)
+module _ {Y : Type 0} (tables new : Slab (Held Y)) (by_ids named : ByIds Y) (by_serial dated : BTreeMap ℕ TableKey) (last : ℕ) (kept : IsKept tables by_ids by_serial last)
     (k : TableKey) (x : Held Y) (is : slots.get tables k.slot ≡ Some x) (stands : is_some (standing (slots.get tables k.slot) k.serial) ≡ true) (u : Updates tables new k.slot None) where
   abbrev s : Store
   s = store_of tables last

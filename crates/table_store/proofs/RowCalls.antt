@@ -4,7 +4,6 @@ use Rattle.std.proofs.lemmas.Bool.Decides.{Decides-eqb}
 use Rattle.slab.specs.Slab as slots
 use Rattle.slab.specs.Slab.{Slab, Updates, with_value}
 use Rattle.std.specs.BTreeMap.{BTreeMap}
-use Rattle.std.specs.declared.vec.Vec.{Vec}
 use Rattle.std.specs.FinMap.{find}
 use Rattle.ecs_id.specs.Id.{Id, id_cmp}
 use Rattle.ecs_id.specs.declared.EntityId.{EntityId}
@@ -18,13 +17,13 @@ use Rattle.ecs_table.proofs.Rows.{found_in_row, moved_into_row, not_in_shape, ro
 use Rattle.ecs_table.proofs.Ordered.{cells_rise, with_cell_put}
 use Rattle.table_store.specs.Store.{Store, key_eq, shape_at, shape_of, table_at}
 use Rattle.table_store.specs.Rows.{Row, filler, gap_filled, removed_rows, row_at, row_of, same_place, with_cell, without_row_at}
-use Rattle.table_store.specs.Kept.{Held, store_of, IsKept, IsSlot}
+use Rattle.table_store.specs.Kept.{ByIds, Held, store_of, IsKept, IsSlot}
 use Rattle.table_store.proofs.Slots.{key_eq_true, none_is_some, one_some, same_key}
 use Rattle.table_store.proofs.Changes.{row_here, rows_here, shape_here, table_here}
 
 -- a table that stands is sound
 pub sound_here : {Y : Type 0} (tables : Slab (Held Y)) (last : ℕ) (s : Store) (view : store_of tables last ≡ s) (k : TableKey) (t : Archetype) (at : table_at s k ≡ Some t) (x : Held Y) → slots.get tables k.slot ≡ Some x
-    → (by_ids : BTreeMap (Vec Id Y) TableKey) (by_serial : BTreeMap ℕ TableKey) → IsKept tables by_ids by_serial last → IsSound t
+    → (by_ids : ByIds Y) (by_serial : BTreeMap ℕ TableKey) → IsKept tables by_ids by_serial last → IsSound t
 sound_here tables last s view k t at x is by_ids by_serial kept =
     let slot : IsSlot (store_of tables last) x.value = subst (λ o. IfSome o (λ z. IsSlot (store_of tables last) z.value)) is (kept.slots k.slot) in
     subst IsSound (table_here tables last s view k t at x is) slot.sound
@@ -116,7 +115,7 @@ module _ (s : Store) (k : TableKey) (t : Archetype) (at : table_at s k ≡ Some 
 
 -- the ids of a table rise
 pub ids_rise : {Y : Type 0} (tables : Slab (Held Y)) (last : ℕ) (s : Store) (view : store_of tables last ≡ s) (k : TableKey) (t : Archetype) (at : table_at s k ≡ Some t)
-    → (by_ids : BTreeMap (Vec Id Y) TableKey) (by_serial : BTreeMap ℕ TableKey) → IsKept tables by_ids by_serial last → is_sorted id_cmp (shape_of t) ≡ true
+    → (by_ids : ByIds Y) (by_serial : BTreeMap ℕ TableKey) → IsKept tables by_ids by_serial last → is_sorted id_cmp (shape_of t) ≡ true
 ids_rise tables last s view k t at by_ids by_serial kept = subst (λ o. IfSome o (λ f. is_sorted id_cmp f ≡ true)) (ap (λ w. shape_at w k) view ∙ shape_here s k t at) (kept.store.ascend k)
 
 cells_in_row : (t : Archetype) (r : ℕ) (v : Row) → row_of t r ≡ Some v → v.1 ≡ cells_of t r

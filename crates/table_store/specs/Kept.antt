@@ -1,12 +1,15 @@
 -- The fields of a store: slots of tables, the key of the table of each list of ids, and the keys by serial.
-use Rattle.std.specs.Prelude.{◌≡◌, ◌↔◌, ℕ, suc, ◌≤◌, ◌==◌, cond, if◌then◌else◌, List, [], ◌∷◌, Option, Some, None, IsSome, IsNone, IfSome, ◌⊎◌, IfOk, OnErr, Result, max, ◌<◌}
+use Rattle.std.specs.Prelude.{◌≡◌, Bool, ◌↔◌, ℕ, suc, ◌≤◌, ◌==◌, cond, if◌then◌else◌, List, [], ◌∷◌, Option, Some, None, IsSome, IsNone, IfSome, ◌⊎◌, IfOk, OnErr, Result, max, ◌<◌}
 use Rattle.std.specs.List.{zip}
 use Rattle.std.specs.Ordering.{nat_cmp}
 use Rattle.std.specs.declared.vec.Vec.{Vec}
 use Rattle.std.specs.declared.boxed.Box.{Box}
 use Rattle.std.specs.BTreeMap as ordered
 use Rattle.std.specs.BTreeMap.{BTreeMap}
-use Rattle.std.specs.Cmp.Lexicographic.{slice_cmp}
+use Rattle.std.specs.Cmp.Lexicographic.{pointwise}
+use Rattle.indexmap.specs.IndexMap as hashed
+use Rattle.indexmap.specs.IndexMap.{IndexMap}
+use Rattle.secret_hashing.specs.declared.Hashing.{Hashing}
 use Rattle.slab.specs.Slab as slots
 use Rattle.slab.specs.Slab.{Slab}
 use Rattle.ecs_id.specs.Id.{Id, id_cmp, id_eq}
@@ -63,31 +66,35 @@ pub record IsSlot {Y : Type 0} (s : Store) (x : Slot Y) : Type 0 where
   pub more : (i : Id) (k : TableKey) → edge_of x.more i ≡ Some k → IsMore s (shape_of x.table) i k
   pub less : (i : Id) (k : TableKey) → edge_of x.less i ≡ Some k → IsLess s (shape_of x.table) i k
 
+-- whether two lists of ids are the same
+abbrev pub ids_eq : List Id → List Id → Bool
+ids_eq = pointwise id_eq
+
+-- the keys of tables by their lists of ids
+abbrev pub ByIds : Type 0 → Type 0
+ByIds Y = IndexMap (Vec Id Y) TableKey Hashing
+
 -- the key that the index has for a list of ids
-abbrev pub key_of : {Y : Type 0} → BTreeMap (Vec Id Y) TableKey → List Id → Option TableKey
-key_of by_ids ids = ordered.get_by (λ v. slice_cmp id_cmp ids v.items) by_ids
+abbrev pub key_of : {Y : Type 0} → ByIds Y → List Id → Option TableKey
+key_of by_ids ids = hashed.get_by (λ v. ids_eq ids v.items) by_ids
 
 -- the index has a key for a list of ids exactly where the table under the key has these ids
-abbrev pub IsIndex : {Y : Type 0} → Store → BTreeMap (Vec Id Y) TableKey → Type 0
+abbrev pub IsIndex : {Y : Type 0} → Store → ByIds Y → Type 0
 IsIndex s by_ids = (ids : List Id) (k : TableKey) → (key_of by_ids ids ≡ Some k) ↔ (ids_at s k ≡ Some ids)
 
 -- the keys of the tables by their serials
 abbrev pub IsOrder : Store → BTreeMap ℕ TableKey → Type 0
 IsOrder s by_serial = (n : ℕ) (k : TableKey) → (ordered.get nat_cmp by_serial n ≡ Some k) ↔ (IsSome (table_at s k) × (k.serial ≡ n))
 
-pub record IsKept {Y : Type 0} (tables : Slab (Held Y)) (by_ids : BTreeMap (Vec Id Y) TableKey) (by_serial : BTreeMap ℕ TableKey) (last : ℕ) : Type 0 where
+pub record IsKept {Y : Type 0} (tables : Slab (Held Y)) (by_ids : ByIds Y) (by_serial : BTreeMap ℕ TableKey) (last : ℕ) : Type 0 where
   pub store : IsStore (store_of tables last)
   pub slots : (n : ℕ) → IfSome (slots.get tables n) (λ x. IsSlot (store_of tables last) x.value)
   pub index : IsIndex (store_of tables last) by_ids
   pub order : IsOrder (store_of tables last) by_serial
 
 -- the index has another key for a list of ids, or none
-abbrev pub SetsIds : {Y : Type 0} → List Id → Option TableKey → BTreeMap (Vec Id Y) TableKey → BTreeMap (Vec Id Y) TableKey → Type 0
-SetsIds ids key old new = ordered.UpdatesBy (λ v w. slice_cmp id_cmp v.items w.items) (λ v. slice_cmp id_cmp ids v.items) old new key
-
--- both find the same key for each serial
-abbrev pub FindAlike : BTreeMap ℕ TableKey → BTreeMap ℕ TableKey → Type 0
-FindAlike old new = (n : ℕ) → ordered.get nat_cmp new n ≡ ordered.get nat_cmp old n
+abbrev pub SetsIds : {Y : Type 0} → List Id → Option TableKey → ByIds Y → ByIds Y → Type 0
+SetsIds ids key old new = hashed.UpdatesBy (λ v w. ids_eq v.items w.items) (λ v. ids_eq ids v.items) old new key
 
 -- a table of this shape is found or made under the key
 pub record IsMade (s : Store) (f : Shape) (key : TableKey) (n : Store) : Type 0 where

@@ -2,7 +2,7 @@
 //!
 //! ```text
 //! let (position, frozen) = (Id::plain(64), Id::plain(65));
-//! let mut store = TableStore::new(rt.alloc());
+//! let mut store = TableStore::new(rt.alloc(), RandomState::new(&rt)?);
 //!
 //! // a table by its ids, each with how many bytes its value has, and its neighbour with a tag more
 //! let moving = store.find_or_make(&[SizedId::new(position, 8)])?;

@@ -5,12 +5,13 @@ ghost use Rattle.std.specs.Ordering.{nat_cmp};
 ghost use Rattle.std.specs.List.{Contains};
 ghost use Rattle.std.specs.List.Sorted.{IsStrictlySortedBy};
 ghost use Rattle.slab.specs.Slab.{HasRoomFor, get as slot_at};
+ghost use Rattle.indexmap.specs.IndexMap as hashed;
 ghost use Rattle.ecs_id.specs.Id.{Id, id_cmp, id_eq};
 ghost use Rattle.ecs_id.specs.declared.Place.{Place};
 ghost use Rattle.ecs_id.specs.declared.TableKey.{TableKey};
 ghost use Rattle.ecs_table.specs.Archetype.{Archetype, with_row, with_value, without_row};
 ghost use Rattle.table_store.specs.Store.{HasSize, Shape, changed_at, find_in, ids_at, made_at, moved_at, released_at, room_at, shape_at, shaped, shaped_at, table_at, with_id, without_id};
-ghost use Rattle.table_store.specs.Kept.{FindAlike, HasNoEdge, SetsIds, IsMade, IsPut, IsWritten, edge_of, edges_of, standing, stepped};
+ghost use Rattle.table_store.specs.Kept.{HasNoEdge, SetsIds, IsMade, IsPut, IsWritten, edge_of, edges_of, standing, stepped};
 ghost use Rattle.std.specs.BTreeMap as ordered;
 ghost use Rattle.table_store.specs.Rows.{IsStored, Row, filler, moved_rows, removed_rows, row_at, rows_in, with_cell, with_row_at, zero_cells};
 
@@ -19,11 +20,14 @@ use crate::shape::{ids_of, next_shape, sizes_of};
 use crate::sized::SizedId;
 use ecs_id::{EntityId, Id, TableKey};
 use ecs_table::Table;
+use indexmap::IndexMap;
 use raw_column::Memory;
+use secret_hashing::Hashing;
 use slab::Slab;
 use std::alloc::{AllocError, Allocator, Global};
 use std::collections::BTreeMap;
 use std::collections::btree_map::Range;
+use std::hash::RandomState;
 use std::marker::Model;
 use std::ops::Bound;
 
@@ -43,7 +47,7 @@ struct Slot<A: Allocator> {
 // In boxes, so that one can be taken out for a moment: two slots of one slab can't be borrowed at once.
 type Slots<A> = Slab<Box<Slot<A>, A>, A>;
 
-type ByIds<A> = BTreeMap<Vec<Id, A>, TableKey, A>;
+type ByIds<A> = IndexMap<Vec<Id, A>, TableKey, Hashing, A>;
 
 type BySerial<A> = BTreeMap<u128, TableKey, A>;
 
@@ -70,15 +74,15 @@ impl<A: Allocator> Model for TableStore<A> {
 }
 
 impl<A: Allocator + Copy> TableStore<A> {
-    /// A store without tables.
-    pub fn new(alloc: A) -> Self
+    /// A store without tables, which hashes lists of ids with these random keys. It takes no memory before the first table.
+    pub fn new(alloc: A, random: RandomState) -> Self
         ensures empty { result.tables ≡ [] }
         ensures unused { result.last ≡ 0 }
         ensures whole { IsStored result }
     {
         TableStore {
             tables: Slab::new(alloc),
-            by_ids: BTreeMap::new(alloc),
+            by_ids: IndexMap::with_hasher(alloc, Hashing::new(random)),
             by_serial: BTreeMap::new(alloc),
             last: 0,
             alloc,
@@ -298,10 +302,9 @@ fn prepare<A: Allocator + Copy>(
 ) -> Result<Box<Slot<A>, A>, Memory>
     requires ids { ids.items ≡ map (λ c. c.0) cells.now }
     requires small { (j : ℕ) → IfSome (slice_get cells.now j) (λ c. c.1 ≤ 64) }
-    requires fresh { ordered.get nat_cmp by_serial.old key.serial ≡ None }
     ensures tables { tables.new ≡ record tables.old { capacity = tables.new.capacity } }
-    ensures by_ids { MatchResult result (λ _. SetsIds ids.items (Some key) by_ids.old by_ids.new) (λ _. ordered.IsUnchanged by_ids.old by_ids.new) }
-    ensures by_serial { MatchResult result (λ _. ordered.Updates nat_cmp by_serial.old by_serial.new key.serial (Some key)) (λ _. FindAlike by_serial.old by_serial.new) }
+    ensures by_ids { MatchResult result (λ _. SetsIds ids.items (Some key) by_ids.old by_ids.new) (λ _. hashed.IsUnchanged by_ids.old by_ids.new) }
+    ensures by_serial { MatchResult result (λ _. ordered.Updates nat_cmp by_serial.old by_serial.new key.serial (Some key)) (λ _. ordered.IsUnchanged by_serial.old by_serial.new) }
     ensures slot { OnOk result (HasRoomFor tables.new 1) }
     ensures serial { IfOk result (λ slot. slot.value.serial ≡ key.serial) }
     ensures table { IfOk result (λ slot. slot.value.table ≡ shaped cells.now) }
@@ -352,17 +355,14 @@ fn enter<A: Allocator + Copy>(
     ids: Vec<Id, A>,
     key: TableKey,
 ) -> Result<(), Memory>
-    requires { ordered.get nat_cmp by_serial.old key.serial ≡ None }
-    ensures by_ids { MatchResult result (λ _. SetsIds ids.items (Some key) by_ids.old by_ids.new) (λ _. ordered.IsUnchanged by_ids.old by_ids.new) }
-    ensures by_serial { MatchResult result (λ _. ordered.Updates nat_cmp by_serial.old by_serial.new key.serial (Some key)) (λ _. FindAlike by_serial.old by_serial.new) }
+    ensures by_ids { MatchResult result (λ _. SetsIds ids.items (Some key) by_ids.old by_ids.new) (λ _. hashed.IsUnchanged by_ids.old by_ids.new) }
+    ensures by_serial { MatchResult result (λ _. ordered.Updates nat_cmp by_serial.old by_serial.new key.serial (Some key)) (λ _. ordered.IsUnchanged by_serial.old by_serial.new) }
 {
+    by_ids.reserve(1)?;
     if by_serial.insert(key.serial, key).is_err() {
         return Err(Memory);
     }
-    if by_ids.insert(ids, key).is_err() {
-        by_serial.remove(&key.serial);
-        return Err(Memory);
-    }
+    by_ids.insert(ids, key).unwrap();
     Ok(())
 }
 
@@ -528,7 +528,7 @@ impl<A: Allocator> TableStore<A> {
             return;
         }
         let slot = self.tables.remove(key.slot as usize);
-        self.by_ids.remove(slot.table.ids());
+        self.by_ids.swap_remove(slot.table.ids());
         self.by_serial.remove(&key.serial);
     }
 }

@@ -1,7 +1,7 @@
-use Rattle.std.proofs.Common.{not, rules}
+use Rattle.std.proofs.Common.{rules}
 use Rattle.std.proofs.lemmas.Fn.{filter_same}
 use Rattle.std.specs.Ordering.{is_lt}
-use Rattle.ecs_id.specs.Id.{id_cmp, id_eq}
+use Rattle.ecs_id.specs.Id.{id_cmp}
 use Rattle.table_store.proofs.shape.keep_above.Goals as goal
 
 pub returns : goal.returns

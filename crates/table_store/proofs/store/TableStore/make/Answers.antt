@@ -3,7 +3,7 @@ use Rattle.std.proofs.Common.{List, Some}
 use Rattle.slab.specs.Slab.{Slab}
 use Rattle.ecs_id.specs.Id.{Id}
 use Rattle.table_store.specs.Kept.{SetsIds}
-use Rattle.table_store.proofs.Putting.{IsKept-grown, is_refused, is_kept, is_put, not_given, put_kept}
+use Rattle.table_store.proofs.Putting.{IsKept-grown, is_refused, is_kept, is_put, put_kept}
 use Rattle.table_store.proofs.store.TableStore.make.Goals as goal
 
 pub same-self : goal.same-self
@@ -17,9 +17,6 @@ prepare-requires-clause-ids g c = c.requires.ids
 
 pub prepare-requires-clause-small : goal.prepare-requires-clause-small
 prepare-requires-clause-small g c = c.requires.small
-
-pub prepare-requires-clause-fresh : goal.prepare-requires-clause-fresh
-prepare-requires-clause-fresh g c = not_given c.self.inside.tables c.self.inside.by_ids c.self.inside.by_serial c.self.inside.last c.self.invariant c.in-Ok.key.serial c.in-Ok.ensures.serial
 
 pub invariant_of-self : goal.invariant_of-self
 invariant_of-self g c = IsKept-grown c.self.inside.tables c.prepare.new.tables c.self.inside.by_ids c.prepare.new.by_ids c.self.inside.by_serial c.prepare.new.by_serial c.self.inside.last

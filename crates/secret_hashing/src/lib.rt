@@ -1,4 +1,16 @@
-//! How patterns and the keys of tables are hashed.
+//! How the keys of indexes are hashed that scripts choose, or that are made of serials.
+//!
+//! ```text
+//! let hashing = Hashing::new(RandomState::new(&rt)?);
+//!
+//! // keys that are made of what a script chooses
+//! let mut by_ids: IndexMap<Vec<Id>, u32, Hashing> = IndexMap::with_hasher(rt.alloc(), hashing);
+//!
+//! // keys that end with a number that no other key has, and that nobody chooses
+//! let mut by_key: IndexMap<TableKey, u32, SerialHashing> = IndexMap::with_hasher(rt.alloc(), hashing.of_serials());
+//! ```
+#![tactic(auto)]
+
 ghost use Rattle.std.specs.Hash as fed;
 ghost use Rattle.std.specs.Hash.FoldHasher as folding;
 
@@ -6,7 +18,7 @@ use std::hash::{BuildHasher, FoldHasher, Hasher, RandomState};
 
 /// Hashes by multiplications that begin and end with secret numbers.
 ///
-/// An author of scripts chooses what patterns are made of, but writes before the numbers are drawn, and no answer depends on them.
+/// An author of scripts chooses what keys are made of, but writes before the numbers are drawn, and no answer depends on them.
 #[derive(Clone, Copy)]
 pub struct Hashing {
     begun: FoldHasher,
@@ -25,12 +37,10 @@ impl Hashing {
             secret: high << 64 | low,
         }
     }
-}
 
-impl Hashing {
-    /// How the keys of tables are hashed then.
-    pub fn of_keys(self) -> KeyHashing {
-        KeyHashing { begun: self.begun }
+    /// How keys are hashed then that end with a serial.
+    pub fn of_serials(self) -> SerialHashing {
+        SerialHashing { begun: self.begun }
     }
 }
 
@@ -72,15 +82,15 @@ impl Hasher for SecretHasher {
     }
 }
 
-/// Hashes the keys of tables by one multiplication that begins with a secret number.
+/// Hashes keys that end with a serial, by one multiplication that begins with a secret number.
 ///
-/// Nobody chooses the keys: their serials are counted.
+/// No two keys have one serial, and nobody chooses serials, since they are counted.
 #[derive(Clone, Copy)]
-pub struct KeyHashing {
+pub struct SerialHashing {
     begun: FoldHasher,
 }
 
-impl BuildHasher for KeyHashing {
+impl BuildHasher for SerialHashing {
     type Hasher = LastHasher;
 
     ghost build_hasher = { λ s. record { begun = s.begun; folded = s.begun } };
@@ -93,7 +103,7 @@ impl BuildHasher for KeyHashing {
     }
 }
 
-/// Folds in what is written last alone: of a table's key its serial, which no other key has.
+/// Folds in what is written last alone: of a key that ends with a serial, the serial.
 #[derive(Clone, Copy)]
 pub struct LastHasher {
     begun: FoldHasher,
