@@ -5,9 +5,7 @@ use Rattle.std.specs.Option.{option_map_or, option_map}
 use Rattle.std.specs.Ordering.{eq_by_cmp, is_eq}
 use Rattle.std.specs.Map.{lookup}
 use Rattle.std.specs.HashMap.{HashMap, get, Updates}
-use Rattle.std.specs.HashSet.{HashSet, contains}
 use Rattle.std.specs.List.{list_any, IsDistinct}
-use Rattle.std.specs.Cmp.{IsEquivalence}
 use Rattle.std.specs.FinMap as finite
 use Rattle.std.specs.FinMap.{find, IsAntisymmetric}
 use Rattle.std.proofs.lemmas.Cmp.{eq_by_cmp_equiv}
@@ -18,7 +16,9 @@ use Rattle.component_index.specs.declared.pattern.Pattern.{Pattern}
 use Rattle.component_index.specs.Patterns.{matches}
 use Rattle.component_index.specs.Entered.{Entered, IsMatched, table_cmp, table_eq, table_cmp_total, eq_by-table_cmp, same_table}
 use Rattle.component_index.specs.Listed.{is_listed, is_matched, entered_in, Adds, Drops, AreListed}
+use Rattle.component_index.specs.TableList.{has}
 use Rattle.component_index.specs.SamePattern.{pattern_eq}
+use Rattle.component_index.proofs.TableLemmas.{table_eq_equiv}
 
 -- ---- the map of the entered tables
 -- the order of the keys ties where they are one
@@ -104,7 +104,7 @@ module _ (tables : Entered) (key : TableKey) where
       ∙ (λ i. cond (there k i) false (is_matched tables p k))
 
 -- the lists are right after each call
-module _ {Y R T S : Type 0} (m n : HashMap TableKey (Vec Id Y) R) (old new : HashMap Pattern (HashSet TableKey T) S) (right : AreListed m old) (tables : Entered) (view : entered_in m ≡ tables) (key : TableKey) (ids : List Id) where
+module _ {Y R S : Type 0} (m n : HashMap TableKey (Vec Id Y) R) (old new : HashMap Pattern (List TableKey) S) (right : AreListed m old) (tables : Entered) (view : entered_in m ≡ tables) (key : TableKey) (ids : List Id) where
   right_at : (p : Pattern) (k : TableKey) → is_listed old p k ≡ is_matched tables p k
   right_at p k = right p k ∙ ap (λ t. is_matched t p k) view
 
@@ -118,9 +118,9 @@ module _ {Y R T S : Type 0} (m n : HashMap TableKey (Vec Id Y) R) (old new : Has
       ∙ leave_at (table_eq key k) (list_any (matches p) ids) (is_listed old p k) (λ e. right_at p k ∙ here tables key (Some ids) had p k e)
       ∙ (λ i. cond (table_eq key k) false (right_at p k i)) ∙ sym (matched-remove tables key p k) ∙ ap (λ t. is_matched t p k) (sym is)
 
-pub AreListed-empty : {Y R T S : Type 0} (m : HashMap TableKey (Vec Id Y) R) (lists : HashMap Pattern (HashSet TableKey T) S) → m.entries ≡ [] → lists.entries ≡ [] → AreListed m lists
+pub AreListed-empty : {Y R S : Type 0} (m : HashMap TableKey (Vec Id Y) R) (lists : HashMap Pattern (List TableKey) S) → m.entries ≡ [] → lists.entries ≡ [] → AreListed m lists
 AreListed-empty m lists none no_lists p k =
-    (λ i. option_map_or (λ list. contains table_eq list k) (lookup (pattern_eq p) (no_lists i)) false)
+    (λ i. option_map_or (λ list. has list k) (lookup (pattern_eq p) (no_lists i)) false)
     ∙ sym (ap (matched_in p) (get-entered_in m k ∙ (λ i. option_map (λ ids. ids.items) (lookup (table_eq k) (none i)))))
 
 -- ---- what `tables_of` tells
@@ -134,9 +134,6 @@ IsMatched-from_test tables p k h = matched p (finite.get tables k) h
 pub test-from_IsMatched : (tables : Entered) (p : Pattern) (k : TableKey) → IsMatched tables p k → is_matched tables p k ≡ true
 test-from_IsMatched tables p k h = ap (matched_in p) h.1 ∙ h.2
 
-pub table_eq_equiv : IsEquivalence table_eq
-table_eq_equiv = subst IsEquivalence (λ i x y. eq_by-table_cmp x y i) (eq_by_cmp_equiv table_cmp_total)
-
 -- the list of a pattern has the tables that it matches
 listed : (keys : List TableKey) (tables : Entered) (p : Pattern) → ((k : TableKey) → list_any (table_eq k) keys ≡ is_matched tables p k) → (k : TableKey) → Contains keys k ↔ IsMatched tables p k
 listed keys tables p same k = (
@@ -144,15 +141,15 @@ listed keys tables p same k = (
   λ h. Contains-from_any same_table k keys (same k ∙ test-from_IsMatched tables p k h),
 )
 
-module _ {Y R T S : Type 0} (m : HashMap TableKey (Vec Id Y) R) (lists : HashMap Pattern (HashSet TableKey T) S) (right : AreListed m lists) (tables : Entered) (view : entered_in m ≡ tables) (p : Pattern) where
+module _ {Y R S : Type 0} (m : HashMap TableKey (Vec Id Y) R) (lists : HashMap Pattern (List TableKey) S) (right : AreListed m lists) (tables : Entered) (view : entered_in m ≡ tables) (p : Pattern) where
   has_matched : (keys : List TableKey) → ((k : TableKey) → list_any (table_eq k) keys ≡ is_listed lists p k) → (k : TableKey) → Contains keys k ↔ IsMatched tables p k
   has_matched keys same = listed keys tables p (λ k. same k ∙ right p k ∙ ap (λ t. is_matched t p k) view)
 
-  pub in_list : (list : HashSet TableKey T) → get pattern_eq lists p ≡ Some list → (keys : List TableKey) → keys ≡ list.keys → (k : TableKey) → Contains keys k ↔ IsMatched tables p k
-  in_list list is keys e = has_matched keys (λ k. ap (list_any (table_eq k)) e ∙ ap (λ o. option_map_or (λ list. contains table_eq list k) o false) (sym is))
+  pub in_list : (list : List TableKey) → get pattern_eq lists p ≡ Some list → (keys : List TableKey) → keys ≡ list → (k : TableKey) → Contains keys k ↔ IsMatched tables p k
+  in_list list is keys e = has_matched keys (λ k. ap (list_any (table_eq k)) e ∙ ap (λ o. option_map_or (λ list. has list k) o false) (sym is))
 
   pub in_no_list : get pattern_eq lists p ≡ None → (k : TableKey) → Contains [] k ↔ IsMatched tables p k
-  in_no_list is = has_matched [] (λ k. ap (λ o. option_map_or (λ list. contains table_eq list k) o false) (sym is))
+  in_no_list is = has_matched [] (λ k. ap (λ o. option_map_or (λ list. has list k) o false) (sym is))
 
 pub none_distinct : (keys : List TableKey) → keys ≡ [] → IsDistinct table_eq keys
 unfolding IsDistinct

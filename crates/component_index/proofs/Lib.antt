@@ -1,3 +1,4 @@
 mod EnteredLemmas
 mod ListedLemmas
 mod ListingLemmas
+mod TableLemmas

@@ -2,7 +2,6 @@
 use Rattle.std.proofs.Common.{◌≡◌, ℕ, zero, suc, ◌≤◌, subst, ◌+◌, ◌<◌, ◌&&◌, ◌||◌, not, Bool, true, false, cond, true≢false, List, [], ◌∷◌, length, take, arith, Option, Some, None, refl, sym, ap, ◌∙◌, slice_index_or, Result, Ok, Err, OnErr}
 use Rattle.std.specs.Option.{option_map_or}
 use Rattle.std.specs.HashMap.{HashMap, get}
-use Rattle.std.specs.HashSet.{HashSet, contains}
 use Rattle.std.specs.List.{list_any}
 use Rattle.std.proofs.lemmas.List.{take_all}
 use Rattle.std.proofs.lemmas.List.Folds.{list_any_more}
@@ -10,6 +9,7 @@ use Rattle.ecs_id.specs.declared.TableKey.{TableKey}
 use Rattle.component_index.specs.declared.pattern.Pattern.{Pattern}
 use Rattle.component_index.specs.Entered.{table_eq}
 use Rattle.component_index.specs.Listed.{is_listed, Adds, Drops, Keeps}
+use Rattle.component_index.specs.TableList.{has}
 use Rattle.component_index.specs.SamePattern.{pattern_eq, same_pattern}
 
 or_none : (b : Bool) → b ≡ (b || false)
@@ -56,50 +56,50 @@ and_steps true false b t = refl
 and_steps false a b t = refl
 
 -- whether a list that there may be has the key
-abbrev has : {T : Type 0} → Option (HashSet TableKey T) → TableKey → Bool
-has o k = option_map_or (λ list. contains table_eq list k) o false
+abbrev some_has : Option (List TableKey) → TableKey → Bool
+some_has o k = option_map_or (λ list. has list k) o false
 
-module _ {T S : Type 0} (m n : HashMap Pattern (HashSet TableKey T) S) (pattern : Pattern) (key : TableKey) (o : Option (HashSet TableKey T)) (was : get pattern_eq m pattern ≡ o) where
+module _ {S : Type 0} (m n : HashMap Pattern (List TableKey) S) (pattern : Pattern) (key : TableKey) (o : Option (List TableKey)) (was : get pattern_eq m pattern ≡ o) where
   was_at : (p : Pattern) → pattern_eq pattern p ≡ true → o ≡ get pattern_eq m p
   was_at p e = sym was ∙ ap (get pattern_eq m) (same_pattern pattern p e)
 
   -- what one list has, once its pattern's list is another, or gone
-  one_at : (new : Option (HashSet TableKey T)) (p : Pattern) (b : Bool) → get pattern_eq n p ≡ cond (pattern_eq pattern p) new (get pattern_eq m p) → pattern_eq pattern p ≡ b
-      → (k : TableKey) → is_listed n p k ≡ cond b (has new k) (is_listed m p k)
-  one_at new p true w e k = ap (λ x. has x k) (w ∙ (λ i. cond (e i) new (get pattern_eq m p)))
-  one_at new p false w e k = ap (λ x. has x k) (w ∙ (λ i. cond (e i) new (get pattern_eq m p)))
+  one_at : (new : Option (List TableKey)) (p : Pattern) (b : Bool) → get pattern_eq n p ≡ cond (pattern_eq pattern p) new (get pattern_eq m p) → pattern_eq pattern p ≡ b
+      → (k : TableKey) → is_listed n p k ≡ cond b (some_has new k) (is_listed m p k)
+  one_at new p true w e k = ap (λ x. some_has x k) (w ∙ (λ i. cond (e i) new (get pattern_eq m p)))
+  one_at new p false w e k = ap (λ x. some_has x k) (w ∙ (λ i. cond (e i) new (get pattern_eq m p)))
 
   -- the list of one pattern takes a table
-  pub Adds-one : (new : Option (HashSet TableKey T)) → ((q : Pattern) → get pattern_eq n q ≡ cond (pattern_eq pattern q) new (get pattern_eq m q))
-      → ((k : TableKey) → has new k ≡ cond (table_eq key k) true (has o k)) → Adds m n (pattern_eq pattern) key
+  pub Adds-one : (new : Option (List TableKey)) → ((q : Pattern) → get pattern_eq n q ≡ cond (pattern_eq pattern q) new (get pattern_eq m q))
+      → ((k : TableKey) → some_has new k ≡ cond (table_eq key k) true (some_has o k)) → Adds m n (pattern_eq pattern) key
   Adds-one new writes adds p k = by (pattern_eq pattern p) refl
     where
       by : (b : Bool) → pattern_eq pattern p ≡ b → is_listed n p k ≡ (is_listed m p k || (pattern_eq pattern p && table_eq key k))
-      by true e = one_at new p true (writes p) e k ∙ adds k ∙ added_at (table_eq key k) (has o k)
-          ∙ (λ i. has (was_at p e i) k || (sym e i && table_eq key k))
+      by true e = one_at new p true (writes p) e k ∙ adds k ∙ added_at (table_eq key k) (some_has o k)
+          ∙ (λ i. some_has (was_at p e i) k || (sym e i && table_eq key k))
       by false e = one_at new p false (writes p) e k ∙ or_none (is_listed m p k) ∙ (λ i. is_listed m p k || (sym e i && table_eq key k))
 
   -- the list of one pattern loses a table, or goes with it
-  pub Drops-one : (new : Option (HashSet TableKey T)) → ((q : Pattern) → get pattern_eq n q ≡ cond (pattern_eq pattern q) new (get pattern_eq m q))
-      → ((k : TableKey) → has new k ≡ cond (table_eq key k) false (has o k)) → Drops m n (pattern_eq pattern) key
+  pub Drops-one : (new : Option (List TableKey)) → ((q : Pattern) → get pattern_eq n q ≡ cond (pattern_eq pattern q) new (get pattern_eq m q))
+      → ((k : TableKey) → some_has new k ≡ cond (table_eq key k) false (some_has o k)) → Drops m n (pattern_eq pattern) key
   Drops-one new writes drops p k = by (pattern_eq pattern p) refl
     where
       by : (b : Bool) → pattern_eq pattern p ≡ b → is_listed n p k ≡ (is_listed m p k && not (pattern_eq pattern p && table_eq key k))
-      by true e = one_at new p true (writes p) e k ∙ drops k ∙ dropped_at (table_eq key k) (has o k)
-          ∙ (λ i. has (was_at p e i) k && not (sym e i && table_eq key k))
+      by true e = one_at new p true (writes p) e k ∙ drops k ∙ dropped_at (table_eq key k) (some_has o k)
+          ∙ (λ i. some_has (was_at p e i) k && not (sym e i && table_eq key k))
       by false e = one_at new p false (writes p) e k ∙ and_all (is_listed m p k) ∙ (λ i. is_listed m p k && not (sym e i && table_eq key k))
 
 -- a pattern without a list has no table to lose
-pub Drops-none : {T S : Type 0} (m : HashMap Pattern (HashSet TableKey T) S) (pattern : Pattern) (key : TableKey) → get pattern_eq m pattern ≡ None → Drops m m (pattern_eq pattern) key
+pub Drops-none : {S : Type 0} (m : HashMap Pattern (List TableKey) S) (pattern : Pattern) (key : TableKey) → get pattern_eq m pattern ≡ None → Drops m m (pattern_eq pattern) key
 Drops-none m pattern key none p k = by (pattern_eq pattern p) refl
   where
     by : (b : Bool) → pattern_eq pattern p ≡ b → is_listed m p k ≡ (is_listed m p k && not (pattern_eq pattern p && table_eq key k))
     by true e = let gone : get pattern_eq m p ≡ None = ap (get pattern_eq m) (sym (same_pattern pattern p e)) ∙ none in
-        ap (λ x. has x k) gone ∙ (λ i. has (sym gone i) k && not (pattern_eq pattern p && table_eq key k))
+        ap (λ x. some_has x k) gone ∙ (λ i. some_has (sym gone i) k && not (pattern_eq pattern p && table_eq key k))
     by false e = and_all (is_listed m p k) ∙ (λ i. is_listed m p k && not (sym e i && table_eq key k))
 
 -- two steps are one
-module _ {T S : Type 0} (m n o : HashMap Pattern (HashSet TableKey T) S) (a b c : Pattern → Bool) (key : TableKey) where
+module _ {S : Type 0} (m n o : HashMap Pattern (List TableKey) S) (a b c : Pattern → Bool) (key : TableKey) where
   pub Adds-steps : ((p : Pattern) → c p ≡ (a p || b p)) → Adds m n a key → Adds n o b key → Adds m o c key
   Adds-steps is f g p k = g p k ∙ (λ i. f p k i || (b p && table_eq key k)) ∙ or_steps (is_listed m p k) (a p) (b p) (table_eq key k)
       ∙ (λ i. is_listed m p k || (sym (is p) i && table_eq key k))
@@ -118,7 +118,7 @@ gone_twice true x o p q f g = g
 gone_twice false x o p q f g = g ∙ f
 
 -- a list that is there no more had the same keys as one without keys
-pub gone_at : {T S : Type 0} (m n o : HashMap Pattern (HashSet TableKey T) S) (pattern : Pattern) (list : HashSet TableKey T) → ((q : Pattern) → get pattern_eq n q ≡ cond (pattern_eq pattern q) (Some list) (get pattern_eq m q))
+pub gone_at : {S : Type 0} (m n o : HashMap Pattern (List TableKey) S) (pattern : Pattern) (list : List TableKey) → ((q : Pattern) → get pattern_eq n q ≡ cond (pattern_eq pattern q) (Some list) (get pattern_eq m q))
     → ((q : Pattern) → get pattern_eq o q ≡ cond (pattern_eq pattern q) None (get pattern_eq n q)) → (q : Pattern) → get pattern_eq o q ≡ cond (pattern_eq pattern q) None (get pattern_eq m q)
 gone_at m n o pattern list f g q = gone_twice (pattern_eq pattern q) list _ _ _ (f q) (g q)
 
@@ -126,8 +126,8 @@ none_in : (keys : List TableKey) (k : TableKey) → length keys ≡ 0 → list_a
 none_in [] k e = refl
 none_in (x ∷ keys) k e = absurd (omega arith)
 
-pub has_none : {T : Type 0} (list : HashSet TableKey T) → length list.keys ≡ 0 → (k : TableKey) → false ≡ contains table_eq list k
-has_none list e k = sym (none_in list.keys k e)
+pub has_none : (list : List TableKey) → length list ≡ 0 → (k : TableKey) → false ≡ has list k
+has_none list e k = sym (none_in list k e)
 
 -- ---- a step for each of a list
 or_wider : (a b c : Bool) → (b ≡ true → c ≡ true) → (a || b) ≡ true → (a || c) ≡ true
@@ -167,20 +167,20 @@ module _ {X : Type 0} (test : X → Pattern → Bool) (xs : List X) where
   abbrev pub of_each : Pattern → Bool
   of_each p = list_any (λ x. test x p) xs
 
-  module _ {T S : Type 0} (key : TableKey) where
-    pub Adds-begin : (m : HashMap Pattern (HashSet TableKey T) S) → Adds m m (of_first 0) key
+  module _ {S : Type 0} (key : TableKey) where
+    pub Adds-begin : (m : HashMap Pattern (List TableKey) S) → Adds m m (of_first 0) key
     Adds-begin m p k = or_none (is_listed m p k)
 
-    pub Drops-begin : (m : HashMap Pattern (HashSet TableKey T) S) → Drops m m (of_first 0) key
+    pub Drops-begin : (m : HashMap Pattern (List TableKey) S) → Drops m m (of_first 0) key
     Drops-begin m p k = and_all (is_listed m p k)
 
-    pub Adds-end : (m n : HashMap Pattern (HashSet TableKey T) S) (i : ℕ) → length xs ≤ i → Adds m n (of_first i) key → Adds m n of_each key
+    pub Adds-end : (m n : HashMap Pattern (List TableKey) S) (i : ℕ) → length xs ≤ i → Adds m n (of_first i) key → Adds m n of_each key
     Adds-end m n i e h = subst (λ ys. Adds m n (λ p. list_any (λ x. test x p) ys) key) (take_all i xs e) h
 
-    pub Drops-end : (m n : HashMap Pattern (HashSet TableKey T) S) (i : ℕ) → length xs ≤ i → Drops m n (of_first i) key → Drops m n of_each key
+    pub Drops-end : (m n : HashMap Pattern (List TableKey) S) (i : ℕ) → length xs ≤ i → Drops m n (of_first i) key → Drops m n of_each key
     Drops-end m n i e h = subst (λ ys. Drops m n (λ p. list_any (λ x. test x p) ys) key) (take_all i xs e) h
 
-    module _ (m n o : HashMap Pattern (HashSet TableKey T) S) (i : ℕ) (d x : X) (is : x ≡ slice_index_or xs i d) (within : i < length xs) where
+    module _ (m n o : HashMap Pattern (List TableKey) S) (i : ℕ) (d x : X) (is : x ≡ slice_index_or xs i d) (within : i < length xs) where
       more : (p : Pattern) → of_first (i + 1) p ≡ (of_first i p || test x p)
       more p = list_any_more (λ y. test y p) xs i d within ∙ (λ j. of_first i p || test (sym is j) p)
 
@@ -211,7 +211,7 @@ module _ {X : Type 0} (test : X → Pattern → Bool) (xs : List X) where
       had-next p e = more p ∙ or_first (of_first i p) _ e
 
 -- ---- one pattern, but where the id before has it
-module _ {T S : Type 0} (m n : HashMap Pattern (HashSet TableKey T) S) (pattern : Pattern) (key : TableKey) (h : Pattern → Bool) where
+module _ {S : Type 0} (m n : HashMap Pattern (List TableKey) S) (pattern : Pattern) (key : TableKey) (h : Pattern → Bool) where
   new_test : h pattern ≡ false → (p : Pattern) → pattern_eq pattern p ≡ (pattern_eq pattern p && not (h p))
   new_test out p = by (pattern_eq pattern p) refl
     where
@@ -246,7 +246,7 @@ any_and : {X : Type 0} (f : X → Bool) (b : Bool) (xs : List X) → list_any (�
 any_and f b [] = refl
 any_and f b (x ∷ xs) = (λ i. (f x && b) || any_and f b xs i) ∙ sym (and_or (f x) (list_any f xs) b)
 
-module _ {X : Type 0} (f : X → Pattern → Bool) (h : Pattern → Bool) (xs : List X) {T S : Type 0} (key : TableKey) (m n : HashMap Pattern (HashSet TableKey T) S) where
+module _ {X : Type 0} (f : X → Pattern → Bool) (h : Pattern → Bool) (xs : List X) {S : Type 0} (key : TableKey) (m n : HashMap Pattern (List TableKey) S) where
   pub Adds-each_new : Adds m n (of_each (λ x p. f x p && not (h p)) xs) key → Adds m n (λ p. of_each f xs p && not (h p)) key
   Adds-each_new g p k = g p k ∙ (λ i. is_listed m p k || (any_and (λ x. f x p) (not (h p)) xs i && table_eq key k))
 

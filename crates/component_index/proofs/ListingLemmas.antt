@@ -2,15 +2,12 @@
 use Rattle.std.proofs.Common.{◌≡◌, ◌⊎◌, ◌↔◌, Bool, true, false, cond, List, [], ◌∷◌, ◌++◌, map, Option, Some, None, Contains, refl, sym, ap, subst, ◌∙◌, inl, inr, arith}
 use Rattle.std.specs.Prelude.{unwrap_or}
 use Rattle.std.specs.declared.vec.Vec.{Vec}
-use Rattle.std.specs.Option.{option_map}
 use Rattle.std.specs.List.{IsDistinct, list_any}
 use Rattle.std.specs.Cmp.{IsEquivalence}
 use Rattle.std.specs.HashMap.{HashMap, get}
-use Rattle.std.specs.HashSet.{HashSet}
 use Rattle.std.specs.Map.{lookup}
 use Rattle.std.proofs.lemmas.List.Elements.{Contains-append_cases, Contains-append_left, Contains-append_right, Contains-push, Contains-push_cases}
 use Rattle.std.proofs.lemmas.Map.Keys.{IsDistinct-push}
-use Rattle.std.proofs.lemmas.Map.Made.{lookup-map_values}
 use Rattle.indexmap.specs.IndexSet.{insert_all, insert_key}
 use Rattle.indexmap.proofs.CallerLemmas.{Contains-insert_key}
 use Rattle.indexmap.proofs.SetLemmas.{set_all_distinct}
@@ -21,16 +18,10 @@ use Rattle.component_index.specs.Entered.{Entered, IsMatched, same_table, table_
 use Rattle.component_index.specs.Listed.{AreListed, entered_in}
 use Rattle.component_index.specs.Listings.{Lists, ListsEntered, listed_in, lists_of}
 use Rattle.component_index.specs.SamePattern.{pattern_eq}
-use Rattle.component_index.proofs.EnteredLemmas.{in_list, in_no_list, table_eq_equiv}
+use Rattle.component_index.proofs.EnteredLemmas.{in_list, in_no_list}
+use Rattle.component_index.proofs.TableLemmas.{distinct_key, none_once, table_eq_equiv}
 
 -- ---- keys that are put in, one after another
-distinct_key : (ks : List TableKey) (x : TableKey) → IsDistinct table_eq ks → IsDistinct table_eq (insert_key table_eq ks x)
-distinct_key ks x d = by (list_any (table_eq x) ks) refl
-  where
-    by : (b : Bool) → list_any (table_eq x) ks ≡ b → IsDistinct table_eq (cond b ks (ks ++ x ∷ []))
-    by true e = d
-    by false e = IsDistinct-push table_eq_equiv ks x d e
-
 distinct_keys : (ks xs : List TableKey) → IsDistinct table_eq ks → IsDistinct table_eq (insert_all table_eq ks xs)
 distinct_keys ks [] d = d
 distinct_keys ks (x ∷ xs) d = distinct_keys (insert_key table_eq ks x) xs (distinct_key ks x d)
@@ -70,30 +61,26 @@ keys_in ks (x ∷ xs) k (inr h) =
 each_once : (xs : List TableKey) (k : TableKey) → Contains (insert_all table_eq [] xs) k ↔ Contains xs k
 each_once xs k = (λ h. elim (keys_from [] xs k h) [ inl n ↦ absurd (omega (arith, n.1)) | inr t ↦ t ], λ h. keys_in [] xs k (inr h))
 
-none_once : IsDistinct table_eq []
-unfolding IsDistinct
-none_once = tt
-
 pub listed_once : (lists : Lists) (p : Pattern) → IsDistinct table_eq (listed_in lists p)
 listed_once lists p = distinct_keys [] (unwrap_or (lookup (pattern_eq p) lists) []) none_once
 
 -- ---- the list of a pattern
-module _ {T S : Type 0} (lists : HashMap Pattern (HashSet TableKey T) S) (p : Pattern) where
-  read_of : (o : Option (HashSet TableKey T)) → get pattern_eq lists p ≡ o → listed_in (lists_of lists) p ≡ insert_all table_eq [] (unwrap_or (option_map (λ list. list.keys) o) [])
-  read_of o is = ap (λ found. insert_all table_eq [] (unwrap_or found [])) (lookup-map_values (λ list. list.keys) (pattern_eq p) lists.entries ∙ ap (option_map (λ list. list.keys)) is)
+module _ {S : Type 0} (lists : HashMap Pattern (List TableKey) S) (p : Pattern) where
+  read_of : (o : Option (List TableKey)) → get pattern_eq lists p ≡ o → listed_in (lists_of lists) p ≡ insert_all table_eq [] (unwrap_or o [])
+  read_of o is = ap (λ found. insert_all table_eq [] (unwrap_or found [])) is
 
-  pub read_some : (list : HashSet TableKey T) → get pattern_eq lists p ≡ Some list → IsDistinct table_eq list.keys → list.keys ≡ listed_in (lists_of lists) p
-  read_some list is d = sym (read_of (Some list) is ∙ set_all_distinct table_eq_equiv [] list.keys d)
+  pub read_some : (list : List TableKey) → get pattern_eq lists p ≡ Some list → IsDistinct table_eq list → list ≡ listed_in (lists_of lists) p
+  read_some list is d = sym (read_of (Some list) is ∙ set_all_distinct table_eq_equiv [] list d)
 
   pub read_none : get pattern_eq lists p ≡ None → [] ≡ listed_in (lists_of lists) p
   read_none is = sym (read_of None is)
 
-pub lists_entered : {Y R T S : Type 0} (m : HashMap TableKey (Vec Id Y) R) (lists : HashMap Pattern (HashSet TableKey T) S) → AreListed m lists → (tables : Entered) → entered_in m ≡ tables → ListsEntered tables (lists_of lists)
-lists_entered {Y} {R} {T} {S} m lists right tables view p k = by (get pattern_eq lists p) refl
+pub lists_entered : {Y R S : Type 0} (m : HashMap TableKey (Vec Id Y) R) (lists : HashMap Pattern (List TableKey) S) → AreListed m lists → (tables : Entered) → entered_in m ≡ tables → ListsEntered tables (lists_of lists)
+lists_entered {Y} {R} {S} m lists right tables view p k = by (get pattern_eq lists p) refl
   where
-    by : (o : Option (HashSet TableKey T)) → get pattern_eq lists p ≡ o → Contains (listed_in (lists_of lists) p) k ↔ IsMatched tables p k
+    by : (o : Option (List TableKey)) → get pattern_eq lists p ≡ o → Contains (listed_in (lists_of lists) p) k ↔ IsMatched tables p k
     by None is = rw (read_of lists p None is) (in_no_list m lists right tables view p is k)
     by (Some list) is =
-        let same = each_once list.keys k in
-        let holds = in_list m lists right tables view p list is list.keys refl k in
+        let same = each_once list k in
+        let holds = in_list m lists right tables view p list is list refl k in
         rw (read_of lists p (Some list) is) (λ h. holds.0 (same.0 h), λ h. same.1 (holds.1 h))

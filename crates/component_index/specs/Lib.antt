@@ -3,3 +3,5 @@ pub mod Listed
 pub mod Listings
 pub mod Patterns
 pub mod SamePattern
+pub mod TableList
+pub mod Tables

@@ -4,7 +4,6 @@ use Rattle.std.specs.declared.vec.Vec.{Vec}
 use Rattle.std.specs.Option.{option_map_or}
 use Rattle.std.specs.List.{list_any}
 use Rattle.std.specs.HashMap.{HashMap, get}
-use Rattle.std.specs.HashSet.{HashSet, contains}
 use Rattle.std.specs.FinMap as finite
 use Rattle.ecs_id.specs.Id.{Id, plain, pair}
 use Rattle.ecs_id.specs.declared.TableKey.{TableKey}
@@ -13,6 +12,7 @@ use Rattle.component_index.specs.declared.pattern.Pattern.{Pattern}
 use Rattle.component_index.specs.Patterns.{matches, matches_some}
 use Rattle.component_index.specs.SamePattern.{pattern_eq}
 use Rattle.component_index.specs.Entered.{Entered, table_eq}
+use Rattle.component_index.specs.TableList.{has}
 
 -- the pattern is one of these
 abbrev pub is_among : List Pattern → Pattern → Bool
@@ -37,23 +37,23 @@ is_matched tables pattern key = option_map_or (list_any (matches pattern)) (fini
 abbrev pub entered_in : {Y S : Type 0} → HashMap TableKey (Vec Id Y) S → Entered
 entered_in tables = finite.from_entries (map (λ p. (p.0, p.1.items)) tables.entries)
 
-module _ {T S : Type 0} where
+module _ {S : Type 0} where
   -- the table is in the list of the pattern
-  abbrev pub is_listed : HashMap Pattern (HashSet TableKey T) S → Pattern → TableKey → Bool
-  is_listed lists pattern key = option_map_or (λ list. contains table_eq list key) (get pattern_eq lists pattern) false
+  abbrev pub is_listed : HashMap Pattern (List TableKey) S → Pattern → TableKey → Bool
+  is_listed lists pattern key = option_map_or (λ list. has list key) (get pattern_eq lists pattern) false
 
   -- the new lists have what the old have, and the table where the pattern passes the test
-  abbrev pub Adds : HashMap Pattern (HashSet TableKey T) S → HashMap Pattern (HashSet TableKey T) S → (Pattern → Bool) → TableKey → Type 0
+  abbrev pub Adds : HashMap Pattern (List TableKey) S → HashMap Pattern (List TableKey) S → (Pattern → Bool) → TableKey → Type 0
   Adds old new test key = (p : Pattern) (k : TableKey) → is_listed new p k ≡ (is_listed old p k || (test p && table_eq key k))
 
   -- the new lists have what the old have, but not the table where the pattern passes the test
-  abbrev pub Drops : HashMap Pattern (HashSet TableKey T) S → HashMap Pattern (HashSet TableKey T) S → (Pattern → Bool) → TableKey → Type 0
+  abbrev pub Drops : HashMap Pattern (List TableKey) S → HashMap Pattern (List TableKey) S → (Pattern → Bool) → TableKey → Type 0
   Drops old new test key = (p : Pattern) (k : TableKey) → is_listed new p k ≡ (is_listed old p k && not (test p && table_eq key k))
 
   -- the new lists have what the old have, but for the table where the pattern passes the test
-  abbrev pub Keeps : HashMap Pattern (HashSet TableKey T) S → HashMap Pattern (HashSet TableKey T) S → (Pattern → Bool) → TableKey → Type 0
+  abbrev pub Keeps : HashMap Pattern (List TableKey) S → HashMap Pattern (List TableKey) S → (Pattern → Bool) → TableKey → Type 0
   Keeps old new test key = (p : Pattern) (k : TableKey) → (test p && table_eq key k) ≡ false → is_listed new p k ≡ is_listed old p k
 
   -- each table is in the list of each pattern that matches one of its ids, and no other table is in it
-  abbrev pub AreListed : {Y R : Type 0} → HashMap TableKey (Vec Id Y) R → HashMap Pattern (HashSet TableKey T) S → Type 0
+  abbrev pub AreListed : {Y R : Type 0} → HashMap TableKey (Vec Id Y) R → HashMap Pattern (List TableKey) S → Type 0
   AreListed tables lists = (p : Pattern) (k : TableKey) → is_listed lists p k ≡ is_matched (entered_in tables) p k

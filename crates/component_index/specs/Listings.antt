@@ -1,8 +1,7 @@
 -- The lists of tables by pattern, as they are read.
-use Rattle.std.specs.Prelude.{◌↔◌, List, [], map, unwrap_or, Contains}
+use Rattle.std.specs.Prelude.{◌↔◌, List, [], unwrap_or, Contains}
 use Rattle.std.specs.Map.{lookup}
 use Rattle.std.specs.HashMap.{HashMap}
-use Rattle.std.specs.HashSet.{HashSet}
 use Rattle.indexmap.specs.IndexSet.{insert_all}
 use Rattle.ecs_id.specs.declared.TableKey.{TableKey}
 use Rattle.component_index.specs.declared.pattern.Pattern.{Pattern}
@@ -13,8 +12,8 @@ use Rattle.component_index.specs.SamePattern.{pattern_eq}
 abbrev pub Lists : Type 0
 Lists = List (Pattern × List TableKey)
 
-abbrev pub lists_of : {T S : Type 0} → HashMap Pattern (HashSet TableKey T) S → Lists
-lists_of lists = map (λ e. (e.0, e.1.keys)) lists.entries
+abbrev pub lists_of : {S : Type 0} → HashMap Pattern (List TableKey) S → Lists
+lists_of lists = lists.entries
 
 -- the tables that are listed for a pattern, in order, each once
 abbrev pub listed_in : Lists → Pattern → List TableKey

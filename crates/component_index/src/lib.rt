@@ -13,6 +13,7 @@ ghost use Rattle.component_index.specs.declared.pattern.Pattern.{Pattern as Aske
 mod listings;
 mod lists;
 mod pattern;
+mod table_list;
 
 use crate::lists::{Lists, list_all, unlist_all};
 use ecs_id::{Id, TableKey};

@@ -1,35 +1,20 @@
 //! The list of tables of each pattern.
 ghost use Rattle.std.specs.Prelude.{◌≡◌, ◌&&◌, not, OnErr, OnOk};
 ghost use Rattle.std.specs.List.{list_any};
-ghost use Rattle.indexmap.specs.IndexSet.{IsUnchanged};
 ghost use Rattle.ecs_id.specs.Id.{pair, plain};
 ghost use Rattle.component_index.specs.Patterns.{matches, matches_some};
 ghost use Rattle.component_index.specs.SamePattern.{pattern_eq};
 ghost use Rattle.component_index.specs.Listed.{is_among, is_new, patterns_of, Adds, Drops, Keeps};
 
 use crate::pattern::{Part, Pattern};
+use crate::table_list::TableList;
 use ecs_id::{Id, TableKey};
-use indexmap::{IndexMap, IndexSet};
+use indexmap::IndexMap;
 use secret_hashing::{Hashing, SerialHashing};
 use std::alloc::{AllocError, Allocator};
 
-pub type List<A> = IndexSet<TableKey, SerialHashing, A>;
-
 // No list is empty: the entry of a pattern goes with the last table of its list.
-pub type Lists<A> = IndexMap<Pattern, List<A>, Hashing, A>;
-
-// How many more tables a list gets room for at least, once it has outgrown its first room.
-const MORE: usize = 63;
-
-// Makes room in a list for one table more. A growth moves all of a list, so one that has tables gets room for many at once.
-fn make_room<A: Allocator>(list: &mut List<A>) -> Result<(), AllocError>
-    ensures { IsUnchanged list.old list.new }
-{
-    if list.is_empty() || list.len() < list.capacity() {
-        return Ok(());
-    }
-    list.reserve(MORE)
-}
+pub type Lists<A> = IndexMap<Pattern, TableList<A>, Hashing, A>;
 
 /// Puts the table into the list of the pattern, where it isn't in it.
 fn list<A: Allocator + Copy>(
@@ -41,14 +26,12 @@ fn list<A: Allocator + Copy>(
     ensures listed { OnOk result (Adds lists.old lists.new (pattern_eq pattern) key) }
     ensures refused { OnErr result (Keeps lists.old lists.new (pattern_eq pattern) key) }
 {
+    let alloc = *lists.allocator();
     if let Some(list) = lists.get_mut(&pattern) {
-        make_room(list)?;
-        list.insert(key)?;
+        list.insert(alloc, hashing, key)?;
         return Ok(());
     }
-    let mut list = IndexSet::with_hasher(*lists.allocator(), hashing);
-    list.insert(key)?;
-    lists.insert(pattern, list)?;
+    lists.insert(pattern, TableList::one(key))?;
     Ok(())
 }
 
@@ -59,7 +42,7 @@ fn unlist<A: Allocator>(lists: &mut Lists<A>, pattern: Pattern, key: TableKey)
     let Some(list) = lists.get_mut(&pattern) else {
         return;
     };
-    list.swap_remove(&key);
+    list.remove(key);
     if list.is_empty() {
         lists.swap_remove(&pattern);
     }

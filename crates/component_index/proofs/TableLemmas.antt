@@ -1,0 +1,169 @@
+-- Lists of tables, each of which has a table once.
+use Rattle.std.proofs.Common.{◌≡◌, ℕ, suc, ◌<◌, ◌||◌, not, Bool, true, false, cond, true≢false, List, [], ◌∷◌, ◌++◌, length, get_or, nat_lt, Option, Some, None, is_some, Result, Ok, Err, OnOk, OnErr, refl, sym, ap, subst, ◌∙◌, arith}
+use Rattle.std.specs.List.{IsDistinct, AllByRecursion, list_any, position, position_or_len, swap_remove}
+use Rattle.std.specs.List.Sorted.{IsPermutation}
+use Rattle.std.specs.Cmp.{IsEquivalence}
+use Rattle.std.proofs.lemmas.Bool.Decides.{Decides-ltb}
+use Rattle.std.proofs.lemmas.Bool.{ltb-false}
+use Rattle.std.proofs.lemmas.Cmp.{eq_by_cmp_equiv}
+use Rattle.std.proofs.lemmas.List.Folds.{list_any_at, list_any-append}
+use Rattle.std.proofs.lemmas.List.Sorted.{IsPermutation-swap_remove, list_any-IsPermutation}
+use Rattle.std.proofs.lemmas.List.Sums.{fails_before_first, prefix_len_stops}
+use Rattle.std.proofs.lemmas.Map.Keys.{IsDistinct-IsPermutation, IsDistinct-head, IsDistinct-push, IsDistinct-tail}
+use Rattle.indexmap.specs.IndexSet.{insert_all, insert_key}
+use Rattle.indexmap.proofs.SetLemmas.{set_all_distinct}
+use Rattle.ecs_id.specs.declared.TableKey.{TableKey}
+use Rattle.component_index.specs.Entered.{table_cmp_total, table_eq, eq_by-table_cmp, same_table}
+use Rattle.component_index.specs.TableList.{has, Loses}
+
+pub table_eq_equiv : IsEquivalence table_eq
+table_eq_equiv = subst IsEquivalence (λ i x y. eq_by-table_cmp x y i) (eq_by_cmp_equiv table_cmp_total)
+
+-- ---- a table that comes in
+pub none_once : IsDistinct table_eq []
+unfolding IsDistinct
+none_once = tt
+
+pub distinct_key : (ks : List TableKey) (x : TableKey) → IsDistinct table_eq ks → IsDistinct table_eq (insert_key table_eq ks x)
+distinct_key ks x d = by (list_any (table_eq x) ks) refl
+  where
+    by : (b : Bool) → list_any (table_eq x) ks ≡ b → IsDistinct table_eq (cond b ks (ks ++ x ∷ []))
+    by true e = d
+    by false e = IsDistinct-push table_eq_equiv ks x d e
+
+pub one_once : (key : TableKey) → IsDistinct table_eq (key ∷ [])
+one_once key = distinct_key [] key none_once
+
+pub kept : (ks : List TableKey) (key : TableKey) → has ks key ≡ true → ks ≡ insert_key table_eq ks key
+kept ks key h = λ i. cond (sym h i) ks (ks ++ key ∷ [])
+
+pub put : (ks : List TableKey) (key : TableKey) → has ks key ≡ false → ks ++ key ∷ [] ≡ insert_key table_eq ks key
+put ks key h = λ i. cond (sym h i) ks (ks ++ key ∷ [])
+
+or_false : (b : Bool) → (b || false) ≡ b
+or_false true = refl
+or_false false = refl
+
+in_or : (a b : Bool) → (a || (b || false)) ≡ cond b true a
+in_or true true = refl
+in_or true false = refl
+in_or false true = refl
+in_or false false = refl
+
+-- the list has what it had, and the table
+pub has-insert_key : (ks : List TableKey) (key k : TableKey) → has (insert_key table_eq ks key) k ≡ cond (table_eq key k) true (has ks k)
+has-insert_key ks key k = by (has ks key) refl
+  where
+    at : (t : Bool) → table_eq key k ≡ t → has ks key ≡ true → has ks k ≡ cond t true (has ks k)
+    at true e h = ap (has ks) (sym (same_table key k e)) ∙ h
+    at false e h = refl
+
+    by : (b : Bool) → has ks key ≡ b → has (cond b ks (ks ++ key ∷ [])) k ≡ cond (table_eq key k) true (has ks k)
+    by true h = at (table_eq key k) refl h
+    by false h = list_any-append (table_eq k) ks (key ∷ []) ∙ in_or (has ks k) (table_eq k key) ∙ (λ i. cond (table_eq_equiv.symm k key i) true (has ks k))
+
+-- ---- where a table stands
+not_false : (b : Bool) → not b ≡ false → b ≡ true
+not_false true h = refl
+not_false false h = absurd (true≢false h)
+
+none_passes : {X : Type 0} (t : X → Bool) (xs : List X) → ((k : ℕ) (d : X) → k < length xs → t (get_or xs k d) ≡ false) → list_any t xs ≡ false
+none_passes t [] h = refl
+none_passes t (x ∷ xs) h = (λ i. h 0 x (omega arith) i || none_passes t xs (λ k d w. h (suc k) d (omega arith)) i)
+
+module _ (key : TableKey) (ks : List TableKey) where
+  abbrev place : ℕ
+  place = position_or_len (table_eq key) ks
+
+  place_some : (i : ℕ) → position (table_eq key) ks ≡ Some i → (d : TableKey) → (i < length ks) × (table_eq key (get_or ks i d) ≡ true)
+  place_some i e d = by (nat_lt place (length ks)) refl e
+    where
+      by : (b : Bool) → nat_lt place (length ks) ≡ b → cond b (Some place) None ≡ Some i → (i < length ks) × (table_eq key (get_or ks i d) ≡ true)
+      by true w e =
+          let within : place < length ks = (Decides-ltb place (length ks)).0 w in
+          let at : place ≡ i = cc in
+          subst (λ j. (j < length ks) × (table_eq key (get_or ks j d) ≡ true)) at (within, not_false _ (prefix_len_stops (λ x. not (table_eq key x)) ks d within))
+      by false w e = absurd (cc)
+
+  pub place_none : position (table_eq key) ks ≡ None → has ks key ≡ false
+  place_none e = by (nat_lt place (length ks)) refl e
+    where
+      by : (b : Bool) → nat_lt place (length ks) ≡ b → cond b (Some place) None ≡ None → has ks key ≡ false
+      by true w e = absurd (cc)
+      by false w e = none_passes (table_eq key) ks (λ k d below. fails_before_first (table_eq key) ks k d (omega (arith, ltb-false place (length ks) w)))
+
+  -- what a search tells, as a test
+  pub found : is_some (position (table_eq key) ks) ≡ has ks key
+  found = by (position (table_eq key) ks) refl
+    where
+      by : (o : Option ℕ) → position (table_eq key) ks ≡ o → is_some o ≡ has ks key
+      by None e = sym (place_none e)
+      by (Some i) e = let at = place_some i e key in sym (list_any_at (table_eq key) ks i key at.0 at.1)
+
+-- ---- a table that goes
+none_among : (x : TableKey) (ks : List TableKey) → AllByRecursion (λ y. table_eq x y ≡ false) ks → has ks x ≡ false
+none_among x [] h = refl
+none_among x (y ∷ ks) h = (λ i. h.0 i || none_among x ks h.1 i)
+
+pub Loses-none : (ks : List TableKey) (key : TableKey) → has ks key ≡ false → Loses ks ks key
+Loses-none ks key h k = by (table_eq key k) refl
+  where
+    by : (b : Bool) → table_eq key k ≡ b → has ks k ≡ cond b false (has ks k)
+    by true e = ap (has ks) (sym (same_table key k e)) ∙ h
+    by false e = refl
+
+pub Loses-only : (ks : List TableKey) (first key : TableKey) → ks ≡ first ∷ [] → table_eq first key ≡ true → Loses ks [] key
+Loses-only ks first key is e k = by (table_eq key k) refl
+  where
+    by : (b : Bool) → table_eq key k ≡ b → false ≡ cond b false (has ks k)
+    by true t = refl
+    by false t =
+        sym (ap (λ l. has l k) is ∙ or_false (table_eq k first) ∙ table_eq_equiv.symm k first ∙ ap (λ x. table_eq x k) (same_table first key e) ∙ t)
+
+module _ (ks : List TableKey) (once : IsDistinct table_eq ks) (key : TableKey) (i : ℕ) (is : position (table_eq key) ks ≡ Some i) (x : TableKey) (taken : x ≡ get_or ks i x) where
+  at : (i < length ks) × (table_eq key (get_or ks i x) ≡ true)
+  at = place_some key ks i is x
+
+  same : key ≡ x
+  same = same_table key (get_or ks i x) at.1 ∙ sym taken
+
+  abbrev rest : List TableKey
+  rest = swap_remove ks i x
+
+  moved : IsPermutation ks (x ∷ rest)
+  moved = IsPermutation-swap_remove ks i x at.0 taken
+
+  apart : IsDistinct table_eq (x ∷ rest)
+  apart = IsDistinct-IsPermutation table_eq table_eq_equiv.symm ks (x ∷ rest) moved once
+
+  pub once-swap_remove : IsDistinct table_eq (swap_remove ks i x)
+  once-swap_remove = IsDistinct-tail table_eq x rest apart
+
+  gone : (k : TableKey) → has rest k ≡ cond (table_eq key k) false (table_eq k x || has rest k)
+  gone k = by (table_eq key k) refl
+    where
+      by : (b : Bool) → table_eq key k ≡ b → has rest k ≡ cond b false (table_eq k x || has rest k)
+      by true e = ap (has rest) (sym (same_table key k e) ∙ same) ∙ none_among x rest (IsDistinct-head table_eq x rest apart)
+      by false e = λ j. sym (table_eq_equiv.symm k x ∙ ap (λ y. table_eq y k) (sym same) ∙ e) j || has rest k
+
+  pub Loses-swap_remove : Loses ks (swap_remove ks i x) key
+  Loses-swap_remove k = gone k ∙ (λ j. cond (table_eq key k) false (sym (list_any-IsPermutation (table_eq k) ks (x ∷ rest) moved) j))
+
+-- ---- what calls tell
+pub once_inserted : {E : Type 0} (r : Result (Unit {0}) E) (key : TableKey) (old new : List TableKey) → OnOk r (new ≡ insert_key table_eq old key) → OnErr r (new ≡ old) → IsDistinct table_eq old → IsDistinct table_eq new
+once_inserted (Ok u) key old new e h d = subst (IsDistinct table_eq) (sym e) (distinct_key old key d)
+once_inserted (Err x) key old new e h d = subst (IsDistinct table_eq) (sym h) d
+
+pub all_once : (ks : List TableKey) → IsDistinct table_eq ks → insert_all table_eq [] ks ≡ ks
+all_once ks d = set_all_distinct table_eq_equiv [] ks d
+
+pub only_has : (ks : List TableKey) (first key : TableKey) (b : Bool) → ks ≡ first ∷ [] → b ≡ table_eq first key → has ks key ≡ b
+only_has ks first key b is e = ap (λ l. has l key) is ∙ or_false (table_eq key first) ∙ table_eq_equiv.symm key first ∙ sym e
+
+pub search_has : (ks slice : List TableKey) (key : TableKey) (index : Option ℕ) (b : Bool) → slice ≡ ks → index ≡ position (table_eq key) slice → b ≡ is_some index → has ks key ≡ b
+search_has ks slice key index b is e t = sym (t ∙ ap is_some e ∙ found key slice ∙ ap (λ l. has l key) is)
+
+-- what holds holds of an error
+pub on_err : {X E : Type 0} {P : Type 0} (r : Result X E) → P → OnErr r P
+on_err (Ok x) p = tt
+on_err (Err e) p = p
