@@ -5,3 +5,5 @@
 mod orders;
 #[cfg(test)]
 mod pulls;
+#[cfg(test)]
+mod worked;

@@ -1,10 +1,11 @@
 //! Whatever order the steps of a plan have, its rows are the same.
 
-ghost use Rattle.std.specs.Prelude.{◌≡◌, ◌≤◌, length};
+ghost use Rattle.std.specs.Prelude.{◌≡◌, ◌+◌, ◌<◌, ◌≤◌, length};
 ghost use Rattle.ecs_model.specs.rows.View.{view_of};
 ghost use Rattle.world_query.specs.Answerable.{IsAnswerable, IsAsked};
 
 use crate::pulls::make_family;
+use crate::worked::{ROWS, WorkedRow, make_world};
 use ecs_world::World;
 use query_check::Query;
 use query_meaning::Step;
@@ -15,8 +16,14 @@ use std::process::Abort;
 use std::test::Fail;
 use world_query::{plan_in, read_query, write_planned_rows};
 
-/// The ways to deal with an item.
+/// The ways to deal with an item, those of a plain term first.
 const MODES: usize = 6;
+
+/// The ways to deal with a plain term, which is no equality and doesn't follow its relationship.
+const PLAIN_MODES: usize = 3;
+
+/// Plans of more steps than these have more orders than can be tried, so their items, which are plain terms, are taken in the ways of these alone.
+const FEW_STEPS: usize = 6;
 
 /// A query in a world, the rows that it should give, and how many orders of its steps gave them.
 #[derive(Clone, Copy)]
@@ -27,10 +34,11 @@ struct Tried<'w> {
     plans: usize,
 }
 
-/// How many ways there are to take a step.
-fn modes_of(step: Step) -> usize {
+/// How many ways there are to take a step of so many.
+fn modes_of(step: Step, count: usize) -> usize {
     match step {
         Step::Each(_) | Step::Open(_) | Step::Close => 1,
+        _ if count > FEW_STEPS => PLAIN_MODES,
         _ => MODES,
     }
 }
@@ -40,10 +48,10 @@ fn in_mode(step: Step, mode: usize) -> Step {
     match (step, mode) {
         (Step::Each(_) | Step::Open(_) | Step::Close, _) => step,
         (_, 0) => Step::Check(item_of(step)),
-        (_, 1) => Step::Fix(item_of(step)),
+        (_, 1) => Step::Scan(item_of(step)),
         (_, 2) => Step::Targets(item_of(step)),
         (_, 3) => Step::Above(item_of(step)),
-        (_, 4) => Step::Scan(item_of(step)),
+        (_, 4) => Step::Fix(item_of(step)),
         _ => Step::Below(item_of(step)),
     }
 }
@@ -81,7 +89,8 @@ impl Tried<'_> {
         Ok(rows.as_slice() == self.rows)
     }
 
-    /// Tries each order of the steps from a place on, in each mode: whether all that are plans give the rows.
+    /// Tries each order of the steps from a place on, in each mode: whether all that are plans give the rows. The steps of a group stay in it, in
+    /// each of their orders, since no plan has one of them elsewhere.
     fn all_run(&mut self, alloc: Global, steps: &mut [Step], at: usize) -> Result<bool, Fail>
         requires answerable { IsAnswerable (view_of self.old.world.now.state) self.old.query.now }
         requires within { at ≤ length steps.old }
@@ -92,28 +101,69 @@ impl Tried<'_> {
         if at == steps.len() {
             return self.runs(alloc, steps);
         }
-        for other in at..steps.len() {
-            steps.swap(at, other);
-            for mode in 0..modes_of(steps[at]) {
+        let end = level_end(steps, at);
+        if end == at {
+            return self.all_run(alloc, steps, at + 1);
+        }
+        let mut turned = 0;
+        'pieces: while turned < end - at {
+            for mode in 0..modes_of(steps[at], steps.len()) {
                 steps[at] = in_mode(steps[at], mode);
                 if !self.all_run(alloc, steps, at + 1)? {
                     return Ok(false);
                 }
             }
-            steps.swap(at, other);
+            let piece = piece_at(steps, at, end);
+            steps[at..end].rotate_left(piece);
+            turned += piece;
         }
         Ok(true)
     }
 }
 
-/// How many orders of the planner's steps are plans, if all of these give the same rows.
-fn plans_of(alloc: Global, world: &World, query: &Query) -> Result<Option<usize>, Fail>
+/// Where the level of a step ends: at the end of its group, or of all steps.
+fn level_end(steps: &[Step], at: usize) -> usize
+    requires { at ≤ length steps.now }
+    ensures behind { at ≤ result }
+    ensures within { result ≤ length steps.now }
+{
+    let mut open = 0usize;
+    for place in at..steps.len() {
+        match steps[place] {
+            Step::Open(_) => open = open.saturating_add(1),
+            Step::Close if open == 0 => return place,
+            Step::Close => open -= 1,
+            _ => {}
+        }
+    }
+    steps.len()
+}
+
+/// How many steps stand together here, in a level that ends there: those of a group, or one.
+fn piece_at(steps: &[Step], at: usize, end: usize) -> usize
+    requires some { at < end }
+    requires within { end ≤ length steps.now }
+    ensures some { 1 ≤ result }
+    ensures within { at + result ≤ end }
+{
+    match steps[at] {
+        Step::Open(_) => (level_end(steps, at + 1) + 1).min(end) - at,
+        _ => 1,
+    }
+}
+
+/// How many orders of the planner's steps are plans, if all of these give the same rows, which are written behind others.
+fn plans_of(
+    alloc: Global,
+    world: &World,
+    query: &Query,
+    rows: &mut Vec<u8>,
+) -> Result<Option<usize>, Fail>
     requires { IsAsked world.now.state query.now }
 {
     world.keeps();
     let planned = plan_in(alloc, world, query.try_clone(alloc)?)?;
-    let mut rows = Vec::new(alloc);
-    write_planned_rows(alloc, world, &planned, &mut rows)?;
+    write_planned_rows(alloc, world, &planned, rows)?;
     let mut steps = Vec::new(alloc);
     steps.extend_from_slice(planned.steps())?;
     let mut tried = Tried {
@@ -129,33 +179,48 @@ fn plans_of(alloc: Global, world: &World, query: &Query) -> Result<Option<usize>
     }
 }
 
-/// How many orders of the steps of a text's plan are plans, if all of these give the same rows.
-fn plans_of_text(alloc: Global, world: &World, text: &str) -> Result<usize, Fail> {
+/// How many orders of the steps of a text's plan are plans, if all of these give the same rows, and if these are the given ones.
+fn plans_of_text(
+    alloc: Global,
+    world: &World,
+    text: &str,
+    answer: Option<&str>,
+) -> Result<usize, Fail> {
     let query = read_query(alloc, world, text)?;
-    Ok(plans_of(alloc, world, &query)?.unwrap_or(0))
+    let mut rows = Vec::new(alloc);
+    let plans = plans_of(alloc, world, &query, &mut rows)?;
+    match answer {
+        Some(answer) if rows.as_slice() != answer.as_bytes() => Ok(0),
+        _ => Ok(plans.unwrap_or(0)),
+    }
 }
 
 fn all_orders(rt: &impl Abort, alloc: Global, world: &mut World) -> Result<(), Fail> {
     make_family(world)?;
-    let plans = plans_of_text(alloc, world, "C(self|up IsA)")?;
+    let plans = plans_of_text(alloc, world, "C(self|up IsA)", None)?;
     assert!(rt; 1 <= plans);
-    let plans = plans_of_text(alloc, world, "(IsA,$x), C($x)")?;
+    let plans = plans_of_text(alloc, world, "(IsA,$x), C($x)", None)?;
     assert!(rt; 1 <= plans);
-    let plans = plans_of_text(alloc, world, "(Likes,$x), (ChildOf,$p), C || (IsA,$x)")?;
+    let plans = plans_of_text(
+        alloc,
+        world,
+        "(Likes,$x), (ChildOf,$p), C || (IsA,$x)",
+        None,
+    )?;
     assert!(rt; 2 <= plans);
-    let plans = plans_of_text(alloc, world, "(Likes,$x), Likes($x,$this)")?;
+    let plans = plans_of_text(alloc, world, "(Likes,$x), Likes($x,$this)", None)?;
     assert!(rt; 2 <= plans);
-    let plans = plans_of_text(alloc, world, "(Likes,$x), (ChildOf,$p)")?;
+    let plans = plans_of_text(alloc, world, "(Likes,$x), (ChildOf,$p)", None)?;
     assert!(rt; 2 <= plans);
-    let plans = plans_of_text(alloc, world, "(Likes,*), !{ (ChildOf,$p) }")?;
+    let plans = plans_of_text(alloc, world, "(Likes,*), !{ (ChildOf,$p) }", None)?;
     assert!(rt; 1 <= plans);
-    let plans = plans_of_text(alloc, world, "(Likes,$x), !{ (IsA,$q), C($q) }")?;
+    let plans = plans_of_text(alloc, world, "(Likes,$x), !{ (IsA,$q), C($q) }", None)?;
     assert!(rt; 1 <= plans);
-    let plans = plans_of_text(alloc, world, "(Likes,_), ?C")?;
+    let plans = plans_of_text(alloc, world, "(Likes,_), ?C", None)?;
     assert!(rt; 1 <= plans);
-    let plans = plans_of_text(alloc, world, "C || (ChildOf,*)")?;
+    let plans = plans_of_text(alloc, world, "C || (ChildOf,*)", None)?;
     assert!(rt; 1 <= plans);
-    let plans = plans_of_text(alloc, world, "(IsA,$x), $x != Left")?;
+    let plans = plans_of_text(alloc, world, "(IsA,$x), $x != Left", None)?;
     assert!(rt; 1 <= plans);
     Ok(())
 }
@@ -166,4 +231,28 @@ fn all_orders_of_steps_give_the_same_rows(rt: HostRuntime) -> Result<(), Fail> {
     let done = all_orders(&rt, rt.alloc(), &mut world);
     drop(world);
     done
+}
+
+/// All orders give the rows that the worked row has.
+fn orders_of_row(
+    rt: &impl Abort,
+    alloc: Global,
+    world: &mut World,
+    row: &WorkedRow,
+) -> Result<(), Fail> {
+    assert!(rt; make_world(world, row)?);
+    let plans = plans_of_text(alloc, world, row.query, Some(row.answer))?;
+    assert!(rt; row.plans <= plans, "{}: {plans}", row.query);
+    Ok(())
+}
+
+#[test]
+fn all_orders_of_steps_give_the_worked_rows(rt: HostRuntime) -> Result<(), Fail> {
+    for row in &ROWS {
+        let mut world = World::new(rt.alloc(), RandomState::new(&rt)?)?;
+        let done = orders_of_row(&rt, rt.alloc(), &mut world, row);
+        drop(world);
+        done?;
+    }
+    Ok(())
 }

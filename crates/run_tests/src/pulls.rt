@@ -3,6 +3,7 @@
 ghost use Rattle.std.specs.Prelude.{◌≡◌, ◌<◌, ◌≤◌, length};
 ghost use Rattle.world_query.specs.Answerable.{IsAsked};
 
+use crate::worked::{ROWS, WorkedRow, make_world, solutions_in};
 use ecs_id::{EntityId, Id};
 use ecs_model::faults::CommandError;
 use ecs_world::World;
@@ -27,11 +28,12 @@ const U: u32 = 65;
 /// The first entity without a name.
 const FIRST: u32 = 66;
 
-/// How a run went: how many rows came, how many came behind its end, and how many items were judged.
+/// How a run went: how many rows came, how many came behind its end, whether these calls left the row, and how many items were judged.
 #[derive(Clone, Copy)]
 struct Went {
     rows: usize,
     more: usize,
+    left: bool,
     probes: u64,
 }
 
@@ -78,13 +80,20 @@ fn run_query(
     room.refuse_after(0);
     let mut run = Run::start(frames, &facts);
     let rows = pull(&mut run, row.as_mut_slice(), most);
-    let more = if rows < most {
-        pull(&mut run, row.as_mut_slice(), 2)
-    } else {
-        0
-    };
+    let mut more = 0;
+    let mut left = true;
+    if rows < most {
+        let before = row.as_slice().to_vec(alloc)?;
+        more = pull(&mut run, row.as_mut_slice(), 2);
+        left = row.as_slice() == before.as_slice();
+    }
     let probes = run.probes();
-    Ok(Went { rows, more, probes })
+    Ok(Went {
+        rows,
+        more,
+        left,
+        probes,
+    })
 }
 
 /// The same of a query's text.
@@ -106,7 +115,7 @@ fn expect_rows(
 {
     for most in 0..rows + 2 {
         let went = run_text(alloc, world, text, most)?;
-        assert!(rt; went.rows == most.min(rows) && went.more == 0);
+        assert!(rt; went.rows == most.min(rows) && went.more == 0 && went.left);
     }
     Ok(())
 }
@@ -213,4 +222,42 @@ fn runs_are_given_up_after_every_pull(rt: HostRuntime) -> Result<(), Fail> {
     let done = give_up_anywhere(&rt, rt.alloc(), &mut world);
     drop(world);
     done
+}
+
+/// The live entities, and the ids of each.
+fn facts_in(alloc: Global, world: &World) -> Result<Vec<(EntityId, Vec<Id>)>, AllocError> {
+    let mut facts = Vec::new(alloc);
+    for entity in world.live() {
+        let mut ids = Vec::new(alloc);
+        ids.extend_from_slice(world.ids_of(entity).unwrap_or(&[]))?;
+        facts.push((entity, ids))?;
+    }
+    Ok(facts)
+}
+
+/// The query of a worked row gives each solution, and no more, is given up after each, and leaves the facts as they were.
+fn runs_of_row(
+    rt: &impl Abort,
+    alloc: Global,
+    world: &mut World,
+    row: &WorkedRow,
+) -> Result<(), Fail> {
+    assert!(rt; make_world(world, row)?);
+    let before = facts_in(alloc, world)?;
+    let solutions = solutions_in(row.answer);
+    assert!(rt; solutions < 100);
+    expect_rows(rt, alloc, world, row.query, solutions)?;
+    assert!(rt; facts_in(alloc, world)? == before);
+    Ok(())
+}
+
+#[test]
+fn runs_of_worked_rows_are_given_up_after_every_pull(rt: HostRuntime) -> Result<(), Fail> {
+    for row in &ROWS {
+        let mut world = World::new(rt.alloc(), RandomState::new(&rt)?)?;
+        let done = runs_of_row(&rt, rt.alloc(), &mut world, row);
+        drop(world);
+        done?;
+    }
+    Ok(())
 }
