@@ -20,31 +20,31 @@ pub type Lists<A> = IndexMap<Pattern, TableList<A>, Hashing, A>;
 fn list<A: Allocator + Copy>(
     lists: &mut Lists<A>,
     hashing: SerialHashing,
-    pattern: Pattern,
+    pattern: &Pattern,
     key: TableKey,
 ) -> Result<(), AllocError>
-    ensures listed { OnOk result (Adds lists.old lists.new (pattern_eq pattern) key) }
-    ensures refused { OnErr result (Keeps lists.old lists.new (pattern_eq pattern) key) }
+    ensures listed { OnOk result (Adds lists.old lists.new (pattern_eq pattern.now) key) }
+    ensures refused { OnErr result (Keeps lists.old lists.new (pattern_eq pattern.now) key) }
 {
     let alloc = *lists.allocator();
-    if let Some(list) = lists.get_mut(&pattern) {
+    if let Some(list) = lists.get_mut(pattern) {
         list.insert(alloc, hashing, key)?;
         return Ok(());
     }
-    lists.insert(pattern, TableList::one(key))?;
+    lists.insert(*pattern, TableList::one(key))?;
     Ok(())
 }
 
 /// Takes the table out of the list of the pattern, where it is in it.
-fn unlist<A: Allocator>(lists: &mut Lists<A>, pattern: Pattern, key: TableKey)
-    ensures { Drops lists.old lists.new (pattern_eq pattern) key }
+fn unlist<A: Allocator>(lists: &mut Lists<A>, pattern: &Pattern, key: TableKey)
+    ensures { Drops lists.old lists.new (pattern_eq pattern.now) key }
 {
-    let Some(list) = lists.get_mut(&pattern) else {
+    let Some(list) = lists.get_mut(pattern) else {
         return;
     };
     list.remove(key);
     if list.is_empty() {
-        lists.swap_remove(&pattern);
+        lists.swap_remove(pattern);
     }
 }
 
@@ -53,11 +53,11 @@ fn list_new<A: Allocator + Copy>(
     lists: &mut Lists<A>,
     hashing: SerialHashing,
     before: &Option<Id>,
-    pattern: Pattern,
+    pattern: &Pattern,
     key: TableKey,
 ) -> Result<(), AllocError>
-    ensures listed { OnOk result (Adds lists.old lists.new (λ p. pattern_eq pattern p && not (matches_some p before.now)) key) }
-    ensures refused { OnErr result (Keeps lists.old lists.new (λ p. pattern_eq pattern p && not (matches_some p before.now)) key) }
+    ensures listed { OnOk result (Adds lists.old lists.new (λ p. pattern_eq pattern.now p && not (matches_some p before.now)) key) }
+    ensures refused { OnErr result (Keeps lists.old lists.new (λ p. pattern_eq pattern.now p && not (matches_some p before.now)) key) }
 {
     if pattern.matches_some(before) {
         return Ok(());
@@ -76,7 +76,7 @@ fn list_each<A: Allocator + Copy>(
     ensures refused { OnErr result (Keeps lists.old lists.new (λ p. is_among patterns.now p && not (matches_some p before.now)) key) }
 {
     for pattern in patterns {
-        list_new(lists, hashing, before, *pattern, key)?;
+        list_new(lists, hashing, before, pattern, key)?;
     }
     Ok(())
 }
@@ -85,10 +85,10 @@ fn list_each<A: Allocator + Copy>(
 fn unlist_new<A: Allocator>(
     lists: &mut Lists<A>,
     before: &Option<Id>,
-    pattern: Pattern,
+    pattern: &Pattern,
     key: TableKey,
 )
-    ensures { Drops lists.old lists.new (λ p. pattern_eq pattern p && not (matches_some p before.now)) key }
+    ensures { Drops lists.old lists.new (λ p. pattern_eq pattern.now p && not (matches_some p before.now)) key }
 {
     if !pattern.matches_some(before) {
         unlist(lists, pattern, key);
@@ -104,7 +104,7 @@ fn unlist_each<A: Allocator>(
     ensures { Drops lists.old lists.new (λ p. is_among patterns.now p && not (matches_some p before.now)) key }
 {
     for pattern in patterns {
-        unlist_new(lists, before, *pattern, key);
+        unlist_new(lists, before, pattern, key);
     }
 }
 

@@ -1,7 +1,7 @@
 //! The list of the tables of one pattern.
 ghost use Rattle.std.specs.Prelude.{◌≡◌, ◌∷◌, ◌++◌, [], ◌↔◌, false, IfOk, IsTrue, OnErr, OnOk, length, position};
 ghost use Rattle.std.specs.List.{IsDistinct};
-ghost use Rattle.indexmap.specs.IndexSet.{insert_key};
+ghost use Rattle.indexmap.specs.IndexSet.{insert_key, IsUnchanged};
 ghost use Rattle.component_index.specs.Entered.{table_eq};
 ghost use Rattle.component_index.specs.TableList.{has, Loses};
 ghost use Rattle.component_index.specs.Tables.{keys_of};
@@ -22,6 +22,9 @@ const FEW_ROOM: usize = 4;
 
 // How many tables a list gets room for once they are hashed.
 const MANY_ROOM: usize = 72;
+
+// How many more tables a hashed list gets room for, where it has no more room: this many times its tables.
+const MORE: usize = 3;
 
 /// The tables of one pattern, each once.
 ///
@@ -135,6 +138,7 @@ impl<A: Allocator> Tables<A> {
                 }
             }
             Tables::Many(keys) => {
+                make_room(keys)?;
                 keys.insert(key)?;
                 return Ok(());
             }
@@ -166,6 +170,16 @@ impl<A: Allocator> Tables<A> {
             }
         }
     }
+}
+
+// Makes room in a hashed list for one table more. A growth moves all of the list, so it makes room for many at once.
+fn make_room<A: Allocator>(keys: &mut KeySet<A>) -> Result<(), AllocError>
+    ensures { IsUnchanged keys.old keys.new }
+{
+    if keys.len() < keys.capacity() {
+        return Ok(());
+    }
+    keys.reserve(keys.len().saturating_mul(MORE))
 }
 
 fn key_of(only: &[TableKey; 1]) -> TableKey

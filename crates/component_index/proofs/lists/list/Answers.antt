@@ -9,7 +9,7 @@ use Rattle.component_index.proofs.lists.list.Goals as goal
 pub returns-in-Some-clause-listed : goal.returns-in-Some-clause-listed
 returns-in-Some-clause-listed g c =
     let list = c.insert.new.self in
-    let was : get pattern_eq c.args.lists.now c.args.pattern ≡ Some c.in-Some.list.now = sym c.in-Some.ensures.value in
+    let was : get pattern_eq c.args.lists.now c.args.pattern.now ≡ Some c.in-Some.list.now = sym c.in-Some.ensures.value in
     let holds = c.get_mut.follows.holds list in
-    Adds-one c.args.lists.now (c.get_mut.follows.lender list) c.args.pattern c.args.key (Some c.in-Some.list.now) was (Some list)
+    Adds-one c.args.lists.now (c.get_mut.follows.lender list) c.args.pattern.now c.args.key (Some c.in-Some.list.now) was (Some list)
     (holds.3 (search rules)).0 (λ k. ap (λ keys. has keys k) c.in_ok-insert.ensures.inserted ∙ has-insert_key c.in-Some.list.now c.args.key k)

@@ -1,4 +1,4 @@
-use Rattle.std.proofs.Common.{◌≡◌, ◌∷◌, [], ◌++◌, ◌∙◌, List, map, sym}
+use Rattle.std.proofs.Common.{◌≡◌, ◌∙◌, List, map, sym}
 use Rattle.std.proofs.lemmas.Iterator.{YieldsList-from_slice, items_from_drains}
 use Rattle.ecs_id.specs.declared.TableKey.{TableKey}
 use Rattle.indexmap.specs.IndexSet.{insert_all, insert_key}
