@@ -71,7 +71,12 @@ impl<A: Allocator> TableList<A> {
     }
 
     /// Puts the table last, unless the list has it.
-    pub fn insert(&mut self, alloc: A, hashing: SerialHashing, key: TableKey) -> Result<(), AllocError>
+    pub fn insert(
+        &mut self,
+        alloc: A,
+        hashing: SerialHashing,
+        key: TableKey,
+    ) -> Result<(), AllocError>
     where
         A: Copy,
         ensures inserted { OnOk result (self.new ≡ insert_key table_eq self.old key) }
