@@ -1,4 +1,4 @@
--- The plan of a simple query walks through the shortest list of tables and judges its other items behind that, so its probes are bounded by that list and by the number of items.
+-- The plan of a simple query walks through the shortest list of tables and judges its other items behind that, so its probes are bounded by that list and by the number of items; and where it goes through given tables, by these.
 use Rattle.std.proofs.Common.{◌≡◌, ℕ, zero, suc, ◌+◌, ◌<◌, ◌≤◌, ◌*◌, inl, inr, Bool, true, false, List, [], ◌∷◌, ◌++◌, length, replicate, refl, sym, ap, ◌∙◌, subst, arith, append-nil, mul_comm}
 use Rattle.std.specs.Prelude.{◌==◌, ◌&&◌, filter, flat_map, map, not, is_none, slice_get, slice_index, Option, Some, None, option_map, if◌then◌else◌}
 use Rattle.std.specs.List.{Contains, list_all, list_any, range_with_len, sum_by}
@@ -12,7 +12,7 @@ use Rattle.std.proofs.lemmas.List.Folds.{list_all-append}
 use Rattle.std.proofs.lemmas.List.FromFn.{length-range_with_len}
 use Rattle.std.proofs.lemmas.List.Sums.{count_by-le-length, length-filter, sum_by-append, sum_by-cons}
 use Rattle.std.proofs.lemmas.Option.{get_or_from_slice_get, slice_get_within}
-use Rattle.component_index.specs.declared.pattern.Part as parts
+use Rattle.ecs_id.specs.declared.TableKey.{TableKey}
 use Rattle.component_index.specs.declared.pattern.Part.TheVariants as part
 use Rattle.ecs_model.proofs.Members.{in_flat_map}
 use Rattle.ecs_model.specs.rows.Level.{top}
@@ -27,11 +27,11 @@ use Rattle.query_meaning.specs.declared.steps.Step.TheVariants.{Check}
 use Rattle.query_model.specs.declared.query.Ref.{Ref}
 use Rattle.query_model.specs.declared.query.Ref.TheVariants.{Is, Var, Any, One}
 use Rattle.query_model.specs.declared.query.Term.{Term}
-use Rattle.query_model.specs.Local.{asks_first, asks_one_id, is_must, is_name, is_name_if_written, is_simple_piece}
+use Rattle.query_model.specs.Local.{asks_first, asks_one_id, is_must, is_name, is_name_if_written, is_simple, is_simple_piece}
 use Rattle.query_model.specs.Observers.{is_first}
 use Rattle.query_model.specs.Query.{must, may, either, equal, differ, Piece, item, opening, closing, Query}
 use Rattle.query_plan.proofs.Simple.{simple_queries_are_led}
-use Rattle.query_plan.specs.Simple.{is_leading}
+use Rattle.query_plan.specs.Simple.{has_terms, is_leading}
 use Rattle.plan_exec.specs.Actions.{cut, cuts, entry_instructions, hit_test, instructions_of, is_fixed, is_fixed_ref, move_instructions, name_of, pattern_of, term_test, variable_of}
 use Rattle.plan_exec.specs.declared.action.Action.TheVariants.{Walk, Match, Keep}
 use Rattle.plan_exec.specs.declared.action.Instruction.{Instruction}
@@ -47,7 +47,7 @@ use Rattle.plan_exec.specs.Tables.{by_tables, is_shared_test}
 use Rattle.plan_exec.specs.Variables.{is_other}
 use Rattle.plan_exec.specs.Width.{width_of}
 use Rattle.world_query.specs.Answerable.{searched_part, searched_pattern, table_counts, tables_of_item, tables_of_piece}
-use Rattle.world_query.specs.Probes.{SimpleQueriesStayWithin}
+use Rattle.world_query.specs.Probes.{KeptQueriesStayWithin, SimpleQueriesStayWithin, instructions_by}
 
 -- ---- terms for one id of `$this`
 
@@ -76,6 +76,7 @@ none_there None h = refl
 none_there (Some r) h = absurd (false≢true h)
 
 record AsksOne (t : Term) : Type 0 where
+  source : is_first t.source ≡ true
   first : is_name t.first ≡ true
   target : is_name_if_written t.target ≡ true
   test : term_test t ≡ Hit t.source (pattern_of t)
@@ -86,8 +87,10 @@ asks_one t h =
     let half = and_parts (asks_first t) (is_name t.first) whole.0 in
     let stored = and_parts (is_first t.source && t.on_source && is_none t.up) (not t.closed) half.0 in
     let plain = and_parts (is_first t.source && t.on_source) (is_none t.up) stored.0 in
-    let own : t.on_source ≡ true = (and_parts (is_first t.source) t.on_source plain.0).1 in
+    let itself = and_parts (is_first t.source) t.on_source plain.0 in
+    let own : t.on_source ≡ true = itself.1 in
     record {
+      source = itself.0;
       first = half.1;
       target = whole.1;
       test = (λ k. if not-true t.closed stored.1 k then Reaches (name_of t.first) t.source (target_or_any t) else hit_test (own k) (none_there t.up plain.1 k) t);
@@ -273,41 +276,101 @@ same_pattern row t h live =
     let target = part_of_target row t.target (asks_one t h).target (λ e c. live e (Contains-append_left (own ++ aim) behind e (Contains-append_right own aim e c))) in
     λ k. record { first = first k; second = target k }
 
--- ---- the promise
+-- ---- the plan
 
-pub simple_queries_stay_within : SimpleQueriesStayWithin
-simple_queries_stay_within v q limit fact names s t judges j leading =
-    let lists : List ℕ = table_counts v q in
+-- the planner's steps are a walk through the tables of one term, and items that are judged of each
+record IsLed (q : Query) (lists : List ℕ) : Type 0 where
+  first : ℕ
+  level : ℕ
+  term : Term
+  items : List Judged
+  is : entry_at q first ≡ Some (simple level (must term))
+  asks : asks_one_id term ≡ true
+  shortest : (j : ℕ) → is_leading (entry_at q j) ≡ true → slice_index lists first ≤ slice_index lists j
+  shared : list_all (is_judged_once (variable_of term.source)) items ≡ true
+  steps : instructions_by q lists ≡ by_tables (walk_and_judge (variable_of term.source) (pattern_of term) items)
+  once : sum_by judged_weight items ≤ length (entries q)
+
+-- of a simple query
+record IsSimple (q : Query) : Type 0 where
+  has_this : q.has_this ≡ true
+  pieces : list_all is_simple_piece q.pieces ≡ true
+
+simple_parts : (q : Query) → is_simple q ≡ true → IsSimple q
+simple_parts q s =
     let whole = and_parts (q.has_this && list_all is_simple_piece q.pieces) (list_any is_must q.pieces) s in
-    let pieces = (and_parts q.has_this (list_all is_simple_piece q.pieces) whole.0).1 in
-    let led = simple_queries_are_led q lists s t in
-    let first : ℕ = led.0 in
-    let shortest : slice_index lists first ≤ slice_index lists j = (led.1).1 j leading in
+    let parts = and_parts q.has_this (list_all is_simple_piece q.pieces) whole.0 in
+    record { has_this = parts.0; pieces = parts.1 }
+
+led : (q : Query) (lists : List ℕ) → is_simple q ≡ true → list_all has_terms q.pieces ≡ true → IsLed q lists
+led q lists s t =
+    let pieces = (simple_parts q s).pieces in
+    let leader = simple_queries_are_led q lists s t in
+    let first : ℕ = leader.0 in
     let plain : (k : ℕ) → is_plain (entry_at q k) ≡ true = λ k. ap (λ es. is_plain (slice_get es k)) (sym (items-entries q)) ∙ plain_from 0 q.pieces pieces k in
-    let it = leads (entry_at q first) (led.1).0 in
+    let it = leads (entry_at q first) (leader.1).0 in
     let x : Term = it.term in
     let asks : asks_one_id x ≡ true = ap is_plain (sym it.is) ∙ plain first in
     let count : ℕ = length (entries q) in
     let js : List ℕ = filter (λ i. not (first == i)) (range_with_len 0 count) in
-    let items : List Judged = flat_map (λ i. judged_of (entry_at q i)) js ++ map one (cuts q) in
     let u : ℕ = variable_of x.source in
-    let row : Row = replicate (width_of q) 0 in
     let cut = all_cuts u q in
-    let shared : list_all (is_judged_once u) items ≡ true = list_all-append (is_judged_once u) (flat_map (λ i. judged_of (entry_at q i)) js) (map one (cuts q)) ∙ and_from _ _ (all_shared q plain u js) cut.shared in
-    let steps = ap (λ ss. by_tables (instructions_of q ss)) led.2 ∙ ap by_tables (led_steps q first x js plain (ap (entry_instructions mode.Scan) it.is ∙ scanned it.level x asks)) in
-    let bound : limit ≤ length (v.listed (narrowed row (pattern_of x))) * sum_by judged_weight items = judges u (pattern_of x) items shared steps in
-    let there : Contains (entries q) (simple it.level (must x)) = (first, slice_get_within (entries q) first _ it.is, get_or_from_slice_get (entries q) first _ _ it.is) in
-    let live : (e : ℕ) → Contains (term_names x) e → 0 < e =
-    λ e c. (fact.links.indexes e (All-contains (Contains v.view.entities) (flat_map entry_names (entries q)) e names (in_flat_map entry_names (entries q) (simple it.level (must x)) e there c))).0 in
-    let listed : length (v.listed (narrowed row (pattern_of x))) ≡ slice_index lists first =
-    ap (λ p. length (v.listed p)) (same_pattern row x asks live)
-    ∙ sym (told_from v 0 q.pieces pieces first ∙ ap (λ es. tables_told v (slice_get es first)) (items-entries q) ∙ ap (tables_told v) it.is) in
     let few : length js ≤ count =
     omega (arith, length-filter (λ i. not (first == i)) (range_with_len 0 count), count_by-le-length (λ i. not (first == i)) (range_with_len 0 count), length-range_with_len 0 count) in
-    let once : sum_by judged_weight items ≤ count =
-    omega (arith, sum_by-append judged_weight (flat_map (λ i. judged_of (entry_at q i)) js) (map one (cuts q)), all_light q plain js, cut.none, few) in
+    record {
+      first = first;
+      level = it.level;
+      term = x;
+      items = flat_map (λ i. judged_of (entry_at q i)) js ++ map one (cuts q);
+      is = it.is;
+      asks = asks;
+      shortest = (leader.1).1;
+      shared = list_all-append (is_judged_once u) (flat_map (λ i. judged_of (entry_at q i)) js) (map one (cuts q)) ∙ and_from _ _ (all_shared q plain u js) cut.shared;
+      steps = ap (λ ss. by_tables (instructions_of q ss)) leader.2 ∙ ap by_tables (led_steps q first x js plain (ap (entry_instructions mode.Scan) it.is ∙ scanned it.level x asks));
+      once = omega (arith, sum_by-append judged_weight (flat_map (λ i. judged_of (entry_at q i)) js) (map one (cuts q)), all_light q plain js, cut.none, few);
+    }
+
+-- ---- the promises
+
+pub simple_queries_stay_within : SimpleQueriesStayWithin
+simple_queries_stay_within v q limit fact names s t judges j leading =
+    let lists : List ℕ = table_counts v q in
+    let by_first = led q lists s t in
+    let first : ℕ = by_first.first in
+    let x : Term = by_first.term in
+    let items : List Judged = by_first.items in
+    let count : ℕ = length (entries q) in
+    let row : Row = replicate (width_of q) 0 in
+    let bound : limit ≤ length (v.listed (narrowed row (pattern_of x))) * sum_by judged_weight items = judges (variable_of x.source) (pattern_of x) items by_first.shared by_first.steps in
+    let there : Contains (entries q) (simple by_first.level (must x)) = (first, slice_get_within (entries q) first _ by_first.is, get_or_from_slice_get (entries q) first _ _ by_first.is) in
+    let live : (e : ℕ) → Contains (term_names x) e → 0 < e =
+    λ e c. (fact.links.indexes e (All-contains (Contains v.view.entities) (flat_map entry_names (entries q)) e names (in_flat_map entry_names (entries q) (simple by_first.level (must x)) e there c))).0 in
+    let listed : length (v.listed (narrowed row (pattern_of x))) ≡ slice_index lists first =
+    ap (λ p. length (v.listed p)) (same_pattern row x by_first.asks live)
+    ∙ sym (told_from v 0 q.pieces (simple_parts q s).pieces first ∙ ap (λ es. tables_told v (slice_get es first)) (items-entries q) ∙ ap (tables_told v) by_first.is) in
     let tables : ℕ = slice_index lists first in
     let all : limit ≤ tables * sum_by judged_weight items = subst (λ n. limit ≤ n * sum_by judged_weight items) listed bound in
-    let by_items : sum_by judged_weight items * tables ≤ count * tables = mul-le-mul_right tables once in
-    let by_tables' : tables * count ≤ slice_index lists j * count = mul-le-mul_right count shortest in
+    let by_items : sum_by judged_weight items * tables ≤ count * tables = mul-le-mul_right tables by_first.once in
+    let by_tables' : tables * count ≤ slice_index lists j * count = mul-le-mul_right count (by_first.shortest j leading) in
     omega (arith, all, mul_comm tables (sum_by judged_weight items), by_items, mul_comm count tables, by_tables', mul_comm (slice_index lists j) count)
+
+-- the walk is of the first variable
+of_first : (r : Ref) → is_first r ≡ true → (variable_of r == 0) ≡ true
+of_first (Var u) h = h
+of_first (Is e) h = absurd (false≢true h)
+of_first Any h = absurd (false≢true h)
+of_first One h = absurd (false≢true h)
+
+pub kept_queries_stay_within : KeptQueriesStayWithin
+kept_queries_stay_within v q lists tables limit s t judges =
+    let by_first = led q lists s t in
+    let x : Term = by_first.term in
+    let u : ℕ = variable_of x.source in
+    let items : List Judged = by_first.items in
+    let count : ℕ = length (entries q) in
+    let listed : List TableKey = v.listed (narrowed (replicate (width_of q) 0) (pattern_of x)) in
+    let bound : limit ≤ length (if q.has_this && u == 0 then tables else listed) * sum_by judged_weight items = judges u (pattern_of x) items by_first.shared by_first.steps in
+    let given : (q.has_this && u == 0) ≡ true = and_from q.has_this (u == 0) (simple_parts q s).has_this (of_first x.source (asks_one x by_first.asks).source) in
+    let all : limit ≤ length tables * sum_by judged_weight items = subst (λ b. limit ≤ length (if b then tables else listed) * sum_by judged_weight items) given bound in
+    let by_items : sum_by judged_weight items * length tables ≤ count * length tables = mul-le-mul_right (length tables) by_first.once in
+    omega (arith, all, mul_comm (length tables) (sum_by judged_weight items), by_items)
