@@ -24,7 +24,7 @@ const FEW_ROOM: usize = 4;
 const MANY_ROOM: usize = 72;
 
 // How many more tables a hashed list gets room for, where it has no more room: this many times its tables.
-const MORE: usize = 3;
+const MORE: usize = 1;
 
 /// The tables of one pattern, each once.
 ///
