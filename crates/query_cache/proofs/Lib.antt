@@ -1,3 +1,4 @@
+pub mod Filters
 pub mod Fitting
 pub mod Suiting
 pub mod Syncing

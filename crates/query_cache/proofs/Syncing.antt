@@ -1,5 +1,5 @@
 -- What a sync leaves: the keys that were there and those that were taken in, without the released ones.
-use Rattle.std.proofs.Common.{◌≡◌, ◌↔◌, ◌⊎◌, inl, inr, ℕ, zero, suc, ◌<◌, ◌≤◌, Bool, true, false, cond, List, [], ◌∷◌, ◌++◌, Option, Some, None, IsTrue, Result, Ok, is_some, length, max, option_map, slice_index_or, refl, sym, ap, subst, ◌∙◌, arith}
+use Rattle.std.proofs.Common.{◌≡◌, ◌↔◌, ◌⊎◌, inl, inr, ℕ, zero, ◌<◌, ◌≤◌, Bool, true, false, List, [], ◌∷◌, ◌++◌, Option, Some, None, IsTrue, Result, Ok, is_some, length, max, option_map, refl, sym, ap, subst, ◌∙◌, arith}
 use Rattle.std.specs.declared.cmp.Ordering.TheVariants.{Less}
 use Rattle.std.specs.List.{AllByRecursion, Contains, filter}
 use Rattle.std.specs.List.Sorted.{IsStrictlySortedBy}
@@ -11,57 +11,16 @@ use Rattle.ecs_id.specs.declared.TableKey.{TableKey}
 use Rattle.ecs_table.specs.Archetype.{Archetype}
 use Rattle.table_store.specs.Store.{Store, IsStore, table_at}
 use Rattle.query_cache.specs.Kept.{AreAbove, Counts, Fits, IsRising, IsTakenIn, Judges, Kept, is_kept, stands, suits}
+use Rattle.query_cache.proofs.Filters.{all_filter, from_filter, rising_filter, to_filter}
 use Rattle.query_cache.proofs.Taking.{all_of, from_mapped, less_is, serials_of}
 
-module _ {X : Type 0} (p : X → Bool) where
-  later : (x y : X) (xs : List X) → Contains xs x → Contains (y ∷ xs) x
-  later x y xs h = (suc h.0, omega (arith, h.1), h.2)
-
-  from_filter : (xs : List X) (x : X) (i : ℕ) → i < length (filter p xs) → slice_index_or (filter p xs) i x ≡ x → Contains xs x × (p x ≡ true)
-  from_filter [] x i lt e = absurd (omega (arith, lt))
-  from_filter (y ∷ xs) x i lt e = by (p y) refl i lt e (from_filter xs x)
-    where
-      by : (b : Bool) → p y ≡ b → (i : ℕ) → i < length (cond b (y ∷ filter p xs) (filter p xs)) → slice_index_or (cond b (y ∷ filter p xs) (filter p xs)) i x ≡ x
-          → ((j : ℕ) → j < length (filter p xs) → slice_index_or (filter p xs) j x ≡ x → Contains xs x × (p x ≡ true)) → Contains (y ∷ xs) x × (p x ≡ true)
-      by true h zero lt e ih = ((zero, omega arith, e), ap p (sym e) ∙ h)
-      by true h (suc j) lt e ih = let r = ih j (omega (arith, lt)) e in (later x y xs r.0, r.1)
-      by false h j lt e ih = let r = ih j lt e in (later x y xs r.0, r.1)
-
-  to_filter : (xs : List X) (x : X) (i : ℕ) → i < length xs → slice_index_or xs i x ≡ x → p x ≡ true → Contains (filter p xs) x
-  to_filter [] x i lt e t = absurd (omega (arith, lt))
-  to_filter (y ∷ xs) x zero lt e t = subst (λ b. Contains (cond b (y ∷ filter p xs) (filter p xs)) x) (sym (ap p e ∙ t)) (zero, omega arith, e)
-  to_filter (y ∷ xs) x (suc i) lt e t = by (p y) (to_filter xs x i (omega (arith, lt)) e t)
-    where
-      by : (b : Bool) → Contains (filter p xs) x → Contains (cond b (y ∷ filter p xs) (filter p xs)) x
-      by true h = later x y (filter p xs) h
-      by false h = h
-
--- rising lists
-module _ (P : ℕ → Type 0) where
-  all_filter : (p : TableKey → Bool) (keys : List TableKey) → AllByRecursion P (serials_of keys) → AllByRecursion P (serials_of (filter p keys))
-  all_filter p [] all = tt
-  all_filter p (k ∷ keys) all = by (p k) (all_filter p keys all.1)
-    where
-      by : (b : Bool) → AllByRecursion P (serials_of (filter p keys)) → AllByRecursion P (serials_of (cond b (k ∷ filter p keys) (filter p keys)))
-      by true rest = (all.0, rest)
-      by false rest = rest
-
-  all_append : (xs ys : List TableKey) → AllByRecursion P (serials_of xs) → AllByRecursion P (serials_of ys) → AllByRecursion P (serials_of (xs ++ ys))
-  all_append [] ys a b = b
-  all_append (x ∷ xs) ys a b = (a.0, all_append xs ys a.1 b)
+all_append : (P : ℕ → Type 0) (xs ys : List TableKey) → AllByRecursion P (serials_of xs) → AllByRecursion P (serials_of ys) → AllByRecursion P (serials_of (xs ++ ys))
+all_append P [] ys a b = b
+all_append P (x ∷ xs) ys a b = (a.0, all_append P xs ys a.1 b)
 
 weaken : (P Q : ℕ → Type 0) → ((n : ℕ) → P n → Q n) → (xs : List ℕ) → AllByRecursion P xs → AllByRecursion Q xs
 weaken P Q f [] all = tt
 weaken P Q f (x ∷ xs) all = (f x all.0, weaken P Q f xs all.1)
-
-rising_filter : (p : TableKey → Bool) (keys : List TableKey) → IsRising keys → IsRising (filter p keys)
-unfolding IsStrictlySortedBy
-rising_filter p [] rise = tt
-rising_filter p (k ∷ keys) rise = by (p k) (rising_filter p keys rise.1)
-  where
-    by : (b : Bool) → IsRising (filter p keys) → IsRising (cond b (k ∷ filter p keys) (filter p keys))
-    by true rest = (all_filter (λ y. nat_cmp k.serial y ≡ Less) p keys rise.0, rest)
-    by false rest = rest
 
 rising_append : (n : ℕ) (xs ys : List TableKey) → IsRising xs → IsRising ys → AllByRecursion (λ x. x ≤ n) (serials_of xs) → AllByRecursion (λ y. n < y) (serials_of ys) → IsRising (xs ++ ys)
 unfolding IsStrictlySortedBy

@@ -124,7 +124,7 @@ fn is_kept<B: Allocator>(
     }
 }
 
-/// Puts those tables above a serial that are of the query behind the keys. Answers the greatest serial there.
+/// Puts those tables above a serial that are of the query behind the keys. Answers the greatest serial that was given.
 fn take_in<A: Allocator, B: Allocator>(
     keys: &mut Vec<TableKey, A>,
     judged: &mut u64,
@@ -135,15 +135,16 @@ fn take_in<A: Allocator, B: Allocator>(
     ensures { IsTakenIn tables.now patterns.now last result keys.old.items keys.new.items judged.old judged.new }
 {
     let before = keys.len();
-    let mut greatest = last;
-    for (_, key) in tables.since(last) {
-        if is_kept(patterns, tables, *key, judged) && keys.push(*key).is_err() {
+    for key in tables.since(last) {
+        if has(tables, *key)
+            && is_kept(patterns, tables, *key, judged)
+            && keys.push(*key).is_err()
+        {
             keys.truncate(before);
             return Err(AllocError);
         }
-        greatest = key.serial;
     }
-    Ok(greatest)
+    Ok(last.max(tables.last()))
 }
 
 /// Keeps the keys of the tables that stand.

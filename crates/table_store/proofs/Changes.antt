@@ -1,10 +1,10 @@
 -- A store before and after one of its tables changes.
 use Rattle.std.proofs.Common.{◌≡◌, ◌↔◌, ℕ, ◌<◌, ◌==◌, ◌&&◌, Bool, true, false, cond, if◌then◌else◌, Option, Some, None, IsSome, IfSome, length, option_map, option_and_then, unwrap_or, refl, sym, ap, subst, ◌∙◌, true≢false, arith}
 use Rattle.std.proofs.lemmas.Bool.Decides.{Decides-eqb}
+use Rattle.std.specs.declared.vec.Vec.{Vec}
 use Rattle.slab.specs.Slab as slots
 use Rattle.slab.specs.Slab.{Slab, Updates, with_value}
 use Rattle.slab.proofs.SlabLemmas.{Updates-with_value}
-use Rattle.std.specs.BTreeMap.{BTreeMap}
 use Rattle.ecs_id.specs.declared.Place.{Place}
 use Rattle.ecs_id.specs.declared.TableKey.{TableKey}
 use Rattle.ecs_table.specs.Archetype.{Archetype, IsSound}
@@ -80,7 +80,7 @@ module _ {Y : Type 0} (tables new : Slab (Held Y)) (last : ℕ) (s : Store) (vie
     pub shapes : (q : TableKey) → shape_at (store_of new last) q ≡ shape_at s q
     shapes q = ap (option_map shape_of) (changed q) ∙ changed_shape f t (key_eq q k) (table_at s q) (at_key q) same
 
-  module _ (by_ids : ByIds Y) (by_serial : BTreeMap ℕ TableKey) (kept : IsKept tables by_ids by_serial last) (same : shape_of (f t) ≡ shape_of t) (sound : IsSound (f t))
+  module _ (by_ids : ByIds Y) (by_serial : Vec TableKey Y) (kept : IsKept tables by_ids by_serial last) (same : shape_of (f t) ≡ shape_of t) (sound : IsSound (f t))
       (sizes : y.value.sizes ≡ x.value.sizes) (more : y.value.more ≡ x.value.more) (less : y.value.less ≡ x.value.less) where
     abbrev n : Store
     n = store_of new last
@@ -111,7 +111,7 @@ module _ {Y : Type 0} (tables new : Slab (Held Y)) (last : ℕ) (s : Store) (vie
       store = IsStore-shapes was n same_shapes refl (listed_in new last) kept.store;
       slots = λ m. slot_kept m (m == k.slot) refl;
       index = λ ids q. subst (λ o. (key_of by_ids ids ≡ Some q) ↔ (o ≡ Some ids)) (sym (same_ids was n same_shapes q)) (kept.index ids q);
-      order = IsOrder-shapes was n same_shapes by_serial kept.order;
+      order = IsOrder-shapes was n same_shapes refl by_serial.items kept.order;
     }
 
 -- a table's numbers and rows, seen through the store
@@ -156,7 +156,7 @@ module _ {Y : Type 0} (tables : Slab (Held Y)) (last : ℕ) (s : Store) (view : 
   pub written_shapes : shape_of (f t) ≡ shape_of t → (q : TableKey) → shape_at (store_of new last) q ≡ shape_at s q
   written_shapes = shapes tables new last s view k t at x y is updates f made serial
 
-  pub written_kept : (by_ids : ByIds Y) (by_serial : BTreeMap ℕ TableKey) → IsKept tables by_ids by_serial last → shape_of (f t) ≡ shape_of t → IsSound (f t) → IsKept new by_ids by_serial last
+  pub written_kept : (by_ids : ByIds Y) (by_serial : Vec TableKey Y) → IsKept tables by_ids by_serial last → shape_of (f t) ≡ shape_of t → IsSound (f t) → IsKept new by_ids by_serial last
   written_kept by_ids by_serial kept same sound = IsKept-changed tables new last s view k t at x y is updates f made serial by_ids by_serial kept same sound (ap (λ v. v.sizes) lent) (ap (λ v. v.more) lent) (ap (λ v. v.less) lent)
 
   at_key_new : table_at (store_of new last) k ≡ Some (f t)
@@ -165,7 +165,7 @@ module _ {Y : Type 0} (tables : Slab (Held Y)) (last : ℕ) (s : Store) (view : 
   pub written_room : room_at (store_of new last) k ≡ (f t).room
   written_room = ap (λ o. unwrap_or (option_map (λ v. v.room) o) 0) at_key_new
 
-  pub written_stored : (by_ids : ByIds Y) (by_serial : BTreeMap ℕ TableKey) → IsKept tables by_ids by_serial last → shape_of (f t) ≡ shape_of t → IsSound (f t) → IsStored (store_of new last)
+  pub written_stored : (by_ids : ByIds Y) (by_serial : Vec TableKey Y) → IsKept tables by_ids by_serial last → shape_of (f t) ≡ shape_of t → IsSound (f t) → IsStored (store_of new last)
   written_stored by_ids by_serial kept same sound = stored new by_ids by_serial last (written_kept by_ids by_serial kept same sound) (store_of new last) refl
 
   -- nothing is seen, where the table stays

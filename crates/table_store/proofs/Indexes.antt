@@ -1,13 +1,9 @@
--- The index from lists of ids to keys, and that from serials, before and after a change.
-use Rattle.std.proofs.Common.{◌≡◌, ◌≢◌, ◌⊎◌, ◌==◌, ℕ, Bool, true, false, cond, List, Option, refl, sym, ap, subst, ◌∙◌, arith, true≢false, inl, inr}
+-- The index from lists of ids to keys, before and after a change.
+use Rattle.std.proofs.Common.{◌≡◌, Bool, true, false, cond, List, Option, refl, ap, subst, ◌∙◌}
 use Rattle.std.proofs.lemmas.Slice.Eq.{slice_eq-Decides}
-use Rattle.std.proofs.lemmas.Bool.Decides.{Decides-eqb, nat_tests}
 use Rattle.std.specs.Cmp.Lexicographic.{lists_equiv}
 use Rattle.std.specs.Map.{lookup, KeepsOthers}
 use Rattle.indexmap.specs.IndexMap as hashed
-use Rattle.std.specs.BTreeMap as ordered
-use Rattle.std.specs.BTreeMap.{BTreeMap}
-use Rattle.std.specs.Ordering.{nat_cmp, is_eq}
 use Rattle.std.specs.declared.vec.Vec.{Vec}
 use Rattle.ecs_id.specs.Id.{Id, id_decides, id_eq_equiv}
 use Rattle.ecs_id.specs.declared.TableKey.{TableKey}
@@ -49,14 +45,3 @@ SetsIds-grown {Y} old grown new ids w same u = subst IsSetFrom same u
     IsSetFrom es = ((q : Vec Id Y) → hashed.get (λ v u. ids_eq v.items u.items) new q ≡ cond (ids_eq ids q.items) w (lookup (λ v. ids_eq q.items v.items) es)) × (key_of new ids ≡ w)
         × ((q : Vec Id Y) → ids_eq ids q.items ≡ false → hashed.get (λ v u. ids_eq v.items u.items) new q ≡ lookup (λ v. ids_eq q.items v.items) es)
         × KeepsOthers (λ v u. ids_eq v.items u.items) (λ v. ids_eq ids v.items) es new.entries
-
-unequal : (a b : ℕ) → a ≢ b → is_eq (nat_cmp a b) ≡ false
-unequal a b d = grind (arith, nat_tests)
-
--- what stands under a serial, after the change of one
-pub get_serial : {X : Type 0} (m n : BTreeMap ℕ X) (k : ℕ) (w : Option X) → ordered.UpdatesBy nat_cmp (nat_cmp k) m n w → (q : ℕ) → ((q ≡ k) × (ordered.get nat_cmp n q ≡ w)) ⊎ ((q ≢ k) × (ordered.get nat_cmp n q ≡ ordered.get nat_cmp m q))
-get_serial m n k w u q = by (q == k) refl
-  where
-    by : (b : Bool) → (q == k) ≡ b → ((q ≡ k) × (ordered.get nat_cmp n q ≡ w)) ⊎ ((q ≢ k) × (ordered.get nat_cmp n q ≡ ordered.get nat_cmp m q))
-    by true e = let same = (Decides-eqb q k).0 e in inl (same, ap (ordered.get nat_cmp n) same ∙ u.1)
-    by false e = let apart : q ≢ k = λ h. true≢false (sym ((Decides-eqb q k).1 h) ∙ e) in inr (apart, u.2 q (unequal k q (λ h. apart (sym h))))

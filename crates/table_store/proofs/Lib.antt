@@ -4,6 +4,7 @@ pub mod Inserting
 pub mod Listing
 pub mod Making
 pub mod Moving
+pub mod Order
 pub mod Putting
 pub mod Releasing
 pub mod RowCalls

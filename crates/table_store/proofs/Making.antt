@@ -1,13 +1,11 @@
 -- A store before and after a table is made.
-use Rattle.std.proofs.Common.{◌≡◌, ◌≢◌, ◌↔◌, ◌⊎◌, ℕ, ◌+◌, ◌≤◌, ◌<◌, ◌==◌, Bool, true, false, cond, if◌then◌else◌, [], ◌∷◌, map, ◌-◌, ◌^◌, Option, Some, None, IsSome, IfSome, IsTrue, is_some, nat_le, option_map, option_and_then, unwrap_or, slice_get, refl, sym, ap, subst, ◌∙◌, true≢false, arith, inl, inr}
+use Rattle.std.proofs.Common.{◌≡◌, ◌≢◌, ◌↔◌, ◌⊎◌, ℕ, ◌+◌, ◌≤◌, ◌<◌, ◌==◌, Bool, true, false, cond, if◌then◌else◌, [], ◌∷◌, ◌++◌, map, ◌-◌, ◌^◌, Option, Some, None, IsSome, IfSome, IsTrue, is_some, nat_le, option_map, option_and_then, unwrap_or, slice_get, refl, sym, ap, subst, ◌∙◌, true≢false, arith, inl, inr}
 use Rattle.std.proofs.lemmas.Bool.Decides.{Decides-eqb}
 use Rattle.std.specs.List.{list_all, zip}
 use Rattle.std.specs.FinMap.{is_sorted}
-use Rattle.std.specs.Ordering.{nat_cmp}
+use Rattle.std.specs.declared.vec.Vec.{Vec}
 use Rattle.slab.specs.Slab as slots
 use Rattle.slab.specs.Slab.{Slab, Updates}
-use Rattle.std.specs.BTreeMap as ordered
-use Rattle.std.specs.BTreeMap.{BTreeMap}
 use Rattle.ecs_id.specs.Id.{Id, id_cmp}
 use Rattle.ecs_id.specs.declared.Place.{Place}
 use Rattle.ecs_id.specs.declared.TableKey.{TableKey}
@@ -19,7 +17,8 @@ use Rattle.table_store.specs.Kept.{ByIds, Held, HasNoEdge, store_of, key_of, Set
 use Rattle.table_store.proofs.Slots.{table_at-made, same_key, key_eq_true, key_eq_false, listed_in, none_is_some, one_some}
 use Rattle.table_store.proofs.StoreLemmas.{ids_of, ids_in_shape}
 use Rattle.table_store.proofs.Shapes.{HaveSizes, size_found, shape_of_shaped, all_small}
-use Rattle.table_store.proofs.Indexes.{ids_same, ids_eq_true, get_ids, get_serial}
+use Rattle.table_store.proofs.Indexes.{ids_same, ids_eq_true, get_ids}
+use Rattle.table_store.proofs.Order.{order_pushed}
 
 pub none_of : {X : Type 0} (o : Option X) → ((x : X) → o ≡ Some x → ⊥) → o ≡ None
 none_of None h = refl
@@ -44,7 +43,7 @@ zip_parts : (f : Shape) → ◌≡◌ {A = Shape} (zip (ids_of f) (map (λ c. c.
 zip_parts [] = refl
 zip_parts (c ∷ f) = ap (λ l. c ∷ l) (zip_parts f)
 
-module _ {Y : Type 0} (tables new : Slab (Held Y)) (by_ids named : ByIds Y) (by_serial dated : BTreeMap ℕ TableKey) (last : ℕ) (kept : IsKept tables by_ids by_serial last)
+module _ {Y : Type 0} (tables new : Slab (Held Y)) (by_ids named : ByIds Y) (by_serial dated : Vec TableKey Y) (last : ℕ) (kept : IsKept tables by_ids by_serial last)
     (f : Shape) (k : TableKey) (y : Held Y) (sorted : IsTrue (is_sorted id_cmp f)) (small : (j : ℕ) → IfSome (slice_get f j) (λ c. c.1 ≤ 64)) (sizes : HaveSizes (store_of tables last) f)
     (missing : key_of by_ids (ids_of f) ≡ None) (serial : k.serial ≡ last + 1) (free : slots.get tables k.slot ≡ None) (u : Updates tables new k.slot (Some y))
     (ys : y.value.serial ≡ k.serial) (yt : y.value.table ≡ shaped f) (yf : y.value.sizes.items ≡ map (λ c. c.1) f) (no_more : HasNoEdge y.value.more) (no_less : HasNoEdge y.value.less) (numbered : k.slot < 2 ^ 32 - 1) where
@@ -104,12 +103,6 @@ module _ {Y : Type 0} (tables new : Slab (Held Y)) (by_ids named : ByIds Y) (by_
 
   is_there : (q : TableKey) → q ≢ k → IsSome (table_at n q) → IsSome (table_at s q)
   is_there q d h = elim (cases q) [ inl e ↦ absurd (d e.0) | inr e ↦ subst IsSome e.1 h ]
-
-  was_there : (q : TableKey) → IsSome (table_at s q) → (q ≢ k) × IsSome (table_at n q)
-  was_there q h = elim (cases q) [
-    | inl e ↦ absurd (let lt = stood q h in let same : q.serial ≡ k.serial = ap (λ v. v.serial) e.0 in omega (arith, lt, same))
-    | inr e ↦ (e.0, subst IsSome (sym e.1) h)
-  ]
 
   one : (q r : TableKey) → IsSome (table_at n q) → ids_at n q ≡ ids_at n r → q ≡ r
   one q r h e = elim (ids_cases q) [
@@ -217,20 +210,8 @@ module _ {Y : Type 0} (tables new : Slab (Held Y)) (by_ids named : ByIds Y) (by_
             λ h. elim (ids_cases q) [ inl a ↦ absurd (apart (one_some (ids_of f) ids (sym a.1 ∙ h))) | inr a ↦ g ∙ (kept.index ids q).1 (sym a.1 ∙ h) ],
           )
 
-  order_made : ordered.UpdatesBy nat_cmp (nat_cmp k.serial) by_serial dated (Some k) → IsOrder n dated
-  order_made v m q = elim (get_serial by_serial dated k.serial (Some k) v m) [
-    | inl a ↦ (
-      λ h. let same : q ≡ k = one_some q k (sym h ∙ a.1) in (subst (λ z. IsSome (table_at n z)) (sym same) there_now, ap (λ z. z.serial) same ∙ sym a.0),
-      λ h. a.1 ∙ ap Some (sym (once q k h.0 there_now (h.1 ∙ a.0))),
-    )
-    | inr a ↦ (
-      λ h. let old = (kept.order m q).0 (sym a.1 ∙ h) in ((was_there q old.0).1, old.1),
-      λ h. a.1 ∙ (kept.order m q).1 (is_there q (λ e. a.0 (sym h.1 ∙ ap (λ z. z.serial) e)) h.0, h.1),
-    )
-  ]
-    where
-      there_now : IsSome (table_at n k)
-      there_now = elim (cases k) [ inl a ↦ some_of _ (shaped f) a.1 | inr a ↦ absurd (a.0 refl) ]
+  order_made : dated.items ≡ by_serial.items ++ k ∷ [] → IsOrder n dated.items
+  order_made = order_pushed s n by_serial.items dated.items k kept.order (λ q h. elim (cases q) [ inl a ↦ inl a.0 | inr a ↦ inr (subst IsSome a.1 h) ]) (omega (arith, serial)) refl
 
-  pub made_kept : IsSound (shaped f) → SetsIds (ids_of f) (Some k) by_ids named → ordered.UpdatesBy nat_cmp (nat_cmp k.serial) by_serial dated (Some k) → IsKept new named dated k.serial
+  pub made_kept : IsSound (shaped f) → SetsIds (ids_of f) (Some k) by_ids named → dated.items ≡ by_serial.items ++ k ∷ [] → IsKept new named dated k.serial
   made_kept sound v o = record { store = made_store; slots = slots_made sound; index = index_made v; order = order_made o }

@@ -1,10 +1,10 @@
 -- A row moves to another table of the store: its table comes out of its slot, gives up the row, and comes back.
 use Rattle.std.proofs.Common.{◌≡◌, ◌≢◌, ℕ, suc, zero, ◌+◌, ◌<◌, ◌==◌, ◌&&◌, Bool, true, false, cond, if◌then◌else◌, List, [], ◌∷◌, Option, Some, None, IsSome, is_some, length, option_map, option_and_then, slice_index_or, slice_set, fold, refl, sym, ap, subst, ◌∙◌, true≢false, arith}
 use Rattle.std.proofs.lemmas.Bool.Decides.{Decides-eqb}
+use Rattle.std.specs.declared.vec.Vec.{Vec}
 use Rattle.slab.specs.Slab as slots
 use Rattle.slab.specs.Slab.{Slab, Updates, with_value, slab_len}
 use Rattle.slab.proofs.SlabLemmas.{Updates-with_value}
-use Rattle.std.specs.BTreeMap.{BTreeMap}
 use Rattle.ecs_id.specs.declared.Place.{Place}
 use Rattle.ecs_id.specs.declared.TableKey.{TableKey}
 use Rattle.ecs_table.specs.Archetype.{Archetype, HaveEqualSizes, HaveOneSize, IsSound, with_moved, without_row}
@@ -53,7 +53,7 @@ both_first false b h = h
 other_table : (r q p : Place) → q.table ≢ p.table → same_place r q ≡ true → same_place r p ≡ false
 other_table r q p apart e = ap (λ b. b && r.row == p.row) (key_eq_false r.table p.table (λ same. apart (sym (same_key r.table q.table (both_first (key_eq r.table q.table) (r.row == q.row) e)) ∙ same)))
 
-module _ {Y : Type 0} (tables out back : Slab (Held Y)) (last : ℕ) (s : Store) (view : store_of tables last ≡ s) (by_ids : ByIds Y) (by_serial : BTreeMap ℕ TableKey) (kept : IsKept tables by_ids by_serial last)
+module _ {Y : Type 0} (tables out back : Slab (Held Y)) (last : ℕ) (s : Store) (view : store_of tables last ≡ s) (by_ids : ByIds Y) (by_serial : Vec TableKey Y) (kept : IsKept tables by_ids by_serial last)
     (from to : TableKey) (apart : from ≢ to) (src tgt : Archetype) (at_from : table_at s from ≡ Some src) (at_to : table_at s to ≡ Some tgt) (row : ℕ) (there : row < length src.entities)
     (x : Held Y) (is_x : slots.get tables from.slot ≡ Some x) (u1 : Updates tables out from.slot None) where
   slots_differ : to.slot ≢ from.slot

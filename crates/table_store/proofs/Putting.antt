@@ -1,12 +1,10 @@
 -- A table is found or made.
-use Rattle.std.proofs.Common.{◌≡◌, ◌≢◌, ◌↔◌, ℕ, suc, ◌+◌, ◌-◌, ◌^◌, ◌<◌, ◌≤◌, Bool, true, false, if◌then◌else◌, List, ◌∷◌, Option, Some, None, IsSome, IsNone, IfSome, IfOk, IsTrue, Result, Ok, Err, map, max, option_map, unwrap_or, slice_index_or, slice_get, length, [], refl, sym, ap, subst, ◌∙◌, true≢false, arith, rules}
+use Rattle.std.proofs.Common.{◌≡◌, ◌≢◌, ◌↔◌, ℕ, suc, ◌+◌, ◌-◌, ◌^◌, ◌<◌, ◌≤◌, Bool, true, false, if◌then◌else◌, List, ◌∷◌, ◌++◌, Option, Some, None, IsNone, IfSome, IfOk, IsTrue, Result, Ok, Err, map, max, option_map, unwrap_or, slice_index_or, slice_get, length, [], refl, sym, ap, subst, ◌∙◌, true≢false, arith, rules}
 use Rattle.std.specs.FinMap.{is_sorted}
-use Rattle.std.specs.Ordering.{is_eq, nat_cmp}
 use Rattle.std.specs.Map.{lookup}
+use Rattle.std.specs.declared.vec.Vec.{Vec}
 use Rattle.slab.specs.Slab as slots
 use Rattle.slab.specs.Slab.{Slab, Updates}
-use Rattle.std.specs.BTreeMap as ordered
-use Rattle.std.specs.BTreeMap.{BTreeMap}
 use Rattle.ecs_id.specs.Id.{Id, id_cmp}
 use Rattle.ecs_id.specs.declared.Place.{Place}
 use Rattle.ecs_id.specs.declared.TableKey.{TableKey}
@@ -14,7 +12,7 @@ use Rattle.ecs_table.specs.Archetype.{Archetype, IsSound}
 use Rattle.ecs_table.proofs.Soundness.{sound_empty}
 use Rattle.table_store.specs.Store.{Store, Shape, IsStore, table_at, ids_at, shape_at, shape_of, shaped, key_eq}
 use Rattle.table_store.specs.Rows.{row_at}
-use Rattle.table_store.specs.Kept.{ByIds, HasNoEdge, Held, SetsIds, key_of, tables_from, store_of, IsKept, IsSlot, IsMade, IsPut, ids_eq}
+use Rattle.table_store.specs.Kept.{ByIds, HasNoEdge, Held, SetsIds, key_of, tables_from, store_of, IsKept, IsOrder, IsSlot, IsMade, IsPut, ids_eq}
 use Rattle.table_store.proofs.Slots.{same_key, none_is_some, one_some}
 use Rattle.table_store.proofs.StoreLemmas.{ids_of, ids_in_shape, stored}
 use Rattle.table_store.proofs.Shapes.{HaveSizes, same_shape, small_sizes}
@@ -25,19 +23,18 @@ pub same_store : {Y : Type 0} (tables grown : Slab (Held Y)) (last : ℕ) → gr
 same_store tables grown last e = ap (λ (t : Slab (Held _)). store_of t last) e
 
 -- the same fields, grown
-pub IsKept-grown : {Y : Type 0} (tables grown : Slab (Held Y)) (by_ids room_ids : ByIds Y) (by_serial same_serial : BTreeMap ℕ TableKey) (last : ℕ)
-    → grown.slots ≡ tables.slots → room_ids.entries ≡ by_ids.entries → same_serial.entries ≡ by_serial.entries → IsKept tables by_ids by_serial last → IsKept grown room_ids same_serial last
+pub IsKept-grown : {Y : Type 0} (tables grown : Slab (Held Y)) (by_ids room_ids : ByIds Y) (by_serial same_serial : Vec TableKey Y) (last : ℕ)
+    → grown.slots ≡ tables.slots → room_ids.entries ≡ by_ids.entries → same_serial.items ≡ by_serial.items → IsKept tables by_ids by_serial last → IsKept grown room_ids same_serial last
 IsKept-grown tables grown by_ids room_ids by_serial same_serial last ts is ss kept = record {
   store = subst (λ xs. IsStore (record { tables = tables_from 0 xs; last = last })) (sym ts) kept.store;
   slots = λ n. subst (λ xs. IfSome (slice_index_or xs n None) (λ x. IsSlot (record { tables = tables_from 0 xs; last = last }) x.value)) (sym ts) (kept.slots n);
   index = λ ids q. subst (λ xs. (lookup (λ v. ids_eq ids v.items) room_ids.entries ≡ Some q) ↔ (ids_at (record { tables = tables_from 0 xs; last = last }) q ≡ Some ids)) (sym ts)
       (subst (λ es. (lookup (λ v. ids_eq ids v.items) es ≡ Some q) ↔ (ids_at (store_of tables last) q ≡ Some ids)) (sym is) (kept.index ids q));
-  order = λ n q. subst (λ xs. (ordered.get nat_cmp same_serial n ≡ Some q) ↔ (IsSome (table_at (record { tables = tables_from 0 xs; last = last }) q) × (q.serial ≡ n))) (sym ts)
-      (subst (λ es. (lookup (λ k. is_eq (nat_cmp n k)) es ≡ Some q) ↔ (IsSome (table_at (store_of tables last) q) × (q.serial ≡ n))) (sym ss) (kept.order n q));
+  order = subst (λ l. IsOrder (store_of grown last) l) (sym ss) (subst (λ xs. IsOrder (record { tables = tables_from 0 xs; last = last }) by_serial.items) (sym ts) kept.order);
 }
 
 -- no list of ids that the index does not have is that of a table
-pub missing_from : {Y : Type 0} (tables : Slab (Held Y)) (by_ids : ByIds Y) (by_serial : BTreeMap ℕ TableKey) (last : ℕ) (s : Store) → store_of tables last ≡ s → IsKept tables by_ids by_serial last
+pub missing_from : {Y : Type 0} (tables : Slab (Held Y)) (by_ids : ByIds Y) (by_serial : Vec TableKey Y) (last : ℕ) (s : Store) → store_of tables last ≡ s → IsKept tables by_ids by_serial last
     → (ids : List Id) → ((q : TableKey) → ids_at s q ≢ Some ids) → key_of by_ids ids ≡ None
 missing_from tables by_ids by_serial last s view kept ids h = by (key_of by_ids ids) refl
   where
@@ -52,12 +49,12 @@ same_length (c ∷ g) = ap (λ n. suc n) (same_length g)
 sound_shaped : (f : Shape) → ((j : ℕ) → IfSome (slice_get f j) (λ c. c.1 ≤ 64)) → IsSound (shaped f)
 sound_shaped f small = sound_empty (ids_of f) (map (λ c. c.1) f) (same_length f) (small_sizes f small)
 
-module _ {Y : Type 0} (tables grown new : Slab (Held Y)) (by_ids named : ByIds Y) (by_serial dated : BTreeMap ℕ TableKey) (last : ℕ) (s : Store) (view : store_of tables last ≡ s)
+module _ {Y : Type 0} (tables grown new : Slab (Held Y)) (by_ids named : ByIds Y) (by_serial dated : Vec TableKey Y) (last : ℕ) (s : Store) (view : store_of tables last ≡ s)
     (kept : IsKept tables by_ids by_serial last) (growth : grown ≡ record tables { capacity = grown.capacity })
     (f : Shape) (k : TableKey) (y : Held Y) (sorted : IsTrue (is_sorted id_cmp f)) (small : (j : ℕ) → IfSome (slice_get f j) (λ c. c.1 ≤ 64)) (sizes : HaveSizes s f)
     (missing : (q : TableKey) → ids_at s q ≢ Some (ids_of f)) (serial : k.serial ≡ last + 1) (slot : ℕ) (slot_is : slot ≡ k.slot) (free : slots.get tables k.slot ≡ None) (u : Updates grown new slot (Some y))
     (ys : y.value.serial ≡ k.serial) (yt : y.value.table ≡ shaped f) (yf : y.value.sizes.items ≡ map (λ c. c.1) f) (no_more : HasNoEdge y.value.more) (no_less : HasNoEdge y.value.less) (numbered : k.slot < 2 ^ 32 - 1)
-    (v : SetsIds (ids_of f) (Some k) by_ids named) (o : ordered.UpdatesBy nat_cmp (nat_cmp k.serial) by_serial dated (Some k)) where
+    (v : SetsIds (ids_of f) (Some k) by_ids named) (o : dated.items ≡ by_serial.items ++ k ∷ []) where
   kept_grown : IsKept grown by_ids by_serial last
   kept_grown = IsKept-grown tables grown by_ids by_ids by_serial by_serial last (ap (λ t. t.slots) growth) refl refl kept
 
@@ -102,7 +99,7 @@ module _ {Y : Type 0} (tables grown new : Slab (Held Y)) (by_ids named : ByIds Y
   }
 
 -- a refusal: nothing is seen of what has grown
-pub is_refused : {Y E : Type 0} (tables grown : Slab (Held Y)) (by_ids room_ids : ByIds Y) (by_serial same_serial : BTreeMap ℕ TableKey) (last : ℕ) (s : Store) → store_of tables last ≡ s → IsKept grown room_ids same_serial last
+pub is_refused : {Y E : Type 0} (tables grown : Slab (Held Y)) (by_ids room_ids : ByIds Y) (by_serial same_serial : Vec TableKey Y) (last : ℕ) (s : Store) → store_of tables last ≡ s → IsKept grown room_ids same_serial last
     → grown ≡ record tables { capacity = grown.capacity } → (f : Shape) (e : E) → IsPut s f (Err e) (store_of grown last)
 is_refused tables grown by_ids room_ids by_serial same_serial last s view kept growth f e = record {
   ok = tt;
@@ -111,7 +108,7 @@ is_refused tables grown by_ids room_ids by_serial same_serial last s view kept g
 }
 
 -- nothing is done
-pub is_kept : {Y E : Type 0} (tables : Slab (Held Y)) (by_ids : ByIds Y) (by_serial : BTreeMap ℕ TableKey) (last : ℕ) (s : Store) → store_of tables last ≡ s → IsKept tables by_ids by_serial last
+pub is_kept : {Y E : Type 0} (tables : Slab (Held Y)) (by_ids : ByIds Y) (by_serial : Vec TableKey Y) (last : ℕ) (s : Store) → store_of tables last ≡ s → IsKept tables by_ids by_serial last
     → (f : Shape) (e : E) → IsPut s f (Err e) s
 is_kept tables by_ids by_serial last s view kept f e = record { ok = tt; err = refl; whole = stored tables by_ids by_serial last kept s view }
 
@@ -153,13 +150,13 @@ shape_found s f key is sizes e = by (table_at s key) refl
         let ids : ids_of (shape_of t) ≡ ids_of f = one_some _ _ (sym (ap (option_map ids_of) here) ∙ sym (ids_in_shape (table_at s key)) ∙ e) in
         ap Some (same_shape s key (shape_of t) f here (sized_shape s key (shape_of t) is here) sizes ids)
 
-pub is_found : {Y E : Type 0} (tables : Slab (Held Y)) (by_ids : ByIds Y) (by_serial : BTreeMap ℕ TableKey) (last : ℕ) (s : Store) → store_of tables last ≡ s → IsKept tables by_ids by_serial last
+pub is_found : {Y E : Type 0} (tables : Slab (Held Y)) (by_ids : ByIds Y) (by_serial : Vec TableKey Y) (last : ℕ) (s : Store) → store_of tables last ≡ s → IsKept tables by_ids by_serial last
     → (f : Shape) (key : TableKey) → HaveSizes s f → key_of by_ids (ids_of f) ≡ Some key → IsPut {E = E} s f (Ok key) s
 is_found tables by_ids by_serial last s view kept f key sizes e =
     let whole = stored tables by_ids by_serial last kept s view in
     record { ok = IsMade-found s f key whole.0 (shape_found s f key whole.0 sizes (subst (λ z. ids_at z key ≡ Some (ids_of f)) view ((kept.index (ids_of f) key).0 e))); err = tt; whole = whole }
 
-pub not_there : {Y : Type 0} (tables : Slab (Held Y)) (by_ids : ByIds Y) (by_serial : BTreeMap ℕ TableKey) (last : ℕ) (s : Store) → store_of tables last ≡ s → IsKept tables by_ids by_serial last
+pub not_there : {Y : Type 0} (tables : Slab (Held Y)) (by_ids : ByIds Y) (by_serial : Vec TableKey Y) (last : ℕ) (s : Store) → store_of tables last ≡ s → IsKept tables by_ids by_serial last
     → (ids : List Id) → key_of by_ids ids ≡ None → (q : TableKey) → ids_at s q ≢ Some ids
 not_there tables by_ids by_serial last s view kept ids none q h = none_is_some q (sym none ∙ (kept.index ids q).1 (subst (λ z. ids_at z q ≡ Some ids) (sym view) h))
 

@@ -1,13 +1,11 @@
 -- A store before and after a table without rows is released.
 use Rattle.std.proofs.Common.{◌≡◌, ◌≢◌, ◌↔◌, ◌⊎◌, ℕ, ◌==◌, Bool, true, false, cond, if◌then◌else◌, List, Option, Some, None, IsSome, IfSome, IsTrue, is_some, length, nat_le, option_map, option_and_then, refl, sym, ap, subst, ◌∙◌, true≢false, arith, inl, inr}
 use Rattle.std.proofs.lemmas.Bool.Decides.{Decides-eqb}
-use Rattle.std.specs.List.{list_all}
+use Rattle.std.specs.List.{filter, list_all}
 use Rattle.std.specs.FinMap.{is_sorted}
-use Rattle.std.specs.Ordering.{nat_cmp}
+use Rattle.std.specs.declared.vec.Vec.{Vec}
 use Rattle.slab.specs.Slab as slots
 use Rattle.slab.specs.Slab.{Slab, Updates}
-use Rattle.std.specs.BTreeMap as ordered
-use Rattle.std.specs.BTreeMap.{BTreeMap}
 use Rattle.ecs_id.specs.Id.{Id, id_cmp}
 use Rattle.ecs_id.specs.declared.Place.{Place}
 use Rattle.ecs_id.specs.declared.TableKey.{TableKey}
@@ -16,11 +14,12 @@ use Rattle.ecs_table.proofs.Rows.{row_past}
 use Rattle.table_store.specs.declared.store.Slot.{Slot}
 use Rattle.table_store.specs.Store.{Store, Shape, IsStore, table_at, ids_at, shape_at, shape_of, with_id, without_id, key_eq, released_at}
 use Rattle.table_store.specs.Rows.{row_at, row_of, rows_in, IsStored}
-use Rattle.table_store.specs.Kept.{ByIds, Held, SetsIds, key_of, store_of, standing, IsKept, IsSlot, IsIndex, IsOrder, ids_eq}
+use Rattle.table_store.specs.Kept.{ByIds, Held, SetsIds, key_of, store_of, is_held, standing, IsKept, IsSlot, IsIndex, IsOrder, ids_eq}
 use Rattle.table_store.proofs.Slots.{table_at-released, table_at-slots, same_key, key_eq_true, listed_in, none_is_some, one_some}
 use Rattle.table_store.proofs.StoreLemmas.{stored}
 use Rattle.table_store.proofs.Changes.{rows_here}
-use Rattle.table_store.proofs.Indexes.{ids_same, ids_eq_true, get_ids, get_serial}
+use Rattle.table_store.proofs.Indexes.{ids_same, ids_eq_true, get_ids}
+use Rattle.table_store.proofs.Order.{order_forgotten}
 
 -- where no table stands, none is released
 gone : (s : Store) (k : TableKey) → table_at s k ≡ None → (q : TableKey) → table_at s q ≡ released_at s k q
@@ -52,7 +51,7 @@ ids_some : (o : Option Archetype) (l : List Id) → option_map (λ t. t.ids) o �
 ids_some None l h = absurd (none_is_some l h)
 ids_some (Some t) l h = refl
 
-module _ {Y : Type 0} (tables new : Slab (Held Y)) (by_ids named : ByIds Y) (by_serial dated : BTreeMap ℕ TableKey) (last : ℕ) (kept : IsKept tables by_ids by_serial last)
+module _ {Y : Type 0} (tables new : Slab (Held Y)) (by_ids named : ByIds Y) (by_serial dated : Vec TableKey Y) (last : ℕ) (kept : IsKept tables by_ids by_serial last)
     (k : TableKey) (x : Held Y) (is : slots.get tables k.slot ≡ Some x) (stands : is_some (standing (slots.get tables k.slot) k.serial) ≡ true) (u : Updates tables new k.slot None) where
   abbrev s : Store
   s = store_of tables last
@@ -88,9 +87,6 @@ module _ {Y : Type 0} (tables new : Slab (Held Y)) (by_ids named : ByIds Y) (by_
   -- a table that stands yet stood
   stood : (q : TableKey) → IsSome (table_at n q) → (q ≢ k) × IsSome (table_at s q)
   stood q h = elim (cases q) [ inl e ↦ absurd (true≢false (sym (subst IsSome e.1 h))) | inr e ↦ (e.0, subst IsSome e.1 h) ]
-
-  stays : (q : TableKey) → q ≢ k → IsSome (table_at s q) → IsSome (table_at n q)
-  stays q d h = subst IsSome (sym (seen q d)) h
 
   shape_stood : (q : TableKey) (g : Shape) → shape_at n q ≡ Some g → shape_at s q ≡ Some g
   shape_stood q g e = elim (cases q) [ inl h ↦ absurd (none_is_some g (sym (ap (option_map shape_of) h.1) ∙ e)) | inr h ↦ sym (ap (option_map shape_of) h.1) ∙ e ]
@@ -159,17 +155,8 @@ module _ {Y : Type 0} (tables new : Slab (Held Y)) (by_ids named : ByIds Y) (by_
         λ h. g ∙ (kept.index ids q).1 (ids_stood q ids h).1,
       )
 
-  order_left : ordered.UpdatesBy nat_cmp (nat_cmp k.serial) by_serial dated None → IsOrder n dated
-  order_left v m q = elim (get_serial by_serial dated k.serial None v m) [
-    | inl a ↦ (
-      λ h. absurd (none_is_some q (sym a.1 ∙ h)),
-      λ h. let was = stood q h.0 in absurd (was.0 (kept.store.given_once q k was.1 (subst IsSome (sym there) refl) (h.1 ∙ a.0))),
-    )
-    | inr a ↦ (
-      λ h. let was = (kept.order m q).0 (sym a.1 ∙ h) in (stays q (λ e. a.0 (sym was.1 ∙ ap (λ z. z.serial) e)) was.0, was.1),
-      λ h. a.1 ∙ (kept.order m q).1 ((stood q h.0).1, h.1),
-    )
-  ]
+  order_left : (dated.items ≡ by_serial.items) ⊎ (dated.items ≡ filter (is_held new) by_serial.items) → IsOrder n dated.items
+  order_left = order_forgotten s n by_serial.items dated.items (is_held new) kept.order (λ q h. ((stood q h).1, subst (λ o. is_some o ≡ true) (table_at-slots new last q) h)) refl
 
   rows_left : length x.value.table.entities ≡ 0 → (p : Place) → row_at n p ≡ row_at s p
   unfolding row_at
@@ -178,10 +165,10 @@ module _ {Y : Type 0} (tables new : Slab (Held Y)) (by_ids named : ByIds Y) (by_
     | inr h ↦ ap (option_and_then (λ t. row_of t p.row)) h.1
   ]
 
-  pub released_kept : (l : List Id) → l ≡ x.value.table.ids → SetsIds l None by_ids named → ordered.UpdatesBy nat_cmp (nat_cmp k.serial) by_serial dated None → IsKept new named dated last
+  pub released_kept : (l : List Id) → l ≡ x.value.table.ids → SetsIds l None by_ids named → (dated.items ≡ by_serial.items) ⊎ (dated.items ≡ filter (is_held new) by_serial.items) → IsKept new named dated last
   released_kept l its v o = record { store = store_left; slots = slots_left; index = index_left l its v; order = order_left o }
 
-  pub released_stored : (l : List Id) → l ≡ x.value.table.ids → SetsIds l None by_ids named → ordered.UpdatesBy nat_cmp (nat_cmp k.serial) by_serial dated None → IsStored (store_of new last)
+  pub released_stored : (l : List Id) → l ≡ x.value.table.ids → SetsIds l None by_ids named → (dated.items ≡ by_serial.items) ⊎ (dated.items ≡ filter (is_held new) by_serial.items) → IsStored (store_of new last)
   released_stored l its v o = stored new named dated last (released_kept l its v o) (store_of new last) refl
 
   module _ (z : Store) (view : store_of tables last ≡ z) where

@@ -1,9 +1,9 @@
 -- The rows of a store before and after a call that changes the rows of one of its tables.
 use Rattle.std.proofs.Common.{◌≡◌, ℕ, suc, zero, ◌-◌, ◌<◌, ◌==◌, ◌&&◌, Bool, true, false, cond, if◌then◌else◌, List, [], ◌∷◌, Option, Some, None, IsSome, IfSome, is_some, length, map, option_map, option_and_then, unwrap_or, slice_get, Result, Ok, Err, OnOk, OnErr, refl, sym, ap, subst, ◌∙◌, true≢false, arith}
 use Rattle.std.proofs.lemmas.Bool.Decides.{Decides-eqb}
+use Rattle.std.specs.declared.vec.Vec.{Vec}
 use Rattle.slab.specs.Slab as slots
 use Rattle.slab.specs.Slab.{Slab, Updates, with_value}
-use Rattle.std.specs.BTreeMap.{BTreeMap}
 use Rattle.std.specs.FinMap.{find}
 use Rattle.ecs_id.specs.Id.{Id, id_cmp}
 use Rattle.ecs_id.specs.declared.EntityId.{EntityId}
@@ -23,7 +23,7 @@ use Rattle.table_store.proofs.Changes.{row_here, rows_here, shape_here, table_he
 
 -- a table that stands is sound
 pub sound_here : {Y : Type 0} (tables : Slab (Held Y)) (last : ℕ) (s : Store) (view : store_of tables last ≡ s) (k : TableKey) (t : Archetype) (at : table_at s k ≡ Some t) (x : Held Y) → slots.get tables k.slot ≡ Some x
-    → (by_ids : ByIds Y) (by_serial : BTreeMap ℕ TableKey) → IsKept tables by_ids by_serial last → IsSound t
+    → (by_ids : ByIds Y) (by_serial : Vec TableKey Y) → IsKept tables by_ids by_serial last → IsSound t
 sound_here tables last s view k t at x is by_ids by_serial kept =
     let slot : IsSlot (store_of tables last) x.value = subst (λ o. IfSome o (λ z. IsSlot (store_of tables last) z.value)) is (kept.slots k.slot) in
     subst IsSound (table_here tables last s view k t at x is) slot.sound
@@ -115,7 +115,7 @@ module _ (s : Store) (k : TableKey) (t : Archetype) (at : table_at s k ≡ Some 
 
 -- the ids of a table rise
 pub ids_rise : {Y : Type 0} (tables : Slab (Held Y)) (last : ℕ) (s : Store) (view : store_of tables last ≡ s) (k : TableKey) (t : Archetype) (at : table_at s k ≡ Some t)
-    → (by_ids : ByIds Y) (by_serial : BTreeMap ℕ TableKey) → IsKept tables by_ids by_serial last → is_sorted id_cmp (shape_of t) ≡ true
+    → (by_ids : ByIds Y) (by_serial : Vec TableKey Y) → IsKept tables by_ids by_serial last → is_sorted id_cmp (shape_of t) ≡ true
 ids_rise tables last s view k t at by_ids by_serial kept = subst (λ o. IfSome o (λ f. is_sorted id_cmp f ≡ true)) (ap (λ w. shape_at w k) view ∙ shape_here s k t at) (kept.store.ascend k)
 
 cells_in_row : (t : Archetype) (r : ℕ) (v : Row) → row_of t r ≡ Some v → v.1 ≡ cells_of t r

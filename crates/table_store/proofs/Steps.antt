@@ -4,19 +4,17 @@ use Rattle.std.proofs.lemmas.Bool.Decides.{Decides-eqb}
 use Rattle.std.specs.List.{list_all, zip}
 use Rattle.std.specs.FinMap.{is_sorted}
 use Rattle.std.specs.FinMap.Entries.{is_sorted-put, is_sorted-where_key, find-put}
+use Rattle.std.specs.declared.vec.Vec.{Vec}
 use Rattle.slab.specs.Slab as slots
 use Rattle.slab.specs.Slab.{Slab, Updates, with_value}
 use Rattle.slab.proofs.SlabLemmas.{Updates-with_value}
-use Rattle.std.specs.BTreeMap as ordered
-use Rattle.std.specs.BTreeMap.{BTreeMap}
-use Rattle.std.specs.Ordering.{nat_cmp}
 use Rattle.std.proofs.Common.{T, ◌↔◌}
 use Rattle.ecs_id.specs.Id.{Id, id_eq, id_cmp, id_cmp_total, id_eq_itself}
 use Rattle.ecs_id.specs.declared.TableKey.{TableKey}
 use Rattle.ecs_table.specs.Archetype.{Archetype, IsSound}
 use Rattle.table_store.specs.declared.store.Slot.{Slot}
 use Rattle.table_store.specs.Store.{Store, Shape, IsStore, HasSize, table_at, ids_at, shape_at, shape_of, shaped, key_eq, find_in, with_id, without_id}
-use Rattle.table_store.specs.Kept.{ByIds, Held, store_of, standing, stepped, edge_of, edges_of, key_of, IsKept, IsSlot, IsMore, IsLess, IsPut, IsMade, IsWritten}
+use Rattle.table_store.specs.Kept.{IsOrder, ByIds, Held, store_of, standing, stepped, edge_of, edges_of, key_of, IsKept, IsSlot, IsMore, IsLess, IsPut, IsMade, IsWritten}
 use Rattle.table_store.proofs.Slots.{key_eq_true, table_at-slots, same_seen, one_some}
 use Rattle.table_store.proofs.Shapes.{HaveSizes, get_put, get_filtered, small_at, size_of_stored}
 use Rattle.table_store.proofs.Changes.{there, table_here}
@@ -46,11 +44,8 @@ if_each (Some x) h = h x refl
 abbrev IndexAt : {Y : Type 0} → Store → ByIds Y → List Id → TableKey → Type 0
 IndexAt s by_ids ids q = (key_of by_ids ids ≡ Some q) ↔ (ids_at s q ≡ Some ids)
 
-abbrev OrderAt : Store → BTreeMap ℕ TableKey → ℕ → TableKey → Type 0
-OrderAt s by_serial n q = (ordered.get nat_cmp by_serial n ≡ Some q) ↔ (IsSome (table_at s q) × (q.serial ≡ n))
-
 -- the shape in the slot of a key
-module _ {Y : Type 0} (tables : Slab (Held Y)) (by_ids : ByIds Y) (by_serial : BTreeMap ℕ TableKey) (last : ℕ) (s : Store) (view : store_of tables last ≡ s) (kept : IsKept tables by_ids by_serial last)
+module _ {Y : Type 0} (tables : Slab (Held Y)) (by_ids : ByIds Y) (by_serial : Vec TableKey Y) (last : ℕ) (s : Store) (view : store_of tables last ≡ s) (kept : IsKept tables by_ids by_serial last)
     (k : TableKey) (stands : IsSome (table_at s k)) (x : Held Y) (is : slots.get tables k.slot ≡ Some x) where
   abbrev f : Shape
   f = shape_of x.value.table
@@ -191,7 +186,7 @@ module _ {Y : Type 0} (tables : Slab (Held Y)) (by_ids : ByIds Y) (by_serial : B
           store = subst IsStore old kept.store;
           slots = λ m. subst (λ z. IfSome (slots.get (with_value tables k.slot y) m) (λ o. IsSlot z o.value)) back (slots_now m);
           index = λ ids q. subst (λ z. IndexAt z by_ids ids q) old (kept.index ids q);
-          order = λ n q. subst (λ z. OrderAt z by_serial n q) old (kept.order n q);
+          order = subst (λ z. IsOrder z by_serial.items) old kept.order;
         }
 
 -- a table that stood is as it was, after a table is found or made

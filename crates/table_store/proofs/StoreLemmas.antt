@@ -3,7 +3,6 @@ use Rattle.std.proofs.Common.{◌≡◌, ℕ, ◌≤◌, ◌==◌, Bool, true, f
 use Rattle.std.proofs.lemmas.Bool.Decides.{Decides-eqb}
 use Rattle.slab.specs.Slab as slots
 use Rattle.slab.specs.Slab.{Slab, Updates}
-use Rattle.std.specs.BTreeMap.{BTreeMap}
 use Rattle.std.specs.List.{zip}
 use Rattle.ecs_id.specs.Id.{Id}
 use Rattle.ecs_id.specs.declared.TableKey.{TableKey}
@@ -76,8 +75,8 @@ module _ (s n : Store) (shapes : (q : TableKey) → shape_at n q ≡ shape_at s 
       ids : y.table.ids ≡ x.table.ids
       ids = sym (ids_of_shape y.table y.table.ids) ∙ ap ids_of same ∙ ids_of_shape x.table x.table.ids
 
-  pub IsOrder-shapes : (m : BTreeMap ℕ TableKey) → IsOrder s m → IsOrder n m
-  IsOrder-shapes m is = λ a k. (λ h. let was = (is a k).0 h in (before k was.0, was.1), λ h. (is a k).1 (still k h.0, h.1))
+  pub IsOrder-shapes : n.last ≡ s.last → (keys : List TableKey) → IsOrder s keys → IsOrder n keys
+  IsOrder-shapes last keys is = record { has = λ k h. is.has k (still k h); given = λ k c. rw last (is.given k c); rising = is.rising }
 
 -- the rows of a table that has cells
 rows_of_table : (o : Option Archetype) (r : ℕ) → IfSome o HasCells → IfSome (option_and_then (λ t. row_of t r) o) (λ v. option_map shape_of o ≡ Some (shape_of_cells v.1))

@@ -1,11 +1,11 @@
 -- The fields of a store: slots of tables, the key of the table of each list of ids, and the keys by serial.
-use Rattle.std.specs.Prelude.{◌≡◌, Bool, ◌↔◌, ℕ, suc, ◌≤◌, ◌==◌, cond, if◌then◌else◌, List, [], ◌∷◌, Option, Some, None, IsSome, IsNone, IfSome, ◌⊎◌, IfOk, OnErr, Result, max, ◌<◌}
-use Rattle.std.specs.List.{zip}
+use Rattle.std.specs.Prelude.{◌≡◌, Bool, ◌↔◌, ℕ, suc, ◌≤◌, ◌==◌, cond, if◌then◌else◌, List, [], ◌∷◌, Option, Some, None, IsSome, IsNone, IfSome, is_some, map, ◌⊎◌, IfOk, OnErr, Result, max, ◌<◌}
+use Rattle.std.specs.List.{Contains, zip}
+use Rattle.std.specs.List.Sorted.{IsStrictlySortedBy}
 use Rattle.std.specs.Ordering.{nat_cmp}
 use Rattle.std.specs.declared.vec.Vec.{Vec}
 use Rattle.std.specs.declared.boxed.Box.{Box}
 use Rattle.std.specs.BTreeMap as ordered
-use Rattle.std.specs.BTreeMap.{BTreeMap}
 use Rattle.std.specs.Cmp.Lexicographic.{pointwise}
 use Rattle.indexmap.specs.IndexMap as hashed
 use Rattle.indexmap.specs.IndexMap.{IndexMap}
@@ -39,6 +39,10 @@ store_of tables last = record { tables = tables_from 0 tables.slots; last = last
 abbrev pub standing : {Y : Type 0} → Option (Held Y) → ℕ → Option Archetype
 standing None serial = None
 standing (Some x) serial = if serial == x.value.serial then Some x.value.table else None
+
+-- whether a table stands under the key
+abbrev pub is_held : {Y : Type 0} → Slab (Held Y) → TableKey → Bool
+is_held tables k = is_some (standing (slots.get tables k.slot) k.serial)
 
 -- where the edge for an id leads: the first edge stands apart from the others
 abbrev pub edge_or : Option (Id × TableKey) → Id → Option TableKey → Option TableKey
@@ -82,15 +86,17 @@ key_of by_ids ids = hashed.get_by (λ v. ids_eq ids v.items) by_ids
 abbrev pub IsIndex : {Y : Type 0} → Store → ByIds Y → Type 0
 IsIndex s by_ids = (ids : List Id) (k : TableKey) → (key_of by_ids ids ≡ Some k) ↔ (ids_at s k ≡ Some ids)
 
--- the keys of the tables by their serials
-abbrev pub IsOrder : Store → BTreeMap ℕ TableKey → Type 0
-IsOrder s by_serial = (n : ℕ) (k : TableKey) → (ordered.get nat_cmp by_serial n ≡ Some k) ↔ (IsSome (table_at s k) × (k.serial ≡ n))
+-- the keys have those of all tables that stand, by rising serial
+pub record IsOrder (s : Store) (keys : List TableKey) : Type 0 where
+  pub has : (k : TableKey) → IsSome (table_at s k) → Contains keys k
+  pub given : (k : TableKey) → Contains keys k → k.serial ≤ s.last
+  pub rising : IsStrictlySortedBy nat_cmp (map (λ k. k.serial) keys)
 
-pub record IsKept {Y : Type 0} (tables : Slab (Held Y)) (by_ids : ByIds Y) (by_serial : BTreeMap ℕ TableKey) (last : ℕ) : Type 0 where
+pub record IsKept {Y : Type 0} (tables : Slab (Held Y)) (by_ids : ByIds Y) (by_serial : Vec TableKey Y) (last : ℕ) : Type 0 where
   pub store : IsStore (store_of tables last)
   pub slots : (n : ℕ) → IfSome (slots.get tables n) (λ x. IsSlot (store_of tables last) x.value)
   pub index : IsIndex (store_of tables last) by_ids
-  pub order : IsOrder (store_of tables last) by_serial
+  pub order : IsOrder (store_of tables last) by_serial.items
 
 -- the index has another key for a list of ids, or none
 abbrev pub SetsIds : {Y : Type 0} → List Id → Option TableKey → ByIds Y → ByIds Y → Type 0

@@ -16,8 +16,8 @@
 //! let (row, filled) = store.move_row(moving, row, still);
 //! assert!(rt; store.without(still, frozen) == Ok(moving) && filled.is_none());
 //!
-//! // the tables that came after a serial, and a key that is gone for good
-//! for (serial, key) in store.since(moving.serial) { .. }
+//! // the keys that were given after a serial, and one that is gone for good
+//! for key in store.since(moving.serial) { .. }
 //! store.release(moving);
 //! assert!(rt; store.get(moving).is_none());
 //! ```

@@ -1,8 +1,8 @@
 //! The store of tables.
-ghost use Rattle.std.specs.Prelude.{◌≡◌, ◌↔◌, ◌<◌, ◌≤◌, ◌-◌, ◌+◌, ◌^◌, ◌⊎◌, ◌≢◌, MatchResult, ℕ, [], is_some, IfOk, OnOk, OnErr, IsOk, IsNone, IsSome, IfSome, MatchOption, None, Some, map, max, min, length, option_map, slice_get, IsTrue};
+ghost use Rattle.std.specs.Prelude.{◌≡◌, ◌↔◌, ◌<◌, ◌≤◌, ◌-◌, ◌+◌, ◌^◌, ◌⊎◌, ◌≢◌, ◌++◌, ◌∷◌, MatchResult, ℕ, [], is_some, IfOk, OnOk, OnErr, IsOk, IsNone, IsSome, IfSome, MatchOption, None, Some, map, max, min, length, option_map, slice_get, IsTrue};
 ghost use Rattle.std.specs.FinMap.{is_sorted};
 ghost use Rattle.std.specs.Ordering.{nat_cmp};
-ghost use Rattle.std.specs.List.{Contains};
+ghost use Rattle.std.specs.List.{Contains, filter};
 ghost use Rattle.std.specs.List.Sorted.{IsStrictlySortedBy};
 ghost use Rattle.slab.specs.Slab.{HasRoomFor, get as slot_at};
 ghost use Rattle.indexmap.specs.IndexMap as hashed;
@@ -11,8 +11,7 @@ ghost use Rattle.ecs_id.specs.declared.Place.{Place};
 ghost use Rattle.ecs_id.specs.declared.TableKey.{TableKey};
 ghost use Rattle.ecs_table.specs.Archetype.{Archetype, with_row, with_value, without_row};
 ghost use Rattle.table_store.specs.Store.{HasSize, Shape, changed_at, find_in, ids_at, made_at, moved_at, released_at, room_at, shape_at, shaped, shaped_at, table_at, with_id, without_id};
-ghost use Rattle.table_store.specs.Kept.{HasNoEdge, SetsIds, IsMade, IsPut, IsWritten, edge_of, edges_of, standing, stepped};
-ghost use Rattle.std.specs.BTreeMap as ordered;
+ghost use Rattle.table_store.specs.Kept.{HasNoEdge, SetsIds, IsMade, IsPut, IsWritten, edge_of, edges_of, is_held, standing, stepped};
 ghost use Rattle.table_store.specs.Rows.{IsStored, Row, filler, moved_rows, removed_rows, row_at, rows_in, with_cell, with_row_at, zero_cells};
 
 use crate::edges::Edges;
@@ -25,11 +24,8 @@ use raw_column::Memory;
 use secret_hashing::Hashing;
 use slab::Slab;
 use std::alloc::{AllocError, Allocator, Global};
-use std::collections::BTreeMap;
-use std::collections::btree_map::Range;
 use std::hash::RandomState;
 use std::marker::Model;
-use std::ops::Bound;
 
 /// A table with its serial, and the edges that lead from it.
 #[derive(Drop)]
@@ -49,7 +45,8 @@ type Slots<A> = Slab<Box<Slot<A>, A>, A>;
 
 type ByIds<A> = IndexMap<Vec<Id, A>, TableKey, Hashing, A>;
 
-type BySerial<A> = BTreeMap<u128, TableKey, A>;
+// Serials only rise, so each new key stands at the end. Keys of released tables may be among them.
+type BySerial<A> = Vec<TableKey, A>;
 
 /// The tables of a world, one for each set of ids.
 #[derive(Drop)]
@@ -83,7 +80,7 @@ impl<A: Allocator + Copy> TableStore<A> {
         TableStore {
             tables: Slab::new(alloc),
             by_ids: IndexMap::with_hasher(alloc, Hashing::new(random)),
-            by_serial: BTreeMap::new(alloc),
+            by_serial: Vec::new(alloc),
             last: 0,
             alloc,
         }
@@ -304,7 +301,7 @@ fn prepare<A: Allocator + Copy>(
     requires small { (j : ℕ) → IfSome (slice_get cells.now j) (λ c. c.1 ≤ 64) }
     ensures tables { tables.new ≡ record tables.old { capacity = tables.new.capacity } }
     ensures by_ids { MatchResult result (λ _. SetsIds ids.items (Some key) by_ids.old by_ids.new) (λ _. hashed.IsUnchanged by_ids.old by_ids.new) }
-    ensures by_serial { MatchResult result (λ _. ordered.Updates nat_cmp by_serial.old by_serial.new key.serial (Some key)) (λ _. ordered.IsUnchanged by_serial.old by_serial.new) }
+    ensures by_serial { MatchResult result (λ _. by_serial.new.items ≡ by_serial.old.items ++ key ∷ []) (λ _. by_serial.new.items ≡ by_serial.old.items) }
     ensures slot { OnOk result (HasRoomFor tables.new 1) }
     ensures serial { IfOk result (λ slot. slot.value.serial ≡ key.serial) }
     ensures table { IfOk result (λ slot. slot.value.table ≡ shaped cells.now) }
@@ -356,19 +353,39 @@ fn enter<A: Allocator + Copy>(
     key: TableKey,
 ) -> Result<(), Memory>
     ensures by_ids { MatchResult result (λ _. SetsIds ids.items (Some key) by_ids.old by_ids.new) (λ _. hashed.IsUnchanged by_ids.old by_ids.new) }
-    ensures by_serial { MatchResult result (λ _. ordered.Updates nat_cmp by_serial.old by_serial.new key.serial (Some key)) (λ _. ordered.IsUnchanged by_serial.old by_serial.new) }
+    ensures by_serial { MatchResult result (λ _. by_serial.new.items ≡ by_serial.old.items ++ key ∷ []) (λ _. by_serial.new.items ≡ by_serial.old.items) }
 {
     by_ids.reserve(1)?;
-    if by_serial.insert(key.serial, key).is_err() {
+    if by_serial.push(key).is_err() {
         return Err(Memory);
     }
     by_ids.insert(ids, key).unwrap();
     Ok(())
 }
 
+// The keys with greater serials, among keys by rising serial.
+fn newer(keys: &[TableKey], serial: u128) -> &[TableKey]
+    requires { IsStrictlySortedBy nat_cmp (map (λ q. q.serial) keys.now) }
+    ensures listed { (q : TableKey) → Contains keys.now q → serial < q.serial → Contains result.now q }
+    ensures newer { (q : TableKey) → Contains result.now q → serial < q.serial }
+    ensures rising { IsStrictlySortedBy nat_cmp (map (λ q. q.serial) result.now) }
+{
+    let known = keys.partition_point(|key| key.serial <= serial);
+    &keys[known..]
+}
+
+// Takes the keys of released tables out of the list, once most of its keys are such: so each costs a constant.
+fn forget_released<A: Allocator>(by_serial: &mut BySerial<A>, tables: &Slots<A>)
+    ensures { (by_serial.new.items ≡ by_serial.old.items) ⊎ (by_serial.new.items ≡ filter (is_held tables.now) by_serial.old.items) }
+{
+    if by_serial.len() / 2 > tables.len() {
+        by_serial.retain(|key| stands(tables, *key));
+    }
+}
+
 // Whether a table stands under the key.
 fn stands<A: Allocator>(tables: &Slots<A>, key: TableKey) -> bool
-    ensures { result ≡ is_some (standing (slot_at tables.now key.slot) key.serial) }
+    ensures { result ≡ is_held tables.now key }
 {
     match tables.get(key.slot as usize) {
         Some(slot) => slot.serial == key.serial,
@@ -505,15 +522,14 @@ impl<A: Allocator> TableStore<A> {
         moved
     }
 
-    /// The tables whose serials are greater than this one: each with its key beside its serial, by rising serial.
-    pub fn since(&self, serial: u128) -> Range<'_, u128, TableKey>
-        ensures listed { (q : TableKey) → Contains result (q.serial, q) ↔ (IsSome (table_at self.now q) × (serial < q.serial)) }
-        ensures serials { (j : ℕ) → IfSome (slice_get result j) (λ e. e.0 ≡ e.1.serial) }
-        ensures rising { IsStrictlySortedBy nat_cmp (map (λ e. e.0) result) }
+    /// The keys of the tables whose serials are greater than this one, by rising serial. Keys of tables that were released may be among them.
+    pub fn since(&self, serial: u128) -> &[TableKey]
+        ensures listed { (q : TableKey) → IsSome (table_at self.now q) → serial < q.serial → Contains result.now q }
+        ensures newer { (q : TableKey) → Contains result.now q → serial < q.serial }
+        ensures rising { IsStrictlySortedBy nat_cmp (map (λ q. q.serial) result.now) }
         ensures whole { IsStored self.now }
     {
-        self.by_serial
-            .range((Bound::Excluded(serial), Bound::Unbounded))
+        newer(self.by_serial.as_slice(), serial)
     }
 
     /// Takes a table without rows away, and its key for good. Of a key that is gone it does nothing.
@@ -529,6 +545,6 @@ impl<A: Allocator> TableStore<A> {
         }
         let slot = self.tables.remove(key.slot as usize);
         self.by_ids.swap_remove(slot.table.ids());
-        self.by_serial.remove(&key.serial);
+        forget_released(&mut self.by_serial, &self.tables);
     }
 }

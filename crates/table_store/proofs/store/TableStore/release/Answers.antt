@@ -11,17 +11,17 @@ pub returns-then-not-stands-clause-whole : goal.returns-then-not-stands-clause-w
 returns-then-not-stands-clause-whole g c = stored c.self.inside.tables c.self.inside.by_ids c.self.inside.by_serial c.self.inside.last c.self.invariant c.args.self.now c.self.view_is
 
 pub invariant_of-self : goal.invariant_of-self
-invariant_of-self g c = released_kept c.self.inside.tables c.remove-slot.new.self c.self.inside.by_ids c.swap_remove.new.self c.self.inside.by_serial c.remove.new.self c.self.inside.last c.self.invariant c.args.key c.remove-slot.result c.remove-slot.ensures.value (sym c.stands.ensures ∙ c.if-not-stands.false) c.remove-slot.ensures.updates
-    c.ids.result.now (c.ids.ensures.value ∙ ap (λ (d : Slot _). d.table.ids) c.deref.ensures) c.swap_remove.ensures.updates c.remove.ensures.updates
+invariant_of-self g c = released_kept c.self.inside.tables c.remove-slot.new.self c.self.inside.by_ids c.swap_remove.new.self c.self.inside.by_serial c.forget_released.new.by_serial c.self.inside.last c.self.invariant c.args.key c.remove-slot.result c.remove-slot.ensures.value (sym c.stands.ensures ∙ c.if-not-stands.false) c.remove-slot.ensures.updates
+    c.ids.result.now (c.ids.ensures.value ∙ ap (λ (d : Slot _). d.table.ids) c.deref.ensures) c.swap_remove.ensures.updates c.forget_released.ensures
 
 pub returns-clause-tables : goal.returns-clause-tables
-returns-clause-tables g c = released c.self.inside.tables c.remove-slot.new.self c.self.inside.by_ids c.swap_remove.new.self c.self.inside.by_serial c.remove.new.self c.self.inside.last c.self.invariant c.args.key c.remove-slot.result c.remove-slot.ensures.value (sym c.stands.ensures ∙ c.if-not-stands.false) c.remove-slot.ensures.updates
+returns-clause-tables g c = released c.self.inside.tables c.remove-slot.new.self c.self.inside.by_ids c.swap_remove.new.self c.self.inside.by_serial c.forget_released.new.by_serial c.self.inside.last c.self.invariant c.args.key c.remove-slot.result c.remove-slot.ensures.value (sym c.stands.ensures ∙ c.if-not-stands.false) c.remove-slot.ensures.updates
     c.args.self.now c.self.view_is
 
 pub returns-clause-rows : goal.returns-clause-rows
-returns-clause-rows g c = released_rows c.self.inside.tables c.remove-slot.new.self c.self.inside.by_ids c.swap_remove.new.self c.self.inside.by_serial c.remove.new.self c.self.inside.last c.self.invariant c.args.key c.remove-slot.result c.remove-slot.ensures.value (sym c.stands.ensures ∙ c.if-not-stands.false) c.remove-slot.ensures.updates
+returns-clause-rows g c = released_rows c.self.inside.tables c.remove-slot.new.self c.self.inside.by_ids c.swap_remove.new.self c.self.inside.by_serial c.forget_released.new.by_serial c.self.inside.last c.self.invariant c.args.key c.remove-slot.result c.remove-slot.ensures.value (sym c.stands.ensures ∙ c.if-not-stands.false) c.remove-slot.ensures.updates
     c.args.self.now c.self.view_is c.requires.empty
 
 pub returns-clause-whole : goal.returns-clause-whole
-returns-clause-whole g c = released_stored c.self.inside.tables c.remove-slot.new.self c.self.inside.by_ids c.swap_remove.new.self c.self.inside.by_serial c.remove.new.self c.self.inside.last c.self.invariant c.args.key c.remove-slot.result c.remove-slot.ensures.value (sym c.stands.ensures ∙ c.if-not-stands.false) c.remove-slot.ensures.updates
-    c.ids.result.now (c.ids.ensures.value ∙ ap (λ (d : Slot _). d.table.ids) c.deref.ensures) c.swap_remove.ensures.updates c.remove.ensures.updates
+returns-clause-whole g c = released_stored c.self.inside.tables c.remove-slot.new.self c.self.inside.by_ids c.swap_remove.new.self c.self.inside.by_serial c.forget_released.new.by_serial c.self.inside.last c.self.invariant c.args.key c.remove-slot.result c.remove-slot.ensures.value (sym c.stands.ensures ∙ c.if-not-stands.false) c.remove-slot.ensures.updates
+    c.ids.result.now (c.ids.ensures.value ∙ ap (λ (d : Slot _). d.table.ids) c.deref.ensures) c.swap_remove.ensures.updates c.forget_released.ensures
