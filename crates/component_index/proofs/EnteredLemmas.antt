@@ -1,13 +1,11 @@
 -- What the map of the entered tables holds after a change, and that the lists keep to it.
-use Rattle.std.proofs.Common.{◌≡◌, ◌&&◌, ◌||◌, ◌↔◌, not, Bool, true, false, cond, true≢false, List, [], ◌∷◌, map, Option, Some, None, Contains, refl, sym, ap, subst, ◌∙◌}
-use Rattle.std.specs.declared.vec.Vec.{Vec}
-use Rattle.std.specs.Option.{option_map_or, option_map}
-use Rattle.std.specs.Ordering.{eq_by_cmp, is_eq}
+use Rattle.std.proofs.Common.{◌≡◌, ◌&&◌, ◌||◌, ◌↔◌, not, Bool, true, false, cond, true≢false, List, [], ◌∷◌, Option, Some, None, Contains, refl, sym, ap, subst, ◌∙◌}
+use Rattle.std.specs.Option.{option_map_or}
+use Rattle.std.specs.Ordering.{eq_by_cmp}
 use Rattle.std.specs.Map.{lookup}
-use Rattle.std.specs.HashMap.{HashMap, get, Updates}
+use Rattle.std.specs.HashMap.{HashMap, get}
 use Rattle.std.specs.List.{list_any, IsDistinct}
 use Rattle.std.specs.FinMap as finite
-use Rattle.std.specs.FinMap.{find, IsAntisymmetric}
 use Rattle.std.proofs.lemmas.Cmp.{eq_by_cmp_equiv}
 use Rattle.std.proofs.lemmas.Map.Views.{list_any-from_Contains, Contains-from_any}
 use Rattle.ecs_id.specs.Id.{Id}
@@ -15,51 +13,10 @@ use Rattle.ecs_id.specs.declared.TableKey.{TableKey}
 use Rattle.component_index.specs.declared.pattern.Pattern.{Pattern}
 use Rattle.component_index.specs.Patterns.{matches}
 use Rattle.component_index.specs.Entered.{Entered, IsMatched, table_cmp, table_eq, table_cmp_total, eq_by-table_cmp, same_table}
-use Rattle.component_index.specs.Listed.{is_listed, is_matched, entered_in, Adds, Drops, AreListed}
+use Rattle.component_index.specs.Listed.{is_listed, is_matched, Adds, Drops, AreListed}
 use Rattle.component_index.specs.TableList.{has}
 use Rattle.component_index.specs.SamePattern.{pattern_eq}
 use Rattle.component_index.proofs.TableLemmas.{table_eq_equiv}
-
--- ---- the map of the entered tables
--- the order of the keys ties where they are one
-same_tied : IsAntisymmetric table_cmp
-same_tied x y e = same_table x y (sym (eq_by-table_cmp x y) ∙ ap is_eq e)
-
-module _ {Y : Type 0} where
-  find-entered : (es : List (TableKey × Vec Id Y)) (q : TableKey) → find table_cmp q (map (λ p. (p.0, p.1.items)) es) ≡ option_map (λ ids. ids.items) (lookup (table_eq q) es)
-  find-entered [] q = refl
-  find-entered (e ∷ es) q = by (table_eq q e.0) (eq_by-table_cmp q e.0) (find-entered es q)
-    where
-      by : (b : Bool) → eq_by_cmp table_cmp q e.0 ≡ b → find table_cmp q (map (λ p. (p.0, p.1.items)) es) ≡ option_map (λ ids. ids.items) (lookup (table_eq q) es)
-          → cond (eq_by_cmp table_cmp q e.0) (Some e.1.items) (find table_cmp q (map (λ p. (p.0, p.1.items)) es)) ≡ option_map (λ ids. ids.items) (cond b (Some e.1) (lookup (table_eq q) es))
-      by true f rest = λ i. cond (f i) (Some e.1.items) (find table_cmp q (map (λ p. (p.0, p.1.items)) es))
-      by false f rest = (λ i. cond (f i) (Some e.1.items) (find table_cmp q (map (λ p. (p.0, p.1.items)) es))) ∙ rest
-
-at : {Y : Type 0} (b : Bool) (w x : Option (Vec Id Y)) (k : Option (Vec Id Y)) → k ≡ cond b w x → option_map (λ ids. ids.items) k ≡ cond b (option_map (λ ids. ids.items) w) (option_map (λ ids. ids.items) x)
-at true w x k h = ap (option_map (λ ids. ids.items)) h
-at false w x k h = ap (option_map (λ ids. ids.items)) h
-
-module _ {Y S : Type 0} where
-  get-entered_in : (m : HashMap TableKey (Vec Id Y) S) (q : TableKey) → finite.get (entered_in m) q ≡ option_map (λ ids. ids.items) (get table_eq m q)
-  get-entered_in m q = finite.get-from_entries table_cmp_total _ q ∙ find-entered m.entries q
-
-  same_entered : (tables : Entered) (n : HashMap TableKey (Vec Id Y) S) → ((q : TableKey) → option_map (λ ids. ids.items) (get table_eq n q) ≡ finite.get tables q) → entered_in n ≡ tables
-  same_entered tables n same = finite.same_map table_cmp_total same_tied _ _ (λ q. get-entered_in n q ∙ same q)
-
-  module _ (m n : HashMap TableKey (Vec Id Y) S) (key : TableKey) where
-    turned : (q : TableKey) → table_eq key q ≡ eq_by_cmp table_cmp q key
-    turned q = sym (eq_by-table_cmp key q) ∙ (eq_by_cmp_equiv table_cmp_total).symm key q
-
-    pub entered_in-insert : (own : Vec Id Y) → Updates table_eq m n key (Some own) → entered_in n ≡ finite.insert (entered_in m) key own.items
-    entered_in-insert own u = same_entered _ n (λ q. at (table_eq key q) (Some own) (get table_eq m q) _ (u.0 q)
-        ∙ (λ i. cond (turned q i) (Some own.items) (sym (get-entered_in m q) i)) ∙ sym (finite.get-insert table_cmp_total (entered_in m) key own.items q))
-
-    pub entered_in-remove : Updates table_eq m n key None → entered_in n ≡ finite.remove (entered_in m) key
-    entered_in-remove u = same_entered _ n (λ q. at (table_eq key q) None (get table_eq m q) _ (u.0 q)
-        ∙ (λ i. cond (turned q i) None (sym (get-entered_in m q) i)) ∙ sym (finite.get-remove table_cmp_total (entered_in m) key q))
-
-  pub entered_in-unchanged : (m n : HashMap TableKey (Vec Id Y) S) → n.entries ≡ m.entries → entered_in n ≡ entered_in m
-  entered_in-unchanged m n e = ap (λ es. finite.from_entries (map (λ p. (p.0, p.1.items)) es)) e
 
 -- ---- the lists beside it
 abbrev matched_in : Pattern → Option (List Id) → Bool
@@ -104,24 +61,26 @@ module _ (tables : Entered) (key : TableKey) where
       ∙ (λ i. cond (there k i) false (is_matched tables p k))
 
 -- the lists are right after each call
-module _ {Y R S : Type 0} (m n : HashMap TableKey (Vec Id Y) R) (old new : HashMap Pattern (List TableKey) S) (right : AreListed m old) (tables : Entered) (view : entered_in m ≡ tables) (key : TableKey) (ids : List Id) where
+module _ {S : Type 0} (old new : HashMap Pattern (List TableKey) S) (was is : Entered) (right : AreListed was old) (tables : Entered) (view : was ≡ tables) (key : TableKey) (ids : List Id) where
   right_at : (p : Pattern) (k : TableKey) → is_listed old p k ≡ is_matched tables p k
   right_at p k = right p k ∙ ap (λ t. is_matched t p k) view
 
-  pub AreListed-enter : finite.get tables key ≡ None → entered_in n ≡ finite.insert tables key ids → Adds old new (λ p. list_any (matches p) ids) key → AreListed n new
-  AreListed-enter none is adds p k = adds p k
+  pub AreListed-enter : finite.get tables key ≡ None → is ≡ finite.insert was key ids → Adds old new (λ p. list_any (matches p) ids) key → AreListed is new
+  AreListed-enter none changed adds p k = adds p k
       ∙ enter_at (table_eq key k) (list_any (matches p) ids) (is_listed old p k) (λ e. right_at p k ∙ here tables key None none p k e)
-      ∙ (λ i. cond (table_eq key k) (list_any (matches p) ids) (right_at p k i)) ∙ sym (matched-insert tables key ids p k) ∙ ap (λ t. is_matched t p k) (sym is)
+      ∙ (λ i. cond (table_eq key k) (list_any (matches p) ids) (right_at p k i)) ∙ sym (matched-insert tables key ids p k)
+      ∙ (λ i. is_matched (finite.insert (sym view i) key ids) p k) ∙ ap (λ t. is_matched t p k) (sym changed)
 
-  pub AreListed-leave : finite.get tables key ≡ Some ids → entered_in n ≡ finite.remove tables key → Drops old new (λ p. list_any (matches p) ids) key → AreListed n new
-  AreListed-leave had is drops p k = drops p k
+  pub AreListed-leave : finite.get tables key ≡ Some ids → is ≡ finite.remove was key → Drops old new (λ p. list_any (matches p) ids) key → AreListed is new
+  AreListed-leave had changed drops p k = drops p k
       ∙ leave_at (table_eq key k) (list_any (matches p) ids) (is_listed old p k) (λ e. right_at p k ∙ here tables key (Some ids) had p k e)
-      ∙ (λ i. cond (table_eq key k) false (right_at p k i)) ∙ sym (matched-remove tables key p k) ∙ ap (λ t. is_matched t p k) (sym is)
+      ∙ (λ i. cond (table_eq key k) false (right_at p k i)) ∙ sym (matched-remove tables key p k)
+      ∙ (λ i. is_matched (finite.remove (sym view i) key) p k) ∙ ap (λ t. is_matched t p k) (sym changed)
 
-pub AreListed-empty : {Y R S : Type 0} (m : HashMap TableKey (Vec Id Y) R) (lists : HashMap Pattern (List TableKey) S) → m.entries ≡ [] → lists.entries ≡ [] → AreListed m lists
-AreListed-empty m lists none no_lists p k =
+pub AreListed-empty : {S : Type 0} (tables : Entered) (lists : HashMap Pattern (List TableKey) S) → tables ≡ finite.empty → lists.entries ≡ [] → AreListed tables lists
+AreListed-empty tables lists none no_lists p k =
     (λ i. option_map_or (λ list. has list k) (lookup (pattern_eq p) (no_lists i)) false)
-    ∙ sym (ap (matched_in p) (get-entered_in m k ∙ (λ i. option_map (λ ids. ids.items) (lookup (table_eq k) (none i)))))
+    ∙ sym (ap (λ t. is_matched t p k) none ∙ ap (matched_in p) (finite.get-empty table_cmp k))
 
 -- ---- what `tables_of` tells
 matched : (p : Pattern) (o : Option (List Id)) → matched_in p o ≡ true → (ids : List Id) × (o ≡ Some ids) × (list_any (matches p) ids ≡ true)
@@ -141,7 +100,7 @@ listed keys tables p same k = (
   λ h. Contains-from_any same_table k keys (same k ∙ test-from_IsMatched tables p k h),
 )
 
-module _ {Y R S : Type 0} (m : HashMap TableKey (Vec Id Y) R) (lists : HashMap Pattern (List TableKey) S) (right : AreListed m lists) (tables : Entered) (view : entered_in m ≡ tables) (p : Pattern) where
+module _ {S : Type 0} (was : Entered) (lists : HashMap Pattern (List TableKey) S) (right : AreListed was lists) (tables : Entered) (view : was ≡ tables) (p : Pattern) where
   has_matched : (keys : List TableKey) → ((k : TableKey) → list_any (table_eq k) keys ≡ is_listed lists p k) → (k : TableKey) → Contains keys k ↔ IsMatched tables p k
   has_matched keys same = listed keys tables p (λ k. same k ∙ right p k ∙ ap (λ t. is_matched t p k) view)
 
@@ -154,11 +113,3 @@ module _ {Y R S : Type 0} (m : HashMap TableKey (Vec Id Y) R) (lists : HashMap P
 pub none_distinct : (keys : List TableKey) → keys ≡ [] → IsDistinct table_eq keys
 unfolding IsDistinct
 none_distinct keys e = subst (IsDistinct table_eq) (sym e) tt
-
--- ---- a table enters, and leaves
-module _ {Y R : Type 0} (m n : HashMap TableKey (Vec Id Y) R) (tables : Entered) (view : entered_in m ≡ tables) (key : TableKey) (ids : List Id) where
-  pub entered_in-enter : (grown : HashMap TableKey (Vec Id Y) R) → grown.entries ≡ m.entries → (own : Vec Id Y) → own.items ≡ ids → Updates table_eq grown n key (Some own) → entered_in n ≡ finite.insert tables key ids
-  entered_in-enter grown same own is u = entered_in-insert grown n key own u ∙ (λ i. finite.insert ((entered_in-unchanged m grown same ∙ view) i) key (is i))
-
-  pub entered_in-leave : Updates table_eq m n key None → entered_in n ≡ finite.remove tables key
-  entered_in-leave u = entered_in-remove m n key u ∙ (λ i. finite.remove (view i) key)

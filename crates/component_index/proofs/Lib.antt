@@ -2,3 +2,4 @@ mod EnteredLemmas
 mod ListedLemmas
 mod ListingLemmas
 mod TableLemmas
+mod Walks

@@ -1,7 +1,6 @@
 -- The lists of tables, each of which has a table once.
 use Rattle.std.proofs.Common.{◌≡◌, ◌⊎◌, ◌↔◌, Bool, true, false, cond, List, [], ◌∷◌, ◌++◌, Option, Some, None, Contains, refl, sym, ap, ◌∙◌, inl, inr, arith}
 use Rattle.std.specs.Prelude.{unwrap_or}
-use Rattle.std.specs.declared.vec.Vec.{Vec}
 use Rattle.std.specs.List.{IsDistinct, list_any}
 use Rattle.std.specs.HashMap.{HashMap, get}
 use Rattle.std.specs.Map.{lookup}
@@ -9,11 +8,10 @@ use Rattle.std.proofs.lemmas.List.Elements.{Contains-append_cases, Contains-appe
 use Rattle.indexmap.specs.IndexSet.{insert_all, insert_key}
 use Rattle.indexmap.proofs.CallerLemmas.{Contains-insert_key}
 use Rattle.indexmap.proofs.SetLemmas.{set_all_distinct}
-use Rattle.ecs_id.specs.Id.{Id}
 use Rattle.ecs_id.specs.declared.TableKey.{TableKey}
 use Rattle.component_index.specs.declared.pattern.Pattern.{Pattern}
 use Rattle.component_index.specs.Entered.{Entered, IsMatched, same_table, table_eq}
-use Rattle.component_index.specs.Listed.{AreListed, entered_in}
+use Rattle.component_index.specs.Listed.{AreListed}
 use Rattle.component_index.specs.Listings.{Lists, ListsEntered, listed_in, lists_of}
 use Rattle.component_index.specs.SamePattern.{pattern_eq}
 use Rattle.component_index.proofs.EnteredLemmas.{in_list, in_no_list}
@@ -73,12 +71,12 @@ module _ {S : Type 0} (lists : HashMap Pattern (List TableKey) S) (p : Pattern) 
   pub read_none : get pattern_eq lists p ≡ None → [] ≡ listed_in (lists_of lists) p
   read_none is = sym (read_of None is)
 
-pub lists_entered : {Y R S : Type 0} (m : HashMap TableKey (Vec Id Y) R) (lists : HashMap Pattern (List TableKey) S) → AreListed m lists → (tables : Entered) → entered_in m ≡ tables → ListsEntered tables (lists_of lists)
-lists_entered {Y} {R} {S} m lists right tables view p k = by (get pattern_eq lists p) refl
+pub lists_entered : {S : Type 0} (was : Entered) (lists : HashMap Pattern (List TableKey) S) → AreListed was lists → (tables : Entered) → was ≡ tables → ListsEntered tables (lists_of lists)
+lists_entered {S} was lists right tables view p k = by (get pattern_eq lists p) refl
   where
     by : (o : Option (List TableKey)) → get pattern_eq lists p ≡ o → Contains (listed_in (lists_of lists) p) k ↔ IsMatched tables p k
-    by None is = rw (read_of lists p None is) (in_no_list m lists right tables view p is k)
+    by None is = rw (read_of lists p None is) (in_no_list was lists right tables view p is k)
     by (Some list) is =
         let same = each_once list k in
-        let holds = in_list m lists right tables view p list is list refl k in
+        let holds = in_list was lists right tables view p list is list refl k in
         rw (read_of lists p (Some list) is) (λ h. holds.0 (same.0 h), λ h. same.1 (holds.1 h))

@@ -1,3 +1,4 @@
+pub mod Changed
 pub mod Entered
 pub mod Listed
 pub mod Listings

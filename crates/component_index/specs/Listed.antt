@@ -1,6 +1,5 @@
 -- The lists of tables, one for each pattern, and what they have to do with the tables that are entered.
-use Rattle.std.specs.Prelude.{◌≡◌, Bool, false, not, ◌&&◌, ◌||◌, List, [], ◌∷◌, Option, Some, None, map}
-use Rattle.std.specs.declared.vec.Vec.{Vec}
+use Rattle.std.specs.Prelude.{◌≡◌, Bool, false, not, ◌&&◌, ◌||◌, List, [], ◌∷◌, Option, Some, None}
 use Rattle.std.specs.Option.{option_map_or}
 use Rattle.std.specs.List.{list_any}
 use Rattle.std.specs.HashMap.{HashMap, get}
@@ -33,10 +32,6 @@ patterns_of (pair r t) =
 abbrev pub is_matched : Entered → Pattern → TableKey → Bool
 is_matched tables pattern key = option_map_or (list_any (matches pattern)) (finite.get tables key) false
 
--- what a map from tables to their ids holds
-abbrev pub entered_in : {Y S : Type 0} → HashMap TableKey (Vec Id Y) S → Entered
-entered_in tables = finite.from_entries (map (λ p. (p.0, p.1.items)) tables.entries)
-
 module _ {S : Type 0} where
   -- the table is in the list of the pattern
   abbrev pub is_listed : HashMap Pattern (List TableKey) S → Pattern → TableKey → Bool
@@ -55,5 +50,5 @@ module _ {S : Type 0} where
   Keeps old new test key = (p : Pattern) (k : TableKey) → (test p && table_eq key k) ≡ false → is_listed new p k ≡ is_listed old p k
 
   -- each table is in the list of each pattern that matches one of its ids, and no other table is in it
-  abbrev pub AreListed : {Y R : Type 0} → HashMap TableKey (Vec Id Y) R → HashMap Pattern (List TableKey) S → Type 0
-  AreListed tables lists = (p : Pattern) (k : TableKey) → is_listed lists p k ≡ is_matched (entered_in tables) p k
+  abbrev pub AreListed : Entered → HashMap Pattern (List TableKey) S → Type 0
+  AreListed tables lists = (p : Pattern) (k : TableKey) → is_listed lists p k ≡ is_matched tables p k

@@ -1,10 +1,9 @@
 //! Which tables have an id that a pattern matches.
 #![tactic(auto)]
 
-ghost use Rattle.std.specs.Prelude.{◌≡◌, ◌↔◌, ◌<◌, Contains, None, Some, IfOk, OnErr, OnOk};
+ghost use Rattle.std.specs.Prelude.{◌≡◌, ◌↔◌, Contains, None, Some, OnErr, OnOk};
 ghost use Rattle.std.specs.List.{IsDistinct};
 ghost use Rattle.std.specs.FinMap as finite;
-ghost use Rattle.indexmap.specs.IndexMap.{IsUnchanged, spare};
 ghost use Rattle.ecs_id.specs.declared.TableKey.{TableKey};
 ghost use Rattle.component_index.specs.Entered.{table_eq, IsMatched};
 ghost use Rattle.component_index.specs.Listings.{listed_in, ListsEntered};
@@ -13,9 +12,11 @@ ghost use Rattle.component_index.specs.declared.pattern.Pattern.{Pattern as Aske
 mod listings;
 mod lists;
 mod pattern;
+mod register;
 mod table_list;
 
 use crate::lists::{Lists, list_all, unlist_all};
+use crate::register::{Change, Register};
 use ecs_id::{Id, TableKey};
 use indexmap::IndexMap;
 pub use listings::Listings;
@@ -25,8 +26,6 @@ use std::alloc::{AllocError, Allocator, Global};
 use std::hash::RandomState;
 use std::marker::Model;
 
-type Entered<A> = IndexMap<TableKey, Vec<Id, A>, SerialHashing, A>;
-
 /// For each pattern, the tables that have an id that it matches.
 ///
 /// But for growth, `enter` and `leave` take time in the number of the table's ids, and not in that of the tables; `tables_of` takes
@@ -34,7 +33,7 @@ type Entered<A> = IndexMap<TableKey, Vec<Id, A>, SerialHashing, A>;
 /// memory.
 #[derive(Drop)]
 pub struct ComponentIndex<A: Allocator = Global> {
-    entered: Entered<A>,
+    entered: Register,
     lists: Lists<A>,
     hashing: SerialHashing,
 }
@@ -44,15 +43,15 @@ impl<A: Allocator> Model for ComponentIndex<A> {
     ghost use Rattle.std.specs.FinMap as finite;
     ghost use Rattle.ecs_id.specs.Id.{id_code};
     ghost use Rattle.component_index.specs.Entered.{Entered as Tables, table_code};
-    ghost use Rattle.component_index.specs.Listed.{entered_in, AreListed};
+    ghost use Rattle.component_index.specs.Listed.{AreListed};
 
     ghost Value = { Tables };
 
     ghost coded = { finite.code table_code (coded_list id_code) };
 
-    ghost view = { λ s. entered_in s.entered };
+    ghost view = { λ s. s.entered.tables };
 
-    ghost invariant = { λ s. AreListed s.entered s.lists };
+    ghost invariant = { λ s. AreListed s.entered.tables s.lists };
 }
 
 impl<A: Allocator + Copy> ComponentIndex<A> {
@@ -62,7 +61,7 @@ impl<A: Allocator + Copy> ComponentIndex<A> {
     {
         let hashing = Hashing::new(random);
         ComponentIndex {
-            entered: IndexMap::with_hasher(alloc, hashing.of_serials()),
+            entered: Register::new(),
             lists: IndexMap::with_hasher(alloc, hashing),
             hashing: hashing.of_serials(),
         }
@@ -76,12 +75,11 @@ impl<A: Allocator + Copy> ComponentIndex<A> {
         ensures entered { OnOk result (self.new ≡ finite.insert self.old key ids.now) }
         ensures refused { OnErr result (self.new ≡ self.old) }
     {
-        let own = all_ids(&mut self.entered, ids)?;
         if let Err(error) = list_all(&mut self.lists, self.hashing, ids, key) {
             unlist_all(&mut self.lists, ids, key);
             return Err(error);
         }
-        self.entered.insert(key, own).unwrap();
+        self.entered = self.entered.after(&Change::Enters(key, ids));
         Ok(())
     }
 }
@@ -108,21 +106,7 @@ impl<A: Allocator> ComponentIndex<A> {
         requires { finite.get self.old key ≡ Some ids.now }
         ensures left { self.new ≡ finite.remove self.old key }
     {
-        self.entered.swap_remove(&key);
         unlist_all(&mut self.lists, ids, key);
+        self.entered = self.entered.after(&Change::Leaves(key));
     }
-}
-
-// A list of its own of the ids, for a map with room for one more entry.
-fn all_ids<A: Allocator + Copy>(
-    entered: &mut Entered<A>,
-    ids: &[Id],
-) -> Result<Vec<Id, A>, AllocError>
-    ensures entered { IsUnchanged entered.old entered.new }
-    ensures room { OnOk result (0 < spare entered.new) }
-    ensures ids { IfOk result (λ own. own.items ≡ ids.now) }
-{
-    let alloc = *entered.allocator();
-    entered.reserve(1)?;
-    ids.iter().copied().collect(alloc)
 }
