@@ -4,11 +4,10 @@ use Rattle.std.specs.Prelude.{map}
 use Rattle.std.specs.List.{All, Contains, flat_map}
 use Rattle.std.proofs.Math.ListN.{get_or-map}
 use Rattle.std.proofs.lemmas.Grind.{flat_map-append}
-use Rattle.std.proofs.lemmas.List.{append-nil, get_or_default, length-map, map-append, take_more}
+use Rattle.std.proofs.lemmas.List.{append-nil, get_or_default, length-map, take_more}
 use Rattle.std.proofs.lemmas.List.Elements.{Contains-get_or}
-use Rattle.rel_travel.specs.Finds.{with_find}
 use Rattle.rel_travel.specs.Growing.{IsGrownBy}
-use Rattle.rel_travel.proofs.Growth.{IsGrownBy-find, IsGrownBy-then}
+use Rattle.rel_travel.proofs.Growth.{IsGrownBy-then}
 use Rattle.ecs_model.proofs.Members.{in_flat_map}
 
 -- one table more

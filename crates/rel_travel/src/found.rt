@@ -1,10 +1,13 @@
 //! What a search has found.
-ghost use Rattle.std.specs.Prelude.{◌≡◌, ◌==◌, ◌≤◌, ◌<◌, [], length, max, slice_index, OnOk, OnErr};
+ghost use Rattle.std.specs.Prelude.{◌≡◌, ◌==◌, ◌≤◌, ◌<◌, ◌/◌, ◌%◌, ◌^◌, [], length, max, slice_index, OnOk, OnErr};
 ghost use Rattle.std.specs.List.{IsDistinct};
-ghost use Rattle.rel_travel.specs.Finds.{is_among, none_found, with_find};
+ghost use Rattle.rel_travel.specs.Finds.{is_among, is_marked, none_found, with_find};
 
 use std::alloc::{AllocError, Allocator, Global};
 use std::marker::Model;
+
+/// How many indexes have their marks in one word.
+const MARKS: u32 = 64;
 
 /// The entities that a search has found, by index: each once, in the order in which they were found.
 ///
@@ -12,21 +15,45 @@ use std::marker::Model;
 /// `clear` takes time in what was found.
 #[derive(Drop)]
 pub struct Found<A: Allocator = Global> {
-    /// Whether an entity was found, by its index.
-    marks: Vec<bool, A>,
+    /// Every index below it has a mark.
+    size: usize,
+    /// A bit for each index: whether the entity was found.
+    words: Vec<u64, A>,
     /// Those that were found. It has room for as many as there are marks, which nothing needs to fill.
     order: Vec<u32, A>,
 }
 
 impl<A: Allocator> Model for Found<A> {
-    ghost use Rattle.std.specs.Prelude.{◌≤◌, length, vec_capacity};
+    ghost use Rattle.std.specs.Prelude.{◌≤◌, vec_capacity};
     ghost use Rattle.rel_travel.specs.Finds.{AreMarked, Finds};
 
     ghost Value = { Finds };
 
-    ghost view = { λ f. record { size = length f.marks.items; items = f.order.items } };
+    ghost view = { λ f. record { size = f.size; items = f.order.items } };
 
-    ghost invariant = { λ f. AreMarked f.marks.items f.order.items × (length f.marks.items ≤ vec_capacity f.order) };
+    ghost invariant = { λ f. AreMarked f.size f.words.items f.order.items × (f.size ≤ vec_capacity f.order) };
+}
+
+/// The number of the word in which an index has its mark.
+fn word_of(index: u32) -> usize
+    ensures { result ≡ index / 64 }
+{
+    (index / MARKS) as usize
+}
+
+/// The bit of an index in its word.
+fn bit_of(index: u32) -> u64
+    ensures { result ≡ 2 ^ (index % 64) }
+{
+    1 << (index % MARKS)
+}
+
+/// Whether an index is marked.
+fn is_marked(words: &[u64], index: u32) -> bool
+    requires { index / 64 < length words.now }
+    ensures { result ≡ is_marked words.now index }
+{
+    words[word_of(index)] & bit_of(index) != 0
 }
 
 impl<A: Allocator + Copy> Found<A> {
@@ -35,7 +62,8 @@ impl<A: Allocator + Copy> Found<A> {
         ensures { result ≡ none_found 0 }
     {
         Found {
-            marks: Vec::new(alloc),
+            size: 0,
+            words: Vec::new(alloc),
             order: Vec::new(alloc),
         }
     }
@@ -47,9 +75,10 @@ impl<A: Allocator + Copy> Found<A> {
         ensures err { OnErr result (self.new.size ≡ self.old.size) }
     {
         let size = size as usize;
-        if self.marks.len() < size {
+        if self.size < size {
             self.order.reserve(size - self.order.len())?;
-            self.marks.resize(size, false)?;
+            self.words.resize(size.div_ceil(MARKS as usize), 0)?;
+            self.size = size;
         }
         Ok(())
     }
@@ -61,7 +90,7 @@ impl<A: Allocator> Found<A> {
         requires { index < self.now.size }
         ensures { result ≡ is_among self.now.items index }
     {
-        self.marks[index as usize]
+        is_marked(self.words.as_slice(), index)
     }
 
     /// How many entities were found.
@@ -77,7 +106,7 @@ impl<A: Allocator> Found<A> {
     pub fn size(&self) -> usize
         ensures { result ≡ self.now.size }
     {
-        self.marks.len()
+        self.size
     }
 
     /// The entities that were found.
@@ -103,8 +132,8 @@ impl<A: Allocator> Found<A> {
         ensures items { self.new.items ≡ with_find self.old.items index }
         ensures fits { length self.new.items ≤ self.new.size }
     {
-        if !self.marks[index as usize] {
-            self.marks[index as usize] = true;
+        if !is_marked(self.words.as_slice(), index) {
+            self.words[word_of(index)] |= bit_of(index);
             self.order.push(index).unwrap();
         }
     }
@@ -114,7 +143,8 @@ impl<A: Allocator> Found<A> {
         ensures { self.new ≡ none_found self.old.size }
     {
         'marks: while let Some(last) = self.order.pop() {
-            self.marks[last as usize] = false;
+            // All others are forgotten too, so the whole word is cleared.
+            self.words[word_of(last)] = 0;
         }
     }
 }
