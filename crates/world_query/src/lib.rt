@@ -16,6 +16,6 @@ mod table_counts;
 
 pub use reading::read_query;
 pub use rows::{
-    QUERY_ROOM, asking_in, matching, matching_among, plan_in, write_planned_rows, write_rows,
-    write_rows_in,
+    QUERY_ROOM, asking_in, matching, matching_among, plan_for_kept, plan_in, write_planned_rows,
+    write_rows, write_rows_in,
 };

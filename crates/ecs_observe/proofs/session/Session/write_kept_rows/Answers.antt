@@ -1,8 +1,10 @@
 -- The kept query of the name has its rows written, and its list may be another; or there is none of the name, or it is no kept query.
-use Rattle.std.proofs.Common.{◌++◌, refl, sym, ap, ◌∙◌}
+use Rattle.std.proofs.Common.{◌++◌, refl, sym, ap, subst, ◌∙◌}
 use Rattle.std.specs.Prelude.{is_some}
 use Rattle.ecs_model.specs.World.{WorldState}
 use Rattle.ecs_model.specs.rows.Text.{rows_text}
+use Rattle.query_model.specs.Query.{Query}
+use Rattle.ecs_observe.specs.Lists.{IsListOf}
 use Rattle.ecs_observe.specs.Standing.{IsHeld, Standing}
 use Rattle.ecs_observe.proofs.Found.{holds_of_found, world_is}
 use Rattle.ecs_observe.proofs.KeptFound.{kept_found, none_kept, other_kind}
@@ -52,13 +54,13 @@ invariant_of-self-in_err-write_listed_rows g c =
     let es = c.self.inside.stored.entries in
     let there = sym c.in-Some.ensures.value in
     let has = list_found c.self.inside.world.tables c.args.name.now es c.in-Some.stored.now c.self.invariant.1 there in
-    relisted c.self.inside.world es _ c.self.inside.waiting c.self.inside.compared c.args.name.now c.in-Some.stored.now _ there (c.get_mut.follows.holds _).0 (λ m. refl)
-    c.self.invariant.0 c.self.invariant.1 (record { kept = sym (ap is_some c.in-Some-list.is) ∙ has.kept; list = c.write_listed_rows.ensures.list })
+    relisted c.self.inside.world es _ c.self.inside.waiting c.self.inside.compared c.args.name.now c.in-Some.stored.now _ there (c.get_mut.follows.holds _).0 (λ m. ap (λ (x : Query). record { name = m; kind = c.in-Some.stored.now.kind; query = x; these = (c.in-Some.stored.now.these).items }) c.write_listed_rows.ensures.query)
+    c.self.invariant.0 c.self.invariant.1 (record { kept = sym (ap is_some c.in-Some-list.is) ∙ has.kept; list = subst (λ (x : Query). IsListOf x c.self.inside.world.tables c.write_listed_rows.new.list) (sym c.write_listed_rows.ensures.query) c.write_listed_rows.ensures.list })
 
 pub returns-in_err-write_listed_rows-clause-same : goal.returns-in_err-write_listed_rows-clause-same
 returns-in_err-write_listed_rows-clause-same g c =
     relisted_seen c.self.inside.world c.self.inside.stored.entries _ c.self.inside.waiting c.self.inside.compared c.args.name.now c.in-Some.stored.now _ (sym c.in-Some.ensures.value)
-    (c.get_mut.follows.holds _).0 (λ m. refl)
+    (c.get_mut.follows.holds _).0 (λ m. ap (λ (x : Query). record { name = m; kind = c.in-Some.stored.now.kind; query = x; these = (c.in-Some.stored.now.these).items }) c.write_listed_rows.ensures.query)
     ∙ c.self.view_is
 
 pub invariant_of-self-2 : goal.invariant_of-self-2
@@ -66,8 +68,8 @@ invariant_of-self-2 g c =
     let es = c.self.inside.stored.entries in
     let there = sym c.in-Some.ensures.value in
     let has = list_found c.self.inside.world.tables c.args.name.now es c.in-Some.stored.now c.self.invariant.1 there in
-    relisted c.self.inside.world es _ c.self.inside.waiting c.self.inside.compared c.args.name.now c.in-Some.stored.now _ there (c.get_mut.follows.holds _).0 (λ m. refl)
-    c.self.invariant.0 c.self.invariant.1 (record { kept = sym (ap is_some c.in-Some-list.is) ∙ has.kept; list = c.write_listed_rows.ensures.list })
+    relisted c.self.inside.world es _ c.self.inside.waiting c.self.inside.compared c.args.name.now c.in-Some.stored.now _ there (c.get_mut.follows.holds _).0 (λ m. ap (λ (x : Query). record { name = m; kind = c.in-Some.stored.now.kind; query = x; these = (c.in-Some.stored.now.these).items }) c.write_listed_rows.ensures.query)
+    c.self.invariant.0 c.self.invariant.1 (record { kept = sym (ap is_some c.in-Some-list.is) ∙ has.kept; list = subst (λ (x : Query). IsListOf x c.self.inside.world.tables c.write_listed_rows.new.list) (sym c.write_listed_rows.ensures.query) c.write_listed_rows.ensures.list })
 
 pub returns-clause-rows : goal.returns-clause-rows
 returns-clause-rows g c =
@@ -85,5 +87,5 @@ returns-clause-rows g c =
 pub returns-clause-same : goal.returns-clause-same
 returns-clause-same g c =
     relisted_seen c.self.inside.world c.self.inside.stored.entries _ c.self.inside.waiting c.self.inside.compared c.args.name.now c.in-Some.stored.now _ (sym c.in-Some.ensures.value)
-    (c.get_mut.follows.holds _).0 (λ m. refl)
+    (c.get_mut.follows.holds _).0 (λ m. ap (λ (x : Query). record { name = m; kind = c.in-Some.stored.now.kind; query = x; these = (c.in-Some.stored.now.these).items }) c.write_listed_rows.ensures.query)
     ∙ c.self.view_is
