@@ -20,7 +20,7 @@ use Rattle.ecs_model.proofs.Answering.{effect_well_formed}
 use Rattle.ecs_model.proofs.Differences.{last_value}
 use Rattle.ecs_model.proofs.Maps.{both_true, key_cmp_total, of_some}
 use Rattle.ecs_model.proofs.traits.Held.{removes_held_alone}
-use Rattle.fact_rules.specs.Simple.{is_simple, is_unmirrored}
+use Rattle.fact_rules.specs.Simple.{ComesAlone, is_unmirrored}
 use Rattle.name_index.specs.Names.{IsUnnamed, Names}
 use Rattle.ecs_archetypes.specs.Holdings.{AreHoldings, HoldAlike, Holdings, KeepsSizes, Sizes, agrees, cells_at, held_at, holds_id, is_settled, lives, upcoming, with_cells, with_entity}
 use Rattle.ecs_world.specs.State.{IsWorld, Parts, parts_of, byte_count, is_known_rightly, state_of, type_of, value_in}
@@ -28,7 +28,6 @@ use Rattle.ecs_world.proofs.Births.{birth_left, component_known, effect-componen
 use Rattle.ecs_world.proofs.Judged.{CanBear, CanChange, add_of_set, judged-add, judged-remove}
 use Rattle.ecs_world.proofs.Left.{cells_left, effect-add, effect-remove, effect-set, facts_held, facts_new, held_world, recounted, state_gone, state_put, tags_gone, tags_put, there}
 use Rattle.ecs_world.proofs.NameLists.{AreNamed-bound, AreNamed-same, unnamed}
-use Rattle.ecs_world.proofs.Simple.{simple_no_trait}
 use Rattle.ecs_world.proofs.States.{AreNamed-world, holds_is, ids_is, unsettled_dead, size_agrees, state_alike, type_is, world_alike, zeros_are_new}
 
 pub refuted : (b : Bool) → not b ≡ true → b ≡ false
@@ -144,19 +143,19 @@ module _ {parts : Parts} (world : IsWorld parts) {v : WorldState} (is : state_of
           )
 
     -- a fact comes
-    module _ (simple : is_simple (ids_of v) i ≡ true) (none : first_reason (reasons v (Add e i)) ≡ None) where
+    module _ (alone : ComesAlone (ids_of v) (e.index, i)) (none : first_reason (reasons v (Add e i)) ≡ None) where
       pub come : (h' : Holdings) (size : ℕ) → AreHoldings h' → size ≡ byte_count (type_of_id v i) → holds v e.index i ≡ false
           → HoldAlike h' (with_cells h e.index (with_value id_cmp (held_at h e.index) i (replicate size 0))) → KeepsSizes h.known ((i, size) ∷ []) h'.known
           → IsWorld (parts_of h' names schemas pins accepted) × (state_of (parts_of h' names schemas pins accepted) ≡ with_facts v (facts_after_add v e.index i))
       come h' size whole' at absent alike keeps =
-          let can' = judged-add v e i (simple_no_trait v i simple) none in
+          let can' = judged-add v e i alone.no_trait none in
           let value : value_in (type_of h schemas i) (replicate size 0) ≡ new_value v i =
           ap (λ n. value_in (type_of h schemas i) (replicate n 0)) (at ∙ ap (λ u. byte_count (type_of_id u i)) (sym is) ∙ ap byte_count (type_is world i))
           ∙ zeros_are_new (type_of h schemas i) ∙ ap (λ o. option_map_or zeros o []) (sym (type_is world i) ∙ ap (λ x. type_of_id x i) is) in
           let state : state_of (parts_of h' names schemas pins accepted) ≡ with_facts v (facts_after_add v e.index i) =
           state_put world e i (can can') h' whole' (replicate size 0) alike accepted
           ∙ (λ k. record (is k) { facts = with_value key_cmp (is k).facts (e.index, i) (value k) })
-          ∙ ap (with_facts v) (sym (facts_new v e.index i simple absent)) in (
+          ∙ ap (with_facts v) (sym (facts_new v e.index i alone absent)) in (
             cells_left world e i (can can') h' whole' (with_value id_cmp (held_at h e.index) i (replicate size 0)) alike ((i, size) ∷ []) keeps (fits_there can' size at)
                 (tags_put world e i (can can') h' whole' (replicate size 0) alike) accepted (subst IsWellFormed (sym state) (held_world v e i sound_v none)),
             state,
@@ -298,26 +297,26 @@ pub effect-remove-none : (v : WorldState) (e : EntityId) (i : Id) → IsWellForm
 effect-remove-none v e i sound absent = effect-remove v e i ∙ ap (with_facts v) (removes_held_alone v e.index i sound absent)
 
 -- the facts with a value, whether it came now or was there
-last_set : (w : WorldState) (e : ℕ) (i : Id) → is_simple (ids_of w) i ≡ true → (vs : List ℤ) (b : Bool) → holds w e i ≡ b → with_value key_cmp w.facts (e, i) vs ≡ with_value key_cmp (facts_after_add w e i) (e, i) vs
-last_set w e i simple vs true held = ap (λ m. with_value key_cmp m (e, i) vs) (sym (facts_held w e i simple held))
-last_set w e i simple vs false held = sym (last_value key_cmp key_cmp_total w.facts (e, i) (new_value w i) vs) ∙ ap (λ m. with_value key_cmp m (e, i) vs) (sym (facts_new w e i simple held))
+last_set : (w : WorldState) (e : ℕ) (i : Id) → ComesAlone (ids_of w) (e, i) → (vs : List ℤ) (b : Bool) → holds w e i ≡ b → with_value key_cmp w.facts (e, i) vs ≡ with_value key_cmp (facts_after_add w e i) (e, i) vs
+last_set w e i alone vs true held = ap (λ m. with_value key_cmp m (e, i) vs) (sym (facts_held w e i alone held))
+last_set w e i alone vs false held = sym (last_value key_cmp key_cmp_total w.facts (e, i) (new_value w i) vs) ∙ ap (λ m. with_value key_cmp m (e, i) vs) (sym (facts_new w e i alone held))
 
-module _ {parts : Parts} (world : IsWorld parts) {v : WorldState} (is : state_of parts ≡ v) (e : EntityId) (i : Id) (simple : is_simple (ids_of v) i ≡ true) where
+module _ {parts : Parts} (world : IsWorld parts) {v : WorldState} (is : state_of parts ≡ v) (e : EntityId) (i : Id) (alone : ComesAlone (ids_of v) (e.index, i)) where
   -- an id comes, and the command is counted
   pub added_left : first_reason (reasons v (Add e i)) ≡ None → (h' : Holdings) (size : ℕ) → AreHoldings h' → size ≡ byte_count (type_of_id v i) → holds v e.index i ≡ false
       → HoldAlike h' (with_cells parts.holdings e.index (with_value id_cmp (held_at parts.holdings e.index) i (replicate size 0))) → KeepsSizes (parts.holdings).known ((i, size) ∷ []) h'.known
       → IsWorld (parts_of h' parts.names parts.schemas parts.pins (parts.accepted + 1)) × (state_of (parts_of h' parts.names parts.schemas parts.pins (parts.accepted + 1)) ≡ counted (effect v (Add e i)))
   added_left none h' size whole' at absent alike keeps =
-      let left = come world is e i simple none h' size whole' at absent alike keeps in
-      counted_from left.0 left.1 v (Add e i) (effect-add v e i) (judged-add v e i (simple_no_trait v i simple) none).room
+      let left = come world is e i alone none h' size whole' at absent alike keeps in
+      counted_from left.0 left.1 v (Add e i) (effect-add v e i) (judged-add v e i alone.no_trait none).room
 
   -- a value is set, and the command is counted
   pub set_left : (vs : List ℤ) → first_reason (reasons v (SetValue e i vs)) ≡ None → (h' : Holdings) (bytes : List ℕ) → AreHoldings h' → length bytes ≡ byte_count (type_of_id v i)
       → HoldAlike h' (with_cells parts.holdings e.index (with_value id_cmp (held_at parts.holdings e.index) i bytes)) → KeepsSizes (parts.holdings).known ((i, length bytes) ∷ []) h'.known → value_in (type_of_id v i) bytes ≡ vs
       → IsWorld (parts_of h' parts.names parts.schemas parts.pins (parts.accepted + 1)) × (state_of (parts_of h' parts.names parts.schemas parts.pins (parts.accepted + 1)) ≡ counted (effect v (SetValue e i vs)))
   set_left vs none h' bytes whole' at alike keeps value =
-      let can = judged-add v e i (simple_no_trait v i simple) (add_of_set v e i vs none).1 in
+      let can = judged-add v e i alone.no_trait (add_of_set v e i vs none).1 in
       let to : record v { facts = with_value key_cmp v.facts (e.index, i) vs; accepted = parts.accepted + 1 } ≡ counted (effect v (SetValue e i vs)) =
-      (λ k. record v { facts = last_set v e.index i simple vs (holds v e.index i) refl k; accepted = (is k).accepted + 1 }) ∙ ap counted (sym (effect-set v e i vs)) in
+      (λ k. record v { facts = last_set v e.index i alone vs (holds v e.index i) refl k; accepted = (is k).accepted + 1 }) ∙ ap counted (sym (effect-set v e i vs)) in
       written_left world is e i can h' bytes vs whole' alike ((i, length bytes) ∷ []) keeps (fits_there world is e i can (length bytes) at) value (parts.accepted + 1) (counted (effect v (SetValue e i vs))) to
       (effect_well_formed v (SetValue e i vs) (subst IsWellFormed is world.sound) tt none)

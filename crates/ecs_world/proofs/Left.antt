@@ -18,7 +18,7 @@ use Rattle.ecs_model.specs.traits.Command.{Add, SetValue, Remove, reasons, effec
 use Rattle.ecs_model.proofs.Maps.{key_cmp_same, keys-with_value}
 use Rattle.ecs_model.proofs.Additions.{not_spent}
 use Rattle.ecs_model.proofs.Answering.{effect_well_formed}
-use Rattle.fact_rules.specs.Simple.{is_simple, is_unmirrored}
+use Rattle.fact_rules.specs.Simple.{ComesAlone, is_unmirrored}
 use Rattle.name_index.specs.Names.{Names}
 use Rattle.ecs_archetypes.specs.Holdings.{AreHoldings, Cells, HoldAlike, Holdings, KeepsSizes, Sizes, cells_at, held_at, holds_id, with_cells}
 use Rattle.ecs_world.specs.Singles.{with_one, without_one}
@@ -203,12 +203,12 @@ new_alone w e i absent = ap (λ b. if b then w.facts else with_value key_cmp w.f
 held_alone : (w : WorldState) (e : ℕ) (i : Id) → holds w e i ≡ true → with_one w e i ≡ w.facts
 held_alone w e i held = ap (λ b. if b then w.facts else with_value key_cmp w.facts (e, i) (new_value w i)) held
 
--- and nothing else comes or goes with an id without traits
-pub facts_new : (w : WorldState) (e : ℕ) (i : Id) → is_simple (ids_of w) i ≡ true → holds w e i ≡ false → facts_after_add w e i ≡ with_value key_cmp w.facts (e, i) (new_value w i)
-facts_new w e i simple absent = after_add w e i simple ∙ new_alone w e i absent
+-- and nothing else comes or goes with a fact that comes alone
+pub facts_new : (w : WorldState) (e : ℕ) (i : Id) → ComesAlone (ids_of w) (e, i) → holds w e i ≡ false → facts_after_add w e i ≡ with_value key_cmp w.facts (e, i) (new_value w i)
+facts_new w e i alone absent = after_add w e i alone ∙ new_alone w e i absent
 
-pub facts_held : (w : WorldState) (e : ℕ) (i : Id) → is_simple (ids_of w) i ≡ true → holds w e i ≡ true → facts_after_add w e i ≡ w.facts
-facts_held w e i simple held = after_add w e i simple ∙ held_alone w e i held
+pub facts_held : (w : WorldState) (e : ℕ) (i : Id) → ComesAlone (ids_of w) (e, i) → holds w e i ≡ true → facts_after_add w e i ≡ w.facts
+facts_held w e i alone held = after_add w e i alone ∙ held_alone w e i held
 
 pub effect-add : (w : WorldState) (e : EntityId) (i : Id) → effect w (Add e i) ≡ with_facts w (facts_after_add w e.index i)
 unfolding effect

@@ -15,7 +15,7 @@ use Rattle.ecs_model.specs.traits.Command.{Add, SetValue, reasons, add_reasons, 
 use Rattle.ecs_archetypes.specs.declared.facts.Found.{Found}
 use Rattle.ecs_world.specs.State.{growth_reasons}
 use Rattle.ecs_world.proofs.Crowding.{crowds}
-use Rattle.fact_rules.specs.Simple.{is_simple}
+use Rattle.fact_rules.specs.Simple.{ComesAlone}
 use Rattle.ecs_world.proofs.Entities.{generation_of}
 use Rattle.ecs_world.proofs.Simple.{growth_alone}
 
@@ -52,12 +52,12 @@ module _ (w : WorldState) (e : EntityId) (i : Id) where
   not_dead alive mentions = λ k. not (alive k) || not (mentions k)
 
   -- of an entity of which this was found, where nothing else comes with the id
-  pub growth_told : (found : Found) → is_simple (ids_of w) i ≡ true → IsWellFormed w → is_alive w e ≡ true → found.is_held ≡ holds w e.index i → found.count ≡ length (ids_of w e.index)
+  pub growth_told : (found : Found) → ComesAlone (ids_of w) (e.index, i) → IsWellFormed w → is_alive w e ≡ true → found.is_held ≡ holds w e.index i → found.count ≡ length (ids_of w e.index)
       → is_dead w e i ≡ false → adds_built_in w e.index i ≡ false → first_reason (growth_reasons found (is_spent w)) ≡ first_reason (add_reasons w e.index i)
-  growth_told found simple sound alive held counted dead own =
+  growth_told found alone sound alive held counted dead own =
       ap (λ b. first_reason ((b, TooManyIds) ∷ (is_spent w, Full) ∷ []))
       (crowds w e.index i sound found.is_held found.count (ap is_some (generation_of (value_at nat_cmp w.live e.index) e.generation alive)) held counted)
-      ∙ sym (growth_alone w e i simple sound dead own)
+      ∙ sym (growth_alone w e i alone sound dead own)
 
   pub add_dead : is_dead w e i ≡ true → Some Dead ≡ first_reason (reasons w (Add e i))
   unfolding reasons

@@ -25,30 +25,9 @@ use Rattle.ecs_model.proofs.Reasons.{neither, refused}
 use Rattle.ecs_model.proofs.traits.Cycles.{added_pairs_close}
 use Rattle.ecs_model.proofs.traits.Kept.{refuted}
 use Rattle.fact_rules.specs.Additions.{is_of_built_in}
-use Rattle.fact_rules.specs.Simple.{is_simple, is_unmirrored}
+use Rattle.fact_rules.specs.Simple.{ComesAlone, is_unmirrored}
+use Rattle.rel_traits.specs.After.{ClosesAt}
 use Rattle.ecs_world.specs.Singles.{with_one, without_one}
-
--- of ids without traits none is this trait
-unheld_in : (xs : List Id) (j : Id) → is_trait j ≡ true → list_any is_trait xs ≡ false → is_held xs j ≡ false
-unheld_in [] j t h = refl
-unheld_in (x ∷ xs) j t h =
-    let parts = neither (is_trait x) (list_any is_trait xs) h in
-    λ k. other (id_eq x j) refl parts.0 k || unheld_in xs j t parts.1 k
-  where
-    other : (b : Bool) → id_eq x j ≡ b → is_trait x ≡ false → b ≡ false
-    other true p n = absurd (true≢false (sym t ∙ ap is_trait (sym (id_eq_same x j p)) ∙ n))
-    other false p n = refl
-
-not_with : (r t : ℕ) → is_trait (pair r t) ≡ false → (r == with_trait) ≡ false
-not_with r t h = refuted (r == with_trait) (λ q. true≢false (sym (ap (λ x. is_trait (pair x t)) (eq_same r with_trait q)) ∙ h))
-
--- and none is a pair of With
-leads_nowhere : (xs : List Id) → list_any is_trait xs ≡ false → targets_in xs with_trait ≡ []
-leads_nowhere [] h = refl
-leads_nowhere (plain c ∷ xs) h = leads_nowhere xs (neither (is_trait (plain c)) (list_any is_trait xs) h).1
-leads_nowhere (pair r t ∷ xs) h =
-    let parts = neither (is_trait (pair r t)) (list_any is_trait xs) h in
-    λ k. cons_option (if not_with r t parts.0 k then Some t else None) (leads_nowhere xs parts.1 k)
 
 -- where nothing follows from a thing, it is all that is reached from it
 alone_reached : {A : Type 0} (next : A → List A) (x : A) → next x ≡ [] → {y : A} → Reached next x y → y ≡ x
@@ -77,19 +56,6 @@ passes_not true true c h = absurd (true≢false h)
 passes_not true false c h = refl
 passes_not false b c h = refl
 
-module _ (w : WorldState) (i : Id) (simple : is_simple (ids_of w) i ≡ true) where
-  parts : (not (is_trait i) ≡ true) × (not (list_any is_trait (ids_of w (first_of i))) ≡ true)
-  parts = both (not (is_trait i)) (not (list_any is_trait (ids_of w (first_of i)))) simple
-
-  pub simple_no_trait : is_trait i ≡ false
-  simple_no_trait = refused (is_trait i) parts.0
-
-  none_held : list_any is_trait (ids_of w (first_of i)) ≡ false
-  none_held = refused (list_any is_trait (ids_of w (first_of i))) parts.1
-
-  unheld : (j : Id) → is_trait j ≡ true → is_held (ids_of w (first_of i)) j ≡ false
-  unheld j t = unheld_in (ids_of w (first_of i)) j t none_held
-
 module _ (w : WorldState) (e : ℕ) where
   no_mirror : (i : Id) → is_unmirrored (ids_of w) i ≡ true → mirror (ids_of w) (e, i) ≡ []
   no_mirror (plain c) h = refl
@@ -103,27 +69,15 @@ module _ (w : WorldState) (e : ℕ) where
   unfolding facts_after_remove
   after_remove i h = ap (λ ks. without key_cmp w.facts (λ k. list_any (key_eq k) ks)) (removed_alone i h)
 
-  -- an id without traits has no mirror, brings nothing, and nothing gives way to it
-  pub simple_unmirrored : (i : Id) → is_simple (ids_of w) i ≡ true → is_unmirrored (ids_of w) i ≡ true
-  simple_unmirrored (plain c) h = refl
-  simple_unmirrored (pair r t) h = ap not (unheld w (pair r t) h (plain symmetric) refl)
-
-  displaces_none : (i : Id) → is_simple (ids_of w) i ≡ true → displaced (ids_of w) (e, i) ≡ []
-  displaces_none (plain c) h = refl
-  displaces_none (pair r t) h = ap (λ b. if b then others_of (is_symmetric (ids_of w) r) e r t (ids_of w e) else []) (unheld w (pair r t) h (plain exclusive) refl)
-
-  module _ (i : Id) (simple : is_simple (ids_of w) i ≡ true) where
-    brings_none : brought (ids_of w) (e, i) ≡ []
-    brings_none = λ k. map (λ c. (e, with_first c i)) (leads_nowhere (ids_of w (first_of i)) (none_held w i simple) k) ++ no_mirror i (simple_unmirrored i simple) k
-
-    -- it is added alone
+  module _ (i : Id) (alone : ComesAlone (ids_of w) (e, i)) where
+    -- a fact that comes alone is added alone
     pub added_alone : keys (added w e i) ≡ (e, i) ∷ []
     unfolding added
-    added_alone = ap keys (alone_within key_cmp (brought (ids_of w)) (2 * length (entities w)) (e, i) brings_none)
+    added_alone = ap keys (alone_within key_cmp (brought (ids_of w)) (2 * length (entities w)) (e, i) alone.brings)
 
     pub replaced_none : replaced w e i ≡ []
     unfolding replaced
-    replaced_none = ap (flat_map (displaced (ids_of w))) added_alone ∙ ap (λ ks. ks ++ []) (displaces_none i simple)
+    replaced_none = ap (flat_map (displaced (ids_of w))) added_alone ∙ ap (λ ks. ks ++ []) alone.displaces
 
     pub after_add : facts_after_add w e i ≡ with_one w e i
     unfolding facts_after_add
@@ -137,27 +91,23 @@ module _ (w : WorldState) (e : ℕ) where
     changes_none =
         ap (list_any (λ k. not (holds w k.0 k.1) && is_trait k.1 && (is_used (ids_of w) (entities w) k.0 || is_pinned w k.0))) added_alone
         ∙ or_none (not (holds w e i) && is_trait i && (is_used (ids_of w) (entities w) e || is_pinned w e))
-        ∙ passes_not (not (holds w e i)) (is_trait i) (is_used (ids_of w) (entities w) e || is_pinned w e) (simple_no_trait w i simple)
+        ∙ passes_not (not (holds w e i)) (is_trait i) (is_used (ids_of w) (entities w) e || is_pinned w e) alone.no_trait
 
     added_is : (k : Key) → IsAdded (ids_of w) (e, i) k → k ≡ (e, i)
-    added_is k n = alone_reached (brought (ids_of w)) (e, i) brings_none n
+    added_is k n = alone_reached (brought (ids_of w)) (e, i) alone.brings n
 
-    -- and its relationship is not Acyclic
-    not_acyclic : (k : Key) → IsAdded (ids_of w) (e, i) k → is_held (ids_of w (first_of k.1)) (plain acyclic) ≡ false
-    not_acyclic k n = ap (λ q. is_held (ids_of w (first_of q.1)) (plain acyclic)) (added_is k n) ∙ unheld w i simple (plain acyclic) refl
-
-module _ (w : WorldState) (e : EntityId) (i : Id) (simple : is_simple (ids_of w) i ≡ true) (sound : IsWellFormed w) where
+module _ (w : WorldState) (e : EntityId) (i : Id) (alone : ComesAlone (ids_of w) (e.index, i)) (sound : IsWellFormed w) where
   -- so it closes no cycle
   pub closes_none : is_dead w e i ≡ false → adds_built_in w e.index i ≡ false → has_cycle (with_facts w (facts_after_add w e.index i)) ≡ false
   closes_none dead own = refuted (has_cycle (with_facts w (facts_after_add w e.index i))) (λ t.
-      let k = (added_pairs_close w e i sound dead own (changes_none w e.index i simple)).0 t in
-      absurd (true≢false (sym (k.2).2 ∙ not_acyclic w e.index i simple k.0 k.1)))
+      let k = (added_pairs_close w e i sound dead own (changes_none w e.index i alone)).0 t in
+      alone.closes (subst (ClosesAt (ids_of w) e.index) (added_is w e.index i alone k.0 k.1) k.2))
 
   -- and the reasons against it are those of room alone
   pub growth_alone : is_dead w e i ≡ false → adds_built_in w e.index i ≡ false → first_reason (add_reasons w e.index i) ≡ first_reason ((is_crowded (with_facts w (with_one w e.index i)), TooManyIds) ∷ (is_spent w, Full) ∷ [])
   growth_alone dead own = λ k. first_reason (
-      (changes_none w e.index i simple k, TraitFixed)
+      (changes_none w e.index i alone k, TraitFixed)
       ∷ (closes_none dead own k, Cycle)
-      ∷ (is_crowded (with_facts w (after_add w e.index i simple k)), TooManyIds)
+      ∷ (is_crowded (with_facts w (after_add w e.index i alone k)), TooManyIds)
       ∷ (is_spent w, Full)
       ∷ [])

@@ -21,8 +21,8 @@ use Rattle.ecs_model.proofs.traits.AfterAdd.{differences_of_add, differences_of_
 use Rattle.ecs_model.proofs.traits.Differences.{differences_of_remove}
 use Rattle.ecs_model.proofs.traits.Replacing.{is_replaced}
 use Rattle.ecs_world.proofs.Judged.{add_of_set, judged-add}
-use Rattle.ecs_world.proofs.Simple.{added_alone, removed_alone, replaced_none, simple_no_trait}
-use Rattle.fact_rules.specs.Simple.{is_simple, is_unmirrored}
+use Rattle.ecs_world.proofs.Simple.{added_alone, removed_alone, replaced_none}
+use Rattle.fact_rules.specs.Simple.{ComesAlone, is_unmirrored}
 use Rattle.ecs_world.specs.State.{birth, coming, no_change}
 
 -- where none passes, none is left
@@ -56,17 +56,17 @@ one_passes (y ∷ ys) k sorted =
         ap (λ b. cond (b || false) (y.0 ∷ rest) rest) p ∙ left ∙ sym (ap (λ b. if is_some (cond b (Some y.1) (value_at key_cmp ys k)) then k ∷ [] else []) (turned false p))
 
 module _ (v : WorldState) (e : EntityId) (i : Id) where
-  -- with an id without traits its fact comes alone, if it isn't held
-  comes_alone : is_simple (ids_of v) i ≡ true → filter (λ k. not (holds v k.0 k.1)) (keys (added v e.index i)) ≡ (if holds v e.index i then [] else (e.index, i) ∷ [])
-  comes_alone simple = ap (filter (λ k. not (holds v k.0 k.1))) (added_alone v e.index i simple) ∙ by (holds v e.index i)
+  -- a fact that comes alone comes, if it isn't held
+  comes_alone : ComesAlone (ids_of v) (e.index, i) → filter (λ k. not (holds v k.0 k.1)) (keys (added v e.index i)) ≡ (if holds v e.index i then [] else (e.index, i) ∷ [])
+  comes_alone alone = ap (filter (λ k. not (holds v k.0 k.1))) (added_alone v e.index i alone) ∙ by (holds v e.index i)
     where
       by : (b : Bool) → cond {A = List Key} (not b) ((e.index, i) ∷ []) [] ≡ (if b then [] else (e.index, i) ∷ [])
       by true = refl
       by false = refl
 
   -- and nothing gives way
-  none_goes : is_simple (ids_of v) i ≡ true → filter (is_replaced v e.index i) (keys v.facts) ≡ []
-  none_goes simple = ap (λ ks. filter (λ k. list_any (key_eq k) ks) (keys v.facts)) (replaced_none v e.index i simple) ∙ filter_none (keys v.facts)
+  none_goes : ComesAlone (ids_of v) (e.index, i) → filter (is_replaced v e.index i) (keys v.facts) ≡ []
+  none_goes alone = ap (λ ks. filter (λ k. list_any (key_eq k) ks) (keys v.facts)) (replaced_none v e.index i alone) ∙ filter_none (keys v.facts)
 
   -- a fact without mirror goes alone, if it is held
   goes_alone : IsWellFormed v → is_unmirrored (ids_of v) i ≡ true
@@ -76,17 +76,17 @@ module _ (v : WorldState) (e : EntityId) (i : Id) where
   abbrev with_changes : List Key → List Key → List Key → Changed
   with_changes came went written = record { born = None; died = []; came = came; went = went; written = written }
 
-  alone_added : IsWellFormed v → is_simple (ids_of v) i ≡ true → first_reason (reasons v (Add e i)) ≡ None
+  alone_added : IsWellFormed v → ComesAlone (ids_of v) (e.index, i) → first_reason (reasons v (Add e i)) ≡ None
       → differences v (counted (effect v (Add e i))) (written_by (Add e i)) ≡ coming v e.index i
-  alone_added sound simple none =
-      let can = judged-add v e i (simple_no_trait v i simple) none in
-      differences_of_add v e i sound can.mentions ∙ (λ j. with_changes (comes_alone simple j) (none_goes simple j) [])
+  alone_added sound alone none =
+      let can = judged-add v e i alone.no_trait none in
+      differences_of_add v e i sound can.mentions ∙ (λ j. with_changes (comes_alone alone j) (none_goes alone j) [])
 
-  alone_set : (vs : List ℤ) → IsWellFormed v → is_simple (ids_of v) i ≡ true → first_reason (reasons v (SetValue e i vs)) ≡ None
+  alone_set : (vs : List ℤ) → IsWellFormed v → ComesAlone (ids_of v) (e.index, i) → first_reason (reasons v (SetValue e i vs)) ≡ None
       → differences v (counted (effect v (SetValue e i vs))) (written_by (SetValue e i vs)) ≡ record (coming v e.index i) { written = (e.index, i) ∷ [] }
-  alone_set vs sound simple none =
-      let can = judged-add v e i (simple_no_trait v i simple) (add_of_set v e i vs none).1 in
-      differences_of_set v e i vs sound can.mentions ∙ (λ j. with_changes (comes_alone simple j) (none_goes simple j) ((e.index, i) ∷ []))
+  alone_set vs sound alone none =
+      let can = judged-add v e i alone.no_trait (add_of_set v e i vs none).1 in
+      differences_of_set v e i vs sound can.mentions ∙ (λ j. with_changes (comes_alone alone j) (none_goes alone j) ((e.index, i) ∷ []))
 
 module _ (v u : WorldState) (told : Changed) where
   pub told_fresh : (e : EntityId) → next_entity v ≡ Some e → first_reason (reasons v Fresh) ≡ None → u ≡ counted (effect v Fresh) → told ≡ birth e → AnswersStep (Ok told) (step v Fresh) v u
@@ -101,12 +101,12 @@ module _ (v u : WorldState) (told : Changed) where
   told_component n s e sound next none left is = answers_accepted v (Component n s) told u none left (is ∙ sym (differences_of_component v n s e sound next))
 
   module _ (e : EntityId) (i : Id) (sound : IsWellFormed v) where
-    pub told_add : is_simple (ids_of v) i ≡ true → first_reason (reasons v (Add e i)) ≡ None → u ≡ counted (effect v (Add e i)) → told ≡ coming v e.index i → AnswersStep (Ok told) (step v (Add e i)) v u
-    told_add simple none left is = answers_accepted v (Add e i) told u none left (is ∙ sym (alone_added v e i sound simple none))
+    pub told_add : ComesAlone (ids_of v) (e.index, i) → first_reason (reasons v (Add e i)) ≡ None → u ≡ counted (effect v (Add e i)) → told ≡ coming v e.index i → AnswersStep (Ok told) (step v (Add e i)) v u
+    told_add alone none left is = answers_accepted v (Add e i) told u none left (is ∙ sym (alone_added v e i sound alone none))
 
-    pub told_set : (vs : List ℤ) → is_simple (ids_of v) i ≡ true → first_reason (reasons v (SetValue e i vs)) ≡ None → u ≡ counted (effect v (SetValue e i vs))
+    pub told_set : (vs : List ℤ) → ComesAlone (ids_of v) (e.index, i) → first_reason (reasons v (SetValue e i vs)) ≡ None → u ≡ counted (effect v (SetValue e i vs))
         → told ≡ record (coming v e.index i) { written = (e.index, i) ∷ [] } → AnswersStep (Ok told) (step v (SetValue e i vs)) v u
-    told_set vs simple none left is = answers_accepted v (SetValue e i vs) told u none left (is ∙ sym (alone_set v e i vs sound simple none))
+    told_set vs alone none left is = answers_accepted v (SetValue e i vs) told u none left (is ∙ sym (alone_set v e i vs sound alone none))
 
     pub told_remove : (b : Bool) → is_unmirrored (ids_of v) i ≡ true → holds v e.index i ≡ b → first_reason (reasons v (Remove e i)) ≡ None → u ≡ counted (effect v (Remove e i))
         → told ≡ record no_change { went = if b then (e.index, i) ∷ [] else [] } → AnswersStep (Ok told) (step v (Remove e i)) v u

@@ -20,7 +20,7 @@ impl<A: Allocator + Copy> World<A> {
         ensures answers { AnswersStep result (step self.old.state (Add entity id)) self.old.state self.new.state }
         ensures goes_on { TablesGoOn self.old.tables self.new.tables }
     {
-        if self.is_simple(id) {
+        if self.comes_alone(entity, id) {
             self.add_single(entity, id)
         } else {
             self.add_all(entity, id)
@@ -37,7 +37,7 @@ impl<A: Allocator + Copy> World<A> {
         ensures answers { AnswersStep result (step self.old.state (SetValue entity id values.now)) self.old.state self.new.state }
         ensures goes_on { TablesGoOn self.old.tables self.new.tables }
     {
-        if self.is_simple(id) {
+        if self.comes_alone(entity, id) {
             self.set_single(entity, id, values)
         } else {
             self.set_all(entity, id, values)

@@ -1,15 +1,14 @@
 //! Why commands are refused. All is judged before anything is changed.
 
 ghost use Rattle.std.specs.Prelude.{◌≡◌, ◌++◌, ◌||◌, IfErr, IfOk, IsTrue, None, OnOk, Some, length, true};
-ghost use Rattle.std.specs.List.{list_all, list_any};
+ghost use Rattle.std.specs.List.{list_all};
 ghost use Rattle.ecs_id.specs.Id.{mentioned};
 ghost use Rattle.ecs_model.specs.Command.{birth_reasons, is_spent, name_reasons, next_entity, value_reasons};
 ghost use Rattle.ecs_model.specs.Refusal.{first_reason};
 ghost use Rattle.ecs_model.specs.World.{holds, ids_of, is_alive, is_built_in, is_live, type_of_id};
 ghost use Rattle.ecs_model.specs.traits.Command.{Add, Remove, SetValue, reasons};
-ghost use Rattle.ecs_model.specs.traits.Rules.{is_trait as is_trait_id};
 ghost use Rattle.fact_rules.specs.Additions.{is_of_built_in};
-ghost use Rattle.fact_rules.specs.Simple.{is_simple, is_unmirrored};
+ghost use Rattle.fact_rules.specs.Simple.{ComesAlone, is_unmirrored};
 ghost use Rattle.ecs_world.specs.State.{IsEncoded, growth_reasons};
 
 use crate::World;
@@ -20,7 +19,7 @@ use ecs_model::built_ins::SYMMETRIC;
 use ecs_model::faults::Refusal;
 use ecs_model::{FactKey, LAST_BUILT_IN, MOST_IDS, is_name};
 use ecs_schema::ValueFault;
-use fact_rules::{is_trait, judge_remove};
+use fact_rules::{comes_alone, judge_remove, plain_comes_alone};
 use std::alloc::Allocator;
 
 impl<A: Allocator> World<A> {
@@ -49,9 +48,9 @@ impl<A: Allocator> World<A> {
         }
     }
 
-    /// Why an id without traits is not added to a live entity.
+    /// Why a fact that comes alone is not added to a live entity.
     pub(crate) fn single_refusal(&self, entity: EntityId, id: Id, found: &Found) -> Option<Refusal>
-        requires simple { is_simple (ids_of self.now.state) id ≡ true }
+        requires alone { ComesAlone (ids_of self.now.state) (entity.index, id) }
         requires alive { IsTrue (is_alive self.now.state entity) }
         requires held { (found.now).is_held ≡ holds self.now.state entity.index id }
         requires count { (found.now).count ≡ length (ids_of self.now.state entity.index) }
@@ -67,7 +66,7 @@ impl<A: Allocator> World<A> {
         }
     }
 
-    /// Writes the bytes of a value of an id without traits, for a live entity, to the front of the buffer, and tells how many they are, or
+    /// Writes the bytes of a value of a fact that comes alone, of a live entity, to the front of the buffer, and tells how many they are, or
     /// why it is not set.
     pub(crate) fn judge_single(
         &self,
@@ -77,7 +76,7 @@ impl<A: Allocator> World<A> {
         found: &Found,
         buffer: &mut [u8; 64],
     ) -> Result<usize, Refusal>
-        requires simple { is_simple (ids_of self.now.state) id ≡ true }
+        requires alone { ComesAlone (ids_of self.now.state) (entity.index, id) }
         requires alive { IsTrue (is_alive self.now.state entity) }
         requires held { (found.now).is_held ≡ holds self.now.state entity.index id }
         requires count { (found.now).count ≡ length (ids_of self.now.state entity.index) }
@@ -110,12 +109,15 @@ impl<A: Allocator> World<A> {
         judge_remove(FactKey::new(entity.index, id), self.is_spent())
     }
 
-    /// Whether an id is no trait, and its component or relationship has none: then nothing comes or goes with it.
+    /// Whether an added fact is seen to come alone: nothing else comes or goes with it, and it closes no cycle.
     #[inline(always)]
-    pub(crate) fn is_simple(&self, id: Id) -> bool
-        ensures { result ≡ is_simple (ids_of self.now.state) id }
+    pub(crate) fn comes_alone(&self, entity: EntityId, id: Id) -> bool
+        ensures { IsTrue result → ComesAlone (ids_of self.now.state) (entity.index, id) }
     {
-        !is_trait(id) && !has_trait(self.ids_at(id.first()))
+        match id.second() {
+            None => plain_comes_alone(self.ids_at(id.first()), id),
+            Some(_) => comes_alone(&self.links(), FactKey::new(entity.index, id)),
+        }
     }
 
     /// Whether a fact of an id has no mirror.
@@ -180,18 +182,6 @@ impl<A: Allocator> World<A> {
     {
         self.archetypes.upcoming()
     }
-}
-
-/// Whether one of the ids is a trait.
-fn has_trait(ids: &[Id]) -> bool
-    ensures { result ≡ list_any is_trait_id ids.now }
-{
-    for id in ids {
-        if is_trait(*id) {
-            return true;
-        }
-    }
-    false
 }
 
 /// Whether a fact is of a built-in entity, or is the tag of components.

@@ -4,7 +4,7 @@ ghost use Rattle.std.specs.Prelude.{◌≡◌, true};
 ghost use Rattle.ecs_model.specs.Command.{AnswersStep};
 ghost use Rattle.ecs_model.specs.World.{ids_of};
 ghost use Rattle.ecs_model.specs.traits.Command.{Add, Remove, SetValue, step};
-ghost use Rattle.fact_rules.specs.Simple.{is_simple, is_unmirrored};
+ghost use Rattle.fact_rules.specs.Simple.{ComesAlone, is_unmirrored};
 ghost use Rattle.table_store.specs.Going.{TablesGoOn};
 
 use crate::{Changes, World};
@@ -14,13 +14,13 @@ use ecs_model::faults::{CommandError, Refusal};
 use std::alloc::Allocator;
 
 impl<A: Allocator + Copy> World<A> {
-    /// `add` of an id without traits.
+    /// `add` of a fact that comes alone.
     pub(crate) fn add_single(
         &mut self,
         entity: EntityId,
         id: Id,
     ) -> Result<Changes<A>, CommandError>
-        requires simple { is_simple (ids_of self.old.state) id ≡ true }
+        requires alone { ComesAlone (ids_of self.old.state) (entity.index, id) }
         ensures answers { AnswersStep result (step self.old.state (Add entity id)) self.old.state self.new.state }
         ensures goes_on { TablesGoOn self.old.tables self.new.tables }
     {
@@ -43,14 +43,14 @@ impl<A: Allocator + Copy> World<A> {
         Ok(Changes::of_came(key))
     }
 
-    /// `set` of an id without traits.
+    /// `set` of a fact that comes alone.
     pub(crate) fn set_single(
         &mut self,
         entity: EntityId,
         id: Id,
         values: &[i128],
     ) -> Result<Changes<A>, CommandError>
-        requires simple { is_simple (ids_of self.old.state) id ≡ true }
+        requires alone { ComesAlone (ids_of self.old.state) (entity.index, id) }
         ensures answers { AnswersStep result (step self.old.state (SetValue entity id values.now)) self.old.state self.new.state }
         ensures goes_on { TablesGoOn self.old.tables self.new.tables }
     {

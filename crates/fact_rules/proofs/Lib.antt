@@ -6,4 +6,5 @@ mod Counting
 mod Coming
 mod Going
 mod Staying
+mod Lonely
 pub mod Dying

@@ -1,15 +1,19 @@
 -- Facts with which no others come or go.
-use Rattle.std.specs.Prelude.{ℕ, ◌&&◌, Bool, true, not, List}
-use Rattle.std.specs.List.{list_any}
-use Rattle.ecs_id.specs.Id.{Id, plain, pair, first_of}
-use Rattle.ecs_model.specs.Added.{is_symmetric}
+use Rattle.std.specs.Prelude.{◌≡◌, ℕ, Bool, true, false, not, List, []}
+use Rattle.ecs_id.specs.Id.{Id, plain, pair}
+use Rattle.ecs_model.specs.Added.{brought, displaced, is_symmetric}
+use Rattle.ecs_model.specs.World.{Key}
 use Rattle.ecs_model.specs.traits.Rules.{is_trait}
+use Rattle.rel_traits.specs.After.{ClosesAt}
 
 -- over the ids of each entity
 module _ (ids : ℕ → List Id) where
-  -- whether an id is no trait, and its component or relationship holds none
-  abbrev pub is_simple : Id → Bool
-  is_simple i = not (is_trait i) && not (list_any is_trait (ids (first_of i)))
+  -- a fact that is no trait, brings no other, lets none give way, and closes no cycle
+  pub record ComesAlone (k : Key) : Type 0 where
+    pub no_trait : is_trait k.1 ≡ false
+    pub brings : brought ids k ≡ []
+    pub displaces : displaced ids k ≡ []
+    pub closes : ¬ (ClosesAt ids k.0 k)
 
   -- whether a fact of the id has no mirror
   abbrev pub is_unmirrored : Id → Bool

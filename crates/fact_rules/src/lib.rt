@@ -2,6 +2,7 @@
 #![tactic(auto)]
 
 mod addition;
+mod alone;
 mod deletion;
 mod fact_lists;
 mod left;
@@ -12,6 +13,7 @@ mod stored_queries;
 mod traits;
 
 pub use addition::Additions;
+pub use alone::{comes_alone, plain_comes_alone};
 pub use deletion::Deletion;
 pub use left::{ids_after, ids_left};
 pub use refused_addition::judge_add;

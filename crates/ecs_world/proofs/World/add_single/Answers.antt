@@ -12,7 +12,6 @@ use Rattle.ecs_world.proofs.Accepted.{added_left, counted_left, failed, fits_the
 use Rattle.ecs_world.proofs.Judged.{judged-add}
 use Rattle.ecs_world.proofs.Left.{effect-add, facts_held}
 use Rattle.ecs_world.proofs.Refusing.{add_dead, entity_dead}
-use Rattle.ecs_world.proofs.Simple.{simple_no_trait}
 use Rattle.ecs_world.proofs.Told.{told_add}
 use Rattle.ecs_world.proofs.Standings.{going_on, state_is}
 use Rattle.ecs_world.proofs.World.add_single.Goals as goal
@@ -43,7 +42,7 @@ returns-in-Some-single_refusal-clause-goes_on g c = goes_on_same _
 
 pub overflow_add-self : goal.overflow_add-self
 overflow_add-self g c =
-    let spent = rw (← state_is c.self.view_is) at ((judged-add c.args.self.now.state c.args.entity c.args.id (simple_no_trait c.args.self.now.state c.args.id c.requires.simple) (sym c.in_default-single_refusal.ensures)).room) in
+    let spent = rw (← state_is c.self.view_is) at ((judged-add c.args.self.now.state c.args.entity c.args.id c.requires.alone.no_trait (sym c.in_default-single_refusal.ensures)).room) in
     omega (arith, not_spent c.self.inside.accepted spent)
 
 pub invariant_of-self : goal.invariant_of-self
@@ -53,10 +52,10 @@ invariant_of-self g c =
     let i = c.args.id in
     let is = state_is c.self.view_is in
     let world = c.self.invariant in
-    let simple = c.requires.simple in
+    let alone = c.requires.alone in
     let none = sym c.in_default-single_refusal.ensures in
     let present = sym (found_held world is e i c.in-Some.found.is_held c.in-Some.ensures.held) ∙ c.if-found.true in
-    (counted_left world is (Add e i) tt none (effect-add w e i ∙ ap (with_facts w) (facts_held w e.index i simple present))).0
+    (counted_left world is (Add e i) tt none (effect-add w e i ∙ ap (with_facts w) (facts_held w e.index i alone present))).0
 
 pub returns-then-found-clause-answers : goal.returns-then-found-clause-answers
 returns-then-found-clause-answers g c =
@@ -65,11 +64,11 @@ returns-then-found-clause-answers g c =
     let i = c.args.id in
     let is = state_is c.self.view_is in
     let world = c.self.invariant in
-    let simple = c.requires.simple in
+    let alone = c.requires.alone in
     let none = sym c.in_default-single_refusal.ensures in
     let present = sym (found_held world is e i c.in-Some.found.is_held c.in-Some.ensures.held) ∙ c.if-found.true in
-    told_add w _ c.none.result e i (subst IsWellFormed is world.sound) simple none
-    (counted_left world is (Add e i) tt none (effect-add w e i ∙ ap (with_facts w) (facts_held w e.index i simple present))).1
+    told_add w _ c.none.result e i (subst IsWellFormed is world.sound) alone none
+    (counted_left world is (Add e i) tt none (effect-add w e i ∙ ap (with_facts w) (facts_held w e.index i alone present))).1
     (c.none.ensures ∙ ap (λ b. record no_change { came = if b then [] else (e.index, i) ∷ [] }) (sym present))
 
 pub returns-then-found-clause-goes_on : goal.returns-then-found-clause-goes_on
@@ -82,9 +81,9 @@ add-requires-clause-agree g c =
     let i = c.args.id in
     let is = state_is c.self.view_is in
     let world = c.self.invariant in
-    let simple = c.requires.simple in
+    let alone = c.requires.alone in
     let none = sym c.in_default-single_refusal.ensures in
-    size_there world is e i (judged-add w e i (simple_no_trait w i simple) none) c.size_of-size.result c.size_of-size.ensures.value
+    size_there world is e i (judged-add w e i alone.no_trait none) c.size_of-size.result c.size_of-size.ensures.value
 
 pub invariant_of-self-then-is_err : goal.invariant_of-self-then-is_err
 invariant_of-self-then-is_err g c =
@@ -93,9 +92,9 @@ invariant_of-self-then-is_err g c =
     let i = c.args.id in
     let is = state_is c.self.view_is in
     let world = c.self.invariant in
-    let simple = c.requires.simple in
+    let alone = c.requires.alone in
     let none = sym c.in_default-single_refusal.ensures in
-    (failed world is ((i, c.size_of-size.result) ∷ []) (fits_there world is e i (judged-add w e i (simple_no_trait w i simple) none) c.size_of-size.result c.size_of-size.ensures.value)
+    (failed world is ((i, c.size_of-size.result) ∷ []) (fits_there world is e i (judged-add w e i alone.no_trait none) c.size_of-size.result c.size_of-size.ensures.value)
     (holdings_of c.add.new.self) c.add.ensures.holdings (on_err c.add.result c.add.ensures.refused (sym c.is_err.ensures.value ∙ c.if-is_err.true)) c.add.ensures.sizes).0
 
 pub returns-then-is_err-clause-answers : goal.returns-then-is_err-clause-answers
@@ -105,9 +104,9 @@ returns-then-is_err-clause-answers g c =
     let i = c.args.id in
     let is = state_is c.self.view_is in
     let world = c.self.invariant in
-    let simple = c.requires.simple in
+    let alone = c.requires.alone in
     let none = sym c.in_default-single_refusal.ensures in
-    (failed world is ((i, c.size_of-size.result) ∷ []) (fits_there world is e i (judged-add w e i (simple_no_trait w i simple) none) c.size_of-size.result c.size_of-size.ensures.value)
+    (failed world is ((i, c.size_of-size.result) ∷ []) (fits_there world is e i (judged-add w e i alone.no_trait none) c.size_of-size.result c.size_of-size.ensures.value)
     (holdings_of c.add.new.self) c.add.ensures.holdings (on_err c.add.result c.add.ensures.refused (sym c.is_err.ensures.value ∙ c.if-is_err.true)) c.add.ensures.sizes).1
 
 pub returns-then-is_err-clause-goes_on : goal.returns-then-is_err-clause-goes_on
@@ -115,7 +114,7 @@ returns-then-is_err-clause-goes_on g c = going_on c.self.view_is c.add.ensures.g
 
 pub overflow_add-self-2 : goal.overflow_add-self-2
 overflow_add-self-2 g c =
-    let spent = rw (← state_is c.self.view_is) at ((judged-add c.args.self.now.state c.args.entity c.args.id (simple_no_trait c.args.self.now.state c.args.id c.requires.simple) (sym c.in_default-single_refusal.ensures)).room) in
+    let spent = rw (← state_is c.self.view_is) at ((judged-add c.args.self.now.state c.args.entity c.args.id c.requires.alone.no_trait (sym c.in_default-single_refusal.ensures)).room) in
     omega (arith, not_spent c.self.inside.accepted spent)
 
 pub invariant_of-self-2 : goal.invariant_of-self-2
@@ -124,10 +123,10 @@ invariant_of-self-2 g c =
     let i = c.args.id in
     let is = state_is c.self.view_is in
     let world = c.self.invariant in
-    let simple = c.requires.simple in
+    let alone = c.requires.alone in
     let none = sym c.in_default-single_refusal.ensures in
     let absent = sym (found_held world is e i c.in-Some.found.is_held c.in-Some.ensures.held) ∙ c.if-found.false in
-    (added_left world is e i simple none (holdings_of c.add.new.self) c.size_of-size.result c.add.ensures.holdings c.size_of-size.ensures.value absent
+    (added_left world is e i alone none (holdings_of c.add.new.self) c.size_of-size.result c.add.ensures.holdings c.size_of-size.ensures.value absent
     (on_ok c.add.result c.add.ensures.added (sym c.is_err.ensures.value ∙ c.if-is_err.false)) c.add.ensures.sizes).0
 
 pub returns-clause-answers : goal.returns-clause-answers
@@ -137,11 +136,11 @@ returns-clause-answers g c =
     let i = c.args.id in
     let is = state_is c.self.view_is in
     let world = c.self.invariant in
-    let simple = c.requires.simple in
+    let alone = c.requires.alone in
     let none = sym c.in_default-single_refusal.ensures in
     let absent = sym (found_held world is e i c.in-Some.found.is_held c.in-Some.ensures.held) ∙ c.if-found.false in
-    told_add w _ c.of_came.result e i (subst IsWellFormed is world.sound) simple none
-    (added_left world is e i simple none (holdings_of c.add.new.self) c.size_of-size.result c.add.ensures.holdings c.size_of-size.ensures.value absent
+    told_add w _ c.of_came.result e i (subst IsWellFormed is world.sound) alone none
+    (added_left world is e i alone none (holdings_of c.add.new.self) c.size_of-size.result c.add.ensures.holdings c.size_of-size.ensures.value absent
     (on_ok c.add.result c.add.ensures.added (sym c.is_err.ensures.value ∙ c.if-is_err.false)) c.add.ensures.sizes).1
     (c.of_came.ensures ∙ (λ k. record no_change { came = c.new-key.ensures k ∷ [] }) ∙ ap (λ b. record no_change { came = if b then [] else (e.index, i) ∷ [] }) (sym absent))
 

@@ -11,7 +11,6 @@ use Rattle.ecs_world.specs.State.{no_change}
 use Rattle.ecs_world.proofs.Accepted.{failed, fits_there, found_count, found_dead, found_held, on_err, on_ok, set_left, size_there}
 use Rattle.ecs_world.proofs.Judged.{add_of_set, judged-add}
 use Rattle.ecs_world.proofs.Refusing.{entity_dead, set_dead}
-use Rattle.ecs_world.proofs.Simple.{simple_no_trait}
 use Rattle.ecs_world.proofs.Told.{told_set}
 use Rattle.ecs_world.proofs.Standings.{going_on, state_is}
 use Rattle.ecs_world.proofs.World.set_single.Goals.{then-found, else-found}
@@ -49,11 +48,11 @@ put-requires-clause-agree g c =
     let i = c.args.id in
     let is = state_is c.self.view_is in
     let world = c.self.invariant in
-    let simple = c.requires.simple in
+    let alone = c.requires.alone in
     let vs = c.args.values.now in
     let none = c.in-Ok.ensures.judged in
     let bytes = take c.in-Ok.size c.judge_single.new.buffer in
-    let can = judged-add w e i (simple_no_trait w i simple) (add_of_set w e i vs none).1 in
+    let can = judged-add w e i alone.no_trait (add_of_set w e i vs none).1 in
     let sized = length-take-le c.in-Ok.size c.judge_single.new.buffer (omega (arith, c.in-Ok.ensures.encoded.few, c.judge_single.array_long)) ∙ c.in-Ok.ensures.encoded.sized in
     size_there world is e i can (length bytes) sized
 
@@ -64,11 +63,11 @@ invariant_of-self g c =
     let i = c.args.id in
     let is = state_is c.self.view_is in
     let world = c.self.invariant in
-    let simple = c.requires.simple in
+    let alone = c.requires.alone in
     let vs = c.args.values.now in
     let none = c.in-Ok.ensures.judged in
     let bytes = take c.in-Ok.size c.judge_single.new.buffer in
-    let can = judged-add w e i (simple_no_trait w i simple) (add_of_set w e i vs none).1 in
+    let can = judged-add w e i alone.no_trait (add_of_set w e i vs none).1 in
     let sized = length-take-le c.in-Ok.size c.judge_single.new.buffer (omega (arith, c.in-Ok.ensures.encoded.few, c.judge_single.array_long)) ∙ c.in-Ok.ensures.encoded.sized in
     (failed world is ((i, length bytes) ∷ []) (fits_there world is e i can (length bytes) sized)
     (holdings_of c.put.new.self) c.put.ensures.holdings (on_err c.put.result c.put.ensures.refused (sym c.is_err.ensures.value ∙ c.if-is_err.true)) c.put.ensures.sizes).0
@@ -80,11 +79,11 @@ returns-then-is_err-clause-answers g c =
     let i = c.args.id in
     let is = state_is c.self.view_is in
     let world = c.self.invariant in
-    let simple = c.requires.simple in
+    let alone = c.requires.alone in
     let vs = c.args.values.now in
     let none = c.in-Ok.ensures.judged in
     let bytes = take c.in-Ok.size c.judge_single.new.buffer in
-    let can = judged-add w e i (simple_no_trait w i simple) (add_of_set w e i vs none).1 in
+    let can = judged-add w e i alone.no_trait (add_of_set w e i vs none).1 in
     let sized = length-take-le c.in-Ok.size c.judge_single.new.buffer (omega (arith, c.in-Ok.ensures.encoded.few, c.judge_single.array_long)) ∙ c.in-Ok.ensures.encoded.sized in
     (failed world is ((i, length bytes) ∷ []) (fits_there world is e i can (length bytes) sized)
     (holdings_of c.put.new.self) c.put.ensures.holdings (on_err c.put.result c.put.ensures.refused (sym c.is_err.ensures.value ∙ c.if-is_err.true)) c.put.ensures.sizes).1
@@ -98,10 +97,10 @@ overflow_add-self g c =
     let e = c.args.entity in
     let i = c.args.id in
     let is = state_is c.self.view_is in
-    let simple = c.requires.simple in
+    let alone = c.requires.alone in
     let vs = c.args.values.now in
     let none = c.in-Ok.ensures.judged in
-    let can = judged-add w e i (simple_no_trait w i simple) (add_of_set w e i vs none).1 in
+    let can = judged-add w e i alone.no_trait (add_of_set w e i vs none).1 in
     let spent = rw (← is) at (can.room) in
     omega (arith, not_spent c.self.inside.accepted spent)
 
@@ -111,12 +110,12 @@ invariant_of-self-2 g c =
     let i = c.args.id in
     let is = state_is c.self.view_is in
     let world = c.self.invariant in
-    let simple = c.requires.simple in
+    let alone = c.requires.alone in
     let vs = c.args.values.now in
     let none = c.in-Ok.ensures.judged in
     let bytes = take c.in-Ok.size c.judge_single.new.buffer in
     let sized = length-take-le c.in-Ok.size c.judge_single.new.buffer (omega (arith, c.in-Ok.ensures.encoded.few, c.judge_single.array_long)) ∙ c.in-Ok.ensures.encoded.sized in
-    (set_left world is e i simple vs none (holdings_of c.put.new.self) bytes c.put.ensures.holdings sized
+    (set_left world is e i alone vs none (holdings_of c.put.new.self) bytes c.put.ensures.holdings sized
     (on_ok c.put.result c.put.ensures.put (sym c.is_err.ensures.value ∙ c.if-is_err.false)) c.put.ensures.sizes c.in-Ok.ensures.encoded.value).0
 
 pub returns-clause-answers : goal.returns-clause-answers
@@ -126,19 +125,19 @@ returns-clause-answers g c =
     let i = c.args.id in
     let is = state_is c.self.view_is in
     let world = c.self.invariant in
-    let simple = c.requires.simple in
+    let alone = c.requires.alone in
     let vs = c.args.values.now in
     let none = c.in-Ok.ensures.judged in
     let bytes = take c.in-Ok.size c.judge_single.new.buffer in
     let sized = length-take-le c.in-Ok.size c.judge_single.new.buffer (omega (arith, c.in-Ok.ensures.encoded.few, c.judge_single.array_long)) ∙ c.in-Ok.ensures.encoded.sized in
-    let left = (set_left world is e i simple vs none (holdings_of c.put.new.self) bytes c.put.ensures.holdings sized
+    let left = (set_left world is e i alone vs none (holdings_of c.put.new.self) bytes c.put.ensures.holdings sized
     (on_ok c.put.result c.put.ensures.put (sym c.is_err.ensures.value ∙ c.if-is_err.false)) c.put.ensures.sizes c.in-Ok.ensures.encoded.value).1 in
     let same = found_held world is e i c.in-Some.found.is_held c.in-Some.ensures.held in
     let changed = λ (held : Bool). record no_change { came = if held then [] else (e.index, i) ∷ []; written = (e.index, i) ∷ [] } in
     elim c.if-found.branch [
-      | then-found f ↦ rw f.result-is (told_set w _ f.of_written.result e i (subst IsWellFormed is world.sound) vs simple none left
+      | then-found f ↦ rw f.result-is (told_set w _ f.of_written.result e i (subst IsWellFormed is world.sound) vs alone none left
           (f.of_written.ensures ∙ (λ k. record no_change { written = c.new-key.ensures k ∷ [] }) ∙ ap changed (sym (sym same ∙ f.if-found.true))))
-      | else-found f ↦ rw f.result-is (told_set w _ f.of_came_written.result e i (subst IsWellFormed is world.sound) vs simple none left
+      | else-found f ↦ rw f.result-is (told_set w _ f.of_came_written.result e i (subst IsWellFormed is world.sound) vs alone none left
           (f.of_came_written.ensures ∙ (λ k. record no_change { came = c.new-key.ensures k ∷ []; written = c.new-key.ensures k ∷ [] }) ∙ ap changed (sym (sym same ∙ f.if-found.false))))
     ]
 

@@ -11,7 +11,7 @@ returns-then-is_fixed g c =
     let w = c.args.self.now.state in
     let e = c.args.entity in
     let i = c.args.id in
-    let fixed = built_in_alone w e.index i c.requires.simple ∙ sym c.is_fixed.ensures ∙ c.if-is_fixed.true in
+    let fixed = built_in_alone w e.index i c.requires.alone ∙ sym c.is_fixed.ensures ∙ c.if-is_fixed.true in
     let alive = not_dead w e i c.requires.alive (sym c.mentions_live.ensures ∙ c.if-not-mentions_live.false) in
     add_built_in w e i alive fixed
 
@@ -20,7 +20,7 @@ returns-else-is_fixed g c =
     let w = c.args.self.now.state in
     let e = c.args.entity in
     let i = c.args.id in
-    let own = built_in_alone w e.index i c.requires.simple ∙ sym c.is_fixed.ensures ∙ c.if-is_fixed.false in
+    let own = built_in_alone w e.index i c.requires.alone ∙ sym c.is_fixed.ensures ∙ c.if-is_fixed.false in
     let alive = not_dead w e i c.requires.alive (sym c.mentions_live.ensures ∙ c.if-not-mentions_live.false) in
     add_grown w e i c.growth_refusal.result alive own
-    (c.growth_refusal.ensures ∙ growth_told w e i c.args.found.now c.requires.simple c.keeps.ensures c.requires.alive c.requires.held c.requires.count alive own)
+    (c.growth_refusal.ensures ∙ growth_told w e i c.args.found.now c.requires.alone c.keeps.ensures c.requires.alive c.requires.held c.requires.count alive own)

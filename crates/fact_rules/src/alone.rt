@@ -1,0 +1,80 @@
+//! Whether an added fact comes alone.
+ghost use Rattle.std.specs.Prelude.{◌≡◌, ℕ, List, [], None, false, IsTrue};
+ghost use Rattle.ecs_id.specs.Id.{Id as IdValue, first_of, second_of};
+ghost use Rattle.ecs_model.specs.Added.{brought, displaced};
+ghost use Rattle.ecs_model.specs.Links.{targets_in};
+ghost use Rattle.fact_rules.specs.Simple.{ComesAlone};
+ghost use Rattle.rel_traits.specs.After.{ClosesAt};
+
+use crate::traits::is_trait;
+use ecs_id::Id;
+use ecs_model::FactKey;
+use ecs_model::built_ins::{ACYCLIC, EXCLUSIVE, SYMMETRIC, WITH};
+use rel_travel::{Graph, Holders, may_be_target, target_under};
+
+/// Whether a fact is seen to come alone: it is no trait, brings no other, lets none give way, and closes no cycle.
+///
+/// Of some facts that come alone it isn't seen: of one that the entity holds, and of one whose relationship leads to the entity. It takes
+/// time in the ids of the fact's component or relationship, and in those of its entity where that is exclusive.
+pub fn comes_alone<G: Holders>(graph: &G, fact: FactKey) -> bool
+    ensures { IsTrue result → ComesAlone (G.ids graph.now) fact }
+{
+    let id = fact.id();
+    let traits = graph.ids(id.first());
+    !is_trait(id)
+        && !may_bring(traits, id)
+        && !may_displace(graph, traits, fact)
+        && !may_close(graph, traits, fact)
+}
+
+/// The same of a fact of a plain id, by what its component holds. It needs no search.
+#[inline(always)]
+pub fn plain_comes_alone(traits: &[Id], id: Id) -> bool
+    requires { second_of id ≡ None }
+    ensures { IsTrue result → (ids : ℕ → List IdValue) (e : ℕ) → traits.now ≡ ids (first_of id) → ComesAlone ids (e, id) }
+{
+    !is_trait(id) && !may_bring(traits, id)
+}
+
+/// Whether facts of an id may bring others, where its component or relationship holds these ids.
+fn may_bring(traits: &[Id], id: Id) -> bool
+    ensures { result ≡ false → (ids : ℕ → List IdValue) (e : ℕ) → traits.now ≡ ids (first_of id) → brought ids (e, id) ≡ [] }
+{
+    has_target(traits, WITH) || id.is_pair() && traits.contains(&Id::plain(SYMMETRIC))
+}
+
+/// Whether others may give way to a fact.
+fn may_displace<G: Graph>(graph: &G, traits: &[Id], fact: FactKey) -> bool
+    requires { traits.now ≡ G.ids graph.now (first_of fact.1) }
+    ensures { result ≡ false → displaced (G.ids graph.now) fact ≡ [] }
+{
+    let id = fact.id();
+    id.is_pair()
+        && traits.contains(&Id::plain(EXCLUSIVE))
+        && has_target(graph.ids(fact.entity()), id.first())
+}
+
+/// Whether a fact may close a cycle.
+fn may_close<G: Holders>(graph: &G, traits: &[Id], fact: FactKey) -> bool
+    requires { traits.now ≡ G.ids graph.now (first_of fact.1) }
+    ensures { result ≡ false → ¬ (ClosesAt (G.ids graph.now) fact.0 fact) }
+{
+    let id = fact.id();
+    let Some(target) = id.second() else {
+        return false;
+    };
+    traits.contains(&Id::plain(ACYCLIC))
+        && (target == fact.entity() || may_be_target(graph, id.first(), fact.entity()))
+}
+
+/// Whether one of the ids is a pair of the relationship.
+fn has_target(ids: &[Id], relationship: u32) -> bool
+    ensures { result ≡ false → targets_in ids.now relationship ≡ [] }
+{
+    for id in ids {
+        if target_under(*id, relationship).is_some() {
+            return true;
+        }
+    }
+    false
+}
