@@ -1,6 +1,6 @@
 -- Who is told to have died: the deleted entities with the names that they had.
 use Rattle.std.proofs.Common.{◌≡◌, ℕ, true, List, [], ◌∷◌, Option, Some, None, is_some, refl, sym, ap, ◌∙◌, arith, true≢false}
-use Rattle.std.specs.Prelude.{map, filter_map, not, option_map, unwrap_or}
+use Rattle.std.specs.Prelude.{map, not, option_map, unwrap_or}
 use Rattle.std.specs.List.{Contains, cons_option, list_any}
 use Rattle.std.specs.Cmp.{nat_cmp_total}
 use Rattle.std.specs.Ordering.{nat_cmp}
@@ -9,7 +9,7 @@ use Rattle.ecs_id.specs.declared.EntityId.{EntityId}
 use Rattle.ecs_model.specs.Falls.{falling, falls_by}
 use Rattle.ecs_model.specs.Map.{count_at, has_key, keys, value_at, without}
 use Rattle.ecs_model.specs.Reach.{Reached, itself, onward}
-use Rattle.ecs_model.specs.World.{WorldState, entities, entity_at, ids_of, is_live, name_of}
+use Rattle.ecs_model.specs.World.{WorldState, entities, ids_of, is_live, name_of}
 use Rattle.ecs_model.specs.traits.Changes.{deleted}
 use Rattle.ecs_model.specs.traits.Keeps.{IsWellFormed}
 use Rattle.ecs_model.proofs.Members.{filtered}

@@ -1,5 +1,5 @@
 -- The first reason against a command on facts, and against a deletion, as they are judged one after another.
-use Rattle.std.proofs.Common.{◌≡◌, ℤ, true, false, not, ◌||◌, List, [], ◌∷◌, ◌++◌, Option, Some, None, Err, refl, sym, ap, ◌∙◌}
+use Rattle.std.proofs.Common.{◌≡◌, ℤ, true, false, not, ◌||◌, List, [], ◌∷◌, ◌++◌, Some, None, Err, sym, ap, ◌∙◌}
 use Rattle.ecs_id.specs.declared.EntityId.{EntityId}
 use Rattle.ecs_id.specs.Id.{Id, plain, id_eq}
 use Rattle.ecs_model.specs.declared.faults.CommandError.{CommandError}
@@ -12,7 +12,6 @@ use Rattle.ecs_model.specs.World.{WorldState, component, is_alive, is_built_in, 
 use Rattle.ecs_model.specs.traits.Changes.{deleted}
 use Rattle.ecs_model.specs.traits.Command.{Add, SetValue, Remove, Delete, add_reasons, adds_built_in, delete_reasons, reasons, step}
 use Rattle.ecs_model.specs.traits.Rules.{is_trait}
-use Rattle.ecs_model.proofs.Reasons.{passed}
 use Rattle.ecs_world.specs.Changes.{TellsRefusal}
 use Rattle.ecs_model.proofs.Answering.{answers_refused}
 use Rattle.ecs_world.proofs.Refusing.{none_first, told_first}

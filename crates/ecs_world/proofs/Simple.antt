@@ -1,16 +1,14 @@
 -- Facts with which no others come or go.
-use Rattle.std.specs.Prelude.{fold, flat_map, map}
-use Rattle.std.specs.List.{Contains, cons_option, list_any}
+use Rattle.std.specs.Prelude.{fold, flat_map}
+use Rattle.std.specs.List.{Contains, list_any}
 use Rattle.std.specs.declared.cmp.Ordering.{Ordering}
-use Rattle.std.proofs.Common.{◌≡◌, ℕ, zero, suc, ◌*◌, ◌==◌, Bool, true, false, not, ◌&&◌, ◌||◌, List, [], ◌∷◌, ◌++◌, length, Some, None, if◌then◌else◌, refl, sym, ap, subst, ◌∙◌, arith, true≢false}
+use Rattle.std.proofs.Common.{◌≡◌, ℕ, zero, suc, ◌*◌, Bool, true, false, not, ◌&&◌, ◌||◌, List, [], ◌∷◌, ◌++◌, length, if◌then◌else◌, refl, ap, subst, ◌∙◌, arith, true≢false}
 use Rattle.ecs_id.specs.declared.EntityId.{EntityId}
-use Rattle.ecs_id.specs.Id.{Id, plain, pair, first_of, id_eq, id_eq_same}
+use Rattle.ecs_id.specs.Id.{Id, plain, pair, id_eq}
 use Rattle.ecs_model.specs.declared.faults.Refusal.TheVariants.{TraitFixed, Cycle, TooManyIds, Full}
-use Rattle.ecs_model.specs.Added.{IsAdded, brought, displaced, is_symmetric, is_used, mirror, others_of, with_first}
-use Rattle.ecs_model.specs.BuiltIns.{acyclic, exclusive, symmetric, with_trait}
+use Rattle.ecs_model.specs.Added.{IsAdded, brought, displaced, is_symmetric, is_used, mirror}
 use Rattle.ecs_model.specs.Changes.{with_new}
 use Rattle.ecs_model.specs.Command.{is_crowded, is_dead, is_spent, with_facts}
-use Rattle.ecs_model.specs.Links.{is_held, targets_in}
 use Rattle.ecs_model.specs.Map.{Map, keys, without}
 use Rattle.ecs_model.specs.Reach.{Reached, itself, onward}
 use Rattle.ecs_model.specs.Refusal.{first_reason}
@@ -20,8 +18,7 @@ use Rattle.ecs_model.specs.traits.Changes.{added, facts_after_add, facts_after_r
 use Rattle.ecs_model.specs.traits.Command.{add_reasons, adds_built_in, changes_trait, has_cycle, is_pinned}
 use Rattle.ecs_model.specs.traits.Keeps.{IsWellFormed}
 use Rattle.ecs_model.specs.traits.Rules.{is_trait}
-use Rattle.ecs_model.proofs.Members.{both, eq_same}
-use Rattle.ecs_model.proofs.Reasons.{neither, refused}
+use Rattle.ecs_model.proofs.Reasons.{refused}
 use Rattle.ecs_model.proofs.traits.Cycles.{added_pairs_close}
 use Rattle.ecs_model.proofs.traits.Kept.{refuted}
 use Rattle.fact_rules.specs.Additions.{is_of_built_in}

@@ -13,7 +13,7 @@ use Rattle.ecs_model.specs.Refusal.{first_reason}
 use Rattle.ecs_model.specs.World.{WorldState, Key, component, holds, ids_of, key_cmp, key_eq}
 use Rattle.ecs_model.specs.traits.Changes.{added, removed}
 use Rattle.ecs_model.specs.Command.{Changed, AnswersStep, counted, differences, next_entity}
-use Rattle.ecs_model.specs.traits.Command.{Command, Fresh, Entity, Component, Add, SetValue, Remove, reasons, effect, step, written_by}
+use Rattle.ecs_model.specs.traits.Command.{Fresh, Entity, Component, Add, SetValue, Remove, reasons, effect, step, written_by}
 use Rattle.ecs_model.proofs.Answering.{answers_accepted}
 use Rattle.ecs_model.proofs.Differences.{differences_of_birth, differences_of_named_birth, differences_of_component}
 use Rattle.ecs_model.proofs.Maps.{absent_below, both_true, key_cmp_same, key_cmp_total}

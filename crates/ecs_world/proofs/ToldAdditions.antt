@@ -1,5 +1,5 @@
 -- What an accepted `add` or `set` tells is what has changed, and what `set` writes.
-use Rattle.std.proofs.Common.{◌≡◌, ℕ, ◌≤◌, true, List, [], ◌∷◌, take, length, ℤ, None, Ok, refl, sym, ap, subst, ◌∙◌, inl}
+use Rattle.std.proofs.Common.{◌≡◌, ℕ, true, List, [], ◌∷◌, ℤ, None, Ok, sym, ap, subst, ◌∙◌, inl}
 use Rattle.ecs_id.specs.declared.EntityId.{EntityId}
 use Rattle.ecs_id.specs.Id.{Id}
 use Rattle.ecs_model.specs.Command.{AnswersStep, Changed, counted, with_facts}
@@ -15,7 +15,7 @@ use Rattle.ecs_model.proofs.traits.AfterAdd.{differences_of_add, differences_of_
 use Rattle.ecs_model.proofs.traits.KeptByAdd.{types_kept}
 use Rattle.fact_rules.specs.Additions.{TellsAddition}
 use Rattle.ecs_world.specs.Changes.{with_bytes}
-use Rattle.ecs_world.specs.State.{byte_count, no_change, value_in}
+use Rattle.ecs_world.specs.State.{no_change, value_in}
 use Rattle.ecs_model.proofs.Answering.{answers_accepted}
 use Rattle.ecs_world.proofs.Changed.{before_count}
 use Rattle.ecs_world.proofs.Counting.{types_counted}

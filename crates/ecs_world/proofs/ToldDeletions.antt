@@ -1,5 +1,5 @@
 -- What an accepted deletion tells is what has changed.
-use Rattle.std.proofs.Common.{◌≡◌, true, List, [], None, Ok, is_some, refl, sym, ap, ◌∙◌}
+use Rattle.std.proofs.Common.{◌≡◌, true, None, Ok, is_some, refl, sym, ap, ◌∙◌}
 use Rattle.std.specs.Prelude.{filter}
 use Rattle.std.specs.Ordering.{nat_cmp}
 use Rattle.ecs_id.specs.declared.EntityId.{EntityId}

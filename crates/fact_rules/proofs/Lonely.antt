@@ -1,12 +1,12 @@
 -- Which facts come alone.
-use Rattle.std.proofs.Common.{◌≡◌, ◌⊎◌, ℕ, ◌+◌, ◌<◌, ◌==◌, Bool, true, false, cond, not, List, [], ◌∷◌, ◌++◌, length, take, get_or, Option, Some, None, is_some, if◌then◌else◌, refl, sym, ap, ◌∙◌, inl, inr, true≢false}
+use Rattle.std.proofs.Common.{◌≡◌, ◌⊎◌, ℕ, ◌+◌, ◌<◌, ◌==◌, Bool, true, false, not, List, [], ◌∷◌, ◌++◌, length, take, get_or, Option, Some, None, is_some, if◌then◌else◌, refl, sym, ap, ◌∙◌, inl, inr, true≢false}
 use Rattle.std.specs.Prelude.{map}
 use Rattle.std.specs.List.{Contains, cons_option, filter, flat_map}
 use Rattle.std.proofs.lemmas.List.{take_more}
 use Rattle.std.proofs.lemmas.List.Elements.{filter_map-append}
 use Rattle.std.proofs.lemmas.Option.{same_Some}
 use Rattle.ecs_id.specs.Id.{Id, IsPair, plain, pair, first_of, second_of}
-use Rattle.ecs_model.specs.Added.{brought, displaced, is_exclusive, is_symmetric, mirror, others_of, with_first}
+use Rattle.ecs_model.specs.Added.{brought, displaced, is_exclusive, is_symmetric, mirror, with_first}
 use Rattle.ecs_model.specs.BuiltIns.{acyclic, with_trait}
 use Rattle.ecs_model.specs.Links.{is_held, target_under, targets_in, upward}
 use Rattle.ecs_model.specs.Reach.{Reached, itself, onward}

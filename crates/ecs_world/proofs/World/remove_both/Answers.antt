@@ -1,4 +1,4 @@
-use Rattle.std.proofs.Common.{refl, sym, ap, subst, ◌∙◌, arith}
+use Rattle.std.proofs.Common.{refl, sym, subst, ◌∙◌, arith}
 use Rattle.ecs_model.specs.declared.faults.Refusal.TheVariants.{Dead}
 use Rattle.ecs_model.specs.traits.Command.{Remove}
 use Rattle.ecs_model.specs.traits.Keeps.{IsWellFormed}

@@ -1,4 +1,4 @@
-use Rattle.std.proofs.Common.{◌≡◌, ◌∙◌, ℕ, Some, rules, sym, ap, subst}
+use Rattle.std.proofs.Common.{◌≡◌, ◌∙◌, ℕ, Some, rules, ap, subst}
 use Rattle.std.specs.List.{Contains}
 use Rattle.ecs_id.specs.Id.{first_of, second_of}
 use Rattle.ecs_model.specs.Links.{upward}

@@ -1,4 +1,4 @@
-use Rattle.std.proofs.Common.{◌≡◌, ◌∙◌, sym, ap, subst, true≢false}
+use Rattle.std.proofs.Common.{◌≡◌, ◌∙◌, sym, subst, true≢false}
 use Rattle.ecs_id.specs.Id.{IsPair, first_of}
 use Rattle.ecs_model.specs.Added.{is_exclusive}
 use Rattle.fact_rules.proofs.Lonely.{keeps_others, unpaired_displaces}
