@@ -231,6 +231,28 @@ def unconcerned_monitors_cost_nothing(program, room):
     return time.monotonic() - begun < 1 and answers(ran, 0) and told == [("enter", ["E1"]), ("leave", ["E3"]), ("leave", ["E0"])]
 
 
+def kept_queries_are_right_in_worlds_that_grow(program, room):
+    """Kept queries are planned anew as the world grows: each time they print what the same query prints."""
+    kept = {"d": "(ChildOf,$p), Tag, Hot($p)", "f": "(Likes,$x), Hot($x), Tag", "g": "Hot($x), Tag, !(ChildOf,$x)"}
+    lines = [f"entity {name}" for name in ("Tag", "Hot", "Cold", "Likes")] + [f"keep {name} {text}" for name, text in kept.items()]
+    for step in range(300):
+        lines += [f"entity P{step}", f"entity C{step}", f"add C{step} (ChildOf,P{step})"]
+        lines += [f"add C{step} Tag"] * (step % 3 > 0) + [f"add C{step} Cold"] * (step % 2)
+        lines += [f"add P{step // 2} Hot", f"add C{step} (Likes,P{step // 3})"] * (step % 7 == 0) + [f"remove P{step // 3} Hot"] * (step % 11 == 5)
+        if step % 10 == 0:
+            lines += [line for name, text in kept.items() for line in (f"rows {name}", f"query {text}")]
+    ran = run_words(program, [], "\n".join(lines).encode())
+    answered = ran.stdout.decode().replace("\n", "\n\0").split("\0")
+    blocks, block = [], []
+    for line in answered[:-1]:
+        block.append(line)
+        if line.startswith("rows "):
+            blocks.append(block)
+            block = []
+    pairs = list(zip(blocks[::2], blocks[1::2]))
+    return answers(ran, 0) and len(pairs) == 90 and all(one == other for one, other in pairs) and sum(len(one) > 1 for one, _ in pairs) > 50
+
+
 CASES = [
     reads_standard_input,
     reads_a_file,
@@ -256,6 +278,7 @@ CASES = [
     local_monitors_are_told_as_whole_rows_tell,
     other_monitors_are_told_as_whole_rows_tell,
     unconcerned_monitors_cost_nothing,
+    kept_queries_are_right_in_worlds_that_grow,
 ]
 
 
