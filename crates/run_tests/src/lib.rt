@@ -6,6 +6,4 @@ mod orders;
 #[cfg(test)]
 mod pulls;
 #[cfg(test)]
-mod whole_rows;
-#[cfg(test)]
 mod worked;

@@ -7,7 +7,7 @@ use crate::worked::{ROWS, WorkedRow, make_world, solutions_in};
 use ecs_id::{EntityId, Id};
 use ecs_model::faults::CommandError;
 use ecs_world::World;
-use plan_exec::{Facts, Frames, Run};
+use plan_exec::{Facts, Frames, Row, Run};
 use query_check::Query;
 use refusing_alloc::Refusing;
 use std::alloc::{AllocError, Allocator, Global};
@@ -28,13 +28,15 @@ const U: u32 = 65;
 /// The first entity without a name.
 const FIRST: u32 = 66;
 
-/// How a run went: how many rows came, how many came behind its end, whether these calls left the row, and how many items were judged.
+/// How a run went: how many rows came, how many came behind its end, whether these calls left the row, how many items were judged, and whether
+/// a row apart has room for as many entities.
 #[derive(Clone, Copy)]
 struct Went {
     rows: usize,
     more: usize,
     left: bool,
     probes: u64,
+    wide: bool,
 }
 
 /// The entity that first stands at an index.
@@ -77,6 +79,7 @@ fn run_query(
     let facts = WorldFacts::new(world);
     let frames = Frames::of(room, plan.query(), plan.steps(), facts.size())?;
     let mut row = vec![in alloc; 0; frames.width()]?;
+    let wide = Row::new(alloc, plan.query())?.entities().len() == row.len();
     room.refuse_after(0);
     let mut run = Run::start(frames, &facts);
     let rows = pull(&mut run, row.as_mut_slice(), most);
@@ -93,6 +96,7 @@ fn run_query(
         more,
         left,
         probes,
+        wide,
     })
 }
 
@@ -115,7 +119,7 @@ fn expect_rows(
 {
     for most in 0..rows + 2 {
         let went = run_text(alloc, world, text, most)?;
-        assert!(rt; went.rows == most.min(rows) && went.more == 0 && went.left);
+        assert!(rt; went.rows == most.min(rows) && went.more == 0 && went.left && went.wide);
     }
     Ok(())
 }
