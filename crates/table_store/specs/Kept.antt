@@ -5,7 +5,6 @@ use Rattle.std.specs.List.Sorted.{IsStrictlySortedBy}
 use Rattle.std.specs.Ordering.{nat_cmp}
 use Rattle.std.specs.declared.vec.Vec.{Vec}
 use Rattle.std.specs.declared.boxed.Box.{Box}
-use Rattle.std.specs.BTreeMap as ordered
 use Rattle.std.specs.Cmp.Lexicographic.{pointwise}
 use Rattle.indexmap.specs.IndexMap as hashed
 use Rattle.indexmap.specs.IndexMap.{IndexMap}
@@ -49,8 +48,13 @@ abbrev pub edge_or : Option (Id × TableKey) → Id → Option TableKey → Opti
 edge_or None i other = other
 edge_or (Some e) i other = cond (id_eq e.0 i) (Some e.1) other
 
+-- where another edge leads, if there are others
+abbrev pub other_of : {Y : Type 0} → Option (Box (IndexMap Id TableKey Hashing) Y) → Id → Option TableKey
+other_of None i = None
+other_of (Some others) i = hashed.get id_eq others.value i
+
 abbrev pub edge_of : {Y : Type 0} → Edges Y → Id → Option TableKey
-edge_of edges i = edge_or edges.first i (ordered.get id_cmp edges.others i)
+edge_of edges i = edge_or edges.first i (other_of edges.others i)
 
 abbrev pub HasNoEdge : {Y : Type 0} → Edges Y → Type 0
 HasNoEdge edges = (i : Id) → edge_of edges i ≡ None

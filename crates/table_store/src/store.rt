@@ -56,6 +56,7 @@ pub struct TableStore<A: Allocator = Global> {
     by_serial: BySerial<A>,
     // the greatest serial that was given
     last: u128,
+    hashing: Hashing,
     alloc: A,
 }
 
@@ -77,11 +78,13 @@ impl<A: Allocator + Copy> TableStore<A> {
         ensures unused { result.last ≡ 0 }
         ensures whole { IsStored result }
     {
+        let hashing = Hashing::new(random);
         TableStore {
             tables: Slab::new(alloc),
-            by_ids: IndexMap::with_hasher(alloc, Hashing::new(random)),
+            by_ids: IndexMap::with_hasher(alloc, hashing),
             by_serial: Vec::new(alloc),
             last: 0,
+            hashing,
             alloc,
         }
     }
@@ -237,7 +240,15 @@ impl<A: Allocator + Copy> TableStore<A> {
         requires leads { (f : Shape) → shape_at self.old key ≡ Some f → shape_at self.old to ≡ Some (stepped f id added) }
         ensures { self.new ≡ self.old }
     {
-        write_edge(&mut self.tables[key.slot as usize], id, added, to);
+        let (alloc, hashing) = (self.alloc, self.hashing);
+        write_edge(
+            alloc,
+            hashing,
+            &mut self.tables[key.slot as usize],
+            id,
+            added,
+            to,
+        );
     }
 
     /// Makes room for `additional` more rows in a table. After an error the store is as it was.
@@ -336,8 +347,8 @@ fn new_slot<A: Allocator + Copy>(
         serial,
         table,
         sizes,
-        more: Edges::new(alloc),
-        less: Edges::new(alloc),
+        more: Edges::new(),
+        less: Edges::new(),
     };
     match Box::new(alloc, slot) {
         Ok(slot) => Ok(slot),
@@ -412,14 +423,21 @@ fn followed<A: Allocator>(
 }
 
 // Writes an edge, if there is memory for it.
-fn write_edge<A: Allocator + Copy>(slot: &mut Slot<A>, id: Id, added: Option<usize>, to: TableKey)
+fn write_edge<A: Allocator + Copy>(
+    alloc: A,
+    hashing: Hashing,
+    slot: &mut Slot<A>,
+    id: Id,
+    added: Option<usize>,
+    to: TableKey,
+)
     ensures slot { slot.new ≡ record slot.old { more = slot.new.more; less = slot.new.less } }
     ensures more { (slot.new.more ≡ slot.old.more) ⊎ (IsSome added × IsWritten id to slot.old.more slot.new.more) }
     ensures less { (slot.new.less ≡ slot.old.less) ⊎ (IsNone added × IsWritten id to slot.old.less slot.new.less) }
 {
     match added {
-        Some(_) => slot.more.keep(id, to),
-        None => slot.less.keep(id, to),
+        Some(_) => slot.more.keep(alloc, hashing, id, to),
+        None => slot.less.keep(alloc, hashing, id, to),
     }
 }
 
