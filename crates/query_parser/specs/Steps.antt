@@ -51,7 +51,7 @@ module _ (d : Draft) where
   seen_part_of Nothing = []
   seen_part_of Term = syntax.term d.role (seen_term d.term) ∷ []
   seen_part_of (Equality same) = syntax.equality first_of same (seen_reference d.last) ∷ []
-  seen_part_of (Opening s) = syntax.opened s ∷ []
+  seen_part_of Opening = syntax.opened (d.term).span ∷ []
 
   -- and the end of a group, where the step closes one
   abbrev pub completed : Completed → Nesting → List syntax.Part
@@ -64,7 +64,7 @@ module _ (d : Draft) where
   put_first Nothing o = o
   put_first Term o = machine.emit (syntax.term d.role (seen_term d.term)) o
   put_first (Equality same) o = machine.emit (syntax.equality first_of same (seen_reference d.last)) o
-  put_first (Opening s) o = machine.emit (syntax.opened s) o
+  put_first Opening o = machine.emit (syntax.opened (d.term).span) o
 
 -- the groups that are open behind a step
 abbrev pub nested : ℕ → Nesting → ℕ

@@ -3,14 +3,15 @@
 
 mod machine;
 
-ghost use Rattle.std.specs.Prelude.{◌≡◌, ◌+◌, ◌<◌, ◌^◌, ◌++◌, map, IfOk};
+ghost use Rattle.std.specs.Prelude.{◌≡◌, ◌+◌, ◌<◌, ◌^◌, [], ◌∷◌, ◌++◌, map, IfOk};
 ghost use Rattle.query_model.specs.Grammar.{IsQuery, IsSyntaxFault};
 ghost use Rattle.query_model.specs.Laws.{EndsInEnd};
 ghost use Rattle.query_model.specs.Machine.{parts_of};
 ghost use Rattle.query_lexer.specs.Lexed.{Answers, AnswersBy};
 ghost use Rattle.query_lexer.specs.Token.{seen, text_length};
 ghost use Rattle.query_model.specs.Seen.{seen_part};
-ghost use Rattle.query_parser.specs.Steps.{completed, nested};
+ghost use Rattle.query_model.specs.Syntax.{closed};
+ghost use Rattle.query_parser.specs.Steps.{completed, nested, seen_part_of};
 
 use crate::machine::{Completed, Draft, Move, Nesting, State, blank, step};
 use query_lexer::Token;
@@ -75,15 +76,61 @@ fn complete<'a, A: Allocator + Copy>(
 {
     match go.part {
         Completed::Nothing => {}
-        Completed::Term => parts.push(Part::Term(draft.role, draft.term))?,
-        Completed::Equality(same) => {
-            parts.push(Part::Equality(draft.term.first, same, draft.last))?;
-        }
-        Completed::Opening(span) => parts.push(Part::Opened(span))?,
+        Completed::Term => put_term(parts, draft)?,
+        Completed::Equality(same) => put_equality(parts, draft, same)?,
+        Completed::Opening => put_opening(parts, draft)?,
     }
     if let Nesting::Closes = go.nesting {
-        parts.push(Part::Closed)?;
+        put_closing(parts)?;
     }
+    Ok(())
+}
+
+// (a part is large: each kind is made in a function of its own, where there is room already, so a step makes none of the others)
+
+/// Puts the term that was read behind the parts before it.
+fn put_term<'a, A: Allocator + Copy>(
+    parts: &mut Vec<Part<'a>, A>,
+    draft: &Draft<'a>,
+) -> Result<(), AllocError>
+    ensures { IfOk result (λ _. map seen_part parts.new.items ≡ map seen_part parts.old.items ++ seen_part_of draft.now Completed.Term) }
+{
+    parts.reserve(1)?;
+    parts.push_reserved(Part::Term(draft.role, draft.term));
+    Ok(())
+}
+
+/// Puts the equality that was read behind the parts before it.
+fn put_equality<'a, A: Allocator + Copy>(
+    parts: &mut Vec<Part<'a>, A>,
+    draft: &Draft<'a>,
+    same: bool,
+) -> Result<(), AllocError>
+    ensures { IfOk result (λ _. map seen_part parts.new.items ≡ map seen_part parts.old.items ++ seen_part_of draft.now (Completed.Equality same)) }
+{
+    parts.reserve(1)?;
+    parts.push_reserved(Part::Equality(draft.term.first, same, draft.last));
+    Ok(())
+}
+
+/// Puts the begin of a group behind the parts before it.
+fn put_opening<'a, A: Allocator + Copy>(
+    parts: &mut Vec<Part<'a>, A>,
+    draft: &Draft<'a>,
+) -> Result<(), AllocError>
+    ensures { IfOk result (λ _. map seen_part parts.new.items ≡ map seen_part parts.old.items ++ seen_part_of draft.now Completed.Opening) }
+{
+    parts.reserve(1)?;
+    parts.push_reserved(Part::Opened(draft.term.span));
+    Ok(())
+}
+
+/// Puts the end of a group behind the parts before it.
+fn put_closing<A: Allocator + Copy>(parts: &mut Vec<Part<'_>, A>) -> Result<(), AllocError>
+    ensures { IfOk result (λ _. map seen_part parts.new.items ≡ map seen_part parts.old.items ++ closed ∷ []) }
+{
+    parts.reserve(1)?;
+    parts.push_reserved(Part::Closed);
     Ok(())
 }
 

@@ -74,8 +74,8 @@ pub enum Completed {
     Term,
     /// The equality that was read, and whether its sign is `==`.
     Equality(bool),
-    /// The `{` of a group.
-    Opening(Span),
+    /// The `{` of a group, whose span the term has.
+    Opening,
 }
 
 /// A step: the state behind it, the part that was completed, and whether a group was opened or closed.
@@ -532,11 +532,14 @@ fn term_step<'a>(depth: usize, role: Role, draft: &mut Draft<'a>, token: &Token<
             _ => plain_term_step(depth, role, draft, token),
         },
         Role::Not => match token.kind {
-            TokenKind::Mark(Mark::OpenBrace) => Some(Move {
-                state: State::TermNext(Role::And),
-                part: Completed::Opening(token.span),
-                nesting: Nesting::Opens,
-            }),
+            TokenKind::Mark(Mark::OpenBrace) => {
+                draft.term.span = token.span;
+                Some(Move {
+                    state: State::TermNext(Role::And),
+                    part: Completed::Opening,
+                    nesting: Nesting::Opens,
+                })
+            }
             _ => plain_term_step(depth, role, draft, token),
         },
         Role::Or | Role::Optional => plain_term_step(depth, role, draft, token),
