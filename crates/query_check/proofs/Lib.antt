@@ -4,6 +4,7 @@ pub mod Referring
 pub mod Walking
 pub mod Judging
 pub mod Naming
+pub mod Counting
 pub mod Rooting
 pub mod Binding
 pub mod Numbering

@@ -78,7 +78,7 @@ fn least_fault<A: Allocator + Copy, W: Lookup>(
 {
     let by_uses = of_uses(world, uses, None);
     let by_depth = of_depth(parts, places, by_uses);
-    let by_terms = of_terms(alloc, parts, by_depth)?;
+    let by_terms = of_terms(parts, by_depth);
     let by_names = of_names(alloc, found, by_terms)?;
     Ok(of_unbound(parts, places, found, by_names))
 }

@@ -159,45 +159,49 @@ fn too_deep(part: &Part<'_>, depth: usize) -> Option<Fault>
 }
 
 /// The least fault of a query with too many terms.
-pub(crate) fn of_terms<A: Allocator + Copy>(
-    alloc: A,
-    parts: &[Part<'_>],
-    found: Option<Fault>,
-) -> Result<Option<Fault>, AllocError>
-    ensures { IfOk result (λ least. least ≡ least_from found (map (fault_at FaultKind.TooManyTerms) (item_at most_terms (flat_map counted_spans (map seen_part parts.now))))) }
+pub(crate) fn of_terms(parts: &[Part<'_>], found: Option<Fault>) -> Option<Fault>
+    ensures { result ≡ least_from found (map (fault_at FaultKind.TooManyTerms) (item_at most_terms (flat_map counted_spans (map seen_part parts.now)))) }
 {
-    let mut spans = Vec::new(alloc);
+    match one_too_many(parts) {
+        Some(span) => {
+            let fault = Fault {
+                kind: FaultKind::TooManyTerms,
+                span,
+            };
+            with_fault(found, Some(fault))
+        }
+        None => found,
+    }
+}
+
+/// The span of the first term or equality that is one too many.
+fn one_too_many(parts: &[Part<'_>]) -> Option<Span>
+    ensures { option_to_list result ≡ item_at most_terms (flat_map counted_spans (map seen_part parts.now)) }
+{
+    let mut left = MOST_TERMS;
     for part in parts {
-        add_spans(&mut spans, part)?;
+        if let Some(span) = counted_span(part) {
+            if left == 0 {
+                return Some(span);
+            }
+            left -= 1;
+        }
     }
-    Ok(with_fault(found, one_too_many(spans.as_slice())))
+    None
 }
 
-fn one_too_many(spans: &[Span]) -> Option<Fault>
-    ensures { option_to_list result ≡ map (fault_at FaultKind.TooManyTerms) (item_at most_terms spans.now) }
-{
-    if spans.len() <= MOST_TERMS {
-        return None;
-    }
-    Some(Fault {
-        kind: FaultKind::TooManyTerms,
-        span: spans[MOST_TERMS],
-    })
-}
-
-/// Adds the span of a term or of an equality.
-fn add_spans<A: Allocator>(spans: &mut Vec<Span, A>, part: &Part<'_>) -> Result<(), AllocError>
-    ensures { IfOk result (λ _. spans.new.items ≡ spans.old.items ++ counted_spans (seen_part part.now)) }
+/// The span of a part that counts as a term.
+fn counted_span(part: &Part<'_>) -> Option<Span>
+    ensures { option_to_list result ≡ counted_spans (seen_part part.now) }
 {
     match part {
-        Part::Term(_, term) => spans.push(term.span)?,
-        Part::Opened(_) | Part::Closed => {}
-        Part::Equality(left, _, right) => spans.push(Span {
+        Part::Term(_, term) => Some(term.span),
+        Part::Opened(_) | Part::Closed => None,
+        Part::Equality(left, _, right) => Some(Span {
             start: left.span.start,
             end: right.span.end,
-        })?,
+        }),
     }
-    Ok(())
 }
 
 /// The least fault of a query with too many names of variables.
@@ -208,6 +212,9 @@ pub(crate) fn of_names<A: Allocator + Copy>(
 ) -> Result<Option<Fault>, AllocError>
     ensures { IfOk result (λ least. least ≡ least_from found (map (λ s. fault_at FaultKind.TooManyVariables s.span) (item_at most_names (new_names (this ∷ []) (map seen_occurrence occurrences.now))))) }
 {
+    if occurrences.len() <= MOST_NAMES {
+        return Ok(found);
+    }
     let fault = one_name_too_many(alloc, occurrences)?.map(|o| Fault {
         kind: FaultKind::TooManyVariables,
         span: o.span,

@@ -31,7 +31,7 @@ pub(crate) fn places_of_entries<A: Allocator + Copy>(
 ) -> Result<Vec<Numbered, A>, AllocError>
     ensures { IfOk result (λ all. map (entry_at (map seen_piece pieces.now)) all.items ≡ entries_from 0 [] (map seen_piece pieces.now)) }
 {
-    let mut all = Vec::new(alloc);
+    let mut all = Vec::with_capacity(alloc, pieces.len())?;
     let mut level = 0;
     for (i, piece) in pieces.iter().enumerate() {
         match piece {

@@ -27,7 +27,7 @@ pub(crate) fn places<A: Allocator + Copy>(
     ensures length { IfOk result (λ places. length places.items ≡ length parts.now) }
     ensures tree { IfOk result (λ places. IsTree places.items) }
 {
-    let mut places = Vec::new(alloc);
+    let mut places = Vec::with_capacity(alloc, parts.len())?;
     let mut around = Place {
         level: 0,
         outer: 0,

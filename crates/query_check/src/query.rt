@@ -1,6 +1,6 @@
 //! The checked query, and how it is built from a syntax without faults.
 
-ghost use Rattle.std.specs.Prelude.{◌≡◌, ◌<◌, ◌≤◌, ◌==◌, ◌++◌, [], flat_map, fold, length, map, option_map, option_to_list, slice_get, IfOk, MatchOption, Some, Ok, Err};
+ghost use Rattle.std.specs.Prelude.{◌≡◌, ◌<◌, ◌≤◌, ◌==◌, ◌++◌, [], ◌∷◌, ◌↔◌, IsTrue, flat_map, fold, length, map, option_map, option_to_list, slice_get, IfOk, MatchOption, Some, Ok, Err};
 ghost use Rattle.std.specs.List.{list_all, list_any};
 ghost use Rattle.query_check.specs.Found.{AreFound, IsFound, follows_ref};
 ghost use Rattle.query_check.specs.Places.{IsRooted, IsTree, places_of};
@@ -11,6 +11,8 @@ ghost use Rattle.query_model.specs.Faults.{fault_at};
 ghost use Rattle.query_model.specs.Local.{is_local, is_simple};
 ghost use Rattle.query_model.specs.Observers.{monitored, observed, whole};
 ghost use Rattle.query_model.specs.Scope.{sightings};
+ghost use Rattle.query_model.specs.Numbers.{numbers_from};
+ghost use Rattle.query_model.specs.Query as specs;
 ghost use Rattle.query_model.specs.Seen.{seen_flags, seen_part, seen_reference, seen_term};
 
 use crate::copies::{copy_of_names, copy_of_pieces};
@@ -294,7 +296,7 @@ fn visible_names<A: Allocator + Copy>(
 ) -> Result<Vec<Vec<u8, A>, A>, AllocError>
     ensures { IfOk result (λ names. map (λ n. n.items) names.items ≡ visible_names (map seen_variable numbered.now)) }
 {
-    let mut names = Vec::new(alloc);
+    let mut names = Vec::with_capacity(alloc, numbered.len())?;
     for variable in numbered {
         if variable.level == 0 {
             names.push(copy_of(alloc, variable.name)?)?;
@@ -306,9 +308,7 @@ fn visible_names<A: Allocator + Copy>(
 fn copy_of<A: Allocator>(alloc: A, bytes: &[u8]) -> Result<Vec<u8, A>, AllocError>
     ensures { IfOk result (λ copy. copy.items ≡ bytes.now) }
 {
-    let mut copy = Vec::new(alloc);
-    copy.extend_from_slice(bytes)?;
-    Ok(copy)
+    Vec::from_slice(alloc, bytes)
 }
 
 /// The entities that references name, each once, with the traits on which the check relies.
@@ -320,7 +320,7 @@ fn mentions<A: Allocator, W: Lookup>(
     requires { AreFound (W.known world.now) uses.now }
     ensures { IfOk result (λ mentions. mentions.items ≡ fold (add_mention (W.known world.now)) [] (flat_map (λ u. mentioned_by (W.known world.now) u.1) (map seen_use uses.now))) }
 {
-    let mut mentions = Vec::new(alloc);
+    let mut mentions = Vec::with_capacity(alloc, uses.len())?;
     for used in uses {
         add_named(world, used, &mut mentions)?;
     }
@@ -424,54 +424,97 @@ fn add_pieces<A: Allocator + Copy, W: Lookup>(
 {
     match part {
         Part::Term(Role::And, term) => {
-            let item = chain(alloc, world, scope, level, term, behind)?;
-            pieces.push(Piece::Item(item))?;
+            add_chain(alloc, world, scope, level, term, behind, pieces)
         }
-        Part::Term(Role::Or, _) => {}
+        Part::Term(Role::Or, _) => Ok(()),
         Part::Term(Role::Optional, term) => {
-            pieces.push(Piece::Item(Item::Optional(term_of(world, scope, level, term))))?;
+            let term = term_of(world, scope, level, term);
+            add_item(Item::Optional(term), pieces)
         }
         Part::Term(Role::Not, term) => {
-            let own = own_numbers(alloc, scope.numbered, level)?;
-            pieces.push(Piece::Opening(true, own))?;
-            pieces.push(Piece::Item(Item::And(term_of(world, scope, level, term))))?;
-            pieces.push(Piece::Closing)?;
+            add_opening(alloc, scope, level, true, pieces)?;
+            let term = term_of(world, scope, level, term);
+            add_item(Item::And(term), pieces)?;
+            add_closing(pieces)
         }
-        Part::Opened(_) => {
-            let own = own_numbers(alloc, scope.numbered, level)?;
-            pieces.push(Piece::Opening(false, own))?;
-        }
-        Part::Closed => pieces.push(Piece::Closing)?,
+        Part::Opened(_) => add_opening(alloc, scope, level, false, pieces),
+        Part::Closed => add_closing(pieces),
         Part::Equality(left, same, right) => {
-            pieces.push(Piece::Item(equality(world, scope, level, left, *same, right)))?;
+            add_item(equality(world, scope, level, left, *same, right), pieces)
         }
     }
+}
+
+// (a piece is large: each kind is made in a function of its own, so a part makes none of the others)
+
+/// Adds an item.
+fn add_item<A: Allocator>(item: Item<A>, pieces: &mut Vec<Piece<A>, A>) -> Result<(), AllocError>
+    ensures { IfOk result (λ _. map seen_piece pieces.new.items ≡ map seen_piece pieces.old.items ++ specs.item (seen_item item) ∷ []) }
+{
+    pieces.reserve(1)?;
+    pieces.push_reserved(Piece::Item(item));
     Ok(())
 }
 
-/// The item of a term behind which others stand: a term that must match, or alternatives.
-fn chain<A: Allocator, W: Lookup>(
+/// Adds the begin of a group, with the numbers of its own variables.
+fn add_opening<A: Allocator + Copy>(
+    alloc: A,
+    scope: &Scope<'_, '_>,
+    level: usize,
+    from_term: bool,
+    pieces: &mut Vec<Piece<A>, A>,
+) -> Result<(), AllocError>
+    ensures { IfOk result (λ _. map seen_piece pieces.new.items ≡ map seen_piece pieces.old.items ++ specs.opening from_term (numbers_from 0 level (map seen_variable scope.now.numbered.now)) ∷ []) }
+{
+    pieces.reserve(1)?;
+    let own = own_numbers(alloc, scope.numbered, level)?;
+    pieces.push_reserved(Piece::Opening(from_term, own));
+    Ok(())
+}
+
+/// Adds the end of a group.
+fn add_closing<A: Allocator>(pieces: &mut Vec<Piece<A>, A>) -> Result<(), AllocError>
+    ensures { IfOk result (λ _. map seen_piece pieces.new.items ≡ map seen_piece pieces.old.items ++ specs.closing ∷ []) }
+{
+    pieces.reserve(1)?;
+    pieces.push_reserved(Piece::Closing);
+    Ok(())
+}
+
+/// Adds the item of a term behind which others stand: a term that must match, or alternatives.
+fn add_chain<A: Allocator, W: Lookup>(
     alloc: A,
     world: &W,
     scope: &Scope<'_, '_>,
     level: usize,
     term: &TermSyntax<'_>,
     behind: &[Part<'_>],
-) -> Result<Item<A>, AllocError>
+    pieces: &mut Vec<Piece<A>, A>,
+) -> Result<(), AllocError>
     requires tree { IsTree scope.now.places.now }
     requires within { level ≤ length scope.now.places.now }
-    ensures { IfOk result (λ item. (path : Path) → level ≡ level_of path → IsRooted scope.now.places.now path
+    ensures { IfOk result (λ _. (path : Path) → level ≡ level_of path → IsRooted scope.now.places.now path
         → let term_at = checked_term (W.known world.now) (map seen_occurrence scope.now.found.now) (map seen_variable scope.now.numbered.now) path in
-        seen_item item ≡ chain_of (term_at (seen_term term.now)) (map term_at (alternatives (map seen_part behind.now)))) }
+        map seen_piece pieces.new.items ≡ map seen_piece pieces.old.items ++ specs.item (chain_of (term_at (seen_term term.now)) (map term_at (alternatives (map seen_part behind.now)))) ∷ []) }
 {
-    let mut all = Vec::new(alloc);
     let first = term_of(world, scope, level, term);
+    if !has_alternative(behind) {
+        return add_item(Item::And(first), pieces);
+    }
+    let mut all = Vec::new(alloc);
     all.push(first)?;
     add_alternatives(world, scope, level, behind, &mut all)?;
-    if all.len() == 1 {
-        return Ok(Item::And(first));
+    add_item(Item::Or(all), pieces)
+}
+
+/// Whether an alternative is at the front of parts.
+fn has_alternative(parts: &[Part<'_>]) -> bool
+    ensures { IsTrue result ↔ 0 < length (alternatives (map seen_part parts.now)) }
+{
+    match parts.first() {
+        Some(part) => alternative(part).is_some(),
+        None => false,
     }
-    Ok(Item::Or(all))
 }
 
 /// Adds what each of the alternatives at the front of parts asks.
@@ -505,7 +548,7 @@ fn term_of<W: Lookup>(world: &W, scope: &Scope<'_, '_>, level: usize, term: &Ter
 {
     let up = up_of(world, &term.flags);
     let first = ref_of(world, scope, level, &term.first);
-    let follows = follows(world, first) && is_definite_target(&term.target);
+    let follows = is_definite_target(&term.target) && follows(world, first);
     Term {
         first,
         target: target_of(world, scope, level, &term.target),

@@ -14,7 +14,7 @@ pub(crate) fn shown<A: Allocator + Copy>(
 ) -> Result<Vec<usize, A>, AllocError>
     ensures { IfOk result (λ shown. shown.items ≡ shown_from 0 (entries_from 0 [] (map seen_piece pieces.now))) }
 {
-    let mut shown = Vec::new(alloc);
+    let mut shown = Vec::with_capacity(alloc, pieces.len())?;
     let mut number = 0;
     let mut depth = 0;
     for piece in pieces {

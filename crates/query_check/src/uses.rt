@@ -1,6 +1,6 @@
 //! The references of a query, in the order of the text.
 
-ghost use Rattle.std.specs.Prelude.{◌≡◌, ◌++◌, length, map, option_map, IfOk};
+ghost use Rattle.std.specs.Prelude.{◌≡◌, ◌++◌, length, map, option_map, IfOk, Some};
 ghost use Rattle.query_check.specs.Found.{AreFound, found_of};
 ghost use Rattle.query_check.specs.Places.{places_of};
 ghost use Rattle.query_check.specs.Seen.{at_level, level_uses, seen_use};
@@ -35,7 +35,7 @@ pub(crate) fn uses<'a, A: Allocator + Copy, W: Lookup>(
     ensures uses { IfOk result (λ uses. map seen_use uses.items ≡ level_uses (map seen_part parts.now)) }
     ensures found { IfOk result (λ uses. AreFound (W.known world.now) uses.items) }
 {
-    let mut uses = Vec::new(alloc);
+    let mut uses = Vec::with_capacity(alloc, parts.len())?;
     for (i, part) in parts.iter().enumerate() {
         add_part(world, places[i].level, part, &mut uses)?;
     }
@@ -56,8 +56,8 @@ fn add_part<'a, A: Allocator, W: Lookup>(
         Part::Term(_, term) => add_term(world, level, term, uses),
         Part::Opened(_) | Part::Closed => Ok(()),
         Part::Equality(left, _, right) => {
-            add(world, level, Position::Left, Some(*left), uses)?;
-            add(world, level, Position::Right, Some(*right), uses)
+            add(world, level, Position::Left, left, uses)?;
+            add(world, level, Position::Right, right, uses)
         }
     }
 }
@@ -72,32 +72,50 @@ fn add_term<'a, A: Allocator, W: Lookup>(
     ensures uses { IfOk result (λ _. map seen_use uses.new.items ≡ map seen_use uses.old.items ++ map (at_level level) (uses_of_term (seen_term term.now))) }
     ensures found { AreFound (W.known world.now) uses.old.items → IfOk result (λ _. AreFound (W.known world.now) uses.new.items) }
 {
-    add(world, level, Position::Component, Some(term.first), uses)?;
-    add(world, level, Position::Source, term.source, uses)?;
-    add(world, level, Position::Risen, risen(term), uses)?;
-    add(world, level, Position::Target, term.target, uses)
+    add(world, level, Position::Component, &term.first, uses)?;
+    add_written(world, level, Position::Source, &term.source, uses)?;
+    if let Some(along) = risen(term) {
+        add(world, level, Position::Risen, along, uses)?;
+    }
+    add_written(world, level, Position::Target, &term.target, uses)
 }
 
 /// Adds a reference, if it is written.
+fn add_written<'a, A: Allocator, W: Lookup>(
+    world: &W,
+    level: usize,
+    position: Position,
+    reference: &Option<Reference<'a>>,
+    uses: &mut Vec<Use<'a>, A>,
+) -> Result<(), AllocError>
+    ensures uses { IfOk result (λ _. map seen_use uses.new.items ≡ map seen_use uses.old.items ++ map (at_level level) (written position (option_map seen_reference reference.now))) }
+    ensures found { AreFound (W.known world.now) uses.old.items → IfOk result (λ _. AreFound (W.known world.now) uses.new.items) }
+{
+    match reference {
+        Some(reference) => add(world, level, position, reference, uses),
+        None => Ok(()),
+    }
+}
+
+/// Adds a reference.
 fn add<'a, A: Allocator, W: Lookup>(
     world: &W,
     level: usize,
     position: Position,
-    reference: Option<Reference<'a>>,
+    reference: &Reference<'a>,
     uses: &mut Vec<Use<'a>, A>,
 ) -> Result<(), AllocError>
-    ensures uses { IfOk result (λ _. map seen_use uses.new.items ≡ map seen_use uses.old.items ++ map (at_level level) (written position (option_map seen_reference reference.entry))) }
+    ensures uses { IfOk result (λ _. map seen_use uses.new.items ≡ map seen_use uses.old.items ++ map (at_level level) (written position (Some (seen_reference reference.now)))) }
     ensures found { AreFound (W.known world.now) uses.old.items → IfOk result (λ _. AreFound (W.known world.now) uses.new.items) }
 {
-    if let Some(reference) = reference {
-        let entity = entity_named(world, &reference);
-        uses.push(Use {
-            level,
-            position,
-            reference,
-            entity,
-        })?;
-    }
+    let entity = entity_named(world, reference);
+    uses.reserve(1)?;
+    uses.push_reserved(Use {
+        level,
+        position,
+        reference: *reference,
+        entity,
+    });
     Ok(())
 }
 
@@ -112,16 +130,16 @@ fn entity_named<W: Lookup>(world: &W, reference: &Reference<'_>) -> Option<Entit
 }
 
 /// The relationship behind a term's `up`, if it is written.
-fn risen<'a>(term: &TermSyntax<'a>) -> Option<Reference<'a>>
-    ensures { option_map seen_reference result ≡ risen (seen_term term.now) }
+fn risen<'t, 'a>(term: &'t TermSyntax<'a>) -> Option<&'t Reference<'a>>
+    ensures { option_map (λ r. seen_reference r.now) result ≡ risen (seen_term term.now) }
 {
-    match term.flags {
+    match &term.flags {
         Some(
             Flags {
-                rise: Rise::Up(along),
+                rise: Rise::Up(Some(along)),
                 ..
             },
-        ) => along,
+        ) => Some(along),
         _ => None,
     }
 }

@@ -7,6 +7,6 @@ use Rattle.query_check.proofs.checked.least_fault.Goals as goal
 
 pub returns : goal.returns
 returns g c =
-    all_kinds_judged (g.W.Lookup.known c.args.world.now) (map seen_part c.args.parts.now) c.of_uses-by_uses.result c.of_depth-by_depth.result c.in_ok-by_terms.by_terms c.in_ok-by_names.by_names c.of_unbound.result
+    all_kinds_judged (g.W.Lookup.known c.args.world.now) (map seen_part c.args.parts.now) c.of_uses-by_uses.result c.of_depth-by_depth.result c.of_terms-by_terms.result c.in_ok-by_names.by_names c.of_unbound.result
     (map seen_use c.args.uses.now) (map seen_occurrence c.args.found.now) c.requires.uses c.requires.occurrences
-    c.of_uses-by_uses.ensures c.of_depth-by_depth.ensures c.in_ok-by_terms.ensures c.in_ok-by_names.ensures c.of_unbound.ensures
+    c.of_uses-by_uses.ensures c.of_depth-by_depth.ensures c.of_terms-by_terms.ensures c.in_ok-by_names.ensures c.of_unbound.ensures

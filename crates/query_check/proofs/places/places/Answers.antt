@@ -8,7 +8,7 @@ use Rattle.query_check.proofs.Referring.{placed-length}
 use Rattle.query_check.proofs.places.places.Goals as goal
 
 pub loop-i-init : goal.loop-i-init
-loop-i-init g c = rw c.new-places.ensures.items (none_placed (map seen_part c.args.parts.now))
+loop-i-init g c = rw c.in_ok-places.ensures.items (none_placed (map seen_part c.args.parts.now))
 
 pub place_in-place-requires : goal.place_in-place-requires
 place_in-place-requires g c = around_depth (map seen_part c.args.parts.now) c.loop-i.i c.loop-i.places.items c.loop-i.around c.loop-i.invariant

@@ -6,7 +6,7 @@ use Rattle.query_check.proofs.Building.{all_mentioned, one_mentioned}
 use Rattle.query_check.proofs.query.mentions.Goals as goal
 
 pub loop-used-init : goal.loop-used-init
-loop-used-init g c = rw c.new-mentions.ensures.items (record { left = refl })
+loop-used-init g c = rw c.in_ok-mentions.ensures.items (record { left = refl })
 
 pub loop-used-preserved : goal.loop-used-preserved
 loop-used-preserved g c =

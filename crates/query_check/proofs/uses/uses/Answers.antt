@@ -11,8 +11,8 @@ use Rattle.query_check.proofs.uses.uses.Goals as goal
 
 pub loop-i-init : goal.loop-i-init
 loop-i-init g c = record {
-  left = rw c.new-uses.ensures.items (all_left level_uses_of (placed_parts (map seen_part c.args.parts.now)) []);
-  found = λ k d h. absurd (let none = c.new-uses.ensures.items in let e : length c.new-uses.result.items ≡ 0 = ap length none in omega arith);
+  left = rw c.in_ok-uses.ensures.items (all_left level_uses_of (placed_parts (map seen_part c.args.parts.now)) []);
+  found = λ k d h. absurd (let none = c.in_ok-uses.ensures.items in let e : length c.in_ok-uses.uses.items ≡ 0 = ap length none in omega arith);
 }
 
 pub loop-i-preserved : goal.loop-i-preserved
