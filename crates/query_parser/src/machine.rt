@@ -213,7 +213,11 @@ fn word<'a>(token: &Token<'a>) -> Option<Reference<'a>>
 fn is_reserved(word: &str) -> bool
     ensures { result ≡ is_reserved word.now }
 {
-    query_model::is_reserved(word.as_bytes())
+    // (most words are longer or shorter than all of them)
+    match word.len() {
+        2 | 4 | 7 => query_model::is_reserved(word.as_bytes()),
+        _ => false,
+    }
 }
 
 /// Behind an item, of which a part may be completed by what follows it.
