@@ -1,5 +1,5 @@
 -- A table's lists beside each other, after each call.
-use Rattle.std.proofs.Common.{◌≡◌, ℕ, ◌+◌, ◌-◌, ◌≤◌, ◌<◌, List, [], ◌∷◌, ◌++◌, length, map, sym, ap, subst, ◌∙◌, arith, nat_lt, slice_get, slice_index, slice_index_or, slice_set, Some, None, vec_len, vec_capacity}
+use Rattle.std.proofs.Common.{◌≡◌, ℕ, zero, suc, ◌+◌, ◌-◌, ◌≤◌, ◌<◌, List, [], ◌∷◌, ◌++◌, length, map, replicate, slice_index, refl, sym, ap, subst, ◌∙◌, arith, nat_lt, slice_get, slice_index_or, slice_set, Some, None, vec_len, vec_capacity}
 use Rattle.std.proofs.lemmas.Option.{same_Some}
 use Rattle.std.specs.List.{filter, zip, swap_remove}
 use Rattle.std.specs.declared.vec.Vec.{Vec}
@@ -38,6 +38,20 @@ seen_moved s row ids ds b new es es2 more p q = same_table ids ids ds ds new.col
 pub seen_new : (ids all ds : List Id) (ss : List ℕ) (b : Contents) (es : List EntityId) → all ≡ ids → ds ≡ ids_with_data ids ss → b ≡ empty_contents (filter (λ s. nat_lt 0 s) ss) → es ≡ []
     → seen all ds b es 0 ≡ empty_table ids ss
 seen_new ids all ds ss b es p q r e = same_table all ids ds (ids_with_data ids ss) b.columns (map no_values (filter (λ s. nat_lt 0 s) ss)) es [] 0 p q (ap (λ (v : Contents). v.columns) r) e
+
+-- tags have no data
+pub no_data_ids : (ids : List Id) → [] ≡ ids_with_data ids (replicate (length ids) 0)
+no_data_ids [] = refl
+no_data_ids (i ∷ ids) = no_data_ids ids
+
+pub no_data_sizes : (n : ℕ) → [] ≡ filter (λ s. nat_lt 0 s) (replicate n 0)
+no_data_sizes zero = refl
+no_data_sizes (suc n) = no_data_sizes n
+
+pub tags_small : (n k : ℕ) → k < length (replicate {A = ℕ} n 0) → slice_index (replicate {A = ℕ} n 0) k ≤ 64
+tags_small zero k lt = absurd (omega (arith, lt))
+tags_small (suc n) zero lt = omega arith
+tags_small (suc n) (suc k) lt = tags_small n k (omega (arith, lt))
 
 module _ {Z : Type 0} where
   pub stored_paired : (ids ds : List Id) (b : Contents) (es : Vec EntityId Z) (more : ℕ) → IsStored ids ds b es more → length ds ≡ length b.columns

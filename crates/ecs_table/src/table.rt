@@ -3,7 +3,7 @@ ghost use Rattle.std.specs.Prelude.{◌≡◌, ℕ, ◌-◌, ◌<◌, ◌≤◌,
 ghost use Rattle.std.specs.List.{zip};
 ghost use Rattle.raw_column.specs.Contents.{column_at};
 ghost use Rattle.ecs_id.specs.Id.{Id};
-ghost use Rattle.ecs_table.specs.Archetype.{empty_table, moved_into, replaced, size_of, value_of, values_at, with_moved, with_row, with_value, without_row, HaveEqualSizes, IsSound};
+ghost use Rattle.ecs_table.specs.Archetype.{byte_size, empty_table, moved_into, replaced, size_of, value_of, values_at, with_moved, with_row, with_value, without_row, HaveEqualSizes, IsSound};
 
 use crate::columns::{ids_with_data, sizes_with_data};
 use crate::data_ids::DataIds;
@@ -20,7 +20,8 @@ const ENTITY_BYTES: usize = 8;
 
 /// The rows of the entities that have exactly the same ids.
 ///
-/// Each id with data has a column with a value for each row. A tag has none. Only `new` and `reserve` take memory, and `shrink_to` gives it back.
+/// Each id with data has a column with a value for each row. A tag has none. Only `new`, `of_tags` and `reserve` take memory, and `shrink_to`
+/// gives it back.
 #[derive(Drop)]
 pub struct Table<A: Allocator = Global> {
     ids: Vec<Id, A>,
@@ -57,6 +58,20 @@ impl<A: Allocator + Copy> Table<A> {
             columns,
             entities: Vec::new(alloc),
             room: 0,
+        })
+    }
+
+    /// A table with no row, of these ids, none of which has data.
+    pub fn of_tags(alloc: A, ids: &[Id]) -> Result<Table<A>, Memory>
+        ensures { IfOk result (λ table. table ≡ empty_table ids.now (replicate (length ids.now) 0)) }
+    {
+        let room = 0;
+        Ok(Table {
+            ids: Vec::from_slice(alloc, ids)?,
+            data_ids: DataIds::new(Vec::new(alloc)),
+            columns: Block::new(alloc, &[])?,
+            entities: Vec::new(alloc),
+            room,
         })
     }
 
@@ -122,6 +137,16 @@ impl<A: Allocator> Table<A> {
         ensures sound { IsSound self.now }
     {
         self.room
+    }
+
+    /// How many bytes a value of an id has: 0 for a tag, and for an id that the table doesn't have.
+    pub fn size(&self, id: Id) -> usize
+        ensures { result ≡ byte_size self.now id }
+    {
+        match self.data_ids.find(id) {
+            None => 0,
+            Some(column) => self.columns.size(column),
+        }
     }
 
     /// A row at the end, whose values are zeros.

@@ -81,7 +81,7 @@ module _ {Y : Type 0} (tables new : Slab (Held Y)) (last : ℕ) (s : Store) (vie
     shapes q = ap (option_map shape_of) (changed q) ∙ changed_shape f t (key_eq q k) (table_at s q) (at_key q) same
 
   module _ (by_ids : ByIds Y) (by_serial : Vec TableKey Y) (kept : IsKept tables by_ids by_serial last) (same : shape_of (f t) ≡ shape_of t) (sound : IsSound (f t))
-      (sizes : y.value.sizes ≡ x.value.sizes) (more : y.value.more ≡ x.value.more) (less : y.value.less ≡ x.value.less) where
+      (more : y.value.more ≡ x.value.more) (less : y.value.less ≡ x.value.less) where
     abbrev n : Store
     n = store_of new last
 
@@ -99,12 +99,12 @@ module _ {Y : Type 0} (tables new : Slab (Held Y)) (last : ℕ) (s : Store) (vie
         let old : IsSlot was x.value = subst (λ o. IfSome o (λ z. IsSlot was z.value)) is (kept.slots k.slot) in
         let here : slots.get new m ≡ Some y = ap (slots.get new) ((Decides-eqb m k.slot).0 e) ∙ u.changed in
         let shape_is : shape_of y.value.table ≡ shape_of x.value.table = ap shape_of table_is ∙ same ∙ ap shape_of (sym (table_here tables last s view k t at x is)) in
-        subst (λ o. IfSome o (λ z. IsSlot n z.value)) (sym here) (IsSlot-shapes was n same_shapes refl x.value y.value (subst IsSound (sym table_is) sound) shape_is sizes more less old)
+        subst (λ o. IfSome o (λ z. IsSlot n z.value)) (sym here) (IsSlot-shapes was n same_shapes refl x.value y.value (subst IsSound (sym table_is) sound) shape_is more less old)
     slot_kept m false e = subst (λ o. IfSome o (λ z. IsSlot n z.value)) (sym (u.others m (λ h. true≢false (sym ((Decides-eqb m k.slot).1 h) ∙ e)))) (other (slots.get tables m) (kept.slots m))
       where
         other : (o : Option (Held Y)) → IfSome o (λ z. IsSlot was z.value) → IfSome o (λ z. IsSlot n z.value)
         other None h = tt
-        other (Some z) h = IsSlot-shapes was n same_shapes refl z.value z.value h.sound refl refl refl refl h
+        other (Some z) h = IsSlot-shapes was n same_shapes refl z.value z.value h.sound refl refl refl h
 
     pub IsKept-changed : IsKept new by_ids by_serial last
     IsKept-changed = record {
@@ -157,7 +157,7 @@ module _ {Y : Type 0} (tables : Slab (Held Y)) (last : ℕ) (s : Store) (view : 
   written_shapes = shapes tables new last s view k t at x y is updates f made serial
 
   pub written_kept : (by_ids : ByIds Y) (by_serial : Vec TableKey Y) → IsKept tables by_ids by_serial last → shape_of (f t) ≡ shape_of t → IsSound (f t) → IsKept new by_ids by_serial last
-  written_kept by_ids by_serial kept same sound = IsKept-changed tables new last s view k t at x y is updates f made serial by_ids by_serial kept same sound (ap (λ v. v.sizes) lent) (ap (λ v. v.more) lent) (ap (λ v. v.less) lent)
+  written_kept by_ids by_serial kept same sound = IsKept-changed tables new last s view k t at x y is updates f made serial by_ids by_serial kept same sound (ap (λ v. v.more) lent) (ap (λ v. v.less) lent)
 
   at_key_new : table_at (store_of new last) k ≡ Some (f t)
   at_key_new = written k ∙ ap (λ b. if b then option_map f (table_at s k) else table_at s k) (key_eq_true k k refl) ∙ ap (option_map f) at

@@ -1,5 +1,5 @@
 -- An id that is put among ids that strictly rise stands between those below it and those above.
-use Rattle.std.proofs.Common.{◌≡◌, Bool, true, false, cond, ◌&&◌, List, [], ◌∷◌, ◌++◌, ℕ, refl, sym, ap, ◌∙◌, true≢false}
+use Rattle.std.proofs.Common.{◌≡◌, Bool, true, false, cond, ◌&&◌, List, [], ◌∷◌, ◌++◌, ℕ, map, refl, sym, ap, ◌∙◌, true≢false}
 use Rattle.std.specs.declared.cmp.Ordering.{Ordering}
 use Rattle.std.specs.declared.cmp.Ordering.TheVariants.{Less, Equal, Greater}
 use Rattle.std.specs.Ordering.{is_lt, ordering_reverse}
@@ -74,3 +74,12 @@ put_between i n (c ∷ f) h = by (id_cmp i c.0) refl (put_between i n f (second 
 pub joined : {X : Type 0} (xs : List X) (y : X) (zs : List X) → (xs ++ y ∷ []) ++ zs ≡ xs ++ y ∷ zs
 joined [] y zs = refl
 joined (x ∷ xs) y zs = ap (λ l. x ∷ l) (joined xs y zs)
+
+-- the cells of the ids that pass are the cells that pass
+pub filter_cells : (p : Id × ℕ → Bool) (cell : Id → Id × ℕ) (ids : List Id) → map cell (filter (λ i. p (cell i)) ids) ≡ filter p (map cell ids)
+filter_cells p cell [] = refl
+filter_cells p cell (i ∷ ids) = by (p (cell i)) (filter_cells p cell ids)
+  where
+    by : (b : Bool) → map cell (filter (λ i. p (cell i)) ids) ≡ filter p (map cell ids) → map cell (cond b (i ∷ filter (λ i. p (cell i)) ids) (filter (λ i. p (cell i)) ids)) ≡ cond b (cell i ∷ filter p (map cell ids)) (filter p (map cell ids))
+    by true e = ap (λ l. cell i ∷ l) e
+    by false e = e

@@ -1,7 +1,7 @@
 -- A store before and after a table is made.
-use Rattle.std.proofs.Common.{◌≡◌, ◌≢◌, ◌↔◌, ◌⊎◌, ℕ, ◌+◌, ◌≤◌, ◌<◌, ◌==◌, Bool, true, false, cond, if◌then◌else◌, [], ◌∷◌, ◌++◌, map, ◌-◌, ◌^◌, Option, Some, None, IsSome, IfSome, IsTrue, is_some, nat_le, option_map, option_and_then, unwrap_or, slice_get, refl, sym, ap, subst, ◌∙◌, true≢false, arith, inl, inr}
+use Rattle.std.proofs.Common.{◌≡◌, ◌≢◌, ◌↔◌, ◌⊎◌, ℕ, ◌+◌, ◌≤◌, ◌<◌, ◌==◌, Bool, true, false, cond, if◌then◌else◌, [], ◌∷◌, ◌++◌, ◌-◌, ◌^◌, Option, Some, None, IsSome, IfSome, IsTrue, is_some, nat_le, option_map, option_and_then, unwrap_or, slice_get, refl, sym, ap, subst, ◌∙◌, true≢false, arith, inl, inr}
 use Rattle.std.proofs.lemmas.Bool.Decides.{Decides-eqb}
-use Rattle.std.specs.List.{list_all, zip}
+use Rattle.std.specs.List.{list_all}
 use Rattle.std.specs.FinMap.{is_sorted}
 use Rattle.std.specs.declared.vec.Vec.{Vec}
 use Rattle.slab.specs.Slab as slots
@@ -39,14 +39,10 @@ module _ (s : Store) where
       by None h = absurd (none_is_some g h)
       by (Some t) h = refl
 
-zip_parts : (f : Shape) → ◌≡◌ {A = Shape} (zip (ids_of f) (map (λ c. c.1) f)) f
-zip_parts [] = refl
-zip_parts (c ∷ f) = ap (λ l. c ∷ l) (zip_parts f)
-
 module _ {Y : Type 0} (tables new : Slab (Held Y)) (by_ids named : ByIds Y) (by_serial dated : Vec TableKey Y) (last : ℕ) (kept : IsKept tables by_ids by_serial last)
     (f : Shape) (k : TableKey) (y : Held Y) (sorted : IsTrue (is_sorted id_cmp f)) (small : (j : ℕ) → IfSome (slice_get f j) (λ c. c.1 ≤ 64)) (sizes : HaveSizes (store_of tables last) f)
     (missing : key_of by_ids (ids_of f) ≡ None) (serial : k.serial ≡ last + 1) (free : slots.get tables k.slot ≡ None) (u : Updates tables new k.slot (Some y))
-    (ys : y.value.serial ≡ k.serial) (yt : y.value.table ≡ shaped f) (yf : y.value.sizes.items ≡ map (λ c. c.1) f) (no_more : HasNoEdge y.value.more) (no_less : HasNoEdge y.value.less) (numbered : k.slot < 2 ^ 32 - 1) where
+    (ys : y.value.serial ≡ k.serial) (yt : y.value.table ≡ shaped f) (no_more : HasNoEdge y.value.more) (no_less : HasNoEdge y.value.less) (numbered : k.slot < 2 ^ 32 - 1) where
   abbrev s : Store
   s = store_of tables last
 
@@ -169,7 +165,6 @@ module _ {Y : Type 0} (tables new : Slab (Held Y)) (by_ids named : ByIds Y) (by_
   slot_stays : (x : Slot Y) → IsSlot s x → IsSlot n x
   slot_stays x h = record {
     sound = h.sound;
-    shape = h.shape;
     more = λ i q e. let m = h.more i q e in (omega (arith, m.0, serial), subst (λ o. IfSome o (λ g. (b : ℕ) × (g ≡ with_id (shape_of x.table) i b))) (sym (edge_shape q m.0)) m.1);
     less = λ i q e. let m = h.less i q e in (omega (arith, m.0, serial), subst (λ o. IfSome o (λ g. g ≡ without_id (shape_of x.table) i)) (sym (edge_shape q m.0)) m.1);
   }
@@ -177,7 +172,6 @@ module _ {Y : Type 0} (tables new : Slab (Held Y)) (by_ids named : ByIds Y) (by_
   slot_made : IsSound (shaped f) → IsSlot n y.value
   slot_made sound = record {
     sound = subst IsSound (sym yt) sound;
-    shape = (λ i. zip (yt i).ids (yf i)) ∙ zip_parts f ∙ sym (shape_of_shaped f sorted) ∙ ap shape_of (sym yt);
     more = λ i q e. absurd (none_is_some q (sym (no_more i) ∙ e));
     less = λ i q e. absurd (none_is_some q (sym (no_less i) ∙ e));
   }

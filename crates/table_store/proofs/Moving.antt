@@ -151,7 +151,7 @@ module _ {Y : Type 0} (tables out back : Slab (Held Y)) (last : ℕ) (s : Store)
       made = came ∙ ap (λ v. with_moved z.value.table v row) source_is
 
       pub moved_kept : IsKept back by_ids by_serial last
-      moved_kept = IsKept-changed mid back last s1 refl to tgt at_to1 z z1 is_z1 u3 f made (ap (λ v. v.serial) lent_z) by_ids by_serial kept1 (shape_of_moved tgt src row sound_tgt) (sound_with_moved tgt src row sound_tgt) (ap (λ v. v.sizes) lent_z) (ap (λ v. v.more) lent_z) (ap (λ v. v.less) lent_z)
+      moved_kept = IsKept-changed mid back last s1 refl to tgt at_to1 z z1 is_z1 u3 f made (ap (λ v. v.serial) lent_z) by_ids by_serial kept1 (shape_of_moved tgt src row sound_tgt) (sound_with_moved tgt src row sound_tgt) (ap (λ v. v.more) lent_z) (ap (λ v. v.less) lent_z)
 
       pub moved_stored : IsStored (store_of back last)
       moved_stored = stored back by_ids by_serial last moved_kept (store_of back last) refl

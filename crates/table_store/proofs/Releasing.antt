@@ -120,7 +120,6 @@ module _ {Y : Type 0} (tables new : Slab (Held Y)) (by_ids named : ByIds Y) (by_
   slot_stays : (y : Slot Y) → IsSlot s y → IsSlot n y
   slot_stays y h = record {
     sound = h.sound;
-    shape = h.shape;
     more = λ i q e. let m = h.more i q e in (m.0, of_shape q (λ g. (b : ℕ) × (g ≡ with_id (shape_of y.table) i b)) m.1);
     less = λ i q e. let m = h.less i q e in (m.0, of_shape q (λ g. g ≡ without_id (shape_of y.table) i) m.1);
   }

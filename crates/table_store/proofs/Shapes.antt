@@ -1,9 +1,9 @@
 -- Shapes: lists of ids that strictly rise, each with a size.
-use Rattle.std.proofs.Common.{◌≡◌, ◌⊎◌, ℕ, suc, zero, ◌+◌, ◌≤◌, ◌<◌, ◌&&◌, Bool, true, false, cond, List, [], ◌∷◌, Option, Some, None, IsTrue, IfSome, length, map, nat_lt, nat_le, not, slice_index, option_map, unwrap_or, slice_index_or, slice_get, refl, sym, ap, subst, ◌∙◌, true≢false, arith, inl, inr}
+use Rattle.std.proofs.Common.{◌≡◌, ◌⊎◌, ℕ, suc, zero, ◌+◌, ◌≤◌, ◌<◌, ◌==◌, ◌&&◌, Bool, true, false, cond, List, [], ◌∷◌, Option, Some, None, IsTrue, IfSome, length, map, replicate, nat_lt, nat_le, not, slice_index, option_map, unwrap_or, slice_index_or, slice_get, refl, sym, ap, subst, ◌∙◌, true≢false, arith, inl, inr}
 use Rattle.std.specs.declared.cmp.Ordering.{Ordering}
 use Rattle.std.specs.declared.cmp.Ordering.TheVariants.{Less, Equal, Greater}
 use Rattle.std.specs.Ordering.{is_lt, is_eq}
-use Rattle.std.proofs.lemmas.Bool.Decides.{nat_tests}
+use Rattle.std.proofs.lemmas.Bool.Decides.{nat_tests, Decides-eqb}
 use Rattle.std.specs.List.{filter, zip, position, prefix_len, list_all}
 use Rattle.std.specs.FinMap.{find, put, is_sorted}
 use Rattle.std.specs.FinMap.Entries.{below_all, by_order}
@@ -205,6 +205,11 @@ small_at (d ∷ f) zero c h e = subst (λ v. v.1 ≤ 64) (one_some d c e) (le d.
     le : (m : ℕ) → IsTrue (nat_le m 64) → m ≤ 64
     le m p = grind (arith, nat_tests)
 small_at (d ∷ f) (suc j) c h e = small_at f j c (both _ _ h).1 e
+
+-- tags have no sizes
+pub no_sizes : (f : Shape) → list_all (λ c. c.1 == 0) f ≡ true → replicate (length (map (λ c. c.0) f)) 0 ≡ map (λ c. c.1) f
+no_sizes [] h = refl
+no_sizes (c ∷ f) h = let t = both (c.1 == 0) (list_all (λ c. c.1 == 0) f) h in λ i. sym ((Decides-eqb c.1 0).0 t.0) i ∷ no_sizes f t.1 i
 
 -- the ids of a table have their sizes in the store
 pub size_of_stored : (s : Store) (k : TableKey) (f : Shape) (j : ℕ) (c : Id × ℕ) → IsStore s → shape_at s k ≡ Some f → slice_get f j ≡ Some c → HasSize s c.0 c.1

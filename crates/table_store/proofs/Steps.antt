@@ -1,7 +1,7 @@
 -- Edges between tables, and the shapes to which they lead.
 use Rattle.std.proofs.Common.{◌≡◌, ◌⊎◌, ℕ, ◌≤◌, ◌==◌, Bool, true, false, cond, List, Option, Some, None, IsSome, IsNone, IfSome, IsTrue, Err, is_some, option_map, slice_get, unwrap_or, if◌then◌else◌, nat_le, not, refl, sym, ap, subst, ◌∙◌, true≢false, inl, inr}
 use Rattle.std.proofs.lemmas.Bool.Decides.{Decides-eqb}
-use Rattle.std.specs.List.{list_all, zip}
+use Rattle.std.specs.List.{list_all}
 use Rattle.std.specs.FinMap.{is_sorted}
 use Rattle.std.specs.FinMap.Entries.{is_sorted-put, is_sorted-where_key, find-put}
 use Rattle.std.specs.declared.vec.Vec.{Vec}
@@ -55,13 +55,6 @@ module _ {Y : Type 0} (tables : Slab (Held Y)) (by_ids : ByIds Y) (by_serial : V
 
   slot_is : IsSlot s x.value
   slot_is = subst (λ z. IsSlot z x.value) view (subst (λ o. IfSome o (λ z. IsSlot (store_of tables last) z.value)) is (kept.slots k.slot))
-
-  -- the ids and sizes of the slot
-  paired_there : zip x.value.table.ids x.value.sizes.items ≡ f
-  paired_there = slot_is.shape
-
-  pub paired_is : (d e : Slot Y) (ids : List Id) (sizes : List ℕ) → ids ≡ d.table.ids → d ≡ x.value → sizes ≡ e.sizes.items → e ≡ x.value → ◌≡◌ {A = Shape} (zip ids sizes) f
-  paired_is d e ids sizes p lent q too = (λ i. zip ((p ∙ ap (λ v. v.table.ids) lent) i) ((q ∙ ap (λ v. v.sizes.items) too) i)) ∙ paired_there
 
   pub shape_there : shape_at s k ≡ Some f
   shape_there =
@@ -163,7 +156,6 @@ module _ {Y : Type 0} (tables : Slab (Held Y)) (by_ids : ByIds Y) (by_serial : V
     slot_now : IsSlot s v
     slot_now = record {
       sound = subst IsSound (sym table_same) slot_is.sound;
-      shape = (λ i. zip (table_same i).ids (same i).sizes.items) ∙ slot_is.shape ∙ sym shape_same;
       more = λ i q e. subst (λ z. IsMore s z i q) (sym shape_same) (more_now i q e);
       less = λ i q e. subst (λ z. IsLess s z i q) (sym shape_same) (less_now i q e);
     }

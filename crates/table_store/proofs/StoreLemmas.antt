@@ -3,7 +3,6 @@ use Rattle.std.proofs.Common.{◌≡◌, ℕ, ◌≤◌, ◌==◌, Bool, true, f
 use Rattle.std.proofs.lemmas.Bool.Decides.{Decides-eqb}
 use Rattle.slab.specs.Slab as slots
 use Rattle.slab.specs.Slab.{Slab, Updates}
-use Rattle.std.specs.List.{zip}
 use Rattle.ecs_id.specs.Id.{Id}
 use Rattle.ecs_id.specs.declared.TableKey.{TableKey}
 use Rattle.ecs_table.specs.Archetype.{Archetype, IsSound}
@@ -64,16 +63,12 @@ module _ (s n : Store) (shapes : (q : TableKey) → shape_at n q ≡ shape_at s 
     less_at : (f g : Shape) → g ≡ f → (i : Id) (k : TableKey) → IsLess s f i k → IsLess n g i k
     less_at f g e i k h = subst (λ v. IsLess n v i k) (sym e) (subst (λ l. k.serial ≤ l) (sym last) h.0, subst (λ o. IfSome o (λ g. g ≡ without_id f i)) (sym (shapes k)) h.1)
 
-  pub IsSlot-shapes : {Y : Type 0} → n.last ≡ s.last → (x y : Slot Y) → IsSound y.table → shape_of y.table ≡ shape_of x.table → y.sizes ≡ x.sizes → y.more ≡ x.more → y.less ≡ x.less → IsSlot s x → IsSlot n y
-  IsSlot-shapes last x y sound same sizes more less is = record {
+  pub IsSlot-shapes : {Y : Type 0} → n.last ≡ s.last → (x y : Slot Y) → IsSound y.table → shape_of y.table ≡ shape_of x.table → y.more ≡ x.more → y.less ≡ x.less → IsSlot s x → IsSlot n y
+  IsSlot-shapes last x y sound same more less is = record {
     sound = sound;
-    shape = (λ i. zip (ids i) (sizes i).items) ∙ is.shape ∙ sym same;
     more = λ i k h. more_at last (shape_of x.table) (shape_of y.table) same i k (is.more i k (subst (λ m. edge_of m i ≡ Some k) more h));
     less = λ i k h. less_at last (shape_of x.table) (shape_of y.table) same i k (is.less i k (subst (λ m. edge_of m i ≡ Some k) less h));
   }
-    where
-      ids : y.table.ids ≡ x.table.ids
-      ids = sym (ids_of_shape y.table y.table.ids) ∙ ap ids_of same ∙ ids_of_shape x.table x.table.ids
 
   pub IsOrder-shapes : n.last ≡ s.last → (keys : List TableKey) → IsOrder s keys → IsOrder n keys
   IsOrder-shapes last keys is = record { has = λ k h. is.has k (still k h); given = λ k c. rw last (is.given k c); rising = is.rising }

@@ -1,6 +1,6 @@
 -- The fields of a store: slots of tables, the key of the table of each list of ids, and the keys by serial.
 use Rattle.std.specs.Prelude.{◌≡◌, Bool, ◌↔◌, ℕ, suc, ◌≤◌, ◌==◌, cond, if◌then◌else◌, List, [], ◌∷◌, Option, Some, None, IsSome, IsNone, IfSome, is_some, map, ◌⊎◌, IfOk, OnErr, Result, max, ◌<◌}
-use Rattle.std.specs.List.{Contains, zip}
+use Rattle.std.specs.List.{Contains}
 use Rattle.std.specs.List.Sorted.{IsStrictlySortedBy}
 use Rattle.std.specs.Ordering.{nat_cmp}
 use Rattle.std.specs.declared.vec.Vec.{Vec}
@@ -11,7 +11,7 @@ use Rattle.indexmap.specs.IndexMap.{IndexMap}
 use Rattle.secret_hashing.specs.declared.Hashing.{Hashing}
 use Rattle.slab.specs.Slab as slots
 use Rattle.slab.specs.Slab.{Slab}
-use Rattle.ecs_id.specs.Id.{Id, id_cmp, id_eq}
+use Rattle.ecs_id.specs.Id.{Id, id_eq}
 use Rattle.ecs_id.specs.declared.TableKey.{TableKey}
 use Rattle.ecs_table.specs.Archetype.{Archetype, IsSound}
 use Rattle.table_store.specs.declared.edges.Edges.{Edges}
@@ -70,7 +70,6 @@ IsLess s f i k = (k.serial ≤ s.last) × IfSome (shape_at s k) (λ g. g ≡ wit
 -- what each slot has
 pub record IsSlot {Y : Type 0} (s : Store) (x : Slot Y) : Type 0 where
   pub sound : IsSound x.table
-  pub shape : zip x.table.ids x.sizes.items ≡ shape_of x.table
   pub more : (i : Id) (k : TableKey) → edge_of x.more i ≡ Some k → IsMore s (shape_of x.table) i k
   pub less : (i : Id) (k : TableKey) → edge_of x.less i ≡ Some k → IsLess s (shape_of x.table) i k
 

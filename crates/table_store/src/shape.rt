@@ -1,95 +1,91 @@
 //! The shapes of tables: their ids in order, each with how many bytes its values have.
-ghost use Rattle.std.specs.Prelude.{◌≡◌, ◌++◌, ◌∷◌, IfOk, IsTrue, map};
+ghost use Rattle.std.specs.Prelude.{◌≡◌, ◌==◌, ◌++◌, IfOk, OnOk, IsTrue, map, not};
 ghost use Rattle.std.specs.FinMap.{is_sorted};
-ghost use Rattle.std.specs.List.{filter, zip};
+ghost use Rattle.std.specs.List.{filter, list_all};
 ghost use Rattle.std.specs.Ordering.{is_lt};
-ghost use Rattle.ecs_id.specs.Id.{id_cmp};
+ghost use Rattle.ecs_id.specs.Id.{id_cmp, id_eq};
 ghost use Rattle.table_store.specs.Kept.{stepped};
-ghost use Rattle.table_store.specs.Store.{with_id, without_id};
+ghost use Rattle.table_store.specs.Store.{byte_size, shape_of};
 
 use crate::sized::SizedId;
 use ecs_id::Id;
+use ecs_table::Table;
 use std::alloc::{AllocError, Allocator};
 
-/// The shape with one id more, where a size of it is given, or with one less. It stands as its ids, and their sizes.
-pub fn next_shape<A: Allocator + Copy>(
-    alloc: A,
-    ids: &[Id],
-    sizes: &[usize],
+/// Makes the list the shape of a table with one id more, where a size of it is given, or with one less.
+pub fn next_shape<A: Allocator>(
+    cells: &mut Vec<SizedId, A>,
+    table: &Table<A>,
     id: Id,
     added: Option<usize>,
-) -> Result<Vec<SizedId, A>, AllocError>
-    requires { IsTrue (is_sorted id_cmp (zip ids.now sizes.now)) }
-    ensures { IfOk result (λ cells. cells.items ≡ stepped (zip ids.now sizes.now) id added) }
+) -> Result<(), AllocError>
+    requires { IsTrue (is_sorted id_cmp (shape_of table.now)) }
+    ensures { OnOk result (cells.new.items ≡ stepped (shape_of table.now) id added) }
 {
-    let mut shape = paired(alloc, ids, sizes)?;
+    cells.clear();
     match added {
-        Some(size) => shape_with(alloc, &mut shape, id, size),
-        None => {
-            keep_others(&mut shape, id);
-            Ok(shape)
+        Some(size) => {
+            push_below(cells, table, id)?;
+            cells.push(SizedId::new(id, size))?;
+            push_above(cells, table, id)
         }
+        None => push_others(cells, table, id),
     }
 }
 
-// Each id with its size.
-fn paired<A: Allocator>(
-    alloc: A,
-    ids: &[Id],
-    sizes: &[usize],
-) -> Result<Vec<SizedId, A>, AllocError>
-    ensures { IfOk result (λ cells. cells.items ≡ zip ids.now sizes.now) }
-{
-    ids.iter()
-        .copied()
-        .zip(sizes.iter().copied())
-        .map(|(id, size)| SizedId::new(id, size))
-        .collect(alloc)
-}
-
-// The shape with one id more. What stands in the list afterwards is lost.
-fn shape_with<A: Allocator + Copy>(
-    alloc: A,
-    shape: &mut Vec<SizedId, A>,
+// The ids of a table that are below this one, with their sizes.
+fn push_below<A: Allocator>(
+    cells: &mut Vec<SizedId, A>,
+    table: &Table<A>,
     id: Id,
-    size: usize,
-) -> Result<Vec<SizedId, A>, AllocError>
-    requires { IsTrue (is_sorted id_cmp shape.old.items) }
-    ensures { IfOk result (λ cells. cells.items ≡ with_id shape.old.items id size) }
+) -> Result<(), AllocError>
+    ensures { OnOk result (cells.new.items ≡ cells.old.items ++ map (λ i. (i, byte_size table.now i)) (filter (λ i. is_lt (id_cmp i id)) (table.now).ids)) }
 {
-    let mut cells = ids_below(alloc, shape.as_slice(), id)?;
-    keep_above(shape, id);
-    cells.push(SizedId::new(id, size))?;
-    cells.extend_from_slice(shape.as_slice())?;
-    Ok(cells)
+    for known in table.ids() {
+        if *known < id {
+            cells.push(SizedId::new(*known, table.size(*known)))?;
+        }
+    }
+    Ok(())
 }
 
-// The part of a shape whose ids are below this one, with room for the whole shape and one id more.
-fn ids_below<A: Allocator>(
-    alloc: A,
-    shape: &[SizedId],
+// The ids of a table that are above this one, with their sizes.
+fn push_above<A: Allocator>(
+    cells: &mut Vec<SizedId, A>,
+    table: &Table<A>,
     id: Id,
-) -> Result<Vec<SizedId, A>, AllocError>
-    ensures { IfOk result (λ cells. cells.items ≡ filter (λ c. is_lt (id_cmp c.0 id)) shape.now) }
+) -> Result<(), AllocError>
+    ensures { OnOk result (cells.new.items ≡ cells.old.items ++ map (λ i. (i, byte_size table.now i)) (filter (λ i. is_lt (id_cmp id i)) (table.now).ids)) }
 {
-    let mut cells = Vec::with_capacity(alloc, shape.len() + 1)?;
-    cells.extend_from_slice(shape)?;
-    cells.retain(|cell| cell.id() < id);
-    Ok(cells)
+    for known in table.ids() {
+        if id < *known {
+            cells.push(SizedId::new(*known, table.size(*known)))?;
+        }
+    }
+    Ok(())
 }
 
-// Keeps the part of a shape whose ids are above this one.
-fn keep_above<A: Allocator>(shape: &mut Vec<SizedId, A>, id: Id)
-    ensures { shape.new.items ≡ filter (λ c. is_lt (id_cmp id c.0)) shape.old.items }
+// The ids of a table but for this one, with their sizes.
+fn push_others<A: Allocator>(
+    cells: &mut Vec<SizedId, A>,
+    table: &Table<A>,
+    id: Id,
+) -> Result<(), AllocError>
+    ensures { OnOk result (cells.new.items ≡ cells.old.items ++ map (λ i. (i, byte_size table.now i)) (filter (λ i. not (id_eq i id)) (table.now).ids)) }
 {
-    shape.retain(|cell| id < cell.id());
+    for known in table.ids() {
+        if *known != id {
+            cells.push(SizedId::new(*known, table.size(*known)))?;
+        }
+    }
+    Ok(())
 }
 
-// Makes it the shape with one id less.
-fn keep_others<A: Allocator>(shape: &mut Vec<SizedId, A>, id: Id)
-    ensures { shape.new.items ≡ without_id shape.old.items id }
+/// Whether no id of a shape has data.
+pub fn are_tags(shape: &[SizedId]) -> bool
+    ensures { result ≡ list_all (λ c. c.1 == 0) shape.now }
 {
-    shape.retain(|cell| cell.id() != id);
+    shape.iter().all(|cell| cell.size() == 0)
 }
 
 /// The ids of a shape.

@@ -15,7 +15,7 @@ ghost use Rattle.table_store.specs.Kept.{HasNoEdge, SetsIds, IsMade, IsPut, IsWr
 ghost use Rattle.table_store.specs.Rows.{IsStored, Row, filler, moved_rows, removed_rows, row_at, rows_in, with_cell, with_row_at, zero_cells};
 
 use crate::edges::Edges;
-use crate::shape::{ids_of, next_shape, sizes_of};
+use crate::shape::{are_tags, ids_of, next_shape, sizes_of};
 use crate::sized::SizedId;
 use ecs_id::{EntityId, Id, TableKey};
 use ecs_table::Table;
@@ -26,14 +26,13 @@ use slab::Slab;
 use std::alloc::{AllocError, Allocator, Global};
 use std::hash::RandomState;
 use std::marker::Model;
+use std::mem;
 
 /// A table with its serial, and the edges that lead from it.
 #[derive(Drop)]
 struct Slot<A: Allocator> {
     serial: u128,
     table: Table<A>,
-    // how many bytes a value has, beside the ids of the table
-    sizes: Vec<usize, A>,
     // for an id, the table that has it more
     more: Edges<A>,
     // for an id, the table that has it less
@@ -57,6 +56,8 @@ pub struct TableStore<A: Allocator = Global> {
     // the greatest serial that was given
     last: u128,
     hashing: Hashing,
+    // where the shape of a table to be found or made stands for a moment
+    cells: Vec<SizedId, A>,
     alloc: A,
 }
 
@@ -85,6 +86,7 @@ impl<A: Allocator + Copy> TableStore<A> {
             by_serial: Vec::new(alloc),
             last: 0,
             hashing,
+            cells: Vec::new(alloc),
             alloc,
         }
     }
@@ -206,7 +208,7 @@ impl<A: Allocator + Copy> TableStore<A> {
         followed(&self.tables, &self.tables[key.slot as usize], id, added)
     }
 
-    // `step` where no edge leads there yet: the table is found by its ids, or made.
+    // `step` where no edge leads there yet. Its list of cells is lent by the store, so that not every step takes one.
     #[cold]
     #[inline(never)]
     fn step_anew(&mut self, key: TableKey, id: Id, added: Option<usize>) -> Result<TableKey, Memory>
@@ -215,14 +217,27 @@ impl<A: Allocator + Copy> TableStore<A> {
         requires sizes { IfSome added (λ n. HasSize self.old id n) }
         ensures { (f : Shape) → shape_at self.old key ≡ Some f → IsPut self.old (stepped f id added) result self.new }
     {
+        let mut cells = mem::replace(&mut self.cells, Vec::new(self.alloc));
+        let stepped = self.step_by(&mut cells, key, id, added);
+        self.cells = cells;
+        stepped
+    }
+
+    // `step_anew`, with a list for the cells of the table: it is found by its ids, or made.
+    fn step_by(
+        &mut self,
+        cells: &mut Vec<SizedId, A>,
+        key: TableKey,
+        id: Id,
+        added: Option<usize>,
+    ) -> Result<TableKey, Memory>
+        requires stands { IsSome (table_at self.old key) }
+        requires small { IfSome added (λ n. n ≤ 64) }
+        requires sizes { IfSome added (λ n. HasSize self.old id n) }
+        ensures { (f : Shape) → shape_at self.old key ≡ Some f → IsPut self.old (stepped f id added) result self.new }
+    {
         let slot = &self.tables[key.slot as usize];
-        let Ok(cells) = next_shape(
-            self.alloc,
-            slot.table.ids(),
-            slot.sizes.as_slice(),
-            id,
-            added,
-        ) else {
+        let Ok(()) = next_shape(cells, &slot.table, id, added) else {
             return Err(Memory);
         };
         match self.find_or_put(cells.as_slice()) {
@@ -316,7 +331,6 @@ fn prepare<A: Allocator + Copy>(
     ensures slot { OnOk result (HasRoomFor tables.new 1) }
     ensures serial { IfOk result (λ slot. slot.value.serial ≡ key.serial) }
     ensures table { IfOk result (λ slot. slot.value.table ≡ shaped cells.now) }
-    ensures sizes { IfOk result (λ slot. slot.value.sizes.items ≡ map (λ c. c.1) cells.now) }
     ensures more { IfOk result (λ slot. HasNoEdge slot.value.more) }
     ensures less { IfOk result (λ slot. HasNoEdge slot.value.less) }
 {
@@ -337,16 +351,12 @@ fn new_slot<A: Allocator + Copy>(
     requires small { (j : ℕ) → IfSome (slice_get cells.now j) (λ c. c.1 ≤ 64) }
     ensures serial { IfOk result (λ slot. slot.value.serial ≡ serial) }
     ensures table { IfOk result (λ slot. slot.value.table ≡ shaped cells.now) }
-    ensures sizes { IfOk result (λ slot. slot.value.sizes.items ≡ map (λ c. c.1) cells.now) }
     ensures more { IfOk result (λ slot. HasNoEdge slot.value.more) }
     ensures less { IfOk result (λ slot. HasNoEdge slot.value.less) }
 {
-    let sizes = sizes_of(alloc, cells)?;
-    let table = Table::new(alloc, ids, sizes.as_slice())?;
     let slot = Slot {
         serial,
-        table,
-        sizes,
+        table: new_table(alloc, ids, cells)?,
         more: Edges::new(),
         less: Edges::new(),
     };
@@ -354,6 +364,23 @@ fn new_slot<A: Allocator + Copy>(
         Ok(slot) => Ok(slot),
         Err(_) => Err(Memory),
     }
+}
+
+// An empty table of these cells, whose ids are these.
+fn new_table<A: Allocator + Copy>(
+    alloc: A,
+    ids: &[Id],
+    cells: &[SizedId],
+) -> Result<Table<A>, Memory>
+    requires ids { ids.now ≡ map (λ c. c.0) cells.now }
+    requires small { (j : ℕ) → IfSome (slice_get cells.now j) (λ c. c.1 ≤ 64) }
+    ensures { IfOk result (λ table. table ≡ shaped cells.now) }
+{
+    if are_tags(cells) {
+        return Table::of_tags(alloc, ids);
+    }
+    let sizes = sizes_of(alloc, cells)?;
+    Table::new(alloc, ids, sizes.as_slice())
 }
 
 // Enters a key into both indexes, or into neither.
