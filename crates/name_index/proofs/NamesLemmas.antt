@@ -1,11 +1,12 @@
 -- What an index of names says of its fields, and what a change does to its names.
-use Rattle.std.proofs.Common.{◌≡◌, ◌≢◌, ℕ, ◌==◌, ◌&&◌, Bool, true, false, cond, List, [], ◌∷◌, Some, None, Option, is_some, true≢false, map, option_map, slice_get, IfSome, bytes_eq, ◌↔◌, refl, sym, ap, subst, ◌∙◌}
+use Rattle.std.proofs.Common.{◌≡◌, ◌≢◌, ℕ, ◌==◌, ◌&&◌, Bool, true, false, cond, List, [], ◌∷◌, ◌++◌, Some, None, Option, is_some, true≢false, map, bytes_eq, ◌↔◌, refl, sym, ap, subst, ◌∙◌}
+use Rattle.std.specs.Prelude.{nat_eq}
+use Rattle.std.specs.Option.{option_or}
 use Rattle.std.specs.declared.string.String.{String}
-use Rattle.std.specs.String.{string_bytes, string_eq, string_eq_equiv}
+use Rattle.std.specs.String.{string_bytes, string_eq}
 use Rattle.std.specs.Ordering.{nat_cmp}
-use Rattle.std.specs.Cmp.Lexicographic.{slice_cmp, nat_list_cmp_total, nat_list_eq_equiv}
-use Rattle.std.specs.HashMap.{HashMap, get_by_text, Updates, UpdatesBy}
-use Rattle.std.specs.List.{swap_remove}
+use Rattle.std.specs.Cmp.Lexicographic.{pointwise, slice_cmp, nat_list_cmp_total, nat_list_eq_equiv}
+use Rattle.std.specs.HashMap.{HashMap, get, get_by_text, Updates, UpdatesBy}
 use Rattle.std.specs.Map.{lookup}
 use Rattle.std.specs.FinMap as finite
 use Rattle.std.specs.FinMap.{find, slice_cmp-IsAntisymmetric, nat_cmp-IsAntisymmetric}
@@ -14,10 +15,10 @@ use Rattle.std.proofs.lemmas.Map.Text.{is_eq-slice_cmp, hash_map_updates_text}
 use Rattle.std.proofs.lemmas.Slice.Eq.{bytes_eq-Decides}
 use Rattle.std.proofs.lemmas.Bool.Decides.{Decides-eqb}
 use Rattle.ecs_id.specs.declared.EntityId.{EntityId}
-use Rattle.std.proofs.lemmas.Map.Entries.{lookup_from_place, place_from_lookup}
-use Rattle.name_index.specs.declared.positions.Positions.{Positions}
-use Rattle.name_index.specs.Names.{Names, names_in, entity_eq, IsUnnamed, IsOneToOne, OthersKeepTheirs, AreKept}
-use Rattle.name_index.specs.Positions.{position_of}
+use Rattle.name_index.specs.declared.texts.Texts.{Texts}
+use Rattle.name_index.specs.Names.{Names, names_in, entity_eq, IsUnnamed, IsOneToOne, OthersKeepTheirs, AreApart, AreKept}
+use Rattle.name_index.specs.Short.{is_short}
+use Rattle.name_index.specs.Texts.{text_of}
 
 -- the test of entities tells whether they are one
 both : (a b : Bool) → (a && b) ≡ true → (a ≡ true) × (b ≡ true)
@@ -32,87 +33,148 @@ same_entity x y h =
 pub entity_eq_true : (x y : EntityId) → x ≡ y → entity_eq x y ≡ true
 entity_eq_true x y e = both_true ((Decides-eqb x.index y.index).1 (ap (λ v. v.index) e)) ((Decides-eqb x.generation y.generation).1 (ap (λ v. v.generation) e))
 
-module _ {Y : Type 0} where
-  find-named : (es : List (String Y × EntityId)) (q : List ℕ) → find (slice_cmp nat_cmp) q (map (λ p. (string_bytes p.0, p.1)) es) ≡ lookup (λ k. bytes_eq q (string_bytes k)) es
-  find-named [] q = refl
-  find-named (e ∷ es) q = λ i. cond (is_eq-slice_cmp q (string_bytes e.0) i) (Some e.1) (find-named es q i)
+-- an answer that is changed under a test, beside another that comes before or after it
+or_early : {X : Type 0} (b : Bool) (x : X) (o r : Option X) → option_or (cond b (Some x) o) r ≡ cond b (Some x) (option_or o r)
+or_early true x o r = refl
+or_early false x o r = refl
 
-entry_of : {K : Type 0} (o : Option (K × EntityId)) (e : EntityId) → option_map (λ p. p.1) o ≡ Some e → (k : K) × (o ≡ Some (k, e))
-entry_of None e h = let no : None ≡ Some e = h in cc
-entry_of (Some p) e h = (p.0, let same : p.1 ≡ e = cc in ap (λ x. Some (p.0, x)) same)
+or_late : {X : Type 0} (b : Bool) (w o r : Option X) → (b ≡ true → o ≡ None) → option_or o (cond b w r) ≡ cond b w (option_or o r)
+or_late true w o r n = ap (λ p. option_or p w) (n refl)
+or_late false w o r n = refl
 
+or_gone : {X : Type 0} (b : Bool) (o r : Option X) → (b ≡ true → r ≡ None) → option_or (cond b None o) r ≡ cond b None (option_or o r)
+or_gone true o r n = n refl
+or_gone false o r n = refl
+
+module _ {K : Type 0} (text : K → List ℕ) (q : List ℕ) where
+  find-named : (es : List (K × EntityId)) → find (slice_cmp nat_cmp) q (map (λ p. (text p.0, p.1)) es) ≡ lookup (λ k. bytes_eq q (text k)) es
+  find-named [] = refl
+  find-named (e ∷ es) = λ i. cond (is_eq-slice_cmp q (text e.0) i) (Some e.1) (find-named es i)
+
+  find-before : (es : List (K × EntityId)) (rest : List (List ℕ × EntityId))
+      → find (slice_cmp nat_cmp) q (map (λ p. (text p.0, p.1)) es ++ rest) ≡ option_or (lookup (λ k. bytes_eq q (text k)) es) (find (slice_cmp nat_cmp) q rest)
+  find-before [] rest = refl
+  find-before (e ∷ es) rest = (λ i. cond (is_eq-slice_cmp q (text e.0) i) (Some e.1) (find-before es rest i)) ∙ sym (or_early (bytes_eq q (text e.0)) e.1 _ _)
+
+module _ {Y R S : Type 0} where
+  pub get-names_in : (s : HashMap (List ℕ) EntityId R) (l : HashMap (String Y) EntityId S) (q : List ℕ) → finite.get (names_in s l) q ≡ option_or (get (pointwise nat_eq) s q) (get_by_text l q)
+  get-names_in s l q = finite.get-from_entries nat_list_cmp_total _ q ∙ find-before (λ k. k) q s.entries (map (λ p. (string_bytes p.0, p.1)) l.entries)
+      ∙ ap (option_or (get (pointwise nat_eq) s q)) (find-named string_bytes q l.entries)
+
+  same_names : (names : Names) (s : HashMap (List ℕ) EntityId R) (l : HashMap (String Y) EntityId S) → ((q : List ℕ) → option_or (get (pointwise nat_eq) s q) (get_by_text l q) ≡ finite.get names q) → names_in s l ≡ names
+  same_names names s l same = finite.same_map nat_list_cmp_total (slice_cmp-IsAntisymmetric nat_cmp-IsAntisymmetric) _ _ (λ q. get-names_in s l q ∙ same q)
+
+  module _ (s s' : HashMap (List ℕ) EntityId R) (l l' : HashMap (String Y) EntityId S) (bs : List ℕ) where
+    get-inserted : (e : EntityId) (q : List ℕ) → finite.get (finite.insert (names_in s l) bs e) q ≡ cond (bytes_eq bs q) (Some e) (option_or (get (pointwise nat_eq) s q) (get_by_text l q))
+    get-inserted e q = finite.get-insert nat_list_cmp_total (names_in s l) bs e q ∙ (λ i. cond ((is_eq-slice_cmp q bs ∙ nat_list_eq_equiv.symm q bs) i) (Some e) (get-names_in s l q i))
+
+    get-removed : (q : List ℕ) → finite.get (finite.remove (names_in s l) bs) q ≡ cond (bytes_eq bs q) None (option_or (get (pointwise nat_eq) s q) (get_by_text l q))
+    get-removed q = finite.get-remove nat_list_cmp_total (names_in s l) bs q ∙ (λ i. cond ((is_eq-slice_cmp q bs ∙ nat_list_eq_equiv.symm q bs) i) None (get-names_in s l q i))
+
+    none_at : {X : Type 0} (f : List ℕ → Option X) → f bs ≡ None → (q : List ℕ) → bytes_eq bs q ≡ true → f q ≡ None
+    none_at f none q h = ap f (sym ((bytes_eq-Decides bs q).0 h)) ∙ none
+
+    pub insert_short : (e : EntityId) → UpdatesBy (pointwise nat_eq) (pointwise nat_eq bs) s s' (Some e) → names_in s' l ≡ finite.insert (names_in s l) bs e
+    insert_short e u = same_names _ s' l (λ q. ap (λ o. option_or o (get_by_text l q)) (u.0 q) ∙ or_early (bytes_eq bs q) e _ _ ∙ sym (get-inserted e q))
+
+    pub remove_short : get_by_text l bs ≡ None → UpdatesBy (pointwise nat_eq) (pointwise nat_eq bs) s s' None → names_in s' l ≡ finite.remove (names_in s l) bs
+    remove_short none u = same_names _ s' l (λ q. ap (λ o. option_or o (get_by_text l q)) (u.0 q) ∙ or_gone (bytes_eq bs q) _ _ (none_at (get_by_text l) none q) ∙ sym (get-removed q))
+
+    pub insert_long : (e : EntityId) → get (pointwise nat_eq) s bs ≡ None → UpdatesBy string_eq (λ k. bytes_eq bs (string_bytes k)) l l' (Some e) → names_in s l' ≡ finite.insert (names_in s l) bs e
+    insert_long e none u = same_names _ s l' (λ q. ap (option_or (get (pointwise nat_eq) s q)) (hash_map_updates_text bs l l' (Some e) u q)
+        ∙ or_late (bytes_eq bs q) (Some e) _ _ (none_at (get (pointwise nat_eq) s) none q) ∙ sym (get-inserted e q))
+
+    pub remove_long : get (pointwise nat_eq) s bs ≡ None → UpdatesBy string_eq (λ k. bytes_eq bs (string_bytes k)) l l' None → names_in s l' ≡ finite.remove (names_in s l) bs
+    remove_long none u = same_names _ s l' (λ q. ap (option_or (get (pointwise nat_eq) s q)) (hash_map_updates_text bs l l' None u q)
+        ∙ or_late (bytes_eq bs q) None _ _ (none_at (get (pointwise nat_eq) s) none q) ∙ sym (get-removed q))
+
+    -- what isn't in a map isn't there after a change at another name either
+    away : (b c d : Bool) (w o n : Option EntityId) → n ≡ cond b w o → (b ≡ true → c ≡ d) → d ≡ true → c ≡ false → o ≡ None → n ≡ None
+    away true c d w o n is same has lacks none = absurd (true≢false (sym has ∙ sym (same refl) ∙ lacks))
+    away false c d w o n is same has lacks none = is ∙ none
+
+    away_not : (b c d : Bool) (w o n : Option EntityId) → n ≡ cond b w o → (b ≡ true → c ≡ d) → d ≡ false → c ≡ true → o ≡ None → n ≡ None
+    away_not true c d w o n is same has lacks none = absurd (true≢false (sym lacks ∙ same refl ∙ has))
+    away_not false c d w o n is same has lacks none = is ∙ none
+
+    pub short_stays : (w : Option EntityId) → is_short bs ≡ true → UpdatesBy (pointwise nat_eq) (pointwise nat_eq bs) s s' w → ((q : List ℕ) → is_short q ≡ false → get (pointwise nat_eq) s q ≡ None)
+        → (q : List ℕ) → is_short q ≡ false → get (pointwise nat_eq) s' q ≡ None
+    short_stays w is u old q past = away (bytes_eq bs q) (is_short q) (is_short bs) w _ _ (u.0 q) (λ h. ap is_short (sym ((bytes_eq-Decides bs q).0 h))) is past (old q past)
+
+    pub long_stays : (w : Option EntityId) → is_short bs ≡ false → UpdatesBy string_eq (λ k. bytes_eq bs (string_bytes k)) l l' w → ((q : List ℕ) → is_short q ≡ true → get_by_text l q ≡ None)
+        → (q : List ℕ) → is_short q ≡ true → get_by_text l' q ≡ None
+    long_stays w is u old q fits = away_not (bytes_eq bs q) (is_short q) (is_short bs) w _ _ (hash_map_updates_text bs l l' w u q) (λ h. ap is_short (sym ((bytes_eq-Decides bs q).0 h))) is fits (old q fits)
+
+  pub names_unchanged : (s s' : HashMap (List ℕ) EntityId R) (l l' : HashMap (String Y) EntityId S) → s'.entries ≡ s.entries → l'.entries ≡ l.entries → names_in s' l' ≡ names_in s l
+  names_unchanged s s' l l' e f = λ i. finite.from_entries (map (λ p. (p.0, p.1)) (e i) ++ map (λ p. (string_bytes p.0, p.1)) (f i))
+
+-- which names are kept with entities, after a name is bound and after one goes
+module _ {Y : Type 0} (names : Names) (old new : Texts Y) (bs : List ℕ) (e : EntityId) where
+  at_insert : (b c : Bool) (q : List ℕ) (f : EntityId) → (b ≡ true → e ≡ f) → (e ≡ f → b ≡ true) → (c ≡ true → q ≡ bs) → (q ≡ bs → c ≡ true) → (n : Option EntityId)
+      → ((text_of old f ≡ Some q) ↔ (finite.get names q ≡ Some f)) → ((text_of old f ≡ Some bs) ↔ (finite.get names bs ≡ Some f)) → finite.get names bs ≡ None → text_of old e ≡ None
+      → text_of new f ≡ cond b (Some bs) (text_of old f) → n ≡ cond c (Some e) (finite.get names q) → (text_of new f ≡ Some q) ↔ (n ≡ Some f)
+  at_insert true true q f bf fb cq qc n at here free none t is = (λ h. is ∙ ap Some (bf refl), λ h. t ∙ ap Some (sym (cq refl)))
+  at_insert true false q f bf fb cq qc n at here free none t is = (
+    λ h. let same : Some bs ≡ Some q = sym t ∙ h in let one : bs ≡ q = cc in absurd (true≢false (sym (qc (sym one)))),
+    λ h. let was : text_of old f ≡ Some q = at.1 (sym is ∙ h) in let no : None ≡ Some q = sym none ∙ ap (text_of old) (bf refl) ∙ was in cc,
+  )
+  at_insert false true q f bf fb cq qc n at here free none t is = (
+    λ h. let text : text_of old f ≡ Some bs = sym t ∙ h ∙ ap Some (cq refl) in let no : None ≡ Some f = sym free ∙ here.0 text in cc,
+    λ h. let same : Some e ≡ Some f = sym is ∙ h in let one : e ≡ f = cc in absurd (true≢false (sym (fb one))),
+  )
+  at_insert false false q f bf fb cq qc n at here free none t is = (λ h. is ∙ at.0 (sym t ∙ h), λ h. t ∙ at.1 (sym is ∙ h))
+
+  pub kept_inserted : ((q : List ℕ) (f : EntityId) → (text_of old f ≡ Some q) ↔ (finite.get names q ≡ Some f)) → finite.get names bs ≡ None → text_of old e ≡ None
+      → ((f : EntityId) → text_of new f ≡ cond (entity_eq e f) (Some bs) (text_of old f)) → (q : List ℕ) (f : EntityId) → (text_of new f ≡ Some q) ↔ (finite.get (finite.insert names bs e) q ≡ Some f)
+  kept_inserted at free none t q f = at_insert (entity_eq e f) (bytes_eq q bs) q f (same_entity e f) (entity_eq_true e f) (bytes_eq-Decides q bs).0 (bytes_eq-Decides q bs).1 _ (at q f) (at bs f) free none (t f)
+      (finite.get-insert nat_list_cmp_total names bs e q ∙ (λ i. cond (is_eq-slice_cmp q bs i) (Some e) (finite.get names q)))
+
+  at_remove : (b c : Bool) (q : List ℕ) (f : EntityId) → (b ≡ true → e ≡ f) → (e ≡ f → b ≡ true) → (c ≡ true → q ≡ bs) → (q ≡ bs → c ≡ true) → (n : Option EntityId)
+      → ((text_of old f ≡ Some q) ↔ (finite.get names q ≡ Some f)) → ((text_of old f ≡ Some bs) ↔ (finite.get names bs ≡ Some f)) → finite.get names bs ≡ Some e → text_of old e ≡ Some bs
+      → text_of new f ≡ cond b None (text_of old f) → n ≡ cond c None (finite.get names q) → (text_of new f ≡ Some q) ↔ (n ≡ Some f)
+  at_remove true true q f bf fb cq qc n at here is_e had t is = (λ h. let no : None ≡ Some q = sym t ∙ h in cc, λ h. let no : None ≡ Some f = sym is ∙ h in cc)
+  at_remove true false q f bf fb cq qc n at here is_e had t is = (
+    λ h. let no : None ≡ Some q = sym t ∙ h in cc,
+    λ h. let was : text_of old f ≡ Some q = at.1 (sym is ∙ h) in let same : Some bs ≡ Some q = sym had ∙ ap (text_of old) (bf refl) ∙ was in let one : bs ≡ q = cc in absurd (true≢false (sym (qc (sym one)))),
+  )
+  at_remove false true q f bf fb cq qc n at here is_e had t is = (
+    λ h. let text : text_of old f ≡ Some bs = sym t ∙ h ∙ ap Some (cq refl) in let same : Some e ≡ Some f = sym is_e ∙ here.0 text in let one : e ≡ f = cc in absurd (true≢false (sym (fb one))),
+    λ h. let no : None ≡ Some f = sym is ∙ h in cc,
+  )
+  at_remove false false q f bf fb cq qc n at here is_e had t is = (λ h. is ∙ at.0 (sym t ∙ h), λ h. t ∙ at.1 (sym is ∙ h))
+
+  pub kept_removed : ((q : List ℕ) (f : EntityId) → (text_of old f ≡ Some q) ↔ (finite.get names q ≡ Some f)) → finite.get names bs ≡ Some e
+      → ((f : EntityId) → text_of new f ≡ cond (entity_eq e f) None (text_of old f)) → (q : List ℕ) (f : EntityId) → (text_of new f ≡ Some q) ↔ (finite.get (finite.remove names bs) q ≡ Some f)
+  kept_removed at is_e t q f = at_remove (entity_eq e f) (bytes_eq q bs) q f (same_entity e f) (entity_eq_true e f) (bytes_eq-Decides q bs).0 (bytes_eq-Decides q bs).1 _ (at q f) (at bs f) is_e ((at bs e).1 is_e) (t f)
+      (finite.get-remove nat_list_cmp_total names bs q ∙ (λ i. cond (is_eq-slice_cmp q bs i) None (finite.get names q)))
+
+-- what the index says of its fields
 none_if : {X : Type 0} (o : Option X) → ((x : X) → o ≡ Some x → ⊥) → o ≡ None
 none_if None k = refl
 none_if (Some x) k = absurd (k x refl)
 
-pub none_some : {X : Type 0} (x : X) → None ≡ Some x → ⊥
-none_some x h = cc
+module _ {Y R S : Type 0} (names : Names) (s : HashMap (List ℕ) EntityId R) (l : HashMap (String Y) EntityId S) (texts : Texts Y) (view : names_in s l ≡ names) (kept : AreKept s l texts) where
+  pub at_names : (q : List ℕ) (e : EntityId) → (text_of texts e ≡ Some q) ↔ (finite.get names q ≡ Some e)
+  at_names q e = (λ h. ap (λ m. finite.get m q) (sym view) ∙ (kept.at q e).0 h, λ h. (kept.at q e).1 (ap (λ m. finite.get m q) view ∙ h))
 
-pub first_same : {A B : Type 0} (p q : A × B) → Some p ≡ Some q → p.0 ≡ q.0
-first_same p q h = let same : p ≡ q = cc in ap (λ x. x.0) same
+  pub found_short : (q : List ℕ) → is_short q ≡ true → finite.get names q ≡ get (pointwise nat_eq) s q
+  found_short q is = ap (λ m. finite.get m q) (sym view) ∙ get-names_in s l q ∙ ap (option_or (get (pointwise nat_eq) s q)) (kept.apart.longs q is) ∙ or_none (get (pointwise nat_eq) s q)
+    where
+      or_none : (o : Option EntityId) → option_or o None ≡ o
+      or_none None = refl
+      or_none (Some x) = refl
 
-module _ {Y S : Type 0} where
-  pub get-names_in : (m : HashMap (String Y) EntityId S) (q : List ℕ) → finite.get (names_in m) q ≡ get_by_text m q
-  get-names_in m q = finite.get-from_entries nat_list_cmp_total _ q ∙ find-named m.entries q
+  pub found_long : (q : List ℕ) → is_short q ≡ false → finite.get names q ≡ get_by_text l q
+  found_long q is = ap (λ m. finite.get m q) (sym view) ∙ get-names_in s l q ∙ ap (λ o. option_or o (get_by_text l q)) (kept.apart.shorts q is)
 
-  same_names : (names : Names) (n : HashMap (String Y) EntityId S) → ((q : List ℕ) → get_by_text n q ≡ finite.get names q) → names_in n ≡ names
-  same_names names n same = finite.same_map nat_list_cmp_total (slice_cmp-IsAntisymmetric nat_cmp-IsAntisymmetric) _ _ (λ q. get-names_in n q ∙ same q)
+  pub unnamed : (e : EntityId) → text_of texts e ≡ None → IsUnnamed names e
+  unnamed e none q h = let no : None ≡ Some q = sym none ∙ (at_names q e).1 h in cc
 
-  module _ (m n : HashMap (String Y) EntityId S) (bs : List ℕ) where
-    pub names_in-insert : (e : EntityId) → UpdatesBy string_eq (λ k. bytes_eq bs (string_bytes k)) m n (Some e) → names_in n ≡ finite.insert (names_in m) bs e
-    names_in-insert e u = same_names _ n (λ q. hash_map_updates_text bs m n (Some e) u q ∙ sym (finite.get-insert nat_list_cmp_total (names_in m) bs e q
-        ∙ (λ i. cond ((is_eq-slice_cmp q bs ∙ nat_list_eq_equiv.symm q bs) i) (Some e) (get-names_in m q i))))
-
-    pub names_in-remove : UpdatesBy string_eq (λ k. bytes_eq bs (string_bytes k)) m n None → names_in n ≡ finite.remove (names_in m) bs
-    names_in-remove u = same_names _ n (λ q. hash_map_updates_text bs m n None u q ∙ sym (finite.get-remove nat_list_cmp_total (names_in m) bs q
-        ∙ (λ i. cond ((is_eq-slice_cmp q bs ∙ nat_list_eq_equiv.symm q bs) i) None (get-names_in m q i))))
-
-  pub names_in-unchanged : (m n : HashMap (String Y) EntityId S) → n.entries ≡ m.entries → names_in n ≡ names_in m
-  names_in-unchanged m n e = ap (λ es. finite.from_entries (map (λ p. (string_bytes p.0, p.1)) es)) e
-
--- what the index says of its fields
-module _ {Y S : Type 0} (names : Names) (m : HashMap (String Y) EntityId S) (positions : Positions Y) (view : names_in m ≡ names) (kept : AreKept m positions) where
-  pub found : (q : List ℕ) → finite.get names q ≡ get_by_text m q
-  found q = rw (← view) (get-names_in m q)
-
-  -- the name at a position is that of its entity
-  pub named_by : (i : ℕ) (k : String Y) (e : EntityId) → slice_get m.entries i ≡ Some (k, e) → finite.get names (string_bytes k) ≡ Some e
-  named_by i k e at = found (string_bytes k) ∙ lookup_from_place string_eq_equiv m.entries i k e kept.unique at
-
-  -- and each entity with a name is kept with the position of that name
-  pub place_of_name : (q : List ℕ) (e : EntityId) → finite.get names q ≡ Some e → (i : ℕ) × (k : String Y) × (slice_get m.entries i ≡ Some (k, e)) × (string_bytes k ≡ q) × (position_of positions e ≡ Some i)
-  place_of_name q e h =
-      let place = place_from_lookup (λ k. bytes_eq q (string_bytes k)) m.entries e (sym (found q) ∙ h) in
-      (place.0, place.1, place.2, sym ((bytes_eq-Decides q (string_bytes place.1)).0 place.3), (kept.at place.0 e).1 (ap (option_map (λ p. p.1)) place.2))
-
-  pub named_as : (i : ℕ) (k : String Y) (e : EntityId) → slice_get m.entries i ≡ Some (k, e) → (q : List ℕ) → finite.get names q ≡ Some e → string_bytes k ≡ q
-  named_as i k e at q h =
-      let place = place_of_name q e h in
-      let here : position_of positions e ≡ Some i = (kept.at i e).1 (ap (option_map (λ p. p.1)) at) in
-      let same : place.0 ≡ i = (let both : Some place.0 ≡ Some i = sym place.4 ∙ here in cc) in
-      ap string_bytes (first_same (k, e) (place.1, e) (sym at ∙ ap (slice_get m.entries) (sym same) ∙ place.2)) ∙ place.3
-
-  pub unnamed : (e : EntityId) → position_of positions e ≡ None → IsUnnamed names e
-  unnamed e none q h = let place = place_of_name q e h in let no : None ≡ Some place.0 = sym none ∙ place.4 in cc
-
-  -- the name at the position that is kept for an entity
-  pub entry_at : (i : ℕ) (e : EntityId) → position_of positions e ≡ Some i → (k : String Y) × (slice_get m.entries i ≡ Some (k, e))
-  entry_at i e h = entry_of (slice_get m.entries i) e ((kept.at i e).0 h)
-
-  pub no_position : (e : EntityId) → IsUnnamed names e → position_of positions e ≡ None
-  no_position e k = none_if (position_of positions e) (λ i h. let entry = entry_at i e h in k (string_bytes entry.0) (named_by i entry.0 e entry.1))
+  pub no_text : (e : EntityId) → IsUnnamed names e → text_of texts e ≡ None
+  no_text e k = none_if (text_of texts e) (λ q h. k q ((at_names q e).0 h))
 
   pub one_to_one : IsOneToOne names
-  one_to_one p q e h k = let place = place_of_name p e h in sym place.3 ∙ named_as place.0 place.1 e place.2 q k
-
--- what `swap_remove_index` takes out at the position that is kept for an entity
-module _ {Y S : Type 0} (names : Names) (m n : HashMap (String Y) EntityId S) (positions : Positions Y) (view : names_in m ≡ names) (kept : AreKept m positions) (i : ℕ) (e : EntityId) (at : position_of positions e ≡ Some i) where
-  pub taken_out : (result : Option (String Y × EntityId)) → result ≡ slice_get m.entries i → IfSome result (λ p. n.entries ≡ swap_remove m.entries i p) → IfSome result (λ p. Updates string_eq m n p.0 None)
-      → (k : String Y) × (slice_get m.entries i ≡ Some (k, e)) × (n.entries ≡ swap_remove m.entries i (k, e)) × (names_in n ≡ finite.remove names (string_bytes k))
-  taken_out result is entries updates =
-      let entry = entry_at names m positions view kept i e at in
-      let some : result ≡ Some (entry.0, e) = is ∙ entry.1 in
-      (entry.0, entry.1, (rw some at entries), names_in-remove m n (string_bytes entry.0) (rw some at updates) ∙ (λ j. finite.remove (view j) (string_bytes entry.0)))
+  one_to_one p q e h k = let same : Some p ≡ Some q = sym ((at_names p e).1 h) ∙ (at_names q e).1 k in cc
 
 -- what q names for another entity f, once bs names e where it named nothing, or nothing where it named e. b says whether q is bs
 other_at : (b : Bool) (o new w was : Option EntityId) (e f : EntityId) → new ≡ cond b w o → (b ≡ true → o ≡ was) → (w ≡ Some f → ⊥) → (was ≡ Some f → ⊥) → (new ≡ Some f) ↔ (o ≡ Some f)
@@ -144,9 +206,79 @@ module _ (names : Names) (bs : List ℕ) (e : EntityId) where
   IsUnnamed-remove one is q = gone_at (bytes_eq q bs) q (finite.get-remove nat_list_cmp_total names bs q ∙ (λ i. cond (is_eq-slice_cmp q bs i) None (finite.get names q)))
       (λ h. (bytes_eq-Decides q bs).1 (one q bs e h is))
 
-pub IsUnnamed-empty : {Y S : Type 0} (m : HashMap (String Y) EntityId S) → m.entries ≡ [] → (e : EntityId) → IsUnnamed (names_in m) e
-IsUnnamed-empty m none e q h = let no : None ≡ Some e = sym (get-names_in m q ∙ ap (lookup (λ k. bytes_eq q (string_bytes k))) none) ∙ h in cc
-
 pub is_none_of : {X : Type 0} (o : Option X) → is_some o ≡ false → o ≡ None
 is_none_of None h = refl
 is_none_of (Some x) h = absurd (true≢false h)
+
+-- after a short name is bound
+module _ {Y R S : Type 0} (names : Names) (s s1 s' : HashMap (List ℕ) EntityId R) (l : HashMap (String Y) EntityId S) (old : Texts Y) (view : names_in s l ≡ names) (kept : AreKept s l old)
+    (bs n : List ℕ) (named : bs ≡ n) (e : EntityId) (same : s1.entries ≡ s.entries) (u : Updates (pointwise nat_eq) s1 s' bs (Some e)) where
+  pub bound_short : names_in s' l ≡ finite.insert names n e
+  bound_short = insert_short s1 s' l l bs e u ∙ (λ i. finite.insert ((names_unchanged s s1 l l same refl ∙ view) i) (named i) e)
+
+  pub kept_short : (new : Texts Y) → is_short n ≡ true → finite.get names n ≡ None → IsUnnamed names e → ((f : EntityId) → text_of new f ≡ cond (entity_eq e f) (Some n) (text_of old f)) → AreKept s' l new
+  kept_short new is free un t = record {
+    apart = record {
+      shorts = short_stays s1 s' l l bs (Some e) (ap is_short named ∙ is) u (λ q past. ap (lookup (pointwise nat_eq q)) same ∙ kept.apart.shorts q past);
+      longs = kept.apart.longs;
+    };
+    at = λ q f. subst (λ m. (text_of new f ≡ Some q) ↔ (finite.get m q ≡ Some f)) (sym bound_short)
+        (kept_inserted names old new n e (at_names names s l old view kept) free (no_text names s l old view kept e un) t q f);
+  }
+
+-- after a long one is
+module _ {Y R S : Type 0} (names : Names) (s : HashMap (List ℕ) EntityId R) (l l1 l' : HashMap (String Y) EntityId S) (old : Texts Y) (view : names_in s l ≡ names) (kept : AreKept s l old)
+    (k : String Y) (n : List ℕ) (named : string_bytes k ≡ n) (is : is_short n ≡ false) (e : EntityId) (same : l1.entries ≡ l.entries) (u : Updates string_eq l1 l' k (Some e)) where
+  pub bound_long : names_in s l' ≡ finite.insert names n e
+  bound_long = insert_long s s l1 l' (string_bytes k) e (kept.apart.shorts (string_bytes k) (ap is_short named ∙ is)) u ∙ (λ i. finite.insert ((names_unchanged s s l l1 refl same ∙ view) i) (named i) e)
+
+  pub kept_long : (new : Texts Y) → finite.get names n ≡ None → IsUnnamed names e → ((f : EntityId) → text_of new f ≡ cond (entity_eq e f) (Some n) (text_of old f)) → AreKept s l' new
+  kept_long new free un t = record {
+    apart = record {
+      shorts = kept.apart.shorts;
+      longs = long_stays s s l1 l' (string_bytes k) (Some e) (ap is_short named ∙ is) u (λ q fits. ap (lookup (λ x. bytes_eq q (string_bytes x))) same ∙ kept.apart.longs q fits);
+    };
+    at = λ q f. subst (λ m. (text_of new f ≡ Some q) ↔ (finite.get m q ≡ Some f)) (sym bound_long)
+        (kept_inserted names old new n e (at_names names s l old view kept) free (no_text names s l old view kept e un) t q f);
+  }
+
+-- after a name goes
+module _ {Y R S : Type 0} (names : Names) (s s' : HashMap (List ℕ) EntityId R) (l l' : HashMap (String Y) EntityId S) (old : Texts Y) (view : names_in s l ≡ names) (kept : AreKept s l old)
+    (n : List ℕ) (e : EntityId) (had : text_of old e ≡ Some n) (gone : names_in s' l' ≡ finite.remove (names_in s l) n) where
+  left : names_in s' l' ≡ finite.remove names n
+  left = gone ∙ ap (λ m. finite.remove m n) view
+
+  is_e : finite.get names n ≡ Some e
+  is_e = (at_names names s l old view kept n e).0 had
+
+  pub kept_left : (new : Texts Y) → AreApart s' l' → ((f : EntityId) → text_of new f ≡ cond (entity_eq e f) None (text_of old f)) → AreKept s' l' new
+  kept_left new apart t = record {
+    apart = apart;
+    at = λ q f. subst (λ m. (text_of new f ≡ Some q) ↔ (finite.get m q ≡ Some f)) (sym left) (kept_removed names old new n e (at_names names s l old view kept) is_e t q f);
+  }
+
+  pub freed : IsUnnamed (names_in s' l') e
+  freed = subst (λ m. IsUnnamed m e) (sym left) (IsUnnamed-remove names n e (one_to_one names s l old view kept) is_e)
+
+  pub others : OthersKeepTheirs names (names_in s' l') e
+  others = subst (λ m. OthersKeepTheirs names m e) (sym left) (OthersKeepTheirs-remove names n e is_e)
+
+  pub left_by : (q : List ℕ) → finite.get names q ≡ Some e → names_in s' l' ≡ finite.remove names q
+  left_by q h = left ∙ ap (finite.remove names) (one_to_one names s l old view kept n q e is_e h)
+
+  pub was_named : IsUnnamed names e → ⊥
+  was_named un = un n is_e
+
+-- without names
+module _ {Y R S : Type 0} (s : HashMap (List ℕ) EntityId R) (l : HashMap (String Y) EntityId S) (no_short : s.entries ≡ []) (no_long : l.entries ≡ []) where
+  none_at_all : (q : List ℕ) → finite.get (names_in s l) q ≡ None
+  none_at_all q = get-names_in s l q ∙ (λ i. option_or (lookup (pointwise nat_eq q) (no_short i)) (lookup (λ k. bytes_eq q (string_bytes k)) (no_long i)))
+
+  pub unnamed_all : (e : EntityId) → IsUnnamed (names_in s l) e
+  unnamed_all e q h = let no : None ≡ Some e = sym (none_at_all q) ∙ h in cc
+
+  pub kept_none : (texts : Texts Y) → ((q : EntityId) → text_of texts q ≡ None) → AreKept s l texts
+  kept_none texts none = record {
+    apart = record { shorts = λ q _. ap (lookup (pointwise nat_eq q)) no_short; longs = λ q _. ap (lookup (λ k. bytes_eq q (string_bytes k))) no_long };
+    at = λ q e. (λ h. let no : None ≡ Some q = sym (none e) ∙ h in cc, λ h. let no : None ≡ Some e = sym (none_at_all q) ∙ h in cc);
+  }

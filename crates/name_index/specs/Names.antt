@@ -1,15 +1,16 @@
 -- The names of entities: a finite map from the bytes of a name to the entity that has it.
-use Rattle.std.specs.Prelude.{◌≡◌, ◌≢◌, ℕ, ◌==◌, ◌&&◌, Bool, List, ◌↔◌, Option, Some, None, cond, map, option_map, slice_get, refl}
+use Rattle.std.specs.Prelude.{◌≡◌, ◌≢◌, ℕ, ◌==◌, ◌&&◌, ◌++◌, Bool, true, false, List, ◌↔◌, Some, None, map, nat_eq, refl}
 use Rattle.std.specs.Ordering.{nat_cmp}
-use Rattle.std.specs.Cmp.Lexicographic.{slice_cmp}
+use Rattle.std.specs.Cmp.Lexicographic.{pointwise, slice_cmp}
 use Rattle.std.specs.Coded.{Coded, code_by, coded×, coded_ℕ}
 use Rattle.std.specs.declared.string.String.{String}
-use Rattle.std.specs.String.{string_bytes, string_eq}
-use Rattle.std.specs.HashMap.{HashMap, IsUnique}
+use Rattle.std.specs.String.{string_bytes}
+use Rattle.std.specs.HashMap.{HashMap, get, get_by_text}
 use Rattle.std.specs.FinMap as finite
 use Rattle.ecs_id.specs.declared.EntityId.{EntityId}
-use Rattle.name_index.specs.declared.positions.Positions.{Positions}
-use Rattle.name_index.specs.Positions.{position_of}
+use Rattle.name_index.specs.declared.texts.Texts.{Texts}
+use Rattle.name_index.specs.Short.{is_short}
+use Rattle.name_index.specs.Texts.{text_of}
 
 abbrev pub Names : Type 0
 Names = finite.FinMap (slice_cmp nat_cmp) EntityId
@@ -36,20 +37,16 @@ abbrev pub OthersKeepTheirs : Names → Names → EntityId → Type 0
 OthersKeepTheirs old new entity =
     (n : List ℕ) (other : EntityId) → other ≢ entity → (finite.get new n ≡ Some other) ↔ (finite.get old n ≡ Some other)
 
--- what a map by name holds
-abbrev pub names_in : {Y S : Type 0} → HashMap (String Y) EntityId S → Names
-names_in by_name = finite.from_entries (map (λ p. (string_bytes p.0, p.1)) by_name.entries)
+-- what two maps by name hold: one of short names, and one of the others
+abbrev pub names_in : {Y R S : Type 0} → HashMap (List ℕ) EntityId R → HashMap (String Y) EntityId S → Names
+names_in short long = finite.from_entries (map (λ p. (p.0, p.1)) short.entries ++ map (λ p. (string_bytes p.0, p.1)) long.entries)
 
--- the entity whose name stands at a position
-abbrev pub holder_at : {K : Type 0} → List (K × EntityId) → ℕ → Option EntityId
-holder_at entries i = option_map (λ p. p.1) (slice_get entries i)
+-- each of them has its names alone
+pub record AreApart {Y R S : Type 0} (short : HashMap (List ℕ) EntityId R) (long : HashMap (String Y) EntityId S) : Type 0 where
+  pub shorts : (q : List ℕ) → is_short q ≡ false → get (pointwise nat_eq) short q ≡ None
+  pub longs : (q : List ℕ) → is_short q ≡ true → get_by_text long q ≡ None
 
--- each entity that has a name is kept with the position of its name, and no other
-pub record AreKept {Y S : Type 0} (by_name : HashMap (String Y) EntityId S) (positions : Positions Y) : Type 0 where
-  pub unique : IsUnique string_eq by_name
-  pub at : (i : ℕ) (e : EntityId) → (position_of positions e ≡ Some i) ↔ (holder_at by_name.entries i ≡ Some e)
-
--- the entity whose name came to the position is kept with it, and every other as before
-abbrev pub KeepsAt : {Y : Type 0} → Option EntityId → ℕ → Positions Y → Positions Y → Type 0
-KeepsAt None i old new = (q : EntityId) → position_of new q ≡ position_of old q
-KeepsAt (Some e) i old new = (q : EntityId) → position_of new q ≡ cond (entity_eq e q) (Some i) (position_of old q)
+-- and each entity that has a name is kept with it
+pub record AreKept {Y R S : Type 0} (short : HashMap (List ℕ) EntityId R) (long : HashMap (String Y) EntityId S) (texts : Texts Y) : Type 0 where
+  pub apart : AreApart short long
+  pub at : (q : List ℕ) (e : EntityId) → (text_of texts e ≡ Some q) ↔ (finite.get (names_in short long) q ≡ Some e)

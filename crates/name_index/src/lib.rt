@@ -1,20 +1,22 @@
 //! The names of entities, one to one: no two entities have one name, and no entity has two.
 #![tactic(auto)]
 
-ghost use Rattle.std.specs.Prelude.{◌≡◌, ◌≢◌, ◌↔◌, ℕ, List, true, false, Some, None, IsSome, IfNone, IfSome, OnOk, OnErr, IsErrOf};
+ghost use Rattle.std.specs.Prelude.{◌≡◌, ◌≢◌, ◌↔◌, ℕ, List, false, true, None, Some, IsSome, IfNone, OnOk, OnErr, IsErrOf};
 ghost use Rattle.std.specs.Option.{option_copied};
 ghost use Rattle.std.specs.FinMap as finite;
 ghost use Rattle.ecs_id.specs.declared.EntityId.{EntityId};
 ghost use Rattle.ecs_model.specs.Text.{is_name};
-ghost use Rattle.name_index.specs.Names.{holder_at, IsOneToOne, IsUnnamed, KeepsAt, OthersKeepTheirs};
-ghost use Rattle.name_index.specs.Positions.{position_of};
+ghost use Rattle.name_index.specs.Names.{AreApart, IsOneToOne, IsUnnamed, OthersKeepTheirs, names_in};
+ghost use Rattle.name_index.specs.Short.{is_short};
 
 mod error;
 mod keyed;
-mod positions;
+mod short;
+mod texts;
 
 use crate::keyed::Keyed;
-use crate::positions::Positions;
+use crate::short::ShortName;
+use crate::texts::Texts;
 use ecs_id::EntityId;
 use ecs_model::is_name;
 pub use error::BindError;
@@ -23,16 +25,19 @@ use std::alloc::{Allocator, Global};
 use std::hash::RandomState;
 use std::marker::Model;
 
-type ByName<A> = IndexMap<String<A>, EntityId, Keyed, A>;
+type ByShort<A> = IndexMap<ShortName, EntityId, Keyed, A>;
+
+type ByLong<A> = IndexMap<String<A>, EntityId, Keyed, A>;
 
 /// Which entity each name names.
 ///
-/// Each name is stored once: of an entity its position among the names is known. But for growth, each call takes constant time,
-/// whatever the names are, since nobody who chooses them knows the random keys.
+/// But for growth, each call takes constant time for names of at most 15 bytes, whatever they are, since nobody who chooses them
+/// knows the random keys. Longer names are kept apart, and of each entity in order.
 #[derive(Drop)]
 pub struct NameIndex<A: Allocator = Global> {
-    by_name: ByName<A>,
-    positions: Positions<A>,
+    short: ByShort<A>,
+    long: ByLong<A>,
+    texts: Texts<A>,
 }
 
 impl<A: Allocator> Model for NameIndex<A> {
@@ -44,9 +49,9 @@ impl<A: Allocator> Model for NameIndex<A> {
 
     ghost coded = { finite.code (coded_list coded_ℕ) entity_code };
 
-    ghost view = { λ s. names_in s.by_name };
+    ghost view = { λ s. names_in s.short s.long };
 
-    ghost invariant = { λ s. AreKept s.by_name s.positions };
+    ghost invariant = { λ s. AreKept s.short s.long s.texts };
 }
 
 impl<A: Allocator + Copy> NameIndex<A> {
@@ -55,9 +60,11 @@ impl<A: Allocator + Copy> NameIndex<A> {
         ensures empty { result ≡ finite.empty }
         ensures unnamed { (entity : EntityId) → IsUnnamed result entity }
     {
+        let hashing = Keyed::new(random);
         NameIndex {
-            by_name: IndexMap::with_hasher(alloc, Keyed::new(random)),
-            positions: Positions::new(alloc),
+            short: IndexMap::with_hasher(alloc, hashing),
+            long: IndexMap::with_hasher(alloc, hashing),
+            texts: Texts::new(alloc),
         }
     }
 
@@ -77,16 +84,58 @@ impl<A: Allocator + Copy> NameIndex<A> {
             → ((is_name name.now ≡ true) × (finite.get self.old name.now ≡ None)) }
         ensures refused { OnErr result (self.new ≡ self.old) }
     {
-        if let Some(error) = self.refusal(name) {
-            return Err(error);
+        if !is_name(name.as_bytes()) {
+            return Err(BindError::BadName);
         }
-        let Ok(position) = u32::try_from(self.by_name.len()) else {
-            return Err(BindError::Memory);
-        };
-        let key = String::from_str(*self.by_name.allocator(), name)?;
-        self.by_name.reserve(1)?;
-        self.positions.set(entity, position)?;
-        self.by_name.insert(key, entity).unwrap();
+        match ShortName::new(name) {
+            Some(key) => self.bind_short(key, name, entity),
+            None => self.bind_long(name, entity),
+        }
+    }
+
+    // Binds a short name.
+    #[inline(always)]
+    fn bind_short(&mut self, key: ShortName, name: &str, entity: EntityId) -> Result<(), BindError>
+        requires unnamed { IsUnnamed self.old entity }
+        requires short { is_short name.now ≡ true }
+        requires key { key ≡ name.now }
+        ensures bound { OnOk result (self.new ≡ finite.insert self.old name.now entity) }
+        ensures others { OnOk result (OthersKeepTheirs self.old self.new entity) }
+        ensures free { OnOk result (finite.get self.old name.now ≡ None) }
+        ensures bad_name { ¬ IsErrOf result BindError.BadName }
+        ensures name_taken { IsErrOf result BindError.NameTaken ↔ IsSome (finite.get self.old name.now) }
+        ensures memory { IsErrOf result BindError.Memory → finite.get self.old name.now ≡ None }
+        ensures refused { OnErr result (self.new ≡ self.old) }
+    {
+        if self.has_short(&key) {
+            return Err(BindError::NameTaken);
+        }
+        self.short.reserve(1)?;
+        self.texts.set(entity, name)?;
+        self.short.insert(key, entity).unwrap();
+        Ok(())
+    }
+
+    // Binds a name that isn't short.
+    #[inline(never)]
+    fn bind_long(&mut self, name: &str, entity: EntityId) -> Result<(), BindError>
+        requires unnamed { IsUnnamed self.old entity }
+        requires long { is_short name.now ≡ false }
+        ensures bound { OnOk result (self.new ≡ finite.insert self.old name.now entity) }
+        ensures others { OnOk result (OthersKeepTheirs self.old self.new entity) }
+        ensures free { OnOk result (finite.get self.old name.now ≡ None) }
+        ensures bad_name { ¬ IsErrOf result BindError.BadName }
+        ensures name_taken { IsErrOf result BindError.NameTaken ↔ IsSome (finite.get self.old name.now) }
+        ensures memory { IsErrOf result BindError.Memory → finite.get self.old name.now ≡ None }
+        ensures refused { OnErr result (self.new ≡ self.old) }
+    {
+        if self.has_long(name) {
+            return Err(BindError::NameTaken);
+        }
+        let key = String::from_str(*self.long.allocator(), name)?;
+        self.long.reserve(1)?;
+        self.texts.set(entity, name)?;
+        self.long.insert(key, entity).unwrap();
         Ok(())
     }
 }
@@ -97,7 +146,10 @@ impl<A: Allocator> NameIndex<A> {
         ensures value { result ≡ finite.get self.now name.now }
         ensures one_to_one { IsOneToOne self.now }
     {
-        self.by_name.get(name).copied()
+        match ShortName::new(name) {
+            Some(key) => self.short.get(&key).copied(),
+            None => self.long.get(name).copied(),
+        }
     }
 
     /// The name of the entity.
@@ -106,9 +158,7 @@ impl<A: Allocator> NameIndex<A> {
             → (option_copied result ≡ Some name) ↔ (finite.get self.now name ≡ Some entity) }
         ensures unnamed { IfNone result (IsUnnamed self.now entity) }
     {
-        let position = self.positions.get(entity)?;
-        let (name, _) = self.by_name.get_index(position as usize)?;
-        Some(name.as_str())
+        self.texts.get(entity)
     }
 
     /// Frees the name of the entity. Of an entity without a name it does nothing.
@@ -119,37 +169,45 @@ impl<A: Allocator> NameIndex<A> {
             → finite.get self.old name ≡ Some entity → self.new ≡ finite.remove self.old name }
         ensures unnamed { IsUnnamed self.old entity → self.new ≡ self.old }
     {
-        let Some(position) = self.positions.remove(entity) else {
+        let Some(name) = self.texts.get(entity) else {
             return;
         };
-        self.by_name.swap_remove_index(position as usize);
-        keep_at(&self.by_name, &mut self.positions, position);
+        take_out(&mut self.short, &mut self.long, name);
+        self.texts.remove(entity);
     }
 
-    // Why the text is not to be bound, apart from want of memory.
-    fn refusal(&self, name: &str) -> Option<BindError>
-        ensures bad_name { (result ≡ Some BindError.BadName) ↔ (is_name name.now ≡ false) }
-        ensures name_taken { (result ≡ Some BindError.NameTaken)
-            ↔ ((is_name name.now ≡ true) × IsSome (finite.get self.now name.now)) }
-        ensures no_memory { result ≢ Some BindError.Memory }
-        ensures free { IfNone result ((is_name name.now ≡ true) × (finite.get self.now name.now ≡ None)) }
+    // Whether an entity has the short name.
+    #[inline(always)]
+    fn has_short(&self, name: &ShortName) -> bool
+        requires { is_short name.now ≡ true }
+        ensures taken { result ≡ true → IsSome (finite.get self.now name.now) }
+        ensures free { result ≡ false → finite.get self.now name.now ≡ None }
     {
-        if !is_name(name.as_bytes()) {
-            return Some(BindError::BadName);
-        }
-        if self.by_name.contains_key(name) {
-            return Some(BindError::NameTaken);
-        }
-        None
+        self.short.contains_key(name)
+    }
+
+    // Whether an entity has the name, which isn't short.
+    fn has_long(&self, name: &str) -> bool
+        requires { is_short name.now ≡ false }
+        ensures taken { result ≡ true → IsSome (finite.get self.now name.now) }
+        ensures free { result ≡ false → finite.get self.now name.now ≡ None }
+    {
+        self.long.contains_key(name)
     }
 }
 
-// Keeps the position for the entity whose name stands there now, if one does.
-fn keep_at<A: Allocator>(by_name: &ByName<A>, positions: &mut Positions<A>, position: u32)
-    requires { IfSome (holder_at by_name.now.entries position) (λ e. IsSome (position_of positions.old e)) }
-    ensures { KeepsAt (holder_at by_name.now.entries position) position positions.old positions.new }
+// Takes a name out of its map.
+fn take_out<A: Allocator>(short: &mut ByShort<A>, long: &mut ByLong<A>, name: &str)
+    requires { AreApart short.old long.old }
+    ensures removed { names_in short.new long.new ≡ finite.remove (names_in short.old long.old) name.now }
+    ensures apart { AreApart short.new long.new }
 {
-    if let Some((_, entity)) = by_name.get_index(position as usize) {
-        positions.replace(*entity, position);
+    match ShortName::new(name) {
+        Some(key) => {
+            short.swap_remove(&key);
+        }
+        None => {
+            long.swap_remove(name);
+        }
     }
 }

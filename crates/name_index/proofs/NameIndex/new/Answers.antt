@@ -1,5 +1,9 @@
-use Rattle.name_index.proofs.NamesLemmas.{IsUnnamed-empty}
+use Rattle.std.proofs.Common.{rules}
+use Rattle.name_index.proofs.NamesLemmas.{kept_none, unnamed_all}
 use Rattle.name_index.proofs.NameIndex.new.Goals as goal
 
+pub invariant_of-result : goal.invariant_of-result
+invariant_of-result g c = kept_none _ _ (search rules) (search rules) _ (search rules)
+
 pub returns-clause-unnamed : goal.returns-clause-unnamed
-returns-clause-unnamed g c = IsUnnamed-empty c.with_hasher.result c.with_hasher.ensures.empty
+returns-clause-unnamed g c = unnamed_all c.with_hasher.result c.with_hasher-2.result (search rules) (search rules)

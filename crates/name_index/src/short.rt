@@ -1,0 +1,102 @@
+//! Short names as keys.
+ghost use Rattle.std.specs.Prelude.{◌≡◌, ◌+◌, ◌≤◌, ◌∷◌, [], false, true, length, nat_eq, MatchOption};
+ghost use Rattle.std.specs.Cmp.{partial_equiv_from_equiv};
+ghost use Rattle.std.specs.Cmp.Lexicographic.{bytes_decides, nat_list_eq_equiv, pointwise};
+ghost use Rattle.std.proofs.Common.{ap};
+ghost use Rattle.name_index.specs.Short.{is_short, padded, word_at};
+
+use std::hash::{Hash, Hasher};
+use std::marker::Model;
+
+/// So many bytes a short name has at most.
+pub(crate) const MOST: usize = 15;
+
+/// A name of at most 15 bytes, as a key that takes no block and is compared as two words.
+#[derive(Drop)]
+pub struct ShortName {
+    /// Those of the name, zeros, and the length.
+    bytes: [u8; 16],
+}
+
+impl Model for ShortName {
+    ghost use Rattle.std.specs.Prelude.{◌≡◌, List, ℕ};
+    ghost use Rattle.name_index.specs.Short.{padded, text_in};
+
+    ghost Value = { List ℕ };
+
+    ghost view = { λ k. text_in k.bytes };
+
+    ghost invariant = { λ k. k.bytes ≡ padded (text_in k.bytes) };
+}
+
+impl ShortName {
+    /// The key of a text, if that is short.
+    #[inline(always)]
+    pub(crate) fn new(text: &str) -> Option<ShortName>
+        ensures { MatchOption result (is_short text.now ≡ false) (λ k. (k ≡ text.now) × (is_short text.now ≡ true)) }
+    {
+        let text = text.as_bytes();
+        let count = text.len();
+        if count > MOST {
+            return None;
+        }
+        let mut bytes = [0; 16];
+        bytes[..count].copy_from_slice(text);
+        bytes[MOST] = count as u8;
+        Some(ShortName { bytes })
+    }
+}
+
+impl PartialEq for ShortName {
+    ghost eq = { pointwise nat_eq };
+
+    ghost laws = { partial_equiv_from_equiv nat_list_eq_equiv };
+
+    #[inline(always)]
+    fn eq(&self, other: &Self) -> bool {
+        are_same(&self.bytes, &other.bytes)
+    }
+}
+
+impl Eq for ShortName {
+    ghost laws = { nat_list_eq_equiv };
+}
+
+impl Hash for ShortName {
+    ghost hash_input = { λ text. padded text ∷ [] };
+
+    ghost respects_eq = { λ x y h. ap (λ t. padded t ∷ []) ((bytes_decides x y).0 h) };
+
+    #[inline(always)]
+    fn hash<H: Hasher>(&self, state: &mut H) {
+        state.write(&self.bytes);
+    }
+}
+
+/// Whether the bytes of two keys are the same, by two words of each.
+#[inline(always)]
+fn are_same(some: &[u8], others: &[u8]) -> bool
+    requires some { length some.now ≡ 16 }
+    requires others { length others.now ≡ 16 }
+    ensures { result ≡ pointwise nat_eq some.now others.now }
+{
+    word(some, 0) == word(others, 0) && word(some, 8) == word(others, 8)
+}
+
+/// Eight bytes as a number.
+#[inline(always)]
+fn word(bytes: &[u8], at: usize) -> u64
+    requires { at + 8 ≤ length bytes.now }
+    ensures { result ≡ word_at bytes.now at }
+{
+    u64::from_le_bytes([
+        bytes[at],
+        bytes[at + 1],
+        bytes[at + 2],
+        bytes[at + 3],
+        bytes[at + 4],
+        bytes[at + 5],
+        bytes[at + 6],
+        bytes[at + 7],
+    ])
+}
