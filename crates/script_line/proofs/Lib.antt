@@ -2,6 +2,7 @@ mod Readings
 mod Cuts
 mod WordLists
 mod Forms
+mod Fronts
 mod Digits
 mod Stops
 mod Named
