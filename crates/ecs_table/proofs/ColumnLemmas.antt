@@ -1,10 +1,9 @@
 -- What is known of lists of columns.
-use Rattle.std.proofs.Common.{◌≡◌, ◌==◌, ℕ, ◌+◌, ◌-◌, ◌≤◌, ◌<◌, List, [], ◌∷◌, ◌++◌, length, length-append, map, take, drop, replicate, cond, nat_lt, suc, refl, sym, ap, subst, ◌∙◌, Bool, zero, true, false, arith, get_or, slice_index, slice_index_or, slice_set, inl, inr, Option, Some, None, MatchOption, option_copied, Bor}
+use Rattle.std.proofs.Common.{◌≡◌, ◌==◌, ℕ, ◌+◌, ◌≤◌, ◌<◌, List, [], ◌∷◌, ◌++◌, length, length-append, map, take, drop, replicate, cond, nat_lt, suc, refl, sym, ap, ◌∙◌, true, false, arith, get_or, slice_index, slice_index_or, slice_set, Option, Some, None, MatchOption, option_copied, Bor}
 use Rattle.std.proofs.lemmas.List.{append-nil, append_assoc, set-get_or, map_more, get_or_at, set_at, drop_all, drop_more, take_all, length-map, length-take}
 use Rattle.std.proofs.lemmas.List.Elements.{All-cons, All-filter, All-from_get_or, All-get_or, All-nil}
 use Rattle.std.proofs.lemmas.Slice.Zip.{length-zip, get_or-zip}
-use Rattle.std.proofs.lemmas.Bool.{cases_lt}
-use Rattle.std.proofs.lemmas.Bool.Decides.{eqb_tells, nat_tests}
+use Rattle.std.proofs.lemmas.Bool.Decides.{nat_tests}
 use Rattle.std.specs.List.{All, filter, zip}
 use Rattle.ecs_id.specs.Id.{Id}
 use Rattle.raw_column.specs.Contents.{with_item, with_zero}

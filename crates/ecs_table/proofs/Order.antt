@@ -1,5 +1,5 @@
 -- Ids that ascend: where one is found, and that none is.
-use Rattle.std.proofs.Common.{◌≡◌, ◌≢◌, ℕ, zero, suc, ◌+◌, ◌-◌, ◌≤◌, ◌<◌, List, [], ◌∷◌, length, nat_lt, not, cond, Bool, true, false, refl, sym, ap, subst, ◌∙◌, arith, get_or, inl, inr, Option, Some, None, option_map}
+use Rattle.std.proofs.Common.{◌≡◌, ◌≢◌, ℕ, zero, suc, ◌+◌, ◌-◌, ◌≤◌, ◌<◌, List, [], ◌∷◌, length, nat_lt, not, cond, Bool, true, false, refl, sym, ap, subst, ◌∙◌, arith, get_or, inl, inr, Some, None, option_map}
 use Rattle.std.proofs.lemmas.Bool.{cases_lt}
 use Rattle.std.proofs.lemmas.Bool.Decides.{nat_tests}
 use Rattle.std.specs.List.{position, prefix_len}

@@ -1,6 +1,5 @@
 -- A table's lists beside each other, after each call.
-use Rattle.std.proofs.Common.{◌≡◌, ℕ, zero, suc, ◌+◌, ◌-◌, ◌≤◌, ◌<◌, List, [], ◌∷◌, ◌++◌, length, map, replicate, slice_index, refl, sym, ap, subst, ◌∙◌, arith, nat_lt, slice_get, slice_index_or, slice_set, Some, None, vec_len, vec_capacity}
-use Rattle.std.proofs.lemmas.Option.{same_Some}
+use Rattle.std.proofs.Common.{◌≡◌, ℕ, zero, suc, ◌+◌, ◌-◌, ◌≤◌, ◌<◌, List, [], ◌∷◌, ◌++◌, length, map, replicate, slice_index, refl, sym, ap, subst, ◌∙◌, arith, nat_lt, slice_get, Some, None, vec_len, vec_capacity}
 use Rattle.std.specs.List.{filter, zip, swap_remove}
 use Rattle.std.specs.declared.vec.Vec.{Vec}
 use Rattle.ecs_id.specs.Id.{Id}

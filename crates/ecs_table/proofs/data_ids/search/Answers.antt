@@ -1,4 +1,4 @@
-use Rattle.std.proofs.Common.{◌≡◌, ◌≢◌, ℕ, ◌≤◌, ◌<◌, length, sym, ap, ◌∙◌, arith, slice_index_or, inl, inr}
+use Rattle.std.proofs.Common.{◌≡◌, sym, ap, ◌∙◌, arith, slice_index_or, inl, inr}
 use Rattle.std.proofs.lemmas.Bool.{cases_lt}
 use Rattle.std.specs.declared.cmp.Ordering.TheVariants.{Equal, Greater, Less}
 use Rattle.ecs_id.specs.Id.{Id, id_cmp, id_cmp_itself, id_cmp_same}

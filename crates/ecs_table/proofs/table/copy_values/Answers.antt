@@ -1,11 +1,11 @@
-use Rattle.std.proofs.Common.{◌≡◌, ℕ, ◌+◌, ◌-◌, ◌<◌, length, List, IfSome, Option, Some, None, arith, ap, sym, subst, ◌∙◌, slice_index_or, slice_set, map, take, drop, ◌++◌}
+use Rattle.std.proofs.Common.{◌≡◌, ℕ, ◌+◌, ◌-◌, ◌<◌, length, List, Option, arith, ap, sym, ◌∙◌, slice_index_or, slice_set, map, take, drop, ◌++◌}
 use Rattle.std.proofs.lemmas.List.{get_or_default}
 use Rattle.std.specs.List.{zip}
 use Rattle.ecs_id.specs.Id.{Id}
-use Rattle.raw_column.specs.Contents.{Contents, column_at, no_values}
+use Rattle.raw_column.specs.Contents.{Contents, no_values}
 use Rattle.raw_column.specs.Places.{Values}
 use Rattle.ecs_table.proofs.ColumnLemmas.{paired_done, paired_more, paired_rest, said_option}
-use Rattle.ecs_table.specs.Archetype.{replaced, size_of, value_of}
+use Rattle.ecs_table.specs.Archetype.{replaced, value_of}
 use Rattle.ecs_table.proofs.table.copy_values.Goals as goal
 
 pub copy_value-requires-clause-column : goal.copy_value-requires-clause-column

@@ -1,5 +1,4 @@
-use Rattle.std.proofs.Common.{◌≡◌, ℕ, ◌<◌, ◌≤◌, List, length, map, nat_lt, slice_index, ap, sym, subst, ◌∙◌}
-use Rattle.std.specs.List.{filter}
+use Rattle.std.proofs.Common.{ℕ, ◌<◌, ◌≤◌, List, length, slice_index, ap, sym, subst, ◌∙◌}
 use Rattle.raw_column.specs.Contents.{empty_contents}
 use Rattle.ecs_table.proofs.ColumnLemmas.{sized_small}
 use Rattle.ecs_table.proofs.Stored.{seen_new, stored_new}

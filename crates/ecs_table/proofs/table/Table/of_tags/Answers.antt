@@ -1,7 +1,6 @@
-use Rattle.std.proofs.Common.{◌≡◌, List, length, replicate, ap, sym, ◌∙◌}
+use Rattle.std.proofs.Common.{length, replicate, ap, sym, ◌∙◌}
 use Rattle.std.proofs.lemmas.List.{length-replicate}
-use Rattle.ecs_id.specs.Id.{Id}
-use Rattle.raw_column.specs.Contents.{Contents, empty_contents}
+use Rattle.raw_column.specs.Contents.{empty_contents}
 use Rattle.ecs_table.proofs.Stored.{no_data_ids, no_data_sizes, seen_new, stored_new, tags_small}
 use Rattle.ecs_table.proofs.table.Table.of_tags.Goals as goal
 

@@ -1,7 +1,6 @@
 use Rattle.std.proofs.Common.{◌≡◌, ℕ, ◌+◌, ◌-◌, ◌<◌, ◌++◌, ◌∷◌, [], length, map, ap, sym, subst, ◌∙◌, vec_len, rules, slice_index_or, arith}
 use Rattle.std.proofs.lemmas.List.{get_or_default, length-map, length_push}
 use Rattle.std.specs.List.{zip}
-use Rattle.ecs_id.specs.Id.{Id}
 use Rattle.ecs_id.specs.declared.EntityId.{EntityId}
 use Rattle.raw_column.specs.Contents.{Contents, with_zero, with_zeros}
 use Rattle.raw_column.specs.Places.{Values}

@@ -1,4 +1,4 @@
-use Rattle.std.proofs.Common.{◌≡◌, List, ◌-◌, ◌<◌, length, ap, sym, subst, ◌∙◌, arith, slice_get}
+use Rattle.std.proofs.Common.{◌≡◌, List, ◌<◌, length, ap, sym, subst, ◌∙◌, arith, slice_get}
 use Rattle.std.specs.List.{swap_remove}
 use Rattle.ecs_id.specs.declared.EntityId.{EntityId}
 use Rattle.ecs_table.proofs.Soundness.{copied_is, length_without, moved_is, swap_remove_default}

@@ -1,5 +1,4 @@
-use Rattle.std.proofs.Common.{◌≡◌, ◌<◌, length, ap, sym, subst, ◌∙◌, Some, None, unwrap_or}
-use Rattle.raw_column.specs.Contents.{column_at}
+use Rattle.std.proofs.Common.{◌≡◌, ◌<◌, ap, sym, subst, ◌∙◌, Some, unwrap_or}
 use Rattle.ecs_table.proofs.Stored.{size_found, stored_paired}
 use Rattle.ecs_table.specs.Archetype.{Archetype, byte_size, index_in, seen}
 use Rattle.ecs_table.proofs.table.Table.size.Goals as goal
