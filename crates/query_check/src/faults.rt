@@ -38,29 +38,37 @@ pub(crate) fn of_uses<W: Lookup>(world: &W, uses: &[Use<'_>], found: Option<Faul
 {
     let mut least = found;
     for used in uses {
-        least = of_use(world, used, least);
+        add_use(world, used, &mut least);
     }
     least
 }
 
-fn of_use<W: Lookup>(world: &W, used: &Use<'_>, found: Option<Fault>) -> Option<Fault>
+/// Looks at one reference more.
+fn add_use<W: Lookup>(world: &W, used: &Use<'_>, least: &mut Option<Fault>)
     requires { IsFound (W.known world.now) used.now }
-    ensures { result ≡ least_from found (faults_of_use (W.known world.now) (seen_use used.now).1) }
+    ensures { least.new ≡ least_from least.old (faults_of_use (W.known world.now) (seen_use used.now).1) }
 {
-    let found = with_fault(found, unknown_word(used));
-    with_fault(found, of_position(world, used))
+    add_fault(least, unknown_word(used));
+    add_fault(least, of_position(world, used));
 }
 
 /// The lesser of the fault that was found and another, if there is another.
 fn with_fault(found: Option<Fault>, other: Option<Fault>) -> Option<Fault>
     ensures { result ≡ least_from found (option_to_list other) }
 {
-    let Some(fault) = other else {
-        return found;
-    };
-    match found {
-        Some(least) if !is_before(&fault, &least) => Some(least),
-        _ => Some(fault),
+    let mut least = found;
+    add_fault(&mut least, other);
+    least
+}
+
+/// The same, where nothing is written unless the other is less: mostly there is none.
+fn add_fault(least: &mut Option<Fault>, other: Option<Fault>)
+    ensures { least.new ≡ least_from least.old (option_to_list other) }
+{
+    if let Some(fault) = other {
+        if is_less(&fault, *least) {
+            *least = Some(fault);
+        }
     }
 }
 
@@ -140,7 +148,7 @@ pub(crate) fn of_depth(parts: &[Part<'_>], places: &[Place], found: Option<Fault
 {
     let mut least = found;
     for (i, part) in parts.iter().enumerate() {
-        least = with_fault(least, too_deep(part, places[i].depth));
+        add_fault(&mut least, too_deep(part, places[i].depth));
     }
     least
 }

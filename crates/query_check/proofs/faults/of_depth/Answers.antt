@@ -16,4 +16,4 @@ loop-i-preserved c =
     let within : i < length (map seen_part parts) = rw length-map c.loop-i-test.true in
     depth_judged (map seen_part parts) i (seen_part part) _ c.args.found c.loop-i.least _ _ c.loop-i.invariant
     (part_at (map seen_part parts) i (seen_part part) c.args.places.now (place_of []) c.requires.places within (get_or-map seen_part parts i no_part (seen_part part) c.loop-i-test.true))
-    c.too_deep.ensures c.with_fault-least.ensures
+    c.too_deep.ensures c.add_fault.ensures

@@ -7,4 +7,4 @@ use Rattle.query_check.proofs.faults.of_uses.Goals as goal
 
 pub loop-used-preserved : goal.loop-used-preserved
 loop-used-preserved g c =
-    one_seen_judged seen_use (λ u. faults_of_use (g.W.Lookup.known c.args.world.now) u.1) c.args.uses.now c.loop-used.used-index c.args.found c.loop-used.least _ _ _ c.loop-used.invariant c.loop-used-test.true refl c.of_use-least.ensures
+    one_seen_judged seen_use (λ u. faults_of_use (g.W.Lookup.known c.args.world.now) u.1) c.args.uses.now c.loop-used.used-index c.args.found c.loop-used.least _ _ _ c.loop-used.invariant c.loop-used-test.true refl c.add_use.ensures
