@@ -3,14 +3,19 @@ use Rattle.std.proofs.Common.{◌≡◌, ◌<◌, ℕ, zero, suc, Bool, true, fa
 use Rattle.std.proofs.lemmas.List.{length-map}
 use Rattle.std.proofs.lemmas.Option.{slice_get_within}
 use Rattle.std.proofs.Math.Bool.{or-true}
-use Rattle.std.specs.List.{list_any, slice_get}
+use Rattle.std.specs.Prelude.{nat_lt}
+use Rattle.std.specs.List.{filter, list_any, slice_get, zip}
+use Rattle.std.proofs.lemmas.Bool.{false≢true}
+use Rattle.std.proofs.lemmas.List.Folds.{list_any_at}
+use Rattle.std.proofs.lemmas.List.Quantifiers.{position-Some}
 use Rattle.std.specs.Ordering.{nat_cmp}
 use Rattle.std.specs.FinMap.Entries.{find}
 use Rattle.ecs_id.specs.declared.EntityId.{EntityId}
 use Rattle.ecs_id.specs.declared.Place.{Place}
 use Rattle.ecs_id.specs.Id.{Id, id_cmp, id_eq, id_eq_itself, id_eq_same, id_eq_turned}
 use Rattle.ecs_model.specs.Map.{keys}
-use Rattle.ecs_table.specs.Archetype.{Archetype, value_of}
+use Rattle.ecs_table.specs.Archetype as table
+use Rattle.ecs_table.specs.Archetype.{Archetype, ids_with_data, index_in, value_of, values_at}
 use Rattle.entity_index.specs.Entities.{Entities, is_alive, place_of}
 use Rattle.entity_index.specs.Entities as index
 use Rattle.ecs_archetypes.specs.Archetypes.{IsSound, cells_there, meaning}
@@ -47,6 +52,31 @@ module _ (t : Archetype) (r : ℕ) (i : Id) (ids : List Id) (same : ids ≡ t.id
 
   pub value_listed : b ≡ true → (o : Option (List ℕ)) → value_of t r i ≡ o → Some (unwrap_or o []) ≡ find id_cmp i (cells_of t r)
   value_listed within o e = sym (found_by ∙ ap (λ z. cond z (Some (unwrap_or (value_of t r i) [])) None) within ∙ ap (λ z. Some (unwrap_or z [])) e)
+
+-- an id with data is one of the table's
+any_with_data : (f : Id → Bool) (ids : List Id) (sizes : List ℕ) → list_any f (ids_with_data ids sizes) ≡ true → list_any f ids ≡ true
+any_with_data f [] sizes h = h
+any_with_data f (i ∷ ids) [] h = absurd (false≢true h)
+any_with_data f (i ∷ ids) (s ∷ sizes) h =
+    elim (nat_lt 0 s) as (λ b. list_any f (map (λ p. p.0) (cond b ((i, s) ∷ filter (λ p. nat_lt 0 p.1) (zip ids sizes)) (filter (λ p. nat_lt 0 p.1) (zip ids sizes)))) ≡ true → (f i || list_any f ids) ≡ true) [
+      | true ↦ λ g. elim (f i) as (λ b. (b || list_any f (ids_with_data ids sizes)) ≡ true → (b || list_any f ids) ≡ true) [ true ↦ λ _. refl | false ↦ λ k. any_with_data f ids sizes k ] g
+      | false ↦ λ g. or_later (f i) (any_with_data f ids sizes g)
+    ] h
+  where
+    or_later : (a : Bool) {b : Bool} → b ≡ true → (a || b) ≡ true
+    or_later true e = refl
+    or_later false e = e
+
+value_among : (t : Archetype) (r : ℕ) (i : Id) (bytes : List ℕ) (o : Option ℕ) → index_in t.data_ids i ≡ o → elim o [ None ↦ None | Some k ↦ slice_get (values_at t.columns k).items r ] ≡ Some bytes → list_any (λ j. id_eq j i) t.data_ids ≡ true
+unfolding index_in
+value_among t r i bytes None f h = cc
+value_among t r i bytes (Some k) f h = let found = position-Some (λ j. id_eq j i) t.data_ids k i f in list_any_at (λ j. id_eq j i) t.data_ids k i found.0 found.1
+
+pub value_held : (t : Archetype) (r : ℕ) (i : Id) → table.IsSound t → (bytes : List ℕ) → value_of t r i ≡ Some bytes → Some bytes ≡ find id_cmp i (cells_of t r)
+value_held t r i sound bytes e =
+    let with_data : list_any (λ j. id_eq j i) (ids_with_data t.ids sound.sizes) ≡ true = subst (λ ids. list_any (λ j. id_eq j i) ids ≡ true) sound.with_data (value_among t r i bytes (index_in t.data_ids i) refl e) in
+    let listed : list_any (λ j. id_eq j i) t.ids ≡ true = any_with_data (λ j. id_eq j i) t.ids sound.sizes with_data in
+    value_listed t r i t.ids refl true (sym listed) refl (Some bytes) e
 
 -- the id at a place of a row
 at_place : (ids : List Id) (k : ℕ) (i : Id) → k < length ids → i ≡ get_or ids k i → slice_get ids k ≡ Some i

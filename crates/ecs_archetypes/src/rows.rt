@@ -113,11 +113,10 @@ pub fn value_in<A: Allocator>(table: &Table<A>, row: usize, id: Id) -> Option<&[
     requires { row < length table.now.entities }
     ensures { option_copied result ≡ value_at id_cmp (cells_of table.now row) id }
 {
-    if !table.ids().contains(&id) {
-        return None;
-    }
+    let ids = table.ids();
+    // An id with data is one of them.
     match table.value(row, id) {
         Some(bytes) => Some(bytes),
-        None => Some(&[]),
+        None => { if ids.contains(&id) { Some(&[]) } else { None } }
     }
 }
