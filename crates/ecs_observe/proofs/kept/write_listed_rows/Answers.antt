@@ -1,5 +1,5 @@
 -- The query of the plan stays, whether it is planned anew or not.
-use Rattle.std.proofs.Common.{ap, sym, subst, ◌∙◌}
+use Rattle.std.proofs.Common.{◌≡◌, ap, sym, subst, ◌∙◌}
 use Rattle.ecs_model.specs.rows.View.{view_of}
 use Rattle.query_model.specs.Query.{Query}
 use Rattle.query_plan.specs.Plans.{Plan}
@@ -8,17 +8,26 @@ use Rattle.world_query.specs.Answerable.{IsAnswerable}
 use Rattle.ecs_observe.proofs.Answering.{asked_is_sound, current_answerable}
 use Rattle.ecs_observe.proofs.kept.write_listed_rows.Goals as goal
 
-pub plan_if_outgrown-requires : goal.plan_if_outgrown-requires
-plan_if_outgrown-requires g c = record { sound = asked_is_sound (c.args.plan.now).query c.requires.current.asked }
+pub plan_if_outgrown-requires-clause-sound : goal.plan_if_outgrown-requires-clause-sound
+plan_if_outgrown-requires-clause-sound g c = asked_is_sound (c.args.plan.now).query c.requires.current.asked
+
+pub write_planned_rows-requires : goal.write_planned_rows-requires
+write_planned_rows-requires g c = record {
+  answerable = subst (λ (q : Query). IsAnswerable (view_of c.args.world.now.state) q) (sym (ap (λ (p : Plan). p.query) c.plan.ensures ∙ c.plan_if_outgrown.ensures.query))
+      (current_answerable c.args.world.now.state (c.args.plan.now).query c.keeps.ensures c.requires.current);
+}
+
+pub sync-requires : goal.sync-requires
+sync-requires g c = c.plan_if_outgrown.ensures.list.fits
 
 pub write_rows_in-requires-clause-answerable : goal.write_rows_in-requires-clause-answerable
 write_rows_in-requires-clause-answerable g c =
-    subst (λ (q : Query). IsAnswerable (view_of c.args.world.now.state) q) (sym (ap (λ (p : Plan). p.query) c.plan.ensures ∙ c.plan_if_outgrown.ensures.query))
+    subst (λ (q : Query). IsAnswerable (view_of c.args.world.now.state) q) (sym (ap (λ (p : Plan). p.query) c.plan-2.ensures ∙ c.plan_if_outgrown.ensures.query))
     (current_answerable c.args.world.now.state (c.args.plan.now).query c.keeps.ensures c.requires.current)
 
 pub write_rows_in-requires-clause-tables : goal.write_rows_in-requires-clause-tables
 write_rows_in-requires-clause-tables g c =
     let q = (c.args.plan.now).query in
-    subst (λ (x : Query). AreTablesOf x (c.args.world.now).tables c.tables-2.result.now) (sym (ap (λ (p : Plan). p.query) c.plan.ensures ∙ c.plan_if_outgrown.ensures.query))
-    (subst (AreTablesOf q (c.args.world.now).tables) (sym c.tables-2.ensures)
-    (record { listed = c.in_ok-sync.ensures.listed q c.requires.list.patterns; rising = c.sync.ensures.once }))
+    subst (λ (x : Query). AreTablesOf x (c.args.world.now).tables c.tables.result.now) (sym (ap (λ (p : Plan). p.query) c.plan-2.ensures ∙ c.plan_if_outgrown.ensures.query))
+    (subst (AreTablesOf q (c.args.world.now).tables) (sym c.tables.ensures)
+    (record { listed = c.in_ok-sync.ensures.listed q c.plan_if_outgrown.ensures.list.patterns; rising = c.sync.ensures.once }))
