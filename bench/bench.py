@@ -1,13 +1,15 @@
 #!/usr/bin/env python3
-"""bench.py [WORKLOAD ..]: a table of the workloads, or those named, and of the benchmarks among the crates.
+"""bench.py [WORKLOAD ..]: tables of the workloads, or those named, and of the benchmarks among the crates.
 
 seconds       the least of three runs
 instructions  counted by valgrind, where that is installed: they don't vary with the load of the machine
 sqlite3       seconds of the sqlite3 shell, where that is installed, on the same workload as SQL: in memory, and in one transaction
 same          whether both wrote the same lines
+times         how many times the instructions of a plain engine, on workloads as a game gives them
 
 The status is 1 where a program fails or what they wrote differs.
 """
+import hashlib
 import os
 import re
 import shutil
@@ -16,6 +18,7 @@ import sys
 import tempfile
 import time
 
+import engine
 import workloads
 
 TOP = os.path.realpath(os.path.join(os.path.dirname(os.path.realpath(__file__)), ".."))
@@ -26,6 +29,7 @@ PROGRAMS = [
     ("bench_world", ["chain", "10000"]),
 ]
 RUNS = 3
+ENGINE_SIZES = [4_000, 16_000]
 
 # Each entity of the chain asks all before it: under valgrind that takes some ten minutes.
 UNCOUNTED = ["chain"]
@@ -60,11 +64,11 @@ def counted(words, script):
     return int(found[1]) if found else None
 
 
-def row(name, size, seconds, count, other=None, same=None):
+def row(name, size, seconds, count, other=None, same=None, places=3):
     cells = [f"{name:<20}{size:>9}"]
     cells.append(f"{seconds:>10.3f}" if seconds is not None else f"{'FAILED':>10}")
     cells.append(f"{count:>16,}" if count is not None else f"{'-':>16}")
-    cells.append(f"{other:>10.3f}" if other is not None else f"{'-':>10}")
+    cells.append(f"{other:>10.{places}f}" if other is not None else f"{'-':>10}")
     cells.append(f"{'-' if same is None else 'yes' if same else 'NO':>6}")
     print("".join(cells), flush=True)
 
@@ -91,6 +95,24 @@ def run_workload(name, size, room):
     return seconds is not None and same
 
 
+def run_beside_engine(name, room):
+    """A row for each size at which the plain engine was measured, and whether all went well."""
+    script, well = os.path.join(room, "script"), True
+    for size in ENGINE_SIZES:
+        if (name, size) not in engine.plain_engine():
+            continue
+        count_there, digest = engine.plain_engine()[name, size]
+        with open(script, "w", encoding="ascii") as it:
+            it.write(engine.script(name, size))
+        seconds, wrote = timed([program("flecsq")], script)
+        count = counted([program("flecsq")], script)
+        same = hashlib.sha256(wrote).hexdigest() == digest
+        times = count / count_there if count is not None else None
+        row(name, f"{size:,}", seconds, count, times, same, places=2)
+        well = well and seconds is not None and same
+    return well
+
+
 def run_program(crate, words):
     if not os.path.isfile(program(crate)):
         print(f"{crate} is not built: make bench builds it")
@@ -102,17 +124,23 @@ def run_program(crate, words):
     return seconds is not None
 
 
+def header(other):
+    print(f"{'workload':<20}{'size':>9}{'seconds':>10}{'instructions':>16}{other:>10}{'same':>6}")
+
+
 def main():
-    known = [*workloads.WORKLOADS, *dict(PROGRAMS)]
+    known = [*workloads.WORKLOADS, *dict(PROGRAMS), *engine.WORKLOADS]
     chosen = sys.argv[1:] or known
     unknown = [it for it in chosen if it not in known]
     if unknown:
         print(f"bench.py: no workload is named {' '.join(unknown)}: there are {' '.join(known)}", file=sys.stderr)
         return 2
-    print(f"{'workload':<20}{'size':>9}{'seconds':>10}{'instructions':>16}{'sqlite3':>10}{'same':>6}")
+    header("sqlite3")
     with tempfile.TemporaryDirectory() as room:
         well = [run_workload(name, workloads.SIZES[name], room) for name in workloads.WORKLOADS if name in chosen]
-    well += [run_program(crate, words) for crate, words in PROGRAMS if crate in chosen]
+        well += [run_program(crate, words) for crate, words in PROGRAMS if crate in chosen]
+        header("times")
+        well += [run_beside_engine(name, room) for name in engine.WORKLOADS if name in chosen]
     return 0 if all(well) else 1
 
 
