@@ -64,7 +64,8 @@ fn carry_out<A: Allocator + Copy>(
 ) -> Result<Option<EntityId>, SessionError> {
     match call {
         Call::Fresh => session.fresh(),
-        Call::Entity => session.entity("Moon"),
+        // (a short name may take no memory)
+        Call::Entity => session.entity("MoonOfTheThirdPlanet"),
         Call::Component => session.component("Mass", mass),
         Call::Add => session.add(EARTH, Id::plain(PLANET)),
         Call::Set => session.set(EARTH, Id::plain(POSITION), &[8]),
