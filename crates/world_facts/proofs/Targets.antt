@@ -1,32 +1,36 @@
 -- The targets of a relationship among an entity's ids, gone through one after another.
-use Rattle.std.proofs.Common.{◌≡◌, ℕ, ◌+◌, ◌<◌, ◌≤◌, List, [], ◌∷◌, length, get_or, drop, Option, Some, None, refl, sym, ap, ◌∙◌, arith, add-one, drop-cons}
-use Rattle.std.specs.List.{Contains, cons_option}
-use Rattle.std.proofs.lemmas.List.{drop_all}
-use Rattle.ecs_id.specs.Id.{Id}
-use Rattle.ecs_model.specs.Links.{target_under, targets_in}
+use Rattle.std.proofs.Common.{◌≡◌, ℕ, ◌==◌, Bool, true, false, true≢false, List, [], ◌∷◌, Some, refl, sym, arith}
+use Rattle.std.specs.List.{Contains, list_any}
+use Rattle.component_index.specs.declared.pattern.Part.TheVariants.{Any, Is}
+use Rattle.component_index.specs.declared.pattern.Pattern.{Pattern}
+use Rattle.component_index.specs.Patterns.{matches}
+use Rattle.ecs_id.specs.Id.{Id, pair, plain}
+use Rattle.ecs_model.specs.Links.{targets_in}
 use Rattle.world_facts.specs.Climbing.{targets_as}
 use Rattle.world_facts.specs.declared.climb.Targets.TheVariants.{Nothing, One, Several}
 
-module _ (ids : List Id) (r : ℕ) where
-  -- all targets are the first that was met, if any, and those of the ids from a place on
-  abbrev pub IsMet : Option ℕ → ℕ → Type 0
-  IsMet first place = targets_in ids r ≡ cons_option first (targets_in (drop place ids) r)
+module _ (r : ℕ) where
+  -- the pattern of the pairs of the relationship
+  abbrev pub pairs : Pattern
+  pairs = record { first = Is r; second = Some Any }
 
-  module _ (p : ℕ) (i : Id) (l : p < length ids) (here : i ≡ get_or ids p i) where
-    pub passed : (first : Option ℕ) → target_under r i ≡ None → IsMet first p → IsMet first (p + 1)
-    passed first none met = met ∙ ap (cons_option first) (rw (add-one, drop-cons ids p i l, ← here, none) refl)
+  none_behind : (q u : ℕ) (ids : List Id) (b : Bool) → (q == r) ≡ b → false ≡ list_any (matches pairs) (pair q u ∷ ids) → (false ≡ list_any (matches pairs) ids → targets_in ids r ≡ []) → targets_in (pair q u ∷ ids) r ≡ []
+  none_behind q u ids true e h later = absurd (true≢false (sym (rw e at h)))
+  none_behind q u ids false e h later = rw e (later (rw e at h))
 
-    next : (t : ℕ) → target_under r i ≡ Some t → targets_in (drop p ids) r ≡ t ∷ targets_in (drop (p + 1) ids) r
-    next t some = rw (add-one, drop-cons ids p i l, ← here, some) refl
+  pub none_later : (ids : List Id) → false ≡ list_any (matches pairs) ids → targets_in ids r ≡ []
+  none_later [] h = refl
+  none_later (plain c ∷ ids) h = none_later ids h
+  none_later (pair q u ∷ ids) h = none_behind q u ids (q == r) refl h (none_later ids)
 
-    pub met_first : (first : Option ℕ) (t : ℕ) → first ≡ None → target_under r i ≡ Some t → IsMet first p → IsMet (Some t) (p + 1)
-    met_first first t none some met = (rw none at met) ∙ next t some
+  some_behind : (t q u : ℕ) (ids : List Id) (b : Bool) → (q == r) ≡ b → true ≡ list_any (matches pairs) (pair q u ∷ ids) → (true ≡ list_any (matches pairs) ids → Several ≡ targets_as (t ∷ targets_in ids r)) → Several ≡ targets_as (t ∷ targets_in (pair q u ∷ ids) r)
+  some_behind t q u ids true e h later = rw e refl
+  some_behind t q u ids false e h later = rw e (later (rw e at h))
 
-    pub met_again : (first : Option ℕ) (f t : ℕ) → first ≡ Some f → target_under r i ≡ Some t → IsMet first p → Several ≡ targets_as (targets_in ids r)
-    met_again first f t is some met = sym (ap targets_as ((rw is at met) ∙ ap (λ ts. f ∷ ts) (next t some)))
-
-  pub met_all : (first : Option ℕ) (p : ℕ) → length ids ≤ p → IsMet first p → targets_in ids r ≡ cons_option first []
-  met_all first p l met = met ∙ ap (λ xs. cons_option first (targets_in xs r)) (drop_all p ids l)
+  pub some_later : (t : ℕ) (ids : List Id) → true ≡ list_any (matches pairs) ids → Several ≡ targets_as (t ∷ targets_in ids r)
+  some_later t [] h = absurd cc
+  some_later t (plain c ∷ ids) h = some_later t ids h
+  some_later t (pair q u ∷ ids) h = some_behind t q u ids (q == r) refl h (some_later t ids)
 
 -- what is known of the targets by how many there are
 pub no_target : (ts : List ℕ) → Nothing ≡ targets_as ts → ts ≡ []

@@ -8,7 +8,7 @@ ghost use Rattle.world_facts.specs.Shown.{table_of};
 mod climb;
 pub mod laws;
 
-use crate::climb::{first_up, first_up_known};
+use crate::climb::first_up;
 use component_index::Pattern;
 use ecs_id::{EntityId, Id, TableKey};
 use ecs_model::built_ins::REFLEXIVE;
@@ -157,22 +157,21 @@ impl<A: Allocator> Facts for WorldFacts<'_, A> {
     fn first_up<B: Allocator>(
         &self,
         entity: u32,
-        relationship: u32,
-        pattern: Pattern,
-        scratch: &mut Scratch<B>,
-    ) -> Option<u32> {
-        first_up(&self.links, entity, relationship, pattern, scratch)
-    }
-
-    fn first_up_known<B: Allocator>(
-        &self,
-        entity: u32,
+        own: bool,
         relationship: u32,
         pattern: Pattern,
         known: &mut [u32],
         scratch: &mut Scratch<B>,
     ) -> Option<u32> {
-        first_up_known(&self.links, entity, relationship, pattern, known, scratch)
+        first_up(
+            &self.links,
+            entity,
+            own,
+            relationship,
+            pattern,
+            known,
+            scratch,
+        )
     }
 
     fn pull<B: Allocator>(&self, scratch: &mut Scratch<B>) -> Option<u32> {

@@ -1,9 +1,9 @@
 //! Texts that are kept from row to row, since neighbouring rows mostly show the same.
 
-ghost use Rattle.std.specs.Prelude.{◌≡◌, ◌<◌, ◌++◌, IfOk, OnOk, Some, codes, length, take};
+ghost use Rattle.std.specs.Prelude.{◌≡◌, ◌+◌, ◌≤◌, ◌++◌, IfOk, OnOk, Some, codes, length, take};
 ghost use Rattle.ecs_model.specs.Print.{id_text, index_text};
 ghost use Rattle.ecs_model.specs.World.{WorldState};
-ghost use Rattle.world_query.specs.Lines.{IsEntityText, IsLabel, IsLabelOf, binding_start, text_of};
+ghost use Rattle.world_query.specs.Lines.{IsEntityText, IsLabel, IsLabelOf, binding_start, field_end, text_of};
 
 use crate::sheet::{make_room, put_at};
 use ecs_id::Id;
@@ -19,13 +19,15 @@ pub(crate) struct Piece<B: Allocator> {
     pub(crate) count: usize,
 }
 
-/// An entity by its index, with its text: the first `alone` bytes. With the bracket that closes a field it is the first `closed`.
+/// An entity by its index, with its text: the first `alone` bytes. With the bracket that closes a field it is the first `closed`, and with the
+/// end of the line behind that the first `ended`.
 #[derive(Drop)]
 pub(crate) struct EntityText<B: Allocator> {
     pub(crate) index: u32,
     pub(crate) bytes: Vec<u8, B>,
     pub(crate) alone: usize,
     pub(crate) closed: usize,
+    pub(crate) ended: usize,
 }
 
 /// An id with what all fields of it share: how they begin, ` [ID@`, and the fields of its values. Of no id yet, it has neither.
@@ -37,6 +39,19 @@ pub(crate) struct Label<'w, A: Allocator, B: Allocator> {
 }
 
 impl<B: Allocator> Piece<B> {
+    /// How a row begins with the binding of a variable: `row $v=`.
+    pub(crate) fn first_binding(alloc: B, name: &[u8]) -> Result<Self, AllocError>
+        ensures { IfOk result (λ p. text_of p ≡ codes "row" ++ binding_start name.now) }
+    {
+        let mut bytes = Vec::new(alloc);
+        bytes.extend_from_slice(b"row $")?;
+        bytes.extend_from_slice(name)?;
+        bytes.extend_from_slice(b"=")?;
+        let mut piece = Piece { bytes, count: 0 };
+        piece.close()?;
+        Ok(piece)
+    }
+
     /// How the binding of a variable begins: ` $v=`.
     pub(crate) fn binding(alloc: B, name: &[u8]) -> Result<Self, AllocError>
         ensures { IfOk result (λ p. text_of p ≡ binding_start name.now) }
@@ -74,6 +89,7 @@ impl<B: Allocator> EntityText<B> {
             bytes: Vec::new(alloc),
             alone: 0,
             closed: 0,
+            ended: 0,
         };
         text.rewrite(world, index)?;
         Ok(text)
@@ -97,14 +113,16 @@ impl<B: Allocator> EntityText<B> {
     }
 
     /// Becomes the text of an entity. A name for which there is room is copied at once.
+    #[inline(always)]
     fn change_to<A: Allocator>(&mut self, world: &World<A>, index: u32) -> Result<(), AllocError>
+        requires { 32 ≤ length ((self.old).bytes).items }
         ensures index { OnOk result (self.new.index ≡ index) }
         ensures text { OnOk result (IsEntityText world.now.state self.new) }
     {
         world.keeps();
         if let Some(name) = world.name_of(index) {
             let name = name.as_bytes();
-            if name.len() < self.bytes.len() {
+            if name.len() + 2 <= self.bytes.len() {
                 self.take_name(name);
                 self.index = index;
                 return Ok(());
@@ -115,18 +133,32 @@ impl<B: Allocator> EntityText<B> {
 
     /// Takes a name for which there is room.
     fn take_name(&mut self, name: &[u8])
-        requires { length name.now < length ((self.old).bytes).items }
+        requires { length name.now + 2 ≤ length ((self.old).bytes).items }
         ensures alone { take self.new.alone ((self.new).bytes).items ≡ name.now }
         ensures closed { take self.new.closed ((self.new).bytes).items ≡ name.now ++ codes "]" }
+        ensures ended { take self.new.ended ((self.new).bytes).items ≡ name.now ++ codes "]\n" }
+        ensures long { length ((self.new).bytes).items ≡ length ((self.old).bytes).items }
     {
         let count = name.len();
         put_at(name, 0, &mut self.bytes);
         self.bytes[count] = b']';
+        self.bytes[count + 1] = b'\n';
         self.alone = count;
         self.closed = count + 1;
+        self.ended = count + 2;
+    }
+
+    /// How many bytes are the text with the bracket that closes a field, and the end of the line behind the last one.
+    #[inline(always)]
+    pub(crate) fn closing<A: Allocator>(&self, world: &World<A>, is_last: bool) -> usize
+        requires { IsEntityText world.now.state self.now }
+        ensures { take result ((self.now).bytes).items ≡ index_text world.now.state (self.now).index ++ field_end is_last }
+    {
+        if is_last { self.ended } else { self.closed }
     }
 
     /// Becomes the text of an entity, and makes room behind.
+    #[inline(never)]
     fn rewrite<A: Allocator>(&mut self, world: &World<A>, index: u32) -> Result<(), AllocError>
         ensures index { OnOk result (self.new.index ≡ index) }
         ensures text { OnOk result (IsEntityText world.now.state self.new) }
@@ -136,6 +168,8 @@ impl<B: Allocator> EntityText<B> {
         self.alone = self.bytes.len();
         self.bytes.extend_from_slice(b"]")?;
         self.closed = self.bytes.len();
+        self.bytes.extend_from_slice(b"\n")?;
+        self.ended = self.bytes.len();
         self.index = index;
         make_room(&mut self.bytes)
     }

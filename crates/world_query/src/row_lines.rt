@@ -1,17 +1,16 @@
 //! The line of a row.
 
-ghost use Rattle.std.specs.Prelude.{◌≡◌, ◌++◌, OnOk, Some, codes, flat_map, length, map};
+ghost use Rattle.std.specs.Prelude.{◌≡◌, ◌+◌, ◌++◌, OnOk, Some, codes, flat_map, length, map};
 ghost use Rattle.std.specs.List.{zip};
-ghost use Rattle.std.specs.Option.{option_copied};
 ghost use Rattle.ecs_model.specs.Bytes.{size_of, values_in};
 ghost use Rattle.ecs_model.specs.Print.{field_text, index_text, value_text};
-ghost use Rattle.ecs_model.specs.World.{type_of_id};
 ghost use Rattle.ecs_model.specs.rows.View.{view_of};
 ghost use Rattle.plan_exec.specs.Fields.{shown_field};
-ghost use Rattle.world_query.specs.Lines.{AreTexts, IsEntityText, IsLabel, line_started, started, starts_in, text_of, written};
+ghost use Rattle.world_query.specs.Lines.{AreTexts, IsEntityText, IsLabel, IsLabelOf, field_end, label_text, line_end, line_headed, row_alone, started, starts_in, text_of, written};
 
 use crate::labels::{EntityText, Label, Piece};
-use crate::sheet::{CHUNK, put};
+use crate::sheet::{CHUNK, put, put_pair};
+use ecs_id::Id;
 use ecs_print::{MOST_TEXT, put_fields};
 use ecs_schema::Schema;
 use ecs_world::World;
@@ -25,7 +24,8 @@ pub(crate) struct Texts<'w, A: Allocator, B: Allocator> {
     pub(crate) labels: Vec<Label<'w, A, B>, B>,
 }
 
-/// Writes the line of a row: `row`, a binding for each visible variable, and its fields. Each binding has its start, ` $v=`.
+/// Writes the line of a row: `row`, a binding for each visible variable, and its fields. Each binding has its start, ` $v=`, and that of the first
+/// one begins with `row`.
 pub(crate) fn write_row<'w, A: Allocator, B: Allocator>(
     world: &'w World<A>,
     starts: &[Piece<B>],
@@ -37,12 +37,25 @@ pub(crate) fn write_row<'w, A: Allocator, B: Allocator>(
 ) -> Result<(), AllocError>
     requires texts { AreTexts world.now.state (length (fields.now).items) texts.old }
     ensures texts { OnOk result (AreTexts world.now.state (length (fields.now).items) texts.new) }
-    ensures row { OnOk result (written out.new end.new ≡ written out.old end.old ++ line_started world.now.state (starts_in starts.now) entities.now (fields.now).current) }
+    ensures row { OnOk result (written out.new end.new ≡ written out.old end.old ++ line_headed world.now.state (starts_in starts.now) entities.now (fields.now).current) }
 {
-    put(b"row                             ", 3, end, out)?;
+    begin_row(starts, end, out)?;
     write_bindings(world, starts, entities, &mut texts.entity, end, out)?;
-    write_all_fields(world, fields, texts, end, out)?;
-    put(b"\n                               ", 1, end, out)
+    write_all_fields(world, fields, texts, end, out)
+}
+
+/// Writes `row` where no binding begins with it.
+fn begin_row<A: Allocator, B: Allocator>(
+    starts: &[Piece<B>],
+    end: &mut usize,
+    out: &mut Vec<u8, A>,
+) -> Result<(), AllocError>
+    ensures { OnOk result (written out.new end.new ≡ written out.old end.old ++ row_alone (starts_in starts.now)) }
+{
+    match starts {
+        [] => put(b"row                             ", 3, end, out),
+        [_, ..] => Ok(()),
+    }
 }
 
 /// Writes the entities of variables, ` $v=E` for each.
@@ -64,7 +77,7 @@ fn write_bindings<A: Allocator, B: Allocator>(
     Ok(())
 }
 
-/// Writes the current choice of fields.
+/// Writes the current choice of fields, and the end of the line.
 fn write_all_fields<'w, A: Allocator, B: Allocator>(
     world: &'w World<A>,
     fields: &Fields<'w, B>,
@@ -74,12 +87,16 @@ fn write_all_fields<'w, A: Allocator, B: Allocator>(
 ) -> Result<(), AllocError>
     requires texts { AreTexts world.now.state (length (fields.now).items) texts.old }
     ensures texts { OnOk result (AreTexts world.now.state (length (fields.now).items) texts.new) }
-    ensures text { OnOk result (written out.new end.new ≡ written out.old end.old ++ flat_map (field_text world.now.state) (map (shown_field (view_of world.now.state)) (fields.now).current)) }
+    ensures text { OnOk result (written out.new end.new ≡ written out.old end.old ++ flat_map (field_text world.now.state) (map (shown_field (view_of world.now.state)) (fields.now).current) ++ codes "\n") }
 {
+    let Some(last) = fields.len().checked_sub(1) else {
+        return put(b"\n                               ", 1, end, out);
+    };
     for number in 0..fields.len() {
         write_field(
             world,
             fields.field(number),
+            number == last,
             &mut texts.entity,
             &mut texts.labels[number],
             end,
@@ -102,15 +119,22 @@ fn write_binding<A: Allocator, B: Allocator>(
     ensures last { OnOk result (IsEntityText world.now.state last.new) }
     ensures text { OnOk result (written out.new end.new ≡ written out.old end.old ++ started world.now.state (text_of start.now, entity)) }
 {
-    put(start.bytes.as_slice(), start.count, end, out)?;
     last.turn_to(world, entity)?;
-    put(last.bytes.as_slice(), last.alone, end, out)
+    put_pair(
+        start.bytes.as_slice(),
+        start.count,
+        last.bytes.as_slice(),
+        last.alone,
+        end,
+        out,
+    )
 }
 
-/// Writes a field: ` [ID@E=v,v]`, ` [ID@E]` without a value, and ` [-]` where it is unset.
+/// Writes a field: ` [ID@E=v,v]`, ` [ID@E]` without a value, and ` [-]` where it is unset. Behind the last one it ends the line.
 fn write_field<'w, A: Allocator, B: Allocator>(
     world: &'w World<A>,
     shown: Option<ShownFact>,
+    is_last: bool,
     last: &mut EntityText<B>,
     label: &mut Label<'w, A, B>,
     end: &mut usize,
@@ -120,56 +144,112 @@ fn write_field<'w, A: Allocator, B: Allocator>(
     requires label { IsLabel world.now.state label.old }
     ensures last { OnOk result (IsEntityText world.now.state last.new) }
     ensures label { OnOk result (IsLabel world.now.state label.new) }
-    ensures text { OnOk result (written out.new end.new ≡ written out.old end.old ++ field_text world.now.state (shown_field (view_of world.now.state) shown)) }
+    ensures text { OnOk result (written out.new end.new ≡ written out.old end.old ++ field_text world.now.state (shown_field (view_of world.now.state) shown) ++ line_end is_last) }
 {
     let Some(fact) = shown else {
-        return put(b" [-]                            ", 4, end, out);
+        return write_unset(is_last, end, out);
     };
     label.turn_to(world, fact.id)?;
     last.turn_to(world, fact.source)?;
-    put(label.text.bytes.as_slice(), label.text.count, end, out)?;
     if fact.valued {
-        return write_valued(world, fact, label.schema, last, end, out);
+        return write_valued(world, fact, is_last, label, last, end, out);
     }
-    put(last.bytes.as_slice(), last.closed, end, out)
+    write_bare(world, fact.id, is_last, label, last, end, out)
 }
 
-/// Writes the source of a fact, the value with the fields of its id's values (nothing without fields), and the bracket that closes its field.
-fn write_valued<A: Allocator, B: Allocator>(
-    world: &World<A>,
+/// Writes a field that is unset.
+fn write_unset<A: Allocator>(
+    is_last: bool,
+    end: &mut usize,
+    out: &mut Vec<u8, A>,
+) -> Result<(), AllocError>
+    ensures { OnOk result (written out.new end.new ≡ written out.old end.old ++ codes " [-]" ++ line_end is_last) }
+{
+    if is_last {
+        return put(b" [-]\n                           ", 5, end, out);
+    }
+    put(b" [-]                            ", 4, end, out)
+}
+
+/// Writes a field with its value, and without one where its id has no fields of values.
+fn write_valued<'w, A: Allocator, B: Allocator>(
+    world: &'w World<A>,
     fact: ShownFact,
-    schema: Option<&Schema<A>>,
+    is_last: bool,
+    label: &Label<'w, A, B>,
     source: &EntityText<B>,
     end: &mut usize,
     out: &mut Vec<u8, A>,
 ) -> Result<(), AllocError>
-    requires schema { option_copied schema ≡ type_of_id world.now.state fact.id }
+    requires label { IsLabelOf world.now.state label.now fact.id }
     requires source { IsEntityText world.now.state source.now }
-    ensures { OnOk result (written out.new end.new ≡ written out.old end.old ++ index_text world.now.state (source.now).index ++ value_text ((view_of world.now.state).value fact.source fact.id) ++ codes "]") }
+    ensures { OnOk result (written out.new end.new ≡ written out.old end.old ++ label_text world.now.state fact.id ++ index_text world.now.state (source.now).index ++ value_text ((view_of world.now.state).value fact.source fact.id) ++ field_end is_last) }
 {
-    let Some(schema) = schema else {
-        return put(source.bytes.as_slice(), source.closed, end, out);
+    let Some(schema) = label.schema else {
+        return write_bare(world, fact.id, is_last, label, source, end, out);
     };
     match world.bytes(fact.source, fact.id) {
-        None => put(source.bytes.as_slice(), source.closed, end, out),
+        None => write_bare(world, fact.id, is_last, label, source, end, out),
         Some(bytes) => {
-            put(source.bytes.as_slice(), source.alone, end, out)?;
-            write_numbers(schema, bytes, end, out)
+            put_pair(
+                label.text.bytes.as_slice(),
+                label.text.count,
+                source.bytes.as_slice(),
+                source.alone,
+                end,
+                out,
+            )?;
+            write_numbers(schema, bytes, is_last, end, out)
         }
     }
+}
+
+/// Writes a field without a value.
+#[inline(always)]
+fn write_bare<'w, A: Allocator, B: Allocator>(
+    world: &'w World<A>,
+    id: Id,
+    is_last: bool,
+    label: &Label<'w, A, B>,
+    source: &EntityText<B>,
+    end: &mut usize,
+    out: &mut Vec<u8, A>,
+) -> Result<(), AllocError>
+    requires label { IsLabelOf world.now.state label.now id }
+    requires source { IsEntityText world.now.state source.now }
+    ensures { OnOk result (written out.new end.new ≡ written out.old end.old ++ label_text world.now.state id ++ index_text world.now.state (source.now).index ++ field_end is_last) }
+{
+    put_pair(
+        label.text.bytes.as_slice(),
+        label.text.count,
+        source.bytes.as_slice(),
+        source.closing(world, is_last),
+        end,
+        out,
+    )
 }
 
 /// Writes the value that bytes mean, and the bracket that closes its field.
 fn write_numbers<A: Allocator>(
     schema: &Schema<A>,
     bytes: &[u8],
+    is_last: bool,
     end: &mut usize,
     out: &mut Vec<u8, A>,
 ) -> Result<(), AllocError>
     requires { length bytes.now ≡ size_of schema.now }
-    ensures { OnOk result (written out.new end.new ≡ written out.old end.old ++ value_text (Some (values_in schema.now bytes.now)) ++ codes "]") }
+    ensures { OnOk result (written out.new end.new ≡ written out.old end.old ++ value_text (Some (values_in schema.now bytes.now)) ++ field_end is_last) }
 {
     let mut text = [b']'; MOST_TEXT + CHUNK];
+    text[MOST_TEXT + 1] = b'\n';
     let start = put_fields(schema, bytes, &mut text);
-    put(&text[start..], MOST_TEXT + 1 - start, end, out)
+    put(&text[start..], value_end(is_last) - start, end, out)
+}
+
+/// Where the text ends of a value and of what closes its field, if the numbers end where the most of them would.
+#[inline(always)]
+fn value_end(is_last: bool) -> usize
+    ensures { result ≡ 176 + length (field_end is_last) }
+{
+    if is_last { MOST_TEXT + 2 } else { MOST_TEXT + 1 }
 }

@@ -1,33 +1,43 @@
--- A field more at each turn.
-use Rattle.std.proofs.Common.{ap, sym, ◌∙◌, arith, length-set}
-use Rattle.std.specs.Prelude.{flat_map, length, ◌≤◌, ◌++◌}
-use Rattle.std.proofs.lemmas.List.{take_all}
+-- A field more at each turn, and the end of the line behind the last one.
+use Rattle.std.proofs.Common.{◌≡◌, true, false, ap, sym, ◌∙◌, arith, length-set}
+use Rattle.std.specs.Prelude.{Option, ◌==◌, ◌++◌, codes}
+use Rattle.std.proofs.lemmas.Bool.Decides.{nat_tests}
 use Rattle.std.proofs.lemmas.List.Elements.{All-set}
 use Rattle.std.proofs.lemmas.List.Folds.{flat_map-map}
 use Rattle.ecs_model.specs.Print.{field_text}
 use Rattle.ecs_model.specs.rows.View.{view_of}
+use Rattle.plan_exec.specs.declared.field_places.ShownFact.{ShownFact}
 use Rattle.plan_exec.specs.Fields.{shown_field}
-use Rattle.world_query.specs.Lines.{IsLabel, written}
-use Rattle.world_query.proofs.Printed.{one_more}
+use Rattle.world_query.specs.Lines.{IsLabel, line_end, written}
+use Rattle.world_query.proofs.Printed.{line_ended, line_goes_on}
 use Rattle.world_query.proofs.row_lines.write_all_fields.Goals as goal
 
 pub loop-number-preserved : goal.loop-number-preserved
 loop-number-preserved g c =
     let w = c.args.world.now.state in
-    let kept = c.loop-number.invariant in (
-      record {
+    let kept = c.loop-number.invariant in
+    let f = λ (s : Option ShownFact). field_text w (shown_field (view_of w) s) in
+    let xs = c.args.fields.now.current in
+    let i = c.loop-number.number in
+    let start = written c.args.out.now c.args.end.now in
+    let old = written c.loop-number.out c.loop-number.end in
+    let new = written c.write_field.new.out c.write_field.new.end in
+    let text = c.in_ok-write_field.ensures.text in
+    record {
+      texts = record {
         entity = c.in_ok-write_field.ensures.last;
-        labels = All-set (IsLabel w) (c.loop-number.texts.labels).items c.loop-number.number c.write_field.new.label c.in_ok-write_field.ensures.label kept.0.labels;
-        enough = kept.0.enough ∙ sym (length-set (c.loop-number.texts.labels).items c.loop-number.number c.write_field.new.label);
-      },
-      one_more (λ s. field_text w (shown_field (view_of w) s)) c.args.fields.now.current c.loop-number.number c.field.result (written c.args.out.now c.args.end.now) (written c.loop-number.out c.loop-number.end) (written c.write_field.new.out c.write_field.new.end) (omega arith) c.field.ensures kept.1 c.in_ok-write_field.ensures.text,
-    )
+        labels = All-set (IsLabel w) (c.loop-number.texts.labels).items c.loop-number.number c.write_field.new.label c.in_ok-write_field.ensures.label kept.texts.labels;
+        enough = kept.texts.enough ∙ sym (length-set (c.loop-number.texts.labels).items c.loop-number.number c.write_field.new.label);
+      };
+      more = λ before. let other : (i == c.in-Some.last) ≡ false = grind (arith, nat_tests) in
+        line_goes_on f xs i c.field.result start old new (omega arith) c.field.ensures (kept.more (omega arith)) (text ∙ ap (λ b. old ++ f c.field.result ++ line_end b) other);
+      all = λ behind. let same : (i == c.in-Some.last) ≡ true = grind (arith, nat_tests) in
+        line_ended f xs i c.field.result start old new (omega arith) c.field.ensures (kept.more (omega arith)) (text ∙ ap (λ b. old ++ f c.field.result ++ line_end b) same) behind;
+    }
 
 pub returns-clause-text : goal.returns-clause-text
 returns-clause-text g c =
     let w = c.args.world.now.state in
     let current = c.args.fields.now.current in
-    let all : length current ≤ c.loop-number.number = omega arith in
-    c.loop-number.invariant.1
-    ∙ ap (λ l. written c.args.out.now c.args.end.now ++ flat_map (λ s. field_text w (shown_field (view_of w) s)) l) (take_all c.loop-number.number current all)
-    ∙ ap (λ t. written c.args.out.now c.args.end.now ++ t) (sym (flat_map-map (field_text w) (shown_field (view_of w)) current))
+    c.loop-number.invariant.all (omega arith)
+    ∙ ap (λ t. written c.args.out.now c.args.end.now ++ t ++ codes "\n") (sym (flat_map-map (field_text w) (shown_field (view_of w)) current))

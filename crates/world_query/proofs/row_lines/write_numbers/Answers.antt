@@ -1,19 +1,25 @@
--- Behind the value stands the bracket.
-use Rattle.std.proofs.Common.{ℕ, ◌-◌, ap, append_assoc, arith, drop, sym, ◌∙◌, ◌++◌}
-use Rattle.std.specs.Prelude.{Some, codes}
-use Rattle.std.proofs.lemmas.List.{drop-replicate, take-take}
+-- Behind the value stands what closes its field.
+use Rattle.std.proofs.Common.{ap, append_assoc, arith, drop, sym, take, ◌∙◌, ◌≤◌, ◌++◌, ◌-◌, refl}
+use Rattle.std.specs.Prelude.{Some}
+use Rattle.std.proofs.lemmas.List.{take-take}
 use Rattle.std.proofs.lemmas.Result.{on_ok_weaker}
 use Rattle.ecs_model.specs.Bytes.{values_in}
 use Rattle.ecs_model.specs.Print.{value_text}
-use Rattle.world_query.specs.Lines.{written}
-use Rattle.world_query.proofs.Sheets.{closed_value}
+use Rattle.world_query.specs.Lines.{field_end, written}
+use Rattle.world_query.proofs.Sheets.{closed_value, closing_room, closing_short}
 use Rattle.world_query.proofs.row_lines.write_numbers.Goals as goal
 
 pub returns : goal.returns
 returns g c =
     let value = value_text (Some (values_in c.args.schema.now c.args.bytes.now)) in
     let start = c.put_fields-start.result in
-    let behind = c.put_fields-start.ensures.written ∙ ap (λ t. value ++ t) (drop-replicate {X = ℕ} 176 208 93) in
+    let last = c.args.is_last in
     let before = written c.args.out.now c.args.end.now in
-    let closed = closed_value start c.put_fields-start.new.text value c.put_fields-start.ensures.within c.put_fields-start.auto.text behind in
-    on_ok_weaker c.put.result (λ h. h ∙ ap (λ t. before ++ t) (take-take (177 - start) (208 - start) (drop start c.put_fields-start.new.text) (omega arith) ∙ closed) ∙ sym (append_assoc before value (codes "]"))) c.put.ensures
+    let behind = c.put_fields-start.ensures.written ∙ ap (λ t. value ++ t) (closing_room _ refl) in
+    let closed = closed_value start c.put_fields-start.new.text value last c.put_fields-start.ensures.within c.put_fields-start.auto.text behind in
+    let text = drop start c.put_fields-start.new.text in
+    let short = closing_short last in
+    let within : c.value_end.result - start ≤ 208 - start = omega (arith, short, c.value_end.ensures) in
+    on_ok_weaker c.put.result (λ h. h
+    ∙ ap (λ t. before ++ t) (take-take (c.value_end.result - start) (208 - start) text within ∙ ap (λ n. take (n - start) text) c.value_end.ensures ∙ closed)
+    ∙ sym (append_assoc before value (field_end last))) c.put.ensures

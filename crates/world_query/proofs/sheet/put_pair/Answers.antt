@@ -1,0 +1,13 @@
+use Rattle.std.proofs.Common.{arith, ap, ◌∙◌, ◌++◌, ◌+◌, take}
+use Rattle.world_query.proofs.Sheets.{pair_put}
+use Rattle.world_query.proofs.sheet.put_pair.Goals as goal
+
+pub returns-then-has_room : goal.returns-then-has_room
+returns-then-has_room g c =
+    let short = c.is_short.ensures c.if-is_short.true in
+    let room = c.has_room.ensures.has c.if-has_room.true in
+    let place = c.args.end.now in
+    let middle = place + c.args.count in
+    pair_put place c.args.count c.args.more c.args.sheet.now.items c.put_chunk.new.sheet.items c.put_chunk-then-has_room.new.sheet.items c.args.text.now c.args.other.now short.0 (omega arith) (omega arith) c.put_chunk.ensures.long
+    (c.put_chunk.ensures.text ∙ ap (λ t. take place c.args.sheet.now.items ++ t) c.first_chunk.ensures)
+    (c.put_chunk-then-has_room.ensures.text ∙ ap (λ t. take middle c.put_chunk.new.sheet.items ++ t) c.first_chunk-then-has_room.ensures)
