@@ -251,5 +251,9 @@ fn write_numbers<A: Allocator>(
 fn value_end(is_last: bool) -> usize
     ensures { result ≡ 176 + length (field_end is_last) }
 {
-    if is_last { MOST_TEXT + 2 } else { MOST_TEXT + 1 }
+    if is_last {
+        MOST_TEXT + 2
+    } else {
+        MOST_TEXT + 1
+    }
 }

@@ -30,9 +30,9 @@ loop-number-preserved g c =
         enough = kept.texts.enough ∙ sym (length-set (c.loop-number.texts.labels).items c.loop-number.number c.write_field.new.label);
       };
       more = λ before. let other : (i == c.in-Some.last) ≡ false = grind (arith, nat_tests) in
-        line_goes_on f xs i c.field.result start old new (omega arith) c.field.ensures (kept.more (omega arith)) (text ∙ ap (λ b. old ++ f c.field.result ++ line_end b) other);
+          line_goes_on f xs i c.field.result start old new (omega arith) c.field.ensures (kept.more (omega arith)) (text ∙ ap (λ b. old ++ f c.field.result ++ line_end b) other);
       all = λ behind. let same : (i == c.in-Some.last) ≡ true = grind (arith, nat_tests) in
-        line_ended f xs i c.field.result start old new (omega arith) c.field.ensures (kept.more (omega arith)) (text ∙ ap (λ b. old ++ f c.field.result ++ line_end b) same) behind;
+          line_ended f xs i c.field.result start old new (omega arith) c.field.ensures (kept.more (omega arith)) (text ∙ ap (λ b. old ++ f c.field.result ++ line_end b) same) behind;
     }
 
 pub returns-clause-text : goal.returns-clause-text
