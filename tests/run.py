@@ -1,8 +1,9 @@
 #!/usr/bin/env python3
 """run.py [--no-gate]: the gate, then the script rows and the program from outside, with one count over all of them.
 
-Without the gate, the rows and the program's own tests run against the program that was built last. Behind the gate, where its
-minutes went stands before the last line.
+The gate is not begun where a source file is not laid out: it would refuse that file's crate behind its proof, and with it all above. Without
+the gate, the rows and the program's own tests run against the program that was built last. Behind the gate, where its minutes went stands before
+the last line.
 """
 import os
 import re
@@ -10,6 +11,7 @@ import shutil
 import subprocess
 import sys
 
+import layout
 import minutes
 import program
 import rows
@@ -67,11 +69,14 @@ def tell_minutes(spent):
 
 
 def main():
+    has_gate = "--no-gate" not in sys.argv[1:]
+    if has_gate and layout.main():
+        return 1
     spent = minutes.Minutes()
-    counts = [] if "--no-gate" in sys.argv[1:] else [run_gate(spent)]
+    counts = [run_gate(spent)] if has_gate else []
     counts += [check_worked_rows(), run_program()]
     passed, failed = (sum(it) for it in zip(*counts))
-    if "--no-gate" not in sys.argv[1:]:
+    if has_gate:
         tell_minutes(spent)
     print(f"{passed} passed, {failed} failed")
     return 1 if failed or not passed else 0
