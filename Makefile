@@ -18,7 +18,7 @@ install: $(PROGRAM)
 
 # Every function is proved before the program is built. rt tells of each one as it goes.
 $(PROGRAM): $(SOURCES)
-	@echo "Proving and building flecsq. The first time this takes some minutes; each line below is one step done." >&2
+	@echo "Proving and building flecsq. The first time this takes half an hour or more; each line below is one step done." >&2
 	@cd crates/flecsq && rt run -- --version >&2
 	@touch $@
 

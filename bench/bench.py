@@ -6,6 +6,7 @@ instructions  counted by valgrind, where that is installed: they don't vary with
 sqlite3       seconds of the sqlite3 shell, where that is installed, on the same workload as SQL: in memory, and in one transaction
 same          whether both wrote the same lines
 times         how many times the instructions of a plain engine, on workloads as a game gives them
+one more      the instructions that one more of something costs, as differences of whole runs
 
 The status is 1 where a program fails or what they wrote differs.
 """
@@ -18,6 +19,7 @@ import sys
 import tempfile
 import time
 
+import differences
 import engine
 import workloads
 
@@ -124,12 +126,28 @@ def run_program(crate, words):
     return seconds is not None
 
 
+def run_differences(name, room):
+    """A row with what one more costs, and whether it could be counted."""
+    script, sum_of_counts = os.path.join(room, "script"), 0
+    parts, number = differences.scripts(name)
+    for sign, text in parts:
+        with open(script, "w", encoding="ascii") as it:
+            it.write(text)
+        count = counted([program("flecsq")], script)
+        if count is None:
+            print(f"{name:<20}{'-':>9}")
+            return True
+        sum_of_counts += sign * count
+    print(f"{name:<20}{sum_of_counts / number:>9,.0f}", flush=True)
+    return True
+
+
 def header(other):
     print(f"{'workload':<20}{'size':>9}{'seconds':>10}{'instructions':>16}{other:>10}{'same':>6}")
 
 
 def main():
-    known = [*workloads.WORKLOADS, *dict(PROGRAMS), *engine.WORKLOADS]
+    known = [*workloads.WORKLOADS, *dict(PROGRAMS), *engine.WORKLOADS, *differences.DIFFERENCES]
     chosen = sys.argv[1:] or known
     unknown = [it for it in chosen if it not in known]
     if unknown:
@@ -141,6 +159,8 @@ def main():
         well += [run_program(crate, words) for crate, words in PROGRAMS if crate in chosen]
         header("times")
         well += [run_beside_engine(name, room) for name in engine.WORKLOADS if name in chosen]
+        print(f"{'one more':<20}{'costs':>9}")
+        well += [run_differences(name, room) for name in differences.DIFFERENCES if name in chosen]
     return 0 if all(well) else 1
 
 
