@@ -7,7 +7,7 @@ use crate::scripts::{
     ASKING_MONITOR, DELETED_PARENTS, EACH_CALL, FIRST_ENTITY, KEPT_QUERY, LOCAL_MONITOR, MARRIAGES,
     MONITOR_OF_PARENTS, OBSERVERS, QUERY_NAMES, SECOND_QUERIES, SYSTEM_ALONE, Script,
 };
-use ecs_id::EntityId;
+use ecs_id::{EntityId, Id};
 use ecs_observe::{Session, SessionError};
 use ecs_world::World;
 use refusing_alloc::Refusing;
@@ -43,6 +43,14 @@ fn is_found<A: Allocator>(world: &World<A>, entity: EntityId, name: Option<&str>
     }
 }
 
+/// Whether both have fields for an index, or none.
+fn are_typed_alike<A: Allocator>(one: &World<A>, other: &World<A>, index: u32) -> bool {
+    match Id::unpack(u64::from(index)) {
+        Some(id) => one.type_of(id).is_some() == other.type_of(id).is_some(),
+        None => false,
+    }
+}
+
 /// Whether the same stands at an index: an entity with its name, its ids and their values, and its count of stored queries.
 fn are_same_at<A: Allocator>(one: &World<A>, other: &World<A>, index: u32) -> bool {
     let Some(entity) = one.at(index) else {
@@ -63,7 +71,8 @@ fn are_same_at<A: Allocator>(one: &World<A>, other: &World<A>, index: u32) -> bo
 /// Whether the two sessions have the same at all indexes that they give out here, events wait in both or in none, and whole rows were taken as often.
 fn are_same<A: Allocator>(one: &Session<A>, other: &Session<A>) -> bool {
     for index in 1..90u32 {
-        if !are_same_at(one.world(), other.world(), index) {
+        let (one, other) = (one.world(), other.world());
+        if !are_typed_alike(one, other, index) || !are_same_at(one, other, index) {
             return false;
         }
     }
