@@ -1,154 +1,58 @@
-//! Each growth of each call is refused in turn.
+//! Each growth of each line of scripts is refused in turn.
+
+ghost use Rattle.std.specs.Prelude.{◌<◌, length};
+
+use crate::lines::{Line, carry_out, print_lines, with_events};
+use crate::scripts::{
+    ASKING_MONITOR, DELETED_PARENTS, EACH_CALL, FIRST_ENTITY, KEPT_QUERY, LOCAL_MONITOR, MARRIAGES,
+    MONITOR_OF_PARENTS, OBSERVERS, QUERY_NAMES, SECOND_QUERIES, SYSTEM_ALONE, Script,
+};
 use ecs_id::{EntityId, Id};
-use ecs_model::watches::StoredKind;
-use ecs_observe::{Event, Session, SessionError, write_event};
-use ecs_schema::{Kind, Schema, SchemaError};
+use ecs_observe::{Session, SessionError};
 use ecs_world::World;
 use refusing_alloc::Refusing;
-use std::alloc::{AllocError, Allocator, Global};
+use std::alloc::{Allocator, Global};
 use std::hash::RandomState;
 use std::process::Abort;
 use std::test::Fail;
 
-const CHILD_OF: u32 = 1;
+/// More room than the events of a line take when they are written.
+const ROOM: usize = 4096;
 
-const POSITION: u32 = 64;
+/// Each script that keeps queries keeps one under this name.
+const ROWS: [Line; 1] = [Line::Rows("k")];
 
-const PLANET: u32 = 65;
+/// No line has as many growths.
+const MOST_GROWTHS: u64 = 500;
 
-const SUN: EntityId = EntityId {
-    index: 66,
-    generation: 0,
-};
-
-const EARTH: EntityId = EntityId {
-    index: 67,
-    generation: 0,
-};
-
-/// A query of each kind.
-const STORED: [(StoredKind, &str, &str); 5] = [
-    (StoredKind::Kept, "k", "Position, Planet"),
-    (StoredKind::Monitor, "m", "Position, !Planet"),
-    (StoredKind::OnAdd, "a", "*"),
-    (StoredKind::OnRemove, "r", "*"),
-    (StoredKind::OnSet, "s", "Position"),
-];
-
+/// Where memory is refused in a script: at a line between others, which gets so many blocks and no more.
 #[derive(Clone, Copy)]
-enum Call {
-    Fresh,
-    Entity,
-    Component,
-    Add,
-    Set,
-    Remove,
-    Delete,
-    Store(StoredKind),
-    Drop,
-    /// A command was accepted, and its events are told.
-    Events,
-    Rows,
+struct Growth<'a> {
+    base: &'a [Line],
+    before: &'a [Line],
+    line: Line,
+    after: &'a [Line],
+    blocks: u64,
 }
 
-fn fields<A: Allocator + Copy>(alloc: A) -> Result<Schema<A>, SchemaError> {
-    Schema::new(alloc, &[("x", Kind::I32)])
-}
-
-/// Carries out a call. The rows are written behind what was written.
-fn carry_out<A: Allocator + Copy>(
-    session: &mut Session<A>,
-    call: Call,
-    mass: Schema<A>,
-    out: &mut Vec<u8, A>,
-) -> Result<Option<EntityId>, SessionError> {
-    match call {
-        Call::Fresh => session.fresh(),
-        // (a short name may take no memory)
-        Call::Entity => session.entity("MoonOfTheThirdPlanet"),
-        Call::Component => session.component("Mass", mass),
-        Call::Add => session.add(EARTH, Id::plain(PLANET)),
-        Call::Set => session.set(EARTH, Id::plain(POSITION), &[8]),
-        Call::Remove => session.remove(SUN, Id::plain(PLANET)),
-        Call::Delete => session.delete(SUN),
-        Call::Store(kind) => session.store(kind, "new", "Position"),
-        Call::Drop => session.drop_stored("m"),
-        Call::Events => {
-            session.events()?;
-            Ok(None)
-        }
-        Call::Rows => {
-            session.write_kept_rows("k", out)?;
-            Ok(None)
-        }
+/// Whether the entity is found under its name, if it has one.
+fn is_found<A: Allocator>(world: &World<A>, entity: EntityId, name: Option<&str>) -> bool {
+    match name {
+        Some(name) => world.find(name) == Some(entity),
+        None => true,
     }
 }
 
-fn write_lines<A: Allocator>(told: &[Event<A>], out: &mut Vec<u8, A>) -> Result<(), AllocError> {
-    for event in told {
-        write_event(event, out)?;
+/// Whether both have fields for an index, or none.
+fn are_typed_alike<A: Allocator>(one: &World<A>, other: &World<A>, index: u32) -> bool {
+    match Id::unpack(u64::from(index)) {
+        Some(id) => one.type_of(id).is_some() == other.type_of(id).is_some(),
+        None => false,
     }
-    Ok(())
-}
-
-fn write_events<A: Allocator + Copy>(
-    session: &mut Session<A>,
-    out: &mut Vec<u8, A>,
-) -> Result<(), AllocError> {
-    let told = session.events()?;
-    write_lines(told.as_slice(), out)
-}
-
-/// Carries out a call with ample memory, and writes what is told of it and the rows of the kept query. Events that wait are told alone.
-fn finish<A: Allocator + Copy>(
-    session: &mut Session<A>,
-    call: Call,
-    mass: Schema<A>,
-    out: &mut Vec<u8, A>,
-) -> Result<Option<EntityId>, SessionError> {
-    let mut born = None;
-    if !matches!(call, Call::Events) {
-        born = carry_out(session, call, mass, out)?;
-    }
-    write_events(session, out)?;
-    session.write_kept_rows("k", out)?;
-    Ok(born)
-}
-
-/// Stores a kept query and a monitor in a new session, of which the next index needs room.
-fn prepare_new<A: Allocator + Copy>(session: &mut Session<A>) -> Result<(), SessionError> {
-    session.store(StoredKind::Kept, "k", "Component")?;
-    session.store(StoredKind::Monitor, "m", "!Component")?;
-    Ok(())
-}
-
-/// Makes a sun that is a planet with a position, the earth as its child, and the stored queries. For `Events` the earth has got a position, of which nothing is told yet.
-fn prepare<A: Allocator + Copy>(
-    session: &mut Session<A>,
-    position: Schema<A>,
-    call: Call,
-) -> Result<(), SessionError> {
-    if matches!(call, Call::Fresh) {
-        return prepare_new(session);
-    }
-    session.component("Position", position)?;
-    for name in ["Planet", "Sun", "Earth"] {
-        session.entity(name)?;
-    }
-    session.set(SUN, Id::plain(POSITION), &[7])?;
-    session.add(SUN, Id::plain(PLANET))?;
-    session.add(EARTH, Id::pair(CHILD_OF, SUN.index))?;
-    for (kind, name, text) in STORED {
-        session.store(kind, name, text)?;
-    }
-    if matches!(call, Call::Events) {
-        session.set(EARTH, Id::plain(POSITION), &[9])?;
-    }
-    Ok(())
 }
 
 /// Whether the same stands at an index: an entity with its name, its ids and their values, and its count of stored queries.
-fn are_same_at<A: Allocator, B: Allocator>(one: &World<A>, other: &World<B>, index: u32) -> bool {
+fn are_same_at<A: Allocator>(one: &World<A>, other: &World<A>, index: u32) -> bool {
     let Some(entity) = one.at(index) else {
         return other.at(index).is_none();
     };
@@ -160,159 +64,259 @@ fn are_same_at<A: Allocator, B: Allocator>(one: &World<A>, other: &World<B>, ind
     }
     other.ids_of(entity) == Some(ids)
         && one.name_of(index) == other.name_of(index)
+        && is_found(other, entity, one.name_of(index))
         && one.pin_count(index) == other.pin_count(index)
 }
 
-/// Whether the two sessions have the same at all indexes that they give out here, and events wait in both or in none.
-fn are_same<A: Allocator, B: Allocator>(one: &Session<A>, other: &Session<B>) -> bool {
-    for index in 1..80u32 {
-        if !are_same_at(one.world(), other.world(), index) {
+/// Whether the two sessions have the same at all indexes that they give out here, events wait in both or in none, and whole rows were taken as often.
+fn are_same<A: Allocator>(one: &Session<A>, other: &Session<A>) -> bool {
+    for index in 1..90u32 {
+        let (one, other) = (one.world(), other.world());
+        if !are_typed_alike(one, other, index) || !are_same_at(one, other, index) {
             return false;
         }
     }
-    one.has_events() == other.has_events()
+    one.has_events() == other.has_events() && one.compared() == other.compared()
 }
 
-/// A session before a call and one after it, with what the call answered and what was told.
-#[derive(Drop)]
-struct Expected<'a> {
-    call: Call,
-    before: &'a Session,
-    after: &'a Session,
-    born: Option<EntityId>,
-    told: &'a [u8],
+/// How much room there is beforehand for what a line writes. Where events have been told, no memory may be wanting to write them.
+fn room_for(line: Line) -> usize {
+    match line {
+        Line::Events => ROOM,
+        _ => 0,
+    }
 }
 
-/// Gives out so many blocks and no more, and tells whether the call was refused. If so, all is as before, and the next try answers as the first
-/// would have.
+/// Carries out lines in both sessions with ample memory: they print the same.
+fn print_both<A: Allocator + Copy>(
+    rt: &impl Abort,
+    alloc: A,
+    lines: &[Line],
+    tried: &mut Session<A>,
+    right: &mut Session<A>,
+) -> Result<(), Fail> {
+    let mut printed = Vec::new(alloc);
+    let mut expected = Vec::new(alloc);
+    print_lines(tried, alloc, lines, &mut printed)?;
+    print_lines(right, alloc, lines, &mut expected)?;
+    assert_eq!(rt; printed.as_slice(), expected.as_slice());
+    Ok(())
+}
+
+/// Both sessions are the same, and so are the rows of the query that is kept as `k`, if there is one.
+fn expect_same<A: Allocator + Copy>(
+    rt: &impl Abort,
+    alloc: A,
+    tried: &mut Session<A>,
+    right: &mut Session<A>,
+) -> Result<(), Fail> {
+    assert!(rt; are_same(tried, right));
+    print_both(rt, alloc, &ROWS, tried, right)
+}
+
+/// Carries out a line in both sessions, in the first with so many blocks and no more, and tells whether it was refused for that. Then this session
+/// is as before, and the line is carried out again. Both answer and write the same.
+fn is_line_refused<'a>(
+    rt: &impl Abort,
+    heap: &'a Refusing<Global>,
+    growth: &Growth<'_>,
+    tried: &mut Session<&'a Refusing<Global>>,
+    right: &mut Session<&'a Refusing<Global>>,
+) -> Result<bool, Fail> {
+    let line = growth.line;
+    let mut written = Vec::with_capacity(heap, room_for(line))?;
+    heap.refuse_after(growth.blocks);
+    let mut answer = carry_out(tried, heap, line, &mut written);
+    heap.refuse_none();
+    let refused = answer == Err(SessionError::Memory);
+    if refused {
+        expect_same(rt, heap, tried, right)?;
+        written.clear();
+        answer = carry_out(tried, heap, line, &mut written);
+    }
+    let mut expected = Vec::new(heap);
+    assert!(rt; carry_out(right, heap, line, &mut expected) == answer);
+    assert_eq!(rt; written.as_slice(), expected.as_slice());
+    Ok(refused)
+}
+
+/// Carries out a script in both sessions, and refuses memory in the first at its line. From then on the two are the same.
 fn is_refused_in<'a>(
     rt: &impl Abort,
     heap: &'a Refusing<Global>,
-    session: &mut Session<&'a Refusing<Global>>,
-    out: &mut Vec<u8, &'a Refusing<Global>>,
-    allowed: u64,
-    expected: &Expected<'_>,
+    growth: &Growth<'_>,
+    tried: &mut Session<&'a Refusing<Global>>,
+    right: &mut Session<&'a Refusing<Global>>,
 ) -> Result<bool, Fail> {
-    let call = expected.call;
-    prepare(session, fields(heap)?, call)?;
-    let (first, second) = (fields(heap)?, fields(heap)?);
-    heap.refuse_after(allowed);
-    let done = carry_out(session, call, first, out);
-    heap.refuse_none();
-    if done.is_ok() {
-        return Ok(false);
-    }
-    assert!(rt; done == Err(SessionError::Memory));
-    assert!(rt; are_same(expected.before, session));
-    out.clear();
-    assert!(rt; finish(session, call, second, out) == Ok(expected.born));
-    assert!(rt; are_same(expected.after, session));
-    assert_eq!(rt; out.as_slice(), expected.told);
-    Ok(true)
+    print_both(rt, heap, growth.base, tried, right)?;
+    print_both(rt, heap, growth.before, tried, right)?;
+    let refused = is_line_refused(rt, heap, growth, tried, right)?;
+    expect_same(rt, heap, tried, right)?;
+    print_both(rt, heap, growth.after, tried, right)?;
+    expect_same(rt, heap, tried, right)?;
+    Ok(refused)
 }
 
+fn is_refused_beside<'a>(
+    rt: &impl Abort,
+    heap: &'a Refusing<Global>,
+    random: RandomState,
+    growth: &Growth<'_>,
+    tried: &mut Session<&'a Refusing<Global>>,
+) -> Result<bool, Fail> {
+    let mut right = Session::new(heap, random)?;
+    let refused = is_refused_in(rt, heap, growth, tried, &mut right);
+    drop(right);
+    refused
+}
+
+/// Whether a line is refused with so few blocks, in a new session beside another to which nothing is refused.
 fn is_refused(
     rt: &impl Abort,
     heap: &Refusing<Global>,
     random: RandomState,
-    allowed: u64,
-    expected: &Expected<'_>,
+    growth: &Growth<'_>,
 ) -> Result<bool, Fail> {
-    let mut session = Session::new(heap, random)?;
-    let mut out = Vec::new(heap);
-    let refused = is_refused_in(rt, heap, &mut session, &mut out, allowed, expected);
-    drop(session);
+    let mut tried = Session::new(heap, random)?;
+    let refused = is_refused_beside(rt, heap, random, growth, &mut tried);
+    drop(tried);
     refused
 }
 
-/// Refuses each growth of a call in turn. There is at least one, but of dropping a stored query.
-fn refuse_growths(
+/// Refuses each growth of a line in turn, and counts them.
+fn refuse_line(
     rt: &impl Abort,
     heap: &Refusing<Global>,
     random: RandomState,
-    expected: &Expected<'_>,
-) -> Result<(), Fail> {
+    base: &[Line],
+    lines: &[Line],
+    place: usize,
+) -> Result<u64, Fail>
+    requires { place < length lines.now }
+{
     let mut refusals = 0;
-    for allowed in 0..200u64 {
-        if !is_refused(rt, heap, random, allowed, expected)? {
+    for blocks in 0..MOST_GROWTHS {
+        let growth = Growth {
+            base,
+            before: &lines[..place],
+            line: lines[place],
+            after: &lines[place + 1..],
+            blocks,
+        };
+        if !is_refused(rt, heap, random, &growth)? {
             break;
         }
-        refusals = allowed + 1;
+        refusals = blocks + 1;
     }
-    assert!(rt; 0 < refusals || matches!(expected.call, Call::Drop));
-    assert!(rt; refusals < 200);
+    assert!(rt; refusals < MOST_GROWTHS);
+    Ok(refusals)
+}
+
+/// Refuses each growth of each line behind others in turn. There are more growths than lines.
+fn refuse_lines(
+    rt: &(impl Abort + AllocGlobal),
+    random: RandomState,
+    base: &[Line],
+    lines: &[Line],
+) -> Result<(), Fail> {
+    let heap = Refusing::new(rt.alloc());
+    let mut refusals = 0u64;
+    for place in 0..lines.len() {
+        let more = refuse_line(rt, &heap, random, base, lines, place)?;
+        refusals = refusals.saturating_add(more);
+    }
+    assert!(rt; refusals > lines.len() as u64);
     Ok(())
 }
 
-/// Refuses each growth of a call, between these two new sessions.
-fn refuse_between(
-    rt: &(impl Abort + AllocGlobal),
-    random: RandomState,
-    call: Call,
-    before: &mut Session,
-    after: &mut Session,
+/// Carries out all lines of a script, and compares what is printed.
+fn expect_output(
+    rt: &impl Abort,
+    alloc: Global,
+    session: &mut Session,
+    base: &[Line],
+    lines: &[Line],
+    output: &[u8],
 ) -> Result<(), Fail> {
-    let alloc = rt.alloc();
-    prepare(before, fields(alloc)?, call)?;
-    prepare(after, fields(alloc)?, call)?;
-    let mut told = Vec::new(alloc);
-    let born = finish(after, call, fields(alloc)?, &mut told)?;
-    let expected = Expected {
-        call,
-        before,
-        after,
-        born,
-        told: told.as_slice(),
-    };
-    refuse_growths(rt, &Refusing::new(alloc), random, &expected)
+    let mut printed = Vec::new(alloc);
+    print_lines(session, alloc, base, &mut printed)?;
+    print_lines(session, alloc, lines, &mut printed)?;
+    assert_eq!(rt; printed.as_slice(), output);
+    Ok(())
 }
 
-fn refuse_from(
+fn print_script(
     rt: &(impl Abort + AllocGlobal),
     random: RandomState,
-    call: Call,
-    before: &mut Session,
+    base: &[Line],
+    lines: &[Line],
+    output: &[u8],
 ) -> Result<(), Fail> {
-    let mut after = Session::new(rt.alloc(), random)?;
-    let done = refuse_between(rt, random, call, before, &mut after);
-    drop(after);
-    done
+    let mut session = Session::new(rt.alloc(), random)?;
+    let printed = expect_output(rt, rt.alloc(), &mut session, base, lines, output);
+    drop(session);
+    printed
 }
 
-fn refuse_each(
+/// Prints what a script prints, and then refuses each growth of its lines in turn.
+fn try_script(
     rt: &(impl Abort + AllocGlobal),
     random: RandomState,
-    call: Call,
+    script: &Script,
 ) -> Result<(), Fail> {
-    let mut before = Session::new(rt.alloc(), random)?;
-    let done = refuse_from(rt, random, call, &mut before);
-    drop(before);
-    done
+    let base = with_events(rt.alloc(), script.base)?;
+    let lines = with_events(rt.alloc(), script.lines)?;
+    if let Some(output) = script.output {
+        print_script(rt, random, base.as_slice(), lines.as_slice(), output)?;
+    }
+    refuse_lines(rt, random, base.as_slice(), lines.as_slice())
 }
 
 #[test]
-fn a_refused_call_changes_nothing(rt: HostRuntime) -> Result<(), Fail> {
+fn facts_and_values_outlast_refusals(rt: HostRuntime) -> Result<(), Fail> {
     let random = RandomState::new(&rt)?;
-    for call in [
-        Call::Fresh,
-        Call::Entity,
-        Call::Component,
-        Call::Add,
-        Call::Set,
-        Call::Remove,
-        Call::Delete,
-        Call::Store(StoredKind::Kept),
-        Call::Store(StoredKind::Monitor),
-        Call::Store(StoredKind::OnAdd),
-        Call::Store(StoredKind::OnRemove),
-        Call::Store(StoredKind::OnSet),
-        Call::Drop,
-        Call::Events,
-        Call::Rows,
-    ] {
-        refuse_each(&rt, random, call)?;
-    }
-    Ok(())
+    try_script(&rt, random, &SYSTEM_ALONE)?;
+    try_script(&rt, random, &MARRIAGES)
+}
+
+#[test]
+fn deaths_and_births_outlast_refusals(rt: HostRuntime) -> Result<(), Fail> {
+    let random = RandomState::new(&rt)?;
+    try_script(&rt, random, &DELETED_PARENTS)?;
+    try_script(&rt, random, &FIRST_ENTITY)
+}
+
+#[test]
+fn stored_queries_outlast_refusals(rt: HostRuntime) -> Result<(), Fail> {
+    let random = RandomState::new(&rt)?;
+    try_script(&rt, random, &QUERY_NAMES)?;
+    try_script(&rt, random, &SECOND_QUERIES)
+}
+
+#[test]
+fn kept_queries_outlast_refusals(rt: HostRuntime) -> Result<(), Fail> {
+    let random = RandomState::new(&rt)?;
+    try_script(&rt, random, &KEPT_QUERY)
+}
+
+#[test]
+fn monitors_outlast_refusals(rt: HostRuntime) -> Result<(), Fail> {
+    let random = RandomState::new(&rt)?;
+    try_script(&rt, random, &LOCAL_MONITOR)?;
+    try_script(&rt, random, &MONITOR_OF_PARENTS)?;
+    try_script(&rt, random, &ASKING_MONITOR)
+}
+
+#[test]
+fn observers_outlast_refusals(rt: HostRuntime) -> Result<(), Fail> {
+    let random = RandomState::new(&rt)?;
+    try_script(&rt, random, &OBSERVERS)
+}
+
+#[test]
+fn each_call_outlasts_refusals(rt: HostRuntime) -> Result<(), Fail> {
+    let random = RandomState::new(&rt)?;
+    try_script(&rt, random, &EACH_CALL)
 }
 
 /// Whether there is memory for a session.

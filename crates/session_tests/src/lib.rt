@@ -6,6 +6,10 @@ mod calls;
 #[cfg(test)]
 mod growths;
 #[cfg(test)]
+mod lines;
+#[cfg(test)]
 mod monitors;
 #[cfg(test)]
 mod refusals;
+#[cfg(test)]
+mod scripts;

@@ -1,0 +1,269 @@
+//! Scripts: worked ones that show most of what a session does, and some that have each call in them.
+use crate::lines::{Line, Named};
+use ecs_model::built_ins::{EXCLUSIVE, SYMMETRIC, WITH};
+use ecs_model::watches::StoredKind;
+use ecs_schema::Kind;
+
+/// A script, and what it prints if that is known from outside. Of worked scripts the lines that only show or ask something are left out, and the
+/// numbers of the lines that are refused.
+pub(crate) struct Script {
+    /// The lines with which other scripts begin too, and those behind them.
+    pub(crate) base: &'static [Line],
+    pub(crate) lines: &'static [Line],
+    pub(crate) output: Option<&'static [u8]>,
+}
+
+const CHILD_OF: u32 = 1;
+
+const DISABLED: u32 = 5;
+
+const POSITION: u32 = 64;
+
+const PLANET: u32 = 65;
+
+const SUN: u32 = 67;
+
+const EARTH: u32 = 68;
+
+const MOON: u32 = 69;
+
+/// The entity that is made after those of the system.
+const HOT: u32 = 70;
+
+/// The sun with a position, the earth, a planet with one, around it, and the moon around the earth.
+const SYSTEM: [Line; 11] = [
+    Line::Component("Position", &[("x", Kind::I32), ("y", Kind::I32)]),
+    Line::Entity("Planet"),
+    Line::Entity("Likes"),
+    Line::Entity("Sun"),
+    Line::Entity("Earth"),
+    Line::Entity("Moon"),
+    Line::Add(EARTH, Named::Pair(CHILD_OF, SUN)),
+    Line::Add(MOON, Named::Pair(CHILD_OF, EARTH)),
+    Line::Set(SUN, Named::Plain(POSITION), &[0, 0]),
+    Line::Set(EARTH, Named::Plain(POSITION), &[10, -3]),
+    Line::Add(EARTH, Named::Plain(PLANET)),
+];
+
+/// What the others stand on, by itself.
+pub(crate) const SYSTEM_ALONE: Script = Script {
+    base: &[],
+    lines: &SYSTEM,
+    output: Some(b""),
+};
+
+/// The worked script kept-query-through-changes.
+pub(crate) const KEPT_QUERY: Script = Script {
+    base: &SYSTEM,
+    lines: &[
+        Line::Store(StoredKind::Kept, "k", "Position, Planet"),
+        Line::Rows("k"),
+        Line::Entity("Hot"),
+        Line::Add(EARTH, Named::Plain(HOT)),
+        Line::Rows("k"),
+        Line::Delete(HOT),
+        Line::Set(MOON, Named::Plain(POSITION), &[4, 4]),
+        Line::Rows("k"),
+        Line::Add(MOON, Named::Plain(PLANET)),
+        Line::Rows("k"),
+        Line::Remove(EARTH, Named::Plain(PLANET)),
+        Line::Rows("k"),
+        Line::Delete(PLANET),
+    ],
+    output: Some(
+        b"row $this=Earth [Position@Earth=10,-3] [Planet@Earth]
+rows 1
+row $this=Earth [Position@Earth=10,-3] [Planet@Earth]
+rows 1
+row $this=Earth [Position@Earth=10,-3] [Planet@Earth]
+rows 1
+row $this=Earth [Position@Earth=10,-3] [Planet@Earth]
+row $this=Moon [Position@Moon=4,4] [Planet@Moon]
+rows 2
+row $this=Moon [Position@Moon=4,4] [Planet@Moon]
+rows 1
+error InUse
+",
+    ),
+};
+
+/// The worked script monitor-through-parents.
+pub(crate) const MONITOR_OF_PARENTS: Script = Script {
+    base: &SYSTEM,
+    lines: &[
+        Line::Store(StoredKind::Monitor, "m", "Position(up)"),
+        Line::Remove(EARTH, Named::Plain(POSITION)),
+        Line::Remove(SUN, Named::Plain(POSITION)),
+    ],
+    output: Some(b"leave m Earth\nleave m Moon\n"),
+};
+
+/// A monitor of which few entities are asked.
+pub(crate) const ASKING_MONITOR: Script = Script {
+    base: &SYSTEM,
+    lines: &[
+        Line::Entity("Hot"),
+        Line::Add(SUN, Named::Plain(HOT)),
+        Line::Remove(MOON, Named::Pair(CHILD_OF, EARTH)),
+        Line::Set(MOON, Named::Plain(POSITION), &[2, 2]),
+        Line::Store(StoredKind::Monitor, "m", "Hot(up), Position"),
+        Line::Set(EARTH, Named::Plain(POSITION), &[1, 1]),
+        Line::Add(MOON, Named::Plain(PLANET)),
+        Line::Add(MOON, Named::Pair(CHILD_OF, EARTH)),
+        Line::Add(EARTH, Named::Plain(DISABLED)),
+    ],
+    output: Some(b"enter m Moon\nleave m Earth\n"),
+};
+
+/// The worked script local-monitor-tells-once.
+pub(crate) const LOCAL_MONITOR: Script = Script {
+    base: &SYSTEM,
+    lines: &[
+        Line::Store(StoredKind::Monitor, "m", "Position, !Planet"),
+        Line::Remove(EARTH, Named::Plain(PLANET)),
+        Line::Add(EARTH, Named::Plain(PLANET)),
+        Line::Set(SUN, Named::Plain(POSITION), &[1, 1]),
+        Line::Delete(SUN),
+    ],
+    output: Some(b"enter m Earth\nleave m Earth\nleave m Sun\n"),
+};
+
+/// The worked script delete-parents-and-reuse-indexes.
+pub(crate) const DELETED_PARENTS: Script = Script {
+    base: &SYSTEM,
+    lines: &[
+        Line::Delete(SUN),
+        Line::Fresh,
+        Line::Fresh,
+        Line::Add(SUN, Named::Plain(PLANET)),
+    ],
+    output: Some(b"#67.1\n#68.1\nerror Dead\n"),
+};
+
+/// The worked script stored-query-names.
+pub(crate) const QUERY_NAMES: Script = Script {
+    base: &SYSTEM,
+    lines: &[
+        Line::Store(StoredKind::Kept, "k", "Planet"),
+        Line::Store(StoredKind::Monitor, "k", "Posit"),
+        Line::Store(StoredKind::Kept, "9", "Posit"),
+        Line::Drop("z"),
+        Line::Drop("k"),
+        Line::Delete(PLANET),
+    ],
+    output: Some(b"error QueryTaken\nerror BadName\nerror UnknownQuery\n"),
+};
+
+const MASS: u32 = 64;
+
+const SOLID: u32 = 65;
+
+const ROCK: u32 = 66;
+
+/// The worked script with-and-event-observers.
+pub(crate) const OBSERVERS: Script = Script {
+    base: &[],
+    lines: &[
+        Line::Component("Mass", &[("kg", Kind::U8)]),
+        Line::Entity("Solid"),
+        Line::Add(SOLID, Named::Pair(WITH, MASS)),
+        Line::Entity("Rock"),
+        Line::Store(StoredKind::OnAdd, "a", "Mass"),
+        Line::Store(StoredKind::OnSet, "s", "Mass"),
+        Line::Add(ROCK, Named::Plain(SOLID)),
+        Line::Set(ROCK, Named::Plain(MASS), &[255]),
+        Line::Set(ROCK, Named::Plain(MASS), &[256]),
+        Line::Store(StoredKind::OnRemove, "r", "*"),
+        Line::Delete(ROCK),
+    ],
+    output: Some(
+        b"add a Rock Mass
+set s Rock Mass=255
+error Range
+remove r Rock Mass
+remove r Rock Solid
+",
+    ),
+};
+
+const MARRIED: u32 = 64;
+
+const ANN: u32 = 65;
+
+const BOB: u32 = 66;
+
+const CY: u32 = 67;
+
+/// The worked script symmetric-exclusive-replacement.
+pub(crate) const MARRIAGES: Script = Script {
+    base: &[],
+    lines: &[
+        Line::Entity("Married"),
+        Line::Add(MARRIED, Named::Plain(SYMMETRIC)),
+        Line::Add(MARRIED, Named::Plain(EXCLUSIVE)),
+        Line::Entity("Ann"),
+        Line::Entity("Bob"),
+        Line::Entity("Cy"),
+        Line::Add(ANN, Named::Pair(MARRIED, BOB)),
+        Line::Add(ANN, Named::Pair(MARRIED, CY)),
+        Line::Remove(CY, Named::Pair(MARRIED, ANN)),
+    ],
+    output: Some(b""),
+};
+
+/// In a new session the next index needs room.
+pub(crate) const FIRST_ENTITY: Script = Script {
+    base: &[],
+    lines: &[
+        Line::Store(StoredKind::Kept, "k", "Component"),
+        Line::Store(StoredKind::Monitor, "m", "!Component"),
+        Line::Fresh,
+    ],
+    output: None,
+};
+
+/// Each call of a session that has a query of each kind, and a monitor that asks ancestors.
+pub(crate) const EACH_CALL: Script = Script {
+    base: &SYSTEM,
+    lines: &[
+        Line::Store(StoredKind::Kept, "k", "Position, Planet"),
+        Line::Store(StoredKind::Monitor, "m", "Position, !Planet"),
+        Line::Store(StoredKind::Monitor, "u", "Position(up)"),
+        Line::Store(StoredKind::OnAdd, "a", "*"),
+        Line::Store(StoredKind::OnRemove, "r", "*"),
+        Line::Store(StoredKind::OnSet, "s", "Position"),
+        // (a short name may take no memory)
+        Line::Entity("MoonOfTheThirdPlanet"),
+        Line::Component("Mass", &[("x", Kind::I32)]),
+        Line::Fresh,
+        Line::Add(MOON, Named::Plain(PLANET)),
+        Line::Set(MOON, Named::Plain(POSITION), &[9, 9]),
+        Line::Set(MOON, Named::Plain(POSITION), &[8, 8]),
+        Line::Rows("k"),
+        Line::Remove(EARTH, Named::Plain(PLANET)),
+        Line::Delete(SUN),
+        Line::Rows("k"),
+        Line::Drop("m"),
+    ],
+    output: None,
+};
+
+/// A second query of each kind behind the first ones.
+pub(crate) const SECOND_QUERIES: Script = Script {
+    base: &[
+        Line::Component("Position", &[("x", Kind::I32)]),
+        Line::Store(StoredKind::Kept, "k", "Position"),
+        Line::Store(StoredKind::Monitor, "m", "Position"),
+        Line::Store(StoredKind::OnAdd, "a", "*"),
+        Line::Store(StoredKind::OnRemove, "r", "*"),
+        Line::Store(StoredKind::OnSet, "s", "Position"),
+    ],
+    lines: &[
+        Line::Store(StoredKind::Kept, "kk", "Position"),
+        Line::Store(StoredKind::Monitor, "mm", "Position"),
+        Line::Store(StoredKind::OnAdd, "aa", "Position"),
+        Line::Store(StoredKind::OnRemove, "rr", "Position"),
+        Line::Store(StoredKind::OnSet, "ss", "Position"),
+    ],
+    output: None,
+};
