@@ -70,9 +70,9 @@ fn are_same_at<A: Allocator>(one: &World<A>, other: &World<A>, index: u32) -> bo
 
 /// Whether the two sessions have the same at all indexes that they give out here, events wait in both or in none, and whole rows were taken as often.
 fn are_same<A: Allocator>(one: &Session<A>, other: &Session<A>) -> bool {
+    let (world, beside) = (one.world(), other.world());
     for index in 1..90u32 {
-        let (one, other) = (one.world(), other.world());
-        if !are_typed_alike(one, other, index) || !are_same_at(one, other, index) {
+        if !are_typed_alike(world, beside, index) || !are_same_at(world, beside, index) {
             return false;
         }
     }
