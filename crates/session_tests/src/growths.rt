@@ -5,7 +5,7 @@ ghost use Rattle.std.specs.Prelude.{◌<◌, length};
 use crate::lines::{Line, carry_out, print_lines, with_events};
 use crate::scripts::{
     ASKING_MONITOR, DELETED_PARENTS, EACH_CALL, FIRST_ENTITY, KEPT_QUERY, LOCAL_MONITOR, MARRIAGES,
-    MONITOR_OF_PARENTS, OBSERVERS, QUERY_NAMES, SECOND_QUERIES, SYSTEM_ALONE, Script,
+    MONITOR_OF_PARENTS, OBSERVERS, QUERY_NAMES, SECOND_QUERIES, SYSTEM_ALONE, Script, WHOLE_ROWS,
 };
 use ecs_id::{EntityId, Id};
 use ecs_observe::{Session, SessionError};
@@ -304,7 +304,8 @@ fn monitors_outlast_refusals(rt: HostRuntime) -> Result<(), Fail> {
     let random = RandomState::new(&rt)?;
     try_script(&rt, random, &LOCAL_MONITOR)?;
     try_script(&rt, random, &MONITOR_OF_PARENTS)?;
-    try_script(&rt, random, &ASKING_MONITOR)
+    try_script(&rt, random, &ASKING_MONITOR)?;
+    try_script(&rt, random, &WHOLE_ROWS)
 }
 
 #[test]
