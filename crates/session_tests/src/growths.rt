@@ -5,7 +5,7 @@ ghost use Rattle.std.specs.Prelude.{◌<◌, length};
 use crate::lines::{Line, carry_out, print_lines, with_events};
 use crate::scripts::{
     ASKING_MONITOR, DELETED_PARENTS, EACH_CALL, FIRST_ENTITY, KEPT_QUERY, LOCAL_MONITOR, MARRIAGES,
-    MONITOR_OF_PARENTS, OBSERVERS, QUERY_NAMES, SECOND_QUERIES, SYSTEM_ALONE, Script,
+    MONITOR_OF_PARENTS, OBSERVERS, QUERY_NAMES, SECOND_QUERIES, SYSTEM_ALONE, Script, WHOLE_ROWS,
 };
 use ecs_id::{EntityId, Id};
 use ecs_observe::{Session, SessionError};
@@ -70,9 +70,9 @@ fn are_same_at<A: Allocator>(one: &World<A>, other: &World<A>, index: u32) -> bo
 
 /// Whether the two sessions have the same at all indexes that they give out here, events wait in both or in none, and whole rows were taken as often.
 fn are_same<A: Allocator>(one: &Session<A>, other: &Session<A>) -> bool {
+    let (world, beside) = (one.world(), other.world());
     for index in 1..90u32 {
-        let (one, other) = (one.world(), other.world());
-        if !are_typed_alike(one, other, index) || !are_same_at(one, other, index) {
+        if !are_typed_alike(world, beside, index) || !are_same_at(world, beside, index) {
             return false;
         }
     }
@@ -304,7 +304,8 @@ fn monitors_outlast_refusals(rt: HostRuntime) -> Result<(), Fail> {
     let random = RandomState::new(&rt)?;
     try_script(&rt, random, &LOCAL_MONITOR)?;
     try_script(&rt, random, &MONITOR_OF_PARENTS)?;
-    try_script(&rt, random, &ASKING_MONITOR)
+    try_script(&rt, random, &ASKING_MONITOR)?;
+    try_script(&rt, random, &WHOLE_ROWS)
 }
 
 #[test]

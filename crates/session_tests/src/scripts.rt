@@ -115,6 +115,27 @@ pub(crate) const ASKING_MONITOR: Script = Script {
     output: Some(b"enter m Moon\nleave m Earth\n"),
 };
 
+/// A monitor of which all rows are taken, since whoever lives may be in them.
+pub(crate) const WHOLE_ROWS: Script = Script {
+    base: &SYSTEM,
+    lines: &[
+        Line::Store(StoredKind::Monitor, "m", "!Position(up)"),
+        Line::Fresh,
+        Line::Remove(SUN, Named::Plain(POSITION)),
+        Line::Remove(EARTH, Named::Plain(POSITION)),
+        Line::Delete(EARTH),
+    ],
+    output: Some(
+        b"#70.0
+enter m #70.0
+enter m Earth
+enter m Moon
+leave m Earth
+leave m Moon
+",
+    ),
+};
+
 /// The worked script local-monitor-tells-once.
 pub(crate) const LOCAL_MONITOR: Script = Script {
     base: &SYSTEM,
