@@ -8,4 +8,6 @@ mod orders;
 #[cfg(test)]
 mod pulls;
 #[cfg(test)]
+mod whole_rows;
+#[cfg(test)]
 mod worked;

@@ -229,7 +229,10 @@ fn runs_are_given_up_after_every_pull(rt: HostRuntime) -> Result<(), Fail> {
 }
 
 /// The live entities, and the ids of each.
-fn facts_in(alloc: Global, world: &World) -> Result<Vec<(EntityId, Vec<Id>)>, AllocError> {
+pub(crate) fn facts_in(
+    alloc: Global,
+    world: &World,
+) -> Result<Vec<(EntityId, Vec<Id>)>, AllocError> {
     let mut facts = Vec::new(alloc);
     for entity in world.live() {
         let mut ids = Vec::new(alloc);

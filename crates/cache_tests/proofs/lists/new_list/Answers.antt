@@ -2,6 +2,5 @@
 use Rattle.std.proofs.lemmas.Result.{IfOk-weaker}
 use Rattle.cache_tests.proofs.lists.new_list.Goals as goal
 
--- src/lists.rt:114:1
-pub returns : goal.returns
-returns c = IfOk-weaker c.new.result _ _ (λ kept fits. fits c.args.world.now.tables) c.new.ensures.fits
+pub returns-clause-fits : goal.returns-clause-fits
+returns-clause-fits c = IfOk-weaker c.new.result _ _ (λ kept fits. fits c.args.world.now.tables) c.new.ensures.fits
