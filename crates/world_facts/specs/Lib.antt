@@ -1,4 +1,5 @@
 pub mod Shown
 pub mod Rises
 pub mod Kept
+pub mod Lists
 pub mod Climbing

@@ -3,6 +3,7 @@
 
 ghost use Rattle.std.specs.Prelude.{◌≡◌};
 ghost use Rattle.world_facts.specs.Kept.{KeepsTables};
+ghost use Rattle.world_facts.specs.Lists.{ListsTables};
 ghost use Rattle.world_facts.specs.Shown.{table_of};
 
 mod climb;
@@ -53,6 +54,16 @@ impl<'w, A: Allocator> WorldFacts<'w, A> {
         ensures { KeepsTables self.now }
     {
         // A field is read for what holds of the links.
+        let _world = self.world;
+    }
+
+    /// Law: the tables that are listed for each pattern are those of the world that have an id which it matches, each once. So of any two
+    /// facts of one world the lists are equally long. The call does nothing.
+    pub fn keeps_lists(&self)
+        ensures { ListsTables self.now }
+    {
+        // What is known of the lists.
+        let _ = self.links.tables();
         let _world = self.world;
     }
 

@@ -4,4 +4,6 @@ mod Printed
 pub mod Asked
 mod Answered
 mod Probes
+mod Planned
+mod Chains
 mod Sheets

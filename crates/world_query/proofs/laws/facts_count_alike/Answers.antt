@@ -1,0 +1,5 @@
+use Rattle.world_query.proofs.Planned.{facts_count_alike}
+use Rattle.world_query.proofs.laws.facts_count_alike.Goals as goal
+
+pub returns : goal.returns
+returns c = facts_count_alike
