@@ -6,6 +6,8 @@ mod again;
 #[cfg(test)]
 mod orders;
 #[cfg(test)]
+mod promised;
+#[cfg(test)]
 mod pulls;
 #[cfg(test)]
 mod whole_rows;
