@@ -1,5 +1,5 @@
 -- What a text asks in a world can be planned, and goes up without cycles there.
-use Rattle.std.proofs.Common.{ap, ◌∙◌}
+use Rattle.std.proofs.Common.{ap}
 use Rattle.ecs_model.specs.rows.View.{view_of}
 use Rattle.ecs_world.specs.Standing.{Standing}
 use Rattle.world_query.proofs.Asked.{answerable, as_answerable}
