@@ -1,12 +1,13 @@
 //! The list of a kept query through the lines of a script.
 
 ghost use Rattle.std.specs.Prelude.{◌≡◌, IfOk};
+ghost use Rattle.ecs_id.specs.Id.{IsIndex};
 ghost use Rattle.query_cache.specs.Kept.{Fits};
 ghost use Rattle.query_cache.specs.Patterns.{patterns_of};
 ghost use Rattle.table_store.specs.Going.{TablesGoOn};
 ghost use Rattle.world_query.specs.Answerable.{IsAsked};
 
-use ecs_id::{EntityId, Id, TableKey};
+use ecs_id::{EntityId, Id, LAST_INDEX, TableKey};
 use ecs_model::faults::{CommandError, Refusal};
 use ecs_schema::{Kind, Schema};
 use ecs_world::World;
@@ -179,19 +180,37 @@ fn first_at(index: u32) -> EntityId {
     }
 }
 
+/// An index that an entity can have. At any other there is no live one.
+fn index_in_range(index: u32) -> Result<u32, CommandError>
+    ensures { IfOk result IsIndex }
+{
+    if index == 0 || index > LAST_INDEX {
+        return Err(CommandError::Refused(Refusal::Dead));
+    }
+    Ok(index)
+}
+
+fn tag_of(index: u32) -> Result<Id, CommandError> {
+    let index = index_in_range(index)?;
+    Ok(Id::plain(index))
+}
+
+fn parent_of(index: u32) -> Result<Id, CommandError> {
+    let index = index_in_range(index)?;
+    Ok(Id::pair(CHILD_OF, index))
+}
+
 fn obey(world: &mut World, call: Call) -> Result<(), CommandError>
     ensures { TablesGoOn world.old.tables world.new.tables }
 {
     match call {
         Call::Entity(name) => world.entity(name)?,
-        Call::Add(index, tag) => world.add(first_at(index), Id::plain(tag))?,
-        Call::AddParent(index, parent) => {
-            world.add(first_at(index), Id::pair(CHILD_OF, parent))?
-        }
+        Call::Add(index, tag) => world.add(first_at(index), tag_of(tag)?)?,
+        Call::AddParent(index, parent) => world.add(first_at(index), parent_of(parent)?)?,
         Call::Place(index, position) => {
             world.set(first_at(index), Id::plain(POSITION), &position)?
         }
-        Call::Remove(index, tag) => world.remove(first_at(index), Id::plain(tag))?,
+        Call::Remove(index, tag) => world.remove(first_at(index), tag_of(tag)?)?,
         Call::Delete(index) => world.delete(first_at(index))?,
     };
     Ok(())

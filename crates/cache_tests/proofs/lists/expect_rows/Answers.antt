@@ -18,7 +18,7 @@ pub write_rows_in-requires-clause-tables : goal.write_rows_in-requires-clause-ta
 write_rows_in-requires-clause-tables g c =
     record {
       listed =
-          subst (AreListed _ c.args.world.now.tables) (sym c.tables.ensures)
+          subst (AreListed _ c.args.world.now.tables) (sym c.tables-tables.ensures)
           (c.in_ok-sync.ensures.listed _ (c.in_ok-anew.ensures.patterns ∙ ap patterns_of (sym c.in_ok-plan.ensures.query)));
-      rising = subst IsRising (sym c.tables.ensures) c.sync.ensures.once;
+      rising = subst IsRising (sym c.tables-tables.ensures) c.sync.ensures.once;
     }

@@ -2,4 +2,4 @@
 use Rattle.cache_tests.proofs.lists.follow.Goals as goal
 
 pub expect_exact-requires : goal.expect_exact-requires
-expect_exact-requires g c = c.fits_later.ensures c.args.kept.now c.args.world.now.tables c.obey.new.world.tables c.obey.ensures c.requires
+expect_exact-requires g c = c.fits_later.ensures c.args.kept.now c.args.world.now.tables c.obey-answer.new.world.tables c.obey-answer.ensures c.requires
