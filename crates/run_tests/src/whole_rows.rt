@@ -1,18 +1,17 @@
 //! Whole rows, one a pull, in a row that stands apart from its run and serves several.
 
-ghost use Rattle.std.specs.Prelude.{◌≡◌, ◌≤◌, All, IfOk, length};
+ghost use Rattle.std.specs.Prelude.{◌≡◌, ◌≤◌};
 ghost use Rattle.plan_exec.specs.Actions.{instructions_of};
-ghost use Rattle.plan_exec.specs.Fields.{IsFieldAcyclic, field_items};
+ghost use Rattle.plan_exec.specs.Fields.{field_items};
 ghost use Rattle.plan_exec.specs.Tables.{by_tables};
 ghost use Rattle.plan_exec.specs.WholeRows.{Fits};
-ghost use Rattle.plan_exec.specs.Width.{width_of};
 ghost use Rattle.query_meaning.specs.Names.{GoesUpWithoutCycles};
 ghost use Rattle.world_query.specs.Answerable.{IsAsked};
 
 use crate::pulls::{facts_in, make_family};
 use ecs_id::Id;
 use ecs_world::World;
-use plan_exec::{Facts, Fields, Frames, Row, RowRun};
+use plan_exec::{Facts, Row, RowFrames, RowRun};
 use query_check::Query;
 use query_plan::Plan;
 use refusing_alloc::Refusing;
@@ -97,22 +96,17 @@ fn given_of(row: &Row) -> Given {
 }
 
 /// Pulls rows until as many came as there are places for, or none is to come, and answers how many came.
-fn pull<'w, F: Facts, A: Allocator>(
-    facts: &'w F,
-    run: &mut RowRun<'w, F, A>,
+fn pull<F: Facts, A: Allocator>(
+    run: &mut RowRun<'_, F, A>,
     row: &mut Row,
     came: &mut [Given],
 ) -> usize
-    requires covers { (F.reading facts.now).size ≤ run.old.size }
-    requires acyclic { All (IsFieldAcyclic (F.reading facts.now).view.ids) run.old.items }
     requires fits { Fits row.old run.old }
-    ensures items { run.new.items ≡ run.old.items }
-    ensures size { run.new.size ≡ run.old.size }
     ensures room { run.new.room ≡ run.old.room }
     ensures fits { Fits row.new run.new }
 {
     for at in 0..came.len() {
-        if !run.next_into(facts, row) {
+        if !run.next_into(row) {
             return at;
         }
         came[at] = given_of(row);
@@ -121,83 +115,57 @@ fn pull<'w, F: Facts, A: Allocator>(
 }
 
 /// Whether no row comes behind the end, twice, and the row stays as it was.
-fn stays_at_end<'w, F: Facts, A: Allocator>(
-    facts: &'w F,
-    run: &mut RowRun<'w, F, A>,
-    row: &mut Row,
-) -> bool
-    requires covers { (F.reading facts.now).size ≤ run.old.size }
-    requires acyclic { All (IsFieldAcyclic (F.reading facts.now).view.ids) run.old.items }
+fn stays_at_end<F: Facts, A: Allocator>(run: &mut RowRun<'_, F, A>, row: &mut Row) -> bool
     requires fits { Fits row.old run.old }
     ensures room { run.new.room ≡ run.old.room }
 {
     let before = given_of(row);
-    let more = run.next_into(facts, row) || run.next_into(facts, row);
+    let more = run.next_into(row) || run.next_into(row);
     !more && given_of(row) == before
 }
 
 /// Pulls as `pull` does, and behind the end twice more.
-fn pull_behind_end<'w, F: Facts, A: Allocator>(
+fn pull_behind_end<F: Facts, A: Allocator>(
     rt: &impl Abort,
-    facts: &'w F,
-    run: &mut RowRun<'w, F, A>,
+    run: &mut RowRun<'_, F, A>,
     row: &mut Row,
     came: &mut [Given],
 ) -> usize
-    requires covers { (F.reading facts.now).size ≤ run.old.size }
-    requires acyclic { All (IsFieldAcyclic (F.reading facts.now).view.ids) run.old.items }
     requires fits { Fits row.old run.old }
     ensures room { run.new.room ≡ run.old.room }
 {
-    let rows = pull(facts, run, row, came);
+    let rows = pull(run, row, came);
     if rows < came.len() {
-        assert!(rt; stays_at_end(facts, run, row));
+        assert!(rt; stays_at_end(run, row));
     }
     rows
 }
 
-/// A run in these frames, with room for its fields and for a row of its own.
-fn start_in<'w, F: Facts, A: Allocator + Copy>(
-    alloc: A,
-    facts: &'w F,
-    plan: &Plan,
-    frames: Frames<A>,
-) -> Result<RowRun<'w, F, A>, AllocError>
-    requires steps { frames.steps ≡ by_tables (instructions_of (plan.now).query (plan.now).steps) }
-    requires width { frames.width ≡ width_of (plan.now).query }
-    requires covers { (F.reading facts.now).size ≤ frames.size }
-    requires rises { GoesUpWithoutCycles (F.reading facts.now).view (plan.now).query }
-    ensures room { IfOk result (λ run. run.room ≡ frames) }
-    ensures items { IfOk result (λ run. run.items ≡ field_items (plan.now).query) }
-    ensures size { IfOk result (λ run. run.size ≡ (F.reading facts.now).size) }
-{
-    let fields = Fields::new(alloc, plan.query(), facts.size())?;
-    let entities = vec![in alloc; 0; frames.width()]?;
-    Ok(RowRun::start(frames, fields, entities, facts))
-}
-
-/// Runs frames until as many rows came as there are places for or to the end, and gives them back. From the start of the run all memory is refused.
+/// Runs frames of a plan until as many rows came as there are places for or to the end, and gives them back. All memory is refused meanwhile.
+/// Rows for the query fit the run, and a stranger's don't.
 fn run_frames<'r, F: Facts>(
     rt: &impl Abort,
     room: &'r Refusing<Global>,
     facts: &F,
     plan: &Plan,
-    frames: Frames<&'r Refusing<Global>>,
+    frames: RowFrames<&'r Refusing<Global>>,
     row: &mut Row,
+    stranger: &Row,
     came: &mut [Given],
-) -> Result<(Frames<&'r Refusing<Global>>, usize), AllocError>
-    requires steps { frames.steps ≡ by_tables (instructions_of (plan.now).query (plan.now).steps) }
-    requires width { frames.width ≡ width_of (plan.now).query }
-    requires covers { (F.reading facts.now).size ≤ frames.size }
+) -> (RowFrames<&'r Refusing<Global>>, usize)
+    requires steps { frames.frames.steps ≡ by_tables (instructions_of (plan.now).query (plan.now).steps) }
+    requires items { frames.items ≡ field_items (plan.now).query }
+    requires covers { (F.reading facts.now).size ≤ frames.frames.size }
     requires rises { GoesUpWithoutCycles (F.reading facts.now).view (plan.now).query }
-    ensures { IfOk result (λ done. done.0 ≡ frames.entry) }
+    ensures { result.0 ≡ frames.entry }
 {
-    let mut run = start_in(room, facts, plan, frames)?;
-    assert!(rt; row.fits(&run));
     room.refuse_after(0);
-    let rows = pull_behind_end(rt, facts, &mut run, row, came);
+    let mut run = RowRun::start(frames, facts);
+    assert!(rt; row.fits(&run) && !stranger.fits(&run));
+    let rows = pull_behind_end(rt, &mut run, row, came);
+    let frames = run.into_frames();
     room.refuse_none();
-    Ok((run.into_frames(), rows))
+    (frames, rows)
 }
 
 /// Runs a plan, gives it up after some rows, and runs it in the same frames and the same row to the end. Answers how many rows came each time.
@@ -206,6 +174,7 @@ fn run_plan<F: Facts>(
     alloc: Global,
     facts: &F,
     plan: &Plan,
+    stranger: &Query,
     some: &mut [Given],
     all: &mut [Given],
 ) -> Result<(usize, usize), AllocError>
@@ -213,9 +182,10 @@ fn run_plan<F: Facts>(
 {
     let room = Refusing::new(alloc);
     let mut row = Row::new(alloc, plan.query())?;
-    let frames = Frames::of(&room, plan.query(), plan.steps(), facts.size())?;
-    let (frames, few) = run_frames(rt, &room, facts, plan, frames, &mut row, some)?;
-    let (_, rows) = run_frames(rt, &room, facts, plan, frames, &mut row, all)?;
+    let other = Row::new(alloc, stranger)?;
+    let frames = RowFrames::of(&room, plan.query(), plan.steps(), facts.size())?;
+    let (frames, few) = run_frames(rt, &room, facts, plan, frames, &mut row, &other, some);
+    let (_, rows) = run_frames(rt, &room, facts, plan, frames, &mut row, &other, all);
     Ok((few, rows))
 }
 
@@ -225,6 +195,7 @@ fn run_query(
     alloc: Global,
     world: &World,
     query: Query,
+    stranger: &Query,
     some: &mut [Given],
     all: &mut [Given],
 ) -> Result<(usize, usize), AllocError>
@@ -232,7 +203,7 @@ fn run_query(
 {
     world.keeps();
     let plan = plan_in(alloc, world, query)?;
-    run_plan(rt, alloc, &WorldFacts::new(world), &plan, some, all)
+    run_plan(rt, alloc, &WorldFacts::new(world), &plan, stranger, some, all)
 }
 
 /// How many of some rows are among those that came.
@@ -240,21 +211,24 @@ fn found_among(came: &[Given], rows: &[Given]) -> usize {
     rows.iter().filter(|row| came.contains(row)).count()
 }
 
-/// A run of a query is given up after so many rows, which are among its own, and frees its frames for one that gives them all.
+/// A run of a query is given up after so many rows, which are among its own, and frees its frames for one that gives them all. Rows of another
+/// query don't fit it.
 fn expect_run(
     rt: &impl Abort,
     alloc: Global,
     world: &World,
     text: &str,
+    other: &str,
     rows: &[Given],
     most: usize,
 ) -> Result<(), Fail>
     requires { most ≤ MOST }
 {
+    let stranger = read_query(alloc, world, other)?;
     let query = read_query(alloc, world, text)?;
     let mut some = [NOTHING; MOST];
     let mut all = [NOTHING; MOST];
-    let (few, every) = run_query(rt, alloc, world, query, &mut some[..most], &mut all)?;
+    let (few, every) = run_query(rt, alloc, world, query, &stranger, &mut some[..most], &mut all)?;
     assert!(rt; few == most.min(rows.len()) && found_among(&some, rows) == few);
     assert!(rt; every == rows.len() && found_among(&all, rows) == every);
     Ok(())
@@ -266,12 +240,13 @@ fn expect_rows(
     alloc: Global,
     world: &mut World,
     text: &str,
+    other: &str,
     rows: &[Given],
 ) -> Result<(), Fail> {
     make_family(world)?;
     let before = facts_in(alloc, world)?;
     for most in 0..=MOST {
-        expect_run(rt, alloc, world, text, rows, most)?;
+        expect_run(rt, alloc, world, text, other, rows, most)?;
     }
     assert!(rt; facts_in(alloc, world)? == before);
     Ok(())
@@ -283,10 +258,11 @@ fn expect_rows_in_family(
     alloc: Global,
     hasher: RandomState,
     text: &str,
+    other: &str,
     rows: &[Given],
 ) -> Result<(), Fail> {
     let mut world = World::new(alloc, hasher)?;
-    let done = expect_rows(rt, alloc, &mut world, text, rows);
+    let done = expect_rows(rt, alloc, &mut world, text, other, rows);
     drop(world);
     done
 }
@@ -310,7 +286,7 @@ fn below_tagged(entity: u32) -> Given {
 fn rows_of_a_diamond_are_whole(rt: HostRuntime) -> Result<(), Fail> {
     let rows = [TOP, LEFT, RIGHT, LOW].map(below_tagged);
     let hasher = RandomState::new(&rt)?;
-    expect_rows_in_family(&rt, rt.alloc(), hasher, "(IsA,$x), C($x)", &rows)
+    expect_rows_in_family(&rt, rt.alloc(), hasher, "(IsA,$x), C($x)", "C, ?Likes", &rows)
 }
 
 /// An entity that is Top, with a field that may be unset.
@@ -332,7 +308,7 @@ fn a_field_that_is_set_in_one_row_is_unset_in_others(rt: HostRuntime) -> Result<
         below_top(LOW, None),
     ];
     let hasher = RandomState::new(&rt)?;
-    expect_rows_in_family(&rt, rt.alloc(), hasher, "(IsA,Top), ?C", &rows)
+    expect_rows_in_family(&rt, rt.alloc(), hasher, "(IsA,Top), ?C", "(IsA,$x), ?C($x)", &rows)
 }
 
 /// An entity with two pairs of one relationship, or with one of them twice.
@@ -357,54 +333,5 @@ fn each_choice_of_fields_is_a_row(rt: HostRuntime) -> Result<(), Fail> {
         with_pairs(LEFT, child, child),
     ];
     let hasher = RandomState::new(&rt)?;
-    expect_rows_in_family(&rt, rt.alloc(), hasher, "(Likes,*), (Likes,*)", &rows)
-}
-
-/// Whether a row that is made for a query fits a run of a plan.
-fn fits_run<F: Facts>(
-    alloc: Global,
-    facts: &F,
-    plan: &Plan,
-    query: &Query,
-) -> Result<bool, AllocError>
-    requires rises { GoesUpWithoutCycles (F.reading facts.now).view (plan.now).query }
-{
-    let row = Row::new(alloc, query)?;
-    let frames = Frames::of(alloc, plan.query(), plan.steps(), facts.size())?;
-    let run = start_in(alloc, facts, plan, frames)?;
-    Ok(row.fits(&run))
-}
-
-/// The same of a query that was read in the world.
-fn fits_query(alloc: Global, world: &World, query: Query, other: &Query) -> Result<bool, AllocError>
-    requires { IsAsked world.now.state query }
-{
-    world.keeps();
-    let plan = plan_in(alloc, world, query)?;
-    fits_run(alloc, &WorldFacts::new(world), &plan, other)
-}
-
-/// Whether a row that is made for one text fits a run of another.
-fn fits_text(alloc: Global, world: &World, text: &str, other: &str) -> Result<bool, Fail> {
-    let other = read_query(alloc, world, other)?;
-    let query = read_query(alloc, world, text)?;
-    let fits = fits_query(alloc, world, query, &other)?;
-    Ok(fits)
-}
-
-fn expect_fits(rt: &impl Abort, alloc: Global, world: &mut World) -> Result<(), Fail> {
-    make_family(world)?;
-    assert!(rt; fits_text(alloc, world, "C, ?Likes", "Likes, ?C")?);
-    // Another number of variables, and of fields.
-    assert!(rt; !fits_text(alloc, world, "C, ?Likes", "(IsA,$x), C($x)")?);
-    assert!(rt; !fits_text(alloc, world, "C, ?Likes", "C")?);
-    Ok(())
-}
-
-#[test]
-fn a_row_fits_runs_of_its_width(rt: HostRuntime) -> Result<(), Fail> {
-    let mut world = World::new(rt.alloc(), RandomState::new(&rt)?)?;
-    let done = expect_fits(&rt, rt.alloc(), &mut world);
-    drop(world);
-    done
+    expect_rows_in_family(&rt, rt.alloc(), hasher, "(Likes,*), (Likes,*)", "C", &rows)
 }
