@@ -1,9 +1,11 @@
-//! Frames are run again, in the same world and in a changed one.
+//! The frames of whole rows are run again, in the same world and in a changed one.
 
-ghost use Rattle.std.specs.Prelude.{◌≡◌, length, true};
+ghost use Rattle.std.specs.Prelude.{◌≡◌, true};
 ghost use Rattle.ecs_model.specs.Query.{known_of};
 ghost use Rattle.plan_exec.specs.Actions.{instructions_of};
+ghost use Rattle.plan_exec.specs.Fields.{field_items};
 ghost use Rattle.plan_exec.specs.Tables.{by_tables};
+ghost use Rattle.plan_exec.specs.WholeRows.{Fits};
 ghost use Rattle.query_meaning.specs.Standing.{WasAsked};
 ghost use Rattle.query_model.specs.Query.{is_current};
 ghost use Rattle.world_query.specs.Answerable.{IsAsked};
@@ -13,7 +15,7 @@ use ecs_id::{EntityId, Id};
 use ecs_model::built_ins::{REFLEXIVE, TRANSITIVE, TRAVERSABLE};
 use ecs_model::faults::CommandError;
 use ecs_world::World;
-use plan_exec::{Facts, Frames, Run};
+use plan_exec::{Facts, Row, RowFrames, RowRun, ShownFact};
 use query_check::{Lookup, Query};
 use query_plan::Plan;
 use refusing_alloc::Refusing;
@@ -114,27 +116,40 @@ fn first_at(index: u32) -> EntityId {
     }
 }
 
-/// A number that tells the entities of a row and their places.
-fn row_number(row: &[u32]) -> u64 {
+/// A number with another one behind it.
+fn behind(number: u64, next: u64) -> u64 {
+    number.wrapping_mul(1_000_003).wrapping_add(next)
+}
+
+/// The same with a field behind it.
+fn field_behind(number: u64, field: Option<ShownFact>) -> u64 {
+    match field {
+        None => behind(number, 0),
+        Some(shown) => behind(behind(number, u64::from(shown.source)), shown.id.packed()),
+    }
+}
+
+/// A number that tells the entities and the fields of a row, and their places.
+fn row_number(row: &Row) -> u64 {
     let mut number: u64 = 1;
-    for entity in row {
-        number = number
-            .wrapping_mul(1_000_003)
-            .wrapping_add(u64::from(*entity));
+    for entity in row.entities() {
+        number = behind(number, u64::from(*entity));
+    }
+    for field in row.fields() {
+        number = field_behind(number, *field);
     }
     number
 }
 
 /// Pulls rows until so many came or none is to come.
-fn pull_rows<F: Facts, A: Allocator>(run: &mut Run<'_, F, A>, row: &mut [u32], most: usize) -> Came
-    requires width { length row.old ≡ run.old.width }
+fn pull_rows<F: Facts, A: Allocator>(run: &mut RowRun<'_, F, A>, row: &mut Row, most: usize) -> Came
+    requires fits { Fits row.old run.old }
     ensures room { run.new.room ≡ run.old.room }
-    ensures row { length row.new ≡ length row.old }
 {
     let mut rows = 0;
     let mut sum: u64 = 0;
     'rows: while rows < most {
-        if !run.next(row) {
+        if !run.next_into(row) {
             return Came { rows, sum };
         }
         rows += 1;
@@ -156,21 +171,21 @@ fn run_frames<A: Allocator>(
     rt: &impl Abort,
     world: &World,
     plan: &Plan,
-    frames: Frames<A>,
-    row: &mut [u32],
+    frames: RowFrames<A>,
+    row: &mut Row,
     most: usize,
-) -> (Frames<A>, Came)
+) -> (RowFrames<A>, Came)
     requires asked { WasAsked (plan.now).query }
-    requires steps { frames.steps ≡ by_tables (instructions_of (plan.now).query (plan.now).steps) }
-    requires width { length row.old ≡ frames.width }
-    ensures frames { result.0 ≡ frames }
-    ensures row { length row.new ≡ length row.old }
+    requires steps { (frames.frames).steps ≡ by_tables (instructions_of (plan.now).query (plan.now).steps) }
+    requires items { frames.items ≡ field_items (plan.now).query }
+    ensures { result.0 ≡ frames }
 {
     world.keeps();
     expect_current(rt, world, plan.query());
     let facts = WorldFacts::new(world);
     assert!(rt; frames.covers(&facts));
-    let mut run = Run::start(frames, &facts);
+    let mut run = RowRun::start(frames, &facts);
+    assert!(rt; row.fits(&run));
     let came = pull_rows(&mut run, row, most);
     (run.into_frames(), came)
 }
@@ -180,14 +195,13 @@ fn run_twice<A: Allocator>(
     rt: &impl Abort,
     world: &World,
     plan: &Plan,
-    frames: Frames<A>,
-    row: &mut [u32],
-) -> (Frames<A>, Came)
+    frames: RowFrames<A>,
+    row: &mut Row,
+) -> (RowFrames<A>, Came)
     requires asked { WasAsked (plan.now).query }
-    requires steps { frames.steps ≡ by_tables (instructions_of (plan.now).query (plan.now).steps) }
-    requires width { length row.old ≡ frames.width }
-    ensures frames { result.0 ≡ frames }
-    ensures row { length row.new ≡ length row.old }
+    requires steps { (frames.frames).steps ≡ by_tables (instructions_of (plan.now).query (plan.now).steps) }
+    requires items { frames.items ≡ field_items (plan.now).query }
+    ensures { result.0 ≡ frames }
 {
     let (frames, came) = run_frames(rt, world, plan, frames, row, usize::MAX);
     let (frames, one) = run_frames(rt, world, plan, frames, row, 1);
@@ -233,15 +247,15 @@ fn run_in_both(
 ) -> Result<(usize, usize), Fail>
     requires { WasAsked (plan.now).query }
 {
-    let frames = Frames::of(room, plan.query(), plan.steps(), size_for(world))?;
-    let mut row = vec![in alloc; 0; frames.width()]?;
+    let frames = RowFrames::of(room, plan.query(), plan.steps(), size_for(world))?;
+    let mut row = Row::new(alloc, plan.query())?;
     room.refuse_after(0);
-    let (frames, before) = run_twice(rt, world, plan, frames, row.as_mut_slice());
+    let (frames, before) = run_twice(rt, world, plan, frames, &mut row);
     change_family(world)?;
-    let (_, after) = run_twice(rt, world, plan, frames, row.as_mut_slice());
+    let (_, after) = run_twice(rt, world, plan, frames, &mut row);
     room.refuse_none();
-    let others = Frames::of(room, plan.query(), plan.steps(), size_for(world))?;
-    let (_, anew) = run_twice(rt, world, plan, others, row.as_mut_slice());
+    let others = RowFrames::of(room, plan.query(), plan.steps(), size_for(world))?;
+    let (_, anew) = run_twice(rt, world, plan, others, &mut row);
     assert!(rt; after == anew);
     Ok((before.rows, after.rows))
 }

@@ -203,7 +203,15 @@ fn run_query(
 {
     world.keeps();
     let plan = plan_in(alloc, world, query)?;
-    run_plan(rt, alloc, &WorldFacts::new(world), &plan, stranger, some, all)
+    run_plan(
+        rt,
+        alloc,
+        &WorldFacts::new(world),
+        &plan,
+        stranger,
+        some,
+        all,
+    )
 }
 
 /// How many of some rows are among those that came.
@@ -228,7 +236,15 @@ fn expect_run(
     let query = read_query(alloc, world, text)?;
     let mut some = [NOTHING; MOST];
     let mut all = [NOTHING; MOST];
-    let (few, every) = run_query(rt, alloc, world, query, &stranger, &mut some[..most], &mut all)?;
+    let (few, every) = run_query(
+        rt,
+        alloc,
+        world,
+        query,
+        &stranger,
+        &mut some[..most],
+        &mut all,
+    )?;
     assert!(rt; few == most.min(rows.len()) && found_among(&some, rows) == few);
     assert!(rt; every == rows.len() && found_among(&all, rows) == every);
     Ok(())
@@ -286,7 +302,14 @@ fn below_tagged(entity: u32) -> Given {
 fn rows_of_a_diamond_are_whole(rt: HostRuntime) -> Result<(), Fail> {
     let rows = [TOP, LEFT, RIGHT, LOW].map(below_tagged);
     let hasher = RandomState::new(&rt)?;
-    expect_rows_in_family(&rt, rt.alloc(), hasher, "(IsA,$x), C($x)", "C, ?Likes", &rows)
+    expect_rows_in_family(
+        &rt,
+        rt.alloc(),
+        hasher,
+        "(IsA,$x), C($x)",
+        "C, ?Likes",
+        &rows,
+    )
 }
 
 /// An entity that is Top, with a field that may be unset.
@@ -308,7 +331,14 @@ fn a_field_that_is_set_in_one_row_is_unset_in_others(rt: HostRuntime) -> Result<
         below_top(LOW, None),
     ];
     let hasher = RandomState::new(&rt)?;
-    expect_rows_in_family(&rt, rt.alloc(), hasher, "(IsA,Top), ?C", "(IsA,$x), ?C($x)", &rows)
+    expect_rows_in_family(
+        &rt,
+        rt.alloc(),
+        hasher,
+        "(IsA,Top), ?C",
+        "(IsA,$x), ?C($x)",
+        &rows,
+    )
 }
 
 /// An entity with two pairs of one relationship, or with one of them twice.
