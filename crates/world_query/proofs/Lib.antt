@@ -1,5 +1,6 @@
 mod Named
 mod Texts
+mod Kept
 mod Printed
 pub mod Asked
 mod Answered

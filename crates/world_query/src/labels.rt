@@ -1,9 +1,9 @@
 //! Texts that are kept from row to row, since neighbouring rows mostly show the same.
 
-ghost use Rattle.std.specs.Prelude.{◌≡◌, ◌+◌, ◌≤◌, ◌++◌, IfOk, OnOk, Some, codes, length, take};
+ghost use Rattle.std.specs.Prelude.{◌≡◌, ◌+◌, ◌<◌, ◌≤◌, ◌++◌, ◌↔◌, All, IfOk, IsTrue, OnOk, Some, codes, length, take};
 ghost use Rattle.ecs_model.specs.Print.{id_text, index_text};
 ghost use Rattle.ecs_model.specs.World.{WorldState};
-ghost use Rattle.world_query.specs.Lines.{IsEntityText, IsLabel, IsLabelOf, binding_start, field_end, text_of};
+ghost use Rattle.world_query.specs.Lines.{IsAskedOnce, IsEntityText, IsKept, IsLabel, IsLabelOf, IsTextAt, binding_start, field_end, text_of};
 
 use crate::sheet::{make_room, put_at};
 use ecs_id::Id;
@@ -20,15 +20,18 @@ pub(crate) struct Piece<B: Allocator> {
 }
 
 /// An entity by its index, with its text: the first `alone` bytes. With the bracket that closes a field it is the first `closed`, and with the
-/// end of the line behind that the first `ended`.
+/// end of the line behind that the first `ended`. Of nobody yet, it has no bytes.
 #[derive(Drop)]
 pub(crate) struct EntityText<B: Allocator> {
-    pub(crate) index: u32,
+    pub(crate) index: u64,
     pub(crate) bytes: Vec<u8, B>,
     pub(crate) alone: usize,
     pub(crate) closed: usize,
     pub(crate) ended: usize,
 }
+
+/// In place of an index: above that of any entity, so one comparison tells whose a text is.
+const NOBODY: u64 = 1 << 32;
 
 /// An id with what all fields of it share: how they begin, ` [ID@`, and the fields of its values. Of no id yet, it has neither.
 #[derive(Drop)]
@@ -75,47 +78,31 @@ impl<B: Allocator> Piece<B> {
 }
 
 impl<B: Allocator> EntityText<B> {
-    /// The text of the entity at an index: its name or handle, and nothing where none lives.
-    pub(crate) fn new<A: Allocator>(
-        alloc: B,
-        world: &World<A>,
-        index: u32,
-    ) -> Result<Self, AllocError>
-        ensures index { IfOk result (λ t. t.index ≡ index) }
-        ensures text { IfOk result (IsEntityText world.now.state) }
+    /// A text of nobody. It takes no memory.
+    pub(crate) fn new(alloc: B) -> Self
+        ensures { (w : WorldState) → IsKept w result }
     {
-        let mut text = EntityText {
-            index,
+        EntityText {
+            index: NOBODY,
             bytes: Vec::new(alloc),
             alone: 0,
             closed: 0,
             ended: 0,
-        };
-        text.rewrite(world, index)?;
-        Ok(text)
-    }
-
-    /// Becomes the text of another entity, if it isn't of this one.
-    #[inline(always)]
-    pub(crate) fn turn_to<A: Allocator>(
-        &mut self,
-        world: &World<A>,
-        index: u32,
-    ) -> Result<(), AllocError>
-        requires { IsEntityText world.now.state self.old }
-        ensures index { OnOk result (self.new.index ≡ index) }
-        ensures text { OnOk result (IsEntityText world.now.state self.new) }
-    {
-        if self.index != index {
-            return self.change_to(world, index);
         }
-        Ok(())
     }
 
-    /// Becomes the text of an entity. A name for which there is room is copied at once.
+    /// Whether it is the text of the entity at an index.
+    #[inline(always)]
+    pub(crate) fn is_of(&self, index: u32) -> bool
+        ensures { IsTrue result ↔ ((self.now).index ≡ index) }
+    {
+        self.index == u64::from(index)
+    }
+
+    /// Becomes the text of an entity: its name or handle, and nothing where none lives. A name for which there is room is copied at once.
     #[inline(always)]
     fn change_to<A: Allocator>(&mut self, world: &World<A>, index: u32) -> Result<(), AllocError>
-        requires { 32 ≤ length ((self.old).bytes).items }
+        requires { 0 < length ((self.old).bytes).items → 32 ≤ length ((self.old).bytes).items }
         ensures index { OnOk result (self.new.index ≡ index) }
         ensures text { OnOk result (IsEntityText world.now.state self.new) }
     {
@@ -124,7 +111,7 @@ impl<B: Allocator> EntityText<B> {
             let name = name.as_bytes();
             if name.len() + 2 <= self.bytes.len() {
                 self.take_name(name);
-                self.index = index;
+                self.index = u64::from(index);
                 return Ok(());
             }
         }
@@ -170,7 +157,7 @@ impl<B: Allocator> EntityText<B> {
         self.closed = self.bytes.len();
         self.bytes.extend_from_slice(b"\n")?;
         self.ended = self.bytes.len();
-        self.index = index;
+        self.index = u64::from(index);
         make_room(&mut self.bytes)
     }
 }
@@ -219,4 +206,50 @@ impl<'w, A: Allocator, B: Allocator> Label<'w, A, B> {
         self.id = Some(id);
         Ok(())
     }
+}
+
+/// The place where an entity's text stands: this place of a row, or one before it. Where none of them has it, it is looked up into this one.
+#[inline(always)]
+pub(crate) fn place_of_text<A: Allocator, B: Allocator>(
+    world: &World<A>,
+    texts: &mut [EntityText<B>],
+    place: usize,
+    entity: u32,
+) -> Result<usize, AllocError>
+    requires place { place < length texts.old }
+    requires texts { All (IsKept world.now.state) texts.old }
+    ensures texts { OnOk result (All (IsKept world.now.state) texts.new) }
+    ensures place { IfOk result (IsTextAt world.now.state texts.new entity) }
+    ensures once { OnOk result (IsAskedOnce texts.old texts.new entity place) }
+{
+    if texts[place].is_of(entity) {
+        return Ok(place);
+    }
+    for before in 0..place {
+        if texts[before].is_of(entity) {
+            return Ok(before);
+        }
+    }
+    texts[place].change_to(world, entity)?;
+    Ok(place)
+}
+
+/// The same at the place of a field: most fields are of the entity that a row shows first, so the first place is asked before the others.
+#[inline(always)]
+pub(crate) fn place_of_source<A: Allocator, B: Allocator>(
+    world: &World<A>,
+    texts: &mut [EntityText<B>],
+    place: usize,
+    entity: u32,
+) -> Result<usize, AllocError>
+    requires place { place < length texts.old }
+    requires texts { All (IsKept world.now.state) texts.old }
+    ensures texts { OnOk result (All (IsKept world.now.state) texts.new) }
+    ensures place { IfOk result (IsTextAt world.now.state texts.new entity) }
+    ensures once { OnOk result (IsAskedOnce texts.old texts.new entity place) }
+{
+    if texts[0].is_of(entity) {
+        return Ok(0);
+    }
+    place_of_text(world, texts, place, entity)
 }

@@ -1,14 +1,14 @@
 //! The line of a row.
 
-ghost use Rattle.std.specs.Prelude.{◌≡◌, ◌+◌, ◌++◌, OnOk, Some, codes, flat_map, length, map};
+ghost use Rattle.std.specs.Prelude.{◌≡◌, ◌+◌, ◌<◌, ◌≤◌, ◌++◌, All, OnOk, Some, codes, flat_map, length, map};
 ghost use Rattle.std.specs.List.{zip};
 ghost use Rattle.ecs_model.specs.Bytes.{size_of, values_in};
 ghost use Rattle.ecs_model.specs.Print.{field_text, index_text, value_text};
 ghost use Rattle.ecs_model.specs.rows.View.{view_of};
 ghost use Rattle.plan_exec.specs.Fields.{shown_field};
-ghost use Rattle.world_query.specs.Lines.{AreTexts, IsEntityText, IsLabel, IsLabelOf, field_end, label_text, line_end, line_headed, row_alone, started, starts_in, text_of, written};
+ghost use Rattle.world_query.specs.Lines.{AreTexts, IsEntityText, IsKept, IsLabel, IsLabelOf, field_end, label_text, line_end, line_headed, row_alone, started, starts_in, text_of, written};
 
-use crate::labels::{EntityText, Label, Piece};
+use crate::labels::{EntityText, Label, Piece, place_of_source, place_of_text};
 use crate::sheet::{CHUNK, put, put_pair};
 use ecs_id::Id;
 use ecs_print::{MOST_TEXT, put_fields};
@@ -17,10 +17,14 @@ use ecs_world::World;
 use plan_exec::{Fields, ShownFact};
 use std::alloc::{AllocError, Allocator};
 
-/// What is kept while the rows of a query are printed: the entity that was written last, and a label for each field.
+/// What is kept while the rows of a query are printed: the text of an entity for each place of a row, which are its columns, one for each visible
+/// variable, and behind them its fields; and a label for each field.
+///
+/// A place shows the text of its own, or one that stands before it. Only its own is changed for it, so none that a row has shown is lost before
+/// the row ends, and each entity of a row is looked up at most once.
 #[derive(Drop)]
 pub(crate) struct Texts<'w, A: Allocator, B: Allocator> {
-    pub(crate) entity: EntityText<B>,
+    pub(crate) entities: Vec<EntityText<B>, B>,
     pub(crate) labels: Vec<Label<'w, A, B>, B>,
 }
 
@@ -30,18 +34,25 @@ pub(crate) fn write_row<'w, A: Allocator, B: Allocator>(
     world: &'w World<A>,
     starts: &[Piece<B>],
     entities: &[u32],
-    fields: &Fields<'w, B>,
+    fields: &Fields<B>,
     texts: &mut Texts<'w, A, B>,
     end: &mut usize,
     out: &mut Vec<u8, A>,
 ) -> Result<(), AllocError>
-    requires texts { AreTexts world.now.state (length (fields.now).items) texts.old }
-    ensures texts { OnOk result (AreTexts world.now.state (length (fields.now).items) texts.new) }
+    requires texts { AreTexts world.now.state (length starts.now) (length (fields.now).items) texts.old }
+    ensures texts { OnOk result (AreTexts world.now.state (length starts.now) (length (fields.now).items) texts.new) }
     ensures row { OnOk result (written out.new end.new ≡ written out.old end.old ++ line_headed world.now.state (starts_in starts.now) entities.now (fields.now).current) }
 {
     begin_row(starts, end, out)?;
-    write_bindings(world, starts, entities, &mut texts.entity, end, out)?;
-    write_all_fields(world, fields, texts, end, out)
+    write_bindings(
+        world,
+        starts,
+        entities,
+        texts.entities.as_mut_slice(),
+        end,
+        out,
+    )?;
+    write_all_fields(world, fields, starts.len(), texts, end, out)
 }
 
 /// Writes `row` where no binding begins with it.
@@ -63,30 +74,40 @@ fn write_bindings<A: Allocator, B: Allocator>(
     world: &World<A>,
     starts: &[Piece<B>],
     entities: &[u32],
-    last: &mut EntityText<B>,
+    texts: &mut [EntityText<B>],
     end: &mut usize,
     out: &mut Vec<u8, A>,
 ) -> Result<(), AllocError>
-    requires last { IsEntityText world.now.state last.old }
-    ensures last { OnOk result (IsEntityText world.now.state last.new) }
+    requires places { length starts.now ≤ length texts.old }
+    requires texts { All (IsKept world.now.state) texts.old }
+    ensures texts { OnOk result (All (IsKept world.now.state) texts.new) }
     ensures text { OnOk result (written out.new end.new ≡ written out.old end.old ++ flat_map (started world.now.state) (zip (starts_in starts.now) entities.now)) }
 {
-    for (start, entity) in starts.iter().zip(entities) {
-        write_binding(world, start, *entity, last, end, out)?;
+    for place in 0..starts.len().min(entities.len()) {
+        write_binding(
+            world,
+            &starts[place],
+            entities[place],
+            place,
+            texts,
+            end,
+            out,
+        )?;
     }
     Ok(())
 }
 
-/// Writes the current choice of fields, and the end of the line.
+/// Writes the current choice of fields, behind so many columns, and the end of the line.
 fn write_all_fields<'w, A: Allocator, B: Allocator>(
     world: &'w World<A>,
-    fields: &Fields<'w, B>,
+    fields: &Fields<B>,
+    columns: usize,
     texts: &mut Texts<'w, A, B>,
     end: &mut usize,
     out: &mut Vec<u8, A>,
 ) -> Result<(), AllocError>
-    requires texts { AreTexts world.now.state (length (fields.now).items) texts.old }
-    ensures texts { OnOk result (AreTexts world.now.state (length (fields.now).items) texts.new) }
+    requires texts { AreTexts world.now.state columns (length (fields.now).items) texts.old }
+    ensures texts { OnOk result (AreTexts world.now.state columns (length (fields.now).items) texts.new) }
     ensures text { OnOk result (written out.new end.new ≡ written out.old end.old ++ flat_map (field_text world.now.state) (map (shown_field (view_of world.now.state)) (fields.now).current) ++ codes "\n") }
 {
     let Some(last) = fields.len().checked_sub(1) else {
@@ -97,7 +118,8 @@ fn write_all_fields<'w, A: Allocator, B: Allocator>(
             world,
             fields.field(number),
             number == last,
-            &mut texts.entity,
+            columns + number,
+            texts.entities.as_mut_slice(),
             &mut texts.labels[number],
             end,
             out,
@@ -111,20 +133,23 @@ fn write_binding<A: Allocator, B: Allocator>(
     world: &World<A>,
     start: &Piece<B>,
     entity: u32,
-    last: &mut EntityText<B>,
+    place: usize,
+    texts: &mut [EntityText<B>],
     end: &mut usize,
     out: &mut Vec<u8, A>,
 ) -> Result<(), AllocError>
-    requires last { IsEntityText world.now.state last.old }
-    ensures last { OnOk result (IsEntityText world.now.state last.new) }
+    requires place { place < length texts.old }
+    requires texts { All (IsKept world.now.state) texts.old }
+    ensures texts { OnOk result (All (IsKept world.now.state) texts.new) }
     ensures text { OnOk result (written out.new end.new ≡ written out.old end.old ++ started world.now.state (text_of start.now, entity)) }
 {
-    last.turn_to(world, entity)?;
+    let found = place_of_text(world, texts, place, entity)?;
+    let text = &texts[found];
     put_pair(
         start.bytes.as_slice(),
         start.count,
-        last.bytes.as_slice(),
-        last.alone,
+        text.bytes.as_slice(),
+        text.alone,
         end,
         out,
     )
@@ -135,14 +160,16 @@ fn write_field<'w, A: Allocator, B: Allocator>(
     world: &'w World<A>,
     shown: Option<ShownFact>,
     is_last: bool,
-    last: &mut EntityText<B>,
+    place: usize,
+    texts: &mut [EntityText<B>],
     label: &mut Label<'w, A, B>,
     end: &mut usize,
     out: &mut Vec<u8, A>,
 ) -> Result<(), AllocError>
-    requires last { IsEntityText world.now.state last.old }
+    requires place { place < length texts.old }
+    requires texts { All (IsKept world.now.state) texts.old }
     requires label { IsLabel world.now.state label.old }
-    ensures last { OnOk result (IsEntityText world.now.state last.new) }
+    ensures texts { OnOk result (All (IsKept world.now.state) texts.new) }
     ensures label { OnOk result (IsLabel world.now.state label.new) }
     ensures text { OnOk result (written out.new end.new ≡ written out.old end.old ++ field_text world.now.state (shown_field (view_of world.now.state) shown) ++ line_end is_last) }
 {
@@ -150,11 +177,12 @@ fn write_field<'w, A: Allocator, B: Allocator>(
         return write_unset(is_last, end, out);
     };
     label.turn_to(world, fact.id)?;
-    last.turn_to(world, fact.source)?;
+    let found = place_of_source(world, texts, place, fact.source)?;
+    let source = &texts[found];
     if fact.valued {
-        return write_valued(world, fact, is_last, label, last, end, out);
+        return write_valued(world, fact, is_last, label, source, end, out);
     }
-    write_bare(world, fact.id, is_last, label, last, end, out)
+    write_bare(world, fact.id, is_last, label, source, end, out)
 }
 
 /// Writes a field that is unset.

@@ -1,5 +1,5 @@
 -- A field more at each turn, and the end of the line behind the last one.
-use Rattle.std.proofs.Common.{◌≡◌, true, false, ap, sym, ◌∙◌, arith, length-set}
+use Rattle.std.proofs.Common.{◌≡◌, true, false, ap, sym, ◌∙◌, arith, length, length-set}
 use Rattle.std.specs.Prelude.{Option, ◌==◌, ◌++◌, codes}
 use Rattle.std.proofs.lemmas.Bool.Decides.{nat_tests}
 use Rattle.std.proofs.lemmas.List.Elements.{All-set}
@@ -9,6 +9,7 @@ use Rattle.ecs_model.specs.rows.View.{view_of}
 use Rattle.plan_exec.specs.declared.field_places.ShownFact.{ShownFact}
 use Rattle.plan_exec.specs.Fields.{shown_field}
 use Rattle.world_query.specs.Lines.{IsLabel, line_end, written}
+use Rattle.world_query.proofs.Kept.{texts_lent}
 use Rattle.world_query.proofs.Printed.{line_ended, line_goes_on}
 use Rattle.world_query.proofs.row_lines.write_all_fields.Goals as goal
 
@@ -23,11 +24,14 @@ loop-number-preserved g c =
     let old = written c.loop-number.out c.loop-number.end in
     let new = written c.write_field.new.out c.write_field.new.end in
     let text = c.in_ok-write_field.ensures.text in
+    let now = c.loop-number.texts in
+    let lent = texts_lent w c.args.columns (length c.args.fields.now.items) now c.write_field.new.texts kept.texts (c.write_field.auto.texts ∙ c.as_mut_slice.ensures.len) c.in_ok-write_field.ensures.texts in
     record {
       texts = record {
-        entity = c.in_ok-write_field.ensures.last;
-        labels = All-set (IsLabel w) (c.loop-number.texts.labels).items c.loop-number.number c.write_field.new.label c.in_ok-write_field.ensures.label kept.texts.labels;
-        enough = kept.texts.enough ∙ sym (length-set (c.loop-number.texts.labels).items c.loop-number.number c.write_field.new.label);
+        entities = lent.entities;
+        places = lent.places;
+        labels = All-set (IsLabel w) (now.labels).items c.loop-number.number c.write_field.new.label c.in_ok-write_field.ensures.label kept.texts.labels;
+        enough = kept.texts.enough ∙ sym (length-set (now.labels).items c.loop-number.number c.write_field.new.label);
       };
       more = λ before. let other : (i == c.in-Some.last) ≡ false = grind (arith, nat_tests) in
           line_goes_on f xs i c.field.result start old new (omega arith) c.field.ensures (kept.more (omega arith)) (text ∙ ap (λ b. old ++ f c.field.result ++ line_end b) other);

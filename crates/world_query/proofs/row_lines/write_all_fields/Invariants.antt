@@ -8,7 +8,7 @@ use Rattle.world_query.proofs.row_lines.write_all_fields.Given as goal
 
 abbrev pub invariant-loop-number : goal.invariant-loop-number
 invariant-loop-number g l = record {
-  texts : AreTexts l.world.state (length l.fields.items) l.texts;
+  texts : AreTexts l.world.state l.columns (length l.fields.items) l.texts;
   more : l.number < length l.fields.current → written l.out l.end ≡ written l.initial.out l.initial.end ++ flat_map (λ s. field_text l.world.state (shown_field (view_of l.world.state) s)) (take l.number l.fields.current);
   all : length l.fields.current ≤ l.number → written l.out l.end ≡ written l.initial.out l.initial.end ++ flat_map (λ s. field_text l.world.state (shown_field (view_of l.world.state) s)) l.fields.current ++ codes "\n";
 }

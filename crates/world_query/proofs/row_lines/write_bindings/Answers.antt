@@ -1,22 +1,40 @@
--- All pairs of the two lists are gone through.
-use Rattle.std.proofs.Common.{ap, sym, ◌∙◌}
-use Rattle.std.specs.Prelude.{ℕ, flat_map, ◌++◌}
-use Rattle.std.proofs.lemmas.List.Folds.{flat_map-map}
-use Rattle.std.proofs.lemmas.Iterator.{YieldsList-from_slice, YieldsList-from_zip}
-use Rattle.std.proofs.lemmas.Iterator.Consumers.{YieldsList-at, YieldsList-end}
+-- A binding more at each turn.
+use Rattle.std.proofs.Common.{◌≡◌, ℕ, ◌<◌, ◌≤◌, List, ◌++◌, ap, arith, get_or, length, min, refl, take, ◌∙◌}
+use Rattle.std.specs.Prelude.{flat_map, option_map}
+use Rattle.std.specs.List.{zip}
+use Rattle.std.proofs.lemmas.List.{length-map, take_all}
+use Rattle.std.proofs.lemmas.Option.{slice_get-get_or, slice_get-map, slice_get_read}
+use Rattle.std.proofs.lemmas.Slice.Zip.{length-zip}
+use Rattle.ecs_model.specs.World.{WorldState}
 use Rattle.world_query.specs.declared.labels.Piece.{Piece}
-use Rattle.world_query.specs.Lines.{started, text_of, written}
-use Rattle.world_query.proofs.Printed.{bindings_started}
+use Rattle.world_query.specs.Lines.{started, starts_in, text_of, written}
+use Rattle.world_query.proofs.Printed.{both_at, one_more}
 use Rattle.world_query.proofs.row_lines.write_bindings.Goals as goal
+
+pub loop-place-preserved : goal.loop-place-preserved
+loop-place-preserved g c =
+    let starts = c.args.starts.now in
+    let entities = c.args.entities.now in
+    let place = c.loop-place.place in
+    let start = c.index-starts-place.result in
+    let many = length-zip (starts_in starts) entities in
+    let as_many = length-map starts text_of in
+    let within : place < length starts = omega arith in
+    let too : place < length entities = omega arith in
+    let here = slice_get-map text_of starts place ∙ ap (option_map text_of) (slice_get_read starts (length starts) place start refl within c.index-starts-place.is) in
+    let there = slice_get-get_or entities place 0 too in
+    record {
+      texts = c.in_ok-write_binding.ensures.texts;
+      text = one_more (started c.args.world.now.state) (zip (starts_in starts) entities) place (text_of start, get_or entities place 0)
+          (written c.args.out.now c.args.end.now) (written c.loop-place.out c.loop-place.end) (written c.write_binding.new.out c.write_binding.new.end)
+          (omega arith) (both_at (starts_in starts) entities place (text_of start) (get_or entities place 0) here there) c.loop-place.invariant.text c.in_ok-write_binding.ensures.text;
+    }
+
+all_bindings : {A : Type 0} (w : WorldState) (starts : List (Piece A)) (entities : List ℕ) (n : ℕ) (before now : List ℕ) → min (length starts) (length entities) ≤ n
+    → now ≡ before ++ flat_map (started w) (take n (zip (starts_in starts) entities)) → now ≡ before ++ flat_map (started w) (zip (starts_in starts) entities)
+all_bindings w starts entities n before now all written =
+    written ∙ ap (λ bs. before ++ flat_map (started w) bs) (take_all n (zip (starts_in starts) entities) (omega (arith, length-zip (starts_in starts) entities, length-map starts text_of)))
 
 pub returns-clause-text : goal.returns-clause-text
 returns-clause-text g c =
-    let w = c.args.world.now.state in
-    let vs = c.args.starts.now in
-    let es = c.args.entities.now in
-    let z = c.zip-start-items.ensures in
-    let line = λ (p : Piece g.row.B.Denot × ℕ). started w (text_of p.0, p.1) in
-    let road = YieldsList-at c.into_iter-start-iterator.ensures.into_iter_gives (YieldsList-from_zip (YieldsList-at z.first (YieldsList-from_slice vs c.iter.ensures.rest)) (YieldsList-from_slice es z.second.0)) in
-    let all = YieldsList-end road c.loop-start.yielded c.loop-start.start-iterator c.loop-start.yielded_by c.next.result c.next.new.self c.in-None.is c.next.ensures.steps in
-    c.loop-start.invariant.1.1
-    ∙ ap (λ t. written c.args.out.now c.args.end.now ++ t) (sym (flat_map-map line (λ p. ((p.0).now, (p.1).now)) c.loop-start.yielded) ∙ ap (flat_map line) all.0 ∙ bindings_started text_of w vs es)
+    all_bindings c.args.world.now.state c.args.starts.now c.args.entities.now c.loop-place.place (written c.args.out.now c.args.end.now) (written c.loop-place.out c.loop-place.end) (omega arith) c.loop-place.invariant.text

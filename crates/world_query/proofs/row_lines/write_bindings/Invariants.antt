@@ -1,9 +1,11 @@
-use Rattle.std.proofs.Common.{◌≡◌, ◌++◌}
-use Rattle.std.specs.Prelude.{flat_map}
-use Rattle.world_query.specs.Lines.{IsEntityText, started, text_of, written}
+use Rattle.std.proofs.Common.{◌≡◌, ◌++◌, take}
+use Rattle.std.specs.Prelude.{All, flat_map}
+use Rattle.std.specs.List.{zip}
+use Rattle.world_query.specs.Lines.{IsKept, started, starts_in, written}
 use Rattle.world_query.proofs.row_lines.write_bindings.Given as goal
 
-abbrev pub invariant-loop-start : goal.invariant-loop-start
-invariant-loop-start g l =
-    ((goal.iterator-loop-start g).can_next l.start-iterator × (goal.iterator-loop-start g).is_finite l.start-iterator)
-    × (IsEntityText l.world.state l.last × (written l.out l.end ≡ written l.initial.out l.initial.end ++ flat_map (λ p. started l.world.state (text_of (p.0).now, (p.1).now)) l.yielded))
+abbrev pub invariant-loop-place : goal.invariant-loop-place
+invariant-loop-place g l = record {
+  texts : All (IsKept l.world.state) l.texts;
+  text : written l.out l.end ≡ written l.initial.out l.initial.end ++ flat_map (started l.world.state) (take l.place (zip (starts_in l.starts) l.entities));
+}

@@ -1,0 +1,30 @@
+-- Behind the bindings stand the fields.
+use Rattle.std.proofs.Common.{◌≡◌, List, ℕ, ◌++◌, ap, append_assoc, length, map, ◌∙◌}
+use Rattle.std.specs.Prelude.{codes, flat_map}
+use Rattle.std.specs.List.{zip}
+use Rattle.std.proofs.lemmas.Result.{on_ok_weaker}
+use Rattle.ecs_model.specs.Print.{field_text}
+use Rattle.ecs_model.specs.rows.View.{view_of}
+use Rattle.plan_exec.specs.Fields.{shown_field}
+use Rattle.world_query.specs.Lines.{row_alone, started, starts_in, written}
+use Rattle.world_query.proofs.Kept.{texts_lent}
+use Rattle.world_query.proofs.row_lines.write_row.Goals as goal
+
+pub write_all_fields-requires : goal.write_all_fields-requires
+write_all_fields-requires g c = record {
+  texts = texts_lent c.args.world.now.state (length c.args.starts.now) (length c.args.fields.now.items) c.args.texts.now c.write_bindings.new.texts c.requires.texts (c.write_bindings.auto.texts ∙ c.as_mut_slice.ensures.len) c.in_ok-write_bindings.ensures.texts;
+}
+
+line_whole : (old start bindings fields end begun bound new : List ℕ) → begun ≡ old ++ start → bound ≡ begun ++ bindings → new ≡ bound ++ fields ++ end → new ≡ old ++ (start ++ bindings ++ fields ++ end)
+line_whole old start bindings fields end begun bound new first second third =
+    let regrouped : (((old ++ start) ++ bindings) ++ fields) ++ end ≡ old ++ (start ++ bindings ++ fields ++ end) = simp append_assoc in
+    third ∙ ap (λ t. t ++ fields ++ end) (second ∙ ap (λ t. t ++ bindings) first) ∙ regrouped
+
+pub returns-clause-row : goal.returns-clause-row
+returns-clause-row g c =
+    let w = c.args.world.now.state in
+    let heads = starts_in c.args.starts.now in
+    on_ok_weaker c.write_all_fields.result
+    (line_whole (written c.args.out.now c.args.end.now) (row_alone heads) (flat_map (started w) (zip heads c.args.entities.now)) (flat_map (field_text w) (map (shown_field (view_of w)) c.args.fields.now.current)) (codes "\n")
+    (written c.begin_row.new.out c.begin_row.new.end) (written c.write_bindings.new.out c.write_bindings.new.end) (written c.write_all_fields.new.out c.write_all_fields.new.end) c.in_ok-begin_row.ensures c.in_ok-write_bindings.ensures.text)
+    c.write_all_fields.ensures.text
