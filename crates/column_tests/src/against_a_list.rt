@@ -27,7 +27,7 @@ fn bytes_of(seed: u32, column: usize) -> [u8; 64] {
 }
 
 fn expect_same(rt: &impl Abort, listed: &Listed) {
-    assert_eq!(rt; listed.block.len(), listed.list.len());
+    assert!(rt; listed.block.len() == listed.list.len());
     for (row, seed) in listed.list.iter().enumerate() {
         expect_row(rt, &listed.block, row, *seed);
     }
@@ -84,8 +84,8 @@ fn remove_all(rt: &impl Abort, listed: &mut Listed) {
         remove(listed, 0);
     }
     listed.block.shrink_to(0);
-    assert_eq!(rt; listed.block.len(), 0);
-    assert_eq!(rt; listed.block.room(), 0);
+    assert!(rt; listed.block.len() == 0);
+    assert!(rt; listed.block.room() == 0);
 }
 
 /// Pushes, removes most, gives memory back, and pushes again.
@@ -144,9 +144,9 @@ fn fill_gap_of_row(rt: &impl Abort, block: &mut Block) -> Result<(), Memory>
     block.set(0, 0, &[1, 2, 3, 4]);
     block.set(1, 1, &[9]);
     block.swap_remove(0);
-    assert_eq!(rt; block.len(), 1);
-    assert_eq!(rt; block.get(0, 0), [0u8; 4].as_slice());
-    assert_eq!(rt; block.get(1, 0), [9u8].as_slice());
+    assert!(rt; block.len() == 1);
+    assert!(rt; block.get(0, 0) == [0u8; 4].as_slice());
+    assert!(rt; block.get(1, 0) == [9u8].as_slice());
     Ok(())
 }
 
@@ -167,8 +167,8 @@ fn fill_gap_of_element(rt: &impl Abort, column: &mut Block) -> Result<(), Memory
     column.set(0, 0, &[1, 2, 3, 4]);
     column.set(0, 1, &[5, 6, 7, 8]);
     column.swap_remove(0);
-    assert_eq!(rt; column.len(), 1);
-    assert_eq!(rt; column.get(0, 0), [5u8, 6, 7, 8].as_slice());
+    assert!(rt; column.len() == 1);
+    assert!(rt; column.get(0, 0) == [5u8, 6, 7, 8].as_slice());
     Ok(())
 }
 
@@ -190,10 +190,10 @@ fn move_one_column(rt: &impl Abort, from: &mut Block, to: &mut Block) -> Result<
     from.set(0, 0, &[1, 2, 3, 4]);
     from.set(1, 0, &[7]);
     from.move_row(0, to, &[(1, 0)]);
-    assert_eq!(rt; from.len(), 0);
-    assert_eq!(rt; to.len(), 1);
-    assert_eq!(rt; to.get(0, 0), [7u8].as_slice());
-    assert_eq!(rt; to.get(1, 0), [0u8, 0].as_slice());
+    assert!(rt; from.len() == 0);
+    assert!(rt; to.len() == 1);
+    assert!(rt; to.get(0, 0) == [7u8].as_slice());
+    assert!(rt; to.get(1, 0) == [0u8, 0].as_slice());
     Ok(())
 }
 
@@ -224,6 +224,6 @@ fn a_block_crosses_threads(rt: HostRuntime) -> Result<(), Fail> {
     let mut block = sent(Block::new(rt.alloc(), &[1])?);
     block.reserve(1)?;
     block.push_zero();
-    assert_eq!(rt; sent(block).len(), 1);
+    assert!(rt; sent(block).len() == 1);
     Ok(())
 }

@@ -4,7 +4,7 @@ use Rattle.ecs_id.specs.Id.{Id, id_eq, id_eq_itself}
 use Rattle.ecs_table.proofs.Ordered.{size_of_new}
 use Rattle.ecs_table.proofs.Rows.{equal_sizes_from, size_of_appended, size_of_set}
 use Rattle.ecs_table.specs.Archetype.{Archetype, HaveEqualSizes, empty_table, no_entity, size_of}
-use Rattle.column_tests.proofs.tables.a_row_that_moves_keeps_the_values_of_common_ids.Goals as goal
+use Rattle.column_tests.proofs.tables.append_valued.Goals as goal
 
 abbrev source_of : Id → Id → Archetype
 source_of a b = empty_table (a ∷ b ∷ []) (4 ∷ 0 ∷ [])
@@ -23,17 +23,17 @@ sizes_agree a b d i m n e f =
     ] (sym (size_of_new ((a, 4) ∷ (b, 0) ∷ []) i) ∙ e) (sym (size_of_new ((a, 4) ∷ (d, 1) ∷ []) i) ∙ f)
 
 pub set_value-requires-clause-size : goal.set_value-requires-clause-size
-set_value-requires-clause-size g c =
-    let common : Id = c.plain-common.result in
+set_value-requires-clause-size c =
+    let common : Id = c.args.ids.now.common in
     ap (λ (t : Archetype). size_of t common) c.append.ensures ∙ size_of_appended c.reserve.new.self no_entity common
-    ∙ ap (λ (t : Archetype). size_of t common) c.in_ok-reserve.ensures.ok ∙ ap (λ (t : Archetype). size_of t common) c.in_ok-source.ensures ∙ source_size common c.plain-tag.result
+    ∙ ap (λ (t : Archetype). size_of t common) c.in_ok-reserve.ensures.ok ∙ ap (λ (t : Archetype). size_of t common) c.requires.source ∙ source_size common c.args.ids.now.tag
 
-pub move_to-requires-clause-sizes : goal.move_to-requires-clause-sizes
-move_to-requires-clause-sizes g c =
-    let common : Id = c.plain-common.result in let tag : Id = c.plain-tag.result in let other : Id = c.plain-other.result in
-    equal_sizes_from c.set_value.new.self c.reserve-2.new.self (source_of common tag) (target_of common other)
+pub returns-clause-sizes : goal.returns-clause-sizes
+returns-clause-sizes c =
+    let common : Id = c.args.ids.now.common in let tag : Id = c.args.ids.now.tag in let mark : Id = c.args.ids.now.mark in
+    equal_sizes_from c.set_value.new.self c.reserve-2.new.self (source_of common tag) (target_of common mark)
     (λ i. ap (λ (t : Archetype). size_of t i) c.set_value.ensures ∙ size_of_set c.append.new.self 0 common (1 ∷ 2 ∷ 3 ∷ 4 ∷ []) i
     ∙ ap (λ (t : Archetype). size_of t i) c.append.ensures ∙ size_of_appended c.reserve.new.self no_entity i
-    ∙ ap (λ (t : Archetype). size_of t i) c.in_ok-reserve.ensures.ok ∙ ap (λ (t : Archetype). size_of t i) c.in_ok-source.ensures)
-    (λ i. ap (λ (t : Archetype). size_of t i) c.in_ok-reserve-2.ensures.ok ∙ ap (λ (t : Archetype). size_of t i) c.in_ok-target.ensures)
-    (sizes_agree common tag other)
+    ∙ ap (λ (t : Archetype). size_of t i) c.in_ok-reserve.ensures.ok ∙ ap (λ (t : Archetype). size_of t i) c.requires.source)
+    (λ i. ap (λ (t : Archetype). size_of t i) c.in_ok-reserve-2.ensures.ok ∙ ap (λ (t : Archetype). size_of t i) c.requires.target)
+    (sizes_agree common tag mark)
