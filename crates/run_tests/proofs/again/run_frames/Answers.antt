@@ -1,5 +1,5 @@
 -- A query that is current goes up without cycles, and so do the steps and the fields of its frames.
-use Rattle.std.proofs.Common.{◌≡◌, subst, sym, true}
+use Rattle.std.proofs.Common.{◌≡◌, rules, subst, sym, true}
 use Rattle.std.specs.List.{All}
 use Rattle.ecs_model.specs.Query.{known_of}
 use Rattle.ecs_model.specs.rows.View.{view_of}
@@ -39,3 +39,6 @@ start-run-requires-clause-rises g c =
     subst (λ (s : Standing). GoesUpWithoutCycles (view_of s.state) q) (sym c.new-facts.ensures)
     (current_queries_go_up_without_cycles w q c.keeps.ensures (record { asked = c.requires.asked; current = current })) in
     subst (λ (items : List Item). All (IsFieldAcyclic view.ids) items) (sym c.requires.items) (fields_go_up view q rises)
+
+pub pull_rows-came-requires : goal.pull_rows-came-requires
+pull_rows-came-requires g c = record { fits = c.fits.ensures.0 (search rules) }
