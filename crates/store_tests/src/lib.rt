@@ -4,6 +4,8 @@
 #[cfg(test)]
 mod edges;
 #[cfg(test)]
+mod expected;
+#[cfg(test)]
 mod many;
 #[cfg(test)]
 mod refusals;

@@ -1,3 +1,4 @@
+use crate::expected::expect_equal;
 use crate::sized::Sized;
 use ecs_id::{Id, TableKey};
 use std::alloc::Global;
@@ -17,8 +18,8 @@ fn make_each(
     for k in 0..COUNT {
         let tag = Id::plain(100 + k);
         let key = tables.with(root, tag)?;
-        assert_eq!(rt; tables.without(key, tag)?, root);
-        assert_eq!(rt; tables.with(root, tag)?, key);
+        expect_equal(rt, tables.without(key, tag)?, root);
+        expect_equal(rt, tables.with(root, tag)?, key);
         made.push((tag, key))?;
     }
     Ok(())
@@ -31,7 +32,7 @@ fn release_half(rt: &impl Abort, tables: &mut Sized<Global>, made: &[(Id, TableK
         if goes {
             tables.release(*key);
         }
-        assert_eq!(rt; tables.has(*key), !goes);
+        expect_equal(rt, tables.has(*key), !goes);
         goes = !goes;
     }
 }
@@ -47,8 +48,8 @@ fn find_each(
     for (tag, key) in made {
         let stood = tables.has(*key);
         let again = tables.with(root, *tag)?;
-        assert_eq!(rt; again == *key, stood);
-        assert_eq!(rt; tables.has(*key), stood);
+        expect_equal(rt, again == *key, stood);
+        expect_equal(rt, tables.has(*key), stood);
         assert!(rt; again.slot <= COUNT);
         if !stood {
             anew = anew.wrapping_add(1);
@@ -71,20 +72,32 @@ fn count_since(rt: &impl Abort, tables: &Sized<Global>, serial: u128) -> usize {
     count
 }
 
+/// Makes tables from the one without ids, releases half of them, and makes those anew.
+fn make_and_release(
+    rt: &impl Abort,
+    tables: &mut Sized<Global>,
+    made: &mut Vec<(Id, TableKey)>,
+) -> Result<(), Fail> {
+    let root = tables.root()?;
+    make_each(rt, tables, root, made)?;
+    let last = tables.store.last();
+    expect_equal(rt, last, 2_001);
+    expect_equal(rt, count_since(rt, tables, root.serial), 2_000);
+    release_half(rt, tables, made.as_slice());
+    expect_equal(rt, count_since(rt, tables, root.serial), 1_000);
+    expect_equal(rt, count_since(rt, tables, last), 0);
+    expect_equal(rt, find_each(rt, tables, root, made.as_slice())?, 1_000);
+    expect_equal(rt, count_since(rt, tables, last), 1_000);
+    expect_equal(rt, tables.store.last(), 3_001);
+    Ok(())
+}
+
 #[test]
 fn two_thousand_tables(rt: HostRuntime) -> Result<(), Fail> {
     let mut tables = Sized::new(rt.alloc(), RandomState::new(&rt)?);
     let mut made = Vec::new(rt.alloc());
-    let root = tables.root()?;
-    make_each(&rt, &mut tables, root, &mut made)?;
-    let last = tables.store.last();
-    assert_eq!(rt; last, 2_001);
-    assert_eq!(rt; count_since(&rt, &tables, root.serial), 2_000);
-    release_half(&rt, &mut tables, made.as_slice());
-    assert_eq!(rt; count_since(&rt, &tables, root.serial), 1_000);
-    assert_eq!(rt; count_since(&rt, &tables, last), 0);
-    assert_eq!(rt; find_each(&rt, &mut tables, root, made.as_slice())?, 1_000);
-    assert_eq!(rt; count_since(&rt, &tables, last), 1_000);
-    assert_eq!(rt; tables.store.last(), 3_001);
-    Ok(())
+    let done = make_and_release(&rt, &mut tables, &mut made);
+    drop(made);
+    drop(tables);
+    done
 }
