@@ -3,6 +3,7 @@
 ghost use Rattle.std.specs.Prelude.{IfOk};
 ghost use Rattle.query_meaning.specs.Sound.{IsSound};
 
+use crate::expected::expect_equal;
 use crate::sky::Sky;
 use query_check::{Query, check};
 use query_lexer::lex;
@@ -15,6 +16,7 @@ use query_parser::parse;
 use query_plan::{Plan, PlanFault};
 use refusing_alloc::Refusing;
 use std::alloc::{Allocator, Global};
+use std::process::Abort;
 use std::test::Fail;
 
 /// The query of a text. It is sound, as every query is that a text asks.
@@ -46,50 +48,78 @@ fn reason(alloc: Global, query: &Query, steps: &[Step]) -> Result<Option<PlanRef
     }
 }
 
+/// That steps are a plan, or why they are none.
+fn expect_reason(
+    rt: &impl Abort,
+    alloc: Global,
+    query: &Query,
+    steps: &[Step],
+    wanted: Option<PlanRefusal>,
+) -> Result<(), PlanFault> {
+    let found = reason(alloc, query, steps)?;
+    expect_equal(rt, found, wanted);
+    Ok(())
+}
+
+/// Steps of a group that waits for its variables, and others.
+fn expect_waiting(rt: &impl Abort, alloc: Global, query: &Query) -> Result<(), PlanFault> {
+    let plan = [Scan(2), Open(0), Check(1), Close];
+    expect_reason(rt, alloc, query, &plan, None)?;
+    let early = [Open(0), Scan(1), Close, Scan(2)];
+    expect_reason(rt, alloc, query, &early, Some(UnboundMode))?;
+    expect_reason(rt, alloc, query, &[Scan(2)], Some(MissingItem))?;
+    let twice = [Scan(2), Check(2), Open(0), Check(1), Close];
+    expect_reason(rt, alloc, query, &twice, Some(RepeatedItem))?;
+    let outside = [Scan(2), Check(1), Open(0), Close];
+    expect_reason(rt, alloc, query, &outside, Some(MissingItem))?;
+    let unended = [Scan(2), Open(0), Check(1)];
+    expect_reason(rt, alloc, query, &unended, Some(MissingItem))?;
+    Ok(())
+}
+
 #[test]
 fn a_group_waits_for_its_variables(rt: HostRuntime) -> Result<(), Fail> {
-    let alloc = rt.alloc();
-    let query = ask(alloc, "!(Likes,$x), (ChildOf,$x)")?;
-    let plan = [Scan(2), Open(0), Check(1), Close];
-    assert_eq!(rt; reason(alloc, &query, &plan)?, None);
-    let early = [Open(0), Scan(1), Close, Scan(2)];
-    assert_eq!(rt; reason(alloc, &query, &early)?, Some(UnboundMode));
-    assert_eq!(rt; reason(alloc, &query, &[Scan(2)])?, Some(MissingItem));
-    let twice = [Scan(2), Check(2), Open(0), Check(1), Close];
-    assert_eq!(rt; reason(alloc, &query, &twice)?, Some(RepeatedItem));
-    let outside = [Scan(2), Check(1), Open(0), Close];
-    assert_eq!(rt; reason(alloc, &query, &outside)?, Some(MissingItem));
-    let unended = [Scan(2), Open(0), Check(1)];
-    assert_eq!(rt; reason(alloc, &query, &unended)?, Some(MissingItem));
+    let query = ask(rt.alloc(), "!(Likes,$x), (ChildOf,$x)")?;
+    let done = expect_waiting(&rt, rt.alloc(), &query);
+    drop(query);
+    Ok(done?)
+}
+
+/// Steps of a closed term with a variable at its end.
+fn expect_either_end(rt: &impl Abort, alloc: Global, query: &Query) -> Result<(), PlanFault> {
+    expect_reason(rt, alloc, query, &[Above(0)], None)?;
+    expect_reason(rt, alloc, query, &[Each(0), Check(0)], None)?;
+    expect_reason(rt, alloc, query, &[Scan(0)], Some(UnboundMode))?;
     Ok(())
 }
 
 #[test]
 fn closed_terms_lead_from_either_end(rt: HostRuntime) -> Result<(), Fail> {
-    let alloc = rt.alloc();
-    let query = ask(alloc, "IsA(D,$x)")?;
-    assert_eq!(rt; reason(alloc, &query, &[Above(0)])?, None);
-    assert_eq!(rt; reason(alloc, &query, &[Each(0), Check(0)])?, None);
-    assert_eq!(rt; reason(alloc, &query, &[Scan(0)])?, Some(UnboundMode));
+    let query = ask(rt.alloc(), "IsA(D,$x)")?;
+    let done = expect_either_end(&rt, rt.alloc(), &query);
+    drop(query);
+    Ok(done?)
+}
+
+/// Steps of two terms in either order, and others.
+fn expect_either_order(rt: &impl Abort, alloc: Global, query: &Query) -> Result<(), PlanFault> {
+    expect_reason(rt, alloc, query, &[Scan(1), Scan(0)], None)?;
+    expect_reason(rt, alloc, query, &[Scan(0), Check(1)], None)?;
+    let no_item = [Scan(1), Scan(0), Check(7)];
+    expect_reason(rt, alloc, query, &no_item, Some(MissingItem))?;
+    let no_variable = [Scan(0), Targets(1)];
+    expect_reason(rt, alloc, query, &no_variable, Some(UnboundMode))?;
+    let missing_and_twice = [Scan(1), Scan(1)];
+    expect_reason(rt, alloc, query, &missing_and_twice, Some(MissingItem))?;
     Ok(())
 }
 
 #[test]
 fn terms_are_scanned_in_either_order(rt: HostRuntime) -> Result<(), Fail> {
-    let alloc = rt.alloc();
-    let query = ask(alloc, "(ChildOf,$p), Planet($p)")?;
-    assert_eq!(rt; reason(alloc, &query, &[Scan(1), Scan(0)])?, None);
-    assert_eq!(rt; reason(alloc, &query, &[Scan(0), Check(1)])?, None);
-    let no_item = [Scan(1), Scan(0), Check(7)];
-    assert_eq!(rt; reason(alloc, &query, &no_item)?, Some(MissingItem));
-    let no_variable = [Scan(0), Targets(1)];
-    assert_eq!(rt; reason(alloc, &query, &no_variable)?, Some(UnboundMode));
-    let missing_and_twice = [Scan(1), Scan(1)];
-    assert_eq!(rt;
-        reason(alloc, &query, &missing_and_twice)?,
-        Some(MissingItem)
-    );
-    Ok(())
+    let query = ask(rt.alloc(), "(ChildOf,$p), Planet($p)")?;
+    let done = expect_either_order(&rt, rt.alloc(), &query);
+    drop(query);
+    Ok(done?)
 }
 
 /// The steps of the planner's plan, where an item has a list of so many tables.
@@ -160,19 +190,21 @@ fn a_sound_query_has_a_plan_without_a_test(rt: HostRuntime) -> Result<(), Fail> 
     Ok(())
 }
 
+/// A plan whose query is gone.
+fn owned(alloc: Global, steps: &[Step]) -> Result<Plan, Fail> {
+    let query = ask(alloc, "(ChildOf,$x), !(Likes,$x)")?;
+    Ok(Plan::from_steps(alloc, &query, steps)?)
+}
+
 #[test]
 fn a_plan_owns_what_it_tells(rt: HostRuntime) -> Result<(), Fail> {
-    let alloc = rt.alloc();
     let steps = [Scan(0), Open(1), Check(2), Close];
-    let plan = {
-        let query = ask(alloc, "(ChildOf,$x), !(Likes,$x)")?;
-        Plan::from_steps(alloc, &query, &steps)?
-    };
+    let plan = owned(rt.alloc(), &steps)?;
     assert!(rt; plan.steps() == steps.as_slice());
-    assert_eq!(rt; plan.query().items(), 3);
+    assert!(rt; plan.query().items() == 3);
     let names = plan.query().variables();
-    assert_eq!(rt; names.len(), 2);
-    assert_eq!(rt; names[1].as_slice(), b"x".as_slice());
+    assert!(rt; names.len() == 2);
+    assert!(rt; names[1].as_slice() == b"x".as_slice());
     Ok(())
 }
 
@@ -186,7 +218,7 @@ fn refused_memory_is_told(rt: HostRuntime) -> Result<(), Fail> {
         heap.refuse_after(allowed);
         match Plan::from_steps(&heap, &query, &steps) {
             Ok(_) => break,
-            Err(fault) => assert_eq!(rt; fault, PlanFault::Memory),
+            Err(fault) => expect_equal(&rt, fault, PlanFault::Memory),
         }
         refusals = allowed + 1;
     }
