@@ -1,4 +1,5 @@
 //! Each call, and each event by all that it tells.
+use crate::bytes::expect_bytes;
 use ecs_id::{EntityId, Id};
 use ecs_model::Value;
 use ecs_model::watches::{EventKind, StoredKind};
@@ -113,7 +114,8 @@ fn run_each_call(
     fill(rt, session, fields)?;
     place_earth(rt, session, out)?;
     change_earth(rt, session, out)?;
-    assert_eq!(rt;
+    expect_bytes(
+        rt,
         out.as_slice(),
         b"enter m Earth
 add a Earth Position
@@ -126,7 +128,7 @@ remove r Earth Planet
 leave m Earth
 remove r Earth Position
 "
-            .as_slice()
+            .as_slice(),
     );
     for (_, name, _) in STORED {
         assert!(rt; session.drop_stored(name)?.is_none());

@@ -2,6 +2,7 @@
 
 ghost use Rattle.std.specs.Prelude.{◌<◌, length};
 
+use crate::bytes::expect_bytes;
 use crate::lines::{Line, carry_out, print_lines, with_events};
 use crate::scripts::{
     ASKING_MONITOR, DELETED_PARENTS, EACH_CALL, FIRST_ENTITY, KEPT_QUERY, LOCAL_MONITOR, MARRIAGES,
@@ -99,7 +100,7 @@ fn print_both<A: Allocator + Copy>(
     let mut expected = Vec::new(alloc);
     print_lines(tried, alloc, lines, &mut printed)?;
     print_lines(right, alloc, lines, &mut expected)?;
-    assert_eq!(rt; printed.as_slice(), expected.as_slice());
+    expect_bytes(rt, printed.as_slice(), expected.as_slice());
     Ok(())
 }
 
@@ -136,7 +137,7 @@ fn is_line_refused<'a>(
     }
     let mut expected = Vec::new(heap);
     assert!(rt; carry_out(right, heap, line, &mut expected) == answer);
-    assert_eq!(rt; written.as_slice(), expected.as_slice());
+    expect_bytes(rt, written.as_slice(), expected.as_slice());
     Ok(refused)
 }
 
@@ -241,7 +242,7 @@ fn expect_output(
     let mut printed = Vec::new(alloc);
     print_lines(session, alloc, base, &mut printed)?;
     print_lines(session, alloc, lines, &mut printed)?;
-    assert_eq!(rt; printed.as_slice(), output);
+    expect_bytes(rt, printed.as_slice(), output);
     Ok(())
 }
 

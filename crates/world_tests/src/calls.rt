@@ -2,7 +2,7 @@ use ecs_id::{EntityId, Id};
 use ecs_model::Value;
 use ecs_model::faults::{CommandError, Refusal};
 use ecs_schema::{Kind, Schema};
-use ecs_world::{Death, FactKey, World};
+use ecs_world::{Changes, Death, FactKey, World};
 use std::alloc::Global;
 use std::hash::RandomState;
 use std::process::Abort;
@@ -13,6 +13,14 @@ const SUN: EntityId = EntityId {
     index: 64,
     generation: 0,
 };
+
+/// Why a command was not carried out, if it wasn't.
+pub fn error_of(done: Result<Changes, CommandError>) -> Option<CommandError> {
+    match done {
+        Ok(_) => None,
+        Err(error) => Some(error),
+    }
+}
 
 /// Whether one fact stands here, that of the sun and this id.
 fn is_of_sun(keys: &[FactKey], id: Id) -> bool {
@@ -41,8 +49,10 @@ fn expect_sun(rt: &impl Abort, world: &World, position: Id) {
 fn move_sun(rt: &impl Abort, world: &mut World, position: Id, tag: Id) -> Result<(), CommandError> {
     let placed = world.set(SUN, position, &[-3, 200])?;
     assert!(rt; is_of_sun(placed.came(), position) && is_of_sun(placed.written(), position));
+    drop(placed);
     let tagged = world.add(SUN, tag)?;
     assert!(rt; is_of_sun(tagged.came(), tag) && tagged.written().is_empty());
+    drop(tagged);
     let freed = world.remove(SUN, tag)?;
     assert!(rt; is_of_sun(freed.went(), tag) && freed.born().is_none());
     Ok(())
@@ -50,8 +60,10 @@ fn move_sun(rt: &impl Abort, world: &mut World, position: Id, tag: Id) -> Result
 
 fn make_others(rt: &impl Abort, alloc: Global, world: &mut World) -> Result<(), Fail> {
     let fields = Schema::new(alloc, &[("x", Kind::I32), ("y", Kind::U8)])?;
-    assert!(rt; world.component("Position", fields)?.born() == world.at(65));
-    assert!(rt; world.fresh()?.born() == world.at(66));
+    let position = world.component("Position", fields)?.born();
+    assert!(rt; position == world.at(65));
+    let unnamed = world.fresh()?.born();
+    assert!(rt; unnamed == world.at(66));
     Ok(())
 }
 
@@ -149,8 +161,8 @@ fn stored_queries_are_counted(rt: HostRuntime) -> Result<(), Fail> {
 fn take_name_twice(rt: &impl Abort, alloc: Global, world: &mut World) -> Result<(), Fail> {
     world.entity("Sun")?;
     let fields = Schema::new(alloc, &[("x", Kind::I32), ("y", Kind::U8)])?;
-    let taken = world.component("Sun", fields).map(|changes| changes.born());
-    assert!(rt; taken == Err(CommandError::Refused(Refusal::NameTaken)));
+    let taken = error_of(world.component("Sun", fields));
+    assert!(rt; taken == Some(CommandError::Refused(Refusal::NameTaken)));
     Ok(())
 }
 

@@ -95,21 +95,32 @@ fn fill<A: Allocator + Copy>(
     Ok(())
 }
 
+/// The fact that a call adds, sets or takes away. Of those that fall with Ann, this one.
+fn fact_of(call: Call) -> FactKey {
+    match call {
+        Call::Add => FactKey::new(SHIP, Id::pair(TAG, TAG)),
+        Call::Set => FactKey::new(SHIP, Id::pair(TAG, POSITION)),
+        Call::Remove => FactKey::new(SHIP, Id::plain(POSITION)),
+        Call::Marry => FactKey::new(ANN, Id::pair(MARRIED, CY)),
+        Call::Harden => FactKey::new(CY, Id::plain(SOLID)),
+        Call::Hold => FactKey::new(SHIP, Id::pair(HOLDS, POSITION)),
+        Call::Part => FactKey::new(BOB, Id::pair(MARRIED, ANN)),
+        _ => FactKey::new(ANN, Id::pair(MARRIED, BOB)),
+    }
+}
+
 /// Carries out a call on facts.
 fn change<A: Allocator + Copy>(
     world: &mut World<A>,
     call: Call,
 ) -> Result<Changes<A>, CommandError> {
-    let ship = first_at(SHIP);
+    let fact = fact_of(call);
+    let entity = first_at(fact.entity());
     match call {
-        Call::Add => world.add(ship, Id::pair(TAG, TAG)),
-        Call::Set => world.set(ship, Id::pair(TAG, POSITION), &[8]),
-        Call::Remove => world.remove(ship, Id::plain(POSITION)),
-        Call::Marry => world.add(first_at(ANN), Id::pair(MARRIED, CY)),
-        Call::Harden => world.add(first_at(CY), Id::plain(SOLID)),
-        Call::Hold => world.set(ship, Id::pair(HOLDS, POSITION), &[8]),
-        Call::Part => world.remove(first_at(BOB), Id::pair(MARRIED, ANN)),
-        _ => world.delete(first_at(ANN)),
+        Call::Add | Call::Marry | Call::Harden => world.add(entity, fact.id()),
+        Call::Set | Call::Hold => world.set(entity, fact.id(), &[8]),
+        Call::Remove | Call::Part => world.remove(entity, fact.id()),
+        _ => world.delete(entity),
     }
 }
 

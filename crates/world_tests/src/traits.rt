@@ -1,3 +1,4 @@
+use crate::calls::error_of;
 use crate::searches::{first_above, first_five, leads};
 use component_index::{Part, Pattern};
 use ecs_id::{EntityId, Id, Place};
@@ -151,22 +152,27 @@ fn bases_are_given_once(rt: HostRuntime) -> Result<(), Fail> {
     done
 }
 
-/// Whether these died, one after another from the index of the Sun on.
-fn died_as(died: &[Death], names: &[&str]) -> bool {
-    let mut index = SUN;
-    for (death, name) in died.iter().zip(names) {
-        if death.entity() != first_at(index) || death.name() != Some(*name) {
-            return false;
+/// Whether the one who died first stood at an index, under this name.
+fn is_death_of(death: &Death, index: u32, name: &str) -> bool {
+    death.entity() == first_at(index) && death.name() == Some(name)
+}
+
+/// Whether the Sun died, then the Earth and then the Moon.
+fn fell_in_order(died: &[Death]) -> bool {
+    match died {
+        [sun, earth, moon] => {
+            is_death_of(sun, SUN, "Sun")
+                && is_death_of(earth, EARTH, "Earth")
+                && is_death_of(moon, MOON, "Moon")
         }
-        index = index.wrapping_add(1);
+        _ => false,
     }
-    died.len() == names.len()
 }
 
 /// Deletes the Sun, and all but the probe fall.
 fn delete_sun(rt: &impl Abort, world: &mut World) -> Result<(), CommandError> {
     let changes = world.delete(first_at(SUN))?;
-    assert!(rt; died_as(changes.died(), &["Sun", "Earth", "Moon"]));
+    assert!(rt; fell_in_order(changes.died()));
     assert!(rt; changed(&changes, &[], &sky()));
     Ok(())
 }
@@ -198,8 +204,8 @@ fn delete_pinned(rt: &impl Abort, alloc: Global, world: &mut World) -> Result<()
     name_all(alloc, world, &["Planet"])?;
     let planet = first_at(65);
     world.pin(planet)?;
-    let kept = world.delete(planet).map(|changes| changes.born());
-    assert!(rt; kept == Err(CommandError::Refused(Refusal::InUse)));
+    let kept = error_of(world.delete(planet));
+    assert!(rt; kept == Some(CommandError::Refused(Refusal::InUse)));
     world.unpin(planet);
     assert!(rt; world.delete(planet)?.died().len() == 1);
     assert!(rt; world.pin(planet) == Err(CommandError::Refused(Refusal::Dead)));
