@@ -21,7 +21,7 @@ use Rattle.ecs_model.specs.Refusal.{first_reason}
 use Rattle.ecs_model.specs.World.{WorldState, key_cmp, first_world, next_among, type_of_id}
 use Rattle.ecs_model.specs.Sets.{has_chain, within}
 use Rattle.ecs_model.specs.Command.{Changed, next_entity, with_born, with_component, differences, AnswersStep}
-use Rattle.ecs_model.specs.traits.Changes.{added, replaced, facts_after_add, facts_after_remove}
+use Rattle.ecs_model.specs.traits.Changes.{added, replaced, facts_with_added, new_base, copied, facts_after_add, facts_after_remove}
 use Rattle.ecs_model.specs.traits.Command.{Command, Fresh, Entity, Component, Add, SetValue, Remove, reasons, effect, step}
 use Rattle.query_model.specs.Tokens.{tokens_from, tokens_of}
 use Rattle.query_model.specs.Check.{faults}
@@ -75,15 +75,15 @@ unfolding id_cmp key_cmp within added
 an_add_without_traits_adds_one_fact = refl
 
 a_new_fact_of_a_component_has_zeros : value_at key_cmp (facts_after_add sky 66 position) (66, position) ≡ Some (pos 0 ∷ pos 0 ∷ [])
-unfolding id_cmp key_cmp within added replaced facts_after_add
+unfolding id_cmp key_cmp within added replaced facts_with_added new_base copied facts_after_add
 a_new_fact_of_a_component_has_zeros = refl
 
 a_new_fact_of_a_tag_has_no_value : value_at key_cmp (facts_after_add sky 64 planet) (64, planet) ≡ Some []
-unfolding id_cmp key_cmp within added replaced facts_after_add
+unfolding id_cmp key_cmp within added replaced facts_with_added new_base copied facts_after_add
 a_new_fact_of_a_tag_has_no_value = refl
 
 a_fact_that_is_held_keeps_its_value : facts_after_add sky 67 position ≡ sky.facts
-unfolding id_cmp key_cmp within added replaced facts_after_add
+unfolding id_cmp key_cmp within added replaced facts_with_added new_base copied facts_after_add
 a_fact_that_is_held_keeps_its_value = refl
 
 -- facts that go
@@ -131,27 +131,27 @@ no_negative_number_fits_an_unsigned_field = refl
 -- refusals
 
 no_data_is_told_before_count : refusal_of (SetValue sun planet (pos 1 ∷ pos 2 ∷ [])) ≡ Some NoData
-unfolding id_cmp key_cmp within has_chain added replaced facts_after_add reasons
+unfolding id_cmp key_cmp within has_chain added replaced facts_with_added new_base copied facts_after_add reasons
 no_data_is_told_before_count = refl
 
 count_is_told_before_range : refusal_of (SetValue sun position (pos (2 ^ 40) ∷ [])) ≡ Some Count
-unfolding id_cmp key_cmp within has_chain added replaced facts_after_add reasons
+unfolding id_cmp key_cmp within has_chain added replaced facts_with_added new_base copied facts_after_add reasons
 count_is_told_before_range = refl
 
 each_value_is_measured_by_its_own_field : refusal_of (SetValue sun position (pos 1 ∷ pos 1000 ∷ [])) ≡ Some Range
-unfolding id_cmp key_cmp within has_chain added replaced facts_after_add reasons
+unfolding id_cmp key_cmp within has_chain added replaced facts_with_added new_base copied facts_after_add reasons
 each_value_is_measured_by_its_own_field = refl
 
 an_old_generation_is_dead : refusal_of (Add (record earth { generation = 1 }) planet) ≡ Some Dead
-unfolding id_cmp key_cmp within has_chain added replaced facts_after_add reasons
+unfolding id_cmp key_cmp within has_chain added replaced facts_with_added new_base copied facts_after_add reasons
 an_old_generation_is_dead = refl
 
 an_id_of_no_live_index_is_dead : refusal_of (Add earth (pair 65 70)) ≡ Some Dead
-unfolding id_cmp key_cmp within has_chain added replaced facts_after_add reasons
+unfolding id_cmp key_cmp within has_chain added replaced facts_with_added new_base copied facts_after_add reasons
 an_id_of_no_live_index_is_dead = refl
 
 dead_is_told_before_values : refusal_of (SetValue (record earth { generation = 1 }) planet []) ≡ Some Dead
-unfolding id_cmp key_cmp within has_chain added replaced facts_after_add reasons
+unfolding id_cmp key_cmp within has_chain added replaced facts_with_added new_base copied facts_after_add reasons
 dead_is_told_before_values = refl
 
 removing_what_is_not_held_is_accepted : refusal_of (Remove sun (pair 64 65)) ≡ None
@@ -230,11 +230,11 @@ changes_of c = elim (step sky c) [ Ok a ↦ Some a.1 | Err r ↦ None ]
 
 a_fact_that_is_set_comes_and_is_written : changes_of (SetValue sun position (pos 5 ∷ pos 6 ∷ []))
     ≡ Some (record { born = None; died = []; came = (66, position) ∷ []; went = []; written = (66, position) ∷ [] })
-unfolding id_cmp key_cmp within has_chain added replaced facts_after_add reasons effect differences step
+unfolding id_cmp key_cmp within has_chain added replaced facts_with_added new_base copied facts_after_add reasons effect differences step
 a_fact_that_is_set_comes_and_is_written = refl
 
 a_fact_that_was_held_does_not_come : changes_of (Add earth planet) ≡ Some (record { born = None; died = []; came = []; went = []; written = [] })
-unfolding id_cmp key_cmp within has_chain added replaced facts_after_add reasons effect differences step
+unfolding id_cmp key_cmp within has_chain added replaced facts_with_added new_base copied facts_after_add reasons effect differences step
 a_fact_that_was_held_does_not_come = refl
 
 a_component_is_born_with_its_tag : changes_of (Component (codes "Mass") mass)
@@ -339,7 +339,7 @@ abbrev asked_for : ℕ → Piece
 asked_for c = item (must (record { first = ref.Is c; target = None; source = ref.Var 0; on_source = true; up = None; closed = false; valued = true }))
 
 abbrev asks : List ℕ → Query
-asks cs = record { variables = codes "this" ∷ []; has_this = true; pieces = map asked_for cs; mentions = []; length = 0 }
+asks cs = record { variables = codes "this" ∷ []; has_this = true; pieces = map asked_for cs; cascade = None; mentions = []; length = 0 }
 
 rows_come_by_ascending_index : rows (view_of sky) (asks (65 ∷ []))
     ≡ record { bindings = 66 ∷ []; fields = Shown 66 planet None ∷ [] } ∷ record { bindings = 67 ∷ []; fields = Shown 67 planet None ∷ [] } ∷ []

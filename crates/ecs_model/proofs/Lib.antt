@@ -16,6 +16,7 @@ mod ReachComputed
 pub mod Members
 pub mod Linked
 pub mod ShortLines
+pub mod Depths
 pub mod LeastSets
 pub mod Reaching
 pub mod Closing

@@ -5,8 +5,9 @@ use Rattle.std.specs.Ordering.{nat_cmp}
 use Rattle.ecs_id.specs.Id.{Id, plain, pair, id_cmp}
 use Rattle.ecs_model.specs.BuiltIns.{transitive, reflexive, on_delete, on_delete_target, delete_mode}
 use Rattle.ecs_model.specs.Falls.{falling}
+use Rattle.ecs_model.specs.Depth.{depth_within}
 use Rattle.ecs_model.specs.Line.{line_within}
-use Rattle.ecs_model.specs.Links.{line, reaches}
+use Rattle.ecs_model.specs.Links.{depth, line, reaches}
 use Rattle.ecs_model.specs.Map.{Map, keys, value_at}
 use Rattle.ecs_model.specs.Sets.{has_chain, within}
 
@@ -105,3 +106,15 @@ targets_of_other_relationships_take_nothing_with_them = refl
 grandchildren_fall_too : keys (within nat_cmp (falling ids live) (length live - 1) 67) ≡ 67 ∷ 70 ∷ 71 ∷ []
 unfolding id_cmp within
 grandchildren_fall_too = refl
+
+the_top_of_a_diamond_has_depth_0 : depth ids live 2 64 ≡ 0
+unfolding depth_within
+the_top_of_a_diamond_has_depth_0 = refl
+
+a_diamond_has_depth_2 : depth ids live 2 67 ≡ 2
+unfolding depth_within
+a_diamond_has_depth_2 = refl
+
+depths_go_along_one_relationship : depth ids live 63 71 ≡ 2
+unfolding depth_within
+depths_go_along_one_relationship = refl

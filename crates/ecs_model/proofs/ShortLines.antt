@@ -22,7 +22,7 @@ module _ {A : Type 0} where
       go itself = onward itself c.1
       go (onward r n) = onward (go r) n
 
-  one_step : (next : A → List A) (x y : A) → Contains (next x) y → HasChain next x y
+  pub one_step : (next : A → List A) (x y : A) → Contains (next x) y → HasChain next x y
   one_step next x y h = (y, h, itself)
 
   from_nothing : {B : Type 0} (f : A → List B) (xs : List A) → ((x : A) → Contains xs x → ⊥) → [] ≡ flat_map f xs

@@ -19,8 +19,10 @@ pub mod Laws
 pub mod Reach
 pub mod Sets
 pub mod Line
+pub mod Depth
 pub mod Links
 pub mod Cycles
+pub mod Copied
 pub mod Falls
 pub mod Added
 pub mod ReachLaws

@@ -3,6 +3,7 @@ use Rattle.std.specs.Prelude.{ℕ, ◌-◌, ◌==◌, ◌<◌, ◌&&◌, ◌||�
 use Rattle.std.specs.List.{list_any}
 use Rattle.ecs_id.specs.Id.{Id, IsIndex, plain, pair, id_eq, mentioned}
 use Rattle.ecs_model.specs.BuiltIns.{transitive, reflexive}
+use Rattle.ecs_model.specs.Depth.{depth_within}
 use Rattle.ecs_model.specs.Line.{line_within}
 use Rattle.ecs_model.specs.Reach.{HasChain, Reaches}
 use Rattle.ecs_model.specs.Sets.{has_chain}
@@ -50,6 +51,10 @@ module _ (ids : ℕ → List Id) where
   -- the ancestors of an entity along a relationship without cycle: each target by ascending index, followed by its own ancestors
   abbrev pub line : List ℕ → ℕ → ℕ → List ℕ
   line entities r s = line_within (upward r) (length entities) s
+
+  -- how many steps the longest chain from an entity has, along a relationship without cycle
+  abbrev pub depth : List ℕ → ℕ → ℕ → ℕ
+  depth entities r e = depth_within (upward r) (length entities) e
 
 -- the live entities have indexes that are given out, below the size; they alone hold ids, and their ids mention live entities alone
 pub record AreLinks (size : ℕ) (entities : List ℕ) (ids : ℕ → List Id) : Type 0 where

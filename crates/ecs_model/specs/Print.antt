@@ -7,7 +7,7 @@ use Rattle.ecs_id.specs.declared.EntityId.{EntityId}
 use Rattle.ecs_id.specs.Id.{Id, plain, pair}
 use Rattle.query_model.specs.declared.faults.Fault.{Fault}
 use Rattle.query_model.specs.declared.faults.FaultKind.{FaultKind}
-use Rattle.query_model.specs.declared.faults.FaultKind.TheVariants.{Lex, Syntax, UnknownName, NotTraversable, UnboundVariable, WildcardSource, WildcardEquality, TooManyTerms, TooManyVariables, TooDeep, NoThis, NotOneTerm}
+use Rattle.query_model.specs.declared.faults.FaultKind.TheVariants.{Lex, Syntax, UnknownName, NotTraversable, UnboundVariable, WildcardSource, WildcardEquality, TooManyTerms, TooManyVariables, TooDeep, NoThis, NotOneTerm, CascadePlace}
 use Rattle.ecs_model.specs.World.{WorldState, name_of, entity_at}
 use Rattle.ecs_model.specs.rows.Rows.{Field, Unset, Shown, Row}
 
@@ -25,6 +25,7 @@ fault_word TooManyVariables = codes "TooManyVariables"
 fault_word TooDeep = codes "TooDeep"
 fault_word NoThis = codes "NoThis"
 fault_word NotOneTerm = codes "NotOneTerm"
+fault_word CascadePlace = codes "CascadePlace"
 
 -- `KIND a..b`
 abbrev pub fault_text : Fault → List ℕ

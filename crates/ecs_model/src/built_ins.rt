@@ -1,4 +1,16 @@
-//! The indexes of the built-in entities that rules of change, of reach and of deletion name.
+//! The indexes of the built-in entities that rules of change, of reach, of deletion, of copying and of queries name.
+
+/// The relationship that leads from an instance to its base.
+pub const IS_A: u32 = 2;
+
+/// The tag of components.
+pub const COMPONENT: u32 = 3;
+
+/// A tag of entities that queries pass over, unless they ask for it.
+pub const PREFAB: u32 = 4;
+
+/// Another such tag.
+pub const DISABLED: u32 = 5;
 
 /// A trait of a relationship: an entity has one target of it.
 pub const EXCLUSIVE: u32 = 6;
@@ -35,3 +47,12 @@ pub const DELETE: u32 = 17;
 
 /// The target of these rules where the deletion is refused.
 pub const PANIC: u32 = 18;
+
+/// The relationship of the rules by which instances get facts of their bases.
+pub const ON_INSTANTIATE: u32 = 19;
+
+/// The target of these rules where instances read the facts on their bases.
+pub const INHERIT: u32 = 21;
+
+/// The target of these rules where instances have nothing of them.
+pub const DONT_INHERIT: u32 = 22;

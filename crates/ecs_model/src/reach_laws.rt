@@ -1,6 +1,6 @@
 //! What is proved of chains, lines and least sets: each function's contract is a law, and its body does nothing.
 
-ghost use Rattle.ecs_model.specs.ReachLaws.{ChainsAreShort, LinesUnfold, ReachComposes, ReachIsComputed, RoundsAreEnough, StepsCloseChains};
+ghost use Rattle.ecs_model.specs.ReachLaws.{ChainsAreShort, DepthsAreOfLongestChains, LinesUnfold, ReachComposes, ReachIsComputed, RoundsAreEnough, StepsCloseChains};
 
 /// Law: as many rounds as there are things to be reached, less one, give the least set that is closed under what follows.
 pub fn rounds_are_enough()
@@ -30,4 +30,9 @@ pub fn reach_is_computed()
 /// Law: where there is no cycle, a line is made of the targets, each followed by its own line.
 pub fn lines_unfold()
     ensures { LinesUnfold }
+{}
+
+/// Law: where there is no cycle, the depth of an entity is the length of the longest chain from it.
+pub fn depths_are_of_longest_chains()
+    ensures { DepthsAreOfLongestChains }
 {}

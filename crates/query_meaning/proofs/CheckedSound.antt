@@ -99,7 +99,7 @@ each_bound ps (o ∷ os) n u e =
 
 last_faults : (k : Known) (ps : List Part) → faults k ps ≡ [] → flat_map (unbound ps) (occurrences ps) ≡ []
 unfolding faults
-last_faults k ps e = right_nil _ (flat_map (unbound ps) (occurrences ps)) e
+last_faults k ps e = right_nil _ (flat_map (unbound ps) (occurrences ps)) (left_nil _ _ e)
 
 -- ---- the pieces
 

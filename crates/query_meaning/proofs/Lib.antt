@@ -7,6 +7,7 @@ pub mod Numbers
 pub mod Named
 pub mod Levels
 pub mod Planned
+pub mod Ordered
 pub mod Plans
 pub mod Cursor
 pub mod Worlds

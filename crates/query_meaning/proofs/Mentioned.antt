@@ -31,17 +31,19 @@ module _ (k : Known) (m : Mention) where
   abbrev pub IsAsChecked : Type 0
   IsAsChecked =
       (k.alive m.entity ≡ true) × (k.traversable (m.entity).index ≡ m.traversable) × (k.transitive (m.entity).index ≡ m.transitive) × (k.reflexive (m.entity).index ≡ m.reflexive)
+      × (k.inherited (m.entity).index ≡ m.inherited)
 
   pub from_checked : is_as_checked k m ≡ true → IsAsChecked
   from_checked h =
       let i = (m.entity).index in
-      let three = and_parts _ (beq (k.reflexive i) m.reflexive) h in
+      let four = and_parts _ (beq (k.inherited i) m.inherited) h in
+      let three = and_parts _ (beq (k.reflexive i) m.reflexive) four.0 in
       let two = and_parts _ (beq (k.transitive i) m.transitive) three.0 in
       let one = and_parts (k.alive m.entity) (beq (k.traversable i) m.traversable) two.0 in
-      (one.0, (booleans_Decides _ _).0 one.1, (booleans_Decides _ _).0 two.1, (booleans_Decides _ _).0 three.1)
+      (one.0, (booleans_Decides _ _).0 one.1, (booleans_Decides _ _).0 two.1, (booleans_Decides _ _).0 three.1, (booleans_Decides _ _).0 four.1)
 
   pub to_checked : IsAsChecked → is_as_checked k m ≡ true
-  to_checked h = and_from _ _ (and_from _ _ (and_from _ _ h.0 ((booleans_Decides _ _).1 h.1)) ((booleans_Decides _ _).1 h.2)) ((booleans_Decides _ _).1 h.3)
+  to_checked h = and_from _ _ (and_from _ _ (and_from _ _ (and_from _ _ h.0 ((booleans_Decides _ _).1 h.1)) ((booleans_Decides _ _).1 h.2)) ((booleans_Decides _ _).1 h.3)) ((booleans_Decides _ _).1 h.4)
 
 -- ---- the mentions of entities in their order
 
@@ -128,7 +130,7 @@ module _ (k : Known) where
 
   first_faults : (ps : List Part) → faults k ps ≡ [] → flat_map (faults_of_use k) (flat_map uses_of ps) ≡ []
   unfolding faults
-  first_faults ps e = left_nil _ _ (left_nil _ _ (left_nil _ _ (left_nil _ _ e)))
+  first_faults ps e = left_nil _ _ (left_nil _ _ (left_nil _ _ (left_nil _ _ (left_nil _ _ e))))
 
   mentions_are : (s : Syntax) → (checked_query k s).mentions ≡ mentions_of k s.parts
   unfolding checked_query
@@ -173,7 +175,7 @@ module _ (w : WorldState) where
   spoken_alive One x i = absurd i
 
   mention_checked : (e : EntityId) → is_alive w e ≡ true → is_as_checked (known_of w) (mention_of (known_of w) e) ≡ true
-  mention_checked e alive = to_checked (known_of w) (mention_of (known_of w) e) (alive, refl, refl, refl)
+  mention_checked e alive = to_checked (known_of w) (mention_of (known_of w) e) (alive, refl, refl, refl, refl)
 
   fold_checked : (us : List Use) (m : Mention) → In m (fold (add_mention (known_of w)) [] (flat_map (mentioned_by (known_of w)) us)) → is_as_checked (known_of w) m ≡ true
   fold_checked us m i =

@@ -12,8 +12,9 @@ use Rattle.query_meaning.proofs.Holding.{In-map_from}
 use Rattle.query_meaning.proofs.Rows.{IsRegular, same_front, same_rest, first_nonempty-keeps, regular_choices, same_parts, same_keys, Extends-binds}
 use Rattle.ecs_model.specs.Links.{reaches}
 use Rattle.query_meaning.specs.Laws.{RowsAreTheirIds}
+use Rattle.query_meaning.proofs.Ordered.{In-from_ordered}
 use Rattle.ecs_model.specs.rows.Level.{Level, also, done, top, unless}
-use Rattle.ecs_model.specs.rows.Rows.{id_shown, row_of, Assignment, Field, Row, Unset, asked, assignments, candidates, closed_fields, fields_at, fields_of_item, fields_of_term, first_nonempty, hits, meant, passes_over, product, rows, rows_under, same_entity, shown, shown_fields, solutions, visible}
+use Rattle.ecs_model.specs.rows.Rows.{id_shown, row_of, Assignment, Field, Row, Unset, asked, assignments, candidates, closed_fields, fields_at, fields_of_item, fields_of_term, first_nonempty, hits, meant, ordered, passes_over, product, rows, rows_under, same_entity, shown, shown_fields, solutions, visible}
 use Rattle.ecs_model.specs.rows.View.{HasNoRepeats, View}
 use Rattle.query_model.specs.Query.{Item, Query, differ, either, equal, may, must}
 use Rattle.query_model.specs.declared.query.Term.{Term}
@@ -100,10 +101,10 @@ module _ (w : View) (keeps : HasNoRepeats w) where
   same_row : (q : Query) (r s : Row) → In r (rows w q) → In s (rows w q) → r.bindings ≡ s.bindings → map id_shown r.fields ≡ map id_shown s.fields → r ≡ s
   unfolding rows
   same_row q r s i j bindings ids =
-      let a = In-flat_map_from (rows_under w q) (candidates w q) r i in
-      let b = In-flat_map_from (rows_under w q) (candidates w q) s j in
-      let x = Extends-from_assignments (visible q) w.entities [] a.0 refl (In-filter_from (λ c. not (passes_over w q c)) (assignments (visible q) w.entities []) a.0 a.1).0 in
-      let y = Extends-from_assignments (visible q) w.entities [] b.0 refl (In-filter_from (λ c. not (passes_over w q c)) (assignments (visible q) w.entities []) b.0 b.1).0 in
+      let a = In-flat_map_from (rows_under w q) (ordered w q (candidates w q)) r i in
+      let b = In-flat_map_from (rows_under w q) (ordered w q (candidates w q)) s j in
+      let x = Extends-from_assignments (visible q) w.entities [] a.0 refl (In-filter_from (λ c. not (passes_over w q c)) (assignments (visible q) w.entities []) a.0 (In-from_ordered w q (candidates w q) a.0 a.1)).0 in
+      let y = Extends-from_assignments (visible q) w.entities [] b.0 refl (In-filter_from (λ c. not (passes_over w q c)) (assignments (visible q) w.entities []) b.0 (In-from_ordered w q (candidates w q) b.0 b.1)).0 in
       let m = In-map_from (row_of a.0) (solutions w (top q) a.0) r a.2 in
       let n = In-map_from (row_of b.0) (solutions w (top q) b.0) s b.2 in
       let same : a.0 ≡ b.0 = same_parts a.0 b.0 (same_keys a.0 b.0 x.in_order y.in_order (Extends-binds (visible q) w.entities a.0 b.0 x y)) (ap (λ z. z.bindings) m.2 ∙ bindings ∙ sym (ap (λ z. z.bindings) n.2)) in

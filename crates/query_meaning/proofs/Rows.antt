@@ -18,12 +18,13 @@ use Rattle.ecs_id.specs.Id.{Id, pair, id_cmp, rank, first_of, target_or_zero}
 use Rattle.query_meaning.proofs.Lists.{AllPairs-from_Distinct, Distinct-from_AllPairs, In, Distinct, In-filter_from, Distinct-filter, Distinct-flat_map}
 use Rattle.query_meaning.proofs.Assignments.{at, binds, same_from_Equal, Extends, Extends-from_assignments, Distinct-assignments}
 use Rattle.query_meaning.proofs.Named.{repeats-range}
+use Rattle.query_meaning.proofs.Ordered.{Distinct-ordered, In-from_ordered}
 use Rattle.query_meaning.proofs.Holding.{In-map_from}
 use Rattle.ecs_model.specs.Links.{reaches}
 use Rattle.ecs_model.specs.Map.{IsMap, Map, keys}
 use Rattle.query_meaning.specs.Laws.{RowsAreDistinct}
 use Rattle.ecs_model.specs.rows.Level.{Level, also, done, top, unless}
-use Rattle.ecs_model.specs.rows.Rows.{row_of, Assignment, Field, Row, Unset, asked, assignments, candidates, closed_fields, fields_at, fields_of_item, fields_of_term, first_nonempty, hits, keeps_one, matches, meant, passes_over, product, rows, rows_under, same_entity, shown, shown_fields, solutions, visible}
+use Rattle.ecs_model.specs.rows.Rows.{row_of, Assignment, Field, Row, Unset, asked, assignments, candidates, closed_fields, fields_at, fields_of_item, fields_of_term, first_nonempty, hits, keeps_one, matches, meant, ordered, passes_over, product, rows, rows_under, same_entity, shown, shown_fields, solutions, visible}
 use Rattle.query_meaning.specs.Variables.{contains}
 use Rattle.ecs_model.specs.rows.View.{HasNoRepeats, View}
 use Rattle.query_model.specs.Query.{Item, Query, differ, either, equal, may, must}
@@ -201,11 +202,12 @@ module _ (w : View) (keeps : HasNoRepeats w) where
   pub Distinct-rows : (q : Query) → Distinct (rows w q)
   unfolding rows
   Distinct-rows q =
-      let extends : (a : Assignment) → In a (candidates w q) → Extends (visible q) w.entities [] a = λ a i.
-      Extends-from_assignments (visible q) w.entities [] a refl (In-filter_from (λ b. not (passes_over w q b)) (assignments (visible q) w.entities []) a i).0 in
-      Distinct-flat_map (rows_under w q) (candidates w q)
+      let extends : (a : Assignment) → In a (ordered w q (candidates w q)) → Extends (visible q) w.entities [] a = λ a i.
+      Extends-from_assignments (visible q) w.entities [] a refl (In-filter_from (λ b. not (passes_over w q b)) (assignments (visible q) w.entities []) a (In-from_ordered w q (candidates w q) a i)).0 in
+      Distinct-flat_map (rows_under w q) (ordered w q (candidates w q))
+      (Distinct-ordered w q (candidates w q)
       (Distinct-filter (λ a. not (passes_over w q a)) (assignments (visible q) w.entities [])
-      (Distinct-assignments (visible q) w.entities [] (Distinct-from_AllPairs w.entities keeps.entities) (repeats-range 0 (length q.variables)) refl))
+      (Distinct-assignments (visible q) w.entities [] (Distinct-from_AllPairs w.entities keeps.entities) (repeats-range 0 (length q.variables)) refl)))
       (λ a i. Distinct-map (row_of a) (λ x y e. ap (λ r. r.fields) e) (solutions w (top q) a) (Distinct-solutions (top q) a))
       (λ a b r i j k l.
       let x = extends a i in

@@ -29,7 +29,7 @@ use Rattle.query_meaning.proofs.Holding.{contains-left, contains-right}
 use Rattle.query_meaning.proofs.OwnOccur.{pieces_from}
 use Rattle.query_meaning.proofs.SoundLevels.{occurs_among}
 
--- ---- what the grammar says: alternatives stand behind a term that must match, and what is behind `up` is a word
+-- ---- what the grammar says: alternatives stand behind a term that must match, and what is behind `up` or `cascade` is a word
 
 -- may says whether an alternative may come first
 abbrev pub are_chained : Bool → List Part → Bool
@@ -92,9 +92,9 @@ mutual
   items_chained (one_item i is) h = item_chained i (items_chained is h)
 
 rise_word : {ts us : List Token} {r : Rise} → IsRise ts us r → is_word_if_written (along_what r) ≡ true
-rise_word up_alone = refl
-rise_word (up_along (plain_word e)) = refl
-rise_word (up_in_brackets (plain_word e)) = refl
+rise_word (up_alone u) = refl
+rise_word (up_along u (plain_word e)) = refl
+rise_word (up_in_brackets u (plain_word e)) = refl
 
 flags_word : {ts us : List Token} {f : Flags} → IsFlags ts us f → is_word_if_written (along_what f.rise) ≡ true
 flags_word self_alone = refl

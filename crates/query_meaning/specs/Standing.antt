@@ -10,7 +10,7 @@ use Rattle.ecs_model.specs.traits.Command.{Command, step}
 use Rattle.ecs_model.specs.traits.Keeps.{IsWellFormed}
 use Rattle.ecs_model.specs.traits.Pins.{with_pins, unpin}
 use Rattle.query_model.specs.Query.{Query, is_current}
-use Rattle.query_meaning.specs.Names.{AreNamesLive, GoesUpWithoutCycles}
+use Rattle.query_meaning.specs.Names.{AreNamesLive, GoesUpWithoutCycles, OrdersWithoutCycles}
 
 -- some text asked the query in some world
 abbrev pub WasAsked : Query → Type 0
@@ -36,6 +36,10 @@ CurrentQueriesNameTheLiving = (w : WorldState) (q : Query) → IsCurrentIn w q �
 -- and asks ancestors along relationships that have no cycle
 abbrev pub CurrentQueriesGoUpWithoutCycles : Type 0
 CurrentQueriesGoUpWithoutCycles = (w : WorldState) (q : Query) → IsWellFormed w → IsCurrentIn w q → GoesUpWithoutCycles (view_of w) q
+
+-- and orders its rows along one that has none
+abbrev pub CurrentQueriesOrderWithoutCycles : Type 0
+CurrentQueriesOrderWithoutCycles = (w : WorldState) (q : Query) → IsWellFormed w → IsCurrentIn w q → OrdersWithoutCycles (view_of w) q
 
 -- a command changes no count of stored queries
 abbrev pub StepsKeepPins : Type 0

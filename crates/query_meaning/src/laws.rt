@@ -1,7 +1,7 @@
 //! What is proved of the rows of queries and of plans: each function's contract is a law, and its body does nothing.
 
 ghost use Rattle.query_meaning.specs.Laws.{CheckedQueriesAreSound, CheckedQueriesGoUpWithoutCycles, CheckedQueriesNameTheLiving, ItemsGoByNumber, LocalByIds, PlansGiveAllRows, PlansGiveRows, RowsAreAnswers, RowsAreDistinct, RowsAreTheirIds, WorldsHaveNoRepeats};
-ghost use Rattle.query_meaning.specs.Standing.{AskedQueriesAreCurrent, CurrentQueriesGoUpWithoutCycles, CurrentQueriesNameTheLiving, PinsKeepQueriesCurrent, PinsKeepViews, StepsKeepPins, StepsKeepQueriesCurrent};
+ghost use Rattle.query_meaning.specs.Standing.{AskedQueriesAreCurrent, CurrentQueriesGoUpWithoutCycles, CurrentQueriesNameTheLiving, CurrentQueriesOrderWithoutCycles, PinsKeepQueriesCurrent, PinsKeepViews, StepsKeepPins, StepsKeepQueriesCurrent};
 
 /// Law: what the others ask of a query, every query has that a text asks.
 pub fn checked_queries_are_sound()
@@ -31,6 +31,11 @@ pub fn current_queries_name_the_living()
 /// Law: a query that is current in a well-formed world asks ancestors along relationships without cycles.
 pub fn current_queries_go_up_without_cycles()
     ensures { CurrentQueriesGoUpWithoutCycles }
+{}
+
+/// Law: a query that is current in a well-formed world orders its rows along a relationship without cycles, where it orders them by depth.
+pub fn current_queries_order_without_cycles()
+    ensures { CurrentQueriesOrderWithoutCycles }
 {}
 
 /// Law: a command changes no count of stored queries.

@@ -6,8 +6,8 @@ use Rattle.query_model.specs.declared.Mark.TheVariants.{Comma, OrOr, Bar, NotEqu
 use Rattle.query_model.specs.declared.syntax.Role.{Role}
 use Rattle.query_model.specs.declared.syntax.Role.TheVariants.{And, Or, Not, Optional}
 use Rattle.query_model.specs.Tokens.{Token, token, span_of, Name, Punct}
-use Rattle.query_model.specs.Syntax.{Reference, at, Var, Rise, none, up, Flags, flags, TermSyntax, Part, term, opened, closed, equality, component, pair_of, applied, with_target, ended_at}
-use Rattle.query_model.specs.Grammar.{IsWord, plain_word, IsReference, word, variable, star, underscore, IsRise, up_alone, up_along, up_in_brackets, IsFlags, self_alone, rise_alone, self_or_rise, IsSource, reference_alone, flags_alone, reference_with_flags, IsArgs, source_alone, source_and_target, IsBody, alone, pair, with_args, IsAccess, access, IsTerm, body, body_behind_access, IsChain, last_alternative, alternative, bang, question, equal, differ, IsItem, terms, operator, operator_behind_access, group, equation, IsItems, last_item, item, IsQuery}
+use Rattle.query_model.specs.Syntax.{Reference, at, Var, RiseWord, Up, Cascade, Rise, none, up, Flags, flags, TermSyntax, Part, term, opened, closed, equality, component, pair_of, applied, with_target, ended_at}
+use Rattle.query_model.specs.Grammar.{IsWord, plain_word, IsReference, word, variable, star, underscore, IsRiseWord, word_up, word_cascade, IsRise, up_alone, up_along, up_in_brackets, IsFlags, self_alone, rise_alone, self_or_rise, IsSource, reference_alone, flags_alone, reference_with_flags, IsArgs, source_alone, source_and_target, IsBody, alone, pair, with_args, IsAccess, access, IsTerm, body, body_behind_access, IsChain, last_alternative, alternative, bang, question, equal, differ, IsItem, terms, operator, operator_behind_access, group, equation, IsItems, last_item, item, IsQuery}
 use Rattle.query_model.specs.Machine.{State, term_next, access_next, body_next, pair_next, behind_flags, behind_first, source_next, behind_source, flags_next, behind_self, rise_next, behind_up, behind_variable, behind_item, Move, emit, word_of, reference_of, joins, item_step, start_step, before_part, behind, run, parts_of}
 
 abbrev Read : Type 0
@@ -49,35 +49,49 @@ module _ (d : ℕ) (role : Role) (ps : List Part) where
       self_goes (token (Punct Bar) s ∷ us) h = cc
       self_goes (x ∷ us) h = h
 
-      module _ (own : Bool) where
-        up_goes : (us : List Token) → Reads us d (behind_flags role (applied valued c source (Some (flags own (up None))))) ps → Reads us d (behind_up role valued c source own) ps
+      module _ (own : Bool) (w : RiseWord) where
+        up_goes : (us : List Token) → Reads us d (behind_flags role (applied valued c source (Some (flags own (up w None))))) ps → Reads us d (behind_up role valued c source own w) ps
         up_goes [] h = h
         up_goes (token (Punct OpenParen) s ∷ us) h = cc
         up_goes (token (Name n) s ∷ us) h = cc
         up_goes (x ∷ us) h = h
 
-        word_goes : {w : Token} {r : Reference} → IsWord w r → (us : List Token) → Reads us d (behind_flags role (applied valued c source (Some (flags own (up (Some r)))))) ps → Reads (w ∷ us) d (behind_up role valued c source own) ps
+        word_goes : {a : Token} {r : Reference} → IsWord a r → (us : List Token) → Reads us d (behind_flags role (applied valued c source (Some (flags own (up w (Some r)))))) ps → Reads (a ∷ us) d (behind_up role valued c source own w) ps
         word_goes (plain_word free) us h = rw free h
 
-        -- a rise, where `up` goes from a state behind it
-        rise_reads : (s : State) → ((p : Span) (us : List Token) → Reads us d (behind_up role valued c source own) ps → Reads (token (Name (codes "up")) p ∷ us) d s ps)
-            → {ts us : List Token} {r : Rise} → IsRise ts us r → Reads us d (behind_flags role (applied valued c source (Some (flags own r)))) ps → Reads ts d s ps
-        rise_reads s go (up_alone {s = p} {ts = us}) h = go p us (up_goes us h)
-        rise_reads s go (up_along {s = p} {w = w} {ts = us} i) h = go p (w ∷ us) (word_goes i us h)
-        rise_reads s go (up_in_brackets {s = p} {s1 = p1} {s2 = p2} {w = w} {ts = us} i) h = go p (token (Punct OpenParen) p1 ∷ w ∷ token (Punct CloseParen) p2 ∷ us) (rw (reads_word i) h)
+      -- a rise, where its word goes from a state behind it
+      rise_reads : (own : Bool) (s : State) → ((u : Token) (w : RiseWord) → IsRiseWord u w → (us : List Token) → Reads us d (behind_up role valued c source own w) ps → Reads (u ∷ us) d s ps)
+          → {ts us : List Token} {r : Rise} → IsRise ts us r → Reads us d (behind_flags role (applied valued c source (Some (flags own r)))) ps → Reads ts d s ps
+      rise_reads own s go (up_alone {u = u} {w = w} {ts = us} i) h = go u w i us (up_goes own w us h)
+      rise_reads own s go (up_along {u = u} {a = a} {w = w} {ts = us} i j) h = go u w i (a ∷ us) (word_goes own w j us h)
+      rise_reads own s go (up_in_brackets {u = u} {a = a} {w = w} {s1 = p1} {s2 = p2} {ts = us} i j) h = go u w i (token (Punct OpenParen) p1 ∷ a ∷ token (Punct CloseParen) p2 ∷ us) (rw (reads_word j) h)
 
-      -- flags, where `self` and `up` go from a state behind them
+      -- from a state behind `self`
+      behind_bar : (u : Token) (w : RiseWord) → IsRiseWord u w → (us : List Token) → Reads us d (behind_up role valued c source true w) ps → Reads (u ∷ us) d (rise_next role valued c source) ps
+      behind_bar u w word_up us g = g
+      behind_bar u w word_cascade us g = g
+
+      -- flags, where `self` and the word of a rise go from a state behind them
       flags_read : (s : State) → ((p : Span) (us : List Token) → Reads us d (behind_self role valued c source) ps → Reads (token (Name (codes "self")) p ∷ us) d s ps)
-          → ((p : Span) (us : List Token) → Reads us d (behind_up role valued c source false) ps → Reads (token (Name (codes "up")) p ∷ us) d s ps)
+          → ((u : Token) (w : RiseWord) → IsRiseWord u w → (us : List Token) → Reads us d (behind_up role valued c source false w) ps → Reads (u ∷ us) d s ps)
           → {ts us : List Token} {f : Flags} → IsFlags ts us f → Reads us d (behind_flags role (applied valued c source (Some f))) ps → Reads ts d s ps
       flags_read s go_self go_up (self_alone {s = p} {ts = us}) h = go_self p us (self_goes us h)
       flags_read s go_self go_up (rise_alone i) h = rise_reads false s go_up i h
-      flags_read s go_self go_up (self_or_rise {s = p} {s1 = p1} {ts = ts} i) h = go_self p (token (Punct Bar) p1 ∷ ts) (rise_reads true (rise_next role valued c source) (λ q us g. g) i h)
+      flags_read s go_self go_up (self_or_rise {s = p} {s1 = p1} {ts = ts} i) h = go_self p (token (Punct Bar) p1 ∷ ts) (rise_reads true (rise_next role valued c source) behind_bar i h)
+
+    -- the word of a rise goes where flags are to come, and where a source is
+    at_flags : (source : Option Reference) (u : Token) (w : RiseWord) → IsRiseWord u w → (us : List Token) → Reads us d (behind_up role valued c source false w) ps → Reads (u ∷ us) d (flags_next role valued c source) ps
+    at_flags source u w word_up us g = g
+    at_flags source u w word_cascade us g = g
+
+    at_source : (u : Token) (w : RiseWord) → IsRiseWord u w → (us : List Token) → Reads us d (behind_up role valued c None false w) ps → Reads (u ∷ us) d (source_next role valued c) ps
+    at_source u w word_up us g = g
+    at_source u w word_cascade us g = g
 
     source_reads : {ts us : List Token} {r : Option Reference} {f : Option Flags} → IsSource ts us r f → Reads us d (behind_flags role (applied valued c r f)) ps → Reads ts d (source_next role valued c) ps
     source_reads (reference_alone {r = r} {ts = us} i) h = rw (reads_reference i) (source_goes r us h)
-    source_reads (flags_alone i) h = flags_read None (source_next role valued c) (λ p us g. g) (λ p us g. g) i h
-    source_reads (reference_with_flags {r = r} i j) h = rw (reads_reference i) (flags_read (Some r) (flags_next role valued c (Some r)) (λ p us g. g) (λ p us g. g) j h)
+    source_reads (flags_alone i) h = flags_read None (source_next role valued c) (λ p us g. g) at_source i h
+    source_reads (reference_with_flags {r = r} i j) h = rw (reads_reference i) (flags_read (Some r) (flags_next role valued c (Some r)) (λ p us g. g) (at_flags (Some r)) j h)
 
 module _ (d : ℕ) (role : Role) (ps : List Part) (valued : Bool) (c : Reference) where
   args_read : {ts us : List Token} {s : Span} {r : Option Reference} {f : Option Flags} {t : Option Reference} → IsArgs ts (token (Punct CloseParen) s ∷ us) r f t

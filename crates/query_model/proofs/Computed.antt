@@ -2,7 +2,7 @@
 use Rattle.std.specs.Prelude.{◌≡◌, ℕ, ◌==◌, true, false, List, codes, bytes_eq, Option, Some, None, Err, is_ok, refl, if◌then◌else◌, Result, Ok}
 use Rattle.ecs_id.specs.declared.EntityId.{EntityId}
 use Rattle.query_model.specs.declared.faults.FaultKind.{FaultKind}
-use Rattle.query_model.specs.declared.faults.FaultKind.TheVariants.{Lex, Syntax, UnknownName, NotTraversable, UnboundVariable, WildcardSource, WildcardEquality, TooManyTerms, TooManyVariables, TooDeep, NoThis, NotOneTerm}
+use Rattle.query_model.specs.declared.faults.FaultKind.TheVariants.{Lex, Syntax, UnknownName, NotTraversable, UnboundVariable, WildcardSource, WildcardEquality, TooManyTerms, TooManyVariables, TooDeep, NoThis, NotOneTerm, CascadePlace}
 use Rattle.query_model.specs.Tokens.{tokens_from, tokens_of}
 use Rattle.query_model.specs.declared.faults.Fault.{Fault}
 use Rattle.query_model.specs.Observers.{monitored, observed}
@@ -28,6 +28,7 @@ sky = record {
   traversable = λ i. i == 65;
   transitive = λ i. i == 65;
   reflexive = λ i. false;
+  inherited = λ i. false;
 }
 
 abbrev Tells : List ℕ → FaultKind → ℕ → ℕ → Type 0
@@ -123,19 +124,19 @@ the_lesser_start_of_two : Tells (codes "Position(*), Moon") WildcardSource 9 10
 unfolding tokens_from tokens_of faults checked_query query_of
 the_lesser_start_of_two = refl
 
--- the 33rd term, which is both too many and unknown
-the_33rd_term : Tells (codes "Sun,Sun,Sun,Sun,Sun,Sun,Sun,Sun,Sun,Sun,Sun,Sun,Sun,Sun,Sun,Sun,Sun,Sun,Sun,Sun,Sun,Sun,Sun,Sun,Sun,Sun,Sun,Sun,Sun,Sun,Sun,Sun,(Orbits,*)") TooManyTerms 128 138
+-- the 65th term, which is both too many and unknown
+the_65th_term : Tells (codes "Sun,Sun,Sun,Sun,Sun,Sun,Sun,Sun,Sun,Sun,Sun,Sun,Sun,Sun,Sun,Sun,Sun,Sun,Sun,Sun,Sun,Sun,Sun,Sun,Sun,Sun,Sun,Sun,Sun,Sun,Sun,Sun,Sun,Sun,Sun,Sun,Sun,Sun,Sun,Sun,Sun,Sun,Sun,Sun,Sun,Sun,Sun,Sun,Sun,Sun,Sun,Sun,Sun,Sun,Sun,Sun,Sun,Sun,Sun,Sun,Sun,Sun,Sun,Sun,(Orbits,*)") TooManyTerms 256 266
 unfolding tokens_from tokens_of faults checked_query query_of
-the_33rd_term = refl
+the_65th_term = refl
 
 -- of two faults at one place the lesser kind
-the_33rd_term_unknown : Tells (codes "Sun,Sun,Sun,Sun,Sun,Sun,Sun,Sun,Sun,Sun,Sun,Sun,Sun,Sun,Sun,Sun,Sun,Sun,Sun,Sun,Sun,Sun,Sun,Sun,Sun,Sun,Sun,Sun,Sun,Sun,Sun,Sun,Moon") UnknownName 128 132
+the_65th_term_unknown : Tells (codes "Sun,Sun,Sun,Sun,Sun,Sun,Sun,Sun,Sun,Sun,Sun,Sun,Sun,Sun,Sun,Sun,Sun,Sun,Sun,Sun,Sun,Sun,Sun,Sun,Sun,Sun,Sun,Sun,Sun,Sun,Sun,Sun,Sun,Sun,Sun,Sun,Sun,Sun,Sun,Sun,Sun,Sun,Sun,Sun,Sun,Sun,Sun,Sun,Sun,Sun,Sun,Sun,Sun,Sun,Sun,Sun,Sun,Sun,Sun,Sun,Sun,Sun,Sun,Sun,Moon") UnknownName 256 260
 unfolding tokens_from tokens_of faults checked_query query_of
-the_33rd_term_unknown = refl
+the_65th_term_unknown = refl
 
-the_17th_name : Tells (codes "Sun($a),Sun($b),Sun($c),Sun($d),Sun($e),Sun($f),Sun($g),Sun($h),Sun($i),Sun($j),Sun($k),Sun($l),Sun($m),Sun($n),Sun($o),Sun($p),Sun($q)") TooManyVariables 132 134
+the_33rd_name : Tells (codes "Sun($a),Sun($b),Sun($c),Sun($d),Sun($e),Sun($f),Sun($g),Sun($h),Sun($i),Sun($j),Sun($k),Sun($l),Sun($m),Sun($n),Sun($o),Sun($p),Sun($q),Sun($r),Sun($s),Sun($t),Sun($u),Sun($v),Sun($w),Sun($x),Sun($y),Sun($z),Sun($A),Sun($B),Sun($C),Sun($D),Sun($E),Sun($F),Sun($G)") TooManyVariables 260 262
 unfolding tokens_from tokens_of faults checked_query query_of
-the_17th_name = refl
+the_33rd_name = refl
 
 accepted-1 : Accepts (codes "Sun, Position")
 unfolding tokens_from tokens_of faults checked_query query_of
@@ -164,6 +165,70 @@ accepted-6 = refl
 accepted-7 : Accepts (codes "!{ !{ !{ !{ Sun } } } }")
 unfolding tokens_from tokens_of faults checked_query query_of
 accepted-7 = refl
+
+cascade_alone : Accepts (codes "Position(cascade Orbits)")
+unfolding tokens_from tokens_of faults checked_query query_of
+cascade_alone = refl
+
+cascade_behind_self : Accepts (codes "Sun, Position(self|cascade(Orbits))")
+unfolding tokens_from tokens_of faults checked_query query_of
+cascade_behind_self = refl
+
+cascade_behind_this : Accepts (codes "Position($this|self|cascade Orbits, $x), Sun($x)")
+unfolding tokens_from tokens_of faults checked_query query_of
+cascade_behind_this = refl
+
+cascade_of_an_optional_term : Accepts (codes "?Position(cascade Orbits)")
+unfolding tokens_from tokens_of faults checked_query query_of
+cascade_of_an_optional_term = refl
+
+cascade_of_an_alternative : Accepts (codes "Sun || Position(cascade Orbits)")
+unfolding tokens_from tokens_of faults checked_query query_of
+cascade_of_an_alternative = refl
+
+cascade_in_a_group : Tells (codes "!{ Position(cascade Orbits) }") CascadePlace 12 19
+unfolding tokens_from tokens_of faults checked_query query_of
+cascade_in_a_group = refl
+
+cascade_of_a_not_term : Tells (codes "!Position(cascade Orbits)") CascadePlace 10 17
+unfolding tokens_from tokens_of faults checked_query query_of
+cascade_of_a_not_term = refl
+
+cascade_of_a_name : Tells (codes "Position(Sun|cascade Orbits)") CascadePlace 13 20
+unfolding tokens_from tokens_of faults checked_query query_of
+cascade_of_a_name = refl
+
+cascade_of_a_variable : Tells (codes "Sun($x), Position($x|self|cascade Orbits)") CascadePlace 26 33
+unfolding tokens_from tokens_of faults checked_query query_of
+cascade_of_a_variable = refl
+
+a_second_cascade : Tells (codes "Position(cascade Orbits), Sun(up Orbits), Sun(cascade Orbits)") CascadePlace 46 53
+unfolding tokens_from tokens_of faults checked_query query_of
+a_second_cascade = refl
+
+a_second_cascade_in_one_chain : Tells (codes "Position(cascade Orbits) || Sun(cascade Orbits)") CascadePlace 32 39
+unfolding tokens_from tokens_of faults checked_query query_of
+a_second_cascade_in_one_chain = refl
+
+cascade_along_what_is_not_traversable : Tells (codes "Position(cascade Sun)") NotTraversable 17 20
+unfolding tokens_from tokens_of faults checked_query query_of
+cascade_along_what_is_not_traversable = refl
+
+a_misplaced_cascade_before_its_relationship : Tells (codes "!Position(cascade Sun)") CascadePlace 10 17
+unfolding tokens_from tokens_of faults checked_query query_of
+a_misplaced_cascade_before_its_relationship = refl
+
+cascade_along_a_wildcard : Tells (codes "Position(cascade *)") Syntax 17 18
+unfolding tokens_from tokens_of faults checked_query query_of
+cascade_along_a_wildcard = refl
+
+cascade_as_a_component : Tells (codes "cascade") Syntax 0 7
+unfolding tokens_from tokens_of faults checked_query query_of
+cascade_as_a_component = refl
+
+cascade_before_self : Tells (codes "Position(cascade|self)") Syntax 16 17
+unfolding tokens_from tokens_of faults checked_query query_of
+cascade_before_self = refl
 
 a_monitor_without_this : TellsOf monitored (codes "Sun($x)") NoThis 0 7
 unfolding tokens_from tokens_of faults checked_query query_of

@@ -86,11 +86,11 @@ reference_passes position {ts = ts} low (star {s = s}) h = record { high = s.sta
 reference_passes position {ts = ts} low (underscore {s = s}) h = record { high = s.start; through = (h.0, omega arith); rises = h.1 }
 
 rise_passes : {ts us : List Token} {r : Rise} (low : ℕ) → IsRise ts us r → Rises low ts → Passes low (written Risen (along_what r)) us
-rise_passes low (up_alone {s = s} {ts = ts}) h = record { high = s.start; through = h.0; rises = h.1 }
-rise_passes low (up_along {s = s} {w = w} {r = r} {ts = ts} i) h = passes_from low s.start (written Risen (Some r)) ts h.0 (reference_passes Risen s.start (word i) h.1)
-rise_passes low (up_in_brackets {s = s} {s1 = s1} {s2 = s2} {w = w} {r = r} {ts = ts} i) h =
-    passes_from low s.start (written Risen (Some r)) ts h.0
-    (passes_from s.start s1.start (written Risen (Some r)) ts h.1.0
+rise_passes low (up_alone {u = u} {ts = ts} k) h = record { high = (span_of u).start; through = h.0; rises = h.1 }
+rise_passes low (up_along {u = u} {r = r} {ts = ts} k i) h = passes_from low (span_of u).start (written Risen (Some r)) ts h.0 (reference_passes Risen (span_of u).start (word i) h.1)
+rise_passes low (up_in_brackets {u = u} {s1 = s1} {s2 = s2} {r = r} {ts = ts} k i) h =
+    passes_from low (span_of u).start (written Risen (Some r)) ts h.0
+    (passes_from (span_of u).start s1.start (written Risen (Some r)) ts h.1.0
     (closed_behind s1.start (written Risen (Some r)) (token (Punct CloseParen) s2) ts (reference_passes Risen s1.start (word i) h.1.1)))
 
 flags_pass : {ts us : List Token} {f : Flags} (low : ℕ) → IsFlags ts us f → Rises low ts → Passes low (written Risen (along_what f.rise)) us

@@ -1,6 +1,6 @@
 -- What the machine reads, the grammar relates to the tokens: for each state the tails, the tokens and parts with which some form goes on there.
 use Rattle.std.proofs.Common.{◌≡◌, ℕ, suc, zero, Bool, true, false, List, [], ◌∷◌, Option, Some, None, Result, Ok, Err, refl, sym, subst, inl, inr, ◌∙◌}
-use Rattle.std.specs.Prelude.{codes, bytes_eq}
+use Rattle.std.specs.Prelude.{codes, bytes_eq, if◌then◌else◌}
 use Rattle.std.proofs.lemmas.Bool.{cases_Bool}
 use Rattle.std.proofs.lemmas.Slice.Eq.{bytes_eq-Decides}
 use Rattle.query_model.specs.declared.Span.{Span}
@@ -9,8 +9,8 @@ use Rattle.query_model.specs.declared.Mark.TheVariants.{Comma, OrOr, Bar, NotEqu
 use Rattle.query_model.specs.declared.syntax.Role.{Role}
 use Rattle.query_model.specs.declared.syntax.Role.TheVariants.{And, Or, Not, Optional}
 use Rattle.query_model.specs.Tokens.{Token, token, span_of, Name, Variable, Punct, End}
-use Rattle.query_model.specs.Syntax.{Spoken, Reference, at, Word, Var, Rise, none, up, Flags, flags, TermSyntax, Part, term, opened, closed, equality, component, pair_of, applied, with_target, ended_at}
-use Rattle.query_model.specs.Grammar.{is_access, shows_values, IsWord, plain_word, IsReference, word, variable, star, underscore, IsRise, up_alone, up_along, up_in_brackets, IsFlags, self_alone, rise_alone, self_or_rise, IsSource, reference_alone, flags_alone, reference_with_flags, source_alone, source_and_target, IsBody, alone, pair, with_args, IsAccess, access, IsTerm, body, body_behind_access, IsChain, last_alternative, alternative, IsOperator, bang, question, IsEquals, equal, differ, IsItem, terms, operator, operator_behind_access, group, equation, IsItems, last_item, item, IsQuery}
+use Rattle.query_model.specs.Syntax.{Spoken, Reference, at, Word, Var, RiseWord, Up, Cascade, Rise, none, up, Flags, flags, TermSyntax, Part, term, opened, closed, equality, component, pair_of, applied, with_target, ended_at}
+use Rattle.query_model.specs.Grammar.{is_access, shows_values, IsWord, plain_word, IsReference, word, variable, star, underscore, IsRiseWord, word_up, word_cascade, IsRise, up_alone, up_along, up_in_brackets, IsFlags, self_alone, rise_alone, self_or_rise, IsSource, reference_alone, flags_alone, reference_with_flags, source_alone, source_and_target, IsBody, alone, pair, with_args, IsAccess, access, IsTerm, body, body_behind_access, IsChain, last_alternative, alternative, IsOperator, bang, question, IsEquals, equal, differ, IsItem, terms, operator, operator_behind_access, group, equation, IsItems, last_item, item, IsQuery}
 use Rattle.query_model.specs.Machine.{State, term_next, access_next, behind_access_word, body_next, pair_next, behind_pair_first, target_next, behind_target, behind_flags, behind_along, behind_first, source_next, behind_source, flags_next, behind_self, rise_next, behind_up, along_next, behind_variable, other_side, behind_item, finished, Move, to, word_of, reference_of, on, joins, item_step, start_step, plain_term_step, args_step, rise_word_step, flags_step, before_part, behind, run, parts_of}
 use Rattle.query_model.proofs.Complete.{Reads, emitted}
 
@@ -75,9 +75,6 @@ data Term : ℕ → Role → List Token → List Part → Type 0 where
 data Other : ℕ → Reference → Bool → List Token → List Part → Type 0 where
   other : {d : ℕ} {r q : Reference} {same : Bool} {a : Token} {ts : List Token} {ps : List Part} → IsReference a q → After d ts ps → Other d r same (a ∷ ts) (equality r same q ∷ ps)
 
-abbrev up_word : Span → Token
-up_word s = token (Name (codes "up")) s
-
 abbrev self_word : Span → Token
 self_word s = token (Name (codes "self")) s
 
@@ -99,8 +96,8 @@ Tail d (behind_source role v c r) ts ps = (us : List Token) × (f : Option Flags
 Tail d (flags_next role v c source) ts ps = (us : List Token) × (f : Flags) × IsFlags ts us f × Args d role (applied v c source (Some f)) us ps
 Tail d (behind_self role v c source) ts ps = (us : List Token) × (f : Flags) × ((s : Span) → IsFlags (self_word s ∷ ts) us f) × Args d role (applied v c source (Some f)) us ps
 Tail d (rise_next role v c source) ts ps = (us : List Token) × (r : Rise) × IsRise ts us r × Args d role (applied v c source (Some (flags true r))) us ps
-Tail d (behind_up role v c source own) ts ps = (us : List Token) × (r : Rise) × ((s : Span) → IsRise (up_word s ∷ ts) us r) × Args d role (applied v c source (Some (flags own r))) us ps
-Tail d (along_next role v c source own) ts ps = (us : List Token) × (r : Rise) × ((s s1 : Span) → IsRise (up_word s ∷ token (Punct OpenParen) s1 ∷ ts) us r) × Args d role (applied v c source (Some (flags own r))) us ps
+Tail d (behind_up role v c source own w) ts ps = (us : List Token) × (r : Rise) × ((u : Token) → IsRiseWord u w → IsRise (u ∷ ts) us r) × Args d role (applied v c source (Some (flags own r))) us ps
+Tail d (along_next role v c source own w) ts ps = (us : List Token) × (r : Rise) × ((u : Token) (s1 : Span) → IsRiseWord u w → IsRise (u ∷ token (Punct OpenParen) s1 ∷ ts) us r) × Args d role (applied v c source (Some (flags own r))) us ps
 Tail d (behind_variable v s) ts ps = Items d (token (Variable v) s ∷ ts) ps
 Tail d (other_side r same) ts ps = Other d r same ts ps
 Tail d (behind_item joined) ts ps = Ended d joined ts ps
@@ -299,14 +296,24 @@ module _ (xs : List Token) (next : Sound xs) where
 
   module _ (d : ℕ) (role : Role) (v : Bool) (c : Reference) where
     module _ (source : Option Reference) where
-      rise_word_sound : (own : Bool) (n : List ℕ) (s : Span) (ps : List Part) → behind s (run xs) (rise_word_step d role v c source own n) ≡ Ok ps
+      cascade_sound : (own : Bool) (n : List ℕ) (s : Span) (ps : List Part) → behind s (run xs) (if bytes_eq n (codes "cascade") then to d (behind_up role v c source own (Cascade s)) else None) ≡ Ok ps
+          → (us : List Token) × (r : Rise) × IsRise (token (Name n) s ∷ xs) us r × Args d role (applied v c source (Some (flags own r))) us ps
+      cascade_sound own n s ps h = elim (cases_Bool (bytes_eq n (codes "cascade"))) [
+        | inl is_cascade ↦
+            let e : n ≡ codes "cascade" = (bytes_eq-Decides n (codes "cascade")).0 is_cascade in
+            let u = next d (behind_up role v c source own (Cascade s)) ps (rw is_cascade at h) in
+            (u.0, u.1, subst (λ m. IsRise (token (Name m) s ∷ xs) u.0 u.1) (sym e) (u.2 (token (Name (codes "cascade")) s) word_cascade), u.3)
+        | inr is_not ↦ let g = rw is_not at h in cc
+      ]
+
+      rise_word_sound : (own : Bool) (n : List ℕ) (s : Span) (ps : List Part) → behind s (run xs) (rise_word_step d role v c source own n s) ≡ Ok ps
           → (us : List Token) × (r : Rise) × IsRise (token (Name n) s ∷ xs) us r × Args d role (applied v c source (Some (flags own r))) us ps
       rise_word_sound own n s ps h = elim (cases_Bool (bytes_eq n (codes "up"))) [
         | inl is_up ↦
             let e : n ≡ codes "up" = (bytes_eq-Decides n (codes "up")).0 is_up in
-            let u = next d (behind_up role v c source own) ps (rw is_up at h) in
-            (u.0, u.1, subst (λ m. IsRise (token (Name m) s ∷ xs) u.0 u.1) (sym e) (u.2 s), u.3)
-        | inr is_not ↦ let g = rw is_not at h in cc
+            let u = next d (behind_up role v c source own Up) ps (rw is_up at h) in
+            (u.0, u.1, subst (λ m. IsRise (token (Name m) s ∷ xs) u.0 u.1) (sym e) (u.2 (token (Name (codes "up")) s) word_up), u.3)
+        | inr is_not ↦ cascade_sound own n s ps (rw is_not at h)
       ]
 
       rise_sound : (x : Token) (ps : List Part) → Reads (x ∷ xs) d (rise_next role v c source) ps → Tail d (rise_next role v c source) (x ∷ xs) ps
@@ -327,27 +334,27 @@ module _ (xs : List Token) (next : Sound xs) where
       self_sound (token (Punct Bar) p) ps h = let u = next d (rise_next role v c source) ps h in (u.0, flags true u.1, (λ s. self_or_rise u.2), u.3)
       self_sound x ps h = (x ∷ xs, flags true none, (λ s. self_alone), args_sound d role (applied v c source (Some (flags true none))) x ps h)
 
-      module _ (own : Bool) where
-        up_word_sound : (x : Token) (ps : List Part) → behind (span_of x) (run xs) (on (word_of x) (λ r. to d (behind_flags role (applied v c source (Some (flags own (up (Some r))))))) (args_step d role (applied v c source (Some (flags own (up None)))) x)) ≡ Ok ps
-            → Tail d (behind_up role v c source own) (x ∷ xs) ps
+      module _ (own : Bool) (w : RiseWord) where
+        up_word_sound : (x : Token) (ps : List Part) → behind (span_of x) (run xs) (on (word_of x) (λ r. to d (behind_flags role (applied v c source (Some (flags own (up w (Some r))))))) (args_step d role (applied v c source (Some (flags own (up w None)))) x)) ≡ Ok ps
+            → Tail d (behind_up role v c source own w) (x ∷ xs) ps
         up_word_sound x ps h = elim (word_view x) [
-          | is_word r i e ↦ (xs, up (Some r), (λ s. up_along i), next d (behind_flags role (applied v c source (Some (flags own (up (Some r)))))) ps (rw e at h))
-          | no_word e ↦ (x ∷ xs, up None, (λ s. up_alone), args_sound d role (applied v c source (Some (flags own (up None)))) x ps (rw e at h))
+          | is_word r i e ↦ (xs, up w (Some r), (λ u k. up_along k i), next d (behind_flags role (applied v c source (Some (flags own (up w (Some r)))))) ps (rw e at h))
+          | no_word e ↦ (x ∷ xs, up w None, (λ u k. up_alone k), args_sound d role (applied v c source (Some (flags own (up w None)))) x ps (rw e at h))
         ]
 
-        up_sound : (x : Token) (ps : List Part) → Reads (x ∷ xs) d (behind_up role v c source own) ps → Tail d (behind_up role v c source own) (x ∷ xs) ps
-        up_sound (token (Punct OpenParen) p) ps h = let u = next d (along_next role v c source own) ps h in (u.0, u.1, (λ s. u.2 s p), u.3)
+        up_sound : (x : Token) (ps : List Part) → Reads (x ∷ xs) d (behind_up role v c source own w) ps → Tail d (behind_up role v c source own w) (x ∷ xs) ps
+        up_sound (token (Punct OpenParen) p) ps h = let u = next d (along_next role v c source own w) ps h in (u.0, u.1, (λ a k. u.2 a p k), u.3)
         up_sound x ps h = up_word_sound x ps h
 
-        along_next_sound : (x : Token) (ps : List Part) → Reads (x ∷ xs) d (along_next role v c source own) ps → Tail d (along_next role v c source own) (x ∷ xs) ps
+        along_next_sound : (x : Token) (ps : List Part) → Reads (x ∷ xs) d (along_next role v c source own w) ps → Tail d (along_next role v c source own w) (x ∷ xs) ps
         along_next_sound x ps h = elim (word_view x) [
-          | is_word r i e ↦ bracketed r i (next d (behind_along role (applied v c source (Some (flags own (up (Some r)))))) ps (rw e at h))
+          | is_word r i e ↦ bracketed r i (next d (behind_along role (applied v c source (Some (flags own (up w (Some r)))))) ps (rw e at h))
           | no_word e ↦ let g = rw e at h in cc
         ]
           where
-            bracketed : (r : Reference) → IsWord x r → {ts : List Token} → Along d role (applied v c source (Some (flags own (up (Some r))))) ts ps
-                → (us : List Token) × (q : Rise) × ((s s1 : Span) → IsRise (up_word s ∷ token (Punct OpenParen) s1 ∷ x ∷ ts) us q) × Args d role (applied v c source (Some (flags own q))) us ps
-            bracketed r i (along {ts = us} a) = (us, up (Some r), (λ s s1. up_in_brackets i), a)
+            bracketed : (r : Reference) → IsWord x r → {ts : List Token} → Along d role (applied v c source (Some (flags own (up w (Some r))))) ts ps
+                → (us : List Token) × (q : Rise) × ((u : Token) (s1 : Span) → IsRiseWord u w → IsRise (u ∷ token (Punct OpenParen) s1 ∷ x ∷ ts) us q) × Args d role (applied v c source (Some (flags own q))) us ps
+            bracketed r i (along {ts = us} a) = (us, up w (Some r), (λ u s1 k. up_in_brackets k i), a)
 
     behind_source_sound : (r : Reference) (x : Token) (ps : List Part) → Reads (x ∷ xs) d (behind_source role v c r) ps → Tail d (behind_source role v c r) (x ∷ xs) ps
     behind_source_sound r (token (Punct Bar) s) ps h = let u = next d (flags_next role v c (Some r)) ps h in (u.0, Some u.1, (λ a i. reference_with_flags i u.2), u.3)
@@ -376,8 +383,8 @@ module _ (xs : List Token) (next : Sound xs) where
   token_sound x d (flags_next role v c source) ps h = flags_sound d role v c source x ps h
   token_sound x d (behind_self role v c source) ps h = self_sound d role v c source x ps h
   token_sound x d (rise_next role v c source) ps h = rise_sound d role v c source x ps h
-  token_sound x d (behind_up role v c source own) ps h = up_sound d role v c source own x ps h
-  token_sound x d (along_next role v c source own) ps h = along_next_sound d role v c source own x ps h
+  token_sound x d (behind_up role v c source own w) ps h = up_sound d role v c source own w x ps h
+  token_sound x d (along_next role v c source own w) ps h = along_next_sound d role v c source own w x ps h
   token_sound x d (behind_variable v s) ps h = variable_sound d v s x ps h
   token_sound x d (other_side r same) ps h = other_sound d r same x ps h
   token_sound x d (behind_item joined) ps h = ended_sound d joined x ps h

@@ -16,7 +16,7 @@ use Rattle.query_model.specs.Uses.{Use, risen, uses_of, uses_of_term, written}
 use Rattle.query_model.specs.Scope.{Sighting, sightings}
 use Rattle.query_model.specs.Numbers.{Variable, variables}
 use Rattle.query_model.specs.Check.{Known, faults, faults_of_use}
-use Rattle.query_model.specs.Query.{Piece, Query, chain_of, check_of, checked_equality, checked_query, checked_term, follows, is_definite_target, pieces_of, pieces_of_part, ref_of, source_of, up_of}
+use Rattle.query_model.specs.Query.{Piece, Query, chain_of, check_of, checked_equality, checked_query, checked_term, follows, is_a, is_definite_target, is_inherited, pieces_of, pieces_of_part, ref_of, source_of, up_of}
 use Rattle.query_model.specs.Local.{is_name}
 use Rattle.query_model.specs.Sound.{TermsAreSound, has_definite_target, is_definite_ref, is_sound_item, is_sound_piece, is_sound_term}
 
@@ -36,12 +36,14 @@ no_faults : (fs : List Fault) → least_from None fs ≡ None → fs ≡ []
 no_faults [] e = refl
 no_faults (f ∷ fs) e = absurd (some_least f fs e)
 
--- a closed term, by what is known of its first reference, of its target and of its ancestors
-closed_sound : (follow name definite sound none : Bool) → (follow ≡ true → name ≡ true) → (definite ≡ true → sound ≡ true) → (not (follow && definite && none) || name && sound && none) ≡ true
-closed_sound false name definite sound none f d = refl
-closed_sound true name false sound none f d = refl
-closed_sound true name true sound false f d = refl
-closed_sound true name true sound true f d = rw (f refl, d refl) refl
+-- a closed term, by what is known of its first reference, of its target and of its ancestors: such a term reads no bases
+closed_sound : (follow name definite sound plain inherited : Bool) (risen : Option ℕ) → (follow ≡ true → name ≡ true) → (definite ≡ true → sound ≡ true)
+    → (not (follow && definite && is_none risen) || name && sound && is_none (if plain && not (follow && definite && is_none risen) && inherited then Some is_a else risen)) ≡ true
+closed_sound false name definite sound plain inherited risen f d = refl
+closed_sound true name false sound plain inherited risen f d = refl
+closed_sound true name true sound plain inherited (Some r) f d = refl
+closed_sound true name true sound true inherited None f d = rw (f refl, d refl) refl
+closed_sound true name true sound false inherited None f d = rw (f refl, d refl) refl
 
 module _ (k : Known) where
   abbrev Faultless : List Use → Type 0
@@ -94,7 +96,7 @@ module _ (k : Known) where
         let g = written Target t.target in
         let source : Faultless s = faultless_right c s (faultless_left (c ++ s) r (faultless_left (c ++ s ++ r) g e)) in
         rw (sources_sound t.source source)
-        (closed_sound (follows k (t.first).spoken) _ (is_definite_target t.target) _ (is_none (up_of k t.flags)) (first_is_name (t.first).spoken (t.first).span) (target_sound t.target))
+        (closed_sound (follows k (t.first).spoken) _ (is_definite_target t.target) _ (is_none t.flags) (is_inherited k (t.first).spoken) (up_of k t.flags) (first_is_name (t.first).spoken (t.first).span) (target_sound t.target))
 
     alternatives_sound : (ps : List Part) → Faultless (flat_map uses_of ps) → list_all is_sound_term (map (checked_term k all vs path) (alternatives ps)) ≡ true
     alternatives_sound [] e = refl
@@ -144,7 +146,7 @@ module _ (k : Known) where
 
   first_faults : (ps : List Part) → faults k ps ≡ [] → Faultless (flat_map uses_of ps)
   unfolding faults
-  first_faults ps e = left_nil _ _ (left_nil _ _ (left_nil _ _ (left_nil _ _ e)))
+  first_faults ps e = left_nil _ _ (left_nil _ _ (left_nil _ _ (left_nil _ _ (left_nil _ _ e))))
 
   query_sound : (s : Syntax) → faults k s.parts ≡ [] → list_all is_sound_piece (checked_query k s).pieces ≡ true
   unfolding checked_query

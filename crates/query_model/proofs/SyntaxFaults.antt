@@ -6,7 +6,7 @@ use Rattle.query_model.specs.declared.Mark.TheVariants.{Comma, CloseParen, Close
 use Rattle.query_model.specs.declared.syntax.Role.{Role}
 use Rattle.query_model.specs.declared.syntax.Role.TheVariants.{And, Or, Not, Optional}
 use Rattle.query_model.specs.Tokens.{Token, token, span_of, Name, Punct, End}
-use Rattle.query_model.specs.Syntax.{Spoken, Reference, at, Var, up, flags, none, TermSyntax, Part, term, closed, equality, component, pair_of, applied, with_target, ended_at}
+use Rattle.query_model.specs.Syntax.{Spoken, Reference, at, Var, Up, up, flags, none, TermSyntax, Part, term, closed, equality, component, pair_of, applied, with_target, ended_at}
 use Rattle.query_model.specs.Grammar.{star, IsQuery, BeginsQuery, IsSyntaxFault}
 use Rattle.query_model.specs.Machine.{State, term_next, access_next, behind_access_word, body_next, pair_next, behind_pair_first, target_next, behind_target, behind_flags, behind_along, behind_first, source_next, behind_source, flags_next, behind_self, rise_next, behind_up, along_next, behind_variable, other_side, behind_item, finished, Move, joins, term_step, body_step, step, before_part, before_parts, behind, run, parts_of}
 use Rattle.query_model.specs.Laws.{OneSyntax, EndsInEnd, PartsAreGrammatical}
@@ -32,7 +32,7 @@ item_alive zero joined = (token End nowhere ∷ [], [], refl)
 item_alive (suc d) joined = let a = item_alive d false in (token (Punct CloseBrace) nowhere ∷ a.0, closed ∷ a.1, ap (before_part closed) a.2)
 
 module _ (d : ℕ) (role : Role) where
-  -- with a bracket, a target and a bracket, or `up` and a bracket at the end of a term
+  -- with a bracket, a target and a bracket, or `up` or `cascade` and a bracket at the end of a term
   args_alive : (t : TermSyntax) → Alive d (behind_flags role t)
   args_alive t =
       let a = item_alive d (joins role) in
@@ -71,9 +71,9 @@ alive d (source_next role v c) = let a = target_alive d role (applied v c (Some 
 alive d (behind_source role v c r) = let a = target_alive d role (applied v c (Some r) None) in (token (Punct Comma) nowhere ∷ a.0, a.1, a.2)
 alive d (flags_next role v c source) = let a = target_alive d role (applied v c source (Some (flags true none))) in (token (Name (codes "self")) nowhere ∷ token (Punct Comma) nowhere ∷ a.0, a.1, a.2)
 alive d (behind_self role v c source) = let a = target_alive d role (applied v c source (Some (flags true none))) in (token (Punct Comma) nowhere ∷ a.0, a.1, a.2)
-alive d (rise_next role v c source) = let a = target_alive d role (applied v c source (Some (flags true (up None)))) in (token (Name (codes "up")) nowhere ∷ token (Punct Comma) nowhere ∷ a.0, a.1, a.2)
-alive d (behind_up role v c source own) = let a = target_alive d role (applied v c source (Some (flags own (up None)))) in (token (Punct Comma) nowhere ∷ a.0, a.1, a.2)
-alive d (along_next role v c source own) = let a = args_alive d role (applied v c source (Some (flags own (up (Some (at (Spoken.Word (codes "a")) nowhere)))))) in (token (Name (codes "a")) nowhere ∷ token (Punct CloseParen) nowhere ∷ a.0, a.1, a.2)
+alive d (rise_next role v c source) = let a = target_alive d role (applied v c source (Some (flags true (up Up None)))) in (token (Name (codes "up")) nowhere ∷ token (Punct Comma) nowhere ∷ a.0, a.1, a.2)
+alive d (behind_up role v c source own w) = let a = target_alive d role (applied v c source (Some (flags own (up w None)))) in (token (Punct Comma) nowhere ∷ a.0, a.1, a.2)
+alive d (along_next role v c source own w) = let a = args_alive d role (applied v c source (Some (flags own (up w (Some (at (Spoken.Word (codes "a")) nowhere)))))) in (token (Name (codes "a")) nowhere ∷ token (Punct CloseParen) nowhere ∷ a.0, a.1, a.2)
 alive d (behind_variable v s) = let a = first_alive d And true (at (Var v) s) in (a.0, a.1, variable_goes d v s a.1 a.0 a.2)
 alive d (other_side r same) = let a = item_alive d false in let p : Part = equality r same (at Spoken.Any nowhere) in (token (Punct Star) nowhere ∷ a.0, p ∷ a.1, ap (before_part p) a.2)
 alive d (behind_item joined) = item_alive d joined

@@ -6,13 +6,14 @@ use Rattle.ecs_id.specs.declared.EntityId.{EntityId}
 use Rattle.query_model.specs.declared.Span.{Span}
 use Rattle.query_model.specs.declared.faults.Fault.{Fault}
 use Rattle.query_model.specs.declared.faults.FaultKind.{FaultKind}
-use Rattle.query_model.specs.declared.faults.FaultKind.TheVariants.{UnknownName, NotTraversable, UnboundVariable, WildcardSource, WildcardEquality, TooManyTerms, TooManyVariables, TooDeep}
+use Rattle.query_model.specs.declared.faults.FaultKind.TheVariants.{UnknownName, NotTraversable, UnboundVariable, WildcardSource, WildcardEquality, TooManyTerms, TooManyVariables, TooDeep, CascadePlace}
 use Rattle.query_model.specs.declared.query.Position.{Position}
 use Rattle.query_model.specs.declared.query.Position.TheVariants.{Source, Risen, Right}
 use Rattle.query_model.specs.Faults.{fault_at}
 use Rattle.query_model.specs.Syntax.{Spoken, Word, Any, One, Part, term, opened, equality}
 use Rattle.query_model.specs.Levels.{Path, placed_parts}
 use Rattle.query_model.specs.Uses.{Use, uses_of}
+use Rattle.query_model.specs.Cascades.{Cascading, cascades, misplaced}
 use Rattle.query_model.specs.Scope.{Occurrence, Sighting, is_bound, occurrences, owner, sightings, this}
 
 -- what the check asks of a world: the entity of a name, whether an entity is alive, and what the traits at an index are
@@ -22,6 +23,8 @@ pub record Known : Type 0 where
   pub traversable : ℕ → Bool
   pub transitive : ℕ → Bool
   pub reflexive : ℕ → Bool
+  -- whether instances inherit its facts from their bases
+  pub inherited : ℕ → Bool
 
 abbrev pub when : Bool → Fault → List Fault
 when b f = if b then f ∷ [] else []
@@ -31,7 +34,7 @@ abbrev pub unknown_word : Known → Spoken → Span → List Fault
 unknown_word k (Word n) s = when (is_none (k.named n)) (fault_at UnknownName s)
 unknown_word k w s = []
 
--- an entity behind `up` that can't be traversed
+-- an entity behind `up` or `cascade` that can't be traversed
 abbrev pub not_traversable : Known → Spoken → Span → List Fault
 not_traversable k (Word n) s = option_map_or (λ e. when (not (k.traversable e.index)) (fault_at NotTraversable s)) (k.named n) []
 not_traversable k w s = []
@@ -80,13 +83,16 @@ abbrev pub unbound : List Part → Occurrence → List Fault
 unbound ps o =
     when (not (bytes_eq o.name this || is_bound ps o.name (owner (sightings ps) o.name o.path))) (fault_at UnboundVariable o.span)
 
+abbrev pub cascade_fault : Cascading → List Fault
+cascade_fault c = fault_at CascadePlace c.span ∷ []
+
 -- how many terms and equalities a query may have
 abbrev pub most_terms : ℕ
-most_terms = 32
+most_terms = 64
 
 -- how many names of variables besides `$this`
 abbrev pub most_names : ℕ
-most_names = 16
+most_names = 32
 
 -- all faults
 unfoldable pub faults : Known → List Part → List Fault
@@ -96,3 +102,4 @@ faults k ps =
     ++ map (fault_at TooManyTerms) (item_at most_terms (flat_map counted_spans ps))
     ++ map (λ s. fault_at TooManyVariables s.span) (item_at most_names (new_names (this ∷ []) (sightings ps)))
     ++ flat_map (unbound ps) (occurrences ps)
+    ++ flat_map cascade_fault (misplaced (cascades ps))

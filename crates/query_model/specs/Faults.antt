@@ -4,7 +4,7 @@ use Rattle.std.specs.Option.{option_map_or}
 use Rattle.query_model.specs.declared.Span.{Span}
 use Rattle.query_model.specs.declared.faults.Fault.{Fault}
 use Rattle.query_model.specs.declared.faults.FaultKind.{FaultKind}
-use Rattle.query_model.specs.declared.faults.FaultKind.TheVariants.{Lex, Syntax, UnknownName, NotTraversable, UnboundVariable, WildcardSource, WildcardEquality, TooManyTerms, TooManyVariables, TooDeep, NoThis, NotOneTerm}
+use Rattle.query_model.specs.declared.faults.FaultKind.TheVariants.{Lex, Syntax, UnknownName, NotTraversable, UnboundVariable, WildcardSource, WildcardEquality, TooManyTerms, TooManyVariables, TooDeep, NoThis, NotOneTerm, CascadePlace}
 
 -- the number of a kind of fault
 abbrev pub kind_number : FaultKind → ℕ
@@ -20,6 +20,7 @@ kind_number TooManyVariables = 9
 kind_number TooDeep = 10
 kind_number NoThis = 11
 kind_number NotOneTerm = 12
+kind_number CascadePlace = 13
 
 abbrev pub fault_at : FaultKind → Span → Fault
 fault_at kind span = record { kind = kind; span = span }

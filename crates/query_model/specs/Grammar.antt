@@ -7,7 +7,7 @@ use Rattle.query_model.specs.declared.Mark.TheVariants.{Comma, OrOr, Bar, NotEqu
 use Rattle.query_model.specs.declared.syntax.Role.{Role}
 use Rattle.query_model.specs.declared.syntax.Role.TheVariants.{And, Or, Not, Optional}
 use Rattle.query_model.specs.Tokens.{Token, token, span_of, Name, Variable, Punct, End}
-use Rattle.query_model.specs.Syntax.{Reference, at, Word, Var, Any, One, Rise, none, up, Flags, flags, TermSyntax, Part, term, opened, closed, equality, component, pair_of, applied, with_target, ended_at}
+use Rattle.query_model.specs.Syntax.{Reference, at, Word, Var, Any, One, RiseWord, Up, Cascade, Rise, none, up, Flags, flags, TermSyntax, Part, term, opened, closed, equality, component, pair_of, applied, with_target, ended_at}
 
 -- the words of accesses; `none` hides values
 abbrev pub access_words : List (List ℕ)
@@ -30,12 +30,17 @@ pub data IsReference : Token → Reference → Type 0 where
   star : {s : Span} → IsReference (token (Punct Star) s) (at Any s)
   underscore : {s : Span} → IsReference (token (Punct Underscore) s) (at One s)
 
--- rise: `up`, `up R` or `up(R)`
+-- `up` or `cascade`
+pub data IsRiseWord : Token → RiseWord → Type 0 where
+  word_up : {s : Span} → IsRiseWord (token (Name (codes "up")) s) Up
+  word_cascade : {s : Span} → IsRiseWord (token (Name (codes "cascade")) s) (Cascade s)
+
+-- rise: `up`, `up R` or `up(R)`, or the same with `cascade`
 pub data IsRise : List Token → List Token → Rise → Type 0 where
-  up_alone : {s : Span} {ts : List Token} → IsRise (token (Name (codes "up")) s ∷ ts) ts (up None)
-  up_along : {s : Span} {w : Token} {r : Reference} {ts : List Token} → IsWord w r → IsRise (token (Name (codes "up")) s ∷ w ∷ ts) ts (up (Some r))
-  up_in_brackets : {s s1 s2 : Span} {w : Token} {r : Reference} {ts : List Token} → IsWord w r
-      → IsRise (token (Name (codes "up")) s ∷ token (Punct OpenParen) s1 ∷ w ∷ token (Punct CloseParen) s2 ∷ ts) ts (up (Some r))
+  up_alone : {u : Token} {w : RiseWord} {ts : List Token} → IsRiseWord u w → IsRise (u ∷ ts) ts (up w None)
+  up_along : {u a : Token} {w : RiseWord} {r : Reference} {ts : List Token} → IsRiseWord u w → IsWord a r → IsRise (u ∷ a ∷ ts) ts (up w (Some r))
+  up_in_brackets : {u a : Token} {w : RiseWord} {s1 s2 : Span} {r : Reference} {ts : List Token} → IsRiseWord u w → IsWord a r
+      → IsRise (u ∷ token (Punct OpenParen) s1 ∷ a ∷ token (Punct CloseParen) s2 ∷ ts) ts (up w (Some r))
 
 -- flags: `self`, a rise, or `self|` and a rise
 pub data IsFlags : List Token → List Token → Flags → Type 0 where

@@ -10,6 +10,7 @@ pub mod Levels
 pub mod Uses
 pub mod Scope
 pub mod Numbers
+pub mod Cascades
 pub mod Check
 pub mod Query
 pub mod FirstOccurrence

@@ -6,7 +6,7 @@ use Rattle.query_model.specs.declared.Mark.TheVariants.{Comma, OrOr, Bar, NotEqu
 use Rattle.query_model.specs.declared.syntax.Role.{Role}
 use Rattle.query_model.specs.declared.syntax.Role.TheVariants.{And, Or, Not, Optional}
 use Rattle.query_model.specs.Tokens.{Token, token, span_of, Name, Variable, Punct, End}
-use Rattle.query_model.specs.Syntax.{Reference, at, Word, Var, Any, One, none, flags, TermSyntax, Part, term, opened, closed, equality, component, pair_of, applied, rising, with_target, ended_at}
+use Rattle.query_model.specs.Syntax.{Reference, at, Word, Var, Any, One, RiseWord, Up, Cascade, none, flags, TermSyntax, Part, term, opened, closed, equality, component, pair_of, applied, rising, with_target, ended_at}
 use Rattle.query_model.specs.Grammar.{is_access, shows_values}
 
 -- what is to come, or behind what the machine stands, with what was read of the item
@@ -20,7 +20,7 @@ pub data State : Type 0 where
   behind_first source_next : Role → Bool → Reference → State
   behind_source : Role → Bool → Reference → Reference → State
   flags_next behind_self rise_next : Role → Bool → Reference → Option Reference → State
-  behind_up along_next : Role → Bool → Reference → Option Reference → Bool → State
+  behind_up along_next : Role → Bool → Reference → Option Reference → Bool → RiseWord → State
   behind_variable : List ℕ → Span → State
   other_side : Reference → Bool → State
   -- behind an item, and whether an alternative to it may follow
@@ -95,18 +95,21 @@ along_step d role t x = None
 module _ (d : ℕ) (role : Role) (valued : Bool) where
   module _ (c : Reference) where
     module _ (source : Option Reference) where
-      abbrev pub along_next_step : Bool → Token → Option Move
-      along_next_step own x = on (word_of x) (λ r. to d (behind_along role (rising valued c source own (Some r)))) None
+      abbrev pub along_next_step : Bool → RiseWord → Token → Option Move
+      along_next_step own w x = on (word_of x) (λ r. to d (behind_along role (rising valued c source own w (Some r)))) None
 
-      abbrev pub up_step : Bool → Token → Option Move
-      up_step own (token (Punct OpenParen) s) = to d (along_next role valued c source own)
-      up_step own x = on (word_of x) (λ r. to d (behind_flags role (rising valued c source own (Some r)))) (args_step d role (rising valued c source own None) x)
+      abbrev pub up_step : Bool → RiseWord → Token → Option Move
+      up_step own w (token (Punct OpenParen) s) = to d (along_next role valued c source own w)
+      up_step own w x = on (word_of x) (λ r. to d (behind_flags role (rising valued c source own w (Some r)))) (args_step d role (rising valued c source own w None) x)
 
-      abbrev pub rise_word_step : Bool → List ℕ → Option Move
-      rise_word_step own n = if bytes_eq n (codes "up") then to d (behind_up role valued c source own) else None
+      abbrev pub rise_word_step : Bool → List ℕ → Span → Option Move
+      rise_word_step own n s =
+          if bytes_eq n (codes "up") then to d (behind_up role valued c source own Up)
+          else if bytes_eq n (codes "cascade") then to d (behind_up role valued c source own (Cascade s))
+          else None
 
       abbrev pub rise_step : Token → Option Move
-      rise_step (token (Name n) s) = rise_word_step true n
+      rise_step (token (Name n) s) = rise_word_step true n s
       rise_step x = None
 
       abbrev pub self_step : Token → Option Move
@@ -114,7 +117,7 @@ module _ (d : ℕ) (role : Role) (valued : Bool) where
       self_step x = args_step d role (applied valued c source (Some (flags true none))) x
 
       abbrev pub flags_step : Token → Option Move
-      flags_step (token (Name n) s) = if bytes_eq n (codes "self") then to d (behind_self role valued c source) else rise_word_step false n
+      flags_step (token (Name n) s) = if bytes_eq n (codes "self") then to d (behind_self role valued c source) else rise_word_step false n s
       flags_step x = None
 
     abbrev pub behind_source_step : Reference → Token → Option Move
@@ -189,8 +192,8 @@ step d (behind_source role valued c r) x = behind_source_step d role valued c r 
 step d (flags_next role valued c source) x = flags_step d role valued c source x
 step d (behind_self role valued c source) x = self_step d role valued c source x
 step d (rise_next role valued c source) x = rise_step d role valued c source x
-step d (behind_up role valued c source own) x = up_step d role valued c source own x
-step d (along_next role valued c source own) x = along_next_step d role valued c source own x
+step d (behind_up role valued c source own w) x = up_step d role valued c source own w x
+step d (along_next role valued c source own w) x = along_next_step d role valued c source own w x
 step d (behind_variable v s) x = variable_step d v s x
 step d (other_side r same) x = other_step d r same x
 step d (behind_item joined) x = item_step d joined x

@@ -3,6 +3,7 @@ use Rattle.std.specs.Prelude.{map, option_map, drop}
 use Rattle.query_model.specs.Syntax as syntax
 use Rattle.query_model.specs.declared.syntax.Spoken.{Spoken}
 use Rattle.query_model.specs.declared.syntax.Reference.{Reference}
+use Rattle.query_model.specs.declared.syntax.RiseWord.{RiseWord}
 use Rattle.query_model.specs.declared.syntax.Rise.{Rise}
 use Rattle.query_model.specs.declared.syntax.Flags.{Flags}
 use Rattle.query_model.specs.declared.syntax.TermSyntax.{TermSyntax}
@@ -19,9 +20,13 @@ seen_spoken Spoken.One = syntax.One
 abbrev pub seen_reference : Reference → syntax.Reference
 seen_reference r = syntax.at (seen_spoken r.spoken) r.span
 
+abbrev pub seen_rise_word : RiseWord → syntax.RiseWord
+seen_rise_word RiseWord.Up = syntax.Up
+seen_rise_word (RiseWord.Cascade s) = syntax.Cascade s
+
 abbrev pub seen_rise : Rise → syntax.Rise
 seen_rise Rise.No = syntax.none
-seen_rise (Rise.Up r) = syntax.up (option_map seen_reference r)
+seen_rise (Rise.Up w r) = syntax.up (seen_rise_word w) (option_map seen_reference r)
 
 abbrev pub seen_flags : Flags → syntax.Flags
 seen_flags f = syntax.flags f.on_source (seen_rise f.rise)

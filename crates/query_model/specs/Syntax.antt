@@ -16,12 +16,17 @@ pub record Reference : Type 0 where
 abbrev pub at : Spoken → Span → Reference
 at w s = record { spoken = w; span = s }
 
--- what is written of ancestors: nothing, or `up` with its relationship, if one is written
+-- the word by which ancestors are asked for: `up`, or `cascade` with its place
+pub data RiseWord : Type 0 where
+  Up : RiseWord
+  Cascade : Span → RiseWord
+
+-- what is written of ancestors: nothing, or such a word with its relationship, if one is written
 pub data Rise : Type 0 where
   none : Rise
-  up : Option Reference → Rise
+  up : RiseWord → Option Reference → Rise
 
--- written flags: whether `self` is among them, and `up`
+-- written flags: whether `self` is among them, and what is written of ancestors
 pub record Flags : Type 0 where
   pub on_source : Bool
   pub rise : Rise
@@ -62,9 +67,9 @@ pair_of valued s r = record { valued = valued; first = r; target = None; source 
 abbrev pub applied : Bool → Reference → Option Reference → Option Flags → TermSyntax
 applied valued r source f = record { valued = valued; first = r; target = None; source = source; flags = f; span = r.span }
 
--- and with `up`, perhaps behind `self`
-abbrev pub rising : Bool → Reference → Option Reference → Bool → Option Reference → TermSyntax
-rising valued c source on_source along = applied valued c source (Some (flags on_source (up along)))
+-- and with `up` or `cascade`, perhaps behind `self`
+abbrev pub rising : Bool → Reference → Option Reference → Bool → RiseWord → Option Reference → TermSyntax
+rising valued c source on_source w along = applied valued c source (Some (flags on_source (up w along)))
 
 abbrev pub with_target : TermSyntax → Option Reference → TermSyntax
 with_target t r = record { valued = t.valued; first = t.first; target = r; source = t.source; flags = t.flags; span = t.span }

@@ -19,9 +19,9 @@ rise_of (Some f) = f.rise
 
 abbrev pub along_what : Rise → Option Reference
 along_what none = None
-along_what (up r) = r
+along_what (up w r) = r
 
--- the relationship that is written behind `up`
+-- the relationship that is written behind `up` or `cascade`
 abbrev pub risen : TermSyntax → Option Reference
 risen t = along_what (rise_of t.flags)
 

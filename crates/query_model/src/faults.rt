@@ -29,6 +29,8 @@ pub enum FaultKind {
     NoThis,
     /// An event observer whose query isn't one plain term.
     NotOneTerm,
+    /// A `cascade` in a group, of another source than `$this`, or behind another one.
+    CascadePlace,
 }
 
 /// A fault of a query's text, and the part of the text that has it.

@@ -8,7 +8,7 @@ pub enum Position {
     Component,
     Source,
     Target,
-    /// The relationship behind `up`.
+    /// The relationship behind `up` or `cascade`.
     Risen,
     /// The left side of an equality.
     Left,
@@ -51,4 +51,6 @@ pub struct Mention {
     pub traversable: bool,
     pub transitive: bool,
     pub reflexive: bool,
+    /// Whether instances inherit its facts from their bases.
+    pub inherited: bool,
 }

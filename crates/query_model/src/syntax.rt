@@ -36,12 +36,20 @@ pub struct Reference<'a> {
     pub span: Span,
 }
 
+/// The word by which ancestors are asked for.
+#[derive(Clone, Copy, Debug, PartialEq, Eq)]
+pub enum RiseWord {
+    Up,
+    /// `cascade`, by which rows are ordered too, and where it stands.
+    Cascade(Span),
+}
+
 /// What is written of ancestors.
 #[derive(Clone, Copy, Debug, PartialEq, Eq)]
 pub enum Rise<'a> {
     No,
-    /// `up`, with its relationship, if one is written.
-    Up(Option<Reference<'a>>),
+    /// `up` or `cascade`, with its relationship, if one is written.
+    Up(RiseWord, Option<Reference<'a>>),
 }
 
 /// The flags of a term, as they are written.

@@ -1,5 +1,5 @@
 -- Sessions with stored queries, which the prover computes.
-use Rattle.std.specs.Prelude.{◌≡◌, ℕ, Bool, true, false, List, [], ◌∷◌, ◌++◌, map, flat_map, pos, codes, Some, Ok, Err, refl}
+use Rattle.std.specs.Prelude.{◌≡◌, ℕ, Bool, true, false, List, [], ◌∷◌, ◌++◌, map, flat_map, pos, codes, Some, None, Ok, Err, refl}
 use Rattle.std.specs.Fmt.{digits}
 use Rattle.std.specs.List.{range_with_len}
 use Rattle.std.specs.Str.{chars, is_utf8}
@@ -20,7 +20,7 @@ use Rattle.ecs_model.specs.Sets.{has_chain, within}
 use Rattle.ecs_model.specs.World.{first_world, key_cmp, next_among}
 use Rattle.ecs_model.specs.rows.Level.{top}
 use Rattle.ecs_model.specs.rows.Rows.{hits, fields_of_term, fields_of_item, solutions, rows}
-use Rattle.ecs_model.specs.traits.Changes.{added, replaced, facts_after_add, facts_after_remove, deleted, facts_after_delete}
+use Rattle.ecs_model.specs.traits.Changes.{added, replaced, facts_with_added, new_base, copied, facts_after_add, facts_after_remove, deleted, facts_after_delete}
 use Rattle.ecs_model.specs.traits.Command.{without_entities, reasons, effect, step}
 use Rattle.ecs_model.specs.traits.Pins.{unpin}
 use Rattle.ecs_model.specs.declared.faults.SessionRefusal.TheVariants.{EventsPending, QueryTaken, TooManyStored}
@@ -81,66 +81,66 @@ sky =
     ∷ set_position (codes "Sun") ∷ set_position (codes "Earth") ∷ []
 
 an_ancestor_further_up_will_do : prints (sky ++ Store Monitor (codes "m") (codes "Position(up)") ∷ remove (codes "Earth") (codes "Position") ∷ []) ≡ []
-unfolding id_cmp key_cmp first_world next_among within has_chain added replaced facts_after_add facts_after_remove deleted facts_after_delete without_entities with_born with_named with_component reasons effect differences step line_within reaches top hits fields_of_term fields_of_item solutions rows tokens_from tokens_of faults checked_query query_of digits chars is_utf8 encode command_of free_order apply matching told_of_rows told_of unpin
+unfolding id_cmp key_cmp first_world next_among within has_chain added replaced facts_with_added new_base copied facts_after_add facts_after_remove deleted facts_after_delete without_entities with_born with_named with_component reasons effect differences step line_within reaches top hits fields_of_term fields_of_item solutions rows tokens_from tokens_of faults checked_query query_of digits chars is_utf8 encode command_of free_order apply matching told_of_rows told_of unpin
 an_ancestor_further_up_will_do = refl
 
 -- as long as the Sun has one, the Moon finds a position above it, and so does the Earth
 who_loses_its_ancestors_position_leaves : prints (sky
     ++ Store Monitor (codes "m") (codes "Position(up)") ∷ remove (codes "Earth") (codes "Position") ∷ remove (codes "Sun") (codes "Position") ∷ [])
     ≡ codes "leave m Earth\nleave m Moon\n"
-unfolding id_cmp key_cmp first_world next_among within has_chain added replaced facts_after_add facts_after_remove deleted facts_after_delete without_entities with_born with_named with_component reasons effect differences step line_within reaches top hits fields_of_term fields_of_item solutions rows tokens_from tokens_of faults checked_query query_of digits chars is_utf8 encode command_of free_order apply matching told_of_rows told_of unpin
+unfolding id_cmp key_cmp first_world next_among within has_chain added replaced facts_with_added new_base copied facts_after_add facts_after_remove deleted facts_after_delete without_entities with_born with_named with_component reasons effect differences step line_within reaches top hits fields_of_term fields_of_item solutions rows tokens_from tokens_of faults checked_query query_of digits chars is_utf8 encode command_of free_order apply matching told_of_rows told_of unpin
 who_loses_its_ancestors_position_leaves = refl
 
 -- the Sun is a parent already, and the Earth is none any more
 leaves_come_before_enters : prints (sky ++ Store Monitor (codes "m") (codes "ChildOf($x,$this)") ∷ add (codes "Moon") (to (codes "ChildOf") (codes "Sun")) ∷ [])
     ≡ codes "leave m Earth\n"
-unfolding id_cmp key_cmp first_world next_among within has_chain added replaced facts_after_add facts_after_remove deleted facts_after_delete without_entities with_born with_named with_component reasons effect differences step line_within reaches top hits fields_of_term fields_of_item solutions rows tokens_from tokens_of faults checked_query query_of digits chars is_utf8 encode command_of free_order apply matching told_of_rows told_of unpin
+unfolding id_cmp key_cmp first_world next_among within has_chain added replaced facts_with_added new_base copied facts_after_add facts_after_remove deleted facts_after_delete without_entities with_born with_named with_component reasons effect differences step line_within reaches top hits fields_of_term fields_of_item solutions rows tokens_from tokens_of faults checked_query query_of digits chars is_utf8 encode command_of free_order apply matching told_of_rows told_of unpin
 leaves_come_before_enters = refl
 
 who_is_a_parent_now_enters_behind_who_was_one : prints (entity (codes "Sun") ∷ entity (codes "Earth") ∷ entity (codes "Moon") ∷ add (codes "Moon") (to (codes "ChildOf") (codes "Earth")) ∷ Store Monitor (codes "m") (codes "ChildOf($x,$this)") ∷ add (codes "Moon") (to (codes "ChildOf") (codes "Sun")) ∷ [])
     ≡ codes "leave m Earth\nenter m Sun\n"
-unfolding id_cmp key_cmp first_world next_among within has_chain added replaced facts_after_add facts_after_remove deleted facts_after_delete without_entities with_born with_named with_component reasons effect differences step line_within reaches top hits fields_of_term fields_of_item solutions rows tokens_from tokens_of faults checked_query query_of digits chars is_utf8 encode command_of free_order apply matching told_of_rows told_of unpin
+unfolding id_cmp key_cmp first_world next_among within has_chain added replaced facts_with_added new_base copied facts_after_add facts_after_remove deleted facts_after_delete without_entities with_born with_named with_component reasons effect differences step line_within reaches top hits fields_of_term fields_of_item solutions rows tokens_from tokens_of faults checked_query query_of digits chars is_utf8 encode command_of free_order apply matching told_of_rows told_of unpin
 who_is_a_parent_now_enters_behind_who_was_one = refl
 
 -- a value is told again, what changes nothing tells nothing, a new value is no set, and what is deleted is told by its name
 observers_are_told_in_the_order_of_making : prints (InWorld (MakeComponent (codes "Position") fields) ∷ entity (codes "Sun") ∷ Store OnSet (codes "s") (codes "Position") ∷ Store OnAdd (codes "a") (codes "Position") ∷ Store OnRemove (codes "r") (codes "Position") ∷ set_position (codes "Sun") ∷ set_position (codes "Sun") ∷ remove (codes "Sun") (codes "Position") ∷ remove (codes "Sun") (codes "Position") ∷ add (codes "Sun") (tag (codes "Position")) ∷ InWorld (DeleteOne (by_name (codes "Sun"))) ∷ [])
     ≡ codes "set s Sun Position=10,3\nadd a Sun Position\nset s Sun Position=10,3\nremove r Sun Position\nadd a Sun Position\nremove r Sun Position\n"
-unfolding id_cmp key_cmp first_world next_among within has_chain added replaced facts_after_add facts_after_remove deleted facts_after_delete without_entities with_born with_named with_component reasons effect differences step line_within reaches top hits fields_of_term fields_of_item solutions rows tokens_from tokens_of faults checked_query query_of digits chars is_utf8 encode command_of free_order apply matching told_of_rows told_of unpin
+unfolding id_cmp key_cmp first_world next_among within has_chain added replaced facts_with_added new_base copied facts_after_add facts_after_remove deleted facts_after_delete without_entities with_born with_named with_component reasons effect differences step line_within reaches top hits fields_of_term fields_of_item solutions rows tokens_from tokens_of faults checked_query query_of digits chars is_utf8 encode command_of free_order apply matching told_of_rows told_of unpin
 observers_are_told_in_the_order_of_making = refl
 
 -- `_` as `*`: each fact is told, by entity and id
 wildcards_match_stored_facts : prints (entity (codes "A") ∷ entity (codes "B") ∷ entity (codes "Sun") ∷ add (codes "A") (to (codes "With") (codes "B")) ∷ Store OnAdd (codes "one") (codes "_") ∷ Store OnAdd (codes "pairs") (codes "(*,_)") ∷ Store OnAdd (codes "any") (codes "*($this|self)") ∷ InWorld (MakeComponent (codes "Position") fields) ∷ add (codes "Sun") (tag (codes "A")) ∷ add (codes "Sun") (to (codes "A") (codes "B")) ∷ [])
     ≡ codes "add one Position Component\nadd any Position Component\nadd one Sun A\nadd one Sun B\nadd any Sun A\nadd any Sun B\nadd pairs Sun (A,B)\nadd pairs Sun (B,B)\n"
-unfolding id_cmp key_cmp first_world next_among within has_chain added replaced facts_after_add facts_after_remove deleted facts_after_delete without_entities with_born with_named with_component reasons effect differences step line_within reaches top hits fields_of_term fields_of_item solutions rows tokens_from tokens_of faults checked_query query_of digits chars is_utf8 encode command_of free_order apply matching told_of_rows told_of unpin
+unfolding id_cmp key_cmp first_world next_among within has_chain added replaced facts_with_added new_base copied facts_after_add facts_after_remove deleted facts_after_delete without_entities with_born with_named with_component reasons effect differences step line_within reaches top hits fields_of_term fields_of_item solutions rows tokens_from tokens_of faults checked_query query_of digits chars is_utf8 encode command_of free_order apply matching told_of_rows told_of unpin
 wildcards_match_stored_facts = refl
 
 -- what comes is judged after the command, and what goes before it
 who_is_passed_over_is_not_told : prints (entity (codes "A") ∷ entity (codes "B") ∷ entity (codes "Sun") ∷ entity (codes "Earth") ∷ add (codes "B") (to (codes "With") (codes "Disabled")) ∷ Store OnAdd (codes "a") (codes "*") ∷ Store OnAdd (codes "d") (codes "Disabled") ∷ Store OnRemove (codes "r") (codes "*") ∷ add (codes "Sun") (tag (codes "A")) ∷ add (codes "Sun") (tag (codes "B")) ∷ add (codes "Earth") (tag (codes "Prefab")) ∷ add (codes "Earth") (tag (codes "A")) ∷ remove (codes "Sun") (codes "Disabled") ∷ InWorld (DeleteOne (by_name (codes "Earth"))) ∷ InWorld (DeleteOne (by_name (codes "Sun"))) ∷ [])
     ≡ codes "add a Sun A\nadd d Sun Disabled\nremove r Sun A\nremove r Sun B\n"
-unfolding id_cmp key_cmp first_world next_among within has_chain added replaced facts_after_add facts_after_remove deleted facts_after_delete without_entities with_born with_named with_component reasons effect differences step line_within reaches top hits fields_of_term fields_of_item solutions rows tokens_from tokens_of faults checked_query query_of digits chars is_utf8 encode command_of free_order apply matching told_of_rows told_of unpin
+unfolding id_cmp key_cmp first_world next_among within has_chain added replaced facts_with_added new_base copied facts_after_add facts_after_remove deleted facts_after_delete without_entities with_born with_named with_component reasons effect differences step line_within reaches top hits fields_of_term fields_of_item solutions rows tokens_from tokens_of faults checked_query query_of digits chars is_utf8 encode command_of free_order apply matching told_of_rows told_of unpin
 who_is_passed_over_is_not_told = refl
 
 -- and an observer one term
 a_watch_needs_this : prints (entity (codes "A") ∷ Store Monitor (codes "m") (codes "A(A)") ∷ Store OnAdd (codes "a") (codes "A(A)") ∷ Store OnAdd (codes "b") (codes "A, A") ∷ Store OnSet (codes "c") (codes "A(up)") ∷ Store OnRemove (codes "d") (codes "($x,A), A($x)") ∷ Store OnAdd (codes "e") (codes "?A") ∷ Store Kept (codes "k") (codes "A(A)") ∷ [])
     ≡ codes "error NoThis 0..4\nerror NoThis 0..4\nerror NotOneTerm 0..4\nerror NotOneTerm 0..5\nerror NotOneTerm 0..13\nerror NotOneTerm 0..2\n"
-unfolding id_cmp key_cmp first_world next_among within has_chain added replaced facts_after_add facts_after_remove deleted facts_after_delete without_entities with_born with_named with_component reasons effect differences step line_within reaches top hits fields_of_term fields_of_item solutions rows tokens_from tokens_of faults checked_query query_of digits chars is_utf8 encode command_of free_order apply matching told_of_rows told_of unpin
+unfolding id_cmp key_cmp first_world next_among within has_chain added replaced facts_with_added new_base copied facts_after_add facts_after_remove deleted facts_after_delete without_entities with_born with_named with_component reasons effect differences step line_within reaches top hits fields_of_term fields_of_item solutions rows tokens_from tokens_of faults checked_query query_of digits chars is_utf8 encode command_of free_order apply matching told_of_rows told_of unpin
 a_watch_needs_this = refl
 
 -- and what it mentions is not deleted
 a_name_is_taken_until_its_query_is_dropped : prints (entity (codes "A") ∷ Store Kept (codes "k") (codes "A") ∷ Store Monitor (codes "k") (codes "Nowhere") ∷ Store Monitor (codes "self") (codes "Nowhere") ∷ Store Monitor (codes "m") (codes "Nowhere") ∷ InWorld (DeleteOne (by_name (codes "A"))) ∷ Drop (codes "m") ∷ Drop (codes "k") ∷ Drop (codes "k") ∷ Store Monitor (codes "k") (codes "A") ∷ Drop (codes "k") ∷ InWorld (DeleteOne (by_name (codes "A"))) ∷ [])
     ≡ codes "error QueryTaken\nerror BadName\nerror UnknownName 0..7\nerror InUse\nerror UnknownQuery\nerror UnknownQuery\n"
-unfolding id_cmp key_cmp first_world next_among within has_chain added replaced facts_after_add facts_after_remove deleted facts_after_delete without_entities with_born with_named with_component reasons effect differences step line_within reaches top hits fields_of_term fields_of_item solutions rows tokens_from tokens_of faults checked_query query_of digits chars is_utf8 encode command_of free_order apply matching told_of_rows told_of unpin
+unfolding id_cmp key_cmp first_world next_among within has_chain added replaced facts_with_added new_base copied facts_after_add facts_after_remove deleted facts_after_delete without_entities with_born with_named with_component reasons effect differences step line_within reaches top hits fields_of_term fields_of_item solutions rows tokens_from tokens_of faults checked_query query_of digits chars is_utf8 encode command_of free_order apply matching told_of_rows told_of unpin
 a_name_is_taken_until_its_query_is_dropped = refl
 
 what_a_stored_query_mentions_is_counted : map pins_after ((entity (codes "A") ∷ Store Kept (codes "k") (codes "A, A") ∷ Store Monitor (codes "m") (codes "A(up IsA)") ∷ []) ∷ (entity (codes "A") ∷ Store Kept (codes "k") (codes "A, A") ∷ Store Monitor (codes "m") (codes "A(up IsA)") ∷ Drop (codes "k") ∷ []) ∷ [])
     ≡ ((2, 1) ∷ (64, 2) ∷ []) ∷ ((2, 1) ∷ (64, 1) ∷ []) ∷ []
-unfolding id_cmp key_cmp first_world next_among within has_chain added replaced facts_after_add facts_after_remove deleted facts_after_delete without_entities with_born with_named with_component reasons effect differences step line_within reaches top hits fields_of_term fields_of_item solutions rows tokens_from tokens_of faults checked_query query_of digits chars is_utf8 encode command_of free_order apply matching told_of_rows told_of unpin
+unfolding id_cmp key_cmp first_world next_among within has_chain added replaced facts_with_added new_base copied facts_after_add facts_after_remove deleted facts_after_delete without_entities with_born with_named with_component reasons effect differences step line_within reaches top hits fields_of_term fields_of_item solutions rows tokens_from tokens_of faults checked_query query_of digits chars is_utf8 encode command_of free_order apply matching told_of_rows told_of unpin
 what_a_stored_query_mentions_is_counted = refl
 
 -- a session with as many stored queries as there can be, all under one name
 abbrev full_session : SessionState
 full_session = record first_session {
-  stored = map (λ i. record { name = codes "k"; kind = Kept; query = record { variables = []; has_this = false; pieces = []; mentions = []; length = 0 } }) (range_with_len 0 1024);
+  stored = map (λ i. record { name = codes "k"; kind = Kept; query = record { variables = []; has_this = false; pieces = []; cascade = None; mentions = []; length = 0 } }) (range_with_len 0 1024);
 }
 
 too_many_is_told_behind_a_taken_name : map (λ n. apply full_session (Store Kept n (codes "Nowhere"))) (codes "k" ∷ codes "n" ∷ []) ≡ Err QueryTaken ∷ Err TooManyStored ∷ []
