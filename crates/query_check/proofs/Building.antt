@@ -1,5 +1,5 @@
 -- The pieces of the checked query, one part more at a time.
-use Rattle.std.specs.Prelude.{◌≡◌, ℕ, ◌+◌, ◌<◌, ◌≤◌, List, [], ◌∷◌, ◌++◌, map, Some, None, drop, flat_map, fold, length, Bool}
+use Rattle.std.specs.Prelude.{◌≡◌, ℕ, ◌+◌, ◌<◌, ◌≤◌, List, [], ◌∷◌, ◌++◌, map, Option, Some, None, drop, flat_map, fold, length, Bool}
 use Rattle.std.proofs.lemmas.List.{append-nil, append_assoc, drop_all, drop_more, get_or-map, length-map}
 use Rattle.std.proofs.lemmas.List.Sums.{fold-append}
 use Rattle.ecs_id.specs.declared.EntityId.{EntityId}
@@ -8,10 +8,11 @@ use Rattle.query_check.specs.declared.places.Place.{Place}
 use Rattle.query_model.specs.declared.query.Mention.{Mention}
 use Rattle.query_check.specs.Places.{IsRooted, places_of}
 use Rattle.query_check.specs.Seen.{as_alternative, level_uses}
+use Rattle.query_model.specs.Cascades.{Cascading, cascades}
 use Rattle.query_model.specs.Check.{Known}
 use Rattle.query_model.specs.Levels.{Path, alternatives, followed, level_of, placed_parts}
 use Rattle.query_model.specs.Numbers.{Variable, has_this, variables}
-use Rattle.query_model.specs.Query.{Piece, Query, add_mention, checked_query, mentioned_by, pieces_of_part, visible_names}
+use Rattle.query_model.specs.Query.{Piece, Query, add_mention, cascade_of, checked_query, mentioned_by, pieces_of_part, visible_names}
 use Rattle.query_model.specs.Scope.{Sighting, sightings}
 use Rattle.query_model.specs.Syntax.{Part, Syntax, TermSyntax}
 use Rattle.query_model.specs.Uses.{Use}
@@ -33,18 +34,19 @@ pub all_built : {X : Type 0} (f : Path → List TermSyntax → Part → List X) 
 all_built f ps i now l h = none_left (λ (r : (Path × Part) × List TermSyntax). f (r.0).0 r.1 (r.0).1) (followed (placed_parts ps)) i [] now l (rw (followed-length (placed_parts ps), placed-length ps) h)
 
 -- the query of its parts
-pub query_built : (k : Known) (s : Syntax) (names : List (List ℕ)) (this : Bool) (pieces : List Piece) (mentions : List Mention) (us : List (ℕ × Use)) (ss : List Sighting) (vs : List Variable)
-    → us ≡ level_uses s.parts → ss ≡ sightings s.parts → vs ≡ variables s.parts
-    → names ≡ visible_names vs → this ≡ has_this s.parts → pieces ≡ flat_map (pieces_of_part k ss vs) (followed (placed_parts s.parts)) → mentions ≡ fold (add_mention k) [] (flat_map (λ (u : ℕ × Use). mentioned_by k u.1) us)
-    → record { variables = names; has_this = this; pieces = pieces; mentions = mentions; length = s.length } ≡ checked_query k s
+pub query_built : (k : Known) (s : Syntax) (names : List (List ℕ)) (this : Bool) (pieces : List Piece) (along : Option EntityId) (mentions : List Mention) (us : List (ℕ × Use)) (ss : List Sighting) (vs : List Variable) (cs : List Cascading)
+    → us ≡ level_uses s.parts → ss ≡ sightings s.parts → vs ≡ variables s.parts → cs ≡ cascades s.parts
+    → names ≡ visible_names vs → this ≡ has_this s.parts → pieces ≡ flat_map (pieces_of_part k ss vs) (followed (placed_parts s.parts)) → along ≡ cascade_of k cs → mentions ≡ fold (add_mention k) [] (flat_map (λ (u : ℕ × Use). mentioned_by k u.1) us)
+    → record { variables = names; has_this = this; pieces = pieces; cascade = along; mentions = mentions; length = s.length } ≡ checked_query k s
 unfolding checked_query
-query_built k s names this pieces mentions us ss vs u t v n h p m =
+query_built k s names this pieces along mentions us ss vs cs u t v w n h p o m =
     let ps = s.parts in
-    let make : List (List ℕ) → Bool → List Piece → List Mention → Query = λ a b c d. record { variables = a; has_this = b; pieces = c; mentions = d; length = s.length } in
-    ap (λ a. make a this pieces mentions) (n ∙ ap visible_names v) ∙ ap (λ b. make (visible_names (variables ps)) b pieces mentions) h
-    ∙ ap (λ c. make (visible_names (variables ps)) (has_this ps) c mentions)
+    let make : List (List ℕ) → Bool → List Piece → Option EntityId → List Mention → Query = λ a b c r d. record { variables = a; has_this = b; pieces = c; cascade = r; mentions = d; length = s.length } in
+    ap (λ r. make names this pieces r mentions) (o ∙ ap (cascade_of k) w)
+    ∙ ap (λ a. make a this pieces (cascade_of k (cascades ps)) mentions) (n ∙ ap visible_names v) ∙ ap (λ b. make (visible_names (variables ps)) b pieces (cascade_of k (cascades ps)) mentions) h
+    ∙ ap (λ c. make (visible_names (variables ps)) (has_this ps) c (cascade_of k (cascades ps)) mentions)
     (p ∙ ap (λ l. flat_map (pieces_of_part k l vs) (followed (placed_parts ps))) t ∙ ap (λ l. flat_map (pieces_of_part k (sightings ps) l) (followed (placed_parts ps))) v)
-    ∙ ap (make (visible_names (variables ps)) (has_this ps) (flat_map (pieces_of_part k (sightings ps) (variables ps)) (followed (placed_parts ps))))
+    ∙ ap (make (visible_names (variables ps)) (has_this ps) (flat_map (pieces_of_part k (sightings ps) (variables ps)) (followed (placed_parts ps))) (cascade_of k (cascades ps)))
     (m ∙ ap (λ l. fold (add_mention k) [] (flat_map (λ (x : ℕ × Use). mentioned_by k x.1) l)) u ∙ ap (fold (add_mention k) []) (by_level (mentioned_by k) ps))
 
 -- the mentions so far, and what is left to mention

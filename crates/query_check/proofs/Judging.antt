@@ -6,7 +6,8 @@ use Rattle.std.proofs.lemmas.List.Sums.{fold-append}
 use Rattle.query_model.specs.declared.faults.Fault.{Fault}
 use Rattle.query_check.specs.declared.places.Place.{Place}
 use Rattle.query_check.specs.Seen.{level_uses}
-use Rattle.query_model.specs.Check.{Known, counted_spans, faults, faults_of_use, item_at, most_names, most_terms, new_names, too_deep, too_deep_part, unbound}
+use Rattle.query_model.specs.Cascades.{Cascading, cascades, misplaced}
+use Rattle.query_model.specs.Check.{Known, cascade_fault, counted_spans, faults, faults_of_use, item_at, most_names, most_terms, new_names, too_deep, too_deep_part, unbound}
 use Rattle.query_model.specs.Faults.{fault_at, least_from, lesser}
 use Rattle.query_model.specs.Levels.{Path, placed_parts}
 use Rattle.query_model.specs.Scope.{Sighting, occurrences, sightings, this}
@@ -43,15 +44,16 @@ depth_judged ps i p q found least next more j at deep e =
     e
 
 -- all kinds, one after the other
-pub all_kinds_judged : (k : Known) (ps : List Part) (a b c d e : Option Fault) (us : List (ℕ × Use)) (ss : List Sighting) → us ≡ level_uses ps → ss ≡ sightings ps
+pub all_kinds_judged : (k : Known) (ps : List Part) (a b c d e f : Option Fault) (us : List (ℕ × Use)) (ss : List Sighting) (cs : List Cascading) → us ≡ level_uses ps → ss ≡ sightings ps → cs ≡ cascades ps
     → a ≡ least_from None (flat_map (λ (u : ℕ × Use). faults_of_use k u.1) us)
     → b ≡ least_from a (flat_map too_deep_part (placed_parts ps))
     → c ≡ least_from b (map (fault_at TooManyTerms) (item_at most_terms (flat_map counted_spans ps)))
     → d ≡ least_from c (map (λ s. fault_at TooManyVariables s.span) (item_at most_names (new_names (this ∷ []) ss)))
     → e ≡ least_from d (flat_map (unbound ps) (occurrences ps))
-    → e ≡ least_from None (faults k ps)
+    → f ≡ least_from e (flat_map cascade_fault (misplaced cs))
+    → f ≡ least_from None (faults k ps)
 unfolding faults
-all_kinds_judged k ps a b c d e us ss u s p q r t v =
+all_kinds_judged k ps a b c d e f us ss cs u s w p q r t v x =
     let uses = flat_map (faults_of_use k) (flat_map uses_of ps) in
     let deep = flat_map too_deep_part (placed_parts ps) in
     let terms = map (fault_at TooManyTerms) (item_at most_terms (flat_map counted_spans ps)) in
@@ -63,4 +65,6 @@ all_kinds_judged k ps a b c d e us ss u s p q r t v =
     let by_names : d ≡ least_from None (uses ++ deep ++ terms ++ names) =
     t ∙ ap (λ l. least_from c (map (λ (x : Sighting). fault_at TooManyVariables x.span) (item_at most_names (new_names (this ∷ []) l)))) s ∙ ap (λ o. least_from o names) by_terms
     ∙ sym (fold-append lesser None (uses ++ deep ++ terms) names) in
-    v ∙ ap (λ o. least_from o free) by_names ∙ sym (fold-append lesser None (uses ++ deep ++ terms ++ names) free)
+    let by_free : e ≡ least_from None (uses ++ deep ++ terms ++ names ++ free) = v ∙ ap (λ o. least_from o free) by_names ∙ sym (fold-append lesser None (uses ++ deep ++ terms ++ names) free) in
+    let last = flat_map cascade_fault (misplaced (cascades ps)) in
+    x ∙ ap (λ l. least_from e (flat_map cascade_fault (misplaced l))) w ∙ ap (λ o. least_from o last) by_free ∙ sym (fold-append lesser None (uses ++ deep ++ terms ++ names ++ free) last)

@@ -1,10 +1,11 @@
 -- References, variables and queries of the code, as the definitions see them.
-use Rattle.std.specs.Prelude.{◌≡◌, ⊤, ℕ, false, List, [], ◌∷◌, map, flat_map, Option, Some, None, Result, Ok, Err}
+use Rattle.std.specs.Prelude.{◌≡◌, ⊤, ℕ, false, List, [], ◌∷◌, map, flat_map, option_map, Option, Some, None, Result, Ok, Err}
 use Rattle.std.proofs.Common.{get_or}
 use Rattle.query_model.specs.declared.Span.{Span}
 use Rattle.query_model.specs.declared.faults.QueryFault.{QueryFault}
 use Rattle.query_model.specs.declared.faults.QueryFault.TheVariants.{Fault, Memory}
 use Rattle.query_model.specs.Syntax.{Spoken, Var, TermSyntax, Part, term, Syntax}
+use Rattle.query_model.specs.Cascades.{Cascading}
 use Rattle.query_model.specs.Seen.{seen_reference}
 use Rattle.query_model.specs.Levels.{Path, level_of, placed_parts}
 use Rattle.query_model.specs.Uses.{Use, uses_of}
@@ -12,6 +13,7 @@ use Rattle.query_model.specs.Scope.{Sighting}
 use Rattle.query_model.specs.Numbers.{Variable}
 use Rattle.query_model.specs.Check.{Known}
 use Rattle.query_model.specs.Query.{Item, must, may, either, equal, differ, Piece, item, opening, closing, Query, check_of, Entry, simple, group}
+use Rattle.query_check.specs.declared.cascades.Cascading as code_cascading
 use Rattle.query_check.specs.declared.uses.Use as code_use
 use Rattle.query_check.specs.declared.scope.Occurrence as code_occurrence
 use Rattle.query_check.specs.declared.numbers.Variable as code_variable
@@ -57,6 +59,9 @@ seen_occurrence o = record { name = o.name.now; level = o.level; span = o.span }
 
 abbrev pub seen_variable : code_variable.Variable → Variable
 seen_variable v = (v.name.now, v.level)
+
+abbrev pub seen_cascading : code_cascading.Cascading → Cascading
+seen_cascading c = record { levels = c.levels; source = option_map seen_reference c.source; along = option_map seen_reference c.along; span = c.span }
 
 -- a syntax by its parts and the length of the text
 abbrev pub syntax_of : List Part → ℕ → Syntax

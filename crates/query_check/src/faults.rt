@@ -4,14 +4,16 @@ ghost use Rattle.std.specs.Prelude.{◌≡◌, ◌≤◌, [], ◌∷◌, if◌th
 ghost use Rattle.std.specs.List.{list_any};
 ghost use Rattle.query_check.specs.Found.{AreFound, IsFound};
 ghost use Rattle.query_check.specs.Places.{IsRooted, IsTree, places_of};
-ghost use Rattle.query_check.specs.Seen.{seen_use, seen_occurrence};
-ghost use Rattle.query_model.specs.Check.{Known, counted_spans, faults_of_position, faults_of_use, item_at, most_names, most_terms, new_names, not_traversable, too_deep, too_deep_part, unbound, unknown_word, wildcard};
+ghost use Rattle.query_check.specs.Seen.{seen_cascading, seen_use, seen_occurrence};
+ghost use Rattle.query_model.specs.Cascades.{is_misplaced, misplaced};
+ghost use Rattle.query_model.specs.Check.{Known, cascade_fault, counted_spans, faults_of_position, faults_of_use, item_at, most_names, most_terms, new_names, not_traversable, too_deep, too_deep_part, unbound, unknown_word, wildcard};
 ghost use Rattle.query_model.specs.Faults.{is_before, kind_number, fault_at, least_from, lesser};
 ghost use Rattle.query_model.specs.Levels.{Path, placed_parts};
 ghost use Rattle.query_model.specs.Scope.{occurrences, sighting, sightings, this};
 ghost use Rattle.query_model.specs.Seen.{seen_part, seen_reference};
 ghost use Rattle.query_model.specs.Scope as specs;
 
+use crate::cascades::{Cascading, is_misplaced};
 use crate::lookup::Lookup;
 use crate::places::Place;
 use crate::scope::{Occurrence, THIS, is_bound, owner};
@@ -23,10 +25,10 @@ use query_model::syntax::{Part, Reference, Spoken};
 use std::alloc::{AllocError, Allocator};
 
 /// How many terms and equalities a query may have.
-const MOST_TERMS: usize = 32;
+const MOST_TERMS: usize = 64;
 
 /// How many names of variables besides `$this` a query may have.
-const MOST_NAMES: usize = 16;
+const MOST_NAMES: usize = 32;
 
 /// How many groups may stand around a part.
 const MOST_GROUPS: usize = 4;
@@ -113,7 +115,7 @@ fn of_position<W: Lookup>(world: &W, used: &Use<'_>) -> Option<Fault>
     }
 }
 
-/// The fault of a relationship behind `up` that can't be traversed.
+/// The fault of a relationship behind `up` or `cascade` that can't be traversed.
 fn not_traversable<W: Lookup>(world: &W, used: &Use<'_>) -> Option<Fault>
     requires { IsFound (W.known world.now) used.now }
     ensures { let r = seen_reference (used.now).reference in option_to_list result ≡ not_traversable (W.known world.now) r.spoken r.span }
@@ -230,7 +232,7 @@ pub(crate) fn of_names<A: Allocator + Copy>(
     Ok(with_fault(found, fault))
 }
 
-/// The first occurrence of the 17th name besides `$this`.
+/// The first occurrence of the 33rd name besides `$this`.
 fn one_name_too_many<'a, A: Allocator + Copy>(
     alloc: A,
     occurrences: &[Occurrence<'a>],
@@ -310,6 +312,41 @@ fn of_variable(
         return found;
     }
     Some(fault)
+}
+
+/// The least fault of a `cascade` that stands where it may not: the first, if it is misplaced, and each behind it.
+pub(crate) fn of_cascades(cascades: &[Cascading<'_>], found: Option<Fault>) -> Option<Fault>
+    ensures { result ≡ least_from found (flat_map cascade_fault (misplaced (map seen_cascading cascades.now))) }
+{
+    let Some((first, others)) = cascades.split_first() else {
+        return found;
+    };
+    let least = if is_misplaced(first) {
+        with_fault(found, Some(misplaced(first)))
+    } else {
+        found
+    };
+    of_others(others, least)
+}
+
+/// The least fault of each `cascade` behind the first.
+fn of_others(others: &[Cascading<'_>], found: Option<Fault>) -> Option<Fault>
+    ensures { result ≡ least_from found (flat_map cascade_fault (map seen_cascading others.now)) }
+{
+    let mut least = found;
+    for other in others {
+        add_fault(&mut least, Some(misplaced(other)));
+    }
+    least
+}
+
+fn misplaced(cascading: &Cascading<'_>) -> Fault
+    ensures { cascade_fault (seen_cascading cascading.now) ≡ result ∷ [] }
+{
+    Fault {
+        kind: FaultKind::CascadePlace,
+        span: cascading.span,
+    }
 }
 
 /// Whether a fault is told before the one that was found, if there is one.

@@ -1,6 +1,7 @@
 //! The check of a query's syntax against what a world knows of names: its least fault, or the checked query.
 #![tactic(auto)]
 
+mod cascades;
 mod checked;
 mod copies;
 mod faults;

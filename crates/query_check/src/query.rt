@@ -2,11 +2,12 @@
 
 ghost use Rattle.std.specs.Prelude.{◌≡◌, ◌<◌, ◌≤◌, ◌==◌, ◌++◌, [], ◌∷◌, ◌↔◌, IsTrue, flat_map, fold, length, map, option_map, option_to_list, slice_get, IfOk, MatchOption, Some, Ok, Err};
 ghost use Rattle.std.specs.List.{list_all, list_any};
-ghost use Rattle.query_check.specs.Found.{AreFound, IsFound, follows_ref};
+ghost use Rattle.query_check.specs.Found.{AreFound, IsFound, follows_ref, inherited_ref};
 ghost use Rattle.query_check.specs.Places.{IsRooted, IsTree, places_of};
-ghost use Rattle.query_check.specs.Seen.{level_uses, seen_entry, seen_item, seen_occurrence, seen_piece, seen_use, seen_variable, syntax_of};
+ghost use Rattle.query_check.specs.Seen.{level_uses, seen_cascading, seen_entry, seen_item, seen_occurrence, seen_piece, seen_use, seen_variable, syntax_of};
 ghost use Rattle.query_model.specs.Levels.{Path, alternatives, followed, level_of, placed_parts};
-ghost use Rattle.query_model.specs.Query.{add_mention, chain_of, checked_equality, checked_query, checked_term, entity_of, entries, is_definite_target, on_source_of, pieces_of, pieces_of_part, ref_of, mention_of, mentioned_by, is_as_checked, is_current, shown, source_of, up_of, visible_names};
+ghost use Rattle.query_model.specs.Cascades.{cascades as cascades_in};
+ghost use Rattle.query_model.specs.Query.{add_mention, cascade_of, chain_of, checked_equality, checked_query, checked_term, entity_cascaded, entity_of, entries, is_definite_target, on_source_of, pieces_of, pieces_of_part, ref_of, mention_of, mentioned_by, is_as_checked, is_current, shown, source_of, up_of, visible_names};
 ghost use Rattle.query_model.specs.Faults.{fault_at};
 ghost use Rattle.query_model.specs.Local.{is_local, is_simple};
 ghost use Rattle.query_model.specs.Observers.{monitored, observed, whole};
@@ -15,6 +16,7 @@ ghost use Rattle.query_model.specs.Numbers.{numbers_from};
 ghost use Rattle.query_model.specs.Query as specs;
 ghost use Rattle.query_model.specs.Seen.{seen_flags, seen_part, seen_reference, seen_term};
 
+use crate::cascades::Cascading;
 use crate::copies::{copy_of_names, copy_of_pieces};
 use crate::local::{are_local, are_simple, has_must, is_one_term};
 use crate::lookup::Lookup;
@@ -32,8 +34,11 @@ use query_model::syntax::{Flags, Part, Reference, Rise, Role, Spoken, TermSyntax
 use std::alloc::{AllocError, Allocator, Global};
 use std::marker::Model;
 
-/// The index of the built-in relationship ChildOf, along which a plain `up` asks.
+/// The index of the built-in relationship ChildOf, along which a plain `up` or `cascade` asks.
 const CHILD_OF: u32 = 1;
+
+/// The index of IsA, which leads from an instance to its base.
+const IS_A: u32 = 2;
 
 /// An item that is no group.
 #[derive(Debug, Drop)]
@@ -68,6 +73,7 @@ pub struct Query<A: Allocator = Global> {
     variables: Vec<Vec<u8, A>, A>,
     has_this: bool,
     pieces: Vec<Piece<A>, A>,
+    cascade: Option<EntityId>,
     numbered: Vec<Numbered, A>,
     shown: Vec<usize, A>,
     mentions: Vec<Mention, A>,
@@ -86,6 +92,7 @@ impl<A: Allocator> Model for Query<A> {
       variables = map (λ n. n.items) q.variables.items;
       has_this = q.has_this;
       pieces = map seen_piece q.pieces.items;
+      cascade = q.cascade;
       mentions = q.mentions.items;
       length = q.length;
     } };
@@ -113,6 +120,13 @@ impl<A: Allocator> Query<A> {
         ensures { map seen_piece result.now ≡ (self.now).pieces }
     {
         self.pieces.as_slice()
+    }
+
+    /// The relationship along which the rows are ordered: by the depth of `$this`, where a term has `cascade`.
+    pub fn cascade(&self) -> Option<EntityId>
+        ensures { result ≡ (self.now).cascade }
+    {
+        self.cascade
     }
 
     /// How many items there are, groups and the items inside them among them. Their numbers are those below.
@@ -223,6 +237,7 @@ impl<A: Allocator + Copy> Query<A> {
             variables: copy_of_names(alloc, self.variables.as_slice())?,
             has_this: self.has_this,
             pieces: copy_of_pieces(alloc, self.pieces.as_slice())?,
+            cascade: self.cascade,
             numbered: Vec::from_slice(alloc, self.numbered.as_slice())?,
             shown: Vec::from_slice(alloc, self.shown.as_slice())?,
             mentions: Vec::from_slice(alloc, self.mentions.as_slice())?,
@@ -246,6 +261,7 @@ fn is_as_checked<W: Lookup>(world: &W, mention: &Mention) -> bool
         && world.is_traversable(index) == mention.traversable
         && world.is_transitive(index) == mention.transitive
         && world.is_reflexive(index) == mention.reflexive
+        && world.is_inherited(index) == mention.inherited
 }
 
 /// The query of parts without faults, from a text of this length.
@@ -257,6 +273,7 @@ pub(crate) fn build<'a, A: Allocator + Copy, W: Lookup>(
     places: &[Place],
     uses: &[Use<'a>],
     found: &[Occurrence<'a>],
+    cascades: &[Cascading<'a>],
 ) -> Result<Query<A>, AllocError>
     requires places { places.now ≡ places_of (map seen_part parts.now) }
     requires length { length places.now ≡ length parts.now }
@@ -264,6 +281,7 @@ pub(crate) fn build<'a, A: Allocator + Copy, W: Lookup>(
     requires uses { map seen_use uses.now ≡ level_uses (map seen_part parts.now) }
     requires found { AreFound (W.known world.now) uses.now }
     requires occurrences { map seen_occurrence found.now ≡ sightings (map seen_part parts.now) }
+    requires cascades { map seen_cascading cascades.now ≡ cascades_in (map seen_part parts.now) }
     ensures { IfOk result (λ query. query ≡ checked_query (W.known world.now) (syntax_of (map seen_part parts.now) text_length)) }
 {
     let numbered = variables(alloc, parts, places, found)?;
@@ -282,11 +300,38 @@ pub(crate) fn build<'a, A: Allocator + Copy, W: Lookup>(
         variables: visible,
         has_this: has_this(parts, found),
         pieces,
+        cascade: cascade_of(world, cascades),
         numbered: entries,
         shown,
         mentions,
         length: text_length,
     })
+}
+
+/// The relationship of the first `cascade`.
+fn cascade_of<W: Lookup>(world: &W, cascades: &[Cascading<'_>]) -> Option<EntityId>
+    ensures { result ≡ cascade_of (W.known world.now) (map seen_cascading cascades.now) }
+{
+    match cascades.first() {
+        Some(cascading) => entity_cascaded(world, &cascading.along),
+        None => None,
+    }
+}
+
+/// The entity behind a `cascade`, ChildOf where none is written.
+fn entity_cascaded<W: Lookup>(world: &W, along: &Option<Reference<'_>>) -> Option<EntityId>
+    ensures { result ≡ entity_cascaded (W.known world.now) (option_map seen_reference along.now) }
+{
+    match along {
+        None => Some(EntityId {
+            index: CHILD_OF,
+            generation: 0,
+        }),
+        Some(reference) => match reference.spoken {
+            Spoken::Word(word) => world.find(word),
+            _ => None,
+        },
+    }
 }
 
 /// The names of the variables of the whole query.
@@ -369,6 +414,7 @@ fn mention_of<W: Lookup>(world: &W, entity: EntityId) -> Mention
         traversable: world.is_traversable(entity.index),
         transitive: world.is_transitive(entity.index),
         reflexive: world.is_reflexive(entity.index),
+        inherited: world.is_inherited(entity.index),
     }
 }
 
@@ -546,16 +592,18 @@ fn term_of<W: Lookup>(world: &W, scope: &Scope<'_, '_>, level: usize, term: &Ter
     ensures { (path : Path) → level ≡ level_of path → IsRooted scope.now.places.now path
         → result ≡ checked_term (W.known world.now) (map seen_occurrence scope.now.found.now) (map seen_variable scope.now.numbered.now) path (seen_term term.now) }
 {
-    let up = up_of(world, &term.flags);
+    let risen = up_of(world, &term.flags);
     let first = ref_of(world, scope, level, &term.first);
-    let follows = is_definite_target(&term.target) && follows(world, first);
+    let closed = is_definite_target(&term.target) && risen.is_none() && follows(world, first);
+    let reads_bases = term.flags.is_none() && !closed && is_inherited(world, first);
+    let up = if reads_bases { Some(IS_A) } else { risen };
     Term {
         first,
         target: target_of(world, scope, level, &term.target),
         source: source_of(world, scope, level, &term.source),
         on_source: on_source_of(&term.flags),
         up,
-        closed: follows && up.is_none(),
+        closed,
         valued: term.valued,
     }
 }
@@ -638,6 +686,16 @@ fn follows<W: Lookup>(world: &W, first: Ref) -> bool
     }
 }
 
+/// Whether a component or relationship is an entity whose facts instances inherit.
+fn is_inherited<W: Lookup>(world: &W, first: Ref) -> bool
+    ensures { result ≡ inherited_ref (W.known world.now) first }
+{
+    match first {
+        Ref::Is(entity) => world.is_inherited(entity),
+        _ => false,
+    }
+}
+
 fn is_definite_target(target: &Option<Reference<'_>>) -> bool
     ensures { result ≡ is_definite_target (option_map seen_reference target.now) }
 {
@@ -665,8 +723,8 @@ fn up_of<W: Lookup>(world: &W, flags: &Option<Flags<'_>>) -> Option<u32>
     };
     match flags.rise {
         Rise::No => None,
-        Rise::Up(None) => Some(CHILD_OF),
-        Rise::Up(Some(along)) => match along.spoken {
+        Rise::Up(_, None) => Some(CHILD_OF),
+        Rise::Up(_, Some(along)) => match along.spoken {
             Spoken::Word(word) => Some(entity_of(world, word)),
             _ => None,
         },

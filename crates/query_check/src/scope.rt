@@ -180,7 +180,7 @@ fn is_variable_if_written(reference: &Option<Reference<'_>>, name: &[u8]) -> boo
     }
 }
 
-fn is_variable(reference: &Reference<'_>, name: &[u8]) -> bool
+pub(crate) fn is_variable(reference: &Reference<'_>, name: &[u8]) -> bool
     ensures { result ≡ is_variable name.now (seen_reference reference.now) }
 {
     match reference.spoken {

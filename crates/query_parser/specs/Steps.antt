@@ -12,7 +12,7 @@ use Rattle.query_parser.specs.declared.machine.Completed.{Completed}
 use Rattle.query_parser.specs.declared.machine.Completed.TheVariants.{Nothing, Term, Equality, Opening}
 use Rattle.query_parser.specs.declared.machine.Nesting.{Nesting}
 use Rattle.query_parser.specs.declared.machine.Nesting.TheVariants.{Same, Opens, Closes}
-use Rattle.query_model.specs.Seen.{seen_reference, seen_term}
+use Rattle.query_model.specs.Seen.{seen_reference, seen_rise_word, seen_term}
 
 -- a state, with what was read of the item
 module _ (d : Draft) where
@@ -39,8 +39,8 @@ module _ (d : Draft) where
   seen_state FlagsNext = machine.flags_next d.role (d.term).valued first_of source_of
   seen_state BehindSelf = machine.behind_self d.role (d.term).valued first_of source_of
   seen_state RiseNext = machine.rise_next d.role (d.term).valued first_of source_of
-  seen_state (BehindUp own) = machine.behind_up d.role (d.term).valued first_of source_of own
-  seen_state (AlongNext own) = machine.along_next d.role (d.term).valued first_of source_of own
+  seen_state (BehindUp own) = machine.behind_up d.role (d.term).valued first_of source_of own (seen_rise_word d.word)
+  seen_state (AlongNext own) = machine.along_next d.role (d.term).valued first_of source_of own (seen_rise_word d.word)
   seen_state BehindVariable = machine.behind_variable (drop 1 d.name.now) (d.term).span
   seen_state (OtherSide same) = machine.other_side first_of same
   seen_state (BehindItem joined) = machine.behind_item joined
@@ -75,12 +75,12 @@ nested d Closes = d - 1
 abbrev pub seen_step : ℕ → Draft → Move → machine.Move
 seen_step depth d m = record { depth = nested depth m.nesting; state = seen_state d m.state; parts = completed d m.part m.nesting }
 
--- `up`, perhaps behind a source and `self`
+-- `up` or `cascade`, perhaps behind a source and `self`
 abbrev pub rise_step : ℕ → Role → Bool → syntax.Reference → Option syntax.Reference → Bool → tokens.Token → Option machine.Move
-rise_step d role v c source own (tokens.token (tokens.Name n) s) = machine.rise_word_step d role v c source own n
+rise_step d role v c source own (tokens.token (tokens.Name n) s) = machine.rise_word_step d role v c source own n s
 rise_step d role v c source own x = None
 
--- behind `up`, where no bracket follows
-abbrev pub plain_up_step : ℕ → Role → Bool → syntax.Reference → Option syntax.Reference → Bool → tokens.Token → Option machine.Move
-plain_up_step d role v c source own x =
-    machine.on (machine.word_of x) (λ r. machine.to d (machine.behind_flags role (syntax.rising v c source own (Some r)))) (machine.args_step d role (syntax.rising v c source own None) x)
+-- behind `up` or `cascade`, where no bracket follows
+abbrev pub plain_up_step : ℕ → Role → Bool → syntax.Reference → Option syntax.Reference → Bool → syntax.RiseWord → tokens.Token → Option machine.Move
+plain_up_step d role v c source own w x =
+    machine.on (machine.word_of x) (λ r. machine.to d (machine.behind_flags role (syntax.rising v c source own w (Some r)))) (machine.args_step d role (syntax.rising v c source own w None) x)

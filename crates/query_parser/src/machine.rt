@@ -6,12 +6,12 @@ ghost use Rattle.query_model.specs.Grammar.{is_access};
 ghost use Rattle.query_model.specs.Machine as machine;
 ghost use Rattle.query_model.specs.Syntax as syntax;
 ghost use Rattle.query_lexer.specs.Token.{seen};
-ghost use Rattle.query_model.specs.Seen.{seen_flags, seen_reference, seen_term};
+ghost use Rattle.query_model.specs.Seen.{seen_flags, seen_reference, seen_rise_word, seen_term};
 ghost use Rattle.query_parser.specs.declared.machine.Draft as item;
 ghost use Rattle.query_parser.specs.Steps.{seen_state, seen_step, plain_up_step, put_first, rise_step};
 
 use query_lexer::{Token, TokenKind};
-use query_model::syntax::{Flags, Reference, Rise, Role, Spoken, TermSyntax};
+use query_model::syntax::{Flags, Reference, Rise, RiseWord, Role, Spoken, TermSyntax};
 use query_model::{Mark, Span};
 
 /// What was read of the present item. Which of it is read, the state tells.
@@ -24,6 +24,8 @@ pub struct Draft<'a> {
     pub name: &'a str,
     /// The source behind which the machine stands, or the right side of an equality.
     pub last: Reference<'a>,
+    /// The word of the rise behind which it stands.
+    pub word: RiseWord,
 }
 
 /// What is to come, or behind what the machine stands.
@@ -47,7 +49,7 @@ pub enum State {
     FlagsNext,
     BehindSelf,
     RiseNext,
-    /// Behind `up`, and whether `self` stands before it.
+    /// Behind `up` or `cascade`, and whether `self` stands before it.
     BehindUp(bool),
     AlongNext(bool),
     BehindVariable,
@@ -105,6 +107,7 @@ pub fn blank<'a>() -> Draft<'a> {
         },
         name: "",
         last: none,
+        word: RiseWord::Up,
     }
 }
 
@@ -131,9 +134,9 @@ pub fn step<'a>(
         State::BehindFirst => first_step(depth, draft, token),
         State::SourceNext => source_step(depth, draft, token),
         State::BehindSource => behind_source_step(depth, draft, token),
-        State::FlagsNext => flags_step(depth, token),
+        State::FlagsNext => flags_step(depth, draft, token),
         State::BehindSelf => self_step(depth, draft, token),
-        State::RiseNext => rise_step(depth, true, token),
+        State::RiseNext => rise_step(depth, true, draft, token),
         State::BehindUp(own) => up_step(depth, own, draft, token),
         State::AlongNext(own) => along_step(depth, own, draft, token),
         State::BehindVariable => variable_step(depth, draft, token),
@@ -291,7 +294,7 @@ fn args_step<'a>(depth: usize, draft: &mut Draft<'a>, token: &Token<'a>) -> Opti
     }
 }
 
-/// Behind the relationship of `up(R)`: its bracket.
+/// Behind the relationship of `up(R)` or `cascade(R)`: its bracket.
 fn behind_along_step(depth: usize, token: &Token<'_>) -> Option<Move>
     ensures { (draft : item.Draft) → option_map (seen_step depth draft) result ≡ machine.along_step depth draft.role (seen_term draft.term) (seen token.now) }
 {
@@ -315,22 +318,29 @@ fn first_step<'a>(depth: usize, draft: &mut Draft<'a>, token: &Token<'a>) -> Opt
     }
 }
 
-/// Flags, perhaps behind a source: `self` or `up`.
-fn flags_step(depth: usize, token: &Token<'_>) -> Option<Move>
-    ensures { (draft : item.Draft) → option_map (seen_step depth draft) result ≡ machine.flags_step depth draft.role (draft.term).valued (seen_reference (draft.term).first) (option_map seen_reference (draft.term).source) (seen token.now) }
+/// Flags, perhaps behind a source: `self`, `up` or `cascade`.
+fn flags_step<'a>(depth: usize, draft: &mut Draft<'a>, token: &Token<'a>) -> Option<Move>
+    ensures { option_map (seen_step depth draft.new) result ≡ machine.flags_step depth (draft.old).role ((draft.old).term).valued (seen_reference ((draft.old).term).first) (option_map seen_reference ((draft.old).term).source) (seen token.now) }
 {
     match token.kind {
         TokenKind::Name if token.text == "self" => Some(to(State::BehindSelf)),
-        _ => rise_step(depth, false, token),
+        _ => rise_step(depth, false, draft, token),
     }
 }
 
-/// `up`, perhaps behind a source and `self`.
-fn rise_step(depth: usize, own: bool, token: &Token<'_>) -> Option<Move>
-    ensures { (draft : item.Draft) → option_map (seen_step depth draft) result ≡ rise_step depth draft.role (draft.term).valued (seen_reference (draft.term).first) (option_map seen_reference (draft.term).source) own (seen token.now) }
+/// `up` or `cascade`, perhaps behind a source and `self`.
+fn rise_step<'a>(depth: usize, own: bool, draft: &mut Draft<'a>, token: &Token<'a>) -> Option<Move>
+    ensures { option_map (seen_step depth draft.new) result ≡ rise_step depth (draft.old).role ((draft.old).term).valued (seen_reference ((draft.old).term).first) (option_map seen_reference ((draft.old).term).source) own (seen token.now) }
 {
     match token.kind {
-        TokenKind::Name if token.text == "up" => Some(to(State::BehindUp(own))),
+        TokenKind::Name if token.text == "up" => {
+            draft.word = RiseWord::Up;
+            Some(to(State::BehindUp(own)))
+        }
+        TokenKind::Name if token.text == "cascade" => {
+            draft.word = RiseWord::Cascade(token.span);
+            Some(to(State::BehindUp(own)))
+        }
         _ => None,
     }
 }
@@ -352,20 +362,20 @@ fn self_step<'a>(depth: usize, draft: &mut Draft<'a>, token: &Token<'a>) -> Opti
     }
 }
 
-/// Gives a term `up` and a relationship, if one is written.
-fn raise<'a>(term: &mut TermSyntax<'a>, own: bool, along: Option<Reference<'a>>)
-    ensures { term.new ≡ record term.old { target = None; flags = Some (record { on_source = own; rise = Rise.Up along.entry }); span = ((term.old).first).span } }
+/// Gives a term `up` or `cascade` and a relationship, if one is written.
+fn raise<'a>(term: &mut TermSyntax<'a>, own: bool, word: RiseWord, along: Option<Reference<'a>>)
+    ensures { term.new ≡ record term.old { target = None; flags = Some (record { on_source = own; rise = Rise.Up word along.entry }); span = ((term.old).first).span } }
 {
     let flags = Flags {
         on_source: own,
-        rise: Rise::Up(along),
+        rise: Rise::Up(word, along),
     };
     apply(term, Some(flags));
 }
 
-/// Behind `up`: its relationship, or what follows flags.
+/// Behind `up` or `cascade`: its relationship, or what follows flags.
 fn up_step<'a>(depth: usize, own: bool, draft: &mut Draft<'a>, token: &Token<'a>) -> Option<Move>
-    ensures { option_map (seen_step depth draft.new) result ≡ machine.up_step depth (draft.old).role ((draft.old).term).valued (seen_reference ((draft.old).term).first) (option_map seen_reference ((draft.old).term).source) own (seen token.now) }
+    ensures { option_map (seen_step depth draft.new) result ≡ machine.up_step depth (draft.old).role ((draft.old).term).valued (seen_reference ((draft.old).term).first) (option_map seen_reference ((draft.old).term).source) own (seen_rise_word (draft.old).word) (seen token.now) }
 {
     match token.kind {
         TokenKind::Mark(Mark::OpenParen) => Some(to(State::AlongNext(own))),
@@ -373,33 +383,33 @@ fn up_step<'a>(depth: usize, own: bool, draft: &mut Draft<'a>, token: &Token<'a>
     }
 }
 
-/// Behind `up`: a relationship without brackets, or what follows flags.
+/// Behind `up` or `cascade`: a relationship without brackets, or what follows flags.
 fn plain_up_step<'a>(
     depth: usize,
     own: bool,
     draft: &mut Draft<'a>,
     token: &Token<'a>,
 ) -> Option<Move>
-    ensures { option_map (seen_step depth draft.new) result ≡ plain_up_step depth (draft.old).role ((draft.old).term).valued (seen_reference ((draft.old).term).first) (option_map seen_reference ((draft.old).term).source) own (seen token.now) }
+    ensures { option_map (seen_step depth draft.new) result ≡ plain_up_step depth (draft.old).role ((draft.old).term).valued (seen_reference ((draft.old).term).first) (option_map seen_reference ((draft.old).term).source) own (seen_rise_word (draft.old).word) (seen token.now) }
 {
     match word(token) {
         Some(along) => {
-            raise(&mut draft.term, own, Some(along));
+            raise(&mut draft.term, own, draft.word, Some(along));
             Some(to(State::BehindFlags))
         }
         None => {
-            raise(&mut draft.term, own, None);
+            raise(&mut draft.term, own, draft.word, None);
             args_step(depth, draft, token)
         }
     }
 }
 
-/// The relationship of `up(R)`.
+/// The relationship of `up(R)` or `cascade(R)`.
 fn along_step<'a>(depth: usize, own: bool, draft: &mut Draft<'a>, token: &Token<'a>) -> Option<Move>
-    ensures { option_map (seen_step depth draft.new) result ≡ machine.along_next_step depth (draft.old).role ((draft.old).term).valued (seen_reference ((draft.old).term).first) (option_map seen_reference ((draft.old).term).source) own (seen token.now) }
+    ensures { option_map (seen_step depth draft.new) result ≡ machine.along_next_step depth (draft.old).role ((draft.old).term).valued (seen_reference ((draft.old).term).first) (option_map seen_reference ((draft.old).term).source) own (seen_rise_word (draft.old).word) (seen token.now) }
 {
     let along = word(token)?;
-    raise(&mut draft.term, own, Some(along));
+    raise(&mut draft.term, own, draft.word, Some(along));
     Some(to(State::BehindAlong))
 }
 
@@ -428,7 +438,7 @@ fn source_step<'a>(depth: usize, draft: &mut Draft<'a>, token: &Token<'a>) -> Op
         }
         None => {
             draft.term.source = None;
-            flags_step(depth, token)
+            flags_step(depth, draft, token)
         }
     }
 }
