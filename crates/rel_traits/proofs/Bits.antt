@@ -1,5 +1,5 @@
 -- A set's bits say which traits are held.
-use Rattle.std.proofs.Common.{◌≡◌, ◌≢◌, ℕ, zero, suc, ◌+◌, ◌*◌, ◌^◌, ◌<◌, ◌==◌, Bool, true, false, cond, List, [], ◌∷◌, length, get_or, refl, ap, ap₂, ◌∙◌, arith}
+use Rattle.std.proofs.Common.{◌≡◌, ◌≢◌, ℕ, zero, suc, ◌+◌, ◌*◌, ◌^◌, ◌≤◌, ◌<◌, ◌==◌, Bool, true, false, cond, List, [], ◌∷◌, length, get_or, refl, ap, ap₂, ◌∙◌, arith}
 use Rattle.std.specs.Prelude.{max}
 use Rattle.std.specs.Int.{bit_at}
 use Rattle.std.proofs.Math.Nat.{pow-suc}
@@ -47,6 +47,11 @@ bits_at held k (i ∷ is) (suc j) d l =
     zero_right true = refl
     zero_right false = refl
 
+bits_past : (held : List Id) (k : ℕ) (is : List Id) (b : ℕ) → k + length is ≤ b → bit_at (bits_from held k is) b ≡ 0
+unfolding bits_from
+bits_past held k [] b l = bit_at-zero b
+bits_past held k (i ∷ is) b l = bit_at_or (bits_from held (k + 1) is) (bit_if held i (2 ^ k)) b ∙ ap₂ max (bits_past held (k + 1) is b (omega arith)) (other_bit held i k b (λ e. absurd (omega (arith, e))))
+
 pow_above : (b : ℕ) → 0 < 2 ^ b
 pow_above zero = omega arith
 pow_above (suc b) = omega (arith, pow-suc 2 b, pow_above b)
@@ -55,5 +60,8 @@ tested : (n b : ℕ) (h : Bool) → bit_at n b ≡ cond h 1 0 → (bit_and n (2 
 tested n b true e = let is : bit_and n (2 ^ b) ≡ 2 ^ b = and_pow n b ∙ ap (λ m. m * 2 ^ b) e ∙ omega arith in grind (arith, nat_tests, is)
 tested n b false e = let is : bit_and n (2 ^ b) ≡ 0 = and_pow n b ∙ ap (λ m. m * 2 ^ b) e ∙ omega arith in let more = pow_above b in grind (arith, nat_tests, is, more)
 
-pub tells : (held : List Id) (b n : ℕ) → n ≡ bits_from held 0 trait_ids → b < 11 → (bit_and n (2 ^ b) == 2 ^ b) ≡ is_held held (get_or trait_ids b (plain 0))
+pub tells : (held : List Id) (b n : ℕ) → n ≡ bits_from held 0 trait_ids → b < 13 → (bit_and n (2 ^ b) == 2 ^ b) ≡ is_held held (get_or trait_ids b (plain 0))
 tells held b n is l = tested n b (is_held held (get_or trait_ids b (plain 0))) (ap (λ m. bit_at m b) is ∙ ap (bit_at (bits_from held 0 trait_ids)) (let z : b ≡ 0 + b = omega arith in z) ∙ bits_at held 0 trait_ids b (plain 0) (omega arith))
+
+pub tells_no_more : (held : List Id) (b n : ℕ) → n ≡ bits_from held 0 trait_ids → 13 ≤ b → (bit_and n (2 ^ b) == 2 ^ b) ≡ false
+tells_no_more held b n is l = tested n b false (ap (λ m. bit_at m b) is ∙ bits_past held 0 trait_ids b (omega arith))

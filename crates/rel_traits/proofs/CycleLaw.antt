@@ -14,7 +14,7 @@ use Rattle.ecs_model.specs.World.{key_cmp}
 use Rattle.ecs_model.proofs.Members.{any_passes, from_filter_map, in_filter_map, passing}
 use Rattle.ecs_model.proofs.Members.{eq_itself as number_itself}
 use Rattle.rel_traits.specs.After.{AddedFactsClose, ClosesOne, FreshAreAcyclic, HasBannedCycle, IsAfter, IsAfterAdding, IsTurned, TellsCycles}
-use Rattle.rel_traits.proofs.Cycling.{added_pairs_close, gone, others_stay_open, wider_cycle}
+use Rattle.rel_traits.proofs.Cycling.{one_way_pairs_close, gone, others_stay_open, wider_cycle}
 use Rattle.rel_traits.proofs.Ordered.{key_eq_same}
 use Rattle.rel_traits.proofs.Spreading.{is_along, is_back, joined, pair_only, plain_only}
 
@@ -129,7 +129,7 @@ module _ (ids after : ℕ → List Id) (e r t : ℕ) (ks : List Key) (exact : (z
     by_pair c was h back =
         elim (found_or_not ks (t, pair c e)) [
           | inl b ↦ there_and_back c h b
-          | inr away ↦ (added_pairs_close ids e r t c (next c) (steps_after ids after (e, pair r t) left c) (open_before c was) (led_to c h) (one_way c away)).1 back
+          | inr away ↦ (one_way_pairs_close ids e r t c (next c) (steps_after ids after (e, pair r t) left c) (open_before c was) (led_to c h) (one_way c away)).1 back
         ]
 
     closes_then : ClosesOne ids e ks → HasBannedCycle after
@@ -164,7 +164,7 @@ module _ (ids after : ℕ → List Id) (e r t : ℕ) (ks : List Key) (exact : (z
 
         by_own : Contains ks (e, pair c t) → ¬ (Contains ks (t, pair c e)) → ClosesOne ids e ks
         by_own h away =
-            let back = (added_pairs_close ids e r t c (next c) (steps_after ids after (e, pair r t) left c) (open_before c was) (led_to c h) (one_way c away)).0 cycle in
+            let back = (one_way_pairs_close ids e r t c (next c) (steps_after ids after (e, pair r t) left c) (open_before c was) (led_to c h) (one_way c away)).0 cycle in
             ((e, pair c t), h, (t, refl, was, inr back))
 
         by_mirror : Contains ks (t, pair c e) → (b : Bool) → (t == e) ≡ b → ClosesOne ids e ks

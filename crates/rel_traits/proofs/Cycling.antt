@@ -12,7 +12,7 @@ use Rattle.ecs_model.proofs.Members.{filtered}
 use Rattle.ecs_model.proofs.Closing.{steps_close_chains}
 use Rattle.ecs_model.proofs.Members.{from_flat_map, head_or_tail, in_flat_map}
 use Rattle.ecs_model.specs.Added.{IsAdded, IsReplaced}
-use Rattle.rel_traits.specs.After.{IsAfter, IsTurned, AddedPairsClose, OthersStayOpen, TurnedPairsClose}
+use Rattle.rel_traits.specs.After.{IsAfter, IsTurned, OneWayPairsClose, OthersStayOpen, TurnedPairsClose}
 use Rattle.ecs_model.specs.Added.{displaced, is_exclusive, is_symmetric}
 use Rattle.rel_traits.proofs.Spreading.{is_along, is_back, joined, pair_only}
 
@@ -166,8 +166,8 @@ module _ (ids : ℕ → List Id) where
 pub turned_pairs_close : TurnedPairsClose
 turned_pairs_close ids e r t c next after p s = both_ways ids e r t c next after p s
 
-pub added_pairs_close : AddedPairsClose
-added_pairs_close ids e r t c next after none p one_way = one_way_closes ids e r t c next after p one_way none
+pub one_way_pairs_close : OneWayPairsClose
+one_way_pairs_close ids e r t c next after none p one_way = one_way_closes ids e r t c next after p one_way none
 
 pub others_stay_open : OthersStayOpen
 others_stay_open ids e r t c next after none out = stays_open ids e r t c next after none out

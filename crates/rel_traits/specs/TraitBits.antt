@@ -2,7 +2,7 @@
 use Rattle.std.specs.Prelude.{ℕ, ◌+◌, ◌^◌, List, [], ◌∷◌, if◌then◌else◌}
 use Rattle.std.specs.Int.RustNames.{bit_or}
 use Rattle.ecs_id.specs.Id.{Id, plain, pair}
-use Rattle.ecs_model.specs.BuiltIns.{exclusive, symmetric, transitive, reflexive, acyclic, traversable, on_delete, on_delete_target, delete_mode, panic_mode}
+use Rattle.ecs_model.specs.BuiltIns.{exclusive, symmetric, transitive, reflexive, acyclic, traversable, on_delete, on_delete_target, delete_mode, panic_mode, on_instantiate, inherit_mode, dont_inherit_mode}
 use Rattle.ecs_model.specs.Links.{is_held}
 use Rattle.ecs_model.specs.World.{pair_is_tag}
 
@@ -10,7 +10,8 @@ use Rattle.ecs_model.specs.World.{pair_is_tag}
 abbrev pub trait_ids : List Id
 trait_ids =
     plain exclusive ∷ plain symmetric ∷ plain transitive ∷ plain reflexive ∷ plain acyclic ∷ plain traversable ∷ plain pair_is_tag
-    ∷ pair on_delete delete_mode ∷ pair on_delete panic_mode ∷ pair on_delete_target delete_mode ∷ pair on_delete_target panic_mode ∷ []
+    ∷ pair on_delete delete_mode ∷ pair on_delete panic_mode ∷ pair on_delete_target delete_mode ∷ pair on_delete_target panic_mode
+    ∷ pair on_instantiate inherit_mode ∷ pair on_instantiate dont_inherit_mode ∷ []
 
 -- the bit of an id that is held
 abbrev pub bit_if : List Id → Id → ℕ → ℕ

@@ -1,5 +1,5 @@
 //! The traits of a component or relationship as a set of bits.
-ghost use Rattle.std.specs.Prelude.{⊤, ◌≡◌, ◌<◌, ◌^◌, ◌==◌, ℕ, [], ◌∷◌, codes, slice_index_or};
+ghost use Rattle.std.specs.Prelude.{⊤, ◌≡◌, ◌≤◌, ◌<◌, ◌^◌, ◌==◌, ℕ, false, [], ◌∷◌, codes, slice_index_or};
 ghost use Rattle.std.specs.Int.RustNames.{bit_and};
 ghost use Rattle.ecs_id.specs.Id.{plain as plain_id};
 ghost use Rattle.ecs_model.specs.Links.{is_held};
@@ -8,8 +8,8 @@ ghost use Rattle.rel_traits.specs.TraitBits.{bit_if, trait_ids};
 use bitflags::{Flag, Flags, bitflag_items};
 use ecs_id::Id;
 use ecs_model::built_ins::{
-    ACYCLIC, DELETE, EXCLUSIVE, ON_DELETE, ON_DELETE_TARGET, PAIR_IS_TAG, PANIC, REFLEXIVE,
-    SYMMETRIC, TRANSITIVE, TRAVERSABLE,
+    ACYCLIC, DELETE, DONT_INHERIT, EXCLUSIVE, INHERIT, ON_DELETE, ON_DELETE_TARGET, ON_INSTANTIATE,
+    PAIR_IS_TAG, PANIC, REFLEXIVE, SYMMETRIC, TRANSITIVE, TRAVERSABLE,
 };
 use rel_travel::Graph;
 
@@ -30,6 +30,8 @@ bitflag_items! {
         const ON_DELETE_PANIC = 256;
         const ON_DELETE_TARGET_DELETE = 512;
         const ON_DELETE_TARGET_PANIC = 1024;
+        const ON_INSTANTIATE_INHERIT = 2048;
+        const ON_INSTANTIATE_DONT_INHERIT = 4096;
     }
 }
 
@@ -38,7 +40,7 @@ impl Flags for TraitSet {
 
     ghost exact = { ⊤ };
 
-    ghost table = { (codes "EXCLUSIVE", 1) ∷ (codes "SYMMETRIC", 2) ∷ (codes "TRANSITIVE", 4) ∷ (codes "REFLEXIVE", 8) ∷ (codes "ACYCLIC", 16) ∷ (codes "TRAVERSABLE", 32) ∷ (codes "PAIR_IS_TAG", 64) ∷ (codes "ON_DELETE_DELETE", 128) ∷ (codes "ON_DELETE_PANIC", 256) ∷ (codes "ON_DELETE_TARGET_DELETE", 512) ∷ (codes "ON_DELETE_TARGET_PANIC", 1024) ∷ [] };
+    ghost table = { (codes "EXCLUSIVE", 1) ∷ (codes "SYMMETRIC", 2) ∷ (codes "TRANSITIVE", 4) ∷ (codes "REFLEXIVE", 8) ∷ (codes "ACYCLIC", 16) ∷ (codes "TRAVERSABLE", 32) ∷ (codes "PAIR_IS_TAG", 64) ∷ (codes "ON_DELETE_DELETE", 128) ∷ (codes "ON_DELETE_PANIC", 256) ∷ (codes "ON_DELETE_TARGET_DELETE", 512) ∷ (codes "ON_DELETE_TARGET_PANIC", 1024) ∷ (codes "ON_INSTANTIATE_INHERIT", 2048) ∷ (codes "ON_INSTANTIATE_DONT_INHERIT", 4096) ∷ [] };
 
     ghost set_of = { λ s. s.0 };
 
@@ -55,12 +57,23 @@ impl Flags for TraitSet {
     }
 }
 
-/// The traits of an entity: each bit is set exactly if its fact is held.
+/// The traits of an entity: each bit is set exactly if its fact is held, and no other bit is.
 pub fn traits_of<G: Graph>(graph: &G, index: u32) -> TraitSet
-    ensures { (b : ℕ) → b < 11 → (bit_and result.0 (2 ^ b) == 2 ^ b) ≡ is_held (G.ids graph.now index) (slice_index_or trait_ids b (plain_id 0)) }
+    ensures held { (b : ℕ) → b < 13 → (bit_and result.0 (2 ^ b) == 2 ^ b) ≡ is_held (G.ids graph.now index) (slice_index_or trait_ids b (plain_id 0)) }
+    ensures no_more { (b : ℕ) → 13 ≤ b → (bit_and result.0 (2 ^ b) == 2 ^ b) ≡ false }
 {
     let ids = graph.ids(index);
     let mut traits = TraitSet::empty();
+    traits.insert(flag_if(
+        ids,
+        Id::pair(ON_INSTANTIATE, DONT_INHERIT),
+        TraitSet::ON_INSTANTIATE_DONT_INHERIT,
+    ));
+    traits.insert(flag_if(
+        ids,
+        Id::pair(ON_INSTANTIATE, INHERIT),
+        TraitSet::ON_INSTANTIATE_INHERIT,
+    ));
     traits.insert(flag_if(
         ids,
         Id::pair(ON_DELETE_TARGET, PANIC),

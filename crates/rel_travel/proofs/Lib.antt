@@ -3,6 +3,7 @@ mod Adding
 pub mod Begun
 mod Cleanup
 mod LineSearch
+pub mod Deepening
 mod Marks
 mod Rows
 mod WorkLists

@@ -1,5 +1,6 @@
 pub mod Finds
 pub mod Growing
+pub mod Words
 pub mod Trail
 pub mod Holders
 pub mod Lists

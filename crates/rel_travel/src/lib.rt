@@ -2,6 +2,7 @@
 #![tactic(auto)]
 
 mod chains;
+mod depths;
 mod falls;
 mod forbidding;
 mod found;
@@ -18,7 +19,7 @@ pub use found::Found;
 pub use graph::{Graph, Upward, target_under};
 pub use holders::{Downward, Holders, add_holders, may_be_target};
 pub use scratch::{
-    Scratch, above, below, deleted, deletion_is_forbidden, find_referrers, first_up, gather, pull,
-    reaches, would_cycle,
+    Scratch, above, below, deleted, deletion_is_forbidden, depth, find_referrers, first_up, gather,
+    known_depth, pull, reaches, would_cycle,
 };
 pub use work_list::Rule;

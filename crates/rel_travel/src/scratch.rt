@@ -5,15 +5,17 @@ ghost use Rattle.component_index.specs.Patterns.{matches};
 ghost use Rattle.component_index.specs.declared.pattern.Pattern.{Pattern as Asked};
 ghost use Rattle.ecs_id.specs.declared.TableKey.{TableKey};
 ghost use Rattle.ecs_model.specs.Falls.{falling};
-ghost use Rattle.ecs_model.specs.Links.{IsAcyclic, IsReached, line, reaches as reaches_in, upward};
+ghost use Rattle.ecs_model.specs.Links.{IsAcyclic, IsReached, depth as depth_in, line, reaches as reaches_in, upward};
 ghost use Rattle.ecs_model.specs.Reach.{IsLeast, Reached};
 ghost use Rattle.rel_travel.specs.Lists.{GivesOne, IsListing, IsToCome, given_by, steps};
 ghost use Rattle.rel_travel.specs.Growing.{IsGrownBy};
 ghost use Rattle.rel_travel.specs.Coming.{above_list, below_list, brought, coming, with_finds};
 ghost use Rattle.rel_travel.specs.Finds.{is_among, with_find};
 ghost use Rattle.rel_travel.specs.Referring.{is_forbidden, referrers};
+ghost use Rattle.rel_travel.specs.Words.{AreNumbers};
 
 use crate::chains::{begin_with, leads, leads_back, reach_of};
+use crate::depths::{noted_depth, own_depth};
 use crate::falls::find_falling;
 use crate::forbidding::has_forbidder;
 use crate::found::Found;
@@ -48,18 +50,21 @@ pub struct Scratch<A: Allocator = Global> {
     found: Found<A>,
     referring: Found<A>,
     path: Path<A>,
+    /// For depths. It has room for as many as the scratch covers; none is made before a depth is asked for, and all are 0 between calls.
+    words: Vec<u32, A>,
     list: Listing,
 }
 
 impl<A: Allocator> Model for Scratch<A> {
-    ghost use Rattle.std.specs.Prelude.{◌-◌, ◌≤◌};
+    ghost use Rattle.std.specs.Prelude.{◌-◌, ◌≤◌, vec_capacity};
     ghost use Rattle.rel_travel.specs.Lists.{Work};
+    ghost use Rattle.rel_travel.specs.Words.{NoneNoted};
 
     ghost Value = { Work };
 
     ghost view = { λ s. record { size = s.found.size; found = s.found.items; referrers = s.referring.items; relationship = s.list.relationship; is_upward = s.list.is_upward; goes_on = s.list.goes_on; given = s.list.given } };
 
-    ghost invariant = { λ s. (s.found.size ≤ s.path.room - 1) × (s.found.size ≤ s.referring.size) };
+    ghost invariant = { λ s. (s.found.size ≤ s.path.room - 1) × (s.found.size ≤ s.referring.size) × (s.found.size ≤ vec_capacity s.words) × NoneNoted s.words.items };
 }
 
 impl<A: Allocator + Copy> Scratch<A> {
@@ -72,6 +77,7 @@ impl<A: Allocator + Copy> Scratch<A> {
             found: Found::new(alloc),
             referring: Found::new(alloc),
             path: Path::new(alloc),
+            words: Vec::new(alloc),
             list: Listing {
                 relationship: 0,
                 is_upward: true,
@@ -89,6 +95,8 @@ impl<A: Allocator + Copy> Scratch<A> {
         ensures refused { OnErr result (self.new ≡ self.old) }
     {
         self.path.reserve(size as usize + 1)?;
+        self.words
+            .reserve((size as usize).saturating_sub(self.words.len()))?;
         self.referring.reserve(size)?;
         self.found.reserve(size)
     }
@@ -334,6 +342,63 @@ pub fn first_up<G: Graph, A: Allocator>(
         index,
         relationship,
         pattern,
+        &mut scratch.found,
+        &mut scratch.path,
+    )
+}
+
+/// How many pairs the longest chain of a relationship has that starts at an entity, 0 where it has no such pair.
+///
+/// It goes through the ids of the entity and of its ancestors, each twice. The first call over a graph also makes a word for each entity, in room that
+/// is there.
+pub fn depth<G: Graph, A: Allocator>(
+    graph: &G,
+    index: u32,
+    relationship: u32,
+    scratch: &mut Scratch<A>,
+) -> u32
+    requires covered { G.size graph.now ≤ scratch.old.size }
+    requires inside { index < G.size graph.now }
+    requires acyclic { IsAcyclic (G.ids graph.now) relationship }
+    ensures size { scratch.new.size ≡ scratch.old.size }
+    ensures depth { result ≡ depth_in (G.ids graph.now) (G.entities graph.now) relationship index }
+{
+    own_depth(
+        graph,
+        index,
+        relationship,
+        &mut scratch.words,
+        &mut scratch.found,
+        &mut scratch.path,
+    )
+}
+
+/// The same, where a word for each entity may tell one more than its depth; 0 tells nothing. What is found is noted there, for the entity and for its
+/// ancestors. So calls that share their words look at each ancestor once.
+///
+/// It goes through the ids of each of them of which nothing is known, twice.
+pub fn known_depth<G: Graph, A: Allocator>(
+    graph: &G,
+    index: u32,
+    relationship: u32,
+    known: &mut [u32],
+    scratch: &mut Scratch<A>,
+) -> u32
+    requires words { G.size graph.now ≤ length known.old }
+    requires covered { G.size graph.now ≤ scratch.old.size }
+    requires inside { index < G.size graph.now }
+    requires acyclic { IsAcyclic (G.ids graph.now) relationship }
+    requires known { AreNumbers (depth_in (G.ids graph.now) (G.entities graph.now) relationship) known.old }
+    ensures size { scratch.new.size ≡ scratch.old.size }
+    ensures length { length known.new ≡ length known.old }
+    ensures known { AreNumbers (depth_in (G.ids graph.now) (G.entities graph.now) relationship) known.new }
+    ensures depth { result ≡ depth_in (G.ids graph.now) (G.entities graph.now) relationship index }
+{
+    noted_depth(
+        graph,
+        index,
+        relationship,
+        known,
         &mut scratch.found,
         &mut scratch.path,
     )
