@@ -20,7 +20,7 @@ use Rattle.ecs_archetypes.specs.declared.plans.Move.{Move}
 use Rattle.ecs_archetypes.specs.Archetypes.{IsSound, meaning}
 use Rattle.ecs_archetypes.specs.Holdings.{HoldAlike, Holdings, cells_at, held_at, is_settled, lives, with_cells}
 use Rattle.ecs_archetypes.specs.Housing.{Housing, holdings_of}
-use Rattle.ecs_archetypes.specs.Moves.{AreReady, moves_to, shape_in, with_all_moved, with_moved}
+use Rattle.ecs_archetypes.specs.Moves.{AreReady, shape_in, with_all_moved, with_moved}
 use Rattle.ecs_archetypes.specs.Tables.{LeavesRoom, StandAlike, TakesRoom, one_in}
 use Rattle.ecs_archetypes.proofs.ArchetypeCalls.{cells_view, row_here}
 use Rattle.ecs_archetypes.proofs.Carried.{carried_self}
@@ -135,15 +135,6 @@ carried_more before now next moves rest m so_far held alike room =
       held = alike_then _ _ _ (moved_alike before.tables rest (holdings_of next) (with_moved (holdings_of now) m.entity (shape_in before.tables m.to)) (subst (λ g. HoldAlike (holdings_of next) (with_moved (holdings_of now) m.entity g)) (sym is) here)) so_far.held;
       alike = record { shapes = λ k. alike.shapes k ∙ so_far.alike.shapes k; last = alike.last ∙ so_far.alike.last };
     }
-
--- planned moves do the same in a store where the tables stand on
-pub all_moved_same : (s n : Store) → ((k : TableKey) (f : Shape) → shape_at s k ≡ Some f → shape_at n k ≡ Some f) → (ms : List Move) → ((q : TableKey) → moves_to q ms ≤ room_at s q) → (h : Holdings) → with_all_moved n ms h ≡ with_all_moved s ms h
-all_moved_same s n on [] room h = refl
-all_moved_same s n on (m ∷ ms) room h =
-    let own : one_in m.to m.to ≡ 1 = ap (λ b. cond b 1 0) ((key_eq-tells m.to m.to).1 refl) in
-    let f = room_stands s m.to (let le = room m.to in omega (arith, le, own)) in
-    ap (λ g. with_all_moved n ms (with_moved h m.entity (unwrap_or g []))) (on m.to f.0 f.1 ∙ sym f.1)
-    ∙ all_moved_same s n on ms (λ q. let le = room q in omega (arith, le)) (with_moved h m.entity (shape_in s m.to))
 
 -- tables have given memory back, and nothing else has changed
 pub record AreShrunk (before now : Housing) : Type 0 where

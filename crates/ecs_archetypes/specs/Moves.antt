@@ -1,13 +1,9 @@
 -- Moves that are prepared one after another and carried out together, and entities that are deleted one after another.
-use Rattle.std.specs.Prelude.{◌≡◌, ◌≤◌, ◌+◌, ℕ, ◌&&◌, ◌==◌, nat_le, not, true, Bool, List, [], ◌∷◌, ◌++◌, Some, unwrap_or, IsTrue}
+use Rattle.std.specs.Prelude.{◌≡◌, ◌≤◌, ◌+◌, ℕ, ◌&&◌, ◌==◌, not, true, Bool, List, [], ◌∷◌, ◌++◌, Some, unwrap_or, IsTrue}
 use Rattle.std.specs.List.{list_all}
-use Rattle.std.specs.FinMap.{is_sorted}
-use Rattle.ecs_id.specs.Id.{Id, id_cmp}
 use Rattle.ecs_id.specs.declared.EntityId.{EntityId}
 use Rattle.ecs_id.specs.declared.TableKey.{TableKey}
 use Rattle.ecs_archetypes.specs.declared.plans.Move.{Move}
-use Rattle.ecs_archetypes.specs.declared.plans.Target.{Target}
-use Rattle.ecs_archetypes.specs.Archetypes.{known_in}
 use Rattle.ecs_archetypes.specs.Holdings.{Holdings, held_at, is_settled, with_cells, without_entity}
 use Rattle.ecs_archetypes.specs.Housing.{Housing, holdings_of}
 use Rattle.ecs_archetypes.specs.Tables.{one_in}
@@ -58,27 +54,3 @@ pub record IsPlanned (s : Store) (old : List Move) (e : EntityId) (f : Shape) (n
   pub to : TableKey
   pub shape : shape_at s to ≡ Some f
   pub moves : new ≡ old ++ record { entity = e; from = from; to = to } ∷ []
-
--- whether an id has the size that all ids of its kind have
-abbrev pub fits : (Id → ℕ) → Id × ℕ → Bool
-fits size c = c.1 == size c.0
-
--- whether ids rise, and each has its size, of 64 bytes at most
-abbrev pub is_shape : (Id → ℕ) → Shape → Bool
-is_shape size f = is_sorted id_cmp f && list_all (λ c. nat_le c.1 64) f && list_all (fits size) f
-
-module _ {Y : Type 0} where
-  -- the ids that an entity is to hold
-  abbrev pub asked_of : Target Y → Shape
-  asked_of t = t.ids.items
-
-  -- each entity stands somewhere, and each id has one size in all tables and targets
-  pub record AreTargets (h : Housing) (size : Id → ℕ) (targets : List (Target Y)) : Type 0 where
-    pub settled : IsTrue (list_all (λ t. is_settled (holdings_of h) t.entity) targets)
-    pub shapes : IsTrue (list_all (λ t. is_shape size (asked_of t)) targets)
-    pub known : IsTrue (list_all (fits size) (known_in h.tables))
-
-  -- the holdings after each entity has moved to its ids
-  abbrev pub with_each_moved : List (Target Y) → Holdings → Holdings
-  with_each_moved [] h = h
-  with_each_moved (t ∷ ts) h = with_each_moved ts (with_moved h t.entity (asked_of t))

@@ -1,21 +1,18 @@
 //! Entities that come: into a table that has room, or with all that this takes.
-ghost use Rattle.std.specs.Prelude.{◌≡◌, ◌<◌, ◌≤◌, ◌+◌, List, None, Some, IfOk, IsSome, OnErr, OnOk, IsTrue};
+ghost use Rattle.std.specs.Prelude.{◌≡◌, ◌<◌, ◌+◌, None, Some, IfOk, IsSome, OnErr, OnOk, IsTrue};
 ghost use Rattle.std.specs.Prelude.{nat_le};
 ghost use Rattle.std.specs.List.{list_all};
 ghost use Rattle.ecs_id.specs.declared.TableKey.{TableKey};
 ghost use Rattle.ecs_id.specs.Id.{id_cmp};
 ghost use Rattle.ecs_model.specs.Map.{IsMap};
 ghost use Rattle.ecs_archetypes.specs.Archetypes.{known_in};
-ghost use Rattle.ecs_archetypes.specs.declared.plans.Move.{Move};
 ghost use Rattle.ecs_archetypes.specs.Holdings.{AreHoldings, HoldAlike, KeepsSizes, agrees, cells_at, lives, upcoming, with_cells, with_entity, zero_cells};
 ghost use Rattle.ecs_archetypes.specs.Housing.{IsHoused, holdings_of};
-ghost use Rattle.ecs_archetypes.specs.Moves.{AreReady, moves_to, with_all_moved};
-ghost use Rattle.ecs_archetypes.specs.Tables.{StandAlike, TakesRoom, one_in};
+ghost use Rattle.ecs_archetypes.specs.Tables.{StandAlike};
 ghost use Rattle.table_store.specs.Going.{TablesGoOn};
 ghost use Rattle.table_store.specs.Store.{Shape, room_at, shape_at};
 
 use crate::Archetypes;
-use crate::plans::Plan;
 use crate::rows::enter;
 use crate::tables::table_for;
 use ecs_id::{EntityId, TableKey};
@@ -61,43 +58,18 @@ impl<A: Allocator + Copy> Archetypes<A> {
         let entity = self.create_in(key)?;
         Ok(entity)
     }
-
-    /// Makes an entity in the table of these ids, with zeros as their values, and then carries out the moves that were planned; or does
-    /// neither. The caller has seen that an index is left.
-    pub fn create_and_move(&mut self, ids: &[SizedId], plan: &Plan<A>) -> Result<EntityId, Memory>
-        requires left { IsSome (upcoming (holdings_of self.old)) }
-        requires ready { AreReady self.old plan.now }
-        requires ascend { IsMap id_cmp ids.now }
-        requires small { IsTrue (list_all (λ c. nat_le c.1 64) ids.now) }
-        requires agree { IsTrue (list_all (λ c. agrees (known_in self.old.tables) c.0 c.1) ids.now) }
-        ensures next { IfOk result (λ e. upcoming (holdings_of self.old) ≡ Some e) }
-        ensures born { IfOk result (λ e. HoldAlike (holdings_of self.new) (with_all_moved self.old.tables plan.now (with_cells (with_entity (holdings_of self.old) e) e.index (zero_cells ids.now)))) }
-        ensures refused { OnErr result (HoldAlike (holdings_of self.new) (holdings_of self.old)) }
-        ensures sizes { KeepsSizes (known_in self.old.tables) ids.now (known_in self.new.tables) }
-        ensures goes_on { TablesGoOn self.old.tables self.new.tables }
-        ensures holdings { AreHoldings (holdings_of self.new) }
-        ensures whole { IsHoused self.new }
-    {
-        let key = self.prepare_beside(ids, plan)?;
-        let entity = self.create_in(key)?;
-        self.carry_out(plan);
-        Ok(entity)
-    }
 }
 
 impl<A: Allocator> Archetypes<A> {
-    /// Makes an entity in a table that has room, with zeros as its values. The caller has seen that an index is left.
-    ///
-    /// It is the last call of a command that takes memory: where that is refused, nothing has changed.
-    pub fn create_in(&mut self, to: TableKey) -> Result<EntityId, Memory>
+    // Makes an entity in a table that has room, with zeros as its values. The caller has seen that an index is left.
+    // Where memory is refused, nothing has changed.
+    fn create_in(&mut self, to: TableKey) -> Result<EntityId, Memory>
         requires left { IsSome (upcoming (holdings_of self.old)) }
         requires room { 0 < room_at self.old.tables to }
         ensures next { IfOk result (λ e. upcoming (holdings_of self.old) ≡ Some e) }
         ensures born { (f : Shape) → shape_at self.old.tables to ≡ Some f → IfOk result (λ e. HoldAlike (holdings_of self.new) (with_cells (with_entity (holdings_of self.old) e) e.index (zero_cells f))) }
         ensures refused { OnErr result (self.new ≡ self.old) }
         ensures alike { StandAlike self.old.tables self.new.tables }
-        ensures room { TakesRoom to self.old.tables self.new.tables }
-        ensures ready { (moves : List Move) → AreReady self.old moves → ((q : TableKey) → moves_to q moves + one_in to q ≤ room_at self.old.tables q) → AreReady self.new moves }
         ensures holdings { AreHoldings (holdings_of self.new) }
         ensures whole { IsHoused self.new }
     {

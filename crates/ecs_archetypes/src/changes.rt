@@ -1,19 +1,18 @@
 //! Moves of several entities: all growth first, then writes that can't fail.
-ghost use Rattle.std.specs.Prelude.{◌≡◌, ◌<◌, ◌≤◌, ◌+◌, ℕ, Some, IfOk, OnErr, OnOk, IsTrue};
+ghost use Rattle.std.specs.Prelude.{◌≡◌, ◌<◌, ◌≤◌, ◌+◌, Some, IfOk, IsTrue};
 ghost use Rattle.std.specs.Prelude.{nat_le};
 ghost use Rattle.std.specs.List.{list_all};
-ghost use Rattle.ecs_id.specs.Id.{Id, id_cmp};
+ghost use Rattle.ecs_id.specs.Id.{id_cmp};
 ghost use Rattle.ecs_model.specs.Map.{IsMap};
 ghost use Rattle.ecs_archetypes.specs.Archetypes.{known_in};
 ghost use Rattle.ecs_archetypes.specs.Holdings.{AreHoldings, HoldAlike, KeepsSizes, agrees, is_settled};
 ghost use Rattle.ecs_archetypes.specs.Housing.{IsHoused, holdings_of};
-ghost use Rattle.ecs_archetypes.specs.Moves.{AreReady, AreTargets, IsPlanned, are_deletable, moves_to, with_all_moved, with_each_moved, with_moved, without_each};
+ghost use Rattle.ecs_archetypes.specs.Moves.{AreReady, moves_to, with_all_moved, with_moved};
 ghost use Rattle.ecs_archetypes.specs.Tables.{HasGrown, StandAlike, TakesRoom};
-ghost use Rattle.table_store.specs.Going.{TablesGoOn};
 ghost use Rattle.table_store.specs.Store.{Shape, room_at, shape_at};
 
 use crate::Archetypes;
-use crate::plans::{Move, Plan, Target};
+use crate::plans::{Move, Plan};
 use crate::rows::carry;
 use crate::tables::{table_beside, table_for};
 use ecs_id::{EntityId, TableKey};
@@ -22,8 +21,8 @@ use std::alloc::Allocator;
 use table_store::SizedId;
 
 impl<A: Allocator + Copy> Archetypes<A> {
-    /// The table of these ids, with room for so many more rows. Other tables keep their room.
-    pub fn prepare(&mut self, ids: &[SizedId], rows: usize) -> Result<TableKey, Memory>
+    // The table of these ids, with room for so many more rows. Other tables keep their room.
+    pub(crate) fn prepare(&mut self, ids: &[SizedId], rows: usize) -> Result<TableKey, Memory>
         requires ascend { IsMap id_cmp ids.now }
         requires small { IsTrue (list_all (λ c. nat_le c.1 64) ids.now) }
         requires agree { IsTrue (list_all (λ c. agrees (known_in self.old.tables) c.0 c.1) ids.now) }
@@ -38,8 +37,12 @@ impl<A: Allocator + Copy> Archetypes<A> {
         table_for(&mut self.tables, &mut self.components, ids, rows)
     }
 
-    /// The table of these ids, with room for the planned moves to it and for a row more. Other tables keep their room.
-    pub fn prepare_beside(&mut self, ids: &[SizedId], plan: &Plan<A>) -> Result<TableKey, Memory>
+    // The table of these ids, with room for the planned moves to it and for a row more. Other tables keep their room.
+    pub(crate) fn prepare_beside(
+        &mut self,
+        ids: &[SizedId],
+        plan: &Plan<A>,
+    ) -> Result<TableKey, Memory>
         requires ascend { IsMap id_cmp ids.now }
         requires small { IsTrue (list_all (λ c. nat_le c.1 64) ids.now) }
         requires agree { IsTrue (list_all (λ c. agrees (known_in self.old.tables) c.0 c.1) ids.now) }
@@ -54,77 +57,10 @@ impl<A: Allocator + Copy> Archetypes<A> {
         table_beside(&mut self.tables, &mut self.components, ids, plan)
     }
 
-    /// Plans the move of an entity to the table of these ids, after others that are planned already: each table gets room for its moves.
-    pub fn plan(
-        &mut self,
-        plan: &mut Plan<A>,
-        entity: EntityId,
-        ids: &[SizedId],
-    ) -> Result<(), Memory>
-        requires settled { IsTrue (is_settled (holdings_of self.old) entity) }
-        requires ready { AreReady self.old plan.old }
-        requires ascend { IsMap id_cmp ids.now }
-        requires small { IsTrue (list_all (λ c. nat_le c.1 64) ids.now) }
-        requires agree { IsTrue (list_all (λ c. agrees (known_in self.old.tables) c.0 c.1) ids.now) }
-        ensures planned { OnOk result (IsPlanned self.new.tables plan.old entity ids.now plan.new) }
-        ensures refused { OnErr result (plan.new ≡ plan.old) }
-        ensures ready { AreReady self.new plan.new }
-        ensures entities { self.new.entities ≡ self.old.entities }
-        ensures grown { HasGrown self.old.tables self.new.tables }
-        ensures held { HoldAlike (holdings_of self.new) (holdings_of self.old) }
-        ensures sizes { KeepsSizes (known_in self.old.tables) ids.now (known_in self.new.tables) }
-        ensures holdings { AreHoldings (holdings_of self.new) }
-        ensures whole { IsHoused self.new }
-    {
-        let to = self.prepare_beside(ids, plan)?;
-        let from = self.table_of(entity).unwrap_or(to);
-        let Ok(()) = plan.push(Move { entity, from, to }) else {
-            return Err(Memory);
-        };
-        Ok(())
-    }
-
-    /// Moves each entity to the table of its ids, or none of them.
-    pub fn move_each(&mut self, alloc: A, targets: &[Target<A>]) -> Result<(), Memory>
-        requires targets { (size : Id → ℕ) × AreTargets self.old size targets.now }
-        ensures moved { OnOk result (HoldAlike (holdings_of self.new) (with_each_moved targets.now (holdings_of self.old))) }
-        ensures refused { OnErr result (HoldAlike (holdings_of self.new) (holdings_of self.old)) }
-        ensures goes_on { TablesGoOn self.old.tables self.new.tables }
-        ensures holdings { AreHoldings (holdings_of self.new) }
-        ensures whole { IsHoused self.new }
-    {
-        let mut plan = Plan::new(alloc);
-        for target in targets {
-            self.plan(&mut plan, target.entity, target.ids.as_slice())?;
-        }
-        self.carry_out(&plan);
-        Ok(())
-    }
-
-    /// Moves each entity to the table of its ids and then deletes the dead, or does neither.
-    pub fn change(
-        &mut self,
-        alloc: A,
-        targets: &[Target<A>],
-        dead: &[EntityId],
-    ) -> Result<(), Memory>
-        requires targets { (size : Id → ℕ) × AreTargets self.old size targets.now }
-        requires dead { IsTrue (are_deletable (holdings_of self.old) dead.now) }
-        ensures changed { OnOk result (HoldAlike (holdings_of self.new) (without_each dead.now (with_each_moved targets.now (holdings_of self.old)))) }
-        ensures refused { OnErr result (HoldAlike (holdings_of self.new) (holdings_of self.old)) }
-        ensures goes_on { TablesGoOn self.old.tables self.new.tables }
-        ensures holdings { AreHoldings (holdings_of self.new) }
-        ensures whole { IsHoused self.new }
-    {
-        self.move_each(alloc, targets)?;
-        self.delete_each(dead);
-        Ok(())
-    }
-
-    /// Moves an entity to a table that has room. It keeps the values of the ids there, and the others are zeros.
-    ///
-    /// Where it stands in the table already, nothing is done. The table that it leaves keeps its memory: see `shrink`.
-    pub fn move_to(&mut self, entity: EntityId, to: TableKey)
+    // Moves an entity to a table that has room. It keeps the values of the ids there, and the others are zeros.
+    //
+    // Where it stands in the table already, nothing is done. The table that it leaves keeps its memory: see `shrink`.
+    fn move_to(&mut self, entity: EntityId, to: TableKey)
         requires settled { IsTrue (is_settled (holdings_of self.old) entity) }
         requires room { 0 < room_at self.old.tables to }
         ensures held { (f : Shape) → shape_at self.old.tables to ≡ Some f → HoldAlike (holdings_of self.new) (with_moved (holdings_of self.old) entity f) }
@@ -138,8 +74,8 @@ impl<A: Allocator + Copy> Archetypes<A> {
         }
     }
 
-    /// Carries out the moves that were planned, one after another. The tables that they left then give memory back.
-    pub fn carry_out(&mut self, plan: &Plan<A>)
+    // Carries out the moves that were planned, one after another. The tables that they left then give memory back.
+    pub(crate) fn carry_out(&mut self, plan: &Plan<A>)
         requires ready { AreReady self.old plan.now }
         ensures held { HoldAlike (holdings_of self.new) (with_all_moved self.old.tables plan.now (holdings_of self.old)) }
         ensures alike { StandAlike self.old.tables self.new.tables }

@@ -1,42 +1,36 @@
 //! Entities and tables that go, and memory that is given back.
-ghost use Rattle.std.specs.Prelude.{◌≡◌, ◌==◌, not, List, false, IsSome, IsTrue};
-ghost use Rattle.std.specs.List.{list_all};
+ghost use Rattle.std.specs.Prelude.{◌≡◌, not, false, IsTrue};
 ghost use Rattle.ecs_id.specs.declared.TableKey.{TableKey};
-ghost use Rattle.ecs_archetypes.specs.declared.plans.Move.{Move};
 ghost use Rattle.ecs_archetypes.specs.Holdings.{AreHoldings, HoldAlike, is_settled, without_entity};
 ghost use Rattle.ecs_archetypes.specs.Housing.{IsHoused, holdings_of};
-ghost use Rattle.ecs_archetypes.specs.Moves.{AreReady, are_deletable, without_each};
+ghost use Rattle.ecs_archetypes.specs.Moves.{are_deletable, without_each};
 ghost use Rattle.ecs_archetypes.specs.Scans.{HasMatch, StandApart};
-ghost use Rattle.ecs_archetypes.specs.Tables.{LeavesRoom, StandAlike};
+ghost use Rattle.ecs_archetypes.specs.Tables.{StandAlike};
 ghost use Rattle.ecs_model.specs.World.{is_built_in};
-ghost use Rattle.table_store.specs.Going.{TablesGoOn};
 ghost use Rattle.table_store.specs.Rows.{rows_in};
-ghost use Rattle.table_store.specs.Store.{released_at, table_at};
 
 use crate::Archetypes;
 use crate::rows::leave;
-use crate::tables::{release_entered, release_matched};
+use crate::tables::release_matched;
 use component_index::Pattern;
 use ecs_id::{EntityId, TableKey};
 use std::alloc::Allocator;
 
 impl<A: Allocator + Copy> Archetypes<A> {
-    /// Deletes an entity with its row. Its table keeps its memory: see `shrink`.
-    pub fn delete(&mut self, entity: EntityId)
+    // Deletes an entity with its row. Its table keeps its memory: see `shrink`.
+    fn delete(&mut self, entity: EntityId)
         requires settled { IsTrue (is_settled (holdings_of self.old) entity) }
         requires deletable { is_built_in entity.index ≡ false }
         ensures held { HoldAlike (holdings_of self.new) (without_entity (holdings_of self.old) entity.index) }
         ensures alike { StandAlike self.old.tables self.new.tables }
-        ensures room { LeavesRoom self.old.tables self.new.tables }
-        ensures ready { (moves : List Move) → IsTrue (list_all (λ m. not (m.entity.index == entity.index)) moves) → AreReady self.old moves → AreReady self.new moves }
         ensures whole { IsHoused self.new }
     {
         let place = self.entities.place(entity).unwrap();
         leave(&mut self.entities, &mut self.tables, entity, place);
     }
 
-    /// Deletes entities with their rows, one after another. Each time the table gives memory back.
-    pub fn delete_each(&mut self, dead: &[EntityId])
+    // Deletes entities with their rows, one after another. Each time the table gives memory back.
+    pub(crate) fn delete_each(&mut self, dead: &[EntityId])
         requires deletable { IsTrue (are_deletable (holdings_of self.old) dead.now) }
         ensures held { HoldAlike (holdings_of self.new) (without_each dead.now (holdings_of self.old)) }
         ensures alike { StandAlike self.old.tables self.new.tables }
@@ -63,19 +57,6 @@ impl<A: Allocator + Copy> Archetypes<A> {
         }
     }
 
-    /// Takes a table without rows away, and its key for good.
-    pub fn release(&mut self, key: TableKey)
-        requires stands { IsSome (table_at self.old.tables key) }
-        requires empty { rows_in self.old.tables key ≡ 0 }
-        ensures tables { (q : TableKey) → table_at self.new.tables q ≡ released_at self.old.tables key q }
-        ensures entities { self.new.entities ≡ self.old.entities }
-        ensures held { HoldAlike (holdings_of self.new) (holdings_of self.old) }
-        ensures goes_on { TablesGoOn self.old.tables self.new.tables }
-        ensures whole { IsHoused self.new }
-    {
-        release_entered(&mut self.tables, &mut self.components, key);
-    }
-
     /// Takes each table that has an id that the pattern matches away, and their keys for good. None of them has rows.
     pub fn release_matched(&mut self, pattern: Pattern)
         requires empty { (k : TableKey) → HasMatch self.old.tables pattern k → rows_in self.old.tables k ≡ 0 }
@@ -88,10 +69,9 @@ impl<A: Allocator + Copy> Archetypes<A> {
         release_matched(&mut self.tables, &mut self.components, pattern);
     }
 
-    /// Gives the memory back that rows left behind in a table, and its room: not between a plan and its moves.
-    ///
-    /// Of a table that is gone it does nothing.
-    pub fn shrink(&mut self, key: TableKey)
+    // Gives the memory back that rows left behind in a table, and its room: not between a plan and its moves.
+    // Of a table that is gone it does nothing.
+    pub(crate) fn shrink(&mut self, key: TableKey)
         ensures entities { self.new.entities ≡ self.old.entities }
         ensures held { HoldAlike (holdings_of self.new) (holdings_of self.old) }
         ensures alike { StandAlike self.old.tables self.new.tables }

@@ -9,12 +9,8 @@
 //! let found = entities.find(earth, position.id()).unwrap();
 //! entities.set_value(earth, found.place, position.id(), &[1, 0, 0, 0, 2, 0, 0, 0]);
 //!
-//! // moves of several entities: all are planned, which takes all memory that they need, and then carried out, which can't fail
-//! let mut plan = Plan::new(rt.alloc());
-//! entities.plan(&mut plan, earth, &[position, likes])?;
-//! let moon = entities.create_and_move(&[likes], &plan)?;
-//!
 //! // facts that come and go of several entities, and deaths: all of it or nothing
+//! let moon = entities.create(&[position])?;
 //! let mut facts = FactPlan::new(rt.alloc());
 //! let came = [SizedFact::new(FactKey::new(moon.index, position.id()), 8)];
 //! entities.change_facts(&mut facts, &came, &[FactKey::new(earth.index, likes.id())], &[])?;
@@ -22,11 +18,6 @@
 //! // what queries read: the tables that have an id which a pattern matches, with their rows
 //! let any = Pattern { first: Part::Is(65), second: Some(Part::Any) };
 //! for key in entities.graph().tables_of(any) { .. }
-//!
-//! // a death, and a table that nobody needs
-//! let left = entities.table_of(moon).unwrap();
-//! entities.delete(moon);
-//! entities.release(left);
 //! ```
 //!
 //! What a call requires, as an entity that stands in a table, its caller proves: no call fails for want of it. A call that can't get
@@ -57,7 +48,6 @@ use entity_index::EntityIndex;
 pub use fact_plan::{FactPlan, SizedFact};
 pub use facts::Found;
 pub use graph::Graph;
-pub use plans::{Move, Plan, Target};
 pub use raw_column::Memory;
 use std::alloc::{Allocator, Global};
 use std::hash::RandomState;
@@ -67,8 +57,8 @@ use table_store::TableStore;
 /// The entities in their archetype tables.
 ///
 /// An entity is settled once it stands in a table. `settle`, `create`, `add` and `remove` touch one row and the last of its table.
-/// `prepare` and `plan` take the memory that moves need; `move_to` and `carry_out` can't fail. A table that lost most of its rows gives
-/// memory back, after `add` and `remove`, after the last move of a plan, and after each death of `delete_each`.
+/// `change_facts` takes all memory that its moves need before the first of them. A table that lost most of its rows gives memory back,
+/// after `add` and `remove`, after the last move of `change_facts`, and after each death.
 /// Readers take no memory, and look at no more than the ids of one table.
 #[derive(Drop)]
 pub struct Archetypes<A: Allocator = Global> {

@@ -8,14 +8,6 @@ use raw_column::Memory;
 use std::alloc::{Allocator, Global};
 use std::collections::BTreeMap;
 use std::marker::Model;
-use table_store::SizedId;
-
-/// An entity, and the ids that it is to hold: they rise.
-#[derive(Drop)]
-pub struct Target<A: Allocator> {
-    pub entity: EntityId,
-    pub ids: Vec<SizedId, A>,
-}
 
 /// A move that is planned: an entity, the table where it stood, and the table that it moves to.
 #[derive(Clone, Copy, Debug, PartialEq, Eq)]

@@ -1,5 +1,5 @@
 -- What an accepted addition needs of the tables, and what it leaves of a world.
-use Rattle.std.proofs.Common.{◌≡◌, ℕ, ◌==◌, Bool, true, false, cond, not, ◌&&◌, ◌||◌, List, [], ◌∷◌, ◌++◌, filter, if◌then◌else◌, ◌⊎◌, refl, sym, ap, subst, ◌∙◌, inl, inr, true≢false}
+use Rattle.std.proofs.Common.{◌≡◌, ℕ, ◌==◌, Bool, true, false, cond, not, ◌&&◌, ◌||◌, List, [], ◌∷◌, ◌++◌, filter, if◌then◌else◌, ◌⊎◌, refl, sym, ap, subst, ◌∙◌, inl, inr, arith, true≢false}
 use Rattle.std.specs.Prelude.{replicate, ℤ, Option, Some, None, option_map, is_some, IsTrue}
 use Rattle.std.proofs.lemmas.Bool.Decides.{Decides-eqb}
 use Rattle.std.proofs.lemmas.List.Elements.{Contains-append_cases}
@@ -11,21 +11,23 @@ use Rattle.std.specs.Option.{option_or}
 use Rattle.std.specs.Ordering.{nat_cmp}
 use Rattle.ecs_id.specs.declared.EntityId.{EntityId}
 use Rattle.ecs_id.specs.Id.{Id, plain, pair, mentioned, id_eq, id_eq_same}
-use Rattle.ecs_model.specs.Added.{IsAdded}
 use Rattle.ecs_model.specs.Command.{counted, with_facts}
 use Rattle.ecs_model.specs.Map.{Map, has_key, keys, value_at, without}
 use Rattle.ecs_model.specs.Refusal.{first_reason}
 use Rattle.ecs_model.specs.Schema.{Schema}
-use Rattle.ecs_model.specs.World.{WorldState, Key, key_cmp, key_eq, pair_is_tag, holds, ids_of, is_live, new_value, type_of_id}
-use Rattle.ecs_model.specs.traits.Changes.{added, facts_after_add, replaced}
+use Rattle.ecs_model.specs.Sets.{Set}
+use Rattle.ecs_model.specs.World.{WorldState, Key, key_cmp, key_eq, pair_is_tag, holds, is_live, new_value, type_of_id}
+use Rattle.ecs_model.specs.traits.Changes.{coming, copied, facts_after_add, facts_with_added, new_base, replaced}
 use Rattle.ecs_model.specs.traits.Command.{Add, effect, reasons}
 use Rattle.ecs_model.specs.traits.Keeps.{IsWellFormed}
 use Rattle.ecs_model.proofs.Maps.{both_true, eq_itself, key_cmp_same, key_cmp_total}
 use Rattle.ecs_model.proofs.Members.{any_passes, filtered, from_or, passing}
 use Rattle.ecs_model.proofs.Removals.{value_at-without}
-use Rattle.ecs_model.proofs.traits.Accepted.{IsAccepted, accepted_add, add_is_addition, keeps_add}
+use Rattle.ecs_model.proofs.traits.Accepted.{IsAccepted, accepted_add, base_is_addition, keeps_add}
 use Rattle.ecs_model.proofs.traits.Adding.{added_are_members, added_form, form_lives, from_map, in_map}
-use Rattle.ecs_model.proofs.traits.AfterAdd.{IsMap-added, held_after_add, none_replaced, value_after_add}
+use Rattle.ecs_model.proofs.traits.AfterAdd.{IsMap-added, none_replaced}
+use Rattle.ecs_model.proofs.traits.Copies.{facts_brought, held_brought, none_brought, partly_written, value_brought, writing_keeps}
+use Rattle.ecs_model.proofs.traits.Copying.{Comes, IsMap-coming, coming_at, coming_with, of_base, with_base}
 use Rattle.ecs_model.proofs.traits.Facts.{key_there, there_key}
 use Rattle.ecs_model.proofs.traits.Kept.{all_pass, each_passes, refuted}
 use Rattle.ecs_model.proofs.traits.KeptByAdd.{IsAddition, came_or_was, plain_stays, trait_before, types_kept}
@@ -84,12 +86,12 @@ module _ (w : WorldState) where
 -- an addition against which there is no reason, with the lists of what comes and goes
 pub record IsListed (w : WorldState) (e : EntityId) (i : Id) (came went : List Key) (sized : Coming) : Type 0 where
   pub none : first_reason (reasons w (Add e i)) ≡ None
-  pub came_are : came ≡ filter (λ z. not (holds w z.0 z.1)) (keys (added w e.index i))
+  pub came_are : came ≡ filter (λ z. not (holds w z.0 z.1)) (keys (coming w e.index i))
   pub went_are : went ≡ filter (λ z. list_any (key_eq z) (replaced w e.index i)) (keys w.facts)
   pub sized_are : sized ≡ sized_by w came
 
 -- what is seen of a world is its state
-pub listed : {w v : WorldState} {came went : List Key} {sized : Coming} → w ≡ v → (e : EntityId) (i : Id) → first_reason (reasons v (Add e i)) ≡ None → came ≡ filter (λ z. not (holds v z.0 z.1)) (keys (added v e.index i))
+pub listed : {w v : WorldState} {came went : List Key} {sized : Coming} → w ≡ v → (e : EntityId) (i : Id) → first_reason (reasons v (Add e i)) ≡ None → came ≡ filter (λ z. not (holds v z.0 z.1)) (keys (coming v e.index i))
     → went ≡ filter (λ z. list_any (key_eq z) (replaced v e.index i)) (keys v.facts) → sized ≡ sized_by v came → IsListed w e i came went sized
 listed {came = came} {went = went} {sized = sized} is e i none came_are went_are sized_are =
     subst (λ u. IsListed u e i came went sized) (sym is) (record { none = none; came_are = came_are; went_are = went_are; sized_are = sized_are })
@@ -99,8 +101,29 @@ unfolding effect
 effect_is w e i = refl
 
 -- an addition leaves a well-formed world, before it is counted
-pub added_sound : (w : WorldState) (e : EntityId) (i : Id) → IsWellFormed w → first_reason (reasons w (Add e i)) ≡ None → IsWellFormed (with_facts w (facts_after_add w e.index i))
+added_sound : (w : WorldState) (e : EntityId) (i : Id) → IsWellFormed w → first_reason (reasons w (Add e i)) ≡ None → IsWellFormed (with_facts w (facts_after_add w e.index i))
 added_sound w e i h none = before_count (with_facts w (facts_after_add w e.index i)) (subst (λ v. IsWellFormed (counted v)) (effect_is w e i) (keeps_add w e i h none))
+
+-- none is a part of all
+none_of : {X : Type 0} (xs : List X) (x : X) → Contains {X = X} [] x → Contains xs x
+none_of xs x n = absurd (omega (arith, n.1))
+
+-- without a base it is left where all that comes has come
+pub unbased : (w : WorldState) (e : ℕ) (i : Id) → new_base w e i ≡ None → facts_brought w e i None ≡ facts_after_add w e i
+unfolding facts_after_add
+unbased w e i is = none_brought w e i ∙ sym (ap (with_base w e i (facts_with_added w e i)) is)
+
+-- where all that comes has come with new values, and no copy is written yet, the world is well formed
+brought_sound : (w : WorldState) (e : EntityId) (i : Id) (o : Option ℕ) → new_base w e.index i ≡ o → IsWellFormed w → first_reason (reasons w (Add e i)) ≡ None
+    → IsWellFormed (with_facts w (facts_brought w e.index i o))
+brought_sound w e i None is h none = subst (λ facts. IsWellFormed (with_facts w facts)) (sym (unbased w e.index i is)) (added_sound w e i h none)
+brought_sound w e i (Some b) is h none =
+    before_count (with_facts w (facts_brought w e.index i (Some b))) (writing_keeps w e i b [] h none is (none_of (copied w e.index i b)))
+
+-- its facts are those of an addition
+brought_is_addition : (w : WorldState) (e : ℕ) (i : Id) (o : Option ℕ) → IsWellFormed w → list_all (is_live w) (mentioned i) ≡ true → IsAddition w e i o (facts_brought w e i o)
+brought_is_addition w e i None h m = subst (IsAddition w e i None) (sym (none_brought w e i)) (base_is_addition w e i None h m)
+brought_is_addition w e i (Some b) h m = partly_written w e i b h m [] (none_of (copied w e i b))
 
 module _ {parts : Parts} (world : IsWorld parts) (e : EntityId) (i : Id) {came went : List Key} {sized : Coming} (list : IsListed (state_of parts) e i came went sized) where
   abbrev h : Holdings
@@ -112,8 +135,11 @@ module _ {parts : Parts} (world : IsWorld parts) (e : EntityId) (i : Id) {came w
   abbrev w : WorldState
   w = state_of parts
 
+  abbrev base : Option ℕ
+  base = new_base w e.index i
+
   abbrev facts : Map Key (List ℤ)
-  facts = facts_after_add w e.index i
+  facts = facts_brought w e.index i base
 
   sized_keys : keys sized ≡ came
   sized_keys = ap keys list.sized_are ∙ keys_sized w came
@@ -124,17 +150,23 @@ module _ {parts : Parts} (world : IsWorld parts) (e : EntityId) (i : Id) {came w
   mentions : list_all (is_live w) (mentioned i) ≡ true
   mentions = (accepted.may).mentions
 
-  addition : IsAddition w e.index i facts
-  addition = add_is_addition w e.index i world.sound mentions
+  addition : IsAddition w e.index i base facts
+  addition = brought_is_addition w e.index i base world.sound mentions
+
+  abbrev all : Set Key
+  all = coming_with w e.index i base
 
   abbrev IsNew : Key → Type 0
-  IsNew k = IsAdded (ids_of w) (e.index, i) k
+  IsNew k = Comes w e.index i base k
 
-  -- what comes is added and not held, and what goes is held
+  is_among : (k : Key) → has_key key_cmp all k ≡ true → IsNew k
+  is_among k t = elim (coming_at w e.index i base k) [ inl c ↦ inr c.0 | inr c ↦ inl ((added_are_members w e.index i world.sound mentions k).0 (sym c.1 ∙ t)) ]
+
+  -- what comes is added or copied, and not held, and what goes is held
   comes : (k : Key) → Contains came k → IsNew k × (holds w k.0 k.1 ≡ false)
   comes k there =
-      let f = (filtered (λ (z : Key). not (holds w z.0 z.1)) (keys (added w e.index i)) k).0 (subst (λ ks. Contains ks k) list.came_are there) in
-      ((added_are_members w e.index i world.sound mentions k).0 (there_key key_cmp key_cmp_total (added w e.index i) k f.0), denied (holds w k.0 k.1) f.1)
+      let f = (filtered (λ (z : Key). not (holds w z.0 z.1)) (keys all) k).0 (subst (λ ks. Contains ks k) list.came_are there) in
+      (is_among k (there_key key_cmp key_cmp_total all k f.0), denied (holds w k.0 k.1) f.1)
     where
       denied : (b : Bool) → not b ≡ true → b ≡ false
       denied true p = absurd (true≢false (sym p))
@@ -147,13 +179,14 @@ module _ {parts : Parts} (world : IsWorld parts) (e : EntityId) (i : Id) {came w
 
   -- what comes is of live entities
   lives_there : (k : Key) → IsNew k → (is_live w k.0 ≡ true) × (list_all (is_live w) (mentioned k.1) ≡ true)
-  lives_there k new = let x = added_form w world.sound e.index i mentions new in form_lives w e.index i x.0 k (accepted.may).live mentions x.1 x.2
+  lives_there k (inl new) = let x = added_form w world.sound e.index i mentions new in form_lives w e.index i x.0 k (accepted.may).live mentions x.1 x.2
+  lives_there k (inr copy) = (ap (is_live w) copy.2 ∙ (accepted.may).live, (((world.sound).live).facts copy.0 k.1 (of_base w e.index i copy.0 k.1 copy.3)).1)
 
   settled_there : (x : ℕ) → is_live w x ≡ true → is_some (cells_at h x) ≡ true
   settled_there x live = ap is_some (settled_at world x live).1
 
   came_rises : IsStrictlySortedBy key_cmp came
-  came_rises = subst (IsStrictlySortedBy key_cmp) (sym list.came_are) (IsStrictlySortedBy-filter key_cmp (λ (z : Key). not (holds w z.0 z.1)) (keys (added w e.index i)) (keys_rise key_cmp (added w e.index i) (IsMap-added w e.index i)))
+  came_rises = subst (IsStrictlySortedBy key_cmp) (sym list.came_are) (IsStrictlySortedBy-filter key_cmp (λ (z : Key). not (holds w z.0 z.1)) (keys all) (keys_rise key_cmp all (IsMap-coming w e.index i base (IsMap-added w e.index i))))
 
   pub came_ascend : IsStrictlySortedBy key_cmp (keys sized)
   came_ascend = subst (IsStrictlySortedBy key_cmp) (sym sized_keys) came_rises
@@ -207,7 +240,7 @@ module _ {parts : Parts} (world : IsWorld parts) (e : EntityId) (i : Id) {came w
   -- what is read where the facts have come and gone
   module _ (h' : Holdings) (alike : HoldAlike h' (with_facts_changed sized went h)) where
     abbrev is_new : Key → Bool
-    is_new q = has_key key_cmp (added w e.index i) q
+    is_new q = has_key key_cmp all q
 
     abbrev is_gone : Key → Bool
     is_gone q = is_replaced w e.index i q
@@ -216,26 +249,26 @@ module _ {parts : Parts} (world : IsWorld parts) (e : EntityId) (i : Id) {came w
     size q = byte_count (type_of_id w q.1)
 
     new_stays : (q : Key) → is_new q ≡ true → is_gone q ≡ false
-    new_stays q new = none_replaced w e.index i world.sound mentions q new
+    new_stays q new = none_replaced w e.index i world.sound mentions base q new
 
-    coming_at : (q : Key) → value_at key_cmp sized q ≡ cond (is_new q && not (holds w q.0 q.1)) (Some (size q)) None
-    coming_at q =
+    sizes_there : (q : Key) → value_at key_cmp sized q ≡ cond (is_new q && not (holds w q.0 q.1)) (Some (size q)) None
+    sizes_there q =
         ap (λ s. value_at key_cmp s q) list.sized_are
         ∙ sized_at w came q
         ∙ ap (λ b. cond b (Some (size q)) None)
-        (ap (list_any (key_eq q)) list.came_are ∙ any_filter (λ (z : Key). not (holds w z.0 z.1)) q (keys (added w e.index i)) ∙ ap (λ b. b && not (holds w q.0 q.1)) (any_key (added w e.index i) q))
+        (ap (list_any (key_eq q)) list.came_are ∙ any_filter (λ (z : Key). not (holds w z.0 z.1)) q (keys all) ∙ ap (λ b. b && not (holds w q.0 q.1)) (any_key all q))
 
     going_at : (q : Key) → list_any (key_eq q) went ≡ (holds w q.0 q.1 && is_gone q)
     going_at q =
         ap (list_any (key_eq q)) list.went_are ∙ any_filter (λ (z : Key). list_any (key_eq z) (replaced w e.index i)) q (keys w.facts) ∙ ap (λ b. b && is_gone q) (any_key w.facts q)
 
     read_at : (q : Key) → bytes_at h' q.0 q.1 ≡ come_or (cond (is_new q && not (holds w q.0 q.1)) (Some (size q)) None) (cond (not (holds w q.0 q.1 && is_gone q)) (bytes_at h q.0 q.1) None)
-    read_at q = bytes_left world sized went h' alike came_ascend came_settled q.0 q.1 ∙ (λ k. come_or (coming_at q k) (cond (not (going_at q k)) (bytes_at h q.0 q.1) None))
+    read_at q = bytes_left world sized went h' alike came_ascend came_settled q.0 q.1 ∙ (λ k. come_or (sizes_there q k) (cond (not (going_at q k)) (bytes_at h q.0 q.1) None))
 
     -- what is held is what the facts say
     pub held_left : (q : Key) → holds_id h' q.0 q.1 ≡ has_key key_cmp facts q
     held_left q =
-        ap is_some (read_at q) ∙ by (is_new q) (holds w q.0 q.1) (is_gone q) (bytes_at h q.0 q.1) (holds_is world q.0 q.1) (new_stays q) ∙ sym (held_after_add w e.index i q)
+        ap is_some (read_at q) ∙ by (is_new q) (holds w q.0 q.1) (is_gone q) (bytes_at h q.0 q.1) (holds_is world q.0 q.1) (new_stays q) ∙ sym (held_brought w e.index i base q)
       where
         by : (a b g : Bool) (o : Option (List ℕ)) → b ≡ is_some o → (a ≡ true → g ≡ false) → is_some (come_or (cond (a && not b) (Some (size q)) None) (cond (not (b && g)) o None)) ≡ (a || (not g && b))
         by true true true o p f = absurd (true≢false (f refl))
@@ -252,14 +285,14 @@ module _ {parts : Parts} (world : IsWorld parts) (e : EntityId) (i : Id) {came w
     kept_type : (f : ℕ) (j : Id) → has_key key_cmp facts (f, j) ≡ true → type_of h' schemas j ≡ type_of h schemas j
     kept_type f j held =
         types_left j
-        ∙ types_kept w e.index i facts world.sound addition accepted.may f j (came_or_was w e.index i facts world.sound addition accepted.may (f, j) held)
+        ∙ types_kept w e.index i base facts world.sound addition accepted.may f j (came_or_was w e.index i base facts world.sound addition accepted.may (f, j) held)
         ∙ type_is world j
 
     pub read_left : AreRead (type_of h' schemas) h' facts
     read_left f j =
-        value_after_add w e.index i q
+        value_brought w e.index i base q
         ∙ (λ k. cond (is_some (stays k)) (stays k) (cond (is_new q) (Some (new_value w j)) None))
-        ∙ by (is_new q) (holds w f j) (is_gone q) (bytes_at h f j) (holds_is world f j) (new_stays q) (λ held. kept_type f j (held_after_add w e.index i q ∙ held))
+        ∙ by (is_new q) (holds w f j) (is_gone q) (bytes_at h f j) (holds_is world f j) (new_stays q) (λ held. kept_type f j (held_brought w e.index i base q ∙ held))
         ∙ sym (ap (option_map (value_in (type_of h' schemas j))) (read_at q))
       where
         q : Key
@@ -302,8 +335,8 @@ module _ {parts : Parts} (world : IsWorld parts) (e : EntityId) (i : Id) {came w
         clash : holds_id h' d (pair r t) ≡ true → ⊥
         clash held =
             let new = comes tag there in
-            let was = came_or_was w e.index i facts world.sound addition accepted.may (d, pair r t) (sym (held_left (d, pair r t)) ∙ held) in
-            true≢false (sym (trait_before w e.index i facts world.sound addition accepted.may d r t pair_is_tag refl was (addition.there tag new.0)) ∙ new.1)
+            let was = came_or_was w e.index i base facts world.sound addition accepted.may (d, pair r t) (sym (held_left (d, pair r t)) ∙ held) in
+            true≢false (sym (trait_before w e.index i base facts world.sound addition accepted.may d r t pair_is_tag refl was (addition.there tag new.0)) ∙ new.1)
 
     pub untagged : (copy : Coming) → copy ≡ sized → (d : ℕ) (j : Id) → gets_no_data copy j ≡ true → holds_id h' d j ≡ false
     untagged copy same d j t = untagged_pair d j (subst (λ s. gets_no_data s j ≡ true) same t)
@@ -332,16 +365,16 @@ module _ {parts : Parts} (world : IsWorld parts) (e : EntityId) (i : Id) {came w
 
             absent : holds w r (plain pair_is_tag) ≡ false → has_key key_cmp facts tag ≡ true → ⊥
             absent old held =
-                elim (from_or (is_new tag) (not (is_gone tag) && holds w r (plain pair_is_tag)) (sym (held_after_add w e.index i tag) ∙ held)) [
+                elim (from_or (is_new tag) (not (is_gone tag) && holds w r (plain pair_is_tag)) (sym (held_brought w e.index i base tag) ∙ held)) [
                   | inl new ↦ true≢false (sym (among_sized tag (among new)) ∙ none)
                   | inr kept ↦ true≢false (sym (both_true (not (is_gone tag)) (holds w r (plain pair_is_tag)) kept).1 ∙ old)
                 ]
               where
                 among : is_new tag ≡ true → Contains came tag
-                among new = subst (λ ks. Contains ks tag) (sym list.came_are) ((filtered (λ (z : Key). not (holds w z.0 z.1)) (keys (added w e.index i)) tag).1 (key_there key_cmp key_cmp_same (added w e.index i) tag new, ap not old))
+                among new = subst (λ ks. Contains ks tag) (sym list.came_are) ((filtered (λ (z : Key). not (holds w z.0 z.1)) (keys all) tag).1 (key_there key_cmp key_cmp_same all tag new, ap not old))
 
             tell : (b : Bool) → holds w r (plain pair_is_tag) ≡ b → has_key key_cmp facts tag ≡ b
-            tell true held = plain_stays w e.index i facts world.sound addition accepted.may r pair_is_tag held
+            tell true held = plain_stays w e.index i base facts world.sound addition accepted.may r pair_is_tag held
             tell false old = refuted (has_key key_cmp facts tag) (absent old)
 
         by : (j : Id) → j ≡ c.0 → (b : Bool) → gets_no_data sized c.0 ≡ b → (b || is_known_rightly h' schemas c) ≡ true
@@ -378,10 +411,10 @@ module _ {parts : Parts} (world : IsWorld parts) (e : EntityId) (i : Id) {came w
           (keeps fits (all_implied (is_known_rightly h schemas) fits old_fits h.known world.known) new_fits))
 
       pub world_brought : IsWorld (parts_of h' parts.names schemas parts.pins parts.accepted)
-      world_brought = world_changed world sized went h' alike facts whole (added_sound w e i world.sound list.none) read_left known_left
+      world_brought = world_changed world sized went h' alike facts whole (brought_sound w e i base refl world.sound list.none) read_left known_left
 
-      pub state_brought : {v : WorldState} → w ≡ v → state_of (parts_of h' parts.names schemas parts.pins parts.accepted) ≡ with_facts v (facts_after_add v e.index i)
-      state_brought is = state_changed world sized went h' alike facts whole (added_sound w e i world.sound list.none) read_left ∙ ap (λ u. with_facts u (facts_after_add u e.index i)) is
+      pub state_brought : {v : WorldState} → w ≡ v → state_of (parts_of h' parts.names schemas parts.pins parts.accepted) ≡ with_facts v (facts_brought v e.index i (new_base v e.index i))
+      state_brought is = state_changed world sized went h' alike facts whole (brought_sound w e i base refl world.sound list.none) read_left ∙ ap (λ u. with_facts u (facts_brought u e.index i (new_base u e.index i))) is
 
   -- where memory is refused, the world is as it was
   module _ (h' : Holdings) (alike : HoldAlike h' h) where

@@ -56,6 +56,11 @@ module _ (w : WorldState) (e : EntityId) (i : Id) where
   unfolding reasons
   judged-add no_trait none = let parts = add_parts (adds_built_in w e.index i) (add_reasons w e.index i) none in judged parts.0 no_trait (unspent parts.2)
 
+  -- of a live entity
+  pub alive-add : first_reason (reasons w (Add e i)) ≡ None → is_alive w e ≡ true
+  unfolding reasons
+  alive-add none = (living (add_parts (adds_built_in w e.index i) (add_reasons w e.index i) none).0).0
+
   abbrev fixed_reasons : List (Bool × Refusal)
   fixed_reasons = (is_trait i, TraitFixed) ∷ (is_spent w, Full) ∷ []
 

@@ -20,6 +20,7 @@ pub mod Seen
 pub mod Released
 pub mod Changed
 pub mod Brought
+pub mod Copied
 pub mod Buried
 pub mod Listed
 pub mod Taken

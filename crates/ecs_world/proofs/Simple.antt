@@ -1,28 +1,35 @@
 -- Facts with which no others come or go.
-use Rattle.std.specs.Prelude.{fold, flat_map}
+use Rattle.std.specs.Prelude.{◌==◌, Option, Some, None, filter, fold, flat_map}
+use Rattle.std.specs.FinMap.Entries.{is_some-find}
 use Rattle.std.specs.List.{Contains, list_any}
 use Rattle.std.specs.declared.cmp.Ordering.{Ordering}
-use Rattle.std.proofs.Common.{◌≡◌, ℕ, zero, suc, ◌*◌, Bool, true, false, not, ◌&&◌, ◌||◌, List, [], ◌∷◌, ◌++◌, length, if◌then◌else◌, refl, ap, subst, ◌∙◌, arith, true≢false}
+use Rattle.std.proofs.Common.{◌≡◌, ℕ, zero, suc, ◌*◌, Bool, true, false, not, ◌&&◌, ◌||◌, List, [], ◌∷◌, ◌++◌, length, if◌then◌else◌, ◌⊎◌, refl, sym, ap, subst, ◌∙◌, inl, inr, arith, true≢false}
 use Rattle.ecs_id.specs.declared.EntityId.{EntityId}
-use Rattle.ecs_id.specs.Id.{Id, plain, pair, id_eq}
+use Rattle.ecs_id.specs.Id.{Id, plain, pair, first_of, id_eq}
 use Rattle.ecs_model.specs.declared.faults.Refusal.TheVariants.{TraitFixed, Cycle, TooManyIds, Full}
-use Rattle.ecs_model.specs.Added.{IsAdded, brought, displaced, is_symmetric, is_used, mirror}
+use Rattle.ecs_model.specs.Added.{IsAdded, brought, displaced, is_exclusive, is_symmetric, is_used, mirror}
+use Rattle.ecs_model.specs.BuiltIns.{is_a, traversable}
+use Rattle.ecs_model.specs.Copied.{has_pair, is_copied, is_inherited, is_withheld, stays_behind, takes}
 use Rattle.ecs_model.specs.Changes.{with_new}
 use Rattle.ecs_model.specs.Command.{is_crowded, is_dead, is_spent, with_facts}
-use Rattle.ecs_model.specs.Map.{Map, keys, without}
+use Rattle.ecs_model.specs.Links.{is_held}
+use Rattle.ecs_model.specs.Map.{Map, has_key, keys, without}
 use Rattle.ecs_model.specs.Reach.{Reached, itself, onward}
 use Rattle.ecs_model.specs.Refusal.{first_reason}
 use Rattle.ecs_model.specs.Sets.{grown, with_member, within}
 use Rattle.ecs_model.specs.World.{WorldState, Key, key_cmp, key_eq, component, entities, holds, ids_of, is_built_in}
-use Rattle.ecs_model.specs.traits.Changes.{added, facts_after_add, facts_after_remove, removed, replaced}
+use Rattle.ecs_model.specs.traits.Changes.{IsCopied, added, coming, copied, facts_after_add, facts_after_remove, facts_with_added, new_base, own_ids, removed, replaced}
 use Rattle.ecs_model.specs.traits.Command.{add_reasons, adds_built_in, changes_trait, has_cycle, is_pinned}
 use Rattle.ecs_model.specs.traits.Keeps.{IsWellFormed}
 use Rattle.ecs_model.specs.traits.Rules.{is_trait}
-use Rattle.ecs_model.proofs.Reasons.{refused}
+use Rattle.ecs_model.proofs.Reasons.{neither, refused}
+use Rattle.ecs_model.proofs.traits.Copying.{base_value, coming_with, with_base, with_each}
 use Rattle.ecs_model.proofs.traits.Cycles.{added_pairs_close}
 use Rattle.ecs_model.proofs.traits.Kept.{refuted}
+use Rattle.ecs_model.proofs.traits.KeptByAdd.{same_parts}
+use Rattle.ecs_model.proofs.traits.Replacing.{key_eq_same}
 use Rattle.fact_rules.specs.Additions.{is_of_built_in}
-use Rattle.fact_rules.specs.Simple.{ComesAlone, is_unmirrored}
+use Rattle.fact_rules.specs.Simple.{ComesAlone, is_unmirrored, leads_to_copies}
 use Rattle.rel_traits.specs.After.{ClosesAt}
 use Rattle.ecs_world.specs.Singles.{with_one, without_one}
 
@@ -53,6 +60,56 @@ passes_not true true c h = absurd (true≢false h)
 passes_not true false c h = refl
 passes_not false b c h = refl
 
+-- what is copied may be copied to one that has nothing of its own
+module _ (ids : ℕ → List Id) (own : List Id) where
+  takes_more : (i : Id) → takes ids own i ≡ true → takes ids [] i ≡ true
+  takes_more (plain c) t = refl
+  takes_more (pair r u) t = by (is_held (ids r) (plain traversable)) (is_symmetric ids r) (is_exclusive ids r) (has_pair own r) t
+    where
+      by : (a b c d : Bool) → (not a && not b && not (c && d)) ≡ true → (not a && not b && not (c && false)) ≡ true
+      by false false false d t = refl
+      by false false true d t = refl
+      by false true c d t = absurd (true≢false (sym t))
+      by true b c d t = absurd (true≢false (sym t))
+
+  copied_to_less : (i : Id) → is_copied ids [] i ≡ false → is_copied ids own i ≡ false
+  copied_to_less i = by (is_inherited ids (first_of i)) (is_withheld ids (first_of i)) (stays_behind i) (is_held own i) (takes ids own i) (takes ids [] i) (takes_more i)
+    where
+      by : (a b c d t u : Bool) → (t ≡ true → u ≡ true) → (not a && not b && not c && true && u) ≡ false → (not a && not b && not c && not d && t) ≡ false
+      by true b c d t u f p = refl
+      by false true c d t u f p = refl
+      by false false true d t u f p = refl
+      by false false false true t u f p = refl
+      by false false false false false u f p = refl
+      by false false false false true u f p = sym (f refl) ∙ p
+
+  none_copied : (cs : List Id) → list_any (is_copied ids []) cs ≡ false → filter (is_copied ids own) cs ≡ []
+  none_copied [] h = refl
+  none_copied (c ∷ cs) h =
+      let parts = neither (is_copied ids [] c) (list_any (is_copied ids []) cs) h in
+      ap (λ b. if b then c ∷ filter (is_copied ids own) cs else filter (is_copied ids own) cs) (copied_to_less c parts.0) ∙ none_copied cs parts.1
+
+-- where a fact is added alone, nothing is copied if it leads to no base of which something may be
+nothing_copied : (w : WorldState) (e : ℕ) (i : Id) → leads_to_copies (ids_of w) i ≡ false → keys (added w e i) ≡ (e, i) ∷ [] → (b : ℕ) → new_base w e i ≡ Some b → copied w e i b ≡ []
+unfolding new_base copied
+nothing_copied w e (plain c) leads single b is = absurd cc
+nothing_copied w e (pair r t) leads single b is =
+    let here = passed (has_key key_cmp (added w e (pair r t)) base) (not (holds w e (pair is_a t))) is in
+    let same : r ≡ is_a = sym (same_parts e e is_a r t t (key_eq_same base (e, pair r t) (alone here.0))).1 in
+    subst (λ x. filter (is_copied (ids_of w) (own_ids w e (pair r t))) (ids_of w x) ≡ []) here.1
+    (none_copied (ids_of w) (own_ids w e (pair r t)) (ids_of w t) (sym (ap (λ b. b && list_any (is_copied (ids_of w) []) (ids_of w t)) (ap (λ x. x == is_a) same)) ∙ leads))
+  where
+    base : Key
+    base = (e, pair is_a t)
+
+    alone : has_key key_cmp (added w e (pair r t)) base ≡ true → key_eq base (e, pair r t) ≡ true
+    alone there = sym (or_none (key_eq base (e, pair r t))) ∙ sym (is_some-find key_cmp base (added w e (pair r t)) ∙ ap (list_any (key_eq base)) single) ∙ there
+
+    passed : (p q : Bool) → (if p && q then Some t else None) ≡ Some b → (p ≡ true) × (t ≡ b)
+    passed true true s = (refl, (cc))
+    passed true false s = absurd cc
+    passed false q s = absurd cc
+
 module _ (w : WorldState) (e : ℕ) where
   no_mirror : (i : Id) → is_unmirrored (ids_of w) i ≡ true → mirror (ids_of w) (e, i) ≡ []
   no_mirror (plain c) h = refl
@@ -76,9 +133,26 @@ module _ (w : WorldState) (e : ℕ) where
     unfolding replaced
     replaced_none = ap (flat_map (displaced (ids_of w))) added_alone ∙ ap (λ ks. ks ++ []) alone.displaces
 
+    none_from : (b : ℕ) → new_base w e i ≡ Some b → copied w e i b ≡ []
+    none_from = nothing_copied w e i alone.no_copies added_alone
+
+    -- nothing is copied, and nothing else comes with it
+    pub alone_comes : keys (coming w e i) ≡ (e, i) ∷ []
+    alone_comes = by (new_base w e i) refl ∙ added_alone
+      where
+        by : (o : Option ℕ) → new_base w e i ≡ o → keys (coming_with w e i o) ≡ keys (added w e i)
+        by None is = refl
+        by (Some b) is = ap (λ cs. keys (with_each e (λ c. tt) (added w e i) cs)) (none_from b is)
+
     pub after_add : facts_after_add w e i ≡ with_one w e i
-    unfolding facts_after_add
-    after_add = (λ k. fold (with_new w) (without key_cmp w.facts (λ q. list_any (key_eq q) (replaced_none k))) (added_alone k)) ∙ ap (λ facts. with_new w facts (e, i)) (none_without w.facts)
+    unfolding facts_after_add facts_with_added
+    after_add =
+        by (new_base w e i) refl
+        ∙ (λ k. fold (with_new w) (without key_cmp w.facts (λ q. list_any (key_eq q) (replaced_none k))) (added_alone k)) ∙ ap (λ facts. with_new w facts (e, i)) (none_without w.facts)
+      where
+        by : (o : Option ℕ) → new_base w e i ≡ o → with_base w e i (facts_with_added w e i) o ≡ facts_with_added w e i
+        by None is = refl
+        by (Some b) is = ap (with_each e (base_value w b) (facts_with_added w e i)) (none_from b is)
 
     pub built_in_alone : adds_built_in w e i ≡ is_of_built_in (e, i)
     built_in_alone = ap (list_any (λ k. is_built_in k.0 || id_eq k.1 (plain component))) added_alone ∙ or_none (is_of_built_in (e, i))
@@ -90,15 +164,16 @@ module _ (w : WorldState) (e : ℕ) where
         ∙ or_none (not (holds w e i) && is_trait i && (is_used (ids_of w) (entities w) e || is_pinned w e))
         ∙ passes_not (not (holds w e i)) (is_trait i) (is_used (ids_of w) (entities w) e || is_pinned w e) alone.no_trait
 
-    added_is : (k : Key) → IsAdded (ids_of w) (e, i) k → k ≡ (e, i)
-    added_is k n = alone_reached (brought (ids_of w)) (e, i) alone.brings n
+    comes_is : (k : Key) → IsAdded (ids_of w) (e, i) k ⊎ IsCopied w e i k → k ≡ (e, i)
+    comes_is k (inl n) = alone_reached (brought (ids_of w)) (e, i) alone.brings n
+    comes_is k (inr c) = let none : Contains [] k.1 = subst (λ cs. Contains cs k.1) (none_from c.0 c.1) c.3 in absurd (omega (arith, none.1))
 
 module _ (w : WorldState) (e : EntityId) (i : Id) (alone : ComesAlone (ids_of w) (e.index, i)) (sound : IsWellFormed w) where
   -- so it closes no cycle
   pub closes_none : is_dead w e i ≡ false → adds_built_in w e.index i ≡ false → has_cycle (with_facts w (facts_after_add w e.index i)) ≡ false
   closes_none dead own = refuted (has_cycle (with_facts w (facts_after_add w e.index i))) (λ t.
       let k = (added_pairs_close w e i sound dead own (changes_none w e.index i alone)).0 t in
-      alone.closes (subst (ClosesAt (ids_of w) e.index) (added_is w e.index i alone k.0 k.1) k.2))
+      alone.closes (subst (ClosesAt (ids_of w) e.index) (comes_is w e.index i alone k.0 k.1) k.2))
 
   -- and the reasons against it are those of room alone
   pub growth_alone : is_dead w e i ≡ false → adds_built_in w e.index i ≡ false → first_reason (add_reasons w e.index i) ≡ first_reason ((is_crowded (with_facts w (with_one w e.index i)), TooManyIds) ∷ (is_spent w, Full) ∷ [])

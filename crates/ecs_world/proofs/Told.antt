@@ -11,7 +11,7 @@ use Rattle.ecs_model.specs.traits.Keeps.{IsWellFormed}
 use Rattle.ecs_model.specs.Map.{IsMap, Map, has_key, keys, value_at}
 use Rattle.ecs_model.specs.Refusal.{first_reason}
 use Rattle.ecs_model.specs.World.{WorldState, Key, component, holds, ids_of, key_cmp, key_eq}
-use Rattle.ecs_model.specs.traits.Changes.{added, removed}
+use Rattle.ecs_model.specs.traits.Changes.{coming, removed}
 use Rattle.ecs_model.specs.Command.{Changed, AnswersStep, counted, differences, next_entity}
 use Rattle.ecs_model.specs.traits.Command.{Fresh, Entity, Component, Add, SetValue, Remove, reasons, effect, step, written_by}
 use Rattle.ecs_model.proofs.Answering.{answers_accepted}
@@ -21,9 +21,9 @@ use Rattle.ecs_model.proofs.traits.AfterAdd.{differences_of_add, differences_of_
 use Rattle.ecs_model.proofs.traits.Differences.{differences_of_remove}
 use Rattle.ecs_model.proofs.traits.Replacing.{is_replaced}
 use Rattle.ecs_world.proofs.Judged.{add_of_set, judged-add}
-use Rattle.ecs_world.proofs.Simple.{added_alone, removed_alone, replaced_none}
+use Rattle.ecs_world.proofs.Simple.{alone_comes, removed_alone, replaced_none}
 use Rattle.fact_rules.specs.Simple.{ComesAlone, is_unmirrored}
-use Rattle.ecs_world.specs.State.{birth, coming, no_change}
+use Rattle.ecs_world.specs.State.{arrival, birth, no_change}
 
 -- where none passes, none is left
 filter_none : {A : Type 0} (xs : List A) → filter (λ x. false) xs ≡ []
@@ -57,8 +57,8 @@ one_passes (y ∷ ys) k sorted =
 
 module _ (v : WorldState) (e : EntityId) (i : Id) where
   -- a fact that comes alone comes, if it isn't held
-  comes_alone : ComesAlone (ids_of v) (e.index, i) → filter (λ k. not (holds v k.0 k.1)) (keys (added v e.index i)) ≡ (if holds v e.index i then [] else (e.index, i) ∷ [])
-  comes_alone alone = ap (filter (λ k. not (holds v k.0 k.1))) (added_alone v e.index i alone) ∙ by (holds v e.index i)
+  comes_alone : ComesAlone (ids_of v) (e.index, i) → filter (λ k. not (holds v k.0 k.1)) (keys (coming v e.index i)) ≡ (if holds v e.index i then [] else (e.index, i) ∷ [])
+  comes_alone alone = ap (filter (λ k. not (holds v k.0 k.1))) (alone_comes v e.index i alone) ∙ by (holds v e.index i)
     where
       by : (b : Bool) → cond {A = List Key} (not b) ((e.index, i) ∷ []) [] ≡ (if b then [] else (e.index, i) ∷ [])
       by true = refl
@@ -77,13 +77,13 @@ module _ (v : WorldState) (e : EntityId) (i : Id) where
   with_changes came went written = record { born = None; died = []; came = came; went = went; written = written }
 
   alone_added : IsWellFormed v → ComesAlone (ids_of v) (e.index, i) → first_reason (reasons v (Add e i)) ≡ None
-      → differences v (counted (effect v (Add e i))) (written_by (Add e i)) ≡ coming v e.index i
+      → differences v (counted (effect v (Add e i))) (written_by (Add e i)) ≡ arrival v e.index i
   alone_added sound alone none =
       let can = judged-add v e i alone.no_trait none in
       differences_of_add v e i sound can.mentions ∙ (λ j. with_changes (comes_alone alone j) (none_goes alone j) [])
 
   alone_set : (vs : List ℤ) → IsWellFormed v → ComesAlone (ids_of v) (e.index, i) → first_reason (reasons v (SetValue e i vs)) ≡ None
-      → differences v (counted (effect v (SetValue e i vs))) (written_by (SetValue e i vs)) ≡ record (coming v e.index i) { written = (e.index, i) ∷ [] }
+      → differences v (counted (effect v (SetValue e i vs))) (written_by (SetValue e i vs)) ≡ record (arrival v e.index i) { written = (e.index, i) ∷ [] }
   alone_set vs sound alone none =
       let can = judged-add v e i alone.no_trait (add_of_set v e i vs none).1 in
       differences_of_set v e i vs sound can.mentions ∙ (λ j. with_changes (comes_alone alone j) (none_goes alone j) ((e.index, i) ∷ []))
@@ -101,11 +101,11 @@ module _ (v u : WorldState) (told : Changed) where
   told_component n s e sound next none left is = answers_accepted v (Component n s) told u none left (is ∙ sym (differences_of_component v n s e sound next))
 
   module _ (e : EntityId) (i : Id) (sound : IsWellFormed v) where
-    pub told_add : ComesAlone (ids_of v) (e.index, i) → first_reason (reasons v (Add e i)) ≡ None → u ≡ counted (effect v (Add e i)) → told ≡ coming v e.index i → AnswersStep (Ok told) (step v (Add e i)) v u
+    pub told_add : ComesAlone (ids_of v) (e.index, i) → first_reason (reasons v (Add e i)) ≡ None → u ≡ counted (effect v (Add e i)) → told ≡ arrival v e.index i → AnswersStep (Ok told) (step v (Add e i)) v u
     told_add alone none left is = answers_accepted v (Add e i) told u none left (is ∙ sym (alone_added v e i sound alone none))
 
     pub told_set : (vs : List ℤ) → ComesAlone (ids_of v) (e.index, i) → first_reason (reasons v (SetValue e i vs)) ≡ None → u ≡ counted (effect v (SetValue e i vs))
-        → told ≡ record (coming v e.index i) { written = (e.index, i) ∷ [] } → AnswersStep (Ok told) (step v (SetValue e i vs)) v u
+        → told ≡ record (arrival v e.index i) { written = (e.index, i) ∷ [] } → AnswersStep (Ok told) (step v (SetValue e i vs)) v u
     told_set vs alone none left is = answers_accepted v (SetValue e i vs) told u none left (is ∙ sym (alone_set v e i vs sound alone none))
 
     pub told_remove : (b : Bool) → is_unmirrored (ids_of v) i ≡ true → holds v e.index i ≡ b → first_reason (reasons v (Remove e i)) ≡ None → u ≡ counted (effect v (Remove e i))

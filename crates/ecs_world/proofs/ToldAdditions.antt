@@ -1,5 +1,5 @@
 -- What an accepted `add` or `set` tells is what has changed, and what `set` writes.
-use Rattle.std.proofs.Common.{◌≡◌, ℕ, true, List, [], ◌∷◌, ℤ, None, Ok, sym, ap, subst, ◌∙◌, inl}
+use Rattle.std.proofs.Common.{◌≡◌, ℕ, true, List, [], ◌∷◌, ℤ, Option, None, Ok, sym, ap, subst, ◌∙◌, inl}
 use Rattle.ecs_id.specs.declared.EntityId.{EntityId}
 use Rattle.ecs_id.specs.Id.{Id}
 use Rattle.ecs_model.specs.Command.{AnswersStep, Changed, counted, with_facts}
@@ -7,7 +7,7 @@ use Rattle.ecs_model.specs.Map.{with_value}
 use Rattle.ecs_model.specs.Reach.{itself}
 use Rattle.ecs_model.specs.Refusal.{first_reason}
 use Rattle.ecs_model.specs.World.{WorldState, Key, holds, key_cmp, type_of_id}
-use Rattle.ecs_model.specs.traits.Changes.{facts_after_add}
+use Rattle.ecs_model.specs.traits.Changes.{facts_after_add, new_base}
 use Rattle.ecs_model.specs.traits.Command.{Add, SetValue, effect, reasons, step}
 use Rattle.ecs_model.specs.traits.Keeps.{IsWellFormed}
 use Rattle.ecs_model.proofs.traits.Accepted.{accepted_add, accepted_set, add_is_addition, keeps_set}
@@ -20,7 +20,7 @@ use Rattle.ecs_model.proofs.Answering.{answers_accepted}
 use Rattle.ecs_world.proofs.Changed.{before_count}
 use Rattle.ecs_world.proofs.Counting.{types_counted}
 
-module _ (w v : WorldState) (told : Changed) (e : EntityId) (i : Id) (all came went : List Key) (lists : TellsAddition w (e.index, i) all came went) (h : IsWellFormed w) where
+module _ (w v : WorldState) (told : Changed) (e : EntityId) (i : Id) {base : Option ℕ} {all copies came went : List Key} (lists : TellsAddition w (e.index, i) base all copies came went) (h : IsWellFormed w) where
   pub addition_told : first_reason (reasons w (Add e i)) ≡ None → v ≡ counted (effect w (Add e i)) → told ≡ record no_change { came = came; went = went } → AnswersStep (Ok told) (step w (Add e i)) w v
   addition_told none left is =
       answers_accepted w (Add e i) told v none left
@@ -41,14 +41,14 @@ module _ (w : WorldState) (e : EntityId) (i : Id) (vs : List ℤ) (h : IsWellFor
 
   -- after it was added, it is held
   pub set_held : holds added e.index i ≡ true
-  set_held = (add_is_addition w e.index i h (((accepted_set w e i vs h none).1).may).mentions).there (e.index, i) itself
+  set_held = (add_is_addition w e.index i h (((accepted_set w e i vs h none).1).may).mentions).there (e.index, i) (inl itself)
 
   -- and its id has the type that it had
   pub set_typed : type_of_id added i ≡ type_of_id w i
   set_typed =
       let ok = (accepted_set w e i vs h none).1 in
       sym (types_counted added i)
-      ∙ types_kept w e.index i (facts_after_add w e.index i) h (add_is_addition w e.index i h (ok.may).mentions) ok.may e.index i (inl itself)
+      ∙ types_kept w e.index i (new_base w e.index i) (facts_after_add w e.index i) h (add_is_addition w e.index i h (ok.may).mentions) ok.may e.index i (inl (inl itself))
 
   module _ (u : WorldState) (is : u ≡ added) (bytes : List ℕ) (value : value_in (type_of_id w i) bytes ≡ vs) where
     -- the world with the value written is that of the command

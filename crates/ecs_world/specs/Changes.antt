@@ -1,13 +1,17 @@
 -- What commands change, and what is told of it.
-use Rattle.std.specs.Prelude.{◌≡◌, ℕ, List, [], ◌∷◌, map, filter_map, Option, Some}
+use Rattle.std.specs.List.{list_any}
+use Rattle.std.specs.Prelude.{◌≡◌, ℕ, ℤ, true, List, [], ◌∷◌, Contains, filter_map, fold, map, take, Option, Some, unwrap_or}
 use Rattle.ecs_id.specs.declared.EntityId.{EntityId}
 use Rattle.ecs_id.specs.Id.{Id}
-use Rattle.ecs_model.specs.Command.{Changed}
+use Rattle.ecs_model.specs.Changes.{with_new}
+use Rattle.ecs_model.specs.Command.{Changed, with_facts}
 use Rattle.ecs_model.specs.declared.faults.CommandError.{CommandError}
 use Rattle.ecs_model.specs.declared.faults.CommandError.TheVariants.{Refused, Memory}
 use Rattle.ecs_model.specs.declared.faults.Refusal.{Refusal}
-use Rattle.ecs_model.specs.Map.{with_value}
-use Rattle.ecs_model.specs.World.{WorldState, Key, entity_at, key_cmp, name_of, type_of_id}
+use Rattle.ecs_model.specs.Map.{Map, keys, with_value, without}
+use Rattle.ecs_model.specs.World.{WorldState, Key, entity_at, holds, is_alive, key_cmp, key_eq, name_of, type_of_id, value_of}
+use Rattle.ecs_model.specs.traits.Changes.{coming, replaced}
+use Rattle.ecs_model.specs.traits.Keeps.{IsWellFormed}
 use Rattle.ecs_world.specs.State.{birth, byte_count, listed, no_change, value_in}
 use Rattle.ecs_world.specs.declared.changes.ChangeLists.{ChangeLists}
 use Rattle.ecs_world.specs.declared.changes.Told.{Told}
@@ -35,6 +39,22 @@ sized_by w facts = map (λ k. (k, byte_count (type_of_id w k.1))) facts
 -- the world where the bytes of a fact's value are these
 abbrev pub with_bytes : WorldState → ℕ → Id → List ℕ → WorldState
 with_bytes w e i bytes = record w { facts = with_value key_cmp w.facts (e, i) (value_in (type_of_id w i) bytes) }
+
+-- the facts where all that comes with an added fact has come with new values, and what gives way to it has gone
+abbrev pub facts_with_new : WorldState → ℕ → Id → Map Key (List ℤ)
+facts_with_new w e i = fold (with_new w) (without key_cmp w.facts (λ k. list_any (key_eq k) (replaced w e i))) (keys (coming w e i))
+
+-- the world where each of these facts has the value that a base's fact of the same id has
+abbrev pub with_copies : WorldState → ℕ → List Key → WorldState
+with_copies w b ks = with_facts w (fold (λ m k. with_value key_cmp m k (unwrap_or (value_of w b k.1) [])) w.facts ks)
+
+-- held facts of a live entity, of ids that a base holds too. They may get the base's values one after another
+pub record AreCopies (w : WorldState) (e : EntityId) (b : ℕ) (ks : List Key) : Type 0 where
+  pub alive : is_alive w e ≡ true
+  pub own : (k : Key) → Contains ks k → k.0 ≡ e.index
+  pub held : (k : Key) → Contains ks k → holds w k.0 k.1 ≡ true
+  pub of_base : (k : Key) → Contains ks k → holds w b k.1 ≡ true
+  pub sound : (n : ℕ) → IsWellFormed (with_copies w b (take n ks))
 
 -- the live entities at these indexes
 abbrev pub entities_at : WorldState → List ℕ → List EntityId

@@ -130,5 +130,5 @@ abbrev pub birth : EntityId → Changed
 birth e = record no_change { born = Some e }
 
 -- what changes where a fact comes that isn't held yet
-abbrev pub coming : WorldState → ℕ → Id → Changed
-coming w e i = record no_change { came = if holds w e i then [] else (e, i) ∷ [] }
+abbrev pub arrival : WorldState → ℕ → Id → Changed
+arrival w e i = record no_change { came = if holds w e i then [] else (e, i) ∷ [] }

@@ -1,6 +1,6 @@
-//! Facts that come and go with an added one, and those that go with a removed one.
+//! Facts that come and go with an added one, copies from a new base among them, and those that go with a removed one.
 
-ghost use Rattle.std.specs.Prelude.{◌≡◌, ◌<◌, false, true, None, All, IfOk, IsTrue, OnErr, OnOk, filter, length, nat_le};
+ghost use Rattle.std.specs.Prelude.{◌≡◌, ◌<◌, [], ◌∷◌, false, true, None, All, IfOk, IsTrue, OnErr, OnOk, filter, length, nat_le};
 ghost use Rattle.std.specs.List.{list_all, list_any};
 ghost use Rattle.ecs_id.specs.Id.{mentioned};
 ghost use Rattle.ecs_model.specs.Command.{with_facts};
@@ -10,7 +10,7 @@ ghost use Rattle.ecs_model.specs.World.{entities, holds, is_alive, is_live, key_
 ghost use Rattle.ecs_model.specs.traits.Changes.{facts_after_add, facts_after_remove, removed};
 ghost use Rattle.ecs_model.specs.traits.Command.{Add, Remove, add_reasons, adds_built_in as brings_built_in, reasons};
 ghost use Rattle.ecs_model.specs.traits.Keeps.{IsWellFormed};
-ghost use Rattle.ecs_world.specs.Changes.{sized_by, with_bytes};
+ghost use Rattle.ecs_world.specs.Changes.{AreCopies, facts_with_new, sized_by, with_bytes, with_copies};
 ghost use Rattle.ecs_world.specs.State.{byte_count};
 ghost use Rattle.fact_rules.specs.Additions.{TellsAddition};
 ghost use Rattle.rel_traits.specs.FactLists.{IsOfLive};
@@ -37,8 +37,9 @@ impl<A: Allocator + Copy> World<A> {
         requires alive { is_alive self.old.state entity ≡ true }
         requires mentions { list_all (is_live self.old.state) (mentioned id) ≡ true }
         ensures same { self.new ≡ self.old }
-        ensures tells { OnOk result (TellsAddition self.old.state (entity.index, id) additions.new.added.items additions.new.came.items additions.new.went.items) }
+        ensures tells { OnOk result (TellsAddition self.old.state (entity.index, id) additions.new.base additions.new.added.items additions.new.copies.items additions.new.came.items additions.new.went.items) }
         ensures live { OnOk result (All (IsOfLive (entities self.old.state)) additions.new.added.items) }
+        ensures copies_live { OnOk result (All (IsOfLive (entities self.old.state)) additions.new.copies.items) }
     {
         let size = self.archetypes.size();
         if self.scratch.reserve(size).is_err() {
@@ -62,8 +63,9 @@ impl<A: Allocator + Copy> World<A> {
     ) -> Result<Option<Refusal>, Memory>
         requires alive { is_alive self.old.state entity ≡ true }
         requires mentions { list_all (is_live self.old.state) (mentioned id) ≡ true }
-        requires tells { TellsAddition self.old.state (entity.index, id) additions.now.added.items additions.now.came.items additions.now.went.items }
+        requires tells { TellsAddition self.old.state (entity.index, id) additions.now.base additions.now.added.items additions.now.copies.items additions.now.came.items additions.now.went.items }
         requires live { All (IsOfLive (entities self.old.state)) additions.now.added.items }
+        requires copies_live { All (IsOfLive (entities self.old.state)) additions.now.copies.items }
         requires others { brings_built_in self.old.state entity.index id ≡ false }
         ensures same { self.new ≡ self.old }
         ensures judged { IfOk result (λ refusal. refusal ≡ first_reason (add_reasons self.old.state entity.index id)) }
@@ -85,7 +87,8 @@ impl<A: Allocator + Copy> World<A> {
         ))
     }
 
-    /// Brings what comes with an added fact, and takes what gives way to it. The command is not counted yet.
+    /// Brings what comes with an added fact, copies with the values of the base, and takes what gives way to it. All growth comes first. The
+    /// command is not counted yet.
     pub(crate) fn bring(
         &mut self,
         entity: EntityId,
@@ -93,8 +96,29 @@ impl<A: Allocator + Copy> World<A> {
         additions: &Additions<A>,
     ) -> Result<(), Memory>
         requires judged { first_reason (reasons self.old.state (Add entity id)) ≡ None }
-        requires tells { TellsAddition self.old.state (entity.index, id) additions.now.added.items additions.now.came.items additions.now.went.items }
+        requires tells { TellsAddition self.old.state (entity.index, id) additions.now.base additions.now.added.items additions.now.copies.items additions.now.came.items additions.now.went.items }
         ensures brought { OnOk result (self.new.state ≡ with_facts self.old.state (facts_after_add self.old.state entity.index id)) }
+        ensures refused { OnErr result (self.new.state ≡ self.old.state) }
+        ensures goes_on { TablesGoOn self.old.tables self.new.tables }
+    {
+        self.keeps();
+        self.bring_new(entity, id, additions)?;
+        if let Some(base) = additions.base {
+            self.write_copies(entity, base, &additions.copies);
+        }
+        Ok(())
+    }
+
+    /// Moves the rows for that: all that comes has zeros, copies too. What memory this takes is got before the first row moves.
+    fn bring_new(
+        &mut self,
+        entity: EntityId,
+        id: Id,
+        additions: &Additions<A>,
+    ) -> Result<(), Memory>
+        requires judged { first_reason (reasons self.old.state (Add entity id)) ≡ None }
+        requires tells { TellsAddition self.old.state (entity.index, id) additions.now.base additions.now.added.items additions.now.copies.items additions.now.came.items additions.now.went.items }
+        ensures brought { OnOk result (self.new.state ≡ with_facts self.old.state (facts_with_new self.old.state entity.index id)) }
         ensures refused { OnErr result (self.new.state ≡ self.old.state) }
         ensures goes_on { TablesGoOn self.old.tables self.new.tables }
     {
@@ -105,6 +129,36 @@ impl<A: Allocator + Copy> World<A> {
             .change_facts(&mut self.plan, &came, &additions.went, &[])?;
         release_tag_pairs(&mut self.archetypes, &came);
         Ok(())
+    }
+
+    /// Gives each of these facts of an entity the value that the base's fact of the same id has. It takes no memory, and cannot fail.
+    fn write_copies(&mut self, entity: EntityId, base: u32, copies: &[FactKey])
+        requires { AreCopies self.old.state entity base copies.now }
+        ensures state { self.new.state ≡ with_copies self.old.state base copies.now }
+        ensures goes_on { TablesGoOn self.old.tables self.new.tables }
+    {
+        for copy in copies {
+            self.write_copy(entity, base, copy.id());
+        }
+    }
+
+    /// Gives a fact that a live entity holds the value that the base's fact of the same id has.
+    fn write_copy(&mut self, entity: EntityId, base: u32, id: Id)
+        requires alive { is_alive self.old.state entity ≡ true }
+        requires held { holds self.old.state entity.index id ≡ true }
+        requires of_base { holds self.old.state base id ≡ true }
+        requires sound { IsWellFormed (with_copies self.old.state base ((entity.index, id) ∷ [])) }
+        ensures state { self.new.state ≡ with_copies self.old.state base ((entity.index, id) ∷ []) }
+        ensures goes_on { TablesGoOn self.old.tables self.new.tables }
+    {
+        self.keeps();
+        let size = self.size_of(id);
+        if size > 0 {
+            let mut buffer = [0; 64];
+            let bytes = self.bytes(base, id).unwrap();
+            buffer[..size].copy_from_slice(bytes);
+            self.write(entity, id, &buffer[..size]);
+        }
     }
 
     /// Makes the list that of these facts, each with the bytes of its values.

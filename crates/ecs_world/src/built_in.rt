@@ -11,6 +11,11 @@ ghost use Rattle.ecs_world.specs.BuiltIn.{AreFirstNames, IsSettled, is_first_tag
 use ecs_archetypes::Archetypes;
 use ecs_id::{EntityId, Id};
 use ecs_model::LAST_BUILT_IN;
+pub(crate) use ecs_model::built_ins::{COMPONENT, PAIR_IS_TAG};
+use ecs_model::built_ins::{
+    ACYCLIC, DELETE, EXCLUSIVE, IS_A, ON_DELETE, ON_DELETE_TARGET, ON_INSTANTIATE, REFLEXIVE,
+    TRANSITIVE, TRAVERSABLE, WITH,
+};
 use name_index::NameIndex;
 use raw_column::Memory;
 use std::alloc::Allocator;
@@ -44,32 +49,6 @@ const NAMES: [&str; 22] = [
 ];
 
 const CHILD_OF: u32 = 1;
-
-const IS_A: u32 = 2;
-
-pub(crate) const COMPONENT: u32 = 3;
-
-const EXCLUSIVE: u32 = 6;
-
-const TRANSITIVE: u32 = 8;
-
-const REFLEXIVE: u32 = 9;
-
-const ACYCLIC: u32 = 10;
-
-const TRAVERSABLE: u32 = 11;
-
-pub(crate) const PAIR_IS_TAG: u32 = 12;
-
-const WITH: u32 = 13;
-
-const ON_DELETE: u32 = 14;
-
-const ON_DELETE_TARGET: u32 = 15;
-
-const DELETE: u32 = 17;
-
-const ON_INSTANTIATE: u32 = 19;
 
 /// The built-in entities, each in its table.
 pub(crate) fn archetypes<A: Allocator + Copy>(

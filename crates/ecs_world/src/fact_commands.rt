@@ -15,7 +15,8 @@ use std::alloc::Allocator;
 impl<A: Allocator + Copy> World<A> {
     /// Adds an id to an entity, with zeros as its value. A fact that is there already keeps its value.
     ///
-    /// With it come the facts of With and the mirror of a Symmetric relationship, and the other targets of an Exclusive one go.
+    /// With it come the facts of With and the mirror of a Symmetric relationship, and the other targets of an Exclusive one go. Where it gives
+    /// the entity a new base (IsA), copies of what the base holds come with their values, as OnInstantiate of each component says.
     pub fn add(&mut self, entity: EntityId, id: Id) -> Result<Changes<A>, CommandError>
         ensures answers { AnswersStep result (step self.old.state (Add entity id)) self.old.state self.new.state }
         ensures goes_on { TablesGoOn self.old.tables self.new.tables }

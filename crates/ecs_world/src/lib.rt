@@ -23,7 +23,8 @@
 //! ```
 //!
 //! Each command is judged as a whole before anything is changed. Where memory is refused it answers `Memory`, and the world is as it was.
-//! A command takes time logarithmic in the entities, and moves at most one row. Readers take no memory.
+//! A command moves each entity whose ids it changes once, and takes time in what it changes and in the ancestors and referrers that its
+//! rules ask for. Readers take no memory.
 #![tactic(auto, using(ecs_id::specs::Id::id_tests))]
 
 ghost use Rattle.std.specs.Prelude.{◌≡◌, IfOk};

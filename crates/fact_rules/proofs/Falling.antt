@@ -8,7 +8,7 @@ use Rattle.std.specs.List.Sorted.{IsStrictlySortedBy}
 use Rattle.std.specs.Ordering.{nat_cmp}
 use Rattle.std.proofs.lemmas.Bool.Decides.{nat_tests}
 use Rattle.std.proofs.lemmas.List.Elements.{Contains-append_cases, Contains-append_left, Contains-append_right}
-use Rattle.ecs_id.specs.Id.{Id, plain, pair, mentioned}
+use Rattle.ecs_id.specs.Id.{Id, mentioned}
 use Rattle.ecs_model.specs.declared.faults.Refusal.{Refusal}
 use Rattle.ecs_model.specs.declared.faults.Refusal.TheVariants.{InUse, Panic, Full}
 use Rattle.ecs_model.specs.Command.{is_spent}
@@ -139,17 +139,13 @@ module _ (w : WorldState) (e : ℕ) (s : Work) (h : IsWellFormed w) (live : Cont
   went_are old ks is rises same =
       is_filter w h (mentions_gone w (deleted w e)) ks rises (λ k. (λ c. went_in k (rw is at ((same k).0 c)), λ p. (same k).1 (rw is (in_went k p.0 p.1))))
 
-  forbids_alike : (x : ℕ) (i : Id) → refer.forbids (ids_of w) x i ≡ forbids (ids_of w) x i
-  forbids_alike x (plain c) = refl
-  forbids_alike x (pair r t) = refl
-
   -- the reasons against the deletion
   pub reasons_are : delete_reasons w (deleted w e)
       ≡ (list_any (λ i. nat_lt 0 (count_at w.pins i)) s.found, InUse) ∷ (refer.is_forbidden (ids_of w) (entities w) s.found, Panic) ∷ (is_spent w, Full) ∷ []
   reasons_are =
       reasons_by_found w e lives s.found d.fall
       ∙ (λ j. (list_any (λ i. nat_lt 0 (count_at w.pins i)) s.found, InUse)
-      ∷ (list_any (λ y. not (among_alike y s.found j) && list_any (λ i. list_any (λ x. sym (forbids_alike x i) j) s.found) (ids_of w y)) (entities w), Panic)
+      ∷ (list_any (λ y. not (among_alike y s.found j) && list_any (λ i. list_any (λ x. forbids (ids_of w) x i) s.found) (ids_of w y)) (entities w), Panic)
       ∷ (is_spent w, Full) ∷ [])
 
 -- the same, by what the searches saw

@@ -5,6 +5,5 @@ mod Falling
 mod Counting
 mod Coming
 mod Going
-mod Staying
 mod Lonely
 pub mod Dying

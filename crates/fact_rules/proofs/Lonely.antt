@@ -83,5 +83,5 @@ module _ (ids : ℕ → List Id) where
 
   -- so a fact of a plain id that is no trait and brings none comes alone
   pub plain_alone : (e : ℕ) (i : Id) → second_of i ≡ None → is_trait i ≡ false → brought ids (e, i) ≡ [] → ComesAlone ids (e, i)
-  plain_alone e (plain c) single no_trait brings = record { no_trait = no_trait; brings = brings; displaces = refl; closes = without_target (e, plain c) single }
+  plain_alone e (plain c) single no_trait brings = record { no_trait = no_trait; no_copies = refl; brings = brings; displaces = refl; closes = without_target (e, plain c) single }
   plain_alone e (pair r t) single no_trait brings = absurd cc

@@ -1,23 +1,20 @@
 -- A list that strictly rises is the only one with its items.
 use Rattle.std.proofs.Common.{◌≡◌, ◌↔◌, ◌∙◌, true, ◌&&◌, ℕ, ◌==◌, List, [], ◌∷◌, refl, sym, ap, subst}
 use Rattle.std.specs.Prelude.{map}
-use Rattle.std.specs.Cmp.{IsTotalOrder, eq_by_cmp_equiv}
+use Rattle.std.specs.Cmp.{IsTotalOrder}
 use Rattle.std.specs.List.{AllByRecursion, Contains, dedup}
 use Rattle.std.specs.List.Sorted.{IsPermutation, IsSorted, IsStrictlySortedBy}
 use Rattle.std.specs.FinMap.Entries.{below_all}
 use Rattle.std.specs.Ordering.{is_lt, nat_cmp}
 use Rattle.std.specs.declared.cmp.Ordering.{Ordering}
 use Rattle.std.specs.declared.cmp.Ordering.TheVariants.{Less, Equal}
-use Rattle.std.proofs.lemmas.List.Kept.{Contains-dedup, Contains-dedup_nat, Contains-from_dedup, IsStrictlySortedBy-dedup}
+use Rattle.std.proofs.lemmas.List.Kept.{Contains-dedup_nat, Contains-from_dedup}
 use Rattle.std.proofs.lemmas.List.Sorted.{Contains-permutation, IsPermutation-sym}
 use Rattle.std.proofs.lemmas.Map.Keys.{IsStrictlyIncreasing-dedup, sorted_from_strictly_increasing}
 use Rattle.ecs_model.specs.Map.{Map, IsMap, keys, has_key}
 use Rattle.ecs_model.specs.Sets.{Set}
-use Rattle.ecs_model.specs.World.{Key, key_cmp, key_eq}
-use Rattle.ecs_model.proofs.Maps.{key_cmp_total}
 use Rattle.ecs_model.proofs.Members.{alike}
 use Rattle.ecs_model.proofs.traits.Facts.{key_there, there_key}
-use Rattle.ecs_model.proofs.traits.Replacing.{key_eq_same}
 use Rattle.ecs_model.proofs.traits.SameKeys.{same_keys}
 
 module _ {K : Type 0} (R : K → K → Ordering) (o : IsTotalOrder R) (exact : (x y : K) → R x y ≡ Equal → x ≡ y) where
@@ -47,21 +44,7 @@ module _ {K : Type 0} (R : K → K → Ordering) (o : IsTotalOrder R) (exact : (
       (λ t. there_key R o m k ((same k).0 (subst (λ xs. Contains xs k) (keys-as_set ks) (key_there R exact (as_set ks) k t))))
       (λ t. there_key R o (as_set ks) k (subst (λ xs. Contains xs k) (sym (keys-as_set ks)) ((same k).1 (key_there R exact m k t)))))
 
-  -- and so are two that rise and have the same items
-  pub one_list : (xs ys : List K) → IsStrictlySortedBy R xs → IsStrictlySortedBy R ys → ((k : K) → Contains xs k ↔ Contains ys k) → xs ≡ ys
-  one_list xs ys s t same = is_keys (as_set ys) (IsMap-as_set ys t) xs s (λ k. rw (keys-as_set ys) (same k)) ∙ keys-as_set ys
-
--- a list of facts that was sorted, and of which each was kept once
-pub fact_rises : (mid new : List Key) → new ≡ dedup key_eq mid → IsSorted key_cmp mid → IsStrictlySortedBy key_cmp new
-fact_rises mid new is sorted = rw is (IsStrictlySortedBy-dedup key_cmp_total (λ x y. refl) mid sorted)
-
-pub same_facts : (old mid new : List Key) → new ≡ dedup key_eq mid → IsPermutation old mid → (k : Key) → Contains new k ↔ Contains old k
-same_facts old mid new is moved k = (
-  λ h. Contains-permutation mid old k (IsPermutation-sym old mid moved) (Contains-from_dedup key_eq mid k (rw is at h)),
-  λ h. rw is (Contains-dedup (eq_by_cmp_equiv key_cmp_total) key_eq_same mid k (Contains-permutation old mid k moved h)),
-)
-
--- and one of numbers
+-- a list of numbers that was sorted, and of which each was kept once
 pub number_rises : (mid new : List ℕ) → new ≡ dedup ◌==◌ mid → IsSorted nat_cmp mid → IsStrictlySortedBy nat_cmp new
 number_rises mid new is sorted = rw is (sorted_from_strictly_increasing (dedup ◌==◌ mid) (IsStrictlyIncreasing-dedup mid sorted))
 

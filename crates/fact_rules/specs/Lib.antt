@@ -1,5 +1,5 @@
 pub mod Sees
 pub mod Deletions
 pub mod Additions
-pub mod Left
 pub mod Simple
+pub mod Copies

@@ -3,19 +3,21 @@ ghost use Rattle.std.specs.Prelude.{◌≡◌, ℕ, List, [], None, false, IsTru
 ghost use Rattle.ecs_id.specs.Id.{Id as IdValue, first_of, second_of};
 ghost use Rattle.ecs_model.specs.Added.{brought, displaced};
 ghost use Rattle.ecs_model.specs.Links.{targets_in};
-ghost use Rattle.fact_rules.specs.Simple.{ComesAlone};
+ghost use Rattle.fact_rules.specs.Simple.{ComesAlone, leads_to_copies as leads_to_copies_of};
 ghost use Rattle.rel_traits.specs.After.{ClosesAt};
 
+use crate::copies::gives_copies;
 use crate::traits::is_trait;
 use ecs_id::Id;
 use ecs_model::FactKey;
-use ecs_model::built_ins::{ACYCLIC, EXCLUSIVE, SYMMETRIC, WITH};
+use ecs_model::built_ins::{ACYCLIC, EXCLUSIVE, IS_A, SYMMETRIC, WITH};
 use rel_travel::{Graph, Holders, may_be_target, target_under};
 
-/// Whether a fact is seen to come alone: it is no trait, brings no other, lets none give way, and closes no cycle.
+/// Whether a fact is seen to come alone: it is no trait, brings no other, copies nothing, lets none give way, and closes no cycle.
 ///
-/// Of some facts that come alone it isn't seen: of one that the entity holds, and of one whose relationship leads to the entity. It takes
-/// time in the ids of the fact's component or relationship, and in those of its entity where that is exclusive.
+/// Of some facts that come alone it isn't seen: of one that the entity holds, of one whose relationship leads to the entity, and of a
+/// pair of IsA where the entity has all that its base could give. It takes time in the ids of the fact's component or relationship, in those
+/// of its entity where that is exclusive, and in those of a base.
 pub fn comes_alone<G: Holders>(graph: &G, fact: FactKey) -> bool
     ensures { IsTrue result → ComesAlone (G.ids graph.now) fact }
 {
@@ -23,6 +25,7 @@ pub fn comes_alone<G: Holders>(graph: &G, fact: FactKey) -> bool
     let traits = graph.ids(id.first());
     !is_trait(id)
         && !may_bring(traits, id)
+        && !leads_to_copies(graph, id)
         && !may_displace(graph, traits, fact)
         && !may_close(graph, traits, fact)
 }
@@ -41,6 +44,16 @@ fn may_bring(traits: &[Id], id: Id) -> bool
     ensures { result ≡ false → (ids : ℕ → List IdValue) (e : ℕ) → traits.now ≡ ids (first_of id) → brought ids (e, id) ≡ [] }
 {
     has_target(traits, WITH) || id.is_pair() && traits.contains(&Id::plain(SYMMETRIC))
+}
+
+/// Whether an id leads from an instance to a base of which something may be copied.
+fn leads_to_copies<G: Graph>(graph: &G, id: Id) -> bool
+    ensures { result ≡ leads_to_copies_of (G.ids graph.now) id }
+{
+    match id.second() {
+        None => false,
+        Some(target) => id.first() == IS_A && gives_copies(graph, target),
+    }
 }
 
 /// Whether others may give way to a fact.

@@ -110,7 +110,7 @@ fn push_lost<G: Graph, A: Allocator>(
 }
 
 /// Whether an id mentions one of the found.
-pub(crate) fn mentions_found<A: Allocator>(scratch: &Scratch<A>, id: Id) -> bool
+fn mentions_found<A: Allocator>(scratch: &Scratch<A>, id: Id) -> bool
     requires { All (λ x. x < scratch.now.size) (mentioned id) }
     ensures { result ≡ mentions_any scratch.now.found id }
 {

@@ -1,20 +1,10 @@
 //! Lists of facts.
-ghost use Rattle.std.specs.Prelude.{◌≡◌, ◌↔◌, ◌++◌, Contains, OnOk, map};
-ghost use Rattle.std.specs.List.Sorted.{IsStrictlySortedBy};
-ghost use Rattle.ecs_model.specs.World.{Key, key_cmp};
+ghost use Rattle.std.specs.Prelude.{◌≡◌, ◌++◌, OnOk, map};
 
 use ecs_model::FactKey;
+pub(crate) use rel_traits::put_in_order;
 use rel_travel::Graph;
 use std::alloc::{AllocError, Allocator};
-
-/// Puts the facts in order, each once. It takes no memory.
-pub fn put_in_order<A: Allocator>(facts: &mut Vec<FactKey, A>)
-    ensures ascend { IsStrictlySortedBy key_cmp facts.new.items }
-    ensures same { (k : Key) → Contains facts.new.items k ↔ Contains facts.old.items k }
-{
-    facts.sort_unstable();
-    facts.dedup();
-}
 
 /// Adds all facts of an entity.
 pub fn push_facts<G: Graph, A: Allocator>(

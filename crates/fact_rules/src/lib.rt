@@ -3,9 +3,9 @@
 
 mod addition;
 mod alone;
+mod copies;
 mod deletion;
 mod fact_lists;
-mod left;
 mod refused_addition;
 mod refused_deletion;
 mod removal;
@@ -15,7 +15,6 @@ mod traits;
 pub use addition::Additions;
 pub use alone::{comes_alone, plain_comes_alone};
 pub use deletion::Deletion;
-pub use left::{ids_after, ids_left};
 pub use refused_addition::judge_add;
 pub use refused_deletion::judge_delete;
 pub use removal::{gather_remove, judge_remove};

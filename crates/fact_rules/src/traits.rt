@@ -5,14 +5,10 @@ ghost use Rattle.ecs_model.specs.traits.Rules.{is_trait as is_trait_id};
 ghost use Rattle.fact_rules.specs.Additions.{is_of_built_in};
 
 use ecs_id::Id;
-use ecs_model::built_ins::{EXCLUSIVE, ON_DELETE, ON_DELETE_TARGET, PAIR_IS_TAG, WITH};
+use ecs_model::built_ins::{
+    COMPONENT, EXCLUSIVE, ON_DELETE, ON_DELETE_TARGET, ON_INSTANTIATE, PAIR_IS_TAG, WITH,
+};
 use ecs_model::{FactKey, LAST_BUILT_IN};
-
-/// The tag of components.
-const COMPONENT: u32 = 3;
-
-/// The relationship of the rules by which ids are copied.
-const ON_INSTANTIATE: u32 = 19;
 
 /// Whether an id is a trait of the component or relationship that holds it.
 pub fn is_trait(id: Id) -> bool

@@ -1,16 +1,10 @@
 -- The new entity enters the table.
-use Rattle.std.proofs.Common.{◌∙◌, ◌+◌, ◌<◌, ◌≤◌, List, ap, refl, subst, sym}
-use Rattle.ecs_archetypes.specs.Holdings.{upcoming, zero_cells}
+use Rattle.std.proofs.Common.{◌∙◌, ap, refl, subst, sym}
+use Rattle.ecs_archetypes.specs.Holdings.{upcoming}
 use Rattle.ecs_archetypes.specs.Archetypes.{IsSound}
-use Rattle.ecs_archetypes.specs.Housing.{Housing, holdings_of}
-use Rattle.table_store.specs.Store.{room_at, shape_at}
-use Rattle.ecs_archetypes.proofs.ArchetypeCalls.{alike_born, born_alive, dead_before, sound_born}
-use Rattle.ecs_id.specs.declared.TableKey.{TableKey}
-use Rattle.ecs_archetypes.specs.declared.plans.Move.{Move}
-use Rattle.ecs_archetypes.specs.Moves.{AreReady, moves_to}
-use Rattle.ecs_archetypes.specs.Tables.{one_in}
-use Rattle.ecs_archetypes.proofs.Deleting.{ready_born}
-use Rattle.ecs_archetypes.proofs.Known.{room_stands}
+use Rattle.ecs_archetypes.specs.Housing.{holdings_of}
+use Rattle.table_store.specs.Store.{shape_at}
+use Rattle.ecs_archetypes.proofs.ArchetypeCalls.{alike_born, born_alive, sound_born}
 use Rattle.ecs_archetypes.proofs.FirstHoldings.{same_next}
 use Rattle.ecs_archetypes.proofs.Soundness.{holdings}
 use Rattle.ecs_archetypes.proofs.Standing.{entered_alike}
@@ -38,14 +32,3 @@ pub returns-clause-born : goal.returns-clause-born
 returns-clause-born g c = λ f shape.
     alike_born c.self.inside.entities c.create.new.self c.self.inside.tables c.self.inside.tables c.self.invariant.sound (λ p. refl) c.self.invariant.sound.stored (holdings_of c.args.self.now) (ap holdings_of c.self.view_is) c.in-Ok.entity c.in-Ok.ensures.born _ _
     (c.enter.ensures.held f (ap (λ h. shape_at h.tables c.args.to) c.self.view_is ∙ shape))
-
-pub returns-clause-ready : goal.returns-clause-ready
-returns-clause-ready g c =
-    let old : Housing = record { entities = c.self.inside.entities; tables = c.self.inside.tables } in
-    let new : Housing = record { entities = c.enter.new.entities; tables = c.enter.new.tables } in
-    let f = room_stands c.self.inside.tables c.args.to (subst (λ h. 0 < room_at h.tables c.args.to) (sym c.self.view_is) c.requires.room) in
-    subst (λ h. (ms : List Move) → AreReady h ms → ((q : TableKey) → moves_to q ms + one_in c.args.to q ≤ room_at h.tables q) → AreReady new ms) c.self.view_is
-    (ready_born old new c.in-Ok.entity c.args.to (zero_cells f.0)
-    (dead_before c.self.inside.entities c.create.new.self c.self.inside.tables c.self.invariant.sound c.in-Ok.entity c.in-Ok.ensures.smallest c.in-Ok.ensures.born c.create.ensures.well_formed)
-    (alike_born c.self.inside.entities c.create.new.self c.self.inside.tables c.self.inside.tables c.self.invariant.sound (λ p. refl) c.self.invariant.sound.stored (holdings_of old) refl c.in-Ok.entity c.in-Ok.ensures.born _ _ (c.enter.ensures.held f.0 f.1))
-    c.enter.ensures.room)

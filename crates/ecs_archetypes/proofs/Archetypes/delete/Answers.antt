@@ -1,15 +1,11 @@
 -- The entity leaves its row.
-use Rattle.std.proofs.Common.{◌≡◌, ◌==◌, List, true, ◌∙◌, ap, not, subst, sym}
+use Rattle.std.proofs.Common.{◌∙◌, ap, not, subst, sym}
 use Rattle.std.specs.Option.{IsSome, is_some}
 use Rattle.ecs_model.proofs.Maps.{both_true}
 use Rattle.ecs_archetypes.specs.Holdings.{cells_at, lives}
 use Rattle.ecs_archetypes.specs.Housing.{holdings_of}
 use Rattle.ecs_archetypes.proofs.ArchetypeCalls.{settled_there}
 use Rattle.ecs_archetypes.proofs.MapLists.{both}
-use Rattle.std.specs.List.{list_all}
-use Rattle.ecs_archetypes.specs.declared.plans.Move.{Move}
-use Rattle.ecs_archetypes.specs.Moves.{AreReady}
-use Rattle.ecs_archetypes.proofs.Deleting.{ready_left}
 use Rattle.ecs_archetypes.proofs.Standing.{entered_alike}
 use Rattle.ecs_model.specs.World.{is_built_in}
 use Rattle.entity_index.specs.Entities.{is_alive}
@@ -27,8 +23,3 @@ pub leave-requires-clause-deletable : goal.leave-requires-clause-deletable
 leave-requires-clause-deletable g c =
     let h = both_true (lives (holdings_of c.args.self.now) c.args.entity) (is_some (cells_at (holdings_of c.args.self.now) c.args.entity.index)) c.requires.settled in
     both (is_alive c.self.inside.entities c.args.entity) (not (is_built_in c.args.entity.index)) (ap (λ z. lives (holdings_of z) c.args.entity) c.self.view_is ∙ h.0) (ap not c.requires.deletable)
-
-pub returns-clause-ready : goal.returns-clause-ready
-returns-clause-ready g c =
-    subst (λ h. (ms : List Move) → list_all (λ m. not (m.entity.index == c.args.entity.index)) ms ≡ true → AreReady h ms → AreReady (record { entities = c.leave.new.entities; tables = c.leave.new.tables }) ms) c.self.view_is
-    (ready_left (record { entities = c.self.inside.entities; tables = c.self.inside.tables }) (record { entities = c.leave.new.entities; tables = c.leave.new.tables }) c.args.entity c.leave.ensures.held c.leave.ensures.room)

@@ -41,6 +41,11 @@ addition_refusal-requires-clause-live g c =
     subst (λ u. All (IsOfLive (entities u)) c.list_additions.new.additions.added.items) (sym (state_is c.list_additions.ensures.same))
     (on_ok c.list_additions.result c.list_additions.ensures.live (sym c.is_err.ensures.value ∙ c.if-is_err.false))
 
+pub addition_refusal-requires-clause-copies_live : goal.addition_refusal-requires-clause-copies_live
+addition_refusal-requires-clause-copies_live g c =
+    subst (λ u. All (IsOfLive (entities u)) c.list_additions.new.additions.copies.items) (sym (state_is c.list_additions.ensures.same))
+    (on_ok c.list_additions.result c.list_additions.ensures.copies_live (sym c.is_err.ensures.value ∙ c.if-is_err.false))
+
 pub returns-in-Some-clause-answers : goal.returns-in-Some-clause-answers
 returns-in-Some-clause-answers g c =
     let live = not_dead c.args.self.now.state c.args.entity c.args.id (sym c.is_alive.ensures ∙ c.if-not-is_alive.false) (sym c.mentions_live.ensures ∙ c.if-not-mentions_live.false) in
@@ -81,7 +86,7 @@ returns-clause-answers g c =
     let none = add_otherwise c.args.self.now.state c.args.entity c.args.id live own ∙ ap (λ u. first_reason (add_reasons u c.args.entity.index c.args.id)) (sym seen) ∙ sym c.in-Ok.ensures.judged ∙ c.in_default-judged.is in
     let brought = on_ok c.bring.result c.bring.ensures.brought (sym c.is_err-2.ensures.value ∙ c.if-is_err-2.false) in
     let sound = subst IsWellFormed (state_is c.self.view_is) c.self.invariant.sound in
-    addition_told c.args.self.now.state _ c.of_lists.result c.args.entity c.args.id c.list_additions.new.additions.added.items c.list_additions.new.additions.came.items c.list_additions.new.additions.went.items lists sound none
+    addition_told c.args.self.now.state _ c.of_lists.result c.args.entity c.args.id lists sound none
     (counted_state c.self-3.invariant c.args.self.now.state (Add c.args.entity c.args.id)
     (state_is c.self-3.view_is ∙ brought ∙ ap (λ u. with_facts u (facts_after_add u c.args.entity.index c.args.id)) (state_is c.addition_refusal.ensures.same ∙ seen) ∙ sym (effect-add c.args.self.now.state c.args.entity c.args.id))
     sound tt none)

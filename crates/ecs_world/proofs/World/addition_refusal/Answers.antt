@@ -14,6 +14,9 @@ judge_add-requires-clause-mentions g c = rw (c.new-links.ensures, c.new-fact.ens
 pub judge_add-requires-clause-live : goal.judge_add-requires-clause-live
 judge_add-requires-clause-live g c = rw c.new-links.ensures (rw (← state_is c.self.view_is) at c.requires.live)
 
+pub judge_add-requires-clause-copies_live : goal.judge_add-requires-clause-copies_live
+judge_add-requires-clause-copies_live g c = rw c.new-links.ensures (rw (← state_is c.self.view_is) at c.requires.copies_live)
+
 pub returns-clause-judged : goal.returns-clause-judged
 returns-clause-judged g c =
     rw (← state_is c.self.view_is)

@@ -1,76 +1,24 @@
 use Rattle.std.proofs.Common.{sym, ap, ◌∙◌}
-use Rattle.ecs_archetypes.specs.Housing.{holdings_of}
-use Rattle.ecs_world.specs.Changes.{sized_by}
-use Rattle.ecs_world.proofs.Brought.{all_agree, all_settled, came_ascend, listed, none_held, state_brought, state_kept, untagged, went_ascend, world_brought, world_kept}
-use Rattle.ecs_world.proofs.Changed.{alike_then, when_err}
-use Rattle.ecs_world.proofs.Standings.{state_is}
+use Rattle.ecs_model.specs.Command.{with_facts}
+use Rattle.ecs_model.proofs.traits.Copies.{facts_brought}
+use Rattle.ecs_world.proofs.Brought.{unbased}
+use Rattle.ecs_world.proofs.Copied.{copies_left, copies_may}
 use Rattle.ecs_world.proofs.World.bring.Goals as goal
 
-pub change_facts-requires-clause-came_ascend : goal.change_facts-requires-clause-came_ascend
-change_facts-requires-clause-came_ascend g c =
-    came_ascend c.self.invariant c.args.entity c.args.id
-    (listed (state_is c.self.view_is) c.args.entity c.args.id c.requires.judged c.requires.tells.came_are (c.deref-3.ensures.value ∙ c.requires.tells.went_are)
-    (c.deref-2.ensures.value ∙ c.in_ok-size_facts.ensures.sized ∙ ap (sized_by c.args.self.now.state) c.deref.ensures.value))
+pub write_copies-requires : goal.write_copies-requires
+write_copies-requires g c =
+    copies_may c.args.self.now.state c.args.entity c.args.id c.in-Some.base c.keeps.ensures c.requires.judged (sym c.requires.tells.base_is ∙ c.in-Some.is)
+    c.bring_new.new.self.state c.in_ok-bring_new.ensures.brought c.deref.result.now (c.deref.ensures.value ∙ c.requires.tells.copies_are)
 
-pub change_facts-requires-clause-went_ascend : goal.change_facts-requires-clause-went_ascend
-change_facts-requires-clause-went_ascend g c =
-    went_ascend c.self.invariant c.args.entity c.args.id
-    (listed (state_is c.self.view_is) c.args.entity c.args.id c.requires.judged c.requires.tells.came_are (c.deref-3.ensures.value ∙ c.requires.tells.went_are)
-    (c.deref-2.ensures.value ∙ c.in_ok-size_facts.ensures.sized ∙ ap (sized_by c.args.self.now.state) c.deref.ensures.value))
+pub returns-in-Some-clause-brought : goal.returns-in-Some-clause-brought
+returns-in-Some-clause-brought g c =
+    c.write_copies.ensures.state
+    ∙ copies_left c.args.self.now.state c.args.entity c.args.id c.in-Some.base c.keeps.ensures c.requires.judged (sym c.requires.tells.base_is ∙ c.in-Some.is)
+    c.bring_new.new.self.state c.in_ok-bring_new.ensures.brought c.deref.result.now (c.deref.ensures.value ∙ c.requires.tells.copies_are)
 
-pub change_facts-requires-clause-settled : goal.change_facts-requires-clause-settled
-change_facts-requires-clause-settled g c =
-    all_settled c.self.invariant c.args.entity c.args.id
-    (listed (state_is c.self.view_is) c.args.entity c.args.id c.requires.judged c.requires.tells.came_are (c.deref-3.ensures.value ∙ c.requires.tells.went_are)
-    (c.deref-2.ensures.value ∙ c.in_ok-size_facts.ensures.sized ∙ ap (sized_by c.args.self.now.state) c.deref.ensures.value))
-
-pub change_facts-requires-clause-unheld : goal.change_facts-requires-clause-unheld
-change_facts-requires-clause-unheld g c =
-    none_held c.self.invariant c.args.entity c.args.id
-    (listed (state_is c.self.view_is) c.args.entity c.args.id c.requires.judged c.requires.tells.came_are (c.deref-3.ensures.value ∙ c.requires.tells.went_are)
-    (c.deref-2.ensures.value ∙ c.in_ok-size_facts.ensures.sized ∙ ap (sized_by c.args.self.now.state) c.deref.ensures.value))
-
-pub change_facts-requires-clause-agree : goal.change_facts-requires-clause-agree
-change_facts-requires-clause-agree g c =
-    all_agree c.self.invariant c.args.entity c.args.id
-    (listed (state_is c.self.view_is) c.args.entity c.args.id c.requires.judged c.requires.tells.came_are (c.deref-3.ensures.value ∙ c.requires.tells.went_are)
-    (c.deref-2.ensures.value ∙ c.in_ok-size_facts.ensures.sized ∙ ap (sized_by c.args.self.now.state) c.deref.ensures.value))
-
-pub invariant_of-self : goal.invariant_of-self
-invariant_of-self g c =
-    world_kept c.self.invariant c.args.entity c.args.id
-    (listed (state_is c.self.view_is) c.args.entity c.args.id c.requires.judged c.requires.tells.came_are (c.deref-3.ensures.value ∙ c.requires.tells.went_are)
-    (c.deref-2.ensures.value ∙ c.in_ok-size_facts.ensures.sized ∙ ap (sized_by c.args.self.now.state) c.deref.ensures.value))
-    (holdings_of c.change_facts.new.self) c.in_err-change_facts.ensures.refused c.change_facts.ensures.holdings c.change_facts.ensures.sizes
-
-pub returns-in_err-change_facts-clause-refused : goal.returns-in_err-change_facts-clause-refused
-returns-in_err-change_facts-clause-refused g c =
-    when_err c.from_residual-in_err-change_facts.result (state_kept c.self.invariant c.args.entity c.args.id
-    (listed (state_is c.self.view_is) c.args.entity c.args.id c.requires.judged c.requires.tells.came_are (c.deref-3.ensures.value ∙ c.requires.tells.went_are)
-    (c.deref-2.ensures.value ∙ c.in_ok-size_facts.ensures.sized ∙ ap (sized_by c.args.self.now.state) c.deref.ensures.value))
-    (holdings_of c.change_facts.new.self) c.in_err-change_facts.ensures.refused (state_is c.self.view_is))
-
-pub release_tag_pairs-requires : goal.release_tag_pairs-requires
-release_tag_pairs-requires g c =
-    record {
-      unheld = untagged c.self.invariant c.args.entity c.args.id
-          (listed (state_is c.self.view_is) c.args.entity c.args.id c.requires.judged c.requires.tells.came_are (c.deref-3.ensures.value ∙ c.requires.tells.went_are)
-          (c.deref-2.ensures.value ∙ c.in_ok-size_facts.ensures.sized ∙ ap (sized_by c.args.self.now.state) c.deref.ensures.value))
-          (holdings_of c.change_facts.new.self) c.in_ok-change_facts.ensures.changed c.deref-4.result.now (c.deref-4.ensures.value ∙ sym c.deref-2.ensures.value);
-    }
-
-pub invariant_of-self-2 : goal.invariant_of-self-2
-invariant_of-self-2 g c =
-    world_brought c.self.invariant c.args.entity c.args.id
-    (listed (state_is c.self.view_is) c.args.entity c.args.id c.requires.judged c.requires.tells.came_are (c.deref-3.ensures.value ∙ c.requires.tells.went_are)
-    (c.deref-2.ensures.value ∙ c.in_ok-size_facts.ensures.sized ∙ ap (sized_by c.args.self.now.state) c.deref.ensures.value))
-    (holdings_of c.release_tag_pairs.new.archetypes) (alike_then c.release_tag_pairs.ensures.held c.in_ok-change_facts.ensures.changed) (holdings_of c.change_facts.new.self) c.deref-4.result.now
-    (c.deref-4.ensures.value ∙ sym c.deref-2.ensures.value) c.change_facts.ensures.sizes c.release_tag_pairs.ensures.sizes c.release_tag_pairs.ensures.holdings
-
-pub returns-clause-brought : goal.returns-clause-brought
-returns-clause-brought g c =
-    state_brought c.self.invariant c.args.entity c.args.id
-    (listed (state_is c.self.view_is) c.args.entity c.args.id c.requires.judged c.requires.tells.came_are (c.deref-3.ensures.value ∙ c.requires.tells.went_are)
-    (c.deref-2.ensures.value ∙ c.in_ok-size_facts.ensures.sized ∙ ap (sized_by c.args.self.now.state) c.deref.ensures.value))
-    (holdings_of c.release_tag_pairs.new.archetypes) (alike_then c.release_tag_pairs.ensures.held c.in_ok-change_facts.ensures.changed) (holdings_of c.change_facts.new.self) c.deref-4.result.now
-    (c.deref-4.ensures.value ∙ sym c.deref-2.ensures.value) c.change_facts.ensures.sizes c.release_tag_pairs.ensures.sizes c.release_tag_pairs.ensures.holdings (state_is c.self.view_is)
+pub returns-in_default-clause-brought : goal.returns-in_default-clause-brought
+returns-in_default-clause-brought g c =
+    let w = c.args.self.now.state in
+    let e = c.args.entity.index in
+    let none = sym c.requires.tells.base_is ∙ c.in_default.is in
+    c.in_ok-bring_new.ensures.brought ∙ ap (λ o. with_facts w (facts_brought w e c.args.id o)) none ∙ ap (with_facts w) (unbased w e c.args.id none)

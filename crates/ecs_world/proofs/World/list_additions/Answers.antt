@@ -22,3 +22,8 @@ pub returns-clause-live : goal.returns-clause-live
 returns-clause-live g c =
     let live = on_ok c.gather.result c.gather.ensures.live (sym c.is_err-2.ensures.value ∙ c.if-is_err-2.false) in
     rw (← state_is c.self.view_is) (rw c.new-links.ensures at live)
+
+pub returns-clause-copies_live : goal.returns-clause-copies_live
+returns-clause-copies_live g c =
+    let live = on_ok c.gather.result c.gather.ensures.copies_live (sym c.is_err-2.ensures.value ∙ c.if-is_err-2.false) in
+    rw (← state_is c.self.view_is) (rw c.new-links.ensures at live)

@@ -50,6 +50,11 @@ addition_refusal-requires-clause-live g c =
     subst (λ u. All (IsOfLive (entities u)) c.list_additions.new.additions.added.items) (sym (state_is c.list_additions.ensures.same))
     (on_ok c.list_additions.result c.list_additions.ensures.live (sym c.is_err.ensures.value ∙ c.if-is_err.false))
 
+pub addition_refusal-requires-clause-copies_live : goal.addition_refusal-requires-clause-copies_live
+addition_refusal-requires-clause-copies_live g c =
+    subst (λ u. All (IsOfLive (entities u)) c.list_additions.new.additions.copies.items) (sym (state_is c.list_additions.ensures.same))
+    (on_ok c.list_additions.result c.list_additions.ensures.copies_live (sym c.is_err.ensures.value ∙ c.if-is_err.false))
+
 pub returns-in-Some-clause-answers : goal.returns-in-Some-clause-answers
 returns-in-Some-clause-answers g c =
     let live = not_dead c.args.self.now.state c.args.entity c.args.id (sym c.is_alive.ensures ∙ c.if-not-is_alive.false) (sym c.mentions_live.ensures ∙ c.if-not-mentions_live.false) in
@@ -127,7 +132,7 @@ returns-clause-answers g c =
     let brought = on_ok c.bring.result c.bring.ensures.brought (sym c.is_err-2.ensures.value ∙ c.if-is_err-2.false) ∙ ap (λ u. with_facts u (facts_after_add u c.args.entity.index c.args.id)) (state_is c.addition_refusal.ensures.same ∙ seen) in
     let value = ap (λ u. value_in (type_of_id u c.args.id) (take c.in-Ok.size c.encode.new.buffer)) (sym seen) ∙ c.in-Ok.ensures.encoded.value in
     let left = state_is c.self-3.view_is ∙ c.write.ensures.state ∙ set_state c.args.self.now.state c.args.entity c.args.id c.args.values.now sound none c.bring.new.self.state brought (take c.in-Ok.size c.encode.new.buffer) value in
-    setting_told c.args.self.now.state _ c.of_lists.result c.args.entity c.args.id c.list_additions.new.additions.added.items c.list_additions.new.additions.came.items c.list_additions.new.additions.went.items lists sound c.args.values.now none
+    setting_told c.args.self.now.state _ c.of_lists.result c.args.entity c.args.id lists sound c.args.values.now none
     (counted_state c.self-3.invariant c.args.self.now.state (SetValue c.args.entity c.args.id c.args.values.now) left sound tt none)
     (c.of_lists.ensures ∙ c.with_written.ensures
     ∙ (λ k. record (c.with_facts-lists.ensures k) { written = c.new-key.ensures k ∷ [] })

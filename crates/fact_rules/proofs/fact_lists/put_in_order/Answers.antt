@@ -1,9 +1,0 @@
-use Rattle.std.proofs.lemmas.List.Filters.{dedup_is}
-use Rattle.fact_rules.proofs.OneList.{fact_rises, same_facts}
-use Rattle.fact_rules.proofs.fact_lists.put_in_order.Goals as goal
-
-pub returns-clause-ascend : goal.returns-clause-ascend
-returns-clause-ascend g c = fact_rises _ _ (dedup_is _ _ _ c.dedup.ensures.filtered) c.sort_unstable.ensures.sorted
-
-pub returns-clause-same : goal.returns-clause-same
-returns-clause-same g c = same_facts _ _ _ (dedup_is _ _ _ c.dedup.ensures.filtered) c.sort_unstable.ensures.permutation
