@@ -1,6 +1,5 @@
-pub mod Mentions
+pub mod Mentioning
 pub mod Passing
-pub mod LocalLevels
 pub mod Ascending
 pub mod Matching
 pub mod Moves

@@ -13,7 +13,7 @@ use Rattle.ecs_model.specs.Map.{with_value}
 use Rattle.ecs_model.specs.Links.{line}
 use Rattle.ecs_model.specs.rows.Level.{Level, done, also, unless, top}
 use Rattle.ecs_model.specs.rows.Rows as meant
-use Rattle.ecs_model.specs.rows.Rows.{Assignment, Field, Unset, assignments, first_nonempty, fits, product, matches, keeps_one, hits, closed_fields, fields_of_term, shown, shown_fields, same_entity, fields_of_item, solutions, passes_over, visible, row_of, rows_under, rows}
+use Rattle.ecs_model.specs.rows.Rows.{candidates, Assignment, Field, Unset, assignments, first_nonempty, fits, product, matches, keeps_one, hits, closed_fields, fields_of_term, shown, shown_fields, same_entity, fields_of_item, solutions, passes_over, visible, row_of, rows_under, rows}
 use Rattle.ecs_model.specs.rows.View.{View}
 use Rattle.ecs_model.specs.traits.Rules.{prefab, disabled}
 use Rattle.ecs_model.specs.stored.Watches.{is_this, matching}
@@ -25,12 +25,13 @@ use Rattle.query_model.specs.Query.{Item, must, may, either, equal, differ, item
 use Rattle.query_model.specs.Local.{asks_first, is_local_piece}
 use Rattle.query_meaning.specs.Local.{IsLocal}
 use Rattle.query_meaning.specs.Variables.{contains}
+use Rattle.query_meaning.proofs.Ordered.{any-ordered}
 use Rattle.query_meaning.proofs.Assignments.{at, at-with_other}
 use Rattle.query_meaning.proofs.Lists.{In-from_place}
 use Rattle.query_meaning.proofs.Numbers.{contains-from_In}
 use Rattle.local_queries.specs.Judging.{has_hit, is_same, item_holds, judged, stands_for, suits}
 use Rattle.local_queries.proofs.Ascending.{contains-filter}
-use Rattle.local_queries.proofs.LocalLevels.{is_local_level, top_local}
+use Rattle.query_meaning.proofs.Locality.{is_local_level, top_local}
 use Rattle.local_queries.proofs.Passing.{level_holds, holds_is}
 
 -- ---- whether there is a choice
@@ -290,7 +291,8 @@ matched_where_judged w q local e =
     let this = and_parts _ _ parts.0 in
     contains-filter (λ d. list_any (is_this d) (rows w q)) w.entities e
     ∙ ap (λ b. contains w.entities e && b)
-    (ap (λ vs. list_any (is_this e) (flat_map (rows_under w q) (filter (λ a. not (passes_over w q a)) (assignments vs w.entities [])))) (one_visible q this.1)
+    (any-ordered w q (rows_under w q) (is_this e) (candidates w q)
+    ∙ ap (λ vs. list_any (is_this e) (flat_map (rows_under w q) (filter (λ a. not (passes_over w q a)) (assignments vs w.entities [])))) (one_visible q this.1)
     ∙ this_of_some w q e w.entities
     ∙ any_itself (is_asked w q) e w.entities)
     ∙ twice (contains w.entities e) (is_asked w q e)

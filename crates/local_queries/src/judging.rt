@@ -15,13 +15,9 @@ use crate::items::item_holds;
 use crate::nesting::{Nesting, at_end, end_of_failed, end_of_holding, with_item};
 use crate::tags::mentions;
 use ecs_id::Id;
+use ecs_model::built_ins::{DISABLED, PREFAB};
 use query_check::{Piece, Query};
 use std::alloc::Allocator;
-
-/// The tags of entities that are no `$this`, unless a query mentions them.
-const PREFAB: u32 = 4;
-
-const DISABLED: u32 = 5;
 
 /// Whether an entity, by its index, is `$this` of some row of a local query, in each world in which it lives with just these ids.
 /// Takes no memory.

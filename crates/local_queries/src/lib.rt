@@ -10,5 +10,6 @@ mod told;
 mod touched;
 
 pub use judging::judge;
+pub use tags::mentions;
 pub use told::{Told, local_told};
 pub use touched::Touched;

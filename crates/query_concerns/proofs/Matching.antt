@@ -6,6 +6,7 @@ use Rattle.std.specs.Option.{option_map_or}
 use Rattle.std.specs.Ordering.{nat_cmp}
 use Rattle.std.proofs.lemmas.List.Folds.{list_any-append}
 use Rattle.ecs_id.specs.Id.{plain}
+use Rattle.query_meaning.proofs.Ordered.{any-ordered}
 use Rattle.ecs_model.specs.BuiltIns.{transitive, reflexive}
 use Rattle.ecs_model.specs.Map.{value_at}
 use Rattle.ecs_model.specs.rows.Level.{top}
@@ -71,7 +72,10 @@ module _ (w v : View) (q : Query) (alike : AreAlikeFor q w v) where
 
   this_same : (e : ℕ) → list_any (is_this e) (rows w q) ≡ list_any (is_this e) (rows v q)
   unfolding rows
-  this_same e = all_same e (candidates w q) ∙ ap (λ given. list_any (is_this e) (flat_map (rows_under v q) given)) candidates_same
+  this_same e =
+      any-ordered w q (rows_under w q) (is_this e) (candidates w q)
+      ∙ all_same e (candidates w q) ∙ ap (λ given. list_any (is_this e) (flat_map (rows_under v q) given)) candidates_same
+      ∙ sym (any-ordered v q (rows_under v q) (is_this e) (candidates v q))
 
   matching_same : matching w q ≡ matching v q
   unfolding matching

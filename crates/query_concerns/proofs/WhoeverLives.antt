@@ -7,6 +7,7 @@ use Rattle.std.proofs.lemmas.Cmp.{eq_by_cmp_equiv, nat_cmp_total}
 use Rattle.std.proofs.lemmas.List.Folds.{list_any-append}
 use Rattle.std.proofs.lemmas.Option.{same_Some}
 use Rattle.ecs_id.specs.Id.{Id, plain}
+use Rattle.query_meaning.proofs.Ordered.{any-ordered}
 use Rattle.ecs_model.specs.BuiltIns.{transitive, reflexive}
 use Rattle.ecs_model.specs.Links.{AreLinks}
 use Rattle.ecs_model.specs.rows.Level.{Level, done, also, unless, top}
@@ -76,7 +77,7 @@ any_under w q e (a ∷ given) =
 
 pub any_row : (w : View) (q : Query) (e : ℕ) → list_any (is_this e) (rows w q) ≡ list_any (λ a. is_first_of e a && some (solutions w (top q) a)) (candidates w q)
 unfolding rows
-any_row w q e = any_under w q e (candidates w q)
+any_row w q e = any-ordered w q (rows_under w q) (is_this e) (candidates w q) ∙ any_under w q e (candidates w q)
 
 -- whoever an assignment has first, it has at some variable
 pub first_bound : (e : ℕ) (a : Assignment) → is_first_of e a ≡ true → (u : ℕ) × (at a u ≡ Some e)

@@ -6,15 +6,10 @@ ghost use Rattle.query_check.specs.Seen.{seen_item, seen_piece};
 ghost use Rattle.query_concerns.specs.Concerns.{concerns, is_asked_by_all, is_pair_of, item_concerns, leads_up, may_be, may_match, piece_concerns, term_concerns};
 
 use ecs_id::Id;
-use ecs_model::built_ins::{REFLEXIVE, TRANSITIVE};
+use ecs_model::built_ins::{DISABLED, PREFAB, REFLEXIVE, TRANSITIVE};
 use query_check::{Item, Piece, Query};
 use query_model::query::{Ref, Term};
 use std::alloc::Allocator;
-
-/// The tags of entities that are no `$this`, unless a query mentions them.
-const PREFAB: u32 = 4;
-
-const DISABLED: u32 = 5;
 
 /// Whether an id concerns a query. Where no fact of such an id comes or goes, and nobody is born or dies, its rows are of the same entities.
 ///

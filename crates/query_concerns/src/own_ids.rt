@@ -13,14 +13,10 @@ ghost use Rattle.query_concerns.specs.OwnIds.{is_no_variable, item_is_met, item_
 use crate::concerning::may_match;
 use crate::others::is_first;
 use ecs_id::Id;
+use ecs_model::built_ins::{DISABLED, PREFAB};
 use query_check::{Item, Piece, Query};
 use query_model::query::{Ref, Term};
 use std::alloc::Allocator;
-
-/// The tags of entities that are no `$this`, unless a query mentions them.
-const PREFAB: u32 = 4;
-
-const DISABLED: u32 = 5;
 
 /// Whether an entity with these ids lacks what a term in front of all groups asks of `$this` itself. Then it is `$this` of no row of the query.
 ///
