@@ -13,7 +13,7 @@ use Rattle.query_meaning.specs.Sound.{IsSound}
 use Rattle.query_meaning.specs.Standing.{IsCurrentIn, WasAsked}
 use Rattle.query_meaning.proofs.CheckedSound.{checked_queries_are_sound}
 use Rattle.query_meaning.proofs.NamedLive.{current_queries_name_the_living}
-use Rattle.query_meaning.proofs.Rising.{current_queries_go_up_without_cycles}
+use Rattle.query_meaning.proofs.Rising.{current_queries_go_up_without_cycles, current_queries_order_without_cycles}
 use Rattle.query_answers.proofs.Worlds.{worlds_ascend}
 use Rattle.world_query.specs.Answerable.{IsAnswerable}
 
@@ -25,6 +25,7 @@ current_answerable w q kept h = record {
   sound = asked_is_sound q h.asked;
   names = current_queries_name_the_living w q h;
   rises = current_queries_go_up_without_cycles w q kept h;
+  order = current_queries_order_without_cycles w q kept h;
 }
 
 pub matching_ascends : (w : WorldState) (q : Query) → IsWellFormed w → IsStrictlyIncreasing (matching (view_of w) q)

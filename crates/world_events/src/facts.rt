@@ -12,17 +12,12 @@ use crate::telling::Audience;
 use crate::terms::{asks_this, matches, only_term};
 use crate::texts::{entity_now, entity_text, id_text};
 use ecs_id::Id;
+use ecs_model::built_ins::{DISABLED, PREFAB};
 use ecs_model::watches::EventKind;
 use ecs_model::{FactKey, Value};
 use ecs_world::{Changes, World};
 use query_model::query::Term;
 use std::alloc::{AllocError, Allocator};
-
-/// The built-in tag of prefabs.
-pub(crate) const PREFAB: u32 = 4;
-
-/// The built-in tag of disabled entities.
-pub(crate) const DISABLED: u32 = 5;
 
 /// Tells an observer of the facts that came, or of those that were set, by the world after the command: each that its term matches,
 /// and whose entity it doesn't pass over.

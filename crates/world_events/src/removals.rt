@@ -7,11 +7,11 @@ ghost use Rattle.world_events.specs.Terms.{has_unasked, tells};
 
 use crate::before::{entity_before, entity_text_before, held_before, id_text_before};
 use crate::event::Event;
-use crate::facts::{DISABLED, PREFAB};
 use crate::telling::Audience;
 use crate::terms::{asks_this, matches, only_term};
 use ecs_id::Id;
 use ecs_model::FactKey;
+use ecs_model::built_ins::{DISABLED, PREFAB};
 use ecs_model::watches::EventKind;
 use ecs_world::{Changes, World};
 use query_model::query::Term;

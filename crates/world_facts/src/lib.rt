@@ -15,7 +15,7 @@ use ecs_id::{EntityId, Id, TableKey};
 use ecs_model::built_ins::REFLEXIVE;
 use ecs_world::{Links, World};
 use plan_exec::Facts;
-use rel_travel::{Graph, Holders, Scratch, above, below, pull, reaches};
+use rel_travel::{Graph, Holders, Scratch, above, below, known_depth, pull, reaches};
 use std::alloc::Allocator;
 use std::marker::Model;
 
@@ -183,6 +183,16 @@ impl<A: Allocator> Facts for WorldFacts<'_, A> {
             known,
             scratch,
         )
+    }
+
+    fn depth<B: Allocator>(
+        &self,
+        relationship: u32,
+        entity: u32,
+        known: &mut [u32],
+        scratch: &mut Scratch<B>,
+    ) -> u32 {
+        known_depth(&self.links, entity, relationship, known, scratch)
     }
 
     fn pull<B: Allocator>(&self, scratch: &mut Scratch<B>) -> Option<u32> {

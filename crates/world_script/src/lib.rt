@@ -1,4 +1,6 @@
 //! From the bytes of a script to the bytes of its output.
+//!
+//! What the contract of `run` says rests on definitions in many crates: `docs/BELIEVE.md` lists them from the top down.
 #![tactic(auto)]
 
 mod errors;

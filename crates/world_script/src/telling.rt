@@ -221,5 +221,6 @@ fn fault_word(kind: FaultKind) -> &'static str
         FaultKind::TooDeep => "TooDeep",
         FaultKind::NoThis => "NoThis",
         FaultKind::NotOneTerm => "NotOneTerm",
+        FaultKind::CascadePlace => "CascadePlace",
     }
 }

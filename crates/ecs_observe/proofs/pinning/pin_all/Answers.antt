@@ -14,7 +14,7 @@ returns-then-is_err-clause-refused g c =
 
 -- what stands for an item where there is none
 abbrev nobody : Mention
-nobody = record { entity = record { index = 0; generation = 0 }; traversable = false; transitive = false; reflexive = false }
+nobody = record { entity = record { index = 0; generation = 0 }; traversable = false; transitive = false; reflexive = false; inherited = false }
 
 pub loop-done-preserved : goal.loop-done-preserved
 loop-done-preserved g c = record {
