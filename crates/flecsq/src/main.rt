@@ -2,8 +2,10 @@
 #![tactic(auto)]
 
 use clap::error::ErrorKind;
-use clap::{Arg, Command, Error};
+use clap::{Arg, ArgAction, Command, Error};
+use script_explain::{Explaining, Script, Watched};
 use std::alloc::{AllocError, Global};
+use std::cell::RefCell;
 use std::env;
 use std::fs::File;
 use std::hash::RandomState;
@@ -25,17 +27,19 @@ const SCRIPTS: &str = "A script is lines of these forms:
   query TERM, ..                Prints each way in which all of these hold
   keep NAME TERM, ..            Keeps a query
   rows NAME                     Prints the rows of a kept query
-  monitor NAME TERM, ..         Tells from then on who enters and leaves rows
-  on EVENT NAME TERM            Tells from then on of facts that match; EVENT is
-                                add, remove or set
+  monitor NAME TERM, ..         Reports who enters and leaves its rows
+  on EVENT NAME TERM            Reports facts that match; EVENT is add, remove
+                                or set
   drop NAME                     Ends a kept query, a monitor or an observer
   // ..                         Does nothing, as an empty line
 
 ENTITY is a name or a handle, as `#64.0`, which `new` prints. ID is an ENTITY or
 a pair `(RELATIONSHIP,TARGET)` of two. KIND is i8, u8, i16, u16, i32, u32, i64
-or u64. A refused line prints `error LINE KIND`, and changes nothing. A TERM
-asks entities for an id, as `Planet`, `(ChildOf,$parent)`, `Position(up)`,
-`?(Likes,*)` or `!Planet`. An event stands behind the output of its line, as
+or u64. A refused line prints `error LINE KIND`, and changes nothing; with
+--explain, standard error gets the line and what is wrong with it. A TERM asks
+entities for an id, as `Planet`, `(ChildOf,$parent)`, `Position(up)`,
+`Position(cascade)`, `?(Likes,*)` or `!Planet`; a query has at most 64 terms and
+32 variables. An event stands after the output of its line, as
 `enter NAME ENTITY` or `set NAME ENTITY ID=VALUE,..`.
 
 This script makes a component and an entity, and asks for its value:
@@ -44,6 +48,9 @@ This script makes a component and an entity, and asks for its value:
   set Sun Position 10 -3
   query Position
 It prints `row $this=Sun [Position@Sun=10,-3]` and `rows 1`.
+
+From a terminal or a pipe each line is answered before the next one is read:
+`rlwrap flecsq` is a prompt with a history. FILE may be /dev/stdin.
 
 Exit status:
   0  Every line was accepted
@@ -85,14 +92,23 @@ impl From<RunError> for Fault {
     }
 }
 
+const USAGE: &str = "flecsq [FILE]
+       flecsq --explain [FILE]";
+
 /// What the arguments may be.
 fn command<'a>(alloc: Global) -> Result<Command<'a>, AllocError> {
     let file = Arg::new(alloc, "FILE").help("The script; without it, standard input is read");
+    let explain = Arg::new(alloc, "explain")
+        .long("explain")
+        .action(ArgAction::SetTrue)
+        .help("Also explains each refused line on standard error");
     Command::new(alloc, "flecsq")
         .version("0.1.0")
         .about(ABOUT)
+        .override_usage(USAGE)
         .after_help(SCRIPTS)
-        .arg(file)
+        .arg(file)?
+        .arg(explain)
 }
 
 /// Runs what the reader gives. `run` reads and writes in pieces, so nothing else is buffered.
@@ -104,11 +120,35 @@ fn run_reader<R: Read + Drop>(rt: &HostRuntime, reader: R) -> Result<Summary, Fa
     Ok(summary)
 }
 
+/// Runs what the reader gives in the same way, and explains the refused lines of this file on standard error.
+fn run_explained<R: Read + Drop>(
+    rt: &HostRuntime,
+    reader: R,
+    file: &str,
+) -> Result<Summary, Fault> {
+    let random = RandomState::new(rt).map_err(|_| Fault::Read)?;
+    let script = RefCell::new(Script::new(rt.alloc()));
+    let mut reader = Watched::new(FromRead::new(reader), &script);
+    let output = ToWrite::new(io::writer(rt));
+    let errors = ToWrite::new(rt.stderr());
+    let mut writer = Explaining::new(rt.alloc(), output, errors, &script, file);
+    let summary = run(rt.alloc(), random, &mut reader, &mut writer)?;
+    Ok(summary)
+}
+
 /// Opens the script and runs it. A file that can't be opened is a read fault.
 fn run_script(rt: &HostRuntime, file: Option<&str>) -> Result<Summary, Fault> {
     match file {
         Some(path) => run_reader(rt, File::open(rt, path).map_err(|_| Fault::Read)?),
         None => run_reader(rt, rt.stdin()),
+    }
+}
+
+/// The same, and explains the refused lines.
+fn explain_script(rt: &HostRuntime, file: Option<&str>) -> Result<Summary, Fault> {
+    match file {
+        Some(path) => run_explained(rt, File::open(rt, path).map_err(|_| Fault::Read)?, path),
+        None => run_explained(rt, rt.stdin(), "(standard input)"),
     }
 }
 
@@ -149,7 +189,13 @@ fn run_words(rt: &HostRuntime, words: &[String]) -> Result<ExitCode, ExitCode> {
         .map_err(|_| print_fault(rt, &Fault::Memory))?
         .try_get_matches_from(words)
         .map_err(|error| print_usage(rt, &error))?;
-    let summary = run_script(rt, matches.get_str("FILE")).map_err(|fault| print_fault(rt, &fault))?;
+    let file = matches.get_str("FILE");
+    let ended = if matches.get_flag("explain") {
+        explain_script(rt, file)
+    } else {
+        run_script(rt, file)
+    };
+    let summary = ended.map_err(|fault| print_fault(rt, &fault))?;
     Ok(ExitCode::from(if summary.refused == 0 { 0 } else { 1 }))
 }
 

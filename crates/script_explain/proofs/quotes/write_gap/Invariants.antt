@@ -1,0 +1,6 @@
+use Rattle.std.proofs.Common.{◌≡◌, ◌++◌, flat_map, map, take}
+use Rattle.script_explain.specs.Places.{gap, mark, shown}
+use Rattle.script_explain.proofs.quotes.write_gap.Given as goal
+
+abbrev pub invariant-loop-byte : goal.invariant-loop-byte
+invariant-loop-byte g l = l.out.items ≡ l.fn.out.items ++ flat_map (gap l.fn.is_text) (take l.byte-index l.fn.bytes)

@@ -1,0 +1,182 @@
+//! The text that explains a refused line.
+ghost use Rattle.std.specs.Prelude.{◌≡◌, ◌≤◌, length, IfSome};
+ghost use Rattle.script_explain.specs.Places.{IsWithin};
+
+use crate::bytes::len_without_blanks;
+use crate::commands::{Command, command_of};
+use crate::kinds::sentence_of;
+use crate::misfits::{Misfit, Reason, misfit_of};
+use crate::parts::{Part, text_start, word_from};
+use crate::quotes::{write_marks, write_quote};
+use crate::refusals::Refusal;
+use std::alloc::{AllocError, Allocator};
+
+/// So many bytes of a line are quoted.
+const MOST_QUOTED: usize = 160;
+
+/// Writes what is wrong with a refused line: where it stands and its kind, the line with marks under what is wrong, and a sentence.
+pub(crate) fn write_explanation<A: Allocator>(
+    file: &str,
+    refusal: &Refusal,
+    line: Option<&[u8]>,
+    out: &mut Vec<u8, A>,
+) -> Result<(), AllocError> {
+    write_parts(out, &[file, ":", refusal.number, ": ", refusal.kind, "\n"])?;
+    let Some(line) = line else {
+        return write_sentence(refusal.kind, out);
+    };
+    if refusal.kind == "BadLine" {
+        let misfit = misfit_of(line);
+        write_quoted(line, Some(misfit.part), out)?;
+        return write_misfit(line, &misfit, out);
+    }
+    write_quoted(line, marked_part(line, refusal.span), out)?;
+    write_sentence(refusal.kind, out)
+}
+
+/// Writes texts one after the other.
+fn write_parts<A: Allocator>(out: &mut Vec<u8, A>, parts: &[&str]) -> Result<(), AllocError> {
+    for part in parts {
+        out.extend_from_slice(part.as_bytes())?;
+    }
+    Ok(())
+}
+
+/// Writes the sentence of a kind.
+fn write_sentence<A: Allocator>(kind: &str, out: &mut Vec<u8, A>) -> Result<(), AllocError> {
+    match sentence_of(kind) {
+        Some(sentence) => write_parts(out, &["  ", sentence, "\n"]),
+        None => Ok(()),
+    }
+}
+
+/// The part of a line that a span of its query's text is.
+fn marked_part(line: &[u8], span: Option<(usize, usize)>) -> Option<Part>
+    ensures { IfSome result (IsWithin line.now) }
+{
+    let (start, end) = span?;
+    let word = word_from(line, 0);
+    let words = match command_of(word.of(line)) {
+        Some(command) => command.words_before_text(),
+        None => 1,
+    };
+    let text = text_start(line, words);
+    let room = line.len() - text;
+    let start = text + start.min(room);
+    let end = (text + end.min(room)).max(start);
+    Some(Part { start, end })
+}
+
+/// Writes a line and the marks under a part of it. Of a long line its first bytes are quoted, up to the part at least.
+fn write_quoted<A: Allocator>(
+    line: &[u8],
+    part: Option<Part>,
+    out: &mut Vec<u8, A>,
+) -> Result<(), AllocError>
+    requires { IfSome part (IsWithin line.now) }
+{
+    let is_text = std::str::from_utf8(line).is_ok();
+    let end = quoted_end(line, part);
+    write_parts(out, &["  "])?;
+    write_quote(is_text, &line[..end], out)?;
+    write_parts(
+        out,
+        &[if end < len_without_blanks(line) {
+            " ..\n"
+        } else {
+            "\n"
+        }],
+    )?;
+    match part {
+        None => Ok(()),
+        Some(part) => {
+            write_parts(out, &["  "])?;
+            write_marks(is_text, line, part, out)?;
+            write_parts(out, &["\n"])
+        }
+    }
+}
+
+/// Up to where a line is quoted: without blanks at its end, and the first bytes of a long one, with the marked part.
+fn quoted_end(line: &[u8], part: Option<Part>) -> usize
+    requires { IfSome part (IsWithin line.now) }
+    ensures { result ≤ length line.now }
+{
+    let least = match part {
+        None => 0,
+        Some(part) => part.end,
+    };
+    len_without_blanks(line).min(MOST_QUOTED).max(least)
+}
+
+/// Writes why a line fits no form.
+fn write_misfit<A: Allocator>(
+    line: &[u8],
+    misfit: &Misfit,
+    out: &mut Vec<u8, A>,
+) -> Result<(), AllocError>
+    requires { IsWithin line.now misfit.now.part }
+{
+    let word = misfit.part.of(line);
+    write_parts(out, &["  "])?;
+    if is_named(misfit.reason) && word.len() <= MOST_QUOTED {
+        write_parts(out, &["`"])?;
+        write_quote(true, word, out)?;
+        write_parts(out, &["` "])?;
+    } else if is_named(misfit.reason) {
+        write_parts(out, &["What is marked "])?;
+    }
+    write_parts(out, &[reason_text(misfit.reason)])?;
+    match form_meant(misfit) {
+        Some(command) => write_parts(out, &["`", command.form(), "`.\n"]),
+        None => write_parts(out, &["\n"]),
+    }
+}
+
+/// The form that the line has, or the nearest one.
+fn form_meant(misfit: &Misfit) -> Option<Command> {
+    match misfit.reason {
+        Reason::Unknown(nearest) => nearest,
+        _ => misfit.command,
+    }
+}
+
+/// Whether a sentence begins with what doesn't fit.
+fn is_named(reason: Reason) -> bool {
+    !matches!(
+        reason,
+        Reason::ByteOrderMark
+            | Reason::NotUtf8
+            | Reason::Missing
+            | Reason::Comment
+            | Reason::Unclear
+    )
+}
+
+/// What is wrong, up to the form that is meant.
+fn reason_text(reason: Reason) -> &'static str {
+    match reason {
+        Reason::ByteOrderMark =>
+            "The file begins with a byte order mark, which is no part of a line: save it as UTF-8 without one.",
+        Reason::NotUtf8 => "From the mark on the line isn't UTF-8.",
+        Reason::Unknown(Some(_)) => "is no command; the nearest form is ",
+        Reason::Unknown(None) =>
+            "is no command, and like none: `flecsq --help` lists the forms of lines.",
+        Reason::Missing => "A word is missing here; the form is ",
+        Reason::Surplus => "is a word too many; the form is ",
+        Reason::Comment => "A comment is a line of its own, which begins with `//`; the form is ",
+        Reason::Reference =>
+            "is neither a name nor a handle, which have no brackets and commas; the form is ",
+        Reason::Handle => "is no handle: that is `#index.generation`, as `#64.0`; the form is ",
+        Reason::Pair =>
+            "is no pair: that is `(RELATIONSHIP,TARGET)`, with a blank or nothing after it; the form is ",
+        Reason::Value => "is no value: that is a whole number of at most 38 digits; the form is ",
+        Reason::Fraction =>
+            "is no value: values are whole numbers, and a fraction has to be scaled; the form is ",
+        Reason::Field => "is no field: that is FIELD:KIND, as `x:i32`; the form is ",
+        Reason::Kind =>
+            "is no field: KIND is i8, u8, i16, u16, i32, u32, i64 or u64, and there are no floats; the form is ",
+        Reason::Event => "is no event: that is add, remove or set; the form is ",
+        Reason::Unclear => "The line fits none of the forms that `flecsq --help` lists.",
+    }
+}

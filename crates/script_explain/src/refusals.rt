@@ -1,0 +1,36 @@
+//! The lines of an output that tell of refused lines.
+
+/// What `error LINE KIND` or `error LINE KIND a..b` says, without its line feed.
+#[derive(Clone, Copy)]
+pub(crate) struct Refusal<'a> {
+    /// The number of the refused line, and its digits.
+    pub line: usize,
+    pub number: &'a str,
+    pub kind: &'a str,
+    /// The part of a query's text that is wrong.
+    pub span: Option<(usize, usize)>,
+}
+
+/// Reads such a line. Any other line tells of none.
+pub(crate) fn refusal_of(output: &[u8]) -> Option<Refusal<'_>> {
+    let text = std::str::from_utf8(output).ok()?;
+    let (number, rest) = text.strip_prefix("error ")?.split_once(' ')?;
+    let line = number.parse::<usize>().ok()?;
+    match rest.split_once(' ') {
+        None => Some(Refusal {
+            line,
+            number,
+            kind: rest,
+            span: None,
+        }),
+        Some((kind, span)) => {
+            let (start, end) = span.split_once("..")?;
+            Some(Refusal {
+                line,
+                number,
+                kind,
+                span: Some((start.parse().ok()?, end.parse().ok()?)),
+            })
+        }
+    }
+}
