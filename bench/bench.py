@@ -1,5 +1,5 @@
 #!/usr/bin/env python3
-"""bench.py [WORKLOAD ..]: tables of the workloads, or those named, and of the benchmarks among the crates.
+"""bench.py [WORKLOAD ..]: tables of the workloads, or those named, and of what bench_library measures.
 
 seconds       the least of three runs
 instructions  counted by valgrind, where that is installed: they don't vary with the load of the machine
@@ -24,11 +24,12 @@ import engine
 import workloads
 
 TOP = os.path.realpath(os.path.join(os.path.dirname(os.path.realpath(__file__)), ".."))
-PROGRAMS = [
-    ("bench_indexes", []),
-    ("bench_query", ["terms", "1000"]),
-    *(("bench_world", [name, size]) for name in ("values", "tree", "felled", "pairs") for size in ("10000", "100000")),
-    ("bench_world", ["chain", "10000"]),
+# (the parts of bench_library, with their words)
+PARTS = [
+    ("indexes", []),
+    ("query", ["terms", "1000"]),
+    *(("world", [name, size]) for name in ("values", "tree", "felled", "pairs") for size in ("10000", "100000")),
+    ("world", ["chain", "10000"]),
 ]
 RUNS = 3
 ENGINE_SIZES = [4_000, 16_000]
@@ -115,13 +116,15 @@ def run_beside_engine(name, room):
     return well
 
 
-def run_program(crate, words):
-    if not os.path.isfile(program(crate)):
-        print(f"{crate} is not built: make bench builds it")
+def run_part(part, words):
+    library = program("bench_library")
+    if not os.path.isfile(library):
+        print("bench_library is not built: make bench builds it")
         return False
-    seconds, _ = timed([program(crate), *words], os.devnull)
-    name = " ".join([crate, *(it for it in words if not it.isdecimal())])
-    count = None if any(it in UNCOUNTED for it in words) else counted([program(crate), *words], os.devnull)
+    call = [library, part, *words]
+    seconds, _ = timed(call, os.devnull)
+    name = " ".join([part, *(it for it in words if not it.isdecimal())])
+    count = None if any(it in UNCOUNTED for it in words) else counted(call, os.devnull)
     row(name, "".join(f"{int(it):,}" for it in words if it.isdecimal()), seconds, count)
     return seconds is not None
 
@@ -147,7 +150,7 @@ def header(other):
 
 
 def main():
-    known = [*workloads.WORKLOADS, *dict(PROGRAMS), *engine.WORKLOADS, *differences.DIFFERENCES]
+    known = [*workloads.WORKLOADS, *dict(PARTS), *engine.WORKLOADS, *differences.DIFFERENCES]
     chosen = sys.argv[1:] or known
     unknown = [it for it in chosen if it not in known]
     if unknown:
@@ -156,7 +159,7 @@ def main():
     header("sqlite3")
     with tempfile.TemporaryDirectory() as room:
         well = [run_workload(name, workloads.SIZES[name], room) for name in workloads.WORKLOADS if name in chosen]
-        well += [run_program(crate, words) for crate, words in PROGRAMS if crate in chosen]
+        well += [run_part(part, words) for part, words in PARTS if part in chosen]
         header("times")
         well += [run_beside_engine(name, room) for name in engine.WORKLOADS if name in chosen]
         print(f"{'one more':<20}{'costs':>9}")

@@ -193,6 +193,8 @@ def transitive(size, chosen):
     yield "component Near d:u16"
     yield "add Near Transitive"
     yield "add Near Reflexive"
+    # Nothing is copied from a base: the relationships alone are measured.
+    yield from (f"add {name} (OnInstantiate,DontInherit)" for name in ["Tag", "Rare", "In", "Near"])
     for number in range(size):
         entity = f"E{number}"
         yield f"entity {entity}"
@@ -409,6 +411,86 @@ def monitor(size, chosen):
             yield from (f"entity X{step}", f"add X{step} Hot", f"add X{step} (ChildOf,{entity})", f"delete X{step}")
 
 
+def prefab(kind, chosen):
+    """A prefab, from the fifth on an instance of an earlier one."""
+    name = f"P{kind}"
+    yield f"entity {name}"
+    yield f"add {name} Prefab"
+    if kind >= 4:
+        yield f"add {name} (IsA,P{chosen.below(kind // 4 + 1)})"
+    yield f"set {name} Health {kind}"
+    yield f"set {name} Speed {kind} {kind % 7}"
+    if kind % 2:
+        yield f"set {name} Armor {kind}"
+    yield f"set {name} Icon {kind}"
+    if kind % 3 == 0:
+        yield f"add {name} Hull"
+    yield f"set {name} Sound {kind}"
+    yield f"add {name} (Faction,Side{kind % 4})"
+
+
+def instances(size, chosen):
+    """Units made from prefabs in three levels: most components are copied, some are inherited, some are neither."""
+    yield from components(["Position", "Health", "Speed", "Armor"])
+    yield from entities(["Hull", "Owner", "Faction", "Slot", "Selected"])
+    yield from ("component Icon id:u32", "component Sound id:u32")
+    yield from ("add Hull (OnInstantiate,Inherit)", "add Icon (OnInstantiate,Inherit)", "add Sound (OnInstantiate,DontInherit)", "add Faction Exclusive")
+    yield from entities(f"Side{side}" for side in range(4))
+    kinds = max(4, min(60, size // 60))
+    for kind in range(kinds):
+        yield from prefab(kind, chosen)
+    for number in range(size):
+        entity = f"E{number}"
+        yield f"entity {entity}"
+        yield f"add {entity} (IsA,P{chosen.below(kinds)})"
+        yield value(entity, "Position", 0, chosen.below(1 << 16))
+        if chosen.chance(1, 4):
+            yield f"set {entity} Health {chosen.below(100)}"
+        if chosen.chance(1, 8):
+            yield f"add {entity} (Faction,Side{chosen.below(4)})"
+        if chosen.chance(1, 16):
+            yield f"add {entity} Selected"
+    for turn in range(6):
+        yield "query Position, Icon, Selected"
+        yield "query Selected, Hull, Health, Speed"
+        yield f"query (Faction,Side{turn % 4}), Selected, ?Armor, ?Icon(self)"
+        yield f"query (IsA,P{chosen.below(kinds)}), Selected"
+        yield "query Icon(self|up IsA), !Hull, Selected"
+        yield from (f"show E{chosen.below(size)}" for _ in range(20))
+
+
+def cascade(size, chosen):
+    """A scene: rows of parents before those of their children, again and again, while some move."""
+    yield from components(["Local", "World"])
+    yield from entities(["Root", "Mesh", "Dirty"])
+    roots = max(2, size // 200)
+    for number in range(size):
+        entity = f"E{number}"
+        yield f"entity {entity}"
+        if number < roots:
+            yield f"add {entity} Root"
+        else:
+            # The later half hangs below all, so most are some eight deep.
+            yield f"add {entity} (ChildOf,E{chosen.below(roots if number < 4 * roots else number)})"
+        yield value(entity, "Local", 0, chosen.below(1 << 12))
+        if chosen.chance(1, 2):
+            yield value(entity, "World", 1, chosen.below(1 << 12))
+        if chosen.chance(1, 5):
+            yield f"add {entity} Mesh"
+    yield "keep transforms Local, World(cascade)"
+    yield "keep meshes Mesh, Local, ?World(self|cascade)"
+    for _ in range(6):
+        yield "query [none] Local, World(cascade)"
+        yield "query Local(self|cascade), Mesh"
+        yield "rows meshes"
+        for _ in range(max(1, size // 100)):
+            moved = chosen.below(size - roots) + roots
+            yield f"add E{moved} (ChildOf,E{chosen.below(roots)})"
+            yield f"add E{chosen.below(size)} Dirty"
+        yield "query Dirty, World(self|cascade)"
+        yield "rows transforms"
+
+
 def wide(size, chosen):
     """A table for each entity."""
     yield from entities(["C", "U"])
@@ -435,6 +517,8 @@ WORKLOADS = {
     "churn": churn,
     "monitor": monitor,
     "wide": wide,
+    "instances": instances,
+    "cascade": cascade,
 }
 
 

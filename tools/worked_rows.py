@@ -21,6 +21,9 @@ MOST_LINES = 100
 MOST_VARIABLES = 14
 # short, and still more than the prover's steps
 TOO_MANY_STEPS = {
+    "cascade-sample-16": "a monitor and kept queries in which a variable stands for a component",
+    "instantiate-sample-51": "queries and a kept query in which variables stand for components",
+    "instantiate-sample-60": "queries in which variables stand for components, in groups and alternatives",
     "stored-queries-sample-08": "chains of a Reflexive relationship between any two entities, in queries and in a monitor of three variables",
     "stored-queries-sample-40": "a monitor of three variables, asked before and after each of ten commands",
     "stored-queries-sample-51": "queries of three and four variables, and monitors of two",
@@ -35,8 +38,9 @@ use Rattle.ecs_id.specs.Id.{{id_cmp}}
 use Rattle.ecs_model.specs.World.{{first_world, key_cmp, next_among}}
 use Rattle.ecs_model.specs.Sets.{{has_chain, within}}
 use Rattle.ecs_model.specs.Command.{{with_born, with_named, with_component, differences}}
-use Rattle.ecs_model.specs.traits.Changes.{{added, replaced, facts_after_add, facts_after_remove, deleted, facts_after_delete}}
+use Rattle.ecs_model.specs.traits.Changes.{{added, replaced, facts_with_added, new_base, copied, facts_after_add, facts_after_remove, deleted, facts_after_delete}}
 use Rattle.ecs_model.specs.traits.Command.{{without_entities, reasons, effect, step}}
+use Rattle.ecs_model.specs.Depth.{{depth_within}}
 use Rattle.ecs_model.specs.Line.{{line_within}}
 use Rattle.ecs_model.specs.Links.{{reaches}}
 use Rattle.ecs_model.specs.rows.Level.{{top}}
@@ -57,8 +61,8 @@ abbrev Gives : List ℕ → List ℕ → ℕ → ℕ → Type 0
 Gives script output lines refused = (output_of script ≡ output) × (count_of script ≡ (lines, refused))
 """
 UNFOLDING = (
-    "id_cmp key_cmp first_world next_among within has_chain added replaced facts_after_add facts_after_remove deleted facts_after_delete without_entities "
-    "with_born with_named with_component reasons effect differences step line_within reaches top hits fields_of_term fields_of_item solutions rows "
+    "id_cmp key_cmp first_world next_among within has_chain added replaced facts_with_added new_base copied facts_after_add facts_after_remove deleted facts_after_delete without_entities "
+    "with_born with_named with_component reasons effect differences step line_within depth_within reaches top hits fields_of_term fields_of_item solutions rows "
     "tokens_from tokens_of faults checked_query query_of command_of free_order apply matching told_of_rows told_of unpin lines_of forms form_among effect_of effects_of digits chars is_utf8 encode"
 )
 

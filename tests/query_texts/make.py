@@ -7,8 +7,9 @@ A line is the text as a JSON string, a tab, and `ok` or the fault. The same seed
 import json
 import pathlib
 import random
+import string
 
-from rules import GRAMMAR, fault_of, tokens_of, Fault
+from rules import GRAMMAR, MOST_TERMS, MOST_VARIABLES, fault_of
 
 WORLD = {"ChildOf": True, "IsA": True, "Sun": False, "Moon": False, "Planet": False, "Position": False, "Likes": False}
 WORDS = ["Sun", "Moon", "Planet", "Position", "Likes", "ChildOf", "IsA"]
@@ -73,15 +74,16 @@ def cases(dice):
 
 def limits():
     """Texts at the limits of counts and depth."""
-    names = "abcdefghijklmnopq"
-    yield ",".join(["Sun"] * 32)
-    yield ",".join(["Sun"] * 32) + ", [in] ?Sun($this, Moon)"
-    yield ",".join(["Sun"] * 32) + ",Mars"
-    yield "||".join(["Sun"] * 33)
-    yield ",".join(f"Likes(${name})" for name in names[:16]) + ", $this == Sun"
+    names = string.ascii_letters[:MOST_VARIABLES + 1]
+    most = ",".join(["Sun"] * MOST_TERMS)
+    yield most
+    yield most + ", [in] ?Sun($this, Moon)"
+    yield most + ",Mars"
+    yield "||".join(["Sun"] * (MOST_TERMS + 1))
+    yield ",".join(f"Likes(${name})" for name in names[:-1]) + ", $this == Sun"
     yield ",".join(f"Likes(${name})" for name in names)
     yield ",".join(f"!{{ Likes(${name}), Sun(${name}) }}" for name in names)
-    yield ",".join(f"!Likes($x, ${name})" for name in names[:16]) + ",$x == Sun, $q != $x"
+    yield ",".join(f"!Likes($x, ${name})" for name in names[:-1]) + ",$x == Sun, $G != $x"
     yield "!{" * 4 + "Sun" + "}" * 4
     yield "!{" * 5 + "Sun" + "}" * 5
     yield "!{" * 4 + "!Sun" + "}" * 4
@@ -93,6 +95,12 @@ def limits():
     yield "$this == $x"
     yield "$x == Mars"
     yield "(*, $x), $x != *"
+    yield "Sun(self|cascade), ?Moon($this|up)"
+    yield "Sun(cascade IsA) || Moon(cascade)"
+    yield "!{ Sun(cascade) }"
+    yield "!Sun(cascade(ChildOf))"
+    yield "Sun($x|cascade), Likes($x)"
+    yield "?Sun(cascade Moon), Sun(*|cascade)"
 
 
 if __name__ == "__main__":

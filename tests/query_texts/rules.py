@@ -7,7 +7,9 @@ fault is the first token at which a recognizer that follows all rules at once ha
 import re
 
 NUMBERS = ("Lex", "Syntax", "UnknownName", "NotTraversable", "UnboundVariable", "WildcardSource", "WildcardEquality",
-           "TooManyTerms", "TooManyVariables", "TooDeep")
+           "TooManyTerms", "TooManyVariables", "TooDeep", "CascadePlace")
+MOST_TERMS = 64
+MOST_VARIABLES = 32
 RESERVED = ("self", "up", "cascade", "desc")
 TOKEN = re.compile(rb"[A-Za-z][A-Za-z0-9_.]*|\$[A-Za-z][A-Za-z0-9_]*|\|\||!=|==|[,|!?(){}\[\]*_]")
 BLANK = re.compile(rb"[ \t\r\n]*")
@@ -24,7 +26,7 @@ GRAMMAR = {
     "args": [["source"], ["source", ",", "ref"]],
     "source": [["ref"], ["flags"], ["ref", "|", "flags"]],
     "flags": [["self"], ["rise"], ["self", "|", "rise"]],
-    "rise": [["up"], ["up", "word"], ["up", "(", "word", ")"]],
+    "rise": [["up"], ["up", "word"], ["up", "(", "word", ")"], ["cascade"], ["cascade", "word"], ["cascade", "(", "word", ")"]],
     "ref": [["word"], ["variable"], ["*"], ["_"]],
     "equality": [["variable", "==", "ref"], ["variable", "!=", "ref"]],
 }
@@ -92,7 +94,7 @@ def refused_at(tokens):
 
 
 def trees(symbol, tokens, at):
-    """Each tree of a symbol from a place on, with the place behind it."""
+    """Each tree of a symbol from a place on, with the place after it."""
     if symbol not in GRAMMAR:
         if at < len(tokens) and fits(symbol, tokens[at]):
             yield tokens[at], at + 1
@@ -100,9 +102,9 @@ def trees(symbol, tokens, at):
     for rule in GRAMMAR[symbol]:
         partial = [((), at)]
         for part in rule:
-            partial = [(done + (tree,), behind) for done, place in partial for tree, behind in trees(part, tokens, place)]
-        for parts, behind in partial:
-            yield (symbol, parts), behind
+            partial = [(done + (tree,), after) for done, place in partial for tree, after in trees(part, tokens, place)]
+        for parts, after in partial:
+            yield (symbol, parts), after
 
 
 def leaves(tree):
@@ -139,6 +141,7 @@ class Check:
         self.occurrences = []  # (name, level, start, end)
         self.bound = []  # (name, level) of what binds
         self.terms = []  # spans
+        self.cascades = 0
         self.whole = Level(None)
 
     def reference(self, leaf, level):
@@ -168,7 +171,18 @@ class Check:
         for source in within(tree, "source"):
             for ref in within(source, "ref"):
                 self.wildcard("WildcardSource", leaves(ref)[0])
+        self.cascade(tree, level)
         return {leaf[0] for leaf in named if leaf[0][:1] == "$"}
+
+    def cascade(self, tree, level):
+        """A term has `cascade` of `$this` alone, outside groups and Not terms, and no other term has one."""
+        for source in within(tree, "source"):
+            others = [ref for ref in within(source, "ref") if leaves(ref)[0][0] != "$this"]
+            for leaf in leaves(source):
+                if leaf[0] == "cascade":
+                    self.cascades += 1
+                    if level is not self.whole or others or self.cascades > 1:
+                        self.faults.append(Fault("CascadePlace", leaf[1], leaf[2]))
 
     def bind(self, names, level):
         self.bound += [(name, level) for name in names]
@@ -217,12 +231,12 @@ class Check:
             if name != "$this":
                 if name not in names:
                     names.append(name)
-                    if len(names) == 17:
+                    if len(names) == MOST_VARIABLES + 1:
                         self.faults.append(Fault("TooManyVariables", start, end))
                 if (name, self.owner(name, level)) not in self.bound:
                     self.faults.append(Fault("UnboundVariable", start, end))
-        if len(self.terms) > 32:
-            self.faults.append(Fault("TooManyTerms", *self.terms[32]))
+        if len(self.terms) > MOST_TERMS:
+            self.faults.append(Fault("TooManyTerms", *self.terms[MOST_TERMS]))
         return min(self.faults, key=Fault.order, default=None)
 
 
@@ -236,6 +250,6 @@ def fault_of(text, world):
     if refused is not None:
         return Fault("Syntax", tokens[refused][1], tokens[refused][2])
     check = Check(world)
-    tree = next(tree for tree, behind in trees("query", tokens, 0) if behind == len(tokens))
+    tree = next(tree for tree, after in trees("query", tokens, 0) if after == len(tokens))
     check.items(tree[1][0], check.whole, 0)
     return check.judge()

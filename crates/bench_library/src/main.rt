@@ -1,0 +1,53 @@
+//! Programs that are timed from outside: the indexes, texts of queries, and commands on a world.
+//!
+//! The first word names one of them, and without one all three are run:
+//!
+//! - `indexes`: makes and deletes a million entities, and looks up a million names
+//! - `query TEXT TIMES PHASE`: reads a text so often, up to a phase, or plans it. Time it once and many times, so that the difference is what
+//!   one costs. Without a text each is read once.
+//! - `world WORKLOAD SIZE`: carries out commands, 10,000 times where no size is named
+//!   - `values`: entities with three components, whose values are set; each moves to another table and on to a third
+//!   - `tree`: each entity is a child of one of those before it, chosen at random
+//!   - `felled`: the same, and then the first is deleted, and all with it
+//!   - `pairs`: pairs of a symmetric and exclusive relationship come and go among a hundred entities
+//!   - `chain`: each entity is a child of the one before it, and it is asked first whether this would close a cycle
+#![tactic(auto)]
+
+mod commands;
+mod indexes;
+mod reading;
+mod relations;
+mod texts;
+mod values;
+mod words;
+
+use std::{env, io};
+
+/// Whether a part is run.
+fn is_asked(part: &Option<String>, name: &str) -> bool {
+    match part {
+        Some(word) => word.as_str() == name,
+        None => true,
+    }
+}
+
+/// The number that a word is, if it is one.
+fn number(word: &Option<String>) -> Option<u32> {
+    word.as_ref()?.parse().ok()
+}
+
+fn main(rt: HostRuntime) -> io::Result<()> {
+    let mut words = env::args(&rt)?.skip(1);
+    let (part, chosen, size, phase) = (words.next(), words.next(), words.next(), words.next());
+    if is_asked(&part, "indexes") {
+        indexes::tell(&rt)?;
+    }
+    if is_asked(&part, "query") {
+        let times = number(&size).unwrap_or(1);
+        reading::tell(&rt, &chosen, u64::from(times), &phase)?;
+    }
+    if is_asked(&part, "world") {
+        commands::tell(&rt, &chosen, number(&size))?;
+    }
+    Ok(())
+}

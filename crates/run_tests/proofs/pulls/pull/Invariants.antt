@@ -1,8 +1,0 @@
-use Rattle.std.proofs.Common.{◌-◌, ◌≡◌, ◌≤◌, length}
-use Rattle.run_tests.proofs.pulls.pull.Given as goal
-
-abbrev pub invariant-rows : goal.invariant-rows
-invariant-rows g l = record { width : l.run.width ≡ l.fn.run.width; row : length l.row ≡ length l.fn.row; few : l.came ≤ l.most }
-
-abbrev pub decreases-rows : goal.decreases-rows
-decreases-rows g l = l.most - l.came

@@ -1,7 +1,0 @@
--- A run and its row go on to fit.
-use Rattle.std.proofs.Common.{◌≡◌}
-use Rattle.plan_exec.specs.WholeRows.{Fits}
-use Rattle.run_tests.proofs.whole_rows.pull.Given as goal
-
-abbrev pub invariant-loop-at : goal.invariant-loop-at
-invariant-loop-at g l = record { room : l.run.room ≡ l.fn.run.room; fits : Fits l.row l.run }

@@ -1,0 +1,204 @@
+//! Whatever order the steps of a plan have, its rows are the same.
+//!
+//! Each item is taken in each way, and the steps of a group stay in it, as they do in every plan. Plans of more than six steps (those with two
+//! groups) are tried in the ways of plain terms alone, since in all six they have 186,624 orders.
+
+ghost use Rattle.std.specs.Prelude.{◌≡◌, ◌+◌, ◌<◌, ◌≤◌, length};
+ghost use Rattle.ecs_model.specs.rows.View.{view_of};
+ghost use Rattle.world_query.specs.Answerable.{IsAnswerable, IsAsked};
+
+use crate::worked::WorkedRow;
+use ecs_world::World;
+use query_check::Query;
+use query_meaning::Step;
+use query_plan::{Plan, PlanFault};
+use std::alloc::{AllocError, Global};
+use std::process::Abort;
+use std::test::Fail;
+use world_query::{plan_in, read_query, write_planned_rows};
+
+/// The ways to deal with an item, those of a plain term first.
+const MODES: usize = 6;
+
+/// The ways to deal with a plain term, which is no equality and doesn't follow its relationship.
+const PLAIN_MODES: usize = 3;
+
+/// Plans of more steps than these have more orders than can be tried, so their items, which are plain terms, are taken in the ways of these alone.
+const FEW_STEPS: usize = 6;
+
+/// A query in a world, the rows that it should give, and how many orders of its steps gave them.
+#[derive(Clone, Copy)]
+struct Tried<'w> {
+    world: &'w World,
+    query: &'w Query,
+    rows: &'w [u8],
+    plans: usize,
+}
+
+/// How many ways there are to take a step of so many.
+fn modes_of(step: Step, count: usize) -> usize {
+    match step {
+        Step::Each(_) | Step::Open(_) | Step::Close => 1,
+        _ if count > FEW_STEPS => PLAIN_MODES,
+        _ => MODES,
+    }
+}
+
+/// A step that deals with the same item in one of the ways.
+fn in_mode(step: Step, mode: usize) -> Step {
+    match (step, mode) {
+        (Step::Each(_) | Step::Open(_) | Step::Close, _) => step,
+        (_, 0) => Step::Check(item_of(step)),
+        (_, 1) => Step::Scan(item_of(step)),
+        (_, 2) => Step::Targets(item_of(step)),
+        (_, 3) => Step::Above(item_of(step)),
+        (_, 4) => Step::Fix(item_of(step)),
+        _ => Step::Below(item_of(step)),
+    }
+}
+
+/// The item with which a step deals.
+fn item_of(step: Step) -> usize {
+    match step {
+        Step::Scan(item)
+        | Step::Targets(item)
+        | Step::Above(item)
+        | Step::Below(item)
+        | Step::Fix(item)
+        | Step::Check(item)
+        | Step::Each(item)
+        | Step::Open(item) => item,
+        Step::Close => 0,
+    }
+}
+
+impl Tried<'_> {
+    /// Runs the steps, if they are a plan: whether they give the rows that they should.
+    fn runs(&mut self, alloc: Global, steps: &[Step]) -> Result<bool, Fail>
+        requires { IsAnswerable (view_of self.old.world.now.state) self.old.query.now }
+        ensures world { self.new.world.now ≡ self.old.world.now }
+        ensures query { self.new.query.now ≡ self.old.query.now }
+    {
+        let plan = match Plan::from_steps(alloc, self.query, steps) {
+            Ok(plan) => plan,
+            Err(PlanFault::Refused(_)) => return Ok(true),
+            Err(PlanFault::Memory) => return Err(AllocError)?,
+        };
+        let mut rows = Vec::new(alloc);
+        write_planned_rows(alloc, self.world, &plan, &mut rows)?;
+        self.plans = self.plans.saturating_add(1);
+        Ok(rows.as_slice() == self.rows)
+    }
+
+    /// Tries each order of the steps from a place on, in each mode: whether all that are plans give the rows. The steps of a group stay in it, in
+    /// each of their orders, since no plan has one of them elsewhere.
+    fn all_run(&mut self, alloc: Global, steps: &mut [Step], at: usize) -> Result<bool, Fail>
+        requires answerable { IsAnswerable (view_of self.old.world.now.state) self.old.query.now }
+        requires within { at ≤ length steps.old }
+        ensures length { length steps.new ≡ length steps.old }
+        ensures world { self.new.world.now ≡ self.old.world.now }
+        ensures query { self.new.query.now ≡ self.old.query.now }
+    {
+        if at == steps.len() {
+            return self.runs(alloc, steps);
+        }
+        let end = level_end(steps, at);
+        if end == at {
+            return self.all_run(alloc, steps, at + 1);
+        }
+        let mut turned = 0;
+        'pieces: while turned < end - at {
+            for mode in 0..modes_of(steps[at], steps.len()) {
+                steps[at] = in_mode(steps[at], mode);
+                if !self.all_run(alloc, steps, at + 1)? {
+                    return Ok(false);
+                }
+            }
+            let piece = piece_at(steps, at, end);
+            steps[at..end].rotate_left(piece);
+            turned += piece;
+        }
+        Ok(true)
+    }
+}
+
+/// Where the level of a step ends: at the end of its group, or of all steps.
+fn level_end(steps: &[Step], at: usize) -> usize
+    requires { at ≤ length steps.now }
+    ensures after { at ≤ result }
+    ensures within { result ≤ length steps.now }
+{
+    let mut open = 0usize;
+    for place in at..steps.len() {
+        match steps[place] {
+            Step::Open(_) => open = open.saturating_add(1),
+            Step::Close if open == 0 => return place,
+            Step::Close => open -= 1,
+            _ => {}
+        }
+    }
+    steps.len()
+}
+
+/// How many steps stand together here, in a level that ends there: those of a group, or one.
+fn piece_at(steps: &[Step], at: usize, end: usize) -> usize
+    requires some { at < end }
+    requires within { end ≤ length steps.now }
+    ensures some { 1 ≤ result }
+    ensures within { at + result ≤ end }
+{
+    match steps[at] {
+        Step::Open(_) => (level_end(steps, at + 1) + 1).min(end) - at,
+        _ => 1,
+    }
+}
+
+/// How many orders of the planner's steps are plans, if all of these give the same rows, which are written after others.
+fn plans_of(
+    alloc: Global,
+    world: &World,
+    query: &Query,
+    rows: &mut Vec<u8>,
+) -> Result<Option<usize>, Fail>
+    requires { IsAsked world.now.state query.now }
+{
+    world.keeps();
+    let planned = plan_in(alloc, world, query.try_clone(alloc)?)?;
+    write_planned_rows(alloc, world, &planned, rows)?;
+    let mut steps = Vec::new(alloc);
+    steps.extend_from_slice(planned.steps())?;
+    let mut tried = Tried {
+        world,
+        query,
+        rows: rows.as_slice(),
+        plans: 0,
+    };
+    if tried.all_run(alloc, steps.as_mut_slice(), 0)? {
+        Ok(Some(tried.plans))
+    } else {
+        Ok(None)
+    }
+}
+
+/// How many orders of the steps of a row's plan are plans, if all of these give the rows that are printed, and else 0.
+fn plans_of_row(alloc: Global, world: &World, row: &WorkedRow) -> Result<usize, Fail> {
+    let query = read_query(alloc, world, row.query)?;
+    let mut rows = Vec::new(alloc);
+    let plans = plans_of(alloc, world, &query, &mut rows)?;
+    if rows.as_slice() != row.answer.as_bytes() {
+        return Ok(0);
+    }
+    Ok(plans.unwrap_or(0))
+}
+
+/// All orders give what the worked row prints.
+pub(crate) fn try_orders(
+    rt: &impl Abort,
+    alloc: Global,
+    world: &World,
+    row: &WorkedRow,
+) -> Result<(), Fail> {
+    let plans = plans_of_row(alloc, world, row)?;
+    assert!(rt; row.plans <= plans, "{}: {plans}", row.query);
+    Ok(())
+}

@@ -1,0 +1,300 @@
+//! Worked rows: a world, a query, and what it prints. Runs and all orders of a plan are tried with each.
+//!
+//! They are those of `tests/rows` on diamonds, parents, variables, groups and alternatives, and one more with sibling groups that find somebody.
+//! Tags stand in place of components, so no field shows a value.
+
+ghost use Rattle.std.specs.Prelude.{IfOk};
+ghost use Rattle.ecs_id.specs.Id.{IsIndex};
+
+use crate::orders::try_orders;
+use crate::runs::give_up_anywhere;
+use ecs_id::{EntityId, Id, LAST_INDEX};
+use ecs_model::faults::{CommandError, Refusal};
+use ecs_world::World;
+use std::alloc::Global;
+use std::hash::RandomState;
+use std::process::Abort;
+use std::test::Fail;
+
+/// An entity, and what it gets: a tag, or a relationship and a target. All by their indexes.
+type Fact = (u32, u32, Option<u32>);
+
+/// The entities of a world, by name, and the facts with which several rows begin.
+#[derive(Clone, Copy)]
+struct Base {
+    names: &'static [&'static str],
+    facts: &'static [Fact],
+}
+
+/// A query in a world, and what it prints there.
+#[derive(Clone, Copy)]
+pub(crate) struct WorkedRow {
+    base: Base,
+    more: &'static [Fact],
+    pub(crate) query: &'static str,
+    pub(crate) answer: &'static str,
+    /// How many orders of its plan's steps are plans, at least.
+    pub(crate) plans: usize,
+}
+
+const CHILD_OF: u32 = 1;
+
+const IS_A: u32 = 2;
+
+const DISABLED: u32 = 5;
+
+const POSITION: u32 = 64;
+
+const PLANET: u32 = 65;
+
+const LIKES: u32 = 66;
+
+const SUN: u32 = 67;
+
+const EARTH: u32 = 68;
+
+const MOON: u32 = 69;
+
+/// Earth is a child of Sun, and Moon of Earth; Sun and Earth have a position.
+const SKY: Base = Base {
+    names: &["Position", "Planet", "Likes", "Sun", "Earth", "Moon"],
+    facts: &[
+        (EARTH, CHILD_OF, Some(SUN)),
+        (MOON, CHILD_OF, Some(EARTH)),
+        (SUN, POSITION, None),
+        (EARTH, POSITION, None),
+        (EARTH, PLANET, None),
+    ],
+};
+
+/// B and C are A, and D is both.
+const DIAMOND: Base = Base {
+    names: &["A", "B", "C", "D"],
+    facts: &[
+        (65, IS_A, Some(64)),
+        (66, IS_A, Some(64)),
+        (67, IS_A, Some(65)),
+        (67, IS_A, Some(66)),
+    ],
+};
+
+/// Whom a query finds by two groups that each have a variable of their own.
+const SIBLINGS: &str = "Position, !{ (Likes,$x), Planet($x) }, !{ (ChildOf,$x), Position($x) }";
+
+const ROWS: [WorkedRow; 22] = [
+    WorkedRow {
+        base: SKY,
+        more: &[],
+        query: "(ChildOf,$p), Planet($p)",
+        answer: "row $this=Moon $p=Earth [(ChildOf,Earth)@Moon] [Planet@Earth]\nrows 1\n",
+        plans: 2,
+    },
+    WorkedRow {
+        base: DIAMOND,
+        more: &[],
+        query: "IsA(D,$x)",
+        answer: "row $x=A [(IsA,A)@D]\nrow $x=B [(IsA,B)@D]\nrow $x=C [(IsA,C)@D]\nrow $x=D [(IsA,D)@D]\nrows 4\n",
+        plans: 1,
+    },
+    WorkedRow {
+        base: DIAMOND,
+        more: &[],
+        query: "(IsA,A)",
+        answer: "row $this=A [(IsA,A)@A]\nrow $this=B [(IsA,A)@B]\nrow $this=C [(IsA,A)@C]\nrow $this=D [(IsA,A)@D]\nrows 4\n",
+        plans: 1,
+    },
+    WorkedRow {
+        base: DIAMOND,
+        more: &[],
+        query: "(IsA,*)",
+        answer: "row $this=B [(IsA,A)@B]\nrow $this=C [(IsA,A)@C]\nrow $this=D [(IsA,B)@D]\nrow $this=D [(IsA,C)@D]\nrows 4\n",
+        plans: 1,
+    },
+    WorkedRow {
+        base: SKY,
+        more: &[(EARTH, LIKES, Some(SUN)), (EARTH, LIKES, Some(MOON))],
+        query: "(Likes,*)",
+        answer: "row $this=Earth [(Likes,Sun)@Earth]\nrow $this=Earth [(Likes,Moon)@Earth]\nrows 2\n",
+        plans: 1,
+    },
+    WorkedRow {
+        base: SKY,
+        more: &[(EARTH, LIKES, Some(SUN)), (EARTH, LIKES, Some(MOON))],
+        query: "(Likes,_)",
+        answer: "row $this=Earth [(Likes,Sun)@Earth]\nrows 1\n",
+        plans: 1,
+    },
+    WorkedRow {
+        base: SKY,
+        more: &[(EARTH, LIKES, Some(SUN))],
+        query: "(*,$x), Planet",
+        answer: "row $this=Earth $x=Sun [(ChildOf,Sun)@Earth] [Planet@Earth]\nrow $this=Earth $x=Sun [(Likes,Sun)@Earth] [Planet@Earth]\nrows 2\n",
+        plans: 2,
+    },
+    WorkedRow {
+        base: SKY,
+        more: &[(EARTH, LIKES, Some(MOON)), (SUN, LIKES, Some(EARTH))],
+        query: "!(Likes,$x), (ChildOf,$x)",
+        answer: "row $this=Earth $x=Sun [(ChildOf,Sun)@Earth]\nrow $this=Moon $x=Earth [(ChildOf,Earth)@Moon]\nrows 2\n",
+        plans: 1,
+    },
+    WorkedRow {
+        base: SKY,
+        more: &[(EARTH, LIKES, Some(MOON)), (SUN, LIKES, Some(EARTH))],
+        query: "Position, !{ (Likes,$x), Planet($x) }",
+        answer: "row $this=Earth [Position@Earth]\nrows 1\n",
+        plans: 2,
+    },
+    WorkedRow {
+        base: SKY,
+        more: &[(EARTH, LIKES, Some(MOON)), (SUN, LIKES, Some(EARTH))],
+        query: SIBLINGS,
+        answer: "rows 0\n",
+        plans: 8,
+    },
+    WorkedRow {
+        base: SKY,
+        more: &[(EARTH, LIKES, Some(MOON))],
+        query: SIBLINGS,
+        answer: "row $this=Sun [Position@Sun]\nrows 1\n",
+        plans: 8,
+    },
+    WorkedRow {
+        base: SKY,
+        more: &[(MOON, PLANET, None)],
+        query: "Position || Planet",
+        answer: "row $this=Sun [Position@Sun]\nrow $this=Earth [Position@Earth]\nrow $this=Moon [Planet@Moon]\nrows 3\n",
+        plans: 1,
+    },
+    WorkedRow {
+        base: SKY,
+        more: &[(EARTH, LIKES, Some(EARTH)), (EARTH, LIKES, Some(SUN))],
+        query: "(Likes,$this)",
+        answer: "row $this=Earth [(Likes,Earth)@Earth]\nrows 1\n",
+        plans: 1,
+    },
+    WorkedRow {
+        base: SKY,
+        more: &[],
+        query: "Position, $this != Sun",
+        answer: "row $this=Earth [Position@Earth]\nrows 1\n",
+        plans: 1,
+    },
+    WorkedRow {
+        base: SKY,
+        more: &[],
+        query: "Position(Earth|up)",
+        answer: "row [Position@Sun]\nrows 1\n",
+        plans: 1,
+    },
+    WorkedRow {
+        base: SKY,
+        more: &[],
+        query: "Position(self|up)",
+        answer: "row $this=Sun [Position@Sun]\nrow $this=Earth [Position@Earth]\nrow $this=Moon [Position@Earth]\nrows 3\n",
+        plans: 1,
+    },
+    WorkedRow {
+        base: SKY,
+        more: &[],
+        query: "Position(self|up), !Planet",
+        answer: "row $this=Sun [Position@Sun]\nrow $this=Moon [Position@Earth]\nrows 2\n",
+        plans: 2,
+    },
+    WorkedRow {
+        base: SKY,
+        more: &[],
+        query: "Position($this|up(ChildOf))",
+        answer: "row $this=Earth [Position@Sun]\nrow $this=Moon [Position@Earth]\nrows 2\n",
+        plans: 1,
+    },
+    WorkedRow {
+        base: SKY,
+        more: &[(EARTH, DISABLED, None)],
+        query: "Position",
+        answer: "row $this=Sun [Position@Sun]\nrows 1\n",
+        plans: 1,
+    },
+    WorkedRow {
+        base: SKY,
+        more: &[(EARTH, DISABLED, None)],
+        query: "Position, ?Disabled",
+        answer: "row $this=Sun [Position@Sun] [-]\nrow $this=Earth [Position@Earth] [Disabled@Earth]\nrows 2\n",
+        plans: 1,
+    },
+    WorkedRow {
+        base: SKY,
+        more: &[],
+        query: "Planet(Earth)",
+        answer: "row [Planet@Earth]\nrows 1\n",
+        plans: 1,
+    },
+    WorkedRow {
+        base: SKY,
+        more: &[],
+        query: "Planet(Sun)",
+        answer: "rows 0\n",
+        plans: 1,
+    },
+];
+
+/// The entity that first stands at an index.
+pub(crate) fn first_at(index: u32) -> EntityId {
+    EntityId {
+        index,
+        generation: 0,
+    }
+}
+
+/// An index that an entity can have. At any other there is no live one.
+fn index_in_range(index: u32) -> Result<u32, CommandError>
+    ensures { IfOk result IsIndex }
+{
+    if index == 0 || index > LAST_INDEX {
+        return Err(CommandError::Refused(Refusal::Dead));
+    }
+    Ok(index)
+}
+
+fn id_of(first: u32, target: Option<u32>) -> Result<Id, CommandError> {
+    let first = index_in_range(first)?;
+    let Some(target) = target else {
+        return Ok(Id::plain(first));
+    };
+    let target = index_in_range(target)?;
+    Ok(Id::pair(first, target))
+}
+
+fn add_all(world: &mut World, facts: &[Fact]) -> Result<(), CommandError> {
+    for (entity, first, target) in facts {
+        let id = id_of(*first, *target)?;
+        world.add(first_at(*entity), id)?;
+    }
+    Ok(())
+}
+
+/// Makes the world of a row.
+fn fill(world: &mut World, row: &WorkedRow) -> Result<(), CommandError> {
+    for name in row.base.names {
+        world.entity(name)?;
+    }
+    add_all(world, row.base.facts)?;
+    add_all(world, row.more)
+}
+
+fn try_row(rt: &impl Abort, alloc: Global, world: &mut World, row: &WorkedRow) -> Result<(), Fail> {
+    fill(world, row)?;
+    give_up_anywhere(rt, alloc, world, row)?;
+    try_orders(rt, alloc, world, row)
+}
+
+#[test]
+fn worked_rows_come_by_any_plan_and_are_given_up_anywhere(rt: HostRuntime) -> Result<(), Fail> {
+    for row in &ROWS {
+        let mut world = World::new(rt.alloc(), RandomState::new(&rt)?)?;
+        let done = try_row(&rt, rt.alloc(), &mut world, row);
+        drop(world);
+        done?;
+    }
+    Ok(())
+}

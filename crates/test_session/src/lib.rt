@@ -1,0 +1,9 @@
+//! A session at work: what scripts print, and each growth of each of their lines refused in turn.
+#![tactic(auto)]
+
+#[cfg(test)]
+mod growths;
+#[cfg(test)]
+mod lines;
+#[cfg(test)]
+mod scripts;

@@ -1,0 +1,168 @@
+//! Lines of scripts, as calls of a session.
+
+ghost use Rattle.std.specs.Prelude.{IfOk};
+ghost use Rattle.ecs_id.specs.Id.{IsIndex};
+
+use ecs_id::{EntityId, Id, LAST_INDEX};
+use ecs_model::faults::{Refusal, SessionRefusal};
+use ecs_model::watches::StoredKind;
+use ecs_observe::{Event, Session, SessionError, write_event};
+use ecs_schema::{Kind, Schema};
+use std::alloc::{AllocError, Allocator};
+
+/// What an id names, by the indexes of the entities.
+#[derive(Clone, Copy)]
+pub(crate) enum Named {
+    Plain(u32),
+    Pair(u32, u32),
+}
+
+/// A line of a script. Who gets or loses a fact, or is deleted, is the first entity of an index.
+#[derive(Clone, Copy)]
+pub(crate) enum Line {
+    Component(&'static str, &'static [(&'static str, Kind)]),
+    Entity(&'static str),
+    Fresh,
+    Add(u32, Named),
+    Set(u32, Named, &'static [i128]),
+    Remove(u32, Named),
+    Delete(u32),
+    Store(StoredKind, &'static str, &'static str),
+    Drop(&'static str),
+    Rows(&'static str),
+    /// In no script, but after each of its lines: the events that wait are told.
+    Events,
+    /// In no script, but before one: a session is made.
+    New,
+}
+
+/// What a session answers to a line.
+pub(crate) type Answer = Result<Option<EntityId>, SessionError>;
+
+fn first_at(index: u32) -> EntityId {
+    EntityId {
+        index,
+        generation: 0,
+    }
+}
+
+/// An index that an entity can have. At any other there is no live one.
+fn index_in_range(index: u32) -> Result<u32, SessionError>
+    ensures { IfOk result IsIndex }
+{
+    if index == 0 || index > LAST_INDEX {
+        let dead = SessionRefusal::OfWorld(Refusal::Dead);
+        return Err(SessionError::Refused(dead));
+    }
+    Ok(index)
+}
+
+fn id_of(named: Named) -> Result<Id, SessionError> {
+    match named {
+        Named::Plain(index) => {
+            let index = index_in_range(index)?;
+            Ok(Id::plain(index))
+        }
+        Named::Pair(relationship, target) => {
+            let relationship = index_in_range(relationship)?;
+            let target = index_in_range(target)?;
+            Ok(Id::pair(relationship, target))
+        }
+    }
+}
+
+fn write_events<A: Allocator>(told: &[Event<A>], out: &mut Vec<u8, A>) -> Result<(), AllocError> {
+    for event in told {
+        write_event(event, out)?;
+    }
+    Ok(())
+}
+
+/// Carries out a line. Rows and events are written after what was written.
+pub(crate) fn carry_out<A: Allocator + Copy>(
+    session: &mut Session<A>,
+    alloc: A,
+    line: Line,
+    out: &mut Vec<u8, A>,
+) -> Answer {
+    match line {
+        Line::New => Ok(None),
+        Line::Component(name, fields) => {
+            let Ok(schema) = Schema::new(alloc, fields) else {
+                return Err(SessionError::Memory);
+            };
+            session.component(name, schema)
+        }
+        Line::Entity(name) => session.entity(name),
+        Line::Fresh => session.fresh(),
+        Line::Add(entity, named) => {
+            let id = id_of(named)?;
+            session.add(first_at(entity), id)
+        }
+        Line::Set(entity, named, values) => {
+            let id = id_of(named)?;
+            session.set(first_at(entity), id, values)
+        }
+        Line::Remove(entity, named) => {
+            let id = id_of(named)?;
+            session.remove(first_at(entity), id)
+        }
+        Line::Delete(entity) => session.delete(first_at(entity)),
+        Line::Store(kind, name, text) => session.store(kind, name, text),
+        Line::Drop(name) => session.drop_stored(name),
+        Line::Rows(name) => {
+            session.write_kept_rows(name, out)?;
+            Ok(None)
+        }
+        Line::Events => {
+            let told = session.events()?;
+            write_events(told.as_slice(), out)?;
+            Ok(None)
+        }
+    }
+}
+
+/// Writes of an answer a new entity that has no name, or why a line is refused.
+fn print_answer<A: Allocator + Copy>(
+    alloc: A,
+    line: Line,
+    answer: Answer,
+    out: &mut Vec<u8, A>,
+) -> Result<(), AllocError> {
+    let text = match (line, answer) {
+        (Line::Fresh, Ok(Some(born))) => {
+            format!(in alloc; "#{}.{}\n", born.index, born.generation)?
+        }
+        (_, Ok(_)) => return Ok(()),
+        (_, Err(SessionError::Refused(refusal))) => format!(in alloc; "error {refusal:?}\n")?,
+        (_, Err(SessionError::Memory)) => return Err(AllocError),
+    };
+    out.extend_from_slice(text.as_bytes())
+}
+
+/// Carries out lines with ample memory, and writes what they print.
+pub(crate) fn print_lines<A: Allocator + Copy>(
+    session: &mut Session<A>,
+    alloc: A,
+    lines: &[Line],
+    out: &mut Vec<u8, A>,
+) -> Result<(), AllocError> {
+    for line in lines {
+        let answer = carry_out(session, alloc, *line, out);
+        print_answer(alloc, *line, answer, out)?;
+    }
+    Ok(())
+}
+
+/// Lines, with what is told after each.
+pub(crate) fn with_events<A: Allocator>(
+    alloc: A,
+    lines: &[Line],
+) -> Result<Vec<Line, A>, AllocError> {
+    let mut all = Vec::new(alloc);
+    for line in lines {
+        all.push(*line)?;
+        all.push(Line::Events)?;
+    }
+    Ok(all)
+}

@@ -1,0 +1,2 @@
+mod Graphs
+mod SizeLemmas

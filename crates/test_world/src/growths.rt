@@ -1,0 +1,291 @@
+//! Each growth of each call is refused in turn.
+use ecs_id::{EntityId, Id};
+use ecs_model::FactKey;
+use ecs_model::built_ins::{EXCLUSIVE, SYMMETRIC, WITH};
+use ecs_model::faults::CommandError;
+use ecs_schema::{Kind, Schema, SchemaError};
+use ecs_world::{Changes, World};
+use refusing_alloc::Refusing;
+use std::alloc::{Allocator, Global};
+use std::hash::RandomState;
+use std::process::Abort;
+use std::test::Fail;
+
+const CHILD_OF: u32 = 1;
+
+/// No call has as many growths.
+const MOST_GROWTHS: u64 = 2000;
+
+/// The component, and then the entities in the order of `NAMES`.
+const POSITION: u32 = 64;
+
+const TAG: u32 = 65;
+
+const SHIP: u32 = 66;
+
+const HOLDS: u32 = 67;
+
+const SOLID: u32 = 68;
+
+const MARRIED: u32 = 69;
+
+const ANN: u32 = 70;
+
+const BOB: u32 = 71;
+
+const CY: u32 = 72;
+
+const KID: u32 = 73;
+
+const NAMES: [&str; 9] = [
+    "Tag", "Ship", "Holds", "Solid", "Married", "Ann", "Bob", "Cy", "Kid",
+];
+
+#[derive(Clone, Copy)]
+enum Call {
+    /// A world is made.
+    New,
+    Fresh,
+    Entity,
+    Component,
+    Add,
+    Set,
+    Remove,
+    Pin,
+    /// A fact and its mirror come, and another with its mirror goes.
+    Marry,
+    /// A component comes with the one that it brings.
+    Harden,
+    /// A pair comes with a value, and another goes.
+    Hold,
+    /// A fact goes with its mirror.
+    Part,
+    /// A child falls too, and the spouse loses a fact.
+    Delete,
+}
+
+fn fields<A: Allocator + Copy>(alloc: A) -> Result<Schema<A>, SchemaError> {
+    Schema::new(alloc, &[("x", Kind::I32)])
+}
+
+/// The entity that first stands at an index.
+fn first_at(index: u32) -> EntityId {
+    EntityId {
+        index,
+        generation: 0,
+    }
+}
+
+/// Makes a component, a ship with a value, a tag and a pair, and Ann, who is married to Bob and has a child.
+fn fill<A: Allocator + Copy>(
+    world: &mut World<A>,
+    position: Schema<A>,
+) -> Result<(), CommandError> {
+    world.component("Position", position)?;
+    for name in NAMES {
+        world.entity(name)?;
+    }
+    world.set(first_at(SHIP), Id::plain(POSITION), &[7])?;
+    for fact in [
+        FactKey::new(HOLDS, Id::plain(EXCLUSIVE)),
+        FactKey::new(SOLID, Id::pair(WITH, POSITION)),
+        FactKey::new(MARRIED, Id::plain(EXCLUSIVE)),
+        FactKey::new(MARRIED, Id::plain(SYMMETRIC)),
+        FactKey::new(SHIP, Id::plain(TAG)),
+        FactKey::new(SHIP, Id::pair(HOLDS, TAG)),
+        FactKey::new(ANN, Id::pair(MARRIED, BOB)),
+        FactKey::new(KID, Id::pair(CHILD_OF, ANN)),
+    ] {
+        world.add(first_at(fact.entity()), fact.id())?;
+    }
+    Ok(())
+}
+
+/// The fact that a call adds, sets or takes away. Of those that fall with Ann, this one.
+fn fact_of(call: Call) -> FactKey {
+    match call {
+        Call::Add => FactKey::new(SHIP, Id::pair(TAG, TAG)),
+        Call::Set => FactKey::new(SHIP, Id::pair(TAG, POSITION)),
+        Call::Remove => FactKey::new(SHIP, Id::plain(POSITION)),
+        Call::Marry => FactKey::new(ANN, Id::pair(MARRIED, CY)),
+        Call::Harden => FactKey::new(CY, Id::plain(SOLID)),
+        Call::Hold => FactKey::new(SHIP, Id::pair(HOLDS, POSITION)),
+        Call::Part => FactKey::new(BOB, Id::pair(MARRIED, ANN)),
+        _ => FactKey::new(ANN, Id::pair(MARRIED, BOB)),
+    }
+}
+
+/// Carries out a call on facts.
+fn change<A: Allocator + Copy>(
+    world: &mut World<A>,
+    call: Call,
+) -> Result<Changes<A>, CommandError> {
+    let fact = fact_of(call);
+    let entity = first_at(fact.entity());
+    match call {
+        Call::Add | Call::Marry | Call::Harden => world.add(entity, fact.id()),
+        Call::Set | Call::Hold => world.set(entity, fact.id(), &[8]),
+        Call::Remove | Call::Part => world.remove(entity, fact.id()),
+        _ => world.delete(entity),
+    }
+}
+
+fn carry_out<A: Allocator + Copy>(
+    world: &mut World<A>,
+    call: Call,
+    mass: Schema<A>,
+) -> Result<(), CommandError> {
+    match call {
+        Call::Fresh => world.fresh()?,
+        // (a short name may take no memory)
+        Call::Entity => world.entity("MoonOfTheThirdPlanet")?,
+        Call::Component => world.component("Mass", mass)?,
+        Call::Pin => return world.pin(first_at(SHIP)),
+        Call::New => return Ok(()),
+        _ => change(world, call)?,
+    };
+    Ok(())
+}
+
+/// Whether the same stands at an index: an entity with its name, its ids and their values, and its count of stored queries.
+fn are_same_at<A: Allocator, B: Allocator>(one: &World<A>, other: &World<B>, index: u32) -> bool {
+    let Some(entity) = one.at(index) else {
+        return other.at(index).is_none();
+    };
+    let ids = one.ids_of(entity).unwrap_or(&[]);
+    for id in ids {
+        if one.value(index, *id) != other.value(index, *id) {
+            return false;
+        }
+    }
+    other.ids_of(entity) == Some(ids)
+        && one.name_of(index) == other.name_of(index)
+        && one.pin_count(index) == other.pin_count(index)
+}
+
+/// Whether the two worlds have the same at all indexes that they give out here, and both names or none.
+fn are_same<A: Allocator, B: Allocator>(one: &World<A>, other: &World<B>) -> bool {
+    for index in 1..80u32 {
+        if !are_same_at(one, other, index) {
+            return false;
+        }
+    }
+    for name in ["MoonOfTheThirdPlanet", "Mass", "Ann", "Kid"] {
+        if one.find(name) != other.find(name) {
+            return false;
+        }
+    }
+    true
+}
+
+/// Makes a new world the one in which a call is carried out. Of a new one the next index needs room.
+fn prepare<A: Allocator + Copy>(world: &mut World<A>, alloc: A, call: Call) -> Result<(), Fail> {
+    if !matches!(call, Call::New | Call::Fresh) {
+        fill(world, fields(alloc)?)?;
+    }
+    Ok(())
+}
+
+/// Gives out so many blocks and no more, and tells whether the call was refused. If so, all is as before, and the next try is accepted.
+fn is_refused_in<'a>(
+    rt: &impl Abort,
+    heap: &'a Refusing<Global>,
+    world: &mut World<&'a Refusing<Global>>,
+    call: Call,
+    allowed: u64,
+    before: &World,
+) -> Result<bool, Fail> {
+    prepare(world, heap, call)?;
+    let (first, second) = (fields(heap)?, fields(heap)?);
+    heap.refuse_after(allowed);
+    let done = carry_out(world, call, first);
+    heap.refuse_none();
+    if done.is_ok() {
+        return Ok(false);
+    }
+    assert!(rt; matches!(done, Err(CommandError::Memory)));
+    assert!(rt; are_same(before, world));
+    assert!(rt; carry_out(world, call, second).is_ok());
+    assert!(rt; !are_same(before, world));
+    Ok(true)
+}
+
+/// Makes a world, where memory for it isn't refused, and carries out a call there.
+fn is_refused(
+    rt: &impl Abort,
+    heap: &Refusing<Global>,
+    random: RandomState,
+    call: Call,
+    allowed: u64,
+    before: &World,
+) -> Result<bool, Fail> {
+    if matches!(call, Call::New) {
+        heap.refuse_after(allowed);
+    }
+    let made = World::new(heap, random);
+    heap.refuse_none();
+    let Ok(mut world) = made else {
+        return Ok(true);
+    };
+    let refused = is_refused_in(rt, heap, &mut world, call, allowed, before);
+    drop(world);
+    refused
+}
+
+/// Refuses each growth of a call in turn. There is at least one.
+fn refuse_growths(
+    rt: &impl Abort,
+    alloc: Global,
+    heap: &Refusing<Global>,
+    random: RandomState,
+    call: Call,
+    before: &mut World,
+) -> Result<(), Fail> {
+    prepare(before, alloc, call)?;
+    let mut refusals = 0;
+    for allowed in 0..MOST_GROWTHS {
+        if !is_refused(rt, heap, random, call, allowed, before)? {
+            break;
+        }
+        refusals = allowed + 1;
+    }
+    assert!(rt; 0 < refusals && refusals < MOST_GROWTHS);
+    Ok(())
+}
+
+fn refuse_each(
+    rt: &impl Abort,
+    alloc: Global,
+    heap: &Refusing<Global>,
+    random: RandomState,
+    call: Call,
+) -> Result<(), Fail> {
+    let mut before = World::new(alloc, random)?;
+    let done = refuse_growths(rt, alloc, heap, random, call, &mut before);
+    drop(before);
+    done
+}
+
+#[test]
+fn a_refused_call_changes_nothing(rt: HostRuntime) -> Result<(), Fail> {
+    let heap = Refusing::new(rt.alloc());
+    let random = RandomState::new(&rt)?;
+    for call in [
+        Call::New,
+        Call::Fresh,
+        Call::Entity,
+        Call::Component,
+        Call::Add,
+        Call::Set,
+        Call::Remove,
+        Call::Pin,
+        Call::Marry,
+        Call::Harden,
+        Call::Hold,
+        Call::Part,
+        Call::Delete,
+    ] {
+        refuse_each(&rt, rt.alloc(), &heap, random, call)?;
+    }
+    Ok(())
+}

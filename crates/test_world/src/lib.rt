@@ -1,0 +1,11 @@
+//! A world at work: each growth refused in turn, searches along relationships, and the list of a kept query.
+#![tactic(auto)]
+
+#[cfg(test)]
+mod growths;
+#[cfg(test)]
+mod lists;
+#[cfg(test)]
+mod searches;
+#[cfg(test)]
+mod travel;

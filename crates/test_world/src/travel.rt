@@ -1,0 +1,122 @@
+//! Who stands above an entity, and whom a stored query keeps alive.
+use crate::searches::{first_above, first_five, leads};
+use component_index::{Part, Pattern};
+use ecs_id::{EntityId, Id};
+use ecs_model::FactKey;
+use ecs_model::faults::{CommandError, Refusal};
+use ecs_schema::{Kind, Schema};
+use ecs_world::{Changes, World};
+use rel_travel::{Graph, Scratch};
+use std::alloc::{AllocError, Global};
+use std::hash::RandomState;
+use std::process::Abort;
+use std::test::Fail;
+
+const CHILD_OF: u32 = 1;
+
+const IS_A: u32 = 2;
+
+/// The component, and then the entities in the order of `NAMES`.
+const POSITION: u32 = 64;
+
+const PLANET: u32 = 65;
+
+const SUN: u32 = 66;
+
+const EARTH: u32 = 67;
+
+const MOON: u32 = 68;
+
+const A: u32 = 69;
+
+const B: u32 = 70;
+
+const C: u32 = 71;
+
+const D: u32 = 72;
+
+const NAMES: [&str; 8] = ["Planet", "Sun", "Earth", "Moon", "A", "B", "C", "D"];
+
+/// The entity that first stands at an index.
+fn first_at(index: u32) -> EntityId {
+    EntityId {
+        index,
+        generation: 0,
+    }
+}
+
+/// The Earth is a child of the Sun, and the Moon one of the Earth; the first two have a Position. B and C are A, and D is both.
+fn fill(world: &mut World, position: Schema) -> Result<(), CommandError> {
+    world.component("Position", position)?;
+    for name in NAMES {
+        world.entity(name)?;
+    }
+    for fact in [
+        FactKey::new(SUN, Id::plain(POSITION)),
+        FactKey::new(EARTH, Id::plain(POSITION)),
+        FactKey::new(EARTH, Id::pair(CHILD_OF, SUN)),
+        FactKey::new(MOON, Id::pair(CHILD_OF, EARTH)),
+        FactKey::new(B, Id::pair(IS_A, A)),
+        FactKey::new(C, Id::pair(IS_A, A)),
+        FactKey::new(D, Id::pair(IS_A, B)),
+        FactKey::new(D, Id::pair(IS_A, C)),
+    ] {
+        world.add(first_at(fact.entity()), fact.id())?;
+    }
+    Ok(())
+}
+
+fn search(rt: &impl Abort, world: &World, scratch: &mut Scratch) -> Result<(), AllocError> {
+    scratch.reserve(world.links().size())?;
+    let position = Pattern {
+        first: Part::Is(POSITION),
+        second: None,
+    };
+    assert!(rt; first_above(world, MOON, CHILD_OF, position, scratch) == Some(EARTH));
+    let all = [None, Some(A), Some(B), Some(C), Some(D)];
+    assert!(rt; first_five(world, D, IS_A, scratch) == all);
+    assert!(rt; leads(world, IS_A, D, A, scratch));
+    assert!(rt; !leads(world, IS_A, A, D, scratch));
+    Ok(())
+}
+
+/// Why a command was not carried out, if it wasn't.
+fn error_of(done: Result<Changes, CommandError>) -> Option<CommandError> {
+    match done {
+        Ok(_) => None,
+        Err(error) => Some(error),
+    }
+}
+
+fn delete_pinned(rt: &impl Abort, world: &mut World) -> Result<(), CommandError> {
+    let planet = first_at(PLANET);
+    world.pin(planet)?;
+    let kept = error_of(world.delete(planet));
+    assert!(rt; kept == Some(CommandError::Refused(Refusal::InUse)));
+    world.unpin(planet);
+    assert!(rt; error_of(world.delete(planet)).is_none());
+    assert!(rt; world.pin(planet) == Err(CommandError::Refused(Refusal::Dead)));
+    Ok(())
+}
+
+fn search_and_delete(
+    rt: &impl Abort,
+    alloc: Global,
+    world: &mut World,
+    scratch: &mut Scratch,
+) -> Result<(), Fail> {
+    fill(world, Schema::new(alloc, &[("x", Kind::I32)])?)?;
+    search(rt, world, scratch)?;
+    delete_pinned(rt, world)?;
+    Ok(())
+}
+
+#[test]
+fn ancestors_are_found_and_what_is_asked_for_stays(rt: HostRuntime) -> Result<(), Fail> {
+    let mut world = World::new(rt.alloc(), RandomState::new(&rt)?)?;
+    let mut scratch = Scratch::new(rt.alloc());
+    let done = search_and_delete(&rt, rt.alloc(), &mut world, &mut scratch);
+    drop(scratch);
+    drop(world);
+    done
+}

@@ -1,6 +1,0 @@
-use Rattle.std.proofs.Common.{take}
-use Rattle.travel_tests.specs.Closed.{FallBelow}
-use Rattle.travel_tests.proofs.list_graph.fall_below.Given as goal
-
-abbrev pub invariant-loop-id : goal.invariant-loop-id
-invariant-loop-id l = FallBelow l.index (take l.id-index l.row)
