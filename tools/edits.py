@@ -1,15 +1,20 @@
 #!/usr/bin/env python3
 """edits.py: tries edits that the check must refuse, and says of each why it was refused.
 
-usage: edits.py [--since COMMIT | --crates NAMES] [--tier edits|must-fail|both] [--at-once N] [--keep FOLDER]
+usage: edits.py [--since COMMIT | --crates NAMES] [--tier edits|must-fail|both] [--names NAMES] [--check-texts] [--at-once N] [--keep FOLDER]
 
-An edit is a file edits/CRATE/NAME.edit, or crates/CRATE/must-fail/NAME.edit for those that `rt ci` tries too: a line
-`file: src/..`, then pairs of lines `old: TEXT` and `new: TEXT`, where each old text stands in that file exactly once.
+The edits of a crate stand in one file, edits/CRATE.edits, each behind a line `edit: NAME: WHAT IT TURNS`. What stands before
+the first is told to the reader alone, with those that were not tried since their code last changed. The named wrong bodies, which
+`rt ci` tries too, are files crates/CRATE/must-fail/NAME.edit. Either way an edit has a line `file: src/..`, then pairs of lines
+`old: TEXT` and `new: TEXT`, where each old text stands in that file exactly once.
 
 --since   the crates that changed since that commit, what is not committed included. Without it: since the merge base with
           origin/main where that is an earlier commit, else since the commit before the last
 --crates  these crates, in one word as "ecs_id raw_column", or all
 --tier    edits (without it), must-fail, or both
+--names   of these crates the edits with these names alone, in one word
+--check-texts
+          proves nothing: tells which edits can't be applied, as where an old text doesn't stand exactly once, and of each crate how many can
 --at-once how many checks run side by side (without it one a processor, as memory allows)
 --keep    a folder for what the check printed under each edit
 
@@ -29,6 +34,7 @@ import sys
 import tempfile
 import threading
 from concurrent.futures import ThreadPoolExecutor
+from typing import NamedTuple
 
 TOP = os.path.realpath(os.path.join(os.path.dirname(os.path.realpath(__file__)), ".."))
 PARTS = ("src", "specs", "proofs")
@@ -38,6 +44,13 @@ OF_NAMES = re.compile(r"has no field|has no `|is not in scope|is no name|was not
 
 class BadEdit(Exception):
     """An edit that cannot be applied, or that changes no code."""
+
+
+class Edit(NamedTuple):
+    """An edit of a crate: its name, and the lines that tell what it changes."""
+
+    name: str
+    lines: list
 
 
 def libraries():
@@ -78,28 +91,57 @@ def changed_since(commit):
         sys.exit(f"edits.py: git knows no commit {commit}")
     found = set()
     for path in [*committed.splitlines(), *(git("ls-files", "--others", "--exclude-standard") or "").splitlines()]:
-        of_crate = re.match(r"crates/([^/]+)/(src|specs|proofs|must-fail)/", path) or re.match(r"edits/([^/]+)/", path)
+        of_crate = re.match(r"crates/([^/]+)/(src|specs|proofs|must-fail)/", path) or re.match(r"edits/([^/]+)\.edits\Z", path)
         if of_crate:
             found.add(of_crate[1])
     return found
 
 
 def edits_of(crate, tier):
-    folders = {"edits": [f"edits/{crate}"], "must-fail": [f"crates/{crate}/must-fail"]}
+    """The edits of a crate, those of its file first."""
     found = []
-    for folder in folders.get(tier) or [*folders["edits"], *folders["must-fail"]]:
-        if os.path.isdir(os.path.join(TOP, folder)):
-            names = sorted(it for it in os.listdir(os.path.join(TOP, folder)) if it.endswith(".edit"))
-            found += [os.path.join(TOP, folder, it) for it in names]
+    if tier != "must-fail":
+        found += cut_edits(os.path.join(TOP, "edits", f"{crate}.edits"))
+    if tier != "edits":
+        for path in sorted(glob.glob(os.path.join(TOP, "crates", crate, "must-fail", "*.edit"))):
+            found.append(Edit(os.path.basename(path)[: -len(".edit")], lines_of(path)))
+    return found
+
+
+def lines_of(path):
+    with open(path, encoding="utf-8") as it:
+        return it.read().split("\n")
+
+
+def cut_edits(path):
+    """The edits of a file that holds all of a crate."""
+    found = []
+    for line in lines_of(path) if os.path.isfile(path) else []:
+        if line.startswith("edit: "):
+            found.append(Edit(line[len("edit: ") :].partition(":")[0].strip(), []))
+        elif found:
+            found[-1].lines.append(line)
+    return found
+
+
+def misplaced(uses):
+    """What stands under edits/ and is no file of a crate's edits: its name, and what is wrong with it."""
+    found = []
+    for name in sorted(os.listdir(os.path.join(TOP, "edits"))) if os.path.isdir(os.path.join(TOP, "edits")) else []:
+        crate = name[: -len(".edits")] if name.endswith(".edits") else name
+        if os.path.isdir(os.path.join(TOP, "edits", name)):
+            found.append((name, f"edits/{name}/ has the old form, a file for each edit: all edits of a crate stand in edits/{name}.edits"))
+        elif not name.endswith(".edits"):
+            found.append((name, "the edits of a crate stand in edits/CRATE.edits"))
+        elif crate not in uses:
+            found.append((crate, "crates.txt names no such crate"))
     return found
 
 
 def read_edit(edit, folder):
     """The texts of the files of the crate in that folder which the edit changes, by their path in the crate."""
     path, old, texts = "", None, {}
-    with open(edit, encoding="utf-8") as it:
-        lines = it.read().split("\n")
-    for line in lines:
+    for line in edit.lines:
         if line.startswith("file: "):
             path = line[len("file: ") :].strip()
         elif line.startswith("old: "):
@@ -113,7 +155,7 @@ def read_edit(edit, folder):
                 with open(os.path.join(folder, path), encoding="utf-8") as it:
                     texts[path] = it.read()
             if texts[path].count(old) != 1:
-                raise BadEdit(f"an old text stands in {path} {texts[path].count(old)} times, and not once")
+                raise BadEdit(f"an old text stands in {path} {texts[path].count(old)} times, and not once: {old.strip()}")
             texts[path], old = texts[path].replace(old, re.sub(r"\A ", "", line[len("new:") :])), None
     if not texts:
         raise BadEdit("it has no pair of lines 'old:' and 'new:'")
@@ -282,7 +324,7 @@ class Run:
             for edit in edits:
                 if self.is_stopped:
                     return
-                name = os.path.basename(edit)[: -len(".edit")]
+                name = edit.name
                 if status:
                     self.tell(crate, name, False, "NOT TRIED: the crate as it stands is not proved", said)
                     continue
@@ -300,6 +342,8 @@ def asked():
     parser.add_argument("--since", default="")
     parser.add_argument("--crates", default="")
     parser.add_argument("--tier", choices=("edits", "must-fail", "both"), default="edits")
+    parser.add_argument("--names", default="")
+    parser.add_argument("--check-texts", action="store_true")
     parser.add_argument("--at-once", type=int, default=0)
     parser.add_argument("--keep", default="")
     return parser.parse_args()
@@ -316,6 +360,25 @@ def lanes_here():
     return max(1, min(processors, free // 3_000_000))
 
 
+def bad_texts(crate, edits):
+    """How many edits of a crate can't be applied: tells of each why, and how many can."""
+    bad = 0
+    for edit in edits:
+        try:
+            read_edit(edit, os.path.join(TOP, "crates", crate))
+        except (BadEdit, OSError, UnicodeDecodeError) as why:
+            bad += 1
+            print(f"{crate}/{edit.name}: BAD EDIT: {why}")
+    print(f"{crate}: {len(edits) - bad} of {len(edits)} edits can be applied")
+    return bad
+
+
+def repeated(edits):
+    """Names that two edits of a crate have."""
+    names = [it.name for it in edits]
+    return sorted({it for it in names if names.count(it) > 1})
+
+
 def main():
     given, uses = asked(), libraries()
     if given.crates:
@@ -330,11 +393,19 @@ def main():
         return 2
     if given.keep:
         os.makedirs(given.keep, exist_ok=True)
-    edits = {it: edits_of(it, given.tier) for it in uses if it in chosen}
+    names = set(given.names.split())
+    edits = {it: [edit for edit in edits_of(it, given.tier) if not names or edit.name in names] for it in uses if it in chosen}
     edits = {crate: found for crate, found in edits.items() if found}
     run = Run(given, uses)
-    for lost in sorted({os.path.basename(os.path.dirname(it)) for it in glob.glob(os.path.join(TOP, "edits", "*", ""))} - set(uses)):
-        run.tell("edits", lost, False, "BAD EDIT: crates.txt names no such crate")
+    for name, why in misplaced(uses):
+        run.tell("edits", name, False, f"BAD EDIT: {why}")
+    for crate, found in edits.items():
+        for name in repeated(found):
+            run.tell(crate, name, False, "BAD EDIT: two edits have this name")
+    if given.check_texts:
+        bad = run.silent + sum(bad_texts(crate, found) for crate, found in edits.items())
+        print(f"{sum(map(len, edits.values()))} edits, {bad} bad")
+        return 1 if bad else 0
     lanes = given.at_once or lanes_here()
     # (where there are fewer crates than processors, the edits of each are dealt out)
     parts = max(1, lanes // max(len(edits), 1))
