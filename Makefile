@@ -1,48 +1,59 @@
-# flecsq: `make run` runs a script, `make test` runs the whole gate. README.md says more.
+# `make help` lists what there is. What each does stands in tools/ and tests/.
 
-SCRIPT ?= examples/solar_system.flecsq
+SCRIPT ?= examples/scene.flecsq
 PREFIX ?= $(HOME)/.local
-PROGRAM := crates/flecsq/out/flecsq
-BENCHMARKS := crates/bench_indexes/out/bench_indexes crates/bench_query/out/bench_query crates/bench_world/out/bench_world
+BENCHMARK := crates/bench_library/out/bench_library
 SOURCES := crates.txt $(shell find crates -name out -prune -o -path '*/must-fail/*' -prune -o -type f \( -name '*.rt' -o -name '*.antt' \) -print)
+BUILD := python3 tools/build.py
 
-.PHONY: run install test edits bench check clean
+.PHONY: help run proved install test edits bench check clean
 
-# (status 1 says that lines of the script were refused, which its output shows: that is no failure of make)
-run: $(PROGRAM)
-	@$(PROGRAM) "$(SCRIPT)" || { status=$$?; [ $$status -eq 1 ] || exit $$status; }
+.DEFAULT_GOAL := help
 
-# The program as PREFIX/bin/flecsq: it needs nothing else of this repository.
-install: $(PROGRAM)
-	@install -D -m 755 $(PROGRAM) "$(DESTDIR)$(PREFIX)/bin/flecsq"
+help:
+	@echo "make run [SCRIPT=FILE]       Runs a script. Without a proved program it builds one without proofs"
+	@echo "make proved                  Proves and builds the program, in half an hour or more"
+	@echo "make install [PREFIX=FOLDER] Installs the proved program and its man page under FOLDER, ~/.local if left out"
+	@echo "make test                    The whole gate, then the script rows and the program from outside"
+	@echo "make check                   Proves every crate, over what earlier runs kept"
+	@echo "make edits [SINCE=COMMIT]    Edits that the check must refuse, and why it refuses each; also CRATES=\"..\", TIER=.."
+	@echo "make bench [WORKLOADS=\"..\"]  Workloads through the program, and the benchmarks"
+	@echo "make clean                   Removes all that was built"
+	@echo "All of it needs Linux on x86-64, Python 3.8 or later, the Rattle toolchain's command rt on the path, and 4 GB of free memory."
 
-# Every function is proved before the program is built. rt tells of each one as it goes.
-$(PROGRAM): $(SOURCES)
-	@echo "Proving and building flecsq. The first time this takes half an hour or more; each line below is one step done." >&2
-	@cd crates/flecsq && rt run -- --version >&2
-	@touch $@
+run:
+	@$(BUILD) run "$(SCRIPT)"
+
+proved:
+	@$(BUILD) proved
+
+install:
+	@$(BUILD) install "$(DESTDIR)$(PREFIX)"
 
 # The gate (every proof from nothing, the must-fail edits, the tests), then the script rows and the program from outside.
 test:
 	@python3 tests/run.py
 
 # Edits that the check must refuse, and why it refuses each. Of the crates that changed since the commit SINCE; or of CRATES="..", or
-# CRATES=all. TIER is edits (those under edits/), must-fail (those that the gate tries too) or both.
+# CRATES=all. TIER is edits (those of edits/CRATE.edits), must-fail (the named wrong bodies, which the gate tries too) or both. NAMES=".." are
+# some of them. TEXTS=1 proves nothing: it tells which can't be applied.
 edits:
-	@python3 tools/edits.py $(if $(SINCE),--since "$(SINCE)") $(if $(CRATES),--crates "$(CRATES)") $(if $(TIER),--tier "$(TIER)")
+	@$(BUILD) need
+	@python3 tools/edits.py $(if $(SINCE),--since "$(SINCE)") $(if $(CRATES),--crates "$(CRATES)") $(if $(TIER),--tier "$(TIER)") $(if $(NAMES),--names "$(NAMES)") $(if $(TEXTS),--check-texts)
 
-# Workloads through the program, and the benchmarks among the crates. WORKLOADS=".." names some of them.
-bench: $(PROGRAM) $(BENCHMARKS)
+# Workloads through the program, and what bench_library measures. WORKLOADS=".." names some of them.
+bench: proved $(BENCHMARK)
 	@python3 bench/bench.py $(WORKLOADS)
 
-$(BENCHMARKS): $(SOURCES)
+$(BENCHMARK): $(SOURCES)
 	@echo "Proving and building $(@F)." >&2
 	@cd $(@D)/.. && rt run >&2
 	@touch $@
 
 # Every crate, over what earlier runs kept.
 check:
+	@$(BUILD) need
 	@rt all check
 
 clean:
-	rm -rf crates/*/out
+	rm -rf crates/*/out out

@@ -7,6 +7,7 @@ import sys
 import tempfile
 import time
 
+import explained
 import hostile
 import monitors
 
@@ -97,6 +98,9 @@ def help_tells_lines_statuses_and_the_reference(program, room):
     return (
         answers(ran, 0, complaint=b"")
         and "Usage: flecsq [FILE]" in lines
+        and "       flecsq --explain [FILE]" in lines
+        and any("rlwrap flecsq" in line for line in lines)
+        and any("/dev/stdin" in line for line in lines)
         and all(any(line.startswith(f"  {form}  ") for line in lines) for form in forms)
         and all(any(line.startswith(f"  {status}") for line in lines) for status in statuses)
         and "docs/LANGUAGE.md" in lines[-1]
@@ -110,6 +114,50 @@ def script_of_the_help_prints_what_it_says(program, room):
     last = next(at for at, line in enumerate(lines) if line.startswith("It prints"))
     ran = run_words(program, [], "\n".join(lines[first:last]).encode())
     return ran.returncode == 0 and lines[last] == "It prints `{}` and `{}`.".format(*ran.stdout.decode().splitlines())
+
+
+def explain_writes_what_a_run_writes(program, room):
+    """Standard output and status are those of the same script without --explain, which leaves standard error empty."""
+    for name, script in (("all", explained.WORLD), *((kind, explained.WORLD + case.script) for kind, case in explained.CASES.items())):
+        with open(os.path.join(room, name), "wb") as file:
+            file.write(script)
+        plain, telling = run_words(program, [file.name]), run_words(program, ["--explain", file.name])
+        if not answers(telling, plain.returncode, plain.stdout) or plain.stderr:
+            raise ValueError(name)
+    return True
+
+
+def each_kind_of_refusal_is_explained(program, room):
+    """The file, the line and the kind, the line, marks under what is wrong, and a sentence that no other kind has."""
+    sentences = {}
+    for kind, case in explained.CASES.items():
+        ran = run_words(program, ["--explain"], explained.WORLD + case.script)
+        head, line, *marks, sentence = ran.stderr.decode().splitlines()[-3 - bool(case.marks) :]
+        number = explained.line_of(case)
+        if head != f"(standard input):{number}: {case.kind}" or marks != [case.marks] * bool(case.marks) or line != case.quote:
+            raise ValueError(f"{kind}: {head} / {line} / {marks}")
+        if case.word not in sentence or (case.kind != "BadLine" and sentences.setdefault(sentence, case.kind) != case.kind):
+            raise ValueError(f"{kind}: {sentence}")
+    return len(sentences) >= 30
+
+
+def explain_answers_line_by_line(program, room):
+    """The pipe stays open while an explanation is read."""
+    with subprocess.Popen([program, "--explain"], stdin=subprocess.PIPE, stdout=subprocess.PIPE, stderr=subprocess.PIPE) as running:
+        running.stdin.write(b"querry Sun\n")
+        running.stdin.flush()
+        if not select.select([running.stderr], [], [], 20)[0]:
+            running.kill()
+            return False
+        told = running.stderr.readline()
+        running.stdin.close()
+        output, rest = running.stdout.read(), running.stderr.read()
+    return told == b"(standard input):1: BadLine\n" and output == b"error 1 BadLine\n" and rest.count(b"\n") == 3
+
+
+def explain_survives_a_closed_standard_error(program, room):
+    ran = subprocess.run(["sh", "-c", 'exec "$0" --explain 2>&-', program], input=b"fly\n", stdout=subprocess.PIPE, timeout=60)
+    return answers(ran, 1, b"error 1 BadLine\n")
 
 
 def version_is_told(program, room):
@@ -264,6 +312,10 @@ CASES = [
     arguments_are_judged_before_the_file,
     help_tells_lines_statuses_and_the_reference,
     script_of_the_help_prints_what_it_says,
+    explain_writes_what_a_run_writes,
+    each_kind_of_refusal_is_explained,
+    explain_answers_line_by_line,
+    explain_survives_a_closed_standard_error,
     version_is_told,
     closed_output_is_a_write_fault,
     no_output_at_all_is_a_write_fault,

@@ -1,0 +1,205 @@
+#!/usr/bin/env python3
+"""build.py COMMAND: builds the program, proved or not, and runs it. The Makefile calls it.
+
+run SCRIPT      runs a script: with the proved program where it stands and is up to date, else with one that is built without proofs
+proved          proves and builds the program, and tells of each step
+install FOLDER  puts the proved program and its man page under FOLDER/bin and FOLDER/share/man/man1
+need            says in one sentence what is missing, and answers status 2; does nothing where all is there
+"""
+import os
+import platform
+import re
+import shutil
+import subprocess
+import sys
+import time
+
+TOP = os.path.realpath(os.path.join(os.path.dirname(os.path.realpath(__file__)), ".."))
+PROVED = os.path.join(TOP, "crates", "flecsq", "out", "flecsq")
+UNPROVED = os.path.join(TOP, "out", "try", "flecsq")
+MAN_PAGE = os.path.join(TOP, "docs", "flecsq.1")
+
+# what the proofs and the program were last proved and built with, as `rt version` tells it
+KIT = "rattle-kit-13f logic dac8208d650f15bf"
+
+# a proof of one crate takes up to so many GB of memory
+GIGABYTES = 4
+
+COUNTED = re.compile(r"checked .*, (\d+) of (\d+)")
+
+
+class Missing(Exception):
+    """Something that has to be there isn't. Its text says what to do."""
+
+
+def tell(text):
+    print(text, file=sys.stderr, flush=True)
+
+
+def check_machine():
+    if sys.version_info < (3, 8):
+        raise Missing(f"flecsq is built with Python 3.8 or later, and this is {platform.python_version()}.")
+    if not sys.platform.startswith("linux") or platform.machine() not in ("x86_64", "AMD64"):
+        raise Missing(f"flecsq is built on Linux on x86-64, and this is {platform.system()} on {platform.machine()}.")
+
+
+def kit_of_path():
+    """The version of the toolchain on the path, if there is one."""
+    if not shutil.which("rt"):
+        return None
+    told = subprocess.run(["rt", "version"], stdin=subprocess.DEVNULL, stdout=subprocess.PIPE, text=True, errors="replace", check=False)
+    return told.stdout.strip()
+
+
+def check_toolchain(is_strict=True):
+    """Whether the toolchain is there that this was proved with. One that is another is only told of, where that is enough."""
+    check_machine()
+    kit = kit_of_path()
+    if kit is None:
+        raise Missing(f"The Rattle toolchain isn't there: put the folder of its command rt, of the kit {KIT}, on the PATH.")
+    if kit != KIT:
+        odd = f"The command rt on the PATH is of the kit {kit or 'that tells no version'}, and flecsq was proved with {KIT}:"
+        if is_strict and not os.environ.get("ANY_KIT"):
+            raise Missing(f"{odd} put that one first on the PATH, or set ANY_KIT=1 to try with yours.")
+        tell(f"{odd} what follows may differ.")
+
+
+def has_toolchain():
+    """Whether the toolchain is there, for the gate: another one may do, since the gate proves all with it. Where it isn't, that is told."""
+    try:
+        check_toolchain(is_strict=False)
+        return True
+    except Missing as missing:
+        tell(str(missing))
+        return False
+
+
+def libraries_of():
+    """Each crate and the crates of this repository that it uses, by crates.txt."""
+    with open(os.path.join(TOP, "crates.txt"), encoding="utf-8") as file:
+        rows = [line.split(":", 1) for line in file if ":" in line and not line.startswith("#")]
+    uses = {name.split()[0]: libraries.split() for name, libraries in rows}
+    return {name: [it for it in libraries if it in uses] for name, libraries in uses.items()}
+
+
+def crates_below(crate):
+    """The crates that a crate stands on, lowest first, and itself."""
+    uses, order = libraries_of(), []
+
+    def visit(name):
+        for library in uses[name]:
+            visit(library)
+        if name not in order:
+            order.append(name)
+
+    visit(crate)
+    return order
+
+
+def sources(crates):
+    yield os.path.join(TOP, "crates.txt")
+    for crate in crates:
+        for folder in ("src", "specs", "proofs"):
+            for place, _, files in os.walk(os.path.join(TOP, "crates", crate, folder)):
+                yield from (os.path.join(place, it) for it in files if it.endswith((".rt", ".antt")))
+
+
+def is_current(program):
+    """Whether a program is there and younger than all that it is made from."""
+    if not os.path.isfile(program):
+        return False
+    built = os.stat(program).st_mtime
+    return all(os.stat(it).st_mtime <= built for it in sources(crates_below("flecsq")))
+
+
+def prove_crate(crate, place, words):
+    """Proves a crate, and shows on a terminal how many of its functions are done. Answers its status and what it printed last."""
+    shown, last = sys.stderr.isatty(), []
+    folder = os.path.join(TOP, "crates", crate)
+    with subprocess.Popen(["rt", *words], cwd=folder, stdin=subprocess.DEVNULL, stdout=subprocess.PIPE, stderr=subprocess.STDOUT, text=True, errors="replace") as running:
+        for line in running.stdout:
+            found = COUNTED.match(line)
+            if found and shown:
+                print(f"\r{place} {crate}: {found[1]} of {found[2]}\x1b[K", end="", file=sys.stderr, flush=True)
+            if not found:
+                last = [*last[-40:], line]
+    if shown:
+        print("\r\x1b[K", end="", file=sys.stderr)
+    return running.returncode, "".join(last)
+
+
+def prove():
+    """Proves all that the program stands on, and builds it."""
+    if is_current(PROVED):
+        return 0
+    check_toolchain()
+    crates = crates_below("flecsq")
+    tell(f"Proving flecsq, {len(crates)} steps. The first time this takes half an hour or more on four cores.")
+    for number, crate in enumerate(crates, 1):
+        place, begun = f"{number} of {len(crates)}", time.monotonic()
+        words = ["lib"] if crate != crates[-1] else ["run", "--", "--version"]
+        status, last = prove_crate(crate, place, words)
+        if status:
+            tell(f"{last}{place} {crate}: not proved (rt ended with status {status})")
+            return 1
+        tell(f"{place} {crate}: proved ({time.monotonic() - begun:.0f} s)")
+    os.utime(PROVED)
+    return 0
+
+
+def build_unproved():
+    if is_current(UNPROVED):
+        return
+    check_toolchain()
+    # (optimizing would take as long again)
+    tell("Building flecsq without proofs, once: one or two minutes.")
+    os.makedirs(os.path.dirname(UNPROVED), exist_ok=True)
+    made = f"{UNPROVED}.{os.getpid()}"
+    ran = subprocess.run([sys.executable, os.path.join(TOP, "tools", "unproved.py"), "flecsq", made, "0"], stdout=subprocess.DEVNULL, check=False)
+    if ran.returncode or not os.path.isfile(made):
+        why = "as told above" if ran.returncode >= 0 else f"since signal {-ran.returncode} came, perhaps for want of memory"
+        raise Missing(f"flecsq could not be built, {why}.")
+    os.replace(made, UNPROVED)
+
+
+def run(script):
+    """Runs a script. That lines of it were refused is shown by its output, and is no failure here."""
+    program = PROVED
+    if not is_current(PROVED):
+        build_unproved()
+        tell("This build of flecsq isn't proved: `make proved` proves it, in half an hour or more.")
+        program = UNPROVED
+    status = subprocess.run([program, script], check=False).returncode
+    return 0 if status == 1 else status
+
+
+def install(folder):
+    if prove():
+        return 1
+    for source, *below, mode in ((PROVED, "bin", 0o755), (MAN_PAGE, "share", "man", "man1", 0o644)):
+        place = os.path.join(folder, *below)
+        os.makedirs(place, exist_ok=True)
+        made = os.path.join(place, os.path.basename(source))
+        shutil.copyfile(source, f"{made}.new")
+        os.chmod(f"{made}.new", mode)
+        os.replace(f"{made}.new", made)
+        tell(f"installed {made}")
+    return 0
+
+
+def main(words):
+    commands = {("run", 2): lambda: run(words[1]), ("proved", 1): prove, ("install", 2): lambda: install(words[1]), ("need", 1): check_toolchain}
+    command = commands.get((words[0] if words else "", len(words)))
+    if command is None:
+        sys.exit(__doc__)
+    try:
+        return command() or 0
+    except Missing as missing:
+        tell(str(missing))
+        return 2
+    except KeyboardInterrupt:
+        return 130
+
+
+if __name__ == "__main__":
+    sys.exit(main(sys.argv[1:]))
