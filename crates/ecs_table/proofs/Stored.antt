@@ -1,13 +1,13 @@
 -- A table's lists beside each other, after each call.
 use Rattle.std.proofs.Common.{◌≡◌, ℕ, zero, suc, ◌+◌, ◌-◌, ◌≤◌, ◌<◌, List, [], ◌∷◌, ◌++◌, length, map, replicate, slice_index, refl, sym, ap, subst, ◌∙◌, arith, nat_lt, slice_get, Some, None, vec_len, vec_capacity}
-use Rattle.std.specs.List.{filter, zip, swap_remove}
+use Rattle.std.specs.List.{concat, filter, zip, swap_remove}
 use Rattle.std.specs.declared.vec.Vec.{Vec}
 use Rattle.ecs_id.specs.Id.{Id}
 use Rattle.ecs_id.specs.declared.EntityId.{EntityId}
 use Rattle.raw_column.specs.Contents.{Contents, column_at, empty_contents, with_item_in as with_item_at, with_zeros, without_row as without_block_row}
 use Rattle.raw_column.specs.Places.{Values}
 use Rattle.ecs_table.proofs.Soundness.{columns_paired, sound_empty, sound_with_item, sound_with_moved, sound_with_room, sound_with_row, sound_without_row}
-use Rattle.ecs_table.specs.Archetype.{Archetype, IsSound, IsStored, empty_table, entity_at, ids_with_data, index_in, no_entity, no_values, seen, size_of, value_of, values_at, with_last, with_moved, with_row, without_row}
+use Rattle.ecs_table.specs.Archetype.{Archetype, IsSound, IsStored, column_of, empty_table, entity_at, ids_with_data, index_in, no_entity, no_values, seen, size_of, value_of, values_at, with_last, with_moved, with_row, without_row}
 
 -- a table is the same where its lists are
 pub same_table : (ids ids2 ds ds2 : List Id) (cs cs2 : List Values) (es es2 : List EntityId) (r : ℕ) → ids ≡ ids2 → ds ≡ ds2 → cs ≡ cs2 → es ≡ es2
@@ -17,6 +17,9 @@ same_table ids ids2 ds ds2 cs cs2 es es2 r e f h j = λ i. record { ids = e i; d
 -- what is seen of one id, where it has data
 pub value_found : (t : Archetype) (row k : ℕ) (i : Id) → index_in t.data_ids i ≡ Some k → value_of t row i ≡ slice_get (values_at t.columns k).items row
 value_found t row k i e = ap (λ o. elim o [ None ↦ None | Some j ↦ slice_get (values_at t.columns j).items row ]) e
+
+pub column_found : (t : Archetype) (k : ℕ) (i : Id) → index_in t.data_ids i ≡ Some k → column_of t i ≡ Some (concat (values_at t.columns k).items)
+column_found t k i e = ap (λ o. elim o [ None ↦ None | Some j ↦ Some (concat (values_at t.columns j).items) ]) e
 
 pub size_found : (t : Archetype) (k : ℕ) (i : Id) → index_in t.data_ids i ≡ Some k → size_of t i ≡ Some (values_at t.columns k).size
 size_found t k i e = ap (λ o. elim o [ None ↦ None | Some j ↦ Some (values_at t.columns j).size ]) e

@@ -1,6 +1,6 @@
 -- What a contract sees of a `Table`: its ids, and for each one with data the value of each row.
 use Rattle.std.specs.Prelude.{◌≡◌, ℕ, ◌+◌, ◌-◌, ◌<◌, ◌≤◌, List, [], ◌∷◌, ◌++◌, map, length, replicate, nat_lt, slice_get, slice_set, slice_index, slice_index_or, Option, Some, None, option_map, unwrap_or, if◌then◌else◌, ◌==◌}
-use Rattle.std.specs.List.{filter, zip, position, swap_remove}
+use Rattle.std.specs.List.{concat, filter, zip, position, swap_remove}
 use Rattle.std.specs.declared.cmp.Ordering.TheVariants.{Less}
 use Rattle.std.specs.FinMap.{find}
 use Rattle.std.specs.Prelude.{vec_len, vec_capacity}
@@ -47,6 +47,10 @@ values_at columns k = slice_index_or columns k (no_values 0)
 -- the value of an id at a row, where the id has data
 abbrev pub value_of : Archetype → ℕ → Id → Option (List ℕ)
 value_of t row i = elim (index_in t.data_ids i) [ None ↦ None | Some k ↦ slice_get (values_at t.columns k).items row ]
+
+-- the bytes of an id's values, those of one row after another, where the id has data
+abbrev pub column_of : Archetype → Id → Option (List ℕ)
+column_of t i = elim (index_in t.data_ids i) [ None ↦ None | Some k ↦ Some (concat (values_at t.columns k).items) ]
 
 -- how many bytes the value of an id has, where the id has data
 abbrev pub size_of : Archetype → Id → Option ℕ

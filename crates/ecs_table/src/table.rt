@@ -3,7 +3,7 @@ ghost use Rattle.std.specs.Prelude.{◌≡◌, ℕ, ◌-◌, ◌<◌, ◌≤◌,
 ghost use Rattle.std.specs.List.{zip};
 ghost use Rattle.raw_column.specs.Contents.{column_at};
 ghost use Rattle.ecs_id.specs.Id.{Id};
-ghost use Rattle.ecs_table.specs.Archetype.{byte_size, empty_table, moved_into, replaced, size_of, value_of, values_at, with_moved, with_row, with_value, without_row, HaveEqualSizes, IsSound};
+ghost use Rattle.ecs_table.specs.Archetype.{byte_size, column_of, empty_table, moved_into, replaced, size_of, value_of, values_at, with_moved, with_row, with_value, without_row, HaveEqualSizes, IsSound};
 
 use crate::columns::{ids_with_data, sizes_with_data};
 use crate::data_ids::DataIds;
@@ -168,6 +168,16 @@ impl<A: Allocator> Table<A> {
         match self.data_ids.find(id) {
             None => None,
             Some(column) => Some(self.value_in(column, row)),
+        }
+    }
+
+    /// The bytes of an id's values, those of one row after another, None where the table has no data of the id.
+    pub fn column(&self, id: Id) -> Option<&[u8]>
+        ensures { MatchOption result (column_of self.now id ≡ None) (λ bytes. column_of self.now id ≡ Some bytes.now) }
+    {
+        match self.data_ids.find(id) {
+            None => None,
+            Some(index) => Some(self.columns.column(index)),
         }
     }
 

@@ -1,6 +1,6 @@
 //! The columns of a table in one block.
 ghost use Rattle.std.specs.Prelude.{◌≡◌, ℕ, ◌+◌, ◌-◌, ◌*◌, ◌^◌, ◌<◌, ◌≤◌, length, map, min, slice_get, slice_index, slice_index_or, IfOk, Some, OnOk, OnErr, IsOk, IsErr};
-ghost use Rattle.std.specs.List.{fold, sum};
+ghost use Rattle.std.specs.List.{concat, fold, sum};
 ghost use Rattle.raw_column.specs.Contents.{HaveOneSize, capacity_of, column_at, empty_contents, most_of, row_bytes, with_copied, with_item_in, with_zeros, without_row};
 
 use crate::buffer::Buffer;
@@ -175,6 +175,17 @@ impl<A: Allocator> Block<A> {
     {
         let at = self.sizes.offset_of(column, row, self.capacity);
         self.buffer.read(at, self.sizes.size(column))
+    }
+
+    /// The bytes of all values in a column, those of one row after another.
+    #[inline(always)]
+    pub fn column(&self, column: usize) -> &[u8]
+        requires { column < length self.now.columns }
+        ensures { result.now ≡ concat (column_at self.now column).items }
+    {
+        let at = self.sizes.offset_of(column, 0, self.capacity);
+        let len = self.len * self.sizes.size(column);
+        self.buffer.read(at, len)
     }
 
     /// Overwrites the value in a column and a row with as many bytes.
