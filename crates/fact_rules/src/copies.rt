@@ -1,9 +1,9 @@
 //! What an instance gets from its base.
-ghost use Rattle.std.specs.Prelude.{◌≡◌, [], ◌==◌, ◌&&◌, ◌++◌, ◌↔◌, ◌⊎◌, Contains, IfOk, OnOk, is_some};
+ghost use Rattle.std.specs.Prelude.{◌≡◌, [], ◌==◌, ◌&&◌, ◌||◌, ◌++◌, ◌↔◌, ◌⊎◌, Contains, IfOk, OnOk, is_some};
 ghost use Rattle.std.specs.List.{list_any};
 ghost use Rattle.std.specs.List.Sorted.{IsStrictlySortedBy};
 ghost use Rattle.ecs_id.specs.Id.{IsIndex, id_eq, pair, plain};
-ghost use Rattle.ecs_model.specs.BuiltIns.{on_instantiate};
+ghost use Rattle.ecs_model.specs.BuiltIns.{dont_inherit_mode, inherit_mode, on_instantiate};
 ghost use Rattle.ecs_model.specs.Copied.{has_pair, is_copied as is_copied_of, stays_behind as stays};
 ghost use Rattle.ecs_model.specs.Links.{is_held, target_under as target_of};
 ghost use Rattle.ecs_model.specs.World.{Key, key_cmp};
@@ -27,26 +27,36 @@ const PREFAB: u32 = 4;
 
 const DISABLED: u32 = 5;
 
-/// Lists the copies that come with an added fact, where these facts are added with it, and puts them among those that came. It answers the base
-/// from which they come, if there is one; else nothing came but what had come before.
+/// Lists the copies that come with an added fact, where these facts are added with it. It answers the base from which they come, if there is one.
 pub(crate) fn list_copies<G: Graph, A: Allocator>(
     graph: &G,
     fact: FactKey,
     added: &[FactKey],
     copies: &mut Vec<FactKey, A>,
-    came: &mut Vec<FactKey, A>,
 ) -> Result<Option<u32>, AllocError>
     ensures base { IfOk result (λ base. base ≡ base_among (G.ids graph.now) fact added.now) }
     ensures copies { IfOk result (λ base. copies.new.items ≡ copies_of_base (G.ids graph.now) fact.0 added.now base) }
-    ensures came { IfOk result (λ base. IsJoined base came.old.items copies.new.items came.new.items) }
 {
     copies.clear();
     let Some(base) = new_base(graph, fact, added) else {
         return Ok(None);
     };
     push_copies(graph, fact.entity(), base, added, copies)?;
-    join(copies.as_slice(), came)?;
     Ok(Some(base))
+}
+
+/// Puts the copies of a base's facts among those that came. Without a base these stay as they are.
+pub(crate) fn join_copies<A: Allocator>(
+    base: Option<u32>,
+    copies: &[FactKey],
+    came: &mut Vec<FactKey, A>,
+) -> Result<(), AllocError>
+    ensures { OnOk result (IsJoined base came.old.items copies.now came.new.items) }
+{
+    match base {
+        None => Ok(()),
+        Some(_) => join(copies, came),
+    }
 }
 
 /// Puts these facts among others, all in order.
@@ -134,29 +144,31 @@ fn may_be_copied<G: Graph>(graph: &G, id: Id) -> bool
     ensures { result ≡ is_copied_of (G.ids graph.now) [] id }
 {
     let traits = graph.ids(id.first());
-    !says(traits, INHERIT)
-        && !says(traits, DONT_INHERIT)
-        && !stays_behind(id)
-        && takes(&[], 0, &[], traits, id)
+    !is_left_to_base(traits) && !stays_behind(id) && takes(&[], 0, &[], traits, id)
 }
 
 /// Whether an entity that holds these ids and gets these facts gets a copy of an id of its base, whose component or relationship has these traits.
 fn is_copied(traits: &[Id], held: &[Id], entity: u32, added: &[FactKey], id: Id) -> bool
     ensures { result ≡ gets_copy traits.now held.now entity added.now id }
 {
-    !says(traits, INHERIT)
-        && !says(traits, DONT_INHERIT)
+    !is_left_to_base(traits)
         && !stays_behind(id)
         && !is_own(held, entity, added, id)
         && takes(held, entity, added, traits, id)
 }
 
-/// Whether a component or relationship with these traits says this of copying.
-fn says(traits: &[Id], mode: u32) -> bool
-    requires { IsIndex mode }
-    ensures { result ≡ is_held traits.now (pair on_instantiate mode) }
+/// Whether instances inherit facts of a component or relationship with these traits, or have nothing of them.
+fn is_left_to_base(traits: &[Id]) -> bool
+    ensures { result ≡ is_held traits.now (pair on_instantiate inherit_mode) || is_held traits.now (pair on_instantiate dont_inherit_mode) }
 {
-    traits.contains(&Id::pair(ON_INSTANTIATE, mode))
+    for id in traits {
+        if *id == Id::pair(ON_INSTANTIATE, INHERIT)
+            || *id == Id::pair(ON_INSTANTIATE, DONT_INHERIT)
+        {
+            return true;
+        }
+    }
+    false
 }
 
 /// Whether one with these traits has a plain one.
