@@ -1,6 +1,6 @@
 -- What the state of a world tells of its parts.
-use Rattle.std.proofs.Common.{◌≡◌, ℕ, ◌==◌, Bool, true, false, cond, not, ◌&&◌, ◌||◌, List, [], ◌∷◌, length, replicate, Option, Some, None, option_map, unwrap_or, is_some, if◌then◌else◌, IfSome, IsTrue, refl, sym, ap, subst, ◌∙◌, true≢false}
-use Rattle.std.proofs.lemmas.Bool.Decides.{Decides-eqb}
+use Rattle.std.proofs.Common.{◌≡◌, ℕ, ◌≤◌, nat_le, ◌==◌, Bool, true, false, cond, not, ◌&&◌, ◌||◌, List, [], ◌∷◌, length, replicate, Option, Some, None, option_map, unwrap_or, is_some, if◌then◌else◌, IfSome, IsTrue, refl, sym, ap, subst, ◌∙◌, arith, true≢false}
+use Rattle.std.proofs.lemmas.Bool.Decides.{Decides-eqb, nat_tests}
 use Rattle.std.specs.FinMap.Entries.{is_some-find}
 use Rattle.std.specs.List.{list_all, list_any}
 use Rattle.std.specs.Option.{option_eq, option_map_or, option_or}
@@ -16,6 +16,10 @@ use Rattle.ecs_model.proofs.Maps.{of_some, some_of, both_true}
 use Rattle.ecs_schema.proofs.Meaning.{values_in-zeros}
 use Rattle.name_index.specs.Names.{Names}
 use Rattle.ecs_archetypes.specs.Holdings.{AreHoldings, Cells, HoldAlike, Holdings, KeepsSizes, Sizes, agrees, bytes_at, cells_at, entity_at, held_at, holds_id, is_settled, lives, sizes_of}
+use Rattle.ecs_archetypes.specs.Archetypes.{known_in}
+use Rattle.ecs_archetypes.specs.Housing.{Housing, IsHoused}
+use Rattle.ecs_archetypes.proofs.Known.{of_all_shapes}
+use Rattle.table_store.specs.Store.{shape_at}
 use Rattle.ecs_world.specs.State.{AreFactsOf, IsWorld, Parts, parts_of, byte_count, is_known_rightly, name_in, state_of, type_in, type_of, value_in}
 use Rattle.ecs_world.proofs.Entities.{generation_of}
 use Rattle.ecs_world.proofs.Facts.{find-facts, ids-facts}
@@ -69,6 +73,12 @@ AreCells-whole h whole = record { in_order = whole.cells; rise = λ e cs found. 
 
     first : (e : ℕ) → IfSome (cells_at h e) (λ c. IsMap id_cmp c)
     first e = drop_second e (cells_at h e) (whole.each e)
+
+-- values in tables have at most 64 bytes
+pub known_few : (g : Housing) → IsHoused g → list_all (λ c. nat_le c.1 64) (known_in g.tables) ≡ true
+known_few g whole =
+    let stored = (whole.stored).0 in
+    of_all_shapes g.tables stored (λ c. nat_le c.1 64) (λ k f at. of_some (λ f. list_all (λ c. nat_le c.1 64) f ≡ true) (shape_at g.tables k) (stored.small k) f at)
 
 -- zeros mean a new value
 pub zeros_are_new : (o : Option Schema) → value_in o (replicate (byte_count o) 0) ≡ option_map_or zeros o []
@@ -189,6 +199,15 @@ module _ {parts : Parts} (world : IsWorld parts) where
       sized : (p : Option (List ℕ)) → p ≡ bytes_at h e i → IfSome p (λ bytes. length bytes ≡ byte_count (type_of_id w i))
       sized None q = tt
       sized (Some bytes) q = (known_held e i bytes (sym q)).0 ∙ ap byte_count (sym (type_is i))
+
+  -- and they are few, as those of all tables are
+  pub few_told : list_all (λ c. nat_le c.1 64) h.known ≡ true → (e : ℕ) (i : Id) (o : Option (List ℕ)) → o ≡ bytes_at h e i → IfSome o (λ bytes. length bytes ≤ 64)
+  few_told few e i None is = tt
+  few_told few e i (Some bytes) is =
+      let at = some_bytes (cells_at h e) i bytes (sym is) in
+      let sized = of_some (λ c. (test : Id × ℕ → Bool) → IsTrue (list_all test h.known) → IsTrue (list_all test (sizes_of c))) (cells_at h e) ((world.whole).sized e) at.0 at.1 in
+      let passes : nat_le (length bytes) 64 ≡ true = size_passes (λ c. nat_le c.1 64) at.0 i bytes (sized (λ c. nat_le c.1 64) few) at.2 in
+      grind (arith, nat_tests)
 
   -- the facts of a live entity
   pub facts_told : (e : EntityId) (o : Option Cells) → o ≡ (if lives h e then cells_at h e.index else None) → (is_some o ≡ is_alive w e) × IfSome o (AreFactsOf w e.index)

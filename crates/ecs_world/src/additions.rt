@@ -152,10 +152,10 @@ impl<A: Allocator + Copy> World<A> {
         ensures goes_on { TablesGoOn self.old.tables self.new.tables }
     {
         self.keeps();
-        let size = self.size_of(id);
+        let bytes = self.bytes(base, id).unwrap();
+        let size = bytes.len();
         if size > 0 {
             let mut buffer = [0; 64];
-            let bytes = self.bytes(base, id).unwrap();
             buffer[..size].copy_from_slice(bytes);
             self.write(entity, id, &buffer[..size]);
         }
@@ -167,6 +167,9 @@ impl<A: Allocator + Copy> World<A> {
         ensures small { OnOk result (IsTrue (list_all (λ c. nat_le c.1 64) sized.new.items)) }
     {
         sized.clear();
+        if sized.reserve(facts.len()).is_err() {
+            return Err(Memory);
+        }
         for fact in facts {
             let sized_fact = SizedFact::new(*fact, self.size_of(fact.id()));
             if sized.push(sized_fact).is_err() {

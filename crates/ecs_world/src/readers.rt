@@ -94,11 +94,15 @@ impl<A: Allocator> World<A> {
         }
     }
 
-    /// The bytes of a fact's value, as `type_of` says what they mean: none where the id has no fields.
+    /// The bytes of a fact's value, as `type_of` says what they mean: none where the id has no fields, and at most 64.
     pub fn bytes(&self, index: u32, id: Id) -> Option<&[u8]>
         ensures value { option_map (value_in (type_of_id self.now.state id)) (option_copied result) ≡ value_of self.now.state index id }
         ensures size { IfSome result (λ bytes. length bytes.now ≡ byte_count (type_of_id self.now.state id)) }
+        ensures few { IfSome result (λ bytes. length bytes.now ≤ 64) }
     {
+        let graph = self.archetypes.graph();
+        // What is known of every table.
+        let _ = graph.index();
         self.archetypes.bytes(index, id)
     }
 

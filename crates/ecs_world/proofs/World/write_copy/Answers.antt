@@ -1,4 +1,4 @@
-use Rattle.std.proofs.Common.{sym, ap, subst, ◌∙◌, length, option_map, IfSome, arith, ◌≡◌}
+use Rattle.std.proofs.Common.{refl, sym, ap, subst, ◌∙◌, length, option_map, IfSome, arith, ◌≡◌}
 use Rattle.std.specs.Option.{option_copied}
 use Rattle.ecs_model.specs.World.{type_of_id}
 use Rattle.ecs_model.specs.traits.Keeps.{IsWellFormed}
@@ -10,18 +10,18 @@ pub write-requires-clause-sound : goal.write-requires-clause-sound
 write-requires-clause-sound g c =
     let w = c.args.self.now.state in
     let type = type_of_id w c.args.id in
-    let sized = subst (λ o. IfSome o (λ bytes. length bytes.now ≡ byte_count type)) c.unwrap-bytes.ensures c.bytes.ensures.size ∙ sym c.size_of-size.ensures.value in
     let value = ap (λ o. option_map (value_in type) (option_copied o)) (sym c.unwrap-bytes.ensures) ∙ c.bytes.ensures.value in
-    subst IsWellFormed (sym (copy_written w c.args.entity.index c.args.base c.args.id c.size_of-size.result c.copy_from_slice.new.self _ c.unwrap-bytes.result.now c.copy_from_slice.ensures.after sized value)) c.requires.sound
+    subst IsWellFormed (sym (copy_written w c.args.entity.index c.args.base c.args.id (length c.unwrap-bytes.result.now) c.copy_from_slice.new.self _ c.unwrap-bytes.result.now c.copy_from_slice.ensures.after refl value)) c.requires.sound
 
 pub returns-then-size-gt0-clause-state : goal.returns-then-size-gt0-clause-state
 returns-then-size-gt0-clause-state g c =
     let w = c.args.self.now.state in
     let type = type_of_id w c.args.id in
-    let sized = subst (λ o. IfSome o (λ bytes. length bytes.now ≡ byte_count type)) c.unwrap-bytes.ensures c.bytes.ensures.size ∙ sym c.size_of-size.ensures.value in
     let value = ap (λ o. option_map (value_in type) (option_copied o)) (sym c.unwrap-bytes.ensures) ∙ c.bytes.ensures.value in
-    c.write.ensures.state ∙ copy_written w c.args.entity.index c.args.base c.args.id c.size_of-size.result c.copy_from_slice.new.self _ c.unwrap-bytes.result.now c.copy_from_slice.ensures.after sized value
+    c.write.ensures.state ∙ copy_written w c.args.entity.index c.args.base c.args.id (length c.unwrap-bytes.result.now) c.copy_from_slice.new.self _ c.unwrap-bytes.result.now c.copy_from_slice.ensures.after refl value
 
 pub returns-else-size-gt0-clause-state : goal.returns-else-size-gt0-clause-state
 returns-else-size-gt0-clause-state g c =
-    nothing_written c.args.self.now.state c.keeps.ensures c.args.id (sym c.size_of-size.ensures.value ∙ omega arith) c.args.entity.index c.args.base c.requires.held c.requires.of_base
+    let type = type_of_id c.args.self.now.state c.args.id in
+    let typed = subst (λ o. IfSome o (λ bytes. length bytes.now ≡ byte_count type)) c.unwrap-bytes.ensures c.bytes.ensures.size in
+    nothing_written c.args.self.now.state c.keeps.ensures c.args.id (sym typed ∙ omega arith) c.args.entity.index c.args.base c.requires.held c.requires.of_base
