@@ -3,16 +3,10 @@ use Rattle.std.proofs.Common.{◌≡◌, ℕ, List, [], ◌∷◌, length, flat_
 use Rattle.component_index.specs.declared.pattern.Pattern.{Pattern}
 use Rattle.ecs_model.specs.rows.View.{view_of}
 use Rattle.ecs_world.specs.Standing.{Standing}
-use Rattle.plan_exec.specs.Actions.{instructions_of}
 use Rattle.plan_exec.specs.Reading.{Reading}
-use Rattle.plan_exec.specs.TableProbes.{JudgesTables}
-use Rattle.plan_exec.specs.Tables.{by_tables}
-use Rattle.plan_exec.specs.Width.{width_of}
 use Rattle.query_meaning.specs.Names.{AreNamesLive}
-use Rattle.query_meaning.specs.declared.steps.Step.{Step}
 use Rattle.query_model.specs.Query.{Item, must, may, either, equal, differ, Piece, item, opening, closing, Query}
-use Rattle.query_plan.specs.Planner.{planned_steps}
-use Rattle.query_plan.specs.Plans.{Plan}
+use Rattle.query_plan.specs.Plans.{IsPlanned}
 use Rattle.world_facts.specs.Shown.{reading_of}
 use Rattle.world_facts.proofs.Lists.{same_lengths}
 use Rattle.world_query.specs.Answerable.{searched_pattern, table_counts, tables_of_item, tables_of_piece}
@@ -42,7 +36,6 @@ pub planned_queries_stay_within : PlannedQueriesStayWithin
 planned_queries_stay_within w q p s limit planned same lists fact names simple terms judges =
     let v = reading_of s in
     let counts : table_counts (reading_of planned.shown) q ≡ table_counts v q = facts_count_alike planned.shown s q (planned.world ∙ sym same) planned.lists lists in
-    let steps : p.steps ≡ planned_steps q (table_counts v q) = ap (λ (x : Plan). x.steps) planned.planned ∙ ap (planned_steps q) counts in
+    let by_these = subst (λ (lists : List ℕ). IsPlanned q lists p.steps) counts planned.planned in
     let live : AreNamesLive v.view q = subst (λ (x : Standing). AreNamesLive (view_of x.state) q) (sym same) names in
-    let judged = subst (λ (ss : List Step). JudgesTables v (width_of q) (by_tables (instructions_of q ss)) limit) steps judges in
-    simple_queries_stay_within v q limit fact live simple terms judged
+    simple_queries_stay_within v q p.steps limit fact live simple terms by_these judges

@@ -23,6 +23,7 @@ use Rattle.query_meaning.specs.Names.{entry_names, name_in, term_names}
 use Rattle.query_meaning.specs.Plan.{move_of, target_or_any}
 use Rattle.query_meaning.specs.Variables.{Entry, simple, group, entries, entry_at}
 use Rattle.query_meaning.specs.declared.steps.Mode.TheVariants as mode
+use Rattle.query_meaning.specs.declared.steps.Step.{Step}
 use Rattle.query_meaning.specs.declared.steps.Step.TheVariants.{Check}
 use Rattle.query_model.specs.declared.query.Ref.{Ref}
 use Rattle.query_model.specs.declared.query.Ref.TheVariants.{Is, Var, Any, One}
@@ -31,6 +32,7 @@ use Rattle.query_model.specs.Local.{asks_first, asks_one_id, is_must, is_name, i
 use Rattle.query_model.specs.Observers.{is_first}
 use Rattle.query_model.specs.Query.{must, may, either, equal, differ, Piece, item, opening, closing, Query}
 use Rattle.query_plan.proofs.Simple.{simple_queries_are_led}
+use Rattle.query_plan.specs.Plans.{IsPlanned}
 use Rattle.query_plan.specs.Simple.{has_terms, is_leading}
 use Rattle.plan_exec.specs.Actions.{cut, cuts, entry_instructions, hit_test, instructions_of, is_fixed, is_fixed_ref, move_instructions, name_of, pattern_of, term_test, variable_of}
 use Rattle.plan_exec.specs.declared.action.Action.TheVariants.{Walk, Match, Keep}
@@ -279,7 +281,7 @@ same_pattern row t h live =
 -- ---- the plan
 
 -- the planner's steps are a walk through the tables of one term, and items that are judged of each
-record IsLed (q : Query) (lists : List ℕ) : Type 0 where
+record IsLed (q : Query) (lists : List ℕ) (planned : List Step) : Type 0 where
   first : ℕ
   level : ℕ
   term : Term
@@ -288,7 +290,7 @@ record IsLed (q : Query) (lists : List ℕ) : Type 0 where
   asks : asks_one_id term ≡ true
   shortest : (j : ℕ) → is_leading (entry_at q j) ≡ true → slice_index lists first ≤ slice_index lists j
   shared : list_all (is_judged_once (variable_of term.source)) items ≡ true
-  steps : instructions_by q lists ≡ by_tables (walk_and_judge (variable_of term.source) (pattern_of term) items)
+  steps : instructions_by q planned ≡ by_tables (walk_and_judge (variable_of term.source) (pattern_of term) items)
   once : sum_by judged_weight items ≤ length (entries q)
 
 -- of a simple query
@@ -302,10 +304,10 @@ simple_parts q s =
     let parts = and_parts q.has_this (list_all is_simple_piece q.pieces) whole.0 in
     record { has_this = parts.0; pieces = parts.1 }
 
-led : (q : Query) (lists : List ℕ) → is_simple q ≡ true → list_all has_terms q.pieces ≡ true → IsLed q lists
-led q lists s t =
+led : (q : Query) (lists : List ℕ) (planned : List Step) → is_simple q ≡ true → list_all has_terms q.pieces ≡ true → IsPlanned q lists planned → IsLed q lists planned
+led q lists planned s t by =
     let pieces = (simple_parts q s).pieces in
-    let leader = simple_queries_are_led q lists s t in
+    let leader = simple_queries_are_led q lists planned s t by in
     let first : ℕ = leader.0 in
     let plain : (k : ℕ) → is_plain (entry_at q k) ≡ true = λ k. ap (λ es. is_plain (slice_get es k)) (sym (items-entries q)) ∙ plain_from 0 q.pieces pieces k in
     let it = leads (entry_at q first) (leader.1).0 in
@@ -333,9 +335,9 @@ led q lists s t =
 -- ---- the promises
 
 pub simple_queries_stay_within : SimpleQueriesStayWithin
-simple_queries_stay_within v q limit fact names s t judges j leading =
+simple_queries_stay_within v q planned limit fact names s t by judges j leading =
     let lists : List ℕ = table_counts v q in
-    let by_first = led q lists s t in
+    let by_first = led q lists planned s t by in
     let first : ℕ = by_first.first in
     let x : Term = by_first.term in
     let items : List Judged = by_first.items in
@@ -362,8 +364,8 @@ of_first Any h = absurd (false≢true h)
 of_first One h = absurd (false≢true h)
 
 pub kept_queries_stay_within : KeptQueriesStayWithin
-kept_queries_stay_within v q lists tables limit s t judges =
-    let by_first = led q lists s t in
+kept_queries_stay_within v q lists planned tables limit s t by judges =
+    let by_first = led q lists planned s t by in
     let x : Term = by_first.term in
     let u : ℕ = variable_of x.source in
     let items : List Judged = by_first.items in
