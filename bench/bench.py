@@ -21,6 +21,7 @@ import time
 
 import differences
 import engine
+import untied
 import workloads
 
 TOP = os.path.realpath(os.path.join(os.path.dirname(os.path.realpath(__file__)), ".."))
@@ -116,6 +117,18 @@ def run_beside_engine(name, room):
     return well
 
 
+def run_untied(name, room):
+    """A row for each size, and whether all went well."""
+    script, well = os.path.join(room, "script"), True
+    for size in untied.WORKLOADS[name][1]:
+        with open(script, "w", encoding="ascii") as it:
+            it.write(untied.script(name, size))
+        seconds, _ = timed([program("flecsq")], script)
+        row(name, f"{size:,}", seconds, counted([program("flecsq")], script))
+        well = well and seconds is not None
+    return well
+
+
 def run_part(part, words):
     library = program("bench_library")
     if not os.path.isfile(library):
@@ -150,7 +163,7 @@ def header(other):
 
 
 def main():
-    known = [*workloads.WORKLOADS, *dict(PARTS), *engine.WORKLOADS, *differences.DIFFERENCES]
+    known = [*workloads.WORKLOADS, *dict(PARTS), *engine.WORKLOADS, *untied.WORKLOADS, *differences.DIFFERENCES]
     chosen = sys.argv[1:] or known
     unknown = [it for it in chosen if it not in known]
     if unknown:
@@ -162,6 +175,7 @@ def main():
         well += [run_part(part, words) for part, words in PARTS if part in chosen]
         header("times")
         well += [run_beside_engine(name, room) for name in engine.WORKLOADS if name in chosen]
+        well += [run_untied(name, room) for name in untied.WORKLOADS if name in chosen]
         print(f"{'one more':<20}{'costs':>9}")
         well += [run_differences(name, room) for name in differences.DIFFERENCES if name in chosen]
     return 0 if all(well) else 1

@@ -14,6 +14,7 @@ import docs
 import first_run
 import layout
 import minutes
+import orders
 import picture
 import program
 import rows
@@ -84,7 +85,7 @@ def run_program():
     if not os.path.isfile(PROGRAM):
         print("there is no program to run the rows against")
         return 0, 1
-    counts = [suite.run(PROGRAM) for suite in (rows, docs, program)]
+    counts = [suite.run(PROGRAM) for suite in (rows, docs, program, orders)]
     return sum(passed for passed, _ in counts), sum(failed for _, failed in counts)
 
 
