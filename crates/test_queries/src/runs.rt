@@ -1,22 +1,24 @@
 //! Runs of whole rows, a row a pull, which are given up at any time.
 
 ghost use Rattle.std.specs.Prelude.{◌≡◌, ◌≤◌};
-ghost use Rattle.plan_exec.specs.Actions.{instructions_of};
-ghost use Rattle.plan_exec.specs.Fields.{field_items};
-ghost use Rattle.plan_exec.specs.Tables.{by_tables};
-ghost use Rattle.plan_exec.specs.WholeRows.{Fits};
+ghost use Rattle.plan_steps.specs.Actions.{instructions_of};
+ghost use Rattle.row_fields.specs.Fields.{field_items};
+ghost use Rattle.plan_steps.specs.Tables.{by_tables};
+ghost use Rattle.whole_rows.specs.WholeRows.{Fits};
 ghost use Rattle.query_meaning.specs.Names.{GoesUpWithoutCycles};
 ghost use Rattle.world_query.specs.Answerable.{IsAsked};
 
 use crate::worked::WorkedRow;
 use ecs_world::World;
-use plan_exec::{Facts, Row, RowFrames, RowRun, ShownFact};
+use plan_steps::Facts;
 use query_check::Query;
 use query_plan::Plan;
 use refusing_alloc::Refusing;
+use row_fields::ShownFact;
 use std::alloc::{AllocError, Allocator, Global};
 use std::process::Abort;
 use std::test::Fail;
+use whole_rows::{Row, RowFrames, RowRun};
 use world_facts::WorldFacts;
 use world_query::{plan_in, read_query};
 

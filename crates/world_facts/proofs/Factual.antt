@@ -15,8 +15,8 @@ use Rattle.ecs_model.specs.rows.View.{HasNoRepeats, View, view_of}
 use Rattle.ecs_model.proofs.Decided.{reaches_tells}
 use Rattle.ecs_model.proofs.Members.{filtered}
 use Rattle.fact_rules.specs.Sees.{Sees}
-use Rattle.plan_exec.specs.Factual.{IsFactual}
-use Rattle.plan_exec.specs.Reading.{Reading, indexes}
+use Rattle.plan_steps.specs.Factual.{IsFactual}
+use Rattle.plan_steps.specs.Reading.{Reading, indexes}
 use Rattle.query_meaning.specs.Variables.{contains}
 use Rattle.query_meaning.proofs.Worlds.{worlds_have_no_repeats}
 use Rattle.rel_travel.specs.Coming.{above_list, below_list}

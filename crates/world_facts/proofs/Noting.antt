@@ -2,7 +2,7 @@
 use Rattle.std.proofs.Common.{◌≡◌, ◌<◌, ℕ, List, get_or, length, set, sym, ap, ◌∙◌, subst, inl, inr, Option, Some, IfSome, get_or-set_other}
 use Rattle.std.proofs.lemmas.Grind.{get_or-set_at}
 use Rattle.std.proofs.lemmas.Bool.{cases_eq}
-use Rattle.plan_exec.specs.Climbs.{AreKnown, told}
+use Rattle.plan_steps.specs.Climbs.{AreKnown, told}
 
 -- a word is noted
 pub known_with : (above : ℕ → Option ℕ) (words : List ℕ) (i word : ℕ) → i < length words → IfSome (told word) (λ found. found ≡ above i) → AreKnown above words → AreKnown above (set words i word)

@@ -11,12 +11,12 @@ use Rattle.ecs_model.specs.rows.Level.{top}
 use Rattle.ecs_model.specs.rows.Rows.{level_mentions}
 use Rattle.ecs_model.specs.traits.Rules.{prefab, disabled}
 use Rattle.ecs_model.proofs.Members.{in_flat_map}
-use Rattle.plan_exec.specs.Actions.{cut, cuts, drops, drops_from, entry_instructions, hit_test, instructions_of, is_fixed, item_actions, item_instructions, move_instructions, name_of, pattern_of, term_actions, term_test}
-use Rattle.plan_exec.specs.Cursor.{IsActionAcyclic, IsStepAcyclic, IsTestAcyclic}
-use Rattle.plan_exec.specs.declared.action.Action.{Action}
-use Rattle.plan_exec.specs.declared.action.Action.TheVariants.{Match, Keep, Drop}
-use Rattle.plan_exec.specs.declared.action.Instruction.TheVariants.{By, Open, Close}
-use Rattle.plan_exec.specs.declared.action.Test.TheVariants.{Lacks, Reaches}
+use Rattle.plan_steps.specs.Actions.{cut, cuts, drops, drops_from, entry_instructions, hit_test, instructions_of, is_fixed, item_actions, item_instructions, move_instructions, name_of, pattern_of, term_actions, term_test}
+use Rattle.plan_steps.specs.Made.{IsActionAcyclic, IsStepAcyclic, IsTestAcyclic}
+use Rattle.plan_steps.specs.declared.action.Action.{Action}
+use Rattle.plan_steps.specs.declared.action.Action.TheVariants.{Match, Keep, Drop}
+use Rattle.plan_steps.specs.declared.action.Instruction.TheVariants.{By, Open, Close}
+use Rattle.plan_steps.specs.declared.action.Test.TheVariants.{Lacks, Reaches}
 use Rattle.query_meaning.specs.Plan.{move_of, target_or_any}
 use Rattle.query_meaning.specs.Variables.{Entry, simple, group, entries, entry_at}
 use Rattle.query_meaning.specs.declared.steps.Mode.{Mode}

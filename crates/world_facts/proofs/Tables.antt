@@ -11,7 +11,7 @@ use Rattle.std.proofs.lemmas.Map.Keys.{below_from_sorted}
 use Rattle.ecs_id.specs.declared.TableKey.{TableKey}
 use Rattle.ecs_model.specs.stored.Tables.{lists_table}
 use Rattle.ecs_table.specs.Archetype.{Archetype}
-use Rattle.plan_exec.specs.Reading.{indexes}
+use Rattle.plan_steps.specs.Reading.{indexes}
 use Rattle.query_model.specs.Query.{Query}
 use Rattle.table_store.specs.Store.{ids_at, table_at}
 use Rattle.world_facts.specs.Kept.{KeepsTables}

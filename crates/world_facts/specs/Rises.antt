@@ -4,8 +4,8 @@ use Rattle.ecs_id.specs.Id.{plain}
 use Rattle.ecs_model.specs.BuiltIns.{traversable}
 use Rattle.ecs_model.specs.World.{WorldState, holds, ids_of}
 use Rattle.ecs_model.specs.traits.Keeps.{IsWellFormed}
-use Rattle.plan_exec.specs.Actions.{instructions_of}
-use Rattle.plan_exec.specs.Cursor.{IsStepAcyclic}
+use Rattle.plan_steps.specs.Actions.{instructions_of}
+use Rattle.plan_steps.specs.Made.{IsStepAcyclic}
 use Rattle.query_meaning.specs.Variables.{Entry, simple, group, entries}
 use Rattle.query_meaning.specs.declared.steps.Step.{Step}
 use Rattle.query_model.specs.Query.{Item, must, may, either, equal, differ, Query}

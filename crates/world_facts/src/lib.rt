@@ -14,7 +14,7 @@ use component_index::Pattern;
 use ecs_id::{EntityId, Id, TableKey};
 use ecs_model::built_ins::REFLEXIVE;
 use ecs_world::{Links, World};
-use plan_exec::Facts;
+use plan_steps::Facts;
 use rel_travel::{Graph, Holders, Scratch, above, below, known_depth, pull, reaches};
 use std::alloc::Allocator;
 use std::marker::Model;

@@ -3,7 +3,7 @@ use Rattle.std.proofs.Common.{◌≡◌, ℕ, List, [], ◌∷◌, length, flat_
 use Rattle.component_index.specs.declared.pattern.Pattern.{Pattern}
 use Rattle.ecs_model.specs.rows.View.{view_of}
 use Rattle.ecs_world.specs.Standing.{Standing}
-use Rattle.plan_exec.specs.Reading.{Reading}
+use Rattle.plan_steps.specs.Reading.{Reading}
 use Rattle.query_meaning.specs.Names.{AreNamesLive}
 use Rattle.query_model.specs.Query.{Item, must, may, either, equal, differ, Piece, item, opening, closing, Query}
 use Rattle.query_plan.specs.Plans.{IsPlanned}

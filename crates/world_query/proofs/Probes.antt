@@ -34,20 +34,20 @@ use Rattle.query_model.specs.Query.{must, may, either, equal, differ, Piece, ite
 use Rattle.query_plan.proofs.Simple.{simple_queries_are_led}
 use Rattle.query_plan.specs.Plans.{IsPlanned}
 use Rattle.query_plan.specs.Simple.{has_terms, is_leading}
-use Rattle.plan_exec.specs.Actions.{cut, cuts, entry_instructions, hit_test, instructions_of, is_fixed, is_fixed_ref, move_instructions, name_of, pattern_of, term_test, variable_of}
-use Rattle.plan_exec.specs.declared.action.Action.TheVariants.{Walk, Match, Keep}
-use Rattle.plan_exec.specs.declared.action.Instruction.{Instruction}
-use Rattle.plan_exec.specs.declared.action.Instruction.TheVariants.{By}
-use Rattle.plan_exec.specs.declared.action.Source.TheVariants.{Tables}
-use Rattle.plan_exec.specs.declared.action.Test.{Test}
-use Rattle.plan_exec.specs.declared.action.Test.TheVariants.{Hit, HitAbove, Same, Differ, Reaches, Lacks}
-use Rattle.plan_exec.specs.Probes.{weight}
-use Rattle.plan_exec.specs.Reading.{Reading}
-use Rattle.plan_exec.specs.Row.{Row, narrowed, narrowed_part}
-use Rattle.plan_exec.specs.TableProbes.{Judged, one, any_of, is_judged_once, judged_weight, judging, walk_and_judge}
-use Rattle.plan_exec.specs.Tables.{by_tables, is_shared_test}
-use Rattle.plan_exec.specs.Variables.{is_other}
-use Rattle.plan_exec.specs.Width.{width_of}
+use Rattle.plan_steps.specs.Actions.{cut, cuts, entry_instructions, hit_test, instructions_of, is_fixed, is_fixed_ref, move_instructions, name_of, pattern_of, term_test, variable_of}
+use Rattle.plan_steps.specs.declared.action.Action.TheVariants.{Walk, Match, Keep}
+use Rattle.plan_steps.specs.declared.action.Instruction.{Instruction}
+use Rattle.plan_steps.specs.declared.action.Instruction.TheVariants.{By}
+use Rattle.plan_steps.specs.declared.action.Source.TheVariants.{Tables}
+use Rattle.plan_steps.specs.declared.action.Test.{Test}
+use Rattle.plan_steps.specs.declared.action.Test.TheVariants.{Hit, HitAbove, Same, Differ, Reaches, Lacks}
+use Rattle.plan_steps.specs.Probes.{weight}
+use Rattle.plan_steps.specs.Reading.{Reading}
+use Rattle.plan_steps.specs.Row.{Row, narrowed, narrowed_part}
+use Rattle.plan_steps.specs.TableProbes.{Judged, one, any_of, is_judged_once, judged_weight, judging, walk_and_judge}
+use Rattle.plan_steps.specs.Tables.{by_tables, is_shared_test}
+use Rattle.plan_steps.specs.Variables.{is_other}
+use Rattle.plan_steps.specs.Width.{width_of}
 use Rattle.world_query.specs.Answerable.{searched_part, searched_pattern, table_counts, tables_of_item, tables_of_piece}
 use Rattle.world_query.specs.Probes.{KeptQueriesStayWithin, SimpleQueriesStayWithin, instructions_by}
 

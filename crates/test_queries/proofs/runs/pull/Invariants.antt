@@ -1,6 +1,6 @@
 -- A run and its row go on to fit.
 use Rattle.std.proofs.Common.{◌≡◌}
-use Rattle.plan_exec.specs.WholeRows.{Fits}
+use Rattle.whole_rows.specs.WholeRows.{Fits}
 use Rattle.test_queries.proofs.runs.pull.Given as goal
 
 abbrev pub invariant-loop-at : goal.invariant-loop-at

@@ -2,12 +2,13 @@
 use Rattle.std.proofs.Common.{subst, sym}
 use Rattle.std.specs.Prelude.{List}
 use Rattle.std.specs.List.{All}
-use Rattle.plan_exec.specs.Actions.{instructions_of}
-use Rattle.plan_exec.specs.Cursor.{IsStepAcyclic}
-use Rattle.plan_exec.specs.Fields.{IsFieldAcyclic}
-use Rattle.plan_exec.specs.declared.action.Instruction.{Instruction}
-use Rattle.plan_exec.proofs.FieldUps.{fields_go_up, steps_go_up}
-use Rattle.plan_exec.proofs.TabledSteps.{tabled_acyclic}
+use Rattle.plan_steps.specs.Actions.{instructions_of}
+use Rattle.plan_steps.specs.Made.{IsStepAcyclic}
+use Rattle.row_fields.specs.Fields.{IsFieldAcyclic}
+use Rattle.plan_steps.specs.declared.action.Instruction.{Instruction}
+use Rattle.plan_steps.proofs.StepUps.{steps_go_up}
+use Rattle.row_fields.proofs.FieldUps.{fields_go_up}
+use Rattle.plan_steps.proofs.TabledSteps.{tabled_acyclic}
 use Rattle.query_model.specs.Query.{Item}
 use Rattle.test_queries.proofs.runs.run_frames.Goals as goal
 

@@ -6,8 +6,8 @@ use Rattle.std.proofs.lemmas.List.Elements.{All-set}
 use Rattle.std.proofs.lemmas.List.Folds.{flat_map-map}
 use Rattle.ecs_model.specs.Print.{field_text}
 use Rattle.ecs_model.specs.rows.View.{view_of}
-use Rattle.plan_exec.specs.declared.field_places.ShownFact.{ShownFact}
-use Rattle.plan_exec.specs.Fields.{shown_field}
+use Rattle.row_fields.specs.declared.field_places.ShownFact.{ShownFact}
+use Rattle.row_fields.specs.Fields.{shown_field}
 use Rattle.world_query.specs.Lines.{IsLabel, line_end, written}
 use Rattle.world_query.proofs.Kept.{texts_lent}
 use Rattle.world_query.proofs.Printed.{line_ended, line_goes_on}

@@ -5,7 +5,7 @@ use Rattle.std.specs.List.{zip}
 use Rattle.std.proofs.lemmas.Result.{on_ok_weaker}
 use Rattle.ecs_model.specs.Print.{field_text}
 use Rattle.ecs_model.specs.rows.View.{view_of}
-use Rattle.plan_exec.specs.Fields.{shown_field}
+use Rattle.row_fields.specs.Fields.{shown_field}
 use Rattle.world_query.specs.Lines.{row_alone, started, starts_in, written}
 use Rattle.world_query.proofs.Kept.{texts_lent}
 use Rattle.world_query.proofs.row_lines.write_row.Goals as goal
