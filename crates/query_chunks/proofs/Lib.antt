@@ -1,0 +1,11 @@
+pub mod Bytes
+pub mod Columns
+pub mod Items
+pub mod Judged
+pub mod Led
+pub mod Levels
+pub mod Named
+pub mod Permuted
+pub mod Running
+pub mod Standing
+pub mod Terms
