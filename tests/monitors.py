@@ -1,4 +1,4 @@
-"""Scripts with monitors: of local queries, many entities, and commands of every kind with a twin of each monitor; of others, commands that don't concern them."""
+"""Scripts with monitors: of local queries and of others, commands of every kind with a twin of each monitor; many entities; and commands that don't concern them."""
 import random
 
 LOCAL = [
@@ -26,6 +26,26 @@ OTHERS = [
     "(Likes,$x), ?Planet($x), Hot(up)",
     "(Likes,$x), Likes($x,$this)",
     "(Likes,$x), Hot($x) || Planet($x)",
+    "Hot(up) || Planet, Position",
+    "*(up), Hot, !Planet",
+    "(*,_), Hot(up), ?Disabled",
+    "Prefab, Planet(up)",
+    "?Prefab, ?Disabled, Hot(up), Position",
+    "Position, !{ Hot(up), !{ Planet } }",
+    "!{ (Likes,$x), !{ Hot($x) } }, Planet",
+    "(_,$x), Planet($x), !Hot",
+    "(Likes,$x), (Likes,$y), Planet($x), Hot($y), $this != $x",
+    "(Likes,$x), Hot(up), !Planet(up)",
+]
+
+# of others with whom `$this` holds no pair: any of them may matter for it
+UNTIED = [
+    "Hot, Planet($x), Position($x)",
+    "_, Likes($a,$b), Hot($a), Planet($b)",
+    "Position, !{ Hot($x), Planet($x), Disabled($x) }",
+    "Planet, Hot($x), Position($y), $x != $y",
+    "(Likes,$x), (ChildOf,$p), Likes($p,$y), Hot($y)",
+    "Planet, !{ Likes($a,$b), Likes($b,$a) }",
 ]
 
 
@@ -68,6 +88,19 @@ def unconcerned(entities, commands):
     return bytes_of(lines)
 
 
+def of_anybody(variables):
+    """A monitor of somebody with any id, beside so many others with any id."""
+    return bytes_of(["monitor m _, " + ", ".join(f"_($v{number})" for number in range(variables))])
+
+
+def of_three(entities):
+    """A monitor with three variables that are anybody with a tag, and so many entities that have it."""
+    lines = making(["A", "T"])
+    for number in range(entities):
+        lines += [f"entity E{number}", f"add E{number} A", f"add E{number} T"]
+    return bytes_of(lines + ["monitor m A, T($a), T($b), T($c)", "remove E0 T", "remove E1 A"])
+
+
 def command(draw, count):
     """A command on one of so many entities."""
     entity, other = (f"E{draw.randrange(count)}" for _ in range(2))
@@ -84,14 +117,22 @@ def command(draw, count):
     return [f"delete {entity}", f"entity {entity}"]
 
 
+def pair_of(number, text, more):
+    """A monitor of a text beside a twin whose query has more terms, which make no difference to who matches."""
+    return [f"monitor m{number} {text}", f"monitor n{number} {text}, {more}"]
+
+
 def twins(texts, more, commands):
-    """Commands of every kind, with a monitor of each text beside a twin whose query has more terms, which make no difference to who matches."""
+    """Commands of every kind, with a monitor of each text and its twin. Now and then both are dropped, and stored again."""
     draw = random.Random(11)
     lines = making(["Planet", "Hot", "Likes", "Sun"]) + [f"entity E{number}" for number in range(24)]
     for number, text in enumerate(texts):
-        lines += [f"monitor m{number} {text}", f"monitor n{number} {text}, {more}"]
+        lines += pair_of(number, text, more)
     for _ in range(commands):
         lines += command(draw, 24)
+        if draw.randrange(50) == 0:
+            number = draw.randrange(len(texts))
+            lines += [f"drop n{number}", f"drop m{number}"] + pair_of(number, texts[number], more)
     return bytes_of(lines)
 
 

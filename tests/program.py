@@ -254,8 +254,8 @@ def local_monitors_cost_what_changed(program, room):
 
 
 def are_told_as_twins(program, texts, more):
-    """2,000 commands: whether each monitor is told what its twin is told, whose whole rows are taken."""
-    output = run_words(program, [], monitors.twins(texts, more, 2_000)).stdout
+    """20,000 commands: whether each monitor is told what its twin is told, whose whole rows are taken."""
+    output = run_words(program, [], monitors.twins(texts, more, 20_000)).stdout
     told = [[monitors.told_to(output, f"{side}{number}") for side in "mn"] for number in range(len(texts))]
     return all(one == other and len(one) >= 10 for one, other in told)
 
@@ -267,7 +267,15 @@ def local_monitors_are_told_as_whole_rows_tell(program, room):
 
 def other_monitors_are_told_as_whole_rows_tell(program, room):
     """A twin asks Sun for any id that it may have, so each fact concerns it for somebody who isn't told by its own."""
-    return are_told_as_twins(program, monitors.OTHERS, "?*(Sun)")
+    return are_told_as_twins(program, monitors.OTHERS + monitors.UNTIED, "?*(Sun)")
+
+
+def monitors_of_few_bytes_take_little_memory(program, room):
+    """Monitors whose ten and sixteen variables are anybody, and one of three variables over 400 entities: in less than a second, and in 2 MB more than a script of one line."""
+    begun = time.monotonic()
+    scripts = [monitors.of_anybody(10), monitors.of_anybody(16), monitors.of_three(400)]
+    peaks = [peak_of(program, script, room) for script in scripts]
+    return time.monotonic() - begun < 1 and max(peaks) <= peak_of(program, b"entity A\n", room) + 2_000
 
 
 def unconcerned_monitors_cost_nothing(program, room):
@@ -330,6 +338,7 @@ CASES = [
     local_monitors_are_told_as_whole_rows_tell,
     other_monitors_are_told_as_whole_rows_tell,
     unconcerned_monitors_cost_nothing,
+    monitors_of_few_bytes_take_little_memory,
     kept_queries_are_right_in_worlds_that_grow,
 ]
 

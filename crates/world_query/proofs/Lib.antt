@@ -4,6 +4,7 @@ mod Kept
 mod Printed
 pub mod Asked
 mod Answered
+mod Matched
 mod Probes
 mod Planned
 mod Chains

@@ -5,6 +5,7 @@
 #![tactic(auto)]
 
 mod answering;
+mod candidates;
 mod labels;
 pub mod laws;
 mod names;
@@ -14,8 +15,9 @@ mod rows;
 mod sheet;
 mod table_counts;
 
+pub use names::Names;
 pub use reading::read_query;
 pub use rows::{
-    QUERY_ROOM, asking_in, matching, matching_among, plan_for_kept, plan_in, write_planned_rows,
-    write_rows, write_rows_in,
+    QUERY_ROOM, asking_in, matching, matching_among, matching_by_asking, plan_for_kept, plan_in,
+    write_planned_rows, write_rows, write_rows_in,
 };
