@@ -1,5 +1,5 @@
 -- The instructions of a plan ask ancestors along what the query asks them along.
-use Rattle.std.proofs.Common.{◌≡◌, ℕ, IsTrue, Bool, true, false, cond, List, [], ◌∷◌, ◌++◌, map, flat_map, Option, Some, None, refl, arith}
+use Rattle.std.proofs.Common.{◌≡◌, ℕ, IsTrue, Bool, true, false, cond, List, [], ◌∷◌, ◌++◌, drop, map, flat_map, take, Option, Some, None, refl, arith}
 use Rattle.std.specs.List.{All, Contains}
 use Rattle.std.proofs.lemmas.List.Elements.{All-append, All-cons, All-contains, All-map, All-nil, Contains-append_left, Contains-append_right}
 use Rattle.std.proofs.lemmas.Option.{get_or_from_slice_get, slice_get_within}
@@ -11,8 +11,9 @@ use Rattle.ecs_model.specs.rows.Level.{top}
 use Rattle.ecs_model.specs.rows.Rows.{level_mentions}
 use Rattle.ecs_model.specs.traits.Rules.{prefab, disabled}
 use Rattle.ecs_model.proofs.Members.{in_flat_map}
-use Rattle.plan_steps.specs.Actions.{cut, cuts, drops, drops_from, entry_instructions, hit_test, instructions_of, is_fixed, item_actions, item_instructions, move_instructions, name_of, pattern_of, term_actions, term_test}
+use Rattle.plan_steps.specs.Actions.{cut, cuts, drops, drops_from, entry_instructions, hit_test, instructions_of, is_fixed, item_actions, item_instructions, move_instructions, moves_of, name_of, pattern_of, steps_to_this, term_actions, term_test}
 use Rattle.plan_steps.specs.Made.{IsActionAcyclic, IsStepAcyclic, IsTestAcyclic}
+use Rattle.plan_steps.proofs.Nested.{all_instructions}
 use Rattle.plan_steps.specs.declared.action.Action.{Action}
 use Rattle.plan_steps.specs.declared.action.Action.TheVariants.{Match, Keep, Drop}
 use Rattle.plan_steps.specs.declared.action.Instruction.TheVariants.{By, Open, Close}
@@ -108,7 +109,7 @@ module _ (ids : ℕ → List Id) where
     move_acyclic (Enter i) = All-cons (IsStepAcyclic ids) Open [] tt (All-nil (IsStepAcyclic ids))
     move_acyclic Leave = All-cons (IsStepAcyclic ids) Close [] tt (All-nil (IsStepAcyclic ids))
 
-    moves_acyclic : (steps : List Step) → All (IsStepAcyclic ids) (flat_map (λ s. move_instructions q (move_of s)) steps)
+    moves_acyclic : (steps : List Step) → All (IsStepAcyclic ids) (moves_of q steps)
     moves_acyclic [] = All-nil (IsStepAcyclic ids)
     moves_acyclic (s ∷ steps) = All-append (IsStepAcyclic ids) (move_instructions q (move_of s)) _ (move_acyclic (move_of s)) (moves_acyclic steps)
 
@@ -128,8 +129,9 @@ module _ (ids : ℕ → List Id) where
 
     pub instructions_acyclic : (steps : List Step) → All (IsStepAcyclic ids) (instructions_of q steps)
     instructions_acyclic steps =
-        All-append (IsStepAcyclic ids) (flat_map (λ s. move_instructions q (move_of s)) steps) (map By (map Keep (cuts q))) (moves_acyclic steps)
-        (by_acyclic (map Keep (cuts q)) (All-map (IsActionAcyclic ids) Keep (cuts q) cuts_acyclic))
+        let n : ℕ = steps_to_this q steps 0 in
+        let tests = by_acyclic (map Keep (cuts q)) (All-map (IsActionAcyclic ids) Keep (cuts q) cuts_acyclic) in
+        all_instructions (IsStepAcyclic ids) q steps (moves_acyclic (take n steps)) (moves_acyclic (drop n steps)) tests
 
 pub rises_are_acyclic : RisesAreAcyclic
 rises_are_acyclic w q steps sound rising =

@@ -20,11 +20,12 @@ use Rattle.ecs_model.specs.rows.Rows.{level_mentions}
 use Rattle.ecs_model.specs.traits.Rules.{prefab, disabled}
 use Rattle.query_meaning.proofs.Flat.{items_from, items-entries}
 use Rattle.query_meaning.specs.Names.{entry_names, name_in, term_names}
-use Rattle.query_meaning.specs.Plan.{move_of, target_or_any}
+use Rattle.query_meaning.specs.Plan.{target_or_any}
 use Rattle.query_meaning.specs.Variables.{Entry, simple, group, entries, entry_at}
 use Rattle.query_meaning.specs.declared.steps.Mode.TheVariants as mode
 use Rattle.query_meaning.specs.declared.steps.Step.{Step}
-use Rattle.query_meaning.specs.declared.steps.Step.TheVariants.{Check}
+use Rattle.query_meaning.specs.declared.steps.Move.TheVariants.{Deal}
+use Rattle.query_meaning.specs.declared.steps.Step.TheVariants.{Check, Scan}
 use Rattle.query_model.specs.declared.query.Ref.{Ref}
 use Rattle.query_model.specs.declared.query.Ref.TheVariants.{Is, Var, Any, One}
 use Rattle.query_model.specs.declared.query.Term.{Term}
@@ -34,7 +35,7 @@ use Rattle.query_model.specs.Query.{must, may, either, equal, differ, Piece, ite
 use Rattle.query_plan.proofs.Simple.{simple_queries_are_led}
 use Rattle.query_plan.specs.Plans.{IsPlanned}
 use Rattle.query_plan.specs.Simple.{has_terms, is_leading}
-use Rattle.plan_steps.specs.Actions.{cut, cuts, entry_instructions, hit_test, instructions_of, is_fixed, is_fixed_ref, move_instructions, name_of, pattern_of, term_test, variable_of}
+use Rattle.plan_steps.specs.Actions.{cut, cuts, entry_instructions, hit_test, instructions_of, is_fixed, is_fixed_ref, item_takes_this, moves_of, name_of, pattern_of, simple_of, takes_this, term_test, variable_of, with_cuts}
 use Rattle.plan_steps.specs.declared.action.Action.TheVariants.{Walk, Match, Keep}
 use Rattle.plan_steps.specs.declared.action.Instruction.{Instruction}
 use Rattle.plan_steps.specs.declared.action.Instruction.TheVariants.{By}
@@ -46,8 +47,10 @@ use Rattle.plan_steps.specs.Reading.{Reading}
 use Rattle.plan_steps.specs.Row.{Row, narrowed, narrowed_part}
 use Rattle.plan_steps.specs.TableProbes.{Judged, one, any_of, is_judged_once, judged_weight, judging, walk_and_judge}
 use Rattle.plan_steps.specs.Tables.{by_tables, is_shared_test}
-use Rattle.plan_steps.specs.Variables.{is_other}
+use Rattle.plan_steps.specs.Variables.{asks_others, is_other}
 use Rattle.plan_steps.specs.Width.{width_of}
+use Rattle.plan_steps.proofs.Nested.{cut_from, split_is}
+use Rattle.plan_steps.proofs.TableProbes.{cut_last}
 use Rattle.world_query.specs.Answerable.{searched_part, searched_pattern, table_counts, tables_of_item, tables_of_piece}
 use Rattle.world_query.specs.Probes.{KeptQueriesStayWithin, SimpleQueriesStayWithin, instructions_by}
 
@@ -173,7 +176,7 @@ module _ (q : Query) (plain : (k : ℕ) → is_plain (entry_at q k) ≡ true) wh
   abbrev judged_at : ℕ → List Judged
   judged_at j = judged_of (entry_at q j)
 
-  all_checked : (js : List ℕ) → flat_map (λ s. move_instructions q (move_of s)) (map Check js) ≡ flat_map judging (flat_map judged_at js)
+  all_checked : (js : List ℕ) → moves_of q (map Check js) ≡ flat_map judging (flat_map judged_at js)
   all_checked [] = refl
   all_checked (j ∷ js) = (λ k. checked (entry_at q j) (plain j) k ++ all_checked js k) ∙ sym (flat_map-append judging (judged_at j) (flat_map judged_at js))
 
@@ -231,14 +234,25 @@ leads (Some (group level own inner)) h = absurd (false≢true h)
 scanned : (level : ℕ) (t : Term) → asks_one_id t ≡ true → entry_instructions mode.Scan (Some (simple level (must t))) ≡ By (Walk (variable_of t.source) (Tables (pattern_of t))) ∷ []
 scanned level t h = ap (λ b. map By (Walk (variable_of t.source) (Tables (pattern_of t)) ∷ (if b then [] else Match t.source (pattern_of t) ∷ []))) (fixed t h)
 
--- the steps of a query that a term leads
+-- `$this` has its entity behind it
+first_takes : (r : Ref) (b : Bool) → is_first r ≡ true → not (is_other 0 r && b) ≡ true
+first_takes (Var u) b h = ap (λ y. not (not y && b)) h
+first_takes (Is e) b h = absurd (false≢true h)
+first_takes Any b h = absurd (false≢true h)
+first_takes One b h = absurd (false≢true h)
+
+-- the steps of a query that a term leads: `$this` is judged behind its items
 led_steps : (q : Query) (first : ℕ) (t : Term) (js : List ℕ) → ((k : ℕ) → is_plain (entry_at q k) ≡ true) → entry_instructions mode.Scan (entry_at q first) ≡ By (Walk (variable_of t.source) (Tables (pattern_of t))) ∷ []
-    → (entry_instructions mode.Scan (entry_at q first) ++ flat_map (λ s. move_instructions q (move_of s)) (map Check js)) ++ map By (map Keep (cuts q))
-    ≡ walk_and_judge (variable_of t.source) (pattern_of t) (flat_map (λ j. judged_of (entry_at q j)) js ++ map one (cuts q))
-led_steps q first t js plain scan =
+    → takes_this q (Deal mode.Scan first) ≡ true → instructions_of q (Scan first ∷ map Check js) ≡ walk_and_judge (variable_of t.source) (pattern_of t) (flat_map (λ j. judged_of (entry_at q j)) js ++ map one (cuts q))
+led_steps q first t js plain scan taken =
     let items : List Judged = flat_map (λ j. judged_of (entry_at q j)) js in
     let walk : Instruction = By (Walk (variable_of t.source) (Tables (pattern_of t))) in
-    (λ k. (scan k ++ all_checked q plain js k) ++ kept (cuts q) k)
+    let checks : List Step = map Check js in
+    split_is q (Scan first ∷ checks) 0
+    ∙ (λ k. scan k ++ (if taken k then with_cuts q (moves_of q checks) else cut_from q checks 0))
+    ∙ ap (λ ss. walk ∷ with_cuts q ss) (all_checked q plain js)
+    ∙ ap (λ ss. walk ∷ ss) (cut_last q items (all_shared q plain 0 js))
+    ∙ (λ k. walk ∷ (flat_map judging items ++ kept (cuts q) k))
     ∙ ap (λ ss. walk ∷ ss) (sym (flat_map-append judging items (map one (cuts q))))
 
 -- ---- its tables
@@ -317,6 +331,7 @@ led q lists planned s t by =
     let js : List ℕ = filter (λ i. not (first == i)) (range_with_len 0 count) in
     let u : ℕ = variable_of x.source in
     let cut = all_cuts u q in
+    let taken = ap (λ o. item_takes_this (simple_of o)) it.is ∙ first_takes x.source (asks_others 0 (pattern_of x)) (asks_one x asks).source in
     let few : length js ≤ count =
     omega (arith, length-filter (λ i. not (first == i)) (range_with_len 0 count), count_by-le-length (λ i. not (first == i)) (range_with_len 0 count), length-range_with_len 0 count) in
     record {
@@ -328,7 +343,7 @@ led q lists planned s t by =
       asks = asks;
       shortest = (leader.1).1;
       shared = list_all-append (is_judged_once u) (flat_map (λ i. judged_of (entry_at q i)) js) (map one (cuts q)) ∙ and_from _ _ (all_shared q plain u js) cut.shared;
-      steps = ap (λ ss. by_tables (instructions_of q ss)) leader.2 ∙ ap by_tables (led_steps q first x js plain (ap (entry_instructions mode.Scan) it.is ∙ scanned it.level x asks));
+      steps = ap (λ ss. by_tables (instructions_of q ss)) leader.2 ∙ ap by_tables (led_steps q first x js plain (ap (entry_instructions mode.Scan) it.is ∙ scanned it.level x asks) taken);
       once = omega (arith, sum_by-append judged_weight (flat_map (λ i. judged_of (entry_at q i)) js) (map one (cuts q)), all_light q plain js, cut.none, few);
     }
 
