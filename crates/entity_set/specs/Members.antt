@@ -1,0 +1,24 @@
+-- The numbers whose bits are set in words.
+use Rattle.std.specs.Prelude.{ℕ, ◌*◌, ◌/◌, ◌%◌, ◌==◌, ◌&&◌, Bool, not, List, filter, length, slice_index}
+use Rattle.std.specs.Int.{bit_at}
+use Rattle.std.specs.List.{range_with_len}
+
+-- whether the bit of a number is set
+unfoldable pub has : List ℕ → ℕ → Bool
+has words e = bit_at (slice_index words (e / 64)) (e % 64) == 1
+
+-- whether it is set in some words and not in others
+abbrev pub has_else : List ℕ → List ℕ → ℕ → Bool
+has_else words others e = has words e && not (has others e)
+
+-- the numbers of the word at a place
+unfoldable pub indexes_of : ℕ → List ℕ
+indexes_of place = range_with_len (64 * place) 64
+
+-- all whose bits are set, in ascending order
+unfoldable pub members : List ℕ → List ℕ
+members words = filter (has words) (range_with_len 0 (64 * length words))
+
+-- what is seen of a set
+pub record Entities : Type 0 where
+  pub items : List ℕ
