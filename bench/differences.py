@@ -1,4 +1,6 @@
 """What one more of something costs: the instructions of some scripts, each added or taken away, by how many there are of it."""
+from functools import partial
+
 OBSERVERS = 1_000
 COMMANDS = 1_000
 STORED = 1_024
@@ -53,7 +55,30 @@ def asked():
     return [(1, stored + [*rows(STORED)]), (-1, stored)], STORED
 
 
+def moving(text, count):
+    """A command that takes one entity out of so many rows of a monitor, or puts it back."""
+    world = ["component Position x:i32 y:i32", *(f"entity {name}" for name in ("Planet", "Hot", "Likes", "Sun")), "add Sun Hot"]
+    for number in range(count):
+        world += [f"entity E{number}", f"add E{number} (ChildOf,Sun)", f"add E{number} (Likes,Sun)", f"set E{number} Position {number} 1"]
+    world.append(f"monitor m {text}")
+    moves = []
+    for number in range(COMMANDS // 2):
+        entity = f"E{number * 7919 % count}"
+        moves += [f"remove {entity} Position", f"add {entity} Position"]
+    return [(1, world + moves), (-1, world)], COMMANDS
+
+
+# by a name, a query that goes up, has a variable, a group or wildcards
+MONITORS = {
+    "up": "Hot(up), Position",
+    "pair": "(Likes,$x), Hot($x), Position",
+    "group": "Position, !{ (Likes,$x), Planet($x) }",
+    "any": "(Likes,*), Position, Hot(up) || Planet",
+}
+ROWS = [500, 8_000, 64_000]
+
 DIFFERENCES = {"untold": untold, "dropped": dropped, "asked": asked}
+DIFFERENCES.update((f"moved_{name}_{count}", partial(moving, text, count)) for name, text in MONITORS.items() for count in ROWS)
 
 
 def scripts(name):

@@ -88,6 +88,28 @@ def unconcerned(entities, commands):
     return bytes_of(lines)
 
 
+# of the rows of many entities, of which a command on one moves that one alone
+MANY_ROWS = [
+    "Hot(up), Position",
+    "(Likes,$x), Hot($x), Position",
+    "Position, !{ (Likes,$x), Planet($x) }",
+    "(Likes,*), Position, Hot(up) || Planet",
+]
+
+
+def many_rows(text, rows, commands):
+    """A world of so many rows of the monitor, each a child of Sun that likes it, and commands that take Position from one of them or give it back."""
+    lines = making(["Planet", "Hot", "Likes", "Sun"]) + ["add Sun Hot"]
+    for number in range(rows):
+        lines += [f"entity E{number}", f"add E{number} (ChildOf,Sun)", f"add E{number} (Likes,Sun)", f"set E{number} Position {number} 1"]
+    lines.append(f"monitor m {text}")
+    draw = random.Random(17)
+    for _ in range(commands // 2):
+        entity = f"E{draw.randrange(rows)}"
+        lines += [f"remove {entity} Position", f"add {entity} Position"]
+    return bytes_of(lines)
+
+
 def of_anybody(variables):
     """A monitor of somebody with any id, beside so many others with any id."""
     return bytes_of(["monitor m _, " + ", ".join(f"_($v{number})" for number in range(variables))])

@@ -278,6 +278,16 @@ def monitors_of_few_bytes_take_little_memory(program, room):
     return time.monotonic() - begun < 1 and max(peaks) <= peak_of(program, b"entity A\n", room) + 2_000
 
 
+def monitors_cost_who_moves(program, room):
+    """Monitors that go up, have variables, groups or wildcards, each of 30,000 rows of which 10,000 commands move one, in less than a second each."""
+    for text in monitors.MANY_ROWS:
+        begun = time.monotonic()
+        ran = run_words(program, [], monitors.many_rows(text, 30_000, 10_000))
+        if time.monotonic() - begun >= 1 or not answers(ran, 0) or ran.stdout.count(b"\n") != 10_000:
+            return False
+    return True
+
+
 def unconcerned_monitors_cost_nothing(program, room):
     """30,000 entities, a monitor that asks ancestors, and 10,000 commands that don't concern it, in less than a second; and three that do."""
     script = monitors.unconcerned(30_000, 10_000)
@@ -339,6 +349,7 @@ CASES = [
     other_monitors_are_told_as_whole_rows_tell,
     unconcerned_monitors_cost_nothing,
     monitors_of_few_bytes_take_little_memory,
+    monitors_cost_who_moves,
     kept_queries_are_right_in_worlds_that_grow,
 ]
 

@@ -1,5 +1,6 @@
 pub mod Answering
-pub mod Joined
+pub mod Moving
+pub mod Nobody
 pub mod Counted
 pub mod First
 pub mod Found

@@ -1,7 +1,6 @@
 -- What telling events leaves of a session.
 use Rattle.std.specs.Prelude.{◌≡◌, ℕ, ◌+◌, Bool, true, false, not, ◌&&◌, List, [], ◌∷◌, ◌++◌, All, AllPairs, map, flat_map, length, slice_get, take, Option, None, Some, option_map, IfSome, if◌then◌else◌}
 use Rattle.std.specs.declared.string.String.{String}
-use Rattle.std.specs.declared.vec.Vec.{Vec}
 use Rattle.std.specs.Option.{option_map_or}
 use Rattle.std.specs.List.{list_any}
 use Rattle.std.specs.List.Sorted.{IsStrictlyIncreasing}
@@ -11,6 +10,7 @@ use Rattle.std.proofs.lemmas.List.{map-append, length-map}
 use Rattle.std.proofs.lemmas.List.Elements.{All-map}
 use Rattle.std.proofs.lemmas.List.Kept.{AllPairs-cons}
 use Rattle.std.proofs.lemmas.Option.{get_or_from_slice_get, slice_get-map, slice_get_within}
+use Rattle.entity_set.specs.Members.{Entities}
 use Rattle.indexmap.specs.IndexMap.{set_value_at}
 use Rattle.query_model.specs.Local.{is_local}
 use Rattle.query_model.specs.Query.{Query}
@@ -114,13 +114,13 @@ module _ (f : Held → Option (List ℕ)) where
     none_placed is e = λ gs.
         ap (λ ps. with_placed ps gs) e ∙ (so gs ∙ (sym (rows_none (map f (take i hs)) gs) ∙ ap (λ rs. with_rows rs gs) (sym (rows_next None is))))
 
-module _ {A : Type 0} where
-  -- the entities of one more query's rows
-  pub placed_pushed : (rows all : List (ℕ × Vec ℕ A)) (n : ℕ) (these : Vec ℕ A) → all ≡ rows ++ (n, these) ∷ [] → placed_in all ≡ placed_in rows ++ (n, these.items) ∷ []
-  placed_pushed rows all n these e = ap placed_in e ∙ map-append (λ (p : ℕ × Vec ℕ A). (p.0, (p.1).items)) rows ((n, these) ∷ [])
+-- the entities of one more query's rows
+pub placed_pushed : (rows all : List (ℕ × Entities)) (n : ℕ) (these : Entities) → all ≡ rows ++ (n, these) ∷ [] → placed_in all ≡ placed_in rows ++ (n, these.items) ∷ []
+placed_pushed rows all n these e = ap placed_in e ∙ map-append (λ (p : ℕ × Entities). (p.0, (p.1).items)) rows ((n, these) ∷ [])
 
+module _ {A : Type 0} where
   -- one of those that were told is put in its place
-  module _ (rows old : List (ℕ × Vec ℕ A)) (n : ℕ) (these : Vec ℕ A) (es : List (String A × StoredQuery A)) (goal : List Held)
+  module _ (rows old : List (ℕ × Entities)) (n : ℕ) (these : Entities) (es : List (String A × StoredQuery A)) (goal : List Held)
       (popped : old ≡ rows ++ (n, these) ∷ []) (so : with_placed (placed_in old) (map held_of es) ≡ goal) where
     then_goal : with_placed (placed_in rows) (with_these_at n these.items (map held_of es)) ≡ goal
     then_goal = sym (placed_more (placed_in rows) n these.items (map held_of es)) ∙ (ap (λ ps. with_placed ps (map held_of es)) (sym (placed_pushed rows old n these popped)) ∙ so)

@@ -21,6 +21,7 @@ use Rattle.touched_entities.specs.Concerned.{is_concerned}
 use Rattle.touched_entities.proofs.Unconcerned.{unconcerned_queries_match_on}
 use Rattle.watch_meaning.specs.Since.{IsAfter, left_event, told_since}
 use Rattle.world_events.specs.Hits.{may_tell}
+use Rattle.world_events.specs.Told.{told_of_moves}
 use Rattle.ecs_observe.specs.Standing.{Held, WasNow, is_compared, is_monitor, is_searched, is_told_locally, rows_before, rows_put, told_to, with_rows, with_these}
 
 pub monitor_is : (kind : StoredKind) → is_monitor kind ≡ true → kind ≡ Monitor
@@ -56,6 +57,13 @@ module _ (w : WorldState) (changed : Changed) (h : Held) (was : WasNow w changed
   -- what is held of one that is compared
   pub rows_were : h.these ≡ matching (view_before w changed) h.query
   rows_were = was its_kind not_local
+
+  -- it is told who has left them and who has entered them
+  pub told_of_compared : told_of_moves w changed h.name (missing_from h.these (matching (view_of w) h.query)) (missing_from (matching (view_of w) h.query) h.these) ≡ told_to w changed h
+  unfolding told_since
+  told_of_compared =
+      sym (ap (λ k. told_since w changed h.name k h.query (rows_before w changed h)) its_kind
+      ∙ ap (λ b. told_since w changed h.name Monitor h.query (if b then matching (view_before w changed) h.query else h.these)) not_local)
 
 module _ (w : WorldState) (changed : Changed) (h : Held) (kept : IsWellFormed w) (after : IsAfter w changed) (was : WasNow w changed h)
     (compared : is_compared h ≡ true) (spared : is_concerned h.query changed ≡ false) where

@@ -4,3 +4,4 @@ pub mod Answers
 pub mod Storing
 pub mod Telling
 pub mod Lists
+pub mod Moves

@@ -1,8 +1,8 @@
 -- What is seen of the parts of a session.
 use Rattle.std.specs.Prelude.{ℕ, List, Option, map, option_map}
 use Rattle.std.specs.declared.string.String.{String}
-use Rattle.std.specs.declared.vec.Vec.{Vec}
 use Rattle.std.specs.String.{string_bytes}
+use Rattle.entity_set.specs.Members.{Entities}
 use Rattle.ecs_observe.specs.Standing.{Held}
 use Rattle.ecs_observe.specs.declared.stored.StoredQuery.{StoredQuery}
 
@@ -15,9 +15,9 @@ abbrev pub held_of : {A : Type 0} → String A × StoredQuery A → Held
 held_of p = held_as (string_bytes p.0) p.1
 
 -- the entities of the rows of a query, if any are put in the place of those that are held
-abbrev pub put_in : {A : Type 0} → Option (Vec ℕ A) → Option (List ℕ)
+abbrev pub put_in : Option Entities → Option (List ℕ)
 put_in rows = option_map (λ r. r.items) rows
 
 -- the entities of the rows of some queries, each behind the place of its query
-abbrev pub placed_in : {A : Type 0} → List (ℕ × Vec ℕ A) → List (ℕ × List ℕ)
+abbrev pub placed_in : List (ℕ × Entities) → List (ℕ × List ℕ)
 placed_in rows = map (λ p. (p.0, (p.1).items)) rows

@@ -8,6 +8,7 @@ mod asking;
 mod commands;
 mod errors;
 mod kept;
+mod moves;
 mod pinning;
 mod session;
 mod stored;

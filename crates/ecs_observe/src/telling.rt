@@ -3,28 +3,23 @@
 ghost use Rattle.std.specs.Prelude.{◌≡◌, [], ◌++◌, ◌&&◌, IfOk, OnErr, OnOk, All, map, flat_map, false, not, true};
 ghost use Rattle.std.specs.List.{list_any};
 ghost use Rattle.std.specs.String.{string_bytes};
-ghost use Rattle.ecs_model.specs.rows.View.{view_of};
 ghost use Rattle.ecs_model.specs.stored.Session.{after_events, events};
-ghost use Rattle.ecs_model.specs.stored.Watches.{matching};
 ghost use Rattle.ecs_observe.specs.Lists.{KeepLists};
 ghost use Rattle.ecs_observe.specs.Parts.{held_as, held_of, placed_in, put_in};
 ghost use Rattle.ecs_observe.specs.Standing.{ArePlaced, IsHeld, WasNow, has_searched, is_compared, is_monitor, is_searched, is_told_locally, rows_put, session_of, told_to, with_placed};
 ghost use Rattle.ecs_observe.specs.Telling.{AreTouchedBy};
-ghost use Rattle.query_meaning.specs.Standing.{IsCurrentIn};
 ghost use Rattle.query_model.specs.Local.{is_local};
-ghost use Rattle.touched_entities.specs.Before.{view_before};
 ghost use Rattle.touched_entities.specs.Concerned.{is_concerned};
-ghost use Rattle.touched_entities.specs.Moving.{TellsRows};
 ghost use Rattle.watch_meaning.specs.Since.{IsAfter};
 
 use crate::Session;
-use crate::asking::rows_with_found;
-use crate::stored::{JudgedPlan, StoredQueries, StoredQuery, has_local_monitor};
-use crate::watched::whole_rows;
+use crate::moves::rows_after;
+use crate::stored::{StoredQueries, StoredQuery, has_local_monitor};
 use ecs_world::{Changes, World};
+use entity_set::EntitySet;
 use local_queries::{Touched, local_told};
 use std::alloc::{AllocError, Allocator};
-use touched_entities::{Moved, is_concerned, rows_but_for_asked, touched};
+use touched_entities::{is_concerned, touched};
 use world_events::{Audience, Event, Moves, may_tell, tell, tell_moves};
 
 impl<A: Allocator + Copy> Session<A> {
@@ -91,7 +86,7 @@ fn tell_all<A: Allocator + Copy>(
     changes: &Changes<A>,
     touched: &[Touched<'_, A>],
     stored: &StoredQueries<A>,
-    rows: &mut Vec<(usize, Vec<u32, A>), A>,
+    rows: &mut Vec<(usize, EntitySet<A>), A>,
     compared: &mut u64,
     events: &mut Vec<Event<A>, A>,
 ) -> Result<(), AllocError>
@@ -128,7 +123,7 @@ fn tell_one<A: Allocator + Copy>(
     query: &StoredQuery<A>,
     compared: &mut u64,
     events: &mut Vec<Event<A>, A>,
-) -> Result<Option<Vec<u32, A>>, AllocError>
+) -> Result<Option<EntitySet<A>>, AllocError>
     requires after { IsAfter world.now.state changes.now }
     requires held { IsHeld world.now.state (held_as (string_bytes name.now) query.now) }
     requires was { WasNow world.now.state changes.now (held_as (string_bytes name.now) query.now) }
@@ -161,7 +156,7 @@ fn tell_compared<A: Allocator + Copy>(
     query: &StoredQuery<A>,
     compared: &mut u64,
     events: &mut Vec<Event<A>, A>,
-) -> Result<Option<Vec<u32, A>>, AllocError>
+) -> Result<Option<EntitySet<A>>, AllocError>
     requires after { IsAfter world.now.state changes.now }
     requires held { IsHeld world.now.state (held_as (string_bytes name.now) query.now) }
     requires was { WasNow world.now.state changes.now (held_as (string_bytes name.now) query.now) }
@@ -176,60 +171,12 @@ fn tell_compared<A: Allocator + Copy>(
         return Ok(None);
     }
     let rows = rows_after(alloc, world, changes, query, compared)?;
-    let audience = Audience {
-        name: name.as_bytes(),
-        kind: query.kind,
-        query: query.plan.query(),
-        old: query.these.as_slice(),
-        new: rows.as_slice(),
+    let moves = Moves {
+        left: rows.left.as_slice(),
+        entered: rows.entered.as_slice(),
     };
-    tell(alloc, world, changes, audience, events)?;
-    Ok(Some(rows))
-}
-
-/// The entities of the rows of a monitor whose query isn't local, after a command. Where they are told but for few entities, these are asked; else
-/// all rows are taken, and counted.
-fn rows_after<A: Allocator + Copy>(
-    alloc: A,
-    world: &World<A>,
-    changes: &Changes<A>,
-    query: &StoredQuery<A>,
-    compared: &mut u64,
-) -> Result<Vec<u32, A>, AllocError>
-    requires after { IsAfter world.now.state changes.now }
-    requires current { IsCurrentIn world.now.state (query.now.plan).query }
-    requires was { query.now.these.items ≡ matching (view_before world.now.state changes.now) (query.now.plan).query }
-    ensures { IfOk result (λ rows. rows.items ≡ matching (view_of world.now.state) (query.now.plan).query) }
-{
-    let these = query.these.as_slice();
-    let bonds = query.plan.bonds();
-    match rows_but_for_asked(alloc, world, changes, query.plan.query(), bonds, these)? {
-        Some(moved) => rows_by_asking(alloc, world, &query.plan, moved, compared),
-        None => whole_rows(alloc, world, query.plan.plan(), compared),
-    }
-}
-
-/// The entities of the rows of a monitor that are told but for those who are to be asked. They are asked where instructions are held for it; else all rows
-/// are taken, and counted.
-fn rows_by_asking<A: Allocator + Copy>(
-    alloc: A,
-    world: &World<A>,
-    plan: &JudgedPlan<A>,
-    moved: Moved<A>,
-    compared: &mut u64,
-) -> Result<Vec<u32, A>, AllocError>
-    requires current { IsCurrentIn world.now.state (plan.now).query }
-    requires told { TellsRows (plan.now).query world.now.state moved.rows.items moved.asked.items }
-    ensures { IfOk result (λ rows. rows.items ≡ matching (view_of world.now.state) (plan.now).query) }
-{
-    world.keeps();
-    if moved.asked.is_empty() {
-        return Ok(moved.rows);
-    }
-    match plan.asking() {
-        Some(asking) => rows_with_found(alloc, world, plan.query(), asking, moved),
-        None => whole_rows(alloc, world, plan.plan(), compared),
-    }
+    tell_moves(alloc, world, changes, name.as_bytes(), moves, events)?;
+    Ok(Some(rows.these))
 }
 
 /// Puts what an event observer is told behind other events.
@@ -249,8 +196,6 @@ fn tell_observer<A: Allocator + Copy>(
         name: name.as_bytes(),
         kind: query.kind,
         query: query.plan.query(),
-        old: &[],
-        new: &[],
     };
     tell(alloc, world, changes, audience, events)
 }
@@ -280,7 +225,7 @@ fn tell_locally<A: Allocator + Copy>(
 }
 
 /// Keeps the entities of the rows that stored queries were told, where they don't stay.
-fn put_rows<A: Allocator>(stored: &mut StoredQueries<A>, mut rows: Vec<(usize, Vec<u32, A>), A>)
+fn put_rows<A: Allocator>(stored: &mut StoredQueries<A>, mut rows: Vec<(usize, EntitySet<A>), A>)
     ensures held { map held_of stored.new.entries ≡ with_placed (placed_in rows.items) (map held_of stored.old.entries) }
     ensures lists { KeepLists stored.old.entries stored.new.entries }
 {

@@ -1,5 +1,5 @@
--- Who may move in or out of a query's rows by a command, and what is told of the rows but for those who have to be asked.
-use Rattle.std.specs.Prelude.{◌⊎◌, ℕ, Bool, not, ◌&&◌, ◌||◌, List, ◌++◌, filter, map}
+-- Who may move in or out of a query's rows by a command, and what is told of them but for those who have to be asked.
+use Rattle.std.specs.Prelude.{◌⊎◌, ◌↔◌, ℕ, Bool, not, ◌&&◌, ◌||◌, List, ◌++◌, filter, map}
 use Rattle.std.specs.List.{Contains, list_any}
 use Rattle.std.specs.List.Sorted.{IsStrictlyIncreasing}
 use Rattle.ecs_id.specs.Id.{Id}
@@ -13,6 +13,7 @@ use Rattle.query_concerns.specs.Others.{concerns_below, concerns_others}
 use Rattle.query_concerns.specs.OwnIds.{lacks, meets}
 use Rattle.query_concerns.specs.Tied.{is_tied}
 use Rattle.query_model.specs.Query.{Query}
+use Rattle.touched_entities.specs.Before.{view_before}
 use Rattle.touched_entities.specs.Leaning.{HasAllBelow, concerns_beyond, leaning}
 
 -- the entities of those facts that pass a test by their ids
@@ -54,11 +55,12 @@ module _ (q : Query) (w : WorldState) where
   abbrev pub is_open : ℕ → Bool
   is_open e = is_live w e && not (lacks q (ids_of w e)) && not (meets q (ids_of w e))
 
-  -- some entities of rows, and some more who are to be asked: all entities of the rows are among both
-  pub record TellsRows (rows asked : List ℕ) : Type 0 where
-    pub rows_ascend : IsStrictlyIncreasing rows
+  -- some entities, those of them who are in the rows for sure, and those of them who are to be asked: whoever else is in the rows was in them before the command, and the other way round
+  pub record TellsMoved (changed : Changed) (all sure asked : List ℕ) : Type 0 where
+    pub all_ascend : IsStrictlyIncreasing all
+    pub sure_ascend : IsStrictlyIncreasing sure
     pub asked_ascend : IsStrictlyIncreasing asked
-    pub apart : (e : ℕ) → Contains rows e → Contains asked e → ⊥
-    pub lives : (e : ℕ) → Contains asked e → Contains (entities w) e
-    pub matched : (e : ℕ) → Contains rows e → Contains (matching (view_of w) q) e
-    pub all : (e : ℕ) → Contains (matching (view_of w) q) e → Contains rows e ⊎ Contains asked e
+    pub others_stay : (e : ℕ) → (Contains all e → ⊥) → Contains (matching (view_before w changed) q) e ↔ Contains (matching (view_of w) q) e
+    pub asked_live : (e : ℕ) → Contains asked e → Contains (entities w) e
+    pub sure_match : (e : ℕ) → Contains sure e → Contains (matching (view_of w) q) e
+    pub covered : (e : ℕ) → Contains all e → Contains (matching (view_of w) q) e → Contains sure e ⊎ Contains asked e

@@ -13,5 +13,5 @@ mod whom;
 
 pub use bonds::Bonds;
 pub use concerned::is_concerned;
-pub use moving::{Moved, rows_but_for_asked};
+pub use moving::{Moved, who_may_have_moved};
 pub use touching::touched;

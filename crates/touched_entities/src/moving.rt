@@ -1,21 +1,17 @@
-//! What becomes of a query's rows where few entities have to be asked to tell.
+//! Who may have moved in or out of a query's rows, where few may.
 
-ghost use Rattle.std.specs.Prelude.{◌≡◌, ◌↔◌, ◌==◌, ◌++◌, ℕ, Contains, filter, not, IfOk, IfSome, OnOk};
-ghost use Rattle.std.specs.List.{list_any};
+ghost use Rattle.std.specs.Prelude.{◌≡◌, ◌++◌, filter, IfOk, IfSome, OnOk};
 ghost use Rattle.std.specs.List.Sorted.{IsStrictlyIncreasing};
 ghost use Rattle.ecs_model.specs.World.{is_live};
-ghost use Rattle.ecs_model.specs.rows.View.{view_of};
-ghost use Rattle.ecs_model.specs.stored.Watches.{matching};
 ghost use Rattle.query_meaning.specs.Sound.{IsSound};
-ghost use Rattle.touched_entities.specs.Before.{view_before};
 ghost use Rattle.touched_entities.specs.Bonds.{bonds_of};
 ghost use Rattle.touched_entities.specs.Leaning.{concerns_for};
-ghost use Rattle.touched_entities.specs.Moving.{AreMoving, AreTargets, TellsRows, any_concerns_others, entities_by, entities_of, is_followed, is_open, is_sure};
+ghost use Rattle.touched_entities.specs.Moving.{AreMoving, AreTargets, TellsMoved, any_concerns_others, entities_by, entities_of, is_followed, is_open, is_sure};
 ghost use Rattle.watch_meaning.specs.Since.{IsAfter};
 
 use crate::Bonds;
 use crate::indexes::put_in_order;
-use crate::leaning::{MOST, is_among, push_all_below, push_leaning_on_all};
+use crate::leaning::{MOST, push_all_below, push_leaning_on_all};
 use crate::touching::ids_at;
 use crate::whom::{Whom, concerns_for};
 use ecs_model::FactKey;
@@ -24,84 +20,63 @@ use query_check::Query;
 use query_concerns::{concerns_others, lacks, meets};
 use std::alloc::{AllocError, Allocator};
 
-/// What is told of a query's rows after a command without a search of all: entities of rows, and those of whom a search has to tell whether they
-/// are. Both ascend.
+/// Who may have moved in or out of a query's rows by a command; those of them whose ids tell that they are `$this` of a row now; and those of whom a search
+/// has to tell. All ascend.
 #[derive(Drop)]
 pub struct Moved<A: Allocator> {
-    pub rows: Vec<u32, A>,
+    pub all: Vec<u32, A>,
+    pub sure: Vec<u32, A>,
     pub asked: Vec<u32, A>,
 }
 
-/// What is told of a query's rows after a command by those before it: who is in them for sure, and who has to be asked. Others aren't in them.
-/// Those asked are few.
+/// Who may have moved in or out of a query's rows by a command. All others are in them or out of them as before.
 ///
 /// None, where that can't be told: of a query that isn't anchored, where a fact concerns others than its entity and the query isn't tied, or where
-/// too many may have moved. Takes time in what has changed, and in the rows before for each that may have moved. Fails where memory is refused.
-pub fn rows_but_for_asked<A: Allocator + Copy, B: Allocator>(
+/// too many may have moved. Takes time in what has changed, and for each that may have moved. Fails where memory is refused.
+pub fn who_may_have_moved<A: Allocator + Copy, B: Allocator>(
     alloc: A,
     world: &World<A>,
     changes: &Changes<A>,
     query: &Query<B>,
     bonds: Bonds,
-    before: &[u32],
 ) -> Result<Option<Moved<A>>, AllocError>
     requires bonds { bonds ≡ bonds_of query.now }
     requires after { IsAfter world.now.state changes.now }
     requires sound { IsSound query.now }
-    requires before { before.now ≡ matching (view_before world.now.state changes.now) query.now }
-    ensures { IfOk result (λ found. IfSome found (λ moved. TellsRows query.now world.now.state moved.rows.items moved.asked.items)) }
+    ensures { IfOk result (λ found. IfSome found (λ moved. TellsMoved query.now world.now.state changes.now moved.all.items moved.sure.items moved.asked.items)) }
 {
     world.keeps();
     if !is_followed(query, bonds, changes) {
         return Ok(None);
     }
-    let Some(found) = moving(alloc, query, world, changes)? else {
+    let Some(all) = moving(alloc, query, world, changes)? else {
         return Ok(None);
     };
-    let moving = found.as_slice();
-    if moving.len() > MOST {
+    if all.len() > MOST {
         return Ok(None);
     }
-    let mut rows = apart_from(alloc, moving, before)?;
+    let mut sure = Vec::new(alloc);
     let mut asked = Vec::new(alloc);
-    push_by_ids(query, world, moving, &mut rows, &mut asked)?;
-    put_in_order(&mut rows);
-    Ok(Some(Moved { rows, asked }))
+    push_by_ids(query, world, all.as_slice(), &mut sure, &mut asked)?;
+    Ok(Some(Moved { all, sure, asked }))
 }
 
-/// Those of some entities who aren't moving.
-fn apart_from<A: Allocator + Copy>(
-    alloc: A,
-    moving: &[u32],
-    entities: &[u32],
-) -> Result<Vec<u32, A>, AllocError>
-    ensures { IfOk result (λ rows. rows.items ≡ filter (λ e. not (list_any (λ x. x == e) moving.now)) entities.now) }
-{
-    let mut rows = Vec::with_capacity(alloc, entities.len())?;
-    for entity in entities {
-        if !is_among(moving, *entity) {
-            rows.push(*entity)?;
-        }
-    }
-    Ok(rows)
-}
-
-/// Adds those of some entities to rows whose ids tell that they are `$this` of one, and to those who have to be asked whose ids don't tell.
+/// Of some entities, adds those to the sure whose ids tell that they are `$this` of a row, and those to the asked whose ids don't tell.
 fn push_by_ids<A: Allocator, B: Allocator>(
     query: &Query<B>,
     world: &World<A>,
     entities: &[u32],
-    rows: &mut Vec<u32, A>,
+    sure: &mut Vec<u32, A>,
     asked: &mut Vec<u32, A>,
 ) -> Result<(), AllocError>
-    ensures rows { OnOk result (rows.new.items ≡ rows.old.items ++ filter (is_sure query.now world.now.state) entities.now) }
+    ensures sure { OnOk result (sure.new.items ≡ sure.old.items ++ filter (is_sure query.now world.now.state) entities.now) }
     ensures asked { OnOk result (asked.new.items ≡ asked.old.items ++ filter (is_open query.now world.now.state) entities.now) }
 {
     for entity in entities {
         let ids = ids_at(world, *entity);
         if lives(world, *entity) && !lacks(query, ids) {
             if meets(query, ids) {
-                rows.push(*entity)?;
+                sure.push(*entity)?;
             } else {
                 asked.push(*entity)?;
             }

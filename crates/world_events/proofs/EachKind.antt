@@ -1,16 +1,16 @@
 -- What is told to a stored query, by its kind.
 use Rattle.std.specs.Prelude.{OnOk, Result, Ok, Err}
 use Rattle.std.specs.List.{filter}
-use Rattle.std.proofs.Common.{◌≡◌, ℕ, List, ◌++◌, map, sym, ap, ◌∙◌, append_assoc, append-nil}
+use Rattle.std.proofs.Common.{◌≡◌, ℕ, List, ◌++◌, map, sym, ap, ◌∙◌, append-nil}
 use Rattle.query_model.specs.Query.{Query}
-use Rattle.ecs_model.specs.declared.watches.EventKind.TheVariants.{Entered, Added, Written}
+use Rattle.ecs_model.specs.declared.watches.EventKind.TheVariants.{Added, Written}
 use Rattle.ecs_model.specs.declared.watches.StoredKind.{StoredKind}
-use Rattle.ecs_model.specs.declared.watches.StoredKind.TheVariants.{Kept, Monitor, OnAdd, OnRemove, OnSet}
+use Rattle.ecs_model.specs.declared.watches.StoredKind.TheVariants.{Kept, OnAdd, OnRemove, OnSet}
 use Rattle.ecs_model.specs.Command.{Changed}
 use Rattle.ecs_model.specs.World.{WorldState}
 use Rattle.ecs_model.specs.rows.View.{view_of}
-use Rattle.ecs_model.specs.stored.Watches.{Event, entity_event, fact_event, matching, missing_from, observes}
-use Rattle.watch_meaning.specs.Since.{left_event, observed_before, removed_event, told_since}
+use Rattle.ecs_model.specs.stored.Watches.{Event, fact_event, observes}
+use Rattle.watch_meaning.specs.Since.{observed_before, removed_event, told_since}
 use Rattle.world_events.specs.Terms.{told_value}
 
 -- what is told, in another form
@@ -18,22 +18,10 @@ pub told_same : {E Y : Type 0} (r : Result (Unit {0}) E) (start new told wanted 
 told_same (Ok x) start new told wanted h same = h ∙ ap (λ t. start ++ t) same
 told_same (Err e) start new told wanted h same = tt
 
--- one list of events after another
-pub told_both : {E Y : Type 0} (r : Result (Unit {0}) E) (start between new first second wanted : List Y) → between ≡ start ++ first → OnOk r (new ≡ between ++ second) → first ++ second ≡ wanted
-    → OnOk r (new ≡ start ++ wanted)
-told_both (Ok x) start between new first second wanted a b same = b ∙ ap (λ t. t ++ second) a ∙ append_assoc start first second ∙ ap (λ t. start ++ t) same
-told_both (Err e) start between new first second wanted a b same = tt
-
 module _ (w : WorldState) (c : Changed) (name : List ℕ) (q : Query) (old : List ℕ) where
   pub kept_told : (kind : StoredKind) (start : List Event) → kind ≡ Kept → start ≡ start ++ told_since w c name kind q old
   unfolding told_since
   kept_told kind start e = sym (append-nil start) ∙ ap (λ k. start ++ told_since w c name k q old) (sym e)
-
-  pub rows_told : (kind : StoredKind) (these : List ℕ) → kind ≡ Monitor → these ≡ matching (view_of w) q
-      → map (left_event w c name) (missing_from old these) ++ map (entity_event name Entered w) (missing_from these old) ≡ told_since w c name kind q old
-  unfolding told_since
-  rows_told kind these e rows =
-      ap (λ xs. map (left_event w c name) (missing_from old xs) ++ map (entity_event name Entered w) (missing_from xs old)) rows ∙ ap (λ k. told_since w c name k q old) (sym e)
 
   pub added_told : (kind : StoredKind) → kind ≡ OnAdd → map (fact_event name Added w (told_value w Added)) (filter (observes (view_of w) q) c.came) ≡ told_since w c name kind q old
   unfolding told_since

@@ -1,21 +1,15 @@
--- What has changed is in order, and so are the entities of a monitor's rows.
-use Rattle.std.specs.List.{AllByRecursion, list_any}
-use Rattle.std.specs.List.Sorted.{IsStrictlyIncreasing, IsStrictlySortedBy}
+-- What has changed is in order.
+use Rattle.std.specs.List.{AllByRecursion}
+use Rattle.std.specs.List.Sorted.{IsStrictlySortedBy}
 use Rattle.std.specs.Ordering.{is_lt, nat_cmp}
 use Rattle.std.specs.FinMap.{is_sorted}
 use Rattle.std.specs.FinMap.Entries.{below_all, is_sorted-where_key}
 use Rattle.std.specs.declared.cmp.Ordering.{Ordering}
 use Rattle.std.specs.declared.cmp.Ordering.TheVariants.{Less, Equal, Greater}
 use Rattle.std.proofs.Common.{◌≡◌, ℕ, Bool, true, not, List, [], ◌∷◌, map, refl, sym, ap, subst, ◌∙◌, Option}
-use Rattle.std.proofs.lemmas.List.Kept.{IsStrictlySortedBy-filter}
-use Rattle.std.proofs.lemmas.Map.Keys.{IsStrictlyIncreasing-from_sorted}
-use Rattle.query_model.specs.Query.{Query}
 use Rattle.ecs_model.specs.Command.{Changed, counted, differences}
 use Rattle.ecs_model.specs.Map.{Map, has_key, keys, without}
 use Rattle.ecs_model.specs.World.{WorldState, Key, key_cmp, is_live, name_of}
-use Rattle.ecs_model.specs.rows.Rows.{rows}
-use Rattle.ecs_model.specs.rows.View.{view_of}
-use Rattle.ecs_model.specs.stored.Watches.{is_this, matching}
 use Rattle.ecs_model.specs.traits.Command.{effect, written_by}
 use Rattle.ecs_model.specs.traits.Keeps.{IsWellFormed}
 use Rattle.ecs_model.proofs.Maps.{both_true, from_T, to_T}
@@ -75,9 +69,3 @@ module _ (v : WorldState) (c : Changed) (a : IsAfter v c) where
 
   pub died_rises : IsStrictlySortedBy nat_cmp (map (λ d. (d.0).index) c.died)
   died_rises = subst (λ (x : Changed). IsStrictlySortedBy nat_cmp (map (λ d. (d.0).index) x.died)) (sym differs_now) (dead_rise a.before v (written_by a.command) a.kept)
-
--- the entities of a monitor's rows ascend
-pub matching_rises : (w : WorldState) (q : Query) → IsWellFormed w → IsStrictlyIncreasing (matching (view_of w) q)
-unfolding matching
-matching_rises w q h =
-    IsStrictlyIncreasing-from_sorted (matching (view_of w) q) (IsStrictlySortedBy-filter nat_cmp (λ e. list_any (is_this e) (rows (view_of w) q)) (keys w.live) (keys_rise nat_cmp w.live h.in_order.live))

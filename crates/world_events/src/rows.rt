@@ -1,16 +1,13 @@
 //! What monitors are told: the entities that have left their rows, and those that have entered them.
 
-ghost use Rattle.std.specs.Prelude.{◌≡◌, ◌++◌, IfOk, OnOk, map, ◌==◌};
-ghost use Rattle.std.specs.List.{list_any};
-ghost use Rattle.std.specs.List.Sorted.{IsStrictlyIncreasing};
+ghost use Rattle.std.specs.Prelude.{◌≡◌, ◌++◌, IfOk, OnOk, map};
 ghost use Rattle.ecs_model.specs.declared.watches.EventKind.TheVariants.{Entered};
-ghost use Rattle.ecs_model.specs.stored.Watches.{entity_event, missing_from};
+ghost use Rattle.ecs_model.specs.stored.Watches.{entity_event};
 ghost use Rattle.watch_meaning.specs.Since.{IsAfter, left_event};
 ghost use Rattle.world_events.specs.Told.{told_of_moves};
 
 use crate::before::{entity_before, entity_text_before};
 use crate::event::Event;
-use crate::telling::Audience;
 use crate::texts::{entity_now, entity_text};
 use ecs_model::watches::EventKind;
 use ecs_world::{Changes, World};
@@ -74,56 +71,6 @@ fn tell_each_entered<A: Allocator + Copy>(
         events.push(entered_event(alloc, world, name, *index)?)?;
     }
     Ok(())
-}
-
-/// Tells a monitor who has left: those of its rows before that are not in its rows now.
-pub(crate) fn tell_left<A: Allocator + Copy>(
-    alloc: A,
-    world: &World<A>,
-    changes: &Changes<A>,
-    audience: Audience<'_, A>,
-    events: &mut Vec<Event<A>, A>,
-) -> Result<(), AllocError>
-    requires after { IsAfter world.now.state changes.now }
-    requires new { IsStrictlyIncreasing audience.new.now }
-    ensures { OnOk result (events.new.items ≡ events.old.items
-        ++ map (left_event world.now.state changes.now (audience.entry.name).now) (missing_from (audience.entry.old).now (audience.entry.new).now)) }
-{
-    let old = audience.old;
-    for index in old {
-        if !is_among(audience.new, *index) {
-            events.push(left_event(alloc, world, changes, audience.name, *index)?)?;
-        }
-    }
-    Ok(())
-}
-
-/// Tells a monitor who has entered: those of its rows now that were not in its rows before.
-pub(crate) fn tell_entered<A: Allocator + Copy>(
-    alloc: A,
-    world: &World<A>,
-    audience: Audience<'_, A>,
-    events: &mut Vec<Event<A>, A>,
-) -> Result<(), AllocError>
-    requires { IsStrictlyIncreasing audience.old.now }
-    ensures { OnOk result (events.new.items ≡ events.old.items
-        ++ map (entity_event (audience.entry.name).now Entered world.now.state) (missing_from (audience.entry.new).now (audience.entry.old).now)) }
-{
-    let new = audience.new;
-    for index in new {
-        if !is_among(audience.old, *index) {
-            events.push(entered_event(alloc, world, audience.name, *index)?)?;
-        }
-    }
-    Ok(())
-}
-
-/// Whether ascending numbers have this one among them.
-fn is_among(numbers: &[u32], number: u32) -> bool
-    requires { IsStrictlyIncreasing numbers.now }
-    ensures { result ≡ list_any (λ x. x == number) numbers.now }
-{
-    numbers.binary_search(&number).is_ok()
 }
 
 /// The event of an entity that has left, by the names before the command.

@@ -1,13 +1,12 @@
-//! What stored queries are told of a command.
+//! What observers are told of a command.
 
-ghost use Rattle.std.specs.Prelude.{◌≡◌, ◌++◌, OnOk};
+ghost use Rattle.std.specs.Prelude.{◌≡◌, ◌≢◌, ◌++◌, [], OnOk};
+ghost use Rattle.ecs_model.specs.declared.watches.StoredKind.TheVariants.{Monitor};
 ghost use Rattle.watch_meaning.specs.Since.{IsAfter, told_since};
-ghost use Rattle.world_events.specs.Told.{AreInOrder, AreRowsOf};
 
 use crate::event::Event;
 use crate::facts::tell_facts;
 use crate::removals::tell_removals;
-use crate::rows::{tell_entered, tell_left};
 use ecs_model::watches::{EventKind, StoredKind};
 use ecs_world::{Changes, World};
 use query_check::Query;
@@ -19,16 +18,11 @@ pub struct Audience<'q, A: Allocator> {
     pub name: &'q [u8],
     pub kind: StoredKind,
     pub query: &'q Query<A>,
-    /// Of a monitor the indexes of the entities of its rows before the command, in order.
-    pub old: &'q [u32],
-    /// And of those after it.
-    pub new: &'q [u32],
 }
 
-/// Puts what a stored query is told of a command behind other events, by the world after the command.
+/// Puts what an observer is told of a command behind other events, by the world after the command. It isn't for monitors, which `tell_moves` tells.
 ///
-/// A monitor takes time logarithmic in its rows for each of them, and an observer is judged by its one term before the world is read.
-/// Fails where memory is refused, and then the events may have grown.
+/// An observer is judged by its one term before the world is read. Fails where memory is refused, and then the events may have grown.
 pub fn tell<A: Allocator + Copy>(
     alloc: A,
     world: &World<A>,
@@ -37,18 +31,13 @@ pub fn tell<A: Allocator + Copy>(
     events: &mut Vec<Event<A>, A>,
 ) -> Result<(), AllocError>
     requires after { IsAfter world.now.state changes.now }
-    requires rows { AreRowsOf world.now.state audience.kind audience.query.now audience.new.now }
-    requires ascends { AreInOrder audience.kind audience.old.now }
+    requires observes { audience.kind ≢ Monitor }
     ensures { OnOk result (events.new.items ≡ events.old.items
-        ++ told_since world.now.state changes.now (audience.entry.name).now audience.entry.kind (audience.entry.query).now (audience.entry.old).now) }
+        ++ told_since world.now.state changes.now (audience.entry.name).now audience.entry.kind (audience.entry.query).now []) }
 {
     match audience.kind {
         StoredKind::Kept => Ok(()),
-        StoredKind::Monitor => {
-            world.keeps();
-            tell_left(alloc, world, changes, audience, events)?;
-            tell_entered(alloc, world, audience, events)
-        }
+        StoredKind::Monitor => Ok(()),
         StoredKind::OnAdd => {
             tell_facts(alloc, world, changes, audience, EventKind::Added, events)
         }

@@ -1,8 +1,9 @@
 use Rattle.std.specs.String.{string_bytes}
 use Rattle.std.proofs.Common.{◌++◌, append-nil, ap, sym, ◌∙◌}
 use Rattle.touched_entities.specs.Concerned.{is_concerned}
+use Rattle.world_events.specs.Told.{told_of_moves}
 use Rattle.ecs_observe.specs.Parts.{held_as}
-use Rattle.ecs_observe.proofs.Staying.{nothing_told, rows_were}
+use Rattle.ecs_observe.proofs.Staying.{nothing_told, rows_were, told_of_compared}
 use Rattle.ecs_observe.proofs.telling.tell_compared.Goals as goal
 
 pub returns-then-not-is_concerned-clause-told : goal.returns-then-not-is_concerned-clause-told
@@ -16,3 +17,13 @@ returns-then-not-is_concerned-clause-told g c =
 pub rows_after-requires-clause-was : goal.rows_after-requires-clause-was
 rows_after-requires-clause-was g c =
     rows_were c.args.world.now.state c.args.changes.now (held_as (string_bytes c.args.name.now) c.args.query.now) c.requires.was c.requires.compared
+
+pub returns-clause-told : goal.returns-clause-told
+returns-clause-told g c =
+    let w = c.args.world.now.state in
+    let changed = c.args.changes.now in
+    let h = held_as (string_bytes c.args.name.now) c.args.query.now in
+    let told =
+    (λ i. told_of_moves w changed (c.as_bytes.ensures.value i) ((c.as_slice.ensures.value ∙ c.in_ok-rows.ensures.left) i) ((c.as_slice-2.ensures.value ∙ c.in_ok-rows.ensures.entered) i))
+    ∙ told_of_compared w changed h c.requires.was c.requires.compared in
+    c.in_ok-tell_moves.ensures ∙ ap (λ es. c.args.events.now.items ++ es) told

@@ -1,34 +1,19 @@
 use Rattle.std.specs.List.{filter}
-use Rattle.std.specs.List.Sorted.{IsStrictlyIncreasing}
-use Rattle.std.proofs.Common.{map, sym, subst}
-use Rattle.ecs_model.specs.declared.watches.EventKind.TheVariants.{Added, Entered, Written}
+use Rattle.std.proofs.Common.{[], map}
+use Rattle.ecs_model.specs.declared.watches.EventKind.TheVariants.{Added, Written}
 use Rattle.ecs_model.specs.rows.View.{view_of}
-use Rattle.ecs_model.specs.stored.Watches.{entity_event, fact_event, missing_from, observes}
-use Rattle.watch_meaning.specs.Since.{left_event, observed_before, removed_event, told_since}
+use Rattle.ecs_model.specs.stored.Watches.{fact_event, observes}
+use Rattle.watch_meaning.specs.Since.{observed_before, removed_event, told_since}
 use Rattle.world_events.specs.Terms.{told_value}
-use Rattle.world_events.proofs.InOrder.{matching_rises}
-use Rattle.world_events.proofs.EachKind.{added_told, kept_told, removed_told, rows_told, set_told, told_both, told_same}
+use Rattle.world_events.proofs.EachKind.{added_told, kept_told, removed_told, set_told, told_same}
 use Rattle.world_events.proofs.telling.tell.Goals as goal
-
-pub tell_left-requires-clause-new : goal.tell_left-requires-clause-new
-tell_left-requires-clause-new g c =
-    subst IsStrictlyIncreasing (sym (c.requires.rows c.in-Monitor.is)) (matching_rises c.args.world.now.state c.args.audience.query.now c.keeps.ensures)
 
 pub returns-in-Kept : goal.returns-in-Kept
 returns-in-Kept g c =
-    kept_told c.args.world.now.state c.args.changes.now c.args.audience.name.now c.args.audience.query.now c.args.audience.old.now c.args.audience.kind (c.args.events.now).items c.in-Kept.is
+    kept_told c.args.world.now.state c.args.changes.now c.args.audience.name.now c.args.audience.query.now [] c.args.audience.kind (c.args.events.now).items c.in-Kept.is
 
-pub returns-in_ok-tell_left-in-Monitor : goal.returns-in_ok-tell_left-in-Monitor
-returns-in_ok-tell_left-in-Monitor g c =
-    let w = c.args.world.now.state in
-    let changed = c.args.changes.now in
-    let name = c.args.audience.name.now in
-    let q = c.args.audience.query.now in
-    let old = c.args.audience.old.now in
-    let new = c.args.audience.new.now in
-    told_both c.tell_entered.result (c.args.events.now).items c.tell_left.new.events.items c.tell_entered.new.events.items
-    (map (left_event w changed name) (missing_from old new)) (map (entity_event name Entered w) (missing_from new old)) (told_since w changed name c.args.audience.kind q old)
-    c.in_ok-tell_left-in-Monitor.ensures c.tell_entered.ensures (rows_told w changed name q old c.args.audience.kind new c.in-Monitor.is (c.requires.rows c.in-Monitor.is))
+pub returns-in-Monitor : goal.returns-in-Monitor
+returns-in-Monitor g c = absurd (c.requires.observes c.in-Monitor.is)
 
 pub returns-in-OnAdd : goal.returns-in-OnAdd
 returns-in-OnAdd g c =
@@ -36,11 +21,10 @@ returns-in-OnAdd g c =
     let changed = c.args.changes.now in
     let name = c.args.audience.name.now in
     let q = c.args.audience.query.now in
-    let old = c.args.audience.old.now in
     let kind = c.args.audience.kind in
     let event = fact_event name Added w (told_value w Added) in
     told_same c.tell_facts.result (c.args.events.now).items c.tell_facts.new.events.items
-    (map event (filter (observes (view_of w) q) changed.came)) (told_since w changed name kind q old) c.tell_facts.ensures (added_told w changed name q old kind c.in-OnAdd.is)
+    (map event (filter (observes (view_of w) q) changed.came)) (told_since w changed name kind q []) c.tell_facts.ensures (added_told w changed name q [] kind c.in-OnAdd.is)
 
 pub returns-in-OnRemove : goal.returns-in-OnRemove
 returns-in-OnRemove g c =
@@ -48,11 +32,10 @@ returns-in-OnRemove g c =
     let changed = c.args.changes.now in
     let name = c.args.audience.name.now in
     let q = c.args.audience.query.now in
-    let old = c.args.audience.old.now in
     let kind = c.args.audience.kind in
     told_same c.tell_removals.result (c.args.events.now).items c.tell_removals.new.events.items
-    (map (removed_event w changed name) (filter (observed_before w changed q) changed.went)) (told_since w changed name kind q old) c.tell_removals.ensures
-    (removed_told w changed name q old kind c.in-OnRemove.is)
+    (map (removed_event w changed name) (filter (observed_before w changed q) changed.went)) (told_since w changed name kind q []) c.tell_removals.ensures
+    (removed_told w changed name q [] kind c.in-OnRemove.is)
 
 pub returns-in-OnSet : goal.returns-in-OnSet
 returns-in-OnSet g c =
@@ -60,8 +43,7 @@ returns-in-OnSet g c =
     let changed = c.args.changes.now in
     let name = c.args.audience.name.now in
     let q = c.args.audience.query.now in
-    let old = c.args.audience.old.now in
     let kind = c.args.audience.kind in
     let event = fact_event name Written w (told_value w Written) in
     told_same c.tell_facts-in-OnSet.result (c.args.events.now).items c.tell_facts-in-OnSet.new.events.items
-    (map event (filter (observes (view_of w) q) changed.written)) (told_since w changed name kind q old) c.tell_facts-in-OnSet.ensures (set_told w changed name q old kind c.in-OnSet.is)
+    (map event (filter (observes (view_of w) q) changed.written)) (told_since w changed name kind q []) c.tell_facts-in-OnSet.ensures (set_told w changed name q [] kind c.in-OnSet.is)
