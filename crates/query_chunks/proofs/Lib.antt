@@ -9,3 +9,4 @@ pub mod Permuted
 pub mod Running
 pub mod Standing
 pub mod Terms
+pub mod Whole

@@ -1,9 +1,9 @@
 //! The rows of a query that are of one table.
 
-ghost use Rattle.std.specs.Prelude.{◌≡◌, [], ◌∷◌, option_map, slice_get, unwrap_or};
+ghost use Rattle.std.specs.Prelude.{◌≡◌, [], ◌∷◌, IfSome, length, option_map, slice_get, unwrap_or};
 ghost use Rattle.ecs_table.specs.Archetype.{column_of};
 ghost use Rattle.query_check.specs.Seen.{seen_item};
-ghost use Rattle.query_chunks.specs.Chunk.{chunk_of, column_of_id, column_of_item, column_of_terms, seen_column};
+ghost use Rattle.query_chunks.specs.Chunk.{AreWhole, IsWhole, chunk_of, column_of_id, column_of_item, column_of_terms, seen_column};
 
 use crate::asked::{hit, outer_item};
 use crate::column::Column;
@@ -29,10 +29,13 @@ impl<'r, A: Allocator, B: Allocator> Model for Chunk<'r, A, B> {
     ghost Value = { model.Chunk };
 
     ghost view = { λ c. model.chunk_of c.world.now.state c.query.now c.table.now };
+
+    ghost invariant = { λ c. model.AreWhole (model.chunk_of c.world.now.state c.query.now c.table.now) };
 }
 
 impl<'r, A: Allocator, B: Allocator> Chunk<'r, A, B> {
     pub(crate) fn new(world: &'r World<A>, query: &'r Query<B>, table: &'r Table<A>) -> Self
+        requires { AreWhole (chunk_of world.now.state query.now table.now) }
         ensures { result ≡ chunk_of world.now.state query.now table.now }
     {
         Chunk {
@@ -50,8 +53,10 @@ impl<'r, A: Allocator, B: Allocator> Chunk<'r, A, B> {
     }
 
     /// The column of the item with this number among those that show fields, in the order of the text. Those inside groups show none.
+    /// Its bytes are cut into as many values as there are entities by the size of one.
     pub fn column(&self, number: usize) -> Option<Column<'r, A>>
-        ensures { option_map seen_column result ≡ slice_get self.now.columns number }
+        ensures column { option_map seen_column result ≡ slice_get self.now.columns number }
+        ensures whole { IfSome result (λ column. IsWhole (length self.now.entities) (seen_column column)) }
     {
         let item = outer_item(self.query.pieces(), number)?;
         Some(column_of_item(self.world, self.table, item))
