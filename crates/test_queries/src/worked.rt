@@ -6,6 +6,7 @@
 ghost use Rattle.std.specs.Prelude.{IfOk};
 ghost use Rattle.ecs_id.specs.Id.{IsIndex};
 
+use crate::chunks::compare_worked;
 use crate::orders::try_orders;
 use crate::runs::give_up_anywhere;
 use ecs_id::{EntityId, Id, LAST_INDEX};
@@ -284,6 +285,7 @@ fn fill(world: &mut World, row: &WorkedRow) -> Result<(), CommandError> {
 
 fn try_row(rt: &impl Abort, alloc: Global, world: &mut World, row: &WorkedRow) -> Result<(), Fail> {
     fill(world, row)?;
+    compare_worked(rt, alloc, world, row)?;
     give_up_anywhere(rt, alloc, world, row)?;
     try_orders(rt, alloc, world, row)
 }
