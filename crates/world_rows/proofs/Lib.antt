@@ -1,0 +1,7 @@
+mod Current
+mod Given
+mod Permuted
+mod Pulled
+mod Running
+mod Starting
+mod Values

@@ -1,0 +1,5 @@
+pub mod Asked
+pub mod Coming
+pub mod Fields
+pub mod Probes
+pub mod Values

@@ -1,0 +1,30 @@
+//! Rows of a query, one at a time.
+//!
+//! ```text
+//! let view = WorldView::new(&world);
+//! let asked = Asked::new(rt.alloc(), &view, "Ship, Fuel, ?(DockedTo,$port)")?;
+//! let mut rows = asked.rows(&view);
+//! for _ in 0..u64::MAX {
+//!     if !rows.next() {
+//!         break;
+//!     }
+//!     // the entities of the variables, and the fields, each with the bytes of its value
+//!     let ship = rows.entities();
+//!     if let Some(field) = rows.field(1) && let Some(fuel) = field.value {
+//!         println!(rt; "{:?}", fuel.number(0))?;
+//!     }
+//! }
+//! // the room is for the next time: then no memory is taken
+//! let asked = rows.into_asked();
+//! ```
+#![tactic(auto)]
+
+mod asked;
+mod fields;
+mod rows;
+mod view;
+
+pub use asked::Asked;
+pub use fields::{FactValue, Field};
+pub use rows::Rows;
+pub use view::WorldView;
