@@ -2,7 +2,8 @@
 """docs.py PROGRAM: runs each script of the pages and of examples/, and compares what it prints.
 
 In PAGES a block that begins with ```flecsq is a script, and the block after it, which begins with ```output, is what it prints. A block of
-no kind is wrong, so that no script is left out. examples/NAME.flecsq prints examples/NAME.output.
+no kind is wrong, so that no script is left out. examples/NAME.flecsq prints examples/NAME.output. The code that a page of SHOWN has in
+its ```text blocks stands in that source file.
 """
 import glob
 import os
@@ -12,6 +13,7 @@ import sys
 
 TOP = os.path.realpath(os.path.join(os.path.dirname(os.path.realpath(__file__)), ".."))
 PAGES = ("README.md", "docs/LANGUAGE.md", "docs/FLECS.md")
+SHOWN = {"crates/ecs_observe/README.md": "crates/example_game/src/main.rt"}
 BLOCK = re.compile(r"^```(\w*)\n(.*?)^```$", re.M | re.S)
 SECONDS = 60
 
@@ -47,8 +49,20 @@ def complaint_of(program, script, wanted):
     return None if (ran.returncode, ran.stderr) == (status, b"") else f"its status is {ran.returncode}, or standard error isn't empty"
 
 
+def strange_code():
+    """The code of pages that isn't that of the source file: for each its place."""
+    for page, source in SHOWN.items():
+        text, code = read(page), read(source)
+        for found in BLOCK.finditer(text):
+            if found[1] == "text" and found[2] not in code:
+                yield f"{page}:{text.count(chr(10), 0, found.start()) + 1}"
+
+
 def run(program):
     passed = failed = 0
+    for place in strange_code():
+        print(f"{place} FAILED: this code isn't in {SHOWN[place.split(':')[0]]}")
+        failed += 1
     for place, script, wanted in [*(it for page in PAGES for it in scripts_of(page)), *examples()]:
         complaint = complaint_of(program, script, wanted)
         if complaint:

@@ -1,0 +1,145 @@
+//! A harbour, as a game on a session: a monitor tells which ships put to sea, a kept query is asked each turn, and the rows of another query
+//! are pulled one at a time, with their values.
+//!
+//! It has no proof of its own: what its contracts say follows from those of the calls.
+#![tactic(auto)]
+
+ghost use Rattle.std.specs.Prelude.{◌≡◌, codes};
+ghost use Rattle.ecs_observe.specs.Answers.{AnswersRows};
+ghost use Rattle.ecs_observe.specs.Standing.{session_of};
+ghost use Rattle.example_game.specs.Litres.{litres_in};
+
+use ecs_id::Id;
+use ecs_model::watches::StoredKind;
+use ecs_observe::{Session, SessionError, write_event};
+use ecs_schema::{Kind, Schema, SchemaError};
+use query_model::faults::QueryFault;
+use std::alloc::{AllocError, Global};
+use std::hash::RandomState;
+use std::io::{self, Write};
+use thiserror::Error;
+use world_rows::{Asked, Rows, WorldView};
+
+/// The first two indexes that are given out.
+const FUEL: u32 = 64;
+
+const DOCKED: u32 = 65;
+
+const SHIPS: [&str; 3] = ["Heron", "Petrel", "Swift"];
+
+/// Why the game ends early.
+#[derive(Clone, Copy, Debug, Error)]
+enum GameError {
+    #[error(transparent)]
+    Schema(#[from] SchemaError),
+    #[error("{0:?}")]
+    Session(#[from] SessionError),
+    #[error("no query: {0:?}")]
+    Query(#[from] QueryFault),
+    #[error("out of memory")]
+    Memory(#[from(alloc)] AllocError),
+}
+
+/// Three docked ships with 40 litres each, a query of those that are docked, and a monitor of those that aren't.
+fn begin(alloc: Global, session: &mut Session) -> Result<(), GameError> {
+    let litres = Schema::new(alloc, &[("litres", Kind::U16)])?;
+    session.component("Fuel", litres)?;
+    session.entity("Docked")?;
+    for name in SHIPS {
+        if let Some(ship) = session.entity(name)? {
+            session.set(ship, Id::plain(FUEL), &[40])?;
+            session.add(ship, Id::plain(DOCKED))?;
+        }
+    }
+    session.store(StoredKind::Kept, "docked", "Docked, Fuel")?;
+    session.store(StoredKind::Monitor, "at_sea", "Fuel, !Docked")?;
+    Ok(())
+}
+
+/// Prints what the monitor has to tell of the last command.
+fn tell_events(session: &mut Session, out: &mut Vec<u8>) -> Result<(), AllocError> {
+    let told = session.events()?;
+    for event in told.as_slice() {
+        write_event(event, out)?;
+    }
+    Ok(())
+}
+
+/// A ship puts to sea, and has so many litres left.
+fn put_to_sea(
+    session: &mut Session,
+    name: &str,
+    litres: i128,
+    out: &mut Vec<u8>,
+) -> Result<(), GameError> {
+    if let Some(ship) = session.world().find(name) {
+        session.remove(ship, Id::plain(DOCKED))?;
+        tell_events(session, out)?;
+        session.set(ship, Id::plain(FUEL), &[litres])?;
+        tell_events(session, out)?;
+    }
+    Ok(())
+}
+
+/// Prints the ships that are docked: exactly the rows of the kept query, or why there are none.
+fn show_docked(session: &mut Session, out: &mut Vec<u8>) -> Result<(), SessionError>
+    ensures { AnswersRows result (session_of session.old) (codes "docked") out.old.items out.new.items }
+{
+    session.write_kept_rows("docked", out)
+}
+
+/// The litres of a row's ship: the value of the fact that its first field shows.
+fn litres_of(rows: &Rows<'_, Global>) -> Option<i128>
+    ensures { result ≡ litres_in (rows.now).row }
+{
+    rows.field(0)?.value?.number(0)
+}
+
+/// Prints how many litres all ships have. Pulling the rows takes no memory, and the query is given back for the next turn.
+fn show_fuel(
+    alloc: Global,
+    session: &Session,
+    asked: Asked,
+    out: &mut Vec<u8>,
+) -> Result<Asked, GameError> {
+    let view = WorldView::new(session.world());
+    if !asked.is_current(&view) || !asked.covers(&view) {
+        return Ok(asked);
+    }
+    let mut litres: u64 = 0;
+    let mut rows = asked.rows(&view);
+    for _ in 0..u64::MAX {
+        if !rows.next() {
+            break;
+        }
+        let held = litres_of(&rows).and_then(|number| u64::try_from(number).ok());
+        litres = litres.saturating_add(held.unwrap_or(0));
+    }
+    let line = format!(in alloc; "{litres} litres\n")?;
+    out.extend_from_slice(line.as_bytes())?;
+    Ok(rows.into_asked())
+}
+
+/// Two turns, with a ship that puts to sea between them.
+fn play(alloc: Global, session: &mut Session, out: &mut Vec<u8>) -> Result<(), GameError> {
+    begin(alloc, session)?;
+    tell_events(session, out)?;
+    let fuel = Asked::new(alloc, &WorldView::new(session.world()), "Fuel")?;
+    show_docked(session, out)?;
+    let fuel = show_fuel(alloc, session, fuel, out)?;
+    put_to_sea(session, "Petrel", 33, out)?;
+    show_docked(session, out)?;
+    show_fuel(alloc, session, fuel, out)?;
+    Ok(())
+}
+
+fn main(rt: HostRuntime) -> io::Result<()> {
+    let mut out = Vec::new(rt.alloc());
+    let mut session = Session::new(rt.alloc(), RandomState::new(&rt)?)?;
+    let done = play(rt.alloc(), &mut session, &mut out);
+    drop(session);
+    match done {
+        Ok(()) => rt.stdout().write_all(out.as_slice()),
+        Err(error) => println!(rt; "{error}"),
+    }
+}
