@@ -1,10 +1,14 @@
 //! Programs that are timed from outside: the indexes, texts of queries, and commands on a world.
 //!
-//! The first word names one of them, and without one all three are run:
+//! The first word names one of them, and without one all four are run:
 //!
 //! - `indexes`: makes and deletes a million entities, and looks up a million names
 //! - `query TEXT TIMES PHASE`: reads a text so often, up to a phase, or plans it. Time it once and many times, so that the difference is what
 //!   one costs. Without a text each is read once.
+//! - `iterate WORKLOAD TIMES SIZE`: goes so often over 10,000 entities in twenty tables, or as many as are asked for, by chunks
+//!   - `ids`: their entities; `values`: two values of each
+//!   - `row_ids`, `row_values`: the same by rows
+//!   - `plain_ids`, `plain_values`: the same over plain slices
 //! - `world WORKLOAD SIZE`: carries out commands, 10,000 times where no size is named
 //!   - `values`: entities with three components, whose values are set; each moves to another table and on to a third
 //!   - `tree`: each entity is a child of one of those before it, chosen at random
@@ -13,8 +17,10 @@
 //!   - `chain`: each entity is a child of the one before it, and it is asked first whether this would close a cycle
 #![tactic(auto)]
 
+mod by_rows;
 mod commands;
 mod indexes;
+mod iterating;
 mod reading;
 mod relations;
 mod texts;
@@ -45,6 +51,9 @@ fn main(rt: HostRuntime) -> io::Result<()> {
     if is_asked(&part, "query") {
         let times = number(&size).unwrap_or(1);
         reading::tell(&rt, &chosen, u64::from(times), &phase)?;
+    }
+    if is_asked(&part, "iterate") {
+        iterating::tell(&rt, &chosen, number(&size).unwrap_or(1), number(&phase))?;
     }
     if is_asked(&part, "world") {
         commands::tell(&rt, &chosen, number(&size))?;

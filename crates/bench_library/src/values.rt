@@ -22,7 +22,7 @@ fn id_of(born: Option<EntityId>) -> Result<Id, Fault> {
     Id::unpack(packed).ok_or(Fault::World)
 }
 
-fn component(
+pub(crate) fn component(
     alloc: Global,
     world: &mut World,
     name: &str,
@@ -33,7 +33,7 @@ fn component(
     id_of(changes.born())
 }
 
-fn tag(world: &mut World, name: &str) -> Result<Id, Fault> {
+pub(crate) fn tag(world: &mut World, name: &str) -> Result<Id, Fault> {
     let changes = world.entity(name)?;
     id_of(changes.born())
 }

@@ -1,0 +1,251 @@
+//! Entities in twenty tables, gone through by chunks and by rows, and as many in plain slices.
+
+use crate::by_rows::sum_by_rows;
+use crate::commands::Fault;
+use crate::values::{component, tag};
+use ecs_id::{EntityId, Id};
+use ecs_schema::Kind;
+use ecs_world::World;
+use query_check::Query;
+use query_chunks::{Chunk, Chunks, Column, has_chunks};
+use std::alloc::{AllocError, Global};
+use std::hash::RandomState;
+use std::io;
+use world_query::read_query;
+
+/// How many entities there are where no argument says it.
+const COUNT: u32 = 10_000;
+
+/// The bytes of a value: two numbers of four bytes.
+const PLANE: usize = 8;
+
+/// What is asked for.
+const TEXT: &str = "Position, Velocity";
+
+/// The workloads.
+const NAMES: [&str; 6] = [
+    "ids",
+    "values",
+    "row_ids",
+    "row_values",
+    "plain_ids",
+    "plain_values",
+];
+
+/// Makes entities with two values, in the twenty tables of so many sets of five tags.
+fn fill(alloc: Global, world: &mut World, count: u32) -> Result<(), Fault> {
+    let plane = [("x", Kind::I32), ("y", Kind::I32)];
+    let position = component(alloc, world, "Position", &plane)?;
+    let velocity = component(alloc, world, "Velocity", &plane)?;
+    let tags = [
+        tag(world, "A")?,
+        tag(world, "B")?,
+        tag(world, "C")?,
+        tag(world, "D")?,
+        tag(world, "E")?,
+    ];
+    for number in 0..count {
+        let entity = world.fresh()?.born().ok_or(Fault::World)?;
+        add_tags(world, entity, &tags, number % 20)?;
+        world.add(entity, position)?;
+        world.add(entity, velocity)?;
+        let x = i128::from(number % 1000);
+        world.set(entity, position, &[x, -x])?;
+        world.set(entity, velocity, &[1, x])?;
+    }
+    Ok(())
+}
+
+/// Adds the tags of the bits of a number.
+fn add_tags(world: &mut World, entity: EntityId, tags: &[Id], number: u32) -> Result<(), Fault> {
+    let mut left = number;
+    for tag in tags {
+        if left % 2 == 1 {
+            world.add(entity, *tag)?;
+        }
+        left /= 2;
+    }
+    Ok(())
+}
+
+fn sum_of_entities(entities: &[EntityId]) -> u64 {
+    let mut sum = 0u64;
+    for entity in entities {
+        sum = sum.wrapping_add(u64::from(entity.index));
+    }
+    sum
+}
+
+/// The numbers of a value.
+#[inline(always)]
+fn plane_of(bytes: &[u8]) -> (i32, i32) {
+    match bytes {
+        [a, b, c, d, e, f, g, h] => (
+            i32::from_le_bytes([*a, *b, *c, *d]),
+            i32::from_le_bytes([*e, *f, *g, *h]),
+        ),
+        _ => (0, 0),
+    }
+}
+
+/// The sum of the products of two values' numbers.
+#[inline(always)]
+pub(crate) fn product_of(position: &[u8], velocity: &[u8]) -> i64 {
+    let (x, y) = plane_of(position);
+    let (dx, dy) = plane_of(velocity);
+    i64::from(x.wrapping_mul(dx)).wrapping_add(i64::from(y.wrapping_mul(dy)))
+}
+
+fn sum_of_values(positions: &[u8], velocities: &[u8]) -> u64 {
+    let mut sum = 0i64;
+    for (position, velocity) in positions
+        .chunks_exact(PLANE)
+        .zip(velocities.chunks_exact(PLANE))
+    {
+        sum = sum.wrapping_add(product_of(position, velocity));
+    }
+    sum.cast_unsigned()
+}
+
+fn values_of(chunk: &Chunk<'_>) -> u64 {
+    match (chunk.column(0), chunk.column(1)) {
+        (Some(Column::Values(_, _, positions)), Some(Column::Values(_, _, velocities))) => {
+            sum_of_values(positions, velocities)
+        }
+        _ => 0,
+    }
+}
+
+/// A sum over all entities of a query, by chunks.
+fn sum_by_chunks(world: &World, query: &Query, values: bool) -> u64 {
+    if !has_chunks(query) {
+        return 0;
+    }
+    let mut chunks = Chunks::start(world, query);
+    let mut sum = 0u64;
+    for _ in 0..u32::MAX {
+        let Some(chunk) = chunks.next_chunk() else {
+            break;
+        };
+        let more = if values {
+            values_of(&chunk)
+        } else {
+            sum_of_entities(chunk.entities())
+        };
+        sum = sum.wrapping_add(more);
+    }
+    sum
+}
+
+/// As many entities and values in three slices.
+#[derive(Drop)]
+struct Plain {
+    entities: Vec<EntityId>,
+    positions: Vec<u8>,
+    velocities: Vec<u8>,
+}
+
+fn plain_entities(alloc: Global, count: u32) -> Result<Plain, AllocError> {
+    let mut all = Plain {
+        entities: Vec::new(alloc),
+        positions: Vec::new(alloc),
+        velocities: Vec::new(alloc),
+    };
+    for index in 0..count {
+        all.entities.push(EntityId {
+            index,
+            generation: 0,
+        })?;
+        all.positions.extend_from_slice(&[1, 2, 3, 4, 5, 6, 7, 8])?;
+        all.velocities.extend_from_slice(&[1, 0, 0, 0, 1, 0, 0, 0])?;
+    }
+    Ok(all)
+}
+
+/// Goes over so many plain entities so often.
+fn sum_plain(alloc: Global, values: bool, count: u32, times: u32) -> Result<u64, Fault> {
+    let all = plain_entities(alloc, count)?;
+    let mut sum = 0u64;
+    for _ in 0..times {
+        let more = if values {
+            sum_of_values(all.positions.as_slice(), all.velocities.as_slice())
+        } else {
+            sum_of_entities(all.entities.as_slice())
+        };
+        sum = sum.wrapping_add(more);
+    }
+    Ok(sum)
+}
+
+/// Goes over the entities of a world so often by chunks.
+fn sum_of_chunks(alloc: Global, world: &World, values: bool, times: u32) -> Result<u64, Fault> {
+    let query = read_query(alloc, world, TEXT).or(Err(Fault::World))?;
+    let mut sum = 0u64;
+    for _ in 0..times {
+        sum = sum.wrapping_add(sum_by_chunks(world, &query, values));
+    }
+    Ok(sum)
+}
+
+/// The same by rows.
+fn sum_of_rows(alloc: Global, world: &World, values: bool, times: u32) -> Result<u64, Fault> {
+    sum_by_rows(alloc, world, TEXT, values, times).or(Err(Fault::World))
+}
+
+/// Makes so many entities, and goes over them so often.
+fn sum_of_world(
+    alloc: Global,
+    world: &mut World,
+    name: &str,
+    count: u32,
+    times: u32,
+) -> Result<u64, Fault> {
+    fill(alloc, world, count)?;
+    match name {
+        "row_ids" => sum_of_rows(alloc, world, false, times),
+        "row_values" => sum_of_rows(alloc, world, true, times),
+        _ => sum_of_chunks(alloc, world, name == "values", times),
+    }
+}
+
+fn sum(
+    alloc: Global,
+    random: RandomState,
+    name: &str,
+    count: u32,
+    times: u32,
+) -> Result<u64, Fault> {
+    match name {
+        "plain_ids" => sum_plain(alloc, false, count, times),
+        "plain_values" => sum_plain(alloc, true, count, times),
+        _ => {
+            let mut world = World::new(alloc, random).or(Err(Fault::World))?;
+            let sum = sum_of_world(alloc, &mut world, name, count, times);
+            drop(world);
+            sum
+        }
+    }
+}
+
+/// Goes over the entities of one workload, or of all, so often, and tells the sum of each.
+pub(crate) fn tell(
+    rt: &HostRuntime,
+    chosen: &Option<String>,
+    times: u32,
+    size: Option<u32>,
+) -> io::Result<()> {
+    let count = size.unwrap_or(COUNT);
+    for name in &NAMES {
+        let is_asked = match chosen {
+            Some(word) => word.as_str() == *name,
+            None => true,
+        };
+        if is_asked {
+            match sum(rt.alloc(), RandomState::new(rt)?, name, count, times) {
+                Ok(sum) => println!(rt; "{name}: {sum}")?,
+                Err(fault) => println!(rt; "{fault:?}")?,
+            }
+        }
+    }
+    Ok(())
+}
