@@ -1,0 +1,4 @@
+mod Entering
+mod Gathered
+mod Increasing
+mod Led

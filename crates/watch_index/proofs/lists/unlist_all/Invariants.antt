@@ -1,0 +1,7 @@
+use Rattle.watch_index.specs.Listed.{Drops}
+use Rattle.watch_index.specs.SameOccasion.{occasion_eq}
+use Rattle.watch_index.proofs.Entering.{of_first}
+use Rattle.watch_index.proofs.lists.unlist_all.Given as goal
+
+abbrev pub invariant-loop-occasion : goal.invariant-loop-occasion
+invariant-loop-occasion g l = Drops l.initial.lists.entries l.lists.entries (of_first occasion_eq l.occasions l.occasion-index) l.number

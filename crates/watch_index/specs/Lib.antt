@@ -1,0 +1,4 @@
+pub mod Occasions
+pub mod SameOccasion
+pub mod Listed
+pub mod Laws

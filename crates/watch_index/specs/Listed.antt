@@ -1,0 +1,47 @@
+-- The numbers that are listed for each occasion.
+use Rattle.std.specs.Prelude.{◌≡◌, ℕ, ◌==◌, Bool, false, cond, not, ◌&&◌, ◌||◌, List, [], unwrap_or}
+use Rattle.std.specs.Option.{option_map_or}
+use Rattle.std.specs.List.{list_any}
+use Rattle.std.specs.Map.{lookup}
+use Rattle.watch_index.specs.declared.occasion.Occasion.{Occasion}
+use Rattle.watch_index.specs.SameOccasion.{occasion_eq}
+
+-- occasions, each with the numbers of the stored queries that look out for it
+abbrev pub Listings : Type 0
+Listings = List (Occasion × List ℕ)
+
+-- the numbers of one
+abbrev pub listed : Listings → Occasion → List ℕ
+listed ls o = unwrap_or (lookup (occasion_eq o) ls) []
+
+-- whether numbers have this one among them
+abbrev pub has : List ℕ → ℕ → Bool
+has ns n = list_any (λ m. n == m) ns
+
+-- whether a number is listed for an occasion
+abbrev pub is_listed : Listings → Occasion → ℕ → Bool
+is_listed ls o n = option_map_or (λ ns. has ns n) (lookup (occasion_eq o) ls) false
+
+-- whether an occasion is one of these
+abbrev pub is_among : List Occasion → Occasion → Bool
+is_among os o = list_any (λ one. occasion_eq one o) os
+
+-- the new list has what the old one has, but not the number
+abbrev pub Loses : List ℕ → List ℕ → ℕ → Type 0
+Loses old new number = (n : ℕ) → has new n ≡ cond (number == n) false (has old n)
+
+-- the new lists have what the old ones have, and the number where an occasion passes the test
+abbrev pub Adds : Listings → Listings → (Occasion → Bool) → ℕ → Type 0
+Adds old new test number = (o : Occasion) (n : ℕ) → is_listed new o n ≡ (is_listed old o n || (test o && number == n))
+
+-- the new lists have what the old ones have, but not the number where an occasion passes the test
+abbrev pub Drops : Listings → Listings → (Occasion → Bool) → ℕ → Type 0
+Drops old new test number = (o : Occasion) (n : ℕ) → is_listed new o n ≡ (is_listed old o n && not (test o && number == n))
+
+-- the new lists have what the old ones have, but for the number where an occasion passes the test
+abbrev pub Keeps : Listings → Listings → (Occasion → Bool) → ℕ → Type 0
+Keeps old new test number = (o : Occasion) (n : ℕ) → (test o && number == n) ≡ false → is_listed new o n ≡ is_listed old o n
+
+-- both have the same
+abbrev pub AreSame : Listings → Listings → Type 0
+AreSame old new = (o : Occasion) (n : ℕ) → is_listed new o n ≡ is_listed old o n

@@ -1,0 +1,93 @@
+-- What stored queries look out for, and what happens by a command.
+use Rattle.std.specs.Prelude.{ℕ, Bool, true, false, List, [], ◌∷◌, ◌++◌, map, flat_map, Option, Some, None, option_map, if◌then◌else◌}
+use Rattle.ecs_id.specs.Id.{Id}
+use Rattle.component_index.specs.declared.pattern.Part.{Part}
+use Rattle.component_index.specs.declared.pattern.Part.TheVariants as part
+use Rattle.component_index.specs.declared.pattern.Pattern.{Pattern}
+use Rattle.component_index.specs.Listed.{patterns_of}
+use Rattle.ecs_model.specs.declared.watches.StoredKind.{StoredKind}
+use Rattle.ecs_model.specs.declared.watches.StoredKind.TheVariants.{Kept, Monitor, OnAdd, OnRemove, OnSet}
+use Rattle.ecs_model.specs.World.{Key}
+use Rattle.query_concerns.specs.Anchored.{is_anchored}
+use Rattle.query_concerns.specs.Concerns.{is_asked_by_all}
+use Rattle.query_model.specs.declared.query.Ref.{Ref}
+use Rattle.query_model.specs.declared.query.Ref.TheVariants as ref
+use Rattle.query_model.specs.declared.query.Term.{Term}
+use Rattle.query_model.specs.Query.{Item, must, may, either, equal, differ, Piece, item, opening, closing, Query}
+use Rattle.watch_index.specs.declared.occasion.Occasion.{Occasion}
+use Rattle.watch_index.specs.declared.occasion.Occasion.TheVariants.{Life, AskedByAll, Fact}
+use Rattle.watch_index.specs.declared.occasion.Way.{Way}
+use Rattle.watch_index.specs.declared.occasion.Way.TheVariants.{Moves, IsWritten}
+
+-- ---- what a stored query looks out for
+
+-- what a reference may stand for, whatever variables do: `_` as `*`
+abbrev pub part_of : Ref → Part
+part_of (ref.Is e) = part.Is e
+part_of (ref.Var v) = part.Any
+part_of ref.Any = part.Any
+part_of ref.One = part.Any
+
+-- the ids that a term may match
+abbrev pub pattern_of : Ref → Option Ref → Pattern
+pattern_of first target = record { first = part_of first; second = option_map part_of target }
+
+-- all pairs of a relationship
+abbrev pub pairs_of : Part → Pattern
+pairs_of r = record { first = r; second = Some part.Any }
+
+module _ (way : Way) where
+  -- the pairs along which a term asks ancestors
+  abbrev pub up_occasions : Option ℕ → List Occasion
+  up_occasions None = []
+  up_occasions (Some r) = Fact way (pairs_of (part.Is r)) ∷ []
+
+  -- those that a closed term follows
+  abbrev pub closed_occasions : Term → List Occasion
+  closed_occasions t = if t.closed then Fact way (pairs_of (part_of t.first)) ∷ [] else []
+
+  abbrev pub term_occasions : Term → List Occasion
+  term_occasions t = Fact way (pattern_of t.first t.target) ∷ (up_occasions t.up ++ closed_occasions t)
+
+  abbrev pub item_occasions : Item → List Occasion
+  item_occasions (must t) = term_occasions t
+  item_occasions (may t) = term_occasions t
+  item_occasions (either ts) = flat_map term_occasions ts
+  item_occasions (equal v r) = []
+  item_occasions (differ v r) = []
+
+  abbrev pub piece_occasions : Piece → List Occasion
+  piece_occasions (item x) = item_occasions x
+  piece_occasions (opening from_term own) = []
+  piece_occasions closing = []
+
+-- of a monitor: facts that its terms may match or follow, those that concern every query, and lives, unless its query is anchored
+abbrev pub of_monitors : Query → List Occasion
+of_monitors q = flat_map (piece_occasions Moves) q.pieces ++ AskedByAll ∷ (if is_anchored q then [] else Life ∷ [])
+
+-- of each kind: an observer's one term is judged by its id alone
+abbrev pub occasions_of : StoredKind → Query → List Occasion
+occasions_of Kept q = []
+occasions_of Monitor q = of_monitors q
+occasions_of OnAdd q = flat_map (piece_occasions Moves) q.pieces
+occasions_of OnRemove q = flat_map (piece_occasions Moves) q.pieces
+occasions_of OnSet q = flat_map (piece_occasions IsWritten) q.pieces
+
+-- ---- what happens
+
+-- to a fact of an id, by the patterns that match it
+abbrev pub facts_of : Way → Id → List Occasion
+facts_of way i = map (Fact way) (patterns_of i)
+
+-- where the id is one that concerns every query
+abbrev pub of_all : Id → List Occasion
+of_all i = if is_asked_by_all i then AskedByAll ∷ [] else []
+
+-- by a fact of an id that comes or goes
+abbrev pub moved : Id → List Occasion
+moved i = of_all i ++ facts_of Moves i
+
+-- by births or deaths, if there are any, and by the facts that came, that went, and whose values were set
+abbrev pub happening : Bool → List Key → List Key → List Key → List Occasion
+happening lives came went written =
+    (if lives then Life ∷ [] else []) ++ (flat_map (λ k. moved k.1) came ++ (flat_map (λ k. moved k.1) went ++ flat_map (λ k. facts_of IsWritten k.1) written))

@@ -1,0 +1,77 @@
+//! For each thing that may happen, the stored queries that look out for it.
+ghost use Rattle.std.specs.Prelude.{◌≡◌, ◌↔◌, [], ℕ, Contains, IfOk, OnErr, OnOk, false, flat_map};
+ghost use Rattle.std.specs.List.Sorted.{IsStrictlyIncreasing};
+ghost use Rattle.watch_index.specs.Listed.{Adds, AreSame, Drops, is_among, is_listed, listed};
+ghost use Rattle.watch_index.specs.Occasions.{happening};
+ghost use Rattle.watch_index.specs.declared.occasion.Occasion.{Occasion as Awaited};
+
+use crate::gathering::{Happened, gathered, put_in_order};
+use crate::lists::{Lists, list_all, unlist_all};
+use crate::occasion::Occasion;
+use indexmap::IndexMap;
+use secret_hashing::Hashing;
+use std::alloc::{AllocError, Allocator, Global};
+use std::hash::RandomState;
+use std::marker::Model;
+
+/// For each thing that may happen, the numbers of the stored queries that look out for it.
+///
+/// `enter` and `leave` take time in the things that a stored query looks out for, and in the numbers of each list for their moves alone. `led` takes
+/// time in what has happened and in the numbers that it answers, whatever else is stored. `leave` takes no memory.
+#[derive(Drop)]
+pub struct WatchIndex<A: Allocator = Global> {
+    lists: Lists<A>,
+}
+
+impl<A: Allocator> Model for WatchIndex<A> {
+    ghost use Rattle.watch_index.specs.Listed.{Listings};
+
+    ghost Value = { Listings };
+
+    ghost view = { λ index. index.lists.entries };
+}
+
+impl<A: Allocator + Copy> WatchIndex<A> {
+    /// An index without stored queries, which hashes what they look out for with these random keys. It takes no memory before the first.
+    pub fn new(alloc: A, random: RandomState) -> Self
+        ensures { result ≡ [] }
+    {
+        WatchIndex {
+            lists: IndexMap::with_hasher(alloc, Hashing::new(random)),
+        }
+    }
+
+    /// Enters a stored query under a number that none has, with all that it looks out for.
+    ///
+    /// Where memory is refused, each list has the same numbers as before.
+    pub fn enter(&mut self, number: u64, occasions: &[Occasion]) -> Result<(), AllocError>
+        requires free { (o : Awaited) → is_listed self.old o number ≡ false }
+        ensures entered { OnOk result (Adds self.old self.new (is_among occasions.now) number) }
+        ensures refused { OnErr result (AreSame self.old self.new) }
+    {
+        if let Err(error) = list_all(&mut self.lists, occasions, number) {
+            unlist_all(&mut self.lists, occasions, number);
+            return Err(error);
+        }
+        Ok(())
+    }
+
+    /// The numbers of the stored queries that look out for something that has happened, in ascending order.
+    pub fn led(&self, alloc: A, happened: Happened<'_>) -> Result<Vec<u64, A>, AllocError>
+        ensures ascend { IfOk result (λ numbers. IsStrictlyIncreasing numbers.items) }
+        ensures exact { IfOk result (λ numbers. (n : ℕ) → Contains numbers.items n ↔ Contains (flat_map (listed self.now) (happening happened.entry.lives (happened.entry.came).now (happened.entry.went).now (happened.entry.written).now)) n) }
+    {
+        let mut numbers = gathered(alloc, &self.lists, happened)?;
+        put_in_order(&mut numbers);
+        Ok(numbers)
+    }
+}
+
+impl<A: Allocator> WatchIndex<A> {
+    /// Takes out the stored query of a number, with all that it looks out for.
+    pub fn leave(&mut self, number: u64, occasions: &[Occasion])
+        ensures { Drops self.old self.new (is_among occasions.now) number }
+    {
+        unlist_all(&mut self.lists, occasions, number);
+    }
+}

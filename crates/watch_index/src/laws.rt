@@ -1,0 +1,8 @@
+//! What is proved of the definitions alone: the function's contract is a law, and its body does nothing.
+
+ghost use Rattle.watch_index.specs.Laws.{WhomChangesConcernTheyLeadTo};
+
+/// Law: each stored query that what has changed may concern looks out for some of it.
+pub fn whom_changes_concern_they_lead_to()
+    ensures { WhomChangesConcernTheyLeadTo }
+{}

@@ -1,0 +1,27 @@
+//! Which stored queries may be told of a command, by what they look out for.
+//!
+//! ```text
+//! let mut index = WatchIndex::new(rt.alloc(), RandomState::new(&rt)?);
+//!
+//! // a stored query under its number, with all that it looks out for
+//! let occasions = occasions_of(rt.alloc(), StoredKind::Monitor, &query, is_anchored(&query))?;
+//! index.enter(7, occasions.as_slice())?;
+//!
+//! // the numbers of those that look out for something that a command did
+//! for number in index.led(rt.alloc(), happened)?.as_slice() { .. }
+//! index.leave(7, occasions.as_slice());
+//! ```
+#![tactic(auto)]
+
+mod gathering;
+mod index;
+pub mod laws;
+mod lists;
+mod numbers;
+mod occasion;
+mod wanting;
+
+pub use gathering::Happened;
+pub use index::WatchIndex;
+pub use occasion::{Occasion, Way};
+pub use wanting::occasions_of;

@@ -1,0 +1,68 @@
+//! The list of numbers of each occasion.
+ghost use Rattle.std.specs.Prelude.{OnErr, OnOk};
+ghost use Rattle.watch_index.specs.Listed.{Adds, Drops, Keeps, is_among};
+ghost use Rattle.watch_index.specs.SameOccasion.{occasion_eq};
+
+use crate::numbers::Numbers;
+use crate::occasion::Occasion;
+use indexmap::IndexMap;
+use secret_hashing::Hashing;
+use std::alloc::{AllocError, Allocator};
+
+// No list is empty: the entry of an occasion goes with the last number of its list.
+pub type Lists<A> = IndexMap<Occasion, Numbers<A>, Hashing, A>;
+
+/// Puts the number into the list of the occasion, where it isn't in it.
+fn list<A: Allocator + Copy>(
+    lists: &mut Lists<A>,
+    occasion: &Occasion,
+    number: u64,
+) -> Result<(), AllocError>
+    ensures listed { OnOk result (Adds lists.old.entries lists.new.entries (occasion_eq occasion.now) number) }
+    ensures refused { OnErr result (Keeps lists.old.entries lists.new.entries (occasion_eq occasion.now) number) }
+{
+    let alloc = *lists.allocator();
+    if let Some(list) = lists.get_mut(occasion) {
+        list.insert(number)?;
+        return Ok(());
+    }
+    lists.insert(*occasion, Numbers::one(alloc, number)?)?;
+    Ok(())
+}
+
+/// Takes the number out of the list of the occasion, where it is in it.
+fn unlist<A: Allocator>(lists: &mut Lists<A>, occasion: &Occasion, number: u64)
+    ensures { Drops lists.old.entries lists.new.entries (occasion_eq occasion.now) number }
+{
+    let Some(list) = lists.get_mut(occasion) else {
+        return;
+    };
+    list.remove(number);
+    if list.is_empty() {
+        lists.swap_remove(occasion);
+    }
+}
+
+/// Puts the number into the lists of the occasions. After an error it is in some of them.
+pub fn list_all<A: Allocator + Copy>(
+    lists: &mut Lists<A>,
+    occasions: &[Occasion],
+    number: u64,
+) -> Result<(), AllocError>
+    ensures listed { OnOk result (Adds lists.old.entries lists.new.entries (is_among occasions.now) number) }
+    ensures refused { OnErr result (Keeps lists.old.entries lists.new.entries (is_among occasions.now) number) }
+{
+    for occasion in occasions {
+        list(lists, occasion, number)?;
+    }
+    Ok(())
+}
+
+/// Takes the number out of the lists of the occasions.
+pub fn unlist_all<A: Allocator>(lists: &mut Lists<A>, occasions: &[Occasion], number: u64)
+    ensures { Drops lists.old.entries lists.new.entries (is_among occasions.now) number }
+{
+    for occasion in occasions {
+        unlist(lists, occasion, number);
+    }
+}
