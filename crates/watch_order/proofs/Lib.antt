@@ -1,0 +1,3 @@
+mod Indexed
+mod Places
+pub mod Written

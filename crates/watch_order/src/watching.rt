@@ -1,0 +1,138 @@
+//! The order, and the index of what its values look out for.
+
+ghost use Rattle.std.specs.Prelude.{◌≡◌, ◌<◌, ◌++◌, ◌∷◌, [], All, IfNone, IfOk, IfSome, None, OnErr, OnOk, length, option_map};
+ghost use Rattle.std.specs.List.Sorted.{IsStrictlyIncreasing};
+ghost use Rattle.std.specs.Map.{lookup, remove_entry};
+ghost use Rattle.std.specs.String.{string_bytes};
+ghost use Rattle.name_order.specs.Order.{IsTakenOut, entries_of, is_key};
+ghost use Rattle.watch_index.specs.Occasions.{happening};
+ghost use Rattle.watch_order.specs.Watched.{AreLed, HasPlaces, IsOpen, IsWatched};
+
+use name_order::{NameOrder, Named};
+use std::alloc::{AllocError, Allocator};
+use std::hash::RandomState;
+use watch_index::{Happened, Occasion, WatchIndex};
+
+/// A value with what it looks out for.
+#[derive(Drop)]
+pub struct Watcher<V, A: Allocator> {
+    pub occasions: Vec<Occasion, A>,
+    pub value: V,
+}
+
+/// It in a box, under its name.
+pub type Boxed<V, A> = Box<Named<Watcher<V, A>, A>, A>;
+
+/// Values in the order in which they were put in, and an index of what they look out for.
+#[derive(Drop)]
+pub struct WatchOrder<V, A: Allocator> {
+    /// Values may be written, and what they look out for stays.
+    pub order: NameOrder<Watcher<V, A>, A>,
+    index: WatchIndex<A>,
+}
+
+impl<V, A: Allocator + Copy> WatchOrder<V, A> {
+    /// An order without values, which hashes names and what is looked out for with these random keys.
+    pub fn new(alloc: A, random: RandomState) -> Self
+        ensures none { result.order.made.items ≡ [] }
+        ensures watched { IsWatched result }
+    {
+        WatchOrder {
+            order: NameOrder::new(alloc, random),
+            index: WatchIndex::new(alloc, random),
+        }
+    }
+
+    /// Makes a value ready to be put behind the others, and lists it for what it looks out for. Then it is put or forgotten.
+    ///
+    /// Fails where memory is refused, and then nothing has changed.
+    pub fn prepare(
+        &mut self,
+        alloc: A,
+        name: String<A>,
+        watcher: Watcher<V, A>,
+    ) -> Result<(String<A>, Boxed<V, A>), AllocError>
+    where
+        V: Drop,
+        requires watched { IsWatched self.old }
+        ensures same { self.new.order.made.items ≡ self.old.order.made.items }
+        ensures open { IfOk result (IsOpen self.new name watcher) }
+        ensures refused { OnErr result (IsWatched self.new) }
+    {
+        let (key, made) = self.order.prepare(alloc, name, watcher)?;
+        self.index
+            .enter(made.number, made.value.occasions.as_slice())?;
+        Ok((key, made))
+    }
+
+    /// The places of the values that look out for something that has happened, in order.
+    ///
+    /// Takes time in what has happened and in the values that are led to, whatever else is stored. Fails where memory is refused.
+    pub fn led(&self, alloc: A, happened: Happened<'_>) -> Result<Vec<usize, A>, AllocError>
+        requires watched { IsWatched self.now }
+        ensures ascend { IfOk result (λ places. IsStrictlyIncreasing places.items) }
+        ensures within { IfOk result (λ places. All (λ i. i < length self.now.order.made.items) places.items) }
+        ensures led { IfOk result (λ places. AreLed self.now.order.made.items (happening happened.entry.lives (happened.entry.came).now (happened.entry.went).now (happened.entry.written).now) places.items) }
+    {
+        let numbers = self.index.led(alloc, happened)?;
+        let mut places = self.places(alloc, numbers.as_slice())?;
+        places.sort_unstable();
+        places.dedup();
+        Ok(places)
+    }
+
+    /// Where values with these numbers stand.
+    fn places(&self, alloc: A, numbers: &[u64]) -> Result<Vec<usize, A>, AllocError>
+        requires watched { IsWatched self.now }
+        ensures within { IfOk result (λ places. All (λ i. i < length self.now.order.made.items) places.items) }
+        ensures all { IfOk result (λ places. HasPlaces self.now.order.made.items numbers.now places.items) }
+    {
+        let mut places = Vec::new(alloc);
+        for number in numbers {
+            if let Some(place) = self.order.place_of_number(*number) {
+                places.push(place)?;
+            }
+        }
+        Ok(places)
+    }
+}
+
+impl<V, A: Allocator> WatchOrder<V, A> {
+    /// Puts a value that was made ready behind the others. None of them has its name.
+    pub fn put(&mut self, key: String<A>, made: Boxed<V, A>)
+        requires open { IsOpen self.old made.value.name made.value.value (key, made) }
+        requires free { lookup (is_key (string_bytes made.value.name)) (entries_of self.old.order) ≡ None }
+        ensures made { self.new.order.made.items ≡ self.old.order.made.items ++ made ∷ [] }
+        ensures watched { IsWatched self.new }
+    {
+        self.order.put(key, made);
+    }
+
+    /// Forgets a value that was made ready.
+    pub fn forget(&mut self, key: &String<A>, made: &Boxed<V, A>)
+        requires open { IsOpen self.old made.now.value.name made.now.value.value (key.now, made.now) }
+        ensures same { self.new.order.made.items ≡ self.old.order.made.items }
+        ensures watched { IsWatched self.new }
+    {
+        let _ = key;
+        self.index
+            .leave(made.number, made.value.occasions.as_slice());
+    }
+
+    /// Takes out the value of a name, with what it looks out for. It takes no memory.
+    pub fn remove(&mut self, name: &str) -> Option<Boxed<V, A>>
+        requires watched { IsWatched self.old }
+        ensures value { option_map (λ b. b.value.value) result ≡ lookup (is_key name.now) (entries_of self.old.order) }
+        ensures entries { IfSome result (λ _. entries_of self.new.order ≡ remove_entry (is_key name.now) (entries_of self.old.order)) }
+        ensures place { IfSome result (IsTakenOut self.old.order.made.items self.new.order.made.items) }
+        ensures none { IfNone result (self.new ≡ self.old) }
+        ensures watched { IsWatched self.new }
+    {
+        let Some(made) = self.order.remove(name) else {
+            return None;
+        };
+        self.index
+            .leave(made.number, made.value.occasions.as_slice());
+        Some(made)
+    }
+}
