@@ -77,7 +77,33 @@ MONITORS = {
 }
 ROWS = [500, 8_000, 64_000]
 
-DIFFERENCES = {"untold": untold, "dropped": dropped, "asked": asked}
+
+def beside(kind, text):
+    """A command that concerns none of 1,000 stored queries, against the same without them."""
+    def difference():
+        world, told = [*tagged(1)], [*changes(COMMANDS)]
+        stored = [f"{kind} q{number} {text}" for number in range(OBSERVERS)]
+        return [(1, world + stored + told), (-1, world + stored), (-1, world + told), (1, world)], COMMANDS
+    return difference
+
+
+def dropped_monitors():
+    """A `drop` line of the oldest of 1,024 monitors that look out for the same."""
+    stored = [*tagged(1), *(f"monitor k{number} T0, !Sun" for number in range(STORED))]
+    return [(1, stored + [*drops(STORED // 2)]), (-1, stored)], STORED // 2
+
+
+DIFFERENCES = {
+    "untold": untold,
+    "dropped": dropped,
+    "dropped_monitors": dropped_monitors,
+    "asked": asked,
+    "beside_kept": beside("keep", "T0"),
+    "beside_local": beside("monitor", "T0"),
+    "beside_up": beside("monitor", "T0(up)"),
+    "beside_tied": beside("monitor", "(T0,$x), T0($x)"),
+    "beside_observers": beside("on add", "T0"),
+}
 DIFFERENCES.update((f"moved_{name}_{count}", partial(moving, text, count)) for name, text in MONITORS.items() for count in ROWS)
 
 

@@ -1,4 +1,5 @@
-"""Scripts with monitors: of local queries and of others, commands of every kind with a twin of each monitor; many entities; and commands that don't concern them."""
+"""Scripts with monitors: of local queries, many entities, and commands of every kind with a twin of each monitor; of others, commands that don't
+concern them; and many stored queries of every sort at once."""
 import random
 
 LOCAL = [
@@ -158,7 +159,45 @@ def twins(texts, more, commands):
     return bytes_of(lines)
 
 
+OBSERVED = ["Planet", "Hot", "Position", "*", "(Likes,Sun)", "(Likes,*)", "(*,Sun)", "(*,*)", "(_,_)", "_", "Disabled"]
+
+
+def stored_at_once(count, commands):
+    """So many stored queries of every sort, each stored and dropped at lines drawn at random, some of them twice, beside so many commands on one
+    world. Gives the commands, and of each stored query its name and its own lines, each before which command it stands."""
+    draw = random.Random(17)
+    world = making(["Planet", "Hot", "Likes", "Sun"]) + [f"entity E{number}" for number in range(24)]
+    moves = [line for _ in range(commands) for line in command(draw, 24)]
+    stored = []
+    for number in range(count):
+        name, kind = f"q{number}", draw.choice(["keep", "monitor", "monitor", "monitor", "on add", "on remove", "on set"])
+        text = draw.choice(OBSERVED if kind.startswith("on") else LOCAL + OTHERS)
+        begun, ended, again = sorted(draw.randrange(len(moves)) for _ in range(3))
+        lines = [(0 if number % 2 else begun, f"{kind} {name} {text}")]
+        lines += [(ended, f"drop {name}")] * (number % 3 > 0) + [(again, f"{kind} {name} {text}")] * (number % 3 > 1)
+        stored.append((name, lines))
+    return world, moves, stored
+
+
+def with_stored(world, moves, stored):
+    """The script of these commands with the lines of these stored queries."""
+    before = {}
+    for _, lines in stored:
+        for at, line in lines:
+            before.setdefault(at, []).append(line)
+    return bytes_of(world + [line for at, move in enumerate(moves) for line in (*before.get(at, []), move)])
+
+
 def told_to(output, watch):
     """What the watch of a name was told, without its name."""
-    words = (line.split() for line in output.decode().splitlines())
-    return [(line[0], line[2:]) for line in words if len(line) > 2 and line[0] in ("enter", "leave") and line[1] == watch]
+    return told_to_each(output).get(watch, [])
+
+
+def told_to_each(output):
+    """What each watch was told, by its name."""
+    told = {}
+    for line in output.decode().splitlines():
+        words = line.split()
+        if len(words) > 2 and words[0] in ("enter", "leave", "add", "remove", "set"):
+            told.setdefault(words[1], []).append((words[0], words[2:]))
+    return told

@@ -297,6 +297,32 @@ def unconcerned_monitors_cost_nothing(program, room):
     return time.monotonic() - begun < 1 and answers(ran, 0) and told == [("enter", ["E1"]), ("leave", ["E3"]), ("leave", ["E0"])]
 
 
+def stored_queries_are_told_as_if_alone(program, room):
+    """200 stored queries of every sort at once, dropped and stored again among 2,000 commands: each is told what it is told with nothing else
+    stored."""
+    world, moves, stored = monitors.stored_at_once(200, 2_000)
+    together = monitors.told_to_each(run_words(program, [], monitors.with_stored(world, moves, stored)).stdout)
+    told = 0
+    for name, lines in stored:
+        alone = monitors.told_to_each(run_words(program, [], monitors.with_stored(world, moves, [(name, lines)])).stdout)
+        if together.get(name, []) != alone.get(name, []):
+            return False
+        told += len(alone.get(name, []))
+    return told > 5_000
+
+
+def a_drop_and_a_command_cost_what_they_touch(program, room):
+    """1,000 stored queries of each sort that commands don't concern: 20,000 commands, and drops that begin with the oldest, within a second each."""
+    for kind, text in (("keep", "Hot"), ("monitor", "Hot"), ("monitor", "Hot(up)"), ("on add", "Hot")):
+        lines = monitors.making(["Planet", "Hot", "Earth"]) + [f"{kind} q{number} {text}" for number in range(1_000)]
+        lines += ["add Earth Planet", "remove Earth Planet"] * 10_000 + [f"drop q{number}" for number in range(1_000)]
+        begun = time.monotonic()
+        ran = run_words(program, [], monitors.bytes_of(lines))
+        if time.monotonic() - begun > 1 or not answers(ran, 0) or ran.stdout:
+            return False
+    return True
+
+
 def kept_queries_are_right_in_worlds_that_grow(program, room):
     """Kept queries are planned anew as the world grows: each time they print what the same query prints."""
     kept = {"d": "(ChildOf,$p), Tag, Hot($p)", "f": "(Likes,$x), Hot($x), Tag", "g": "Hot($x), Tag, !(ChildOf,$x)"}
@@ -350,6 +376,8 @@ CASES = [
     unconcerned_monitors_cost_nothing,
     monitors_of_few_bytes_take_little_memory,
     monitors_cost_who_moves,
+    stored_queries_are_told_as_if_alone,
+    a_drop_and_a_command_cost_what_they_touch,
     kept_queries_are_right_in_worlds_that_grow,
 ]
 

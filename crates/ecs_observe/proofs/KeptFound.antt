@@ -1,5 +1,5 @@
 -- The kept query of a name, as a session holds it.
-use Rattle.std.specs.Prelude.{◌≡◌, ◌≢◌, ℕ, List, map, bytes_eq, Option, None, Some, Ok, Err}
+use Rattle.std.specs.Prelude.{◌≡◌, ◌≢◌, ℕ, List, ◌++◌, map, bytes_eq, Option, None, Some, Result, Ok, Err}
 use Rattle.std.specs.List.{find}
 use Rattle.std.specs.Option.{option_map_or}
 use Rattle.std.specs.Map.{lookup}
@@ -12,11 +12,16 @@ use Rattle.ecs_model.specs.declared.watches.StoredKind.TheVariants.{Kept, Monito
 use Rattle.ecs_model.specs.Command.{Changed}
 use Rattle.ecs_model.specs.stored.Session.{if_kept, kept_query, stored_at}
 use Rattle.ecs_model.specs.stored.Watches.{Stored}
+use Rattle.ecs_model.specs.World.{WorldState}
+use Rattle.ecs_model.specs.rows.Text.{rows_text}
 use Rattle.ecs_world.specs.Standing as world
+use Rattle.ecs_observe.specs.Answers.{AnswersRows, WritesRows}
+use Rattle.ecs_observe.specs.declared.errors.SessionError.{SessionError}
+use Rattle.ecs_observe.specs.declared.errors.SessionError.TheVariants.{Refused, Memory}
 use Rattle.ecs_observe.specs.declared.stored.StoredQuery.{StoredQuery}
 use Rattle.ecs_observe.specs.Parts.{held_of}
 use Rattle.ecs_observe.specs.Standing.{IsHeld, IsSession, Standing, session_of, stored_of}
-use Rattle.ecs_observe.proofs.Found.{holds_of_found, is_key, named, none_found, seen, some_found, stored_is}
+use Rattle.ecs_observe.proofs.Found.{holds_of_found, is_key, named, none_found, seen, some_found, stored_is, world_is}
 
 module _ {A : Type 0} (self : Standing) (w : world.Standing) (es : List (String A × StoredQuery A)) (waiting : Option Changed) (compared : ℕ) (n : List ℕ) (view : self ≡ seen w es waiting compared) where
   pub stored_there : stored_at (session_of self) n ≡ find (λ x. bytes_eq n x.name) (map stored_of (map held_of es))
@@ -48,3 +53,10 @@ module _ {A : Type 0} (self : Standing) (w : world.Standing) (es : List (String 
     -- it is current
     pub current_found : IsSession (seen w es waiting compared) → IsCurrentIn (self.world).state (s.plan).query
     current_found h = subst (λ (t : Standing). IsCurrentIn (t.world).state (s.plan).query) (sym view) (holds_of_found n (IsHeld w.state) es s h.held there).current
+
+    -- and it is asked for its rows
+    pub rows_answered : {T : Type 0} (r : Result T SessionError) (before after : List ℕ) → WritesRows r s w.state before after → AnswersRows r (session_of self) n before after
+    rows_answered (Ok x) before after done =
+        ((s.plan).query, kept_found done.0, done.1 ∙ ap (λ (v : WorldState). before ++ rows_text v (s.plan).query) (sym (ap (λ (t : Standing). (t.world).state) view) ∙ sym (world_is self)))
+    rows_answered (Err (Refused reason)) before after refused = (other_kind refused.0 ∙ ap Err (sym refused.1), refused.2)
+    rows_answered (Err Memory) before after memory = tt

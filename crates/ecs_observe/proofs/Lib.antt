@@ -2,6 +2,7 @@ pub mod Answering
 pub mod Moving
 pub mod Nobody
 pub mod Counted
+pub mod Entries
 pub mod First
 pub mod Found
 pub mod KeptFound
@@ -15,3 +16,8 @@ pub mod Retold
 pub mod Tellings
 pub mod Locally
 pub mod Listed
+pub mod Skipped
+pub mod Untold
+pub mod LedTo
+pub mod Rewritten
+pub mod Watches

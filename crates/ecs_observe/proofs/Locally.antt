@@ -1,11 +1,13 @@
 -- What monitors of local queries are told, and who is one.
-use Rattle.std.specs.Prelude.{◌≡◌, ℕ, Bool, true, false, ◌&&◌, ◌||◌, List, [], ◌∷◌, ◌++◌, map, Some, slice_get, if◌then◌else◌}
+use Rattle.std.specs.Prelude.{◌≡◌, ℕ, Bool, true, false, ◌&&◌, List, [], ◌∷◌, ◌++◌, ◌<◌, length, map, Some, slice_get, slice_index_or, if◌then◌else◌}
 use Rattle.std.specs.List.{list_any}
+use Rattle.std.specs.Option.{option_map_or}
 use Rattle.std.specs.List.Sorted.{IsStrictlyIncreasing}
 use Rattle.std.specs.declared.string.String.{String}
 use Rattle.std.specs.String.{string_bytes}
 use Rattle.std.proofs.Common.{refl, sym, ap, subst, ◌∙◌, true≢false}
 use Rattle.std.proofs.lemmas.Bool.{and_parts}
+use Rattle.std.proofs.lemmas.List.Folds.{list_any_at}
 use Rattle.std.proofs.lemmas.Map.Keys.{any_passes_from_place}
 use Rattle.ecs_model.specs.Command.{Changed}
 use Rattle.ecs_model.specs.World.{WorldState}
@@ -25,6 +27,7 @@ use Rattle.watch_meaning.specs.Since.{IsAfter, told_since}
 use Rattle.world_events.specs.Told.{told_of_moves}
 use Rattle.ecs_observe.specs.Parts.{held_as, held_of}
 use Rattle.ecs_observe.specs.Standing.{Held, is_compared, is_monitor, is_told_locally, rows_before, told_to}
+use Rattle.ecs_observe.specs.Telling.{any_locally_at, is_locally_at}
 use Rattle.ecs_observe.specs.declared.stored.StoredQuery.{StoredQuery}
 use Rattle.ecs_observe.proofs.Retold.{held_at}
 use Rattle.ecs_observe.proofs.Staying.{monitor_is}
@@ -96,9 +99,6 @@ module _ (w : WorldState) (changed : Changed) (h : Held) (locally : is_told_loca
 
 -- ---- one stored query among those that are held
 module _ {A : Type 0} (es : List (String A × StoredQuery A)) (i : ℕ) (name : String A) (q : StoredQuery A) (there : slice_get es i ≡ Some (name, q)) where
-  pub one_told_locally : is_told_locally (held_as (string_bytes name) q) ≡ true → list_any is_told_locally (map held_of es) ≡ true
-  one_told_locally e = any_passes_from_place is_told_locally (map held_of es) i (held_as (string_bytes name) q) (held_at es i name q there) e
-
   -- what none passes, it doesn't
   pub none_at : (p : Held → Bool) → list_any p (map held_of es) ≡ false → p (held_as (string_bytes name) q) ≡ false
   none_at p none = by (p (held_as (string_bytes name) q)) refl
@@ -107,10 +107,11 @@ module _ {A : Type 0} (es : List (String A × StoredQuery A)) (i : ℕ) (name : 
       by true e = absurd (true≢false (sym (any_passes_from_place p (map held_of es) i (held_as (string_bytes name) q) (held_at es i name q there) e) ∙ none))
       by false e = refl
 
--- the same of the values of a map
-pub any_told_locally : {A : Type 0} (es : List (String A × StoredQuery A)) → list_any is_told_locally (map held_of es) ≡ list_any (λ q. is_monitor q.kind && is_local (q.plan).query) (map (λ e. e.1) es)
-any_told_locally [] = refl
-any_told_locally (e ∷ es) = λ i. is_told_locally (held_of e) || any_told_locally es i
+-- one that is told locally stands at one of these places
+pub one_told_locally : {A : Type 0} (es : List (String A × StoredQuery A)) (places : List ℕ) (j d : ℕ) (name : String A) (q : StoredQuery A) → j < length places
+    → slice_get es (slice_index_or places j d) ≡ Some (name, q) → is_told_locally (held_as (string_bytes name) q) ≡ true → any_locally_at es places ≡ true
+one_told_locally es places j d name q inside there e =
+    list_any_at (is_locally_at es) places j d inside (ap (λ o. option_map_or (λ p. is_told_locally (held_of p)) o false) there ∙ e)
 
 -- where no stored query is compared whole, the last isn't
 pub last_isnt : (hs : List Held) (h : Held) → list_any is_compared (hs ++ h ∷ []) ≡ false → is_compared h ≡ false

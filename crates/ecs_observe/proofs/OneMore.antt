@@ -1,14 +1,12 @@
 -- What a session has once one stored query more is held.
-use Rattle.std.specs.Prelude.{◌≡◌, ◌≢◌, ℕ, ◌+◌, ◌<◌, ◌≤◌, cond, Bool, true, false, List, [], ◌∷◌, ◌++◌, slice_index_or, All, map, length, Option, None, option_map, IfSome, Result, Ok, Err, OnOk, IsOk, if◌then◌else◌}
+use Rattle.std.specs.Prelude.{◌≡◌, ◌≢◌, ℕ, ◌+◌, ◌<◌, ◌≤◌, cond, List, [], ◌∷◌, ◌++◌, slice_index_or, All, map, length, Option, None, option_map, IfSome, Result, Ok, Err, OnOk, IsOk, if◌then◌else◌}
 use Rattle.std.specs.declared.string.String.{String}
-use Rattle.std.specs.String.{string_bytes, string_eq}
-use Rattle.std.specs.Cmp.Lexicographic.{bytes_decides}
-use Rattle.std.proofs.Common.{refl, sym, ap, subst, ◌∙◌, arith, true≢false}
+use Rattle.std.specs.String.{string_bytes}
+use Rattle.std.proofs.Common.{sym, ap, subst, ◌∙◌, arith, true≢false}
 use Rattle.std.proofs.lemmas.List.{length-map, length_push, map-append}
-use Rattle.std.proofs.lemmas.List.Elements.{All-head, All-push, All-tail}
+use Rattle.std.proofs.lemmas.List.Elements.{All-push}
 use Rattle.std.proofs.lemmas.List.Quantifiers.{all_pairs_push}
 use Rattle.std.proofs.lemmas.List.Sums.{count_by-le-length, sum_by_push}
-use Rattle.indexmap.specs.IndexMap.{insert_entry}
 use Rattle.ecs_model.specs.Command.{Changed}
 use Rattle.ecs_model.specs.Map.{count_at}
 use Rattle.ecs_model.specs.World.{WorldState}
@@ -97,19 +95,10 @@ of_ok (Err e) h ok = absurd (true≢false (sym ok))
 -- ---- in the map
 
 module _ {A : Type 0} (k : String A) (s : StoredQuery A) where
-  -- a new name goes last
-  pub goes_last : (es : List (String A × StoredQuery A)) → All (λ h. h.name ≢ string_bytes k) (map held_of es) → insert_entry string_eq es k s ≡ es ++ (k, s) ∷ []
-  goes_last [] free = refl
-  goes_last (e ∷ es) free = by (string_eq k e.0) refl (goes_last es (All-tail (λ h. h.name ≢ string_bytes k) (held_of e) (map held_of es) free)) (All-head (λ h. h.name ≢ string_bytes k) (held_of e) (map held_of es) free)
-    where
-      by : (b : Bool) → string_eq k e.0 ≡ b → insert_entry string_eq es k s ≡ es ++ (k, s) ∷ [] → string_bytes e.0 ≢ string_bytes k → (if b then (e.0, s) ∷ es else e ∷ insert_entry string_eq es k s) ≡ e ∷ (es ++ (k, s) ∷ [])
-      by true t rest other = absurd (other (sym ((bytes_decides (string_bytes k) (string_bytes e.0)).0 t)))
-      by false t rest other = ap (λ xs. e ∷ xs) rest
-
   module _ (w v : world.Standing) (es fs : List (String A × StoredQuery A)) (waiting : Option Changed) (n : ℕ) (kept : IsSession (seen w es waiting n))
-      (free : All (λ h. h.name ≢ string_bytes k) (map held_of es)) (new : v.state ≡ pinned_by w.state ((s.plan).query).mentions) (entries : fs ≡ insert_entry string_eq es k s) where
+      (free : All (λ h. h.name ≢ string_bytes k) (map held_of es)) (new : v.state ≡ pinned_by w.state ((s.plan).query).mentions) (entries : fs ≡ es ++ (k, s) ∷ []) where
     pub held_behind : map held_of fs ≡ map held_of es ++ held_of (k, s) ∷ []
-    held_behind = ap (map held_of) (entries ∙ goes_last es free) ∙ map-append held_of es ((k, s) ∷ [])
+    held_behind = ap (map held_of) entries ∙ map-append held_of es ((k, s) ∷ [])
 
     pub one_more_seen : waiting ≡ None → length (map held_of es) < most_stored → IsHeld w.state (held_of (k, s)) → IsNow w.state (held_of (k, s)) → (m : ℕ) → IsSession (seen v fs waiting m)
     one_more_seen idle few held now m =

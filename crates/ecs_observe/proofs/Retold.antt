@@ -11,7 +11,6 @@ use Rattle.std.proofs.lemmas.List.Elements.{All-map}
 use Rattle.std.proofs.lemmas.List.Kept.{AllPairs-cons}
 use Rattle.std.proofs.lemmas.Option.{get_or_from_slice_get, slice_get-map, slice_get_within}
 use Rattle.entity_set.specs.Members.{Entities}
-use Rattle.indexmap.specs.IndexMap.{set_value_at}
 use Rattle.query_model.specs.Local.{is_local}
 use Rattle.query_model.specs.Query.{Query}
 use Rattle.ecs_model.specs.declared.watches.StoredKind.{StoredKind}
@@ -122,31 +121,8 @@ module _ {A : Type 0} where
   -- one of those that were told is put in its place
   module _ (rows old : List (ℕ × Entities)) (n : ℕ) (these : Entities) (es : List (String A × StoredQuery A)) (goal : List Held)
       (popped : old ≡ rows ++ (n, these) ∷ []) (so : with_placed (placed_in old) (map held_of es) ≡ goal) where
-    then_goal : with_placed (placed_in rows) (with_these_at n these.items (map held_of es)) ≡ goal
-    then_goal = sym (placed_more (placed_in rows) n these.items (map held_of es)) ∙ (ap (λ ps. with_placed ps (map held_of es)) (sym (placed_pushed rows old n these popped)) ∙ so)
-
-    module _ (q w : StoredQuery A) (kind : w.kind ≡ q.kind) (query : (w.plan).query ≡ (q.plan).query) (same : (w.these).items ≡ these.items) where
-      put_one : (e : String A × StoredQuery A) → e.1 ≡ q → held_of (e.0, w) ≡ record (held_of e) { these = these.items }
-      put_one e is =
-          let kinds : w.kind ≡ (e.1).kind = kind ∙ ap (λ (x : StoredQuery A). x.kind) (sym is) in
-          let queries : (w.plan).query ≡ ((e.1).plan).query = query ∙ ap (λ (x : StoredQuery A). (x.plan).query) (sym is) in
-          λ j. record { name = string_bytes e.0; kind = kinds j; query = queries j; these = same j }
-
-      put_at : (fs : List (String A × StoredQuery A)) (k : ℕ) → slice_get (map (λ e. e.1) fs) k ≡ Some q → map held_of (set_value_at fs k w) ≡ with_these_at k these.items (map held_of fs)
-      put_at [] k h = cc
-      put_at (e ∷ fs) zero h = let is : e.1 ≡ q = cc in ap (λ x. x ∷ map held_of fs) (put_one e is)
-      put_at (e ∷ fs) (suc k) h = ap (λ xs. held_of e ∷ xs) (put_at fs k h)
-
-      pub put_step : slice_get (map (λ e. e.1) es) n ≡ Some q → with_placed (placed_in rows) (map held_of (set_value_at es n w)) ≡ goal
-      put_step at = ap (with_placed (placed_in rows)) (put_at es n at) ∙ then_goal
-
-    nowhere : (fs : List (String A × StoredQuery A)) (k : ℕ) → slice_get (map (λ e. e.1) fs) k ≡ None → with_these_at k these.items (map held_of fs) ≡ map held_of fs
-    nowhere [] k h = refl
-    nowhere (e ∷ fs) zero h = cc
-    nowhere (e ∷ fs) (suc k) h = ap (λ xs. held_of e ∷ xs) (nowhere fs k h)
-
-    pub skip_step : slice_get (map (λ e. e.1) es) n ≡ None → with_placed (placed_in rows) (map held_of es) ≡ goal
-    skip_step none = ap (with_placed (placed_in rows)) (sym (nowhere es n none)) ∙ then_goal
+    pub put_step : with_placed (placed_in rows) (with_these_at n these.items (map held_of es)) ≡ goal
+    put_step = sym (placed_more (placed_in rows) n these.items (map held_of es)) ∙ (ap (λ ps. with_placed ps (map held_of es)) (sym (placed_pushed rows old n these popped)) ∙ so)
 
 -- ---- the session
 same_stored : (w : WorldState) (hs : List Held) → map stored_of (map (told_now w) hs) ≡ map stored_of hs

@@ -1,18 +1,21 @@
 -- How commands of a session answer.
-use Rattle.std.specs.Prelude.{◌≡◌, ⊤, ℕ, List, ◌++◌, Option, Some, None, is_some, Result, Ok, Err, if◌then◌else◌}
+use Rattle.std.specs.Prelude.{◌≡◌, ◌≢◌, ⊤, ℕ, List, ◌++◌, Option, Some, None, is_some, Result, Ok, Err, if◌then◌else◌}
 use Rattle.std.specs.List.{list_any}
 use Rattle.ecs_id.specs.declared.EntityId.{EntityId}
 use Rattle.ecs_model.specs.Command.{Changed}
 use Rattle.ecs_model.specs.declared.faults.CommandError.{CommandError}
 use Rattle.ecs_model.specs.declared.faults.CommandError.TheVariants as world
-use Rattle.ecs_model.specs.declared.faults.SessionRefusal.TheVariants.{EventsPending, OfWorld}
+use Rattle.ecs_model.specs.declared.faults.SessionRefusal.TheVariants.{EventsPending, OfWorld, UnknownQuery}
+use Rattle.ecs_model.specs.declared.watches.StoredKind.TheVariants.{Kept}
 use Rattle.ecs_model.specs.rows.Text.{rows_text}
 use Rattle.ecs_model.specs.stored.Session.{SessionState, Answer, in_world, kept_query}
 use Rattle.ecs_model.specs.stored.Watches.{is_told}
+use Rattle.ecs_model.specs.World.{WorldState}
 use Rattle.ecs_model.specs.traits.Command.{Command}
 use Rattle.ecs_observe.specs.Standing.{Held, Standing, session_of}
 use Rattle.ecs_observe.specs.declared.errors.SessionError.{SessionError}
 use Rattle.ecs_observe.specs.declared.errors.SessionError.TheVariants.{Refused, Memory}
+use Rattle.ecs_observe.specs.declared.stored.StoredQuery.{StoredQuery}
 
 -- the answer to a command of the world: none is carried out while events wait
 abbrev pub obeyed : SessionState → Command → Answer
@@ -43,3 +46,9 @@ abbrev pub AnswersRows : {T : Type 0} → Result T SessionError → SessionState
 AnswersRows (Ok _) s name before after = (q : _) × (kept_query s name ≡ Ok q) × (after ≡ before ++ rows_text s.world q)
 AnswersRows (Err (Refused reason)) s name before after = (kept_query s name ≡ Err reason) × (after ≡ before)
 AnswersRows (Err Memory) s name before after = ⊤
+
+-- the same of a stored query that was found: its rows were written, or it is no kept query and nothing was
+abbrev pub WritesRows : {A T : Type 0} → Result T SessionError → StoredQuery A → WorldState → List ℕ → List ℕ → Type 0
+WritesRows (Ok _) q w before after = (q.kind ≡ Kept) × (after ≡ before ++ rows_text w (q.plan).query)
+WritesRows (Err (Refused reason)) q w before after = (q.kind ≢ Kept) × (reason ≡ UnknownQuery) × (after ≡ before)
+WritesRows (Err Memory) q w before after = ⊤

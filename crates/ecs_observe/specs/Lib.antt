@@ -5,3 +5,4 @@ pub mod Storing
 pub mod Telling
 pub mod Lists
 pub mod Moves
+pub mod Stored

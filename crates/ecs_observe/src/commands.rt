@@ -5,8 +5,9 @@ ghost use Rattle.ecs_model.specs.traits.Command.{Add, Component, Delete, Entity,
 ghost use Rattle.ecs_observe.specs.Answers.{AnswersApply, AnswersCommand, obeyed};
 ghost use Rattle.ecs_observe.specs.Parts.{held_of};
 ghost use Rattle.ecs_observe.specs.Standing.{session_of};
+ghost use Rattle.ecs_observe.specs.Stored.{IsStored, entries_of};
 
-use crate::stored::{StoredQueries, has_watch};
+use crate::queries::StoredQueries;
 use crate::{Session, SessionError};
 use ecs_id::{EntityId, Id};
 use ecs_model::faults::{CommandError, SessionRefusal};
@@ -124,11 +125,12 @@ fn answer<A: Allocator>(
     waiting: &mut Option<Changes<A>>,
     done: Result<Changes<A>, CommandError>,
 ) -> Result<Option<EntityId>, SessionError>
-    ensures { AnswersCommand (map held_of stored.now.entries) waiting.old done result waiting.new }
+    requires stored { IsStored stored.now }
+    ensures { AnswersCommand (map held_of (entries_of stored.now)) waiting.old done result waiting.new }
 {
     let changes = done?;
     let born = changes.born();
-    let after = if has_watch(stored) {
+    let after = if stored.has_watch() {
         Some(changes)
     } else {
         None

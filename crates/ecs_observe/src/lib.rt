@@ -10,6 +10,7 @@ mod errors;
 mod kept;
 mod moves;
 mod pinning;
+mod queries;
 mod session;
 mod stored;
 mod storing;

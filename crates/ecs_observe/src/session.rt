@@ -4,9 +4,8 @@ ghost use Rattle.std.specs.Prelude.{◌≡◌, IfOk, is_some};
 ghost use Rattle.ecs_model.specs.stored.Session.{first_session};
 ghost use Rattle.ecs_observe.specs.Standing.{session_of};
 
-use crate::stored::StoredQueries;
+use crate::queries::StoredQueries;
 use ecs_world::{Changes, World};
-use indexmap::IndexMap;
 use std::alloc::{AllocError, Allocator, Global};
 use std::hash::RandomState;
 use std::marker::Model;
@@ -15,7 +14,6 @@ use std::marker::Model;
 #[derive(Drop)]
 pub struct Session<A: Allocator = Global> {
     pub(crate) world: World<A>,
-    /// In the order of making, by their names.
     pub(crate) stored: StoredQueries<A>,
     /// What the last accepted command has changed, until its events are told. It is there only while a stored query is a watch.
     pub(crate) waiting: Option<Changes<A>>,
@@ -29,12 +27,13 @@ impl<A: Allocator> Model for Session<A> {
     ghost use Rattle.ecs_observe.specs.Standing.{IsSession, Standing};
     ghost use Rattle.ecs_observe.specs.Lists.{HaveLists};
     ghost use Rattle.ecs_observe.specs.Parts.{held_of};
+    ghost use Rattle.ecs_observe.specs.Stored.{IsStored, entries_of};
 
     ghost Value = { Standing };
 
-    ghost view = { λ s. record { world = s.world; stored = map held_of s.stored.entries; waiting = s.waiting; compared = s.compared } };
+    ghost view = { λ s. record { world = s.world; stored = map held_of (entries_of s.stored); waiting = s.waiting; compared = s.compared } };
 
-    ghost invariant = { λ s. IsSession (record { world = s.world; stored = map held_of s.stored.entries; waiting = s.waiting; compared = s.compared }) × HaveLists (s.world).tables s.stored.entries };
+    ghost invariant = { λ s. IsSession (record { world = s.world; stored = map held_of (entries_of s.stored); waiting = s.waiting; compared = s.compared }) × HaveLists (s.world).tables (entries_of s.stored) × IsStored s.stored };
 }
 
 impl<A: Allocator + Copy> Session<A> {
@@ -50,7 +49,7 @@ impl<A: Allocator + Copy> Session<A> {
         };
         Ok(Session {
             world,
-            stored: IndexMap::with_hasher(alloc, random),
+            stored: StoredQueries::new(alloc, random),
             waiting: None,
             compared: 0,
             alloc,

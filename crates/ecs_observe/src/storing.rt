@@ -57,10 +57,10 @@ impl<A: Allocator + Copy> Session<A> {
         if self.waiting.is_some() {
             return Err(SessionError::Refused(SessionRefusal::EventsPending));
         }
-        let Some(dropped) = self.stored.shift_remove(name) else {
+        let Some(dropped) = self.stored.remove(name) else {
             return Err(SessionError::Refused(SessionRefusal::UnknownQuery));
         };
-        unpin_all(&mut self.world, dropped.plan.query().mentions());
+        unpin_all(&mut self.world, dropped.value.value.plan.query().mentions());
         Ok(None)
     }
 
@@ -101,9 +101,12 @@ impl<A: Allocator + Copy> Session<A> {
         ensures held { OnOk result (self.new ≡ record (with_held self.old (held_of (name, stored))) { compared = compared }) }
         ensures refused { OnErr result (self.new ≡ self.old) }
     {
-        self.stored.reserve(1)?;
-        pin_all(&mut self.world, stored.plan.query().mentions())?;
-        self.stored.insert(name, stored).unwrap();
+        let (key, made) = self.stored.prepare(self.alloc, name, stored)?;
+        if let Err(error) = pin_all(&mut self.world, made.value.value.plan.query().mentions()) {
+            self.stored.forget(&key, &made);
+            return Err(error);
+        }
+        self.stored.put(key, made);
         self.compared = compared;
         Ok(())
     }

@@ -1,20 +1,23 @@
 //! Telling the events of a command.
 
-ghost use Rattle.std.specs.Prelude.{◌≡◌, [], ◌++◌, ◌&&◌, IfOk, OnErr, OnOk, All, map, flat_map, false, not, true};
+ghost use Rattle.std.specs.Prelude.{◌≡◌, ◌<◌, [], ◌++◌, ◌&&◌, IfOk, OnErr, OnOk, All, length, map, flat_map, false, not, true};
 ghost use Rattle.std.specs.List.{list_any};
+ghost use Rattle.std.specs.List.Sorted.{IsStrictlyIncreasing};
 ghost use Rattle.std.specs.String.{string_bytes};
 ghost use Rattle.ecs_model.specs.stored.Session.{after_events, events};
 ghost use Rattle.ecs_observe.specs.Lists.{KeepLists};
 ghost use Rattle.ecs_observe.specs.Parts.{held_as, held_of, placed_in, put_in};
 ghost use Rattle.ecs_observe.specs.Standing.{ArePlaced, IsHeld, WasNow, has_searched, is_compared, is_monitor, is_searched, is_told_locally, rows_put, session_of, told_to, with_placed};
-ghost use Rattle.ecs_observe.specs.Telling.{AreTouchedBy};
+ghost use Rattle.ecs_observe.specs.Stored.{AreLedTo, IsStored, entries_of};
+ghost use Rattle.ecs_observe.specs.Telling.{AreTouchedBy, any_locally_at};
 ghost use Rattle.query_model.specs.Local.{is_local};
 ghost use Rattle.touched_entities.specs.Concerned.{is_concerned};
 ghost use Rattle.watch_meaning.specs.Since.{IsAfter};
 
 use crate::Session;
 use crate::moves::rows_after;
-use crate::stored::{StoredQueries, StoredQuery, has_local_monitor};
+use crate::queries::StoredQueries;
+use crate::stored::StoredQuery;
 use ecs_world::{Changes, World};
 use entity_set::EntitySet;
 use local_queries::{Touched, local_told};
@@ -43,12 +46,10 @@ impl<A: Allocator + Copy> Session<A> {
             return Ok(events);
         };
         self.world.keeps();
-        let touched = touched_if_asked(self.alloc, &self.world, changes, &self.stored)?;
-        tell_all(
+        tell_led(
             self.alloc,
             &self.world,
             changes,
-            touched.as_slice(),
             &self.stored,
             &mut rows,
             &mut compared,
@@ -61,51 +62,93 @@ impl<A: Allocator + Copy> Session<A> {
     }
 }
 
-/// The entities that a command touched, if a monitor is told by them, and else none.
+/// Puts what all stored queries are told behind other events, by those that the command leads to. Gives the entities of their rows now, each with the
+/// place of its query, unless they stay. Counts the whole rows taken.
+fn tell_led<A: Allocator + Copy>(
+    alloc: A,
+    world: &World<A>,
+    changes: &Changes<A>,
+    stored: &StoredQueries<A>,
+    rows: &mut Vec<(usize, EntitySet<A>), A>,
+    compared: &mut u64,
+    events: &mut Vec<Event<A>, A>,
+) -> Result<(), AllocError>
+    requires stored { IsStored stored.now }
+    requires after { IsAfter world.now.state changes.now }
+    requires held { All (IsHeld world.now.state) (map held_of (entries_of stored.now)) }
+    requires was { All (WasNow world.now.state changes.now) (map held_of (entries_of stored.now)) }
+    requires none { rows.old.items ≡ [] }
+    ensures rows { OnOk result (ArePlaced (map (rows_put world.now.state changes.now) (map held_of (entries_of stored.now))) (placed_in rows.new.items)) }
+    ensures told { OnOk result (events.new.items ≡ events.old.items ++ flat_map (told_to world.now.state changes.now) (map held_of (entries_of stored.now))) }
+    ensures compared { list_any (is_searched changes.now) (map held_of (entries_of stored.now)) ≡ false → compared.new ≡ compared.old }
+{
+    let places = stored.led(alloc, changes)?;
+    let places = places.as_slice();
+    let touched = touched_if_asked(alloc, world, changes, stored, places)?;
+    let touched = touched.as_slice();
+    tell_all(
+        alloc, world, changes, touched, stored, places, rows, compared, events,
+    )
+}
+
+/// The entities that a command touched, if a monitor at one of these places is told by them, and else none.
 fn touched_if_asked<'w, A: Allocator + Copy>(
     alloc: A,
     world: &'w World<A>,
     changes: &Changes<A>,
     stored: &StoredQueries<A>,
+    places: &[usize],
 ) -> Result<Vec<Touched<'w, A>, A>, AllocError>
     requires after { IsAfter world.now.state changes.now }
-    ensures touched { list_any is_told_locally (map held_of stored.now.entries) ≡ true → IfOk result (λ touched. AreTouchedBy world.now.state changes.now touched.items) }
+    ensures touched { any_locally_at (entries_of stored.now) places.now ≡ true → IfOk result (λ touched. AreTouchedBy world.now.state changes.now touched.items) }
 {
-    if has_local_monitor(stored) {
+    if is_told_locally_at(stored, places) {
         touched(alloc, world, changes)
     } else {
         Ok(Vec::new(alloc))
     }
 }
 
-/// Puts what all stored queries are told behind other events. Gives the entities of their rows now, each with the place of its query, unless they
-/// stay. Counts the whole rows taken.
+/// Whether a stored query at one of these places is told by the entities that a command touched.
+fn is_told_locally_at<A: Allocator>(stored: &StoredQueries<A>, places: &[usize]) -> bool
+    ensures { result ≡ any_locally_at (entries_of stored.now) places.now }
+{
+    places.iter().any(|place| stored.is_told_locally_at(*place))
+}
+
+/// Puts what all stored queries are told behind other events, by those at these places: no other is told anything. Gives the entities of their
+/// rows now, each with the place of its query, unless they stay. Counts the whole rows taken.
 fn tell_all<A: Allocator + Copy>(
     alloc: A,
     world: &World<A>,
     changes: &Changes<A>,
     touched: &[Touched<'_, A>],
     stored: &StoredQueries<A>,
+    places: &[usize],
     rows: &mut Vec<(usize, EntitySet<A>), A>,
     compared: &mut u64,
     events: &mut Vec<Event<A>, A>,
 ) -> Result<(), AllocError>
     requires after { IsAfter world.now.state changes.now }
-    requires held { All (IsHeld world.now.state) (map held_of stored.now.entries) }
-    requires was { All (WasNow world.now.state changes.now) (map held_of stored.now.entries) }
-    requires touched { list_any is_told_locally (map held_of stored.now.entries) ≡ true → AreTouchedBy world.now.state changes.now touched.now }
+    requires held { All (IsHeld world.now.state) (map held_of (entries_of stored.now)) }
+    requires was { All (WasNow world.now.state changes.now) (map held_of (entries_of stored.now)) }
+    requires touched { any_locally_at (entries_of stored.now) places.now ≡ true → AreTouchedBy world.now.state changes.now touched.now }
+    requires ascend { IsStrictlyIncreasing places.now }
+    requires within { All (λ i. i < length (entries_of stored.now)) places.now }
+    requires led { AreLedTo changes.now (entries_of stored.now) places.now }
     requires none { rows.old.items ≡ [] }
-    ensures rows { OnOk result (ArePlaced (map (rows_put world.now.state changes.now) (map held_of stored.now.entries)) (placed_in rows.new.items)) }
-    ensures told { OnOk result (events.new.items ≡ events.old.items ++ flat_map (told_to world.now.state changes.now) (map held_of stored.now.entries)) }
-    ensures compared { list_any (is_searched changes.now) (map held_of stored.now.entries) ≡ false → compared.new ≡ compared.old }
+    ensures rows { OnOk result (ArePlaced (map (rows_put world.now.state changes.now) (map held_of (entries_of stored.now))) (placed_in rows.new.items)) }
+    ensures told { OnOk result (events.new.items ≡ events.old.items ++ flat_map (told_to world.now.state changes.now) (map held_of (entries_of stored.now))) }
+    ensures compared { list_any (is_searched changes.now) (map held_of (entries_of stored.now)) ≡ false → compared.new ≡ compared.old }
 {
-    for i in 0..stored.len() {
-        if let Some((name, query)) = stored.get_index(i) {
+    world.keeps();
+    for place in places {
+        if let Some((name, query)) = stored.get_index(*place) {
             let now = tell_one(
                 alloc, world, changes, touched, name, query, compared, events,
             )?;
             if let Some(these) = now {
-                rows.push((i, these))?;
+                rows.push((*place, these))?;
             }
         }
     }
@@ -226,12 +269,12 @@ fn tell_locally<A: Allocator + Copy>(
 
 /// Keeps the entities of the rows that stored queries were told, where they don't stay.
 fn put_rows<A: Allocator>(stored: &mut StoredQueries<A>, mut rows: Vec<(usize, EntitySet<A>), A>)
-    ensures held { map held_of stored.new.entries ≡ with_placed (placed_in rows.items) (map held_of stored.old.entries) }
-    ensures lists { KeepLists stored.old.entries stored.new.entries }
+    requires stored { IsStored stored.old }
+    ensures held { map held_of (entries_of stored.new) ≡ with_placed (placed_in rows.items) (map held_of (entries_of stored.old)) }
+    ensures lists { KeepLists (entries_of stored.old) (entries_of stored.new) }
+    ensures stored { IsStored stored.new }
 {
     while let Some((place, these)) = rows.pop() {
-        if let Some(query) = stored.get_index_mut(place) {
-            query.keep(these);
-        }
+        stored.keep(place, these);
     }
 }

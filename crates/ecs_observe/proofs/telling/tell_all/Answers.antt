@@ -1,74 +1,106 @@
-use Rattle.std.specs.Prelude.{is_some, map}
+-- Those at the places are told one after another, and between them all are silent.
+use Rattle.std.specs.Prelude.{flat_map, is_some}
 use Rattle.std.specs.String.{string_bytes}
-use Rattle.std.proofs.Common.{ap, arith, sym, true≢false, ◌∙◌}
+use Rattle.std.proofs.Common.{◌<◌, ◌∙◌, ◌++◌, ap, arith, get_or, length, map, refl, subst, sym, true≢false}
 use Rattle.std.proofs.lemmas.List.{length-map, take_all}
 use Rattle.ecs_observe.specs.Parts.{held_as, held_of, placed_in, put_in}
-use Rattle.ecs_observe.specs.Standing.{IsHeld, WasNow, is_searched, rows_put, told_to, with_rows}
+use Rattle.ecs_observe.specs.Standing.{ArePlaced, IsHeld, WasNow, is_searched, rows_put, told_to}
+use Rattle.ecs_observe.specs.Stored.{entries_of}
 use Rattle.ecs_observe.proofs.Locally.{none_at, one_told_locally}
-use Rattle.ecs_observe.proofs.Retold.{all_at, gathered_more, held_at, none_placed, one_placed, placed_pushed}
+use Rattle.ecs_observe.proofs.Retold.{all_at, held_at, placed_pushed}
+use Rattle.ecs_observe.proofs.Skipped.{begin, none_here, put_here, told_all, told_none}
+use Rattle.ecs_observe.proofs.Untold.{others_silent}
 use Rattle.ecs_observe.proofs.telling.tell_all.Goals as goal
 use Rattle.ecs_observe.proofs.telling.tell_all.Goals.{in-Some+in_ok-now+in-Some-now+in_ok-push, in-Some+in_ok-now+in_default-now, in_default}
 
+pub loop-place-init : goal.loop-place-init
+loop-place-init g c =
+    let g_told = told_to c.args.world.now.state c.args.changes.now in
+    let g_put = rows_put c.args.world.now.state c.args.changes.now in
+    let hs = map held_of (entries_of c.args.stored.now) in
+    let start = c.args.events.now.items in
+    record {
+      told = begin g_told g_put hs start c.args.places.now start (placed_in c.args.rows.now.items) (told_none g_told g_put hs start start (placed_in c.args.rows.now.items) refl (ap placed_in c.requires.none));
+      compared = λ none. refl;
+    }
+
 pub tell_one-requires-clause-held : goal.tell_one-requires-clause-held
 tell_one-requires-clause-held g c =
-    all_at (IsHeld c.args.world.now.state) c.args.stored.now.entries c.loop-i.i c.in-Some.name.now c.in-Some.query.now (sym c.in-Some.ensures.entry) c.requires.held
+    all_at (IsHeld c.args.world.now.state) (entries_of c.args.stored.now) _ c.in-Some.name.now c.in-Some.query.now c.in-Some.ensures.entry c.requires.held
 
 pub tell_one-requires-clause-was : goal.tell_one-requires-clause-was
 tell_one-requires-clause-was g c =
-    all_at (WasNow c.args.world.now.state c.args.changes.now) c.args.stored.now.entries c.loop-i.i c.in-Some.name.now c.in-Some.query.now (sym c.in-Some.ensures.entry) c.requires.was
+    all_at (WasNow c.args.world.now.state c.args.changes.now) (entries_of c.args.stored.now) _ c.in-Some.name.now c.in-Some.query.now c.in-Some.ensures.entry c.requires.was
 
 pub tell_one-requires-clause-touched : goal.tell_one-requires-clause-touched
 tell_one-requires-clause-touched g c = λ e.
-    c.requires.touched (one_told_locally c.args.stored.now.entries c.loop-i.i c.in-Some.name.now c.in-Some.query.now (sym c.in-Some.ensures.entry) e)
+    c.requires.touched (one_told_locally (entries_of c.args.stored.now) c.args.places.now c.loop-place.place-index 0 c.in-Some.name.now c.in-Some.query.now (omega arith) c.in-Some.ensures.entry e)
 
 pub returns-in_err-now-clause-compared : goal.returns-in_err-now-clause-compared
 returns-in_err-now-clause-compared g c = λ none.
-    c.tell_one.ensures.compared (none_at c.args.stored.now.entries c.loop-i.i c.in-Some.name.now c.in-Some.query.now (sym c.in-Some.ensures.entry) (is_searched c.args.changes.now) none)
-    ∙ c.loop-i.invariant.compared none
+    c.tell_one.ensures.compared (none_at (entries_of c.args.stored.now) _ c.in-Some.name.now c.in-Some.query.now c.in-Some.ensures.entry (is_searched c.args.changes.now) none)
+    ∙ c.loop-place.invariant.compared none
 
 pub returns-in_err-push-clause-compared : goal.returns-in_err-push-clause-compared
 returns-in_err-push-clause-compared g c = λ none.
-    c.in_ok-now.ensures.compared (none_at c.args.stored.now.entries c.loop-i.i c.in-Some.name.now c.in-Some.query.now (sym c.in-Some.ensures.entry) (is_searched c.args.changes.now) none)
-    ∙ c.loop-i.invariant.compared none
+    c.in_ok-now.ensures.compared (none_at (entries_of c.args.stored.now) _ c.in-Some.name.now c.in-Some.query.now c.in-Some.ensures.entry (is_searched c.args.changes.now) none)
+    ∙ c.loop-place.invariant.compared none
 
-pub loop-i-preserved : goal.loop-i-preserved
-loop-i-preserved g c =
+pub loop-place-preserved : goal.loop-place-preserved
+loop-place-preserved g c =
     let w = c.args.world.now.state in
-    let es = c.args.stored.now.entries in
-    let i = c.loop-i.i in
-    let rows_of_one = rows_put w c.args.changes.now in
+    let changed = c.args.changes.now in
+    let es = entries_of c.args.stored.now in
+    let hs = map held_of es in
+    let start = c.args.events.now.items in
+    let places = c.args.places.now in
+    let j = c.loop-place.place-index in
+    let p = get_or places j 0 in
+    let inside : j < length places = omega arith in
+    let low : p < length es = c.requires.within j 0 inside in
+    let held_low : p < length hs = omega (arith, low, length-map es held_of) in
+    let silent = others_silent w changed es places c.keeps.ensures c.requires.after c.requires.was c.requires.led in
     elim c.match-get_index.branch [
       | in-Some+in_ok-now+in-Some-now+in_ok-push b ↦
           let one = held_as (string_bytes b.in-Some.name.now) b.in-Some.query.now in
-          let there = held_at es i b.in-Some.name.now b.in-Some.query.now (sym b.in-Some.ensures.entry) in
+          let there = held_at es p b.in-Some.name.now b.in-Some.query.now b.in-Some.ensures.entry in
           record {
-            rows = one_placed rows_of_one _ i one there (placed_in c.loop-i.rows.items) (placed_in c.match-get_index.rows.items) c.loop-i.invariant.rows (b.in-Some-now.these).items
-                (sym b.in_ok-now.ensures.rows ∙ ap put_in b.in-Some-now.is)
-                (placed_pushed c.loop-i.rows.items c.match-get_index.rows.items i b.in-Some-now.these (ap (λ v. v.items) b.rows-is ∙ b.in_ok-push.ensures.items));
-            told = gathered_more (told_to w c.args.changes.now) c.args.events.now.items c.loop-i.events.items c.match-get_index.events.items _ i one there c.loop-i.invariant.told
-                (ap (λ v. v.items) b.events-is ∙ b.in_ok-now.ensures.told);
+            told = put_here (told_to w changed) (rows_put w changed) hs start places c.requires.ascend silent j p 0 refl inside one there held_low c.loop-place.events.items (placed_in c.loop-place.rows.items)
+                c.loop-place.invariant.told (b.in-Some-now.these).items c.match-get_index.events.items (placed_in c.match-get_index.rows.items) (sym b.in_ok-now.ensures.rows ∙ ap put_in b.in-Some-now.is)
+                (ap (λ v. v.items) b.events-is ∙ b.in_ok-now.ensures.told)
+                (placed_pushed c.loop-place.rows.items c.match-get_index.rows.items p b.in-Some-now.these (ap (λ v. v.items) b.rows-is ∙ b.in_ok-push.ensures.items));
             compared = λ none. b.compared-is
-                ∙ (b.in_ok-now.ensures.compared (none_at es i b.in-Some.name.now b.in-Some.query.now (sym b.in-Some.ensures.entry) (is_searched c.args.changes.now) none)
-                ∙ c.loop-i.invariant.compared none);
+                ∙ (b.in_ok-now.ensures.compared (none_at es p b.in-Some.name.now b.in-Some.query.now b.in-Some.ensures.entry (is_searched changed) none) ∙ c.loop-place.invariant.compared none);
           }
       | in-Some+in_ok-now+in_default-now b ↦
           let one = held_as (string_bytes b.in-Some.name.now) b.in-Some.query.now in
-          let there = held_at es i b.in-Some.name.now b.in-Some.query.now (sym b.in-Some.ensures.entry) in
+          let there = held_at es p b.in-Some.name.now b.in-Some.query.now b.in-Some.ensures.entry in
           record {
-            rows = none_placed rows_of_one _ i one there (placed_in c.loop-i.rows.items) (placed_in c.match-get_index.rows.items) c.loop-i.invariant.rows
-                (sym b.in_ok-now.ensures.rows ∙ ap put_in b.in_default-now.is) (ap (λ v. placed_in v.items) b.rows-is);
-            told = gathered_more (told_to w c.args.changes.now) c.args.events.now.items c.loop-i.events.items c.match-get_index.events.items _ i one there c.loop-i.invariant.told
-                (ap (λ v. v.items) b.events-is ∙ b.in_ok-now.ensures.told);
+            told = none_here (told_to w changed) (rows_put w changed) hs start places c.requires.ascend silent j p 0 refl inside one there held_low c.loop-place.events.items (placed_in c.loop-place.rows.items)
+                c.loop-place.invariant.told c.match-get_index.events.items (placed_in c.match-get_index.rows.items) (sym b.in_ok-now.ensures.rows ∙ ap put_in b.in_default-now.is)
+                (ap (λ v. v.items) b.events-is ∙ b.in_ok-now.ensures.told) (ap (λ v. placed_in v.items) b.rows-is);
             compared = λ none. b.compared-is
-                ∙ (b.in_ok-now.ensures.compared (none_at es i b.in-Some.name.now b.in-Some.query.now (sym b.in-Some.ensures.entry) (is_searched c.args.changes.now) none)
-                ∙ c.loop-i.invariant.compared none);
+                ∙ (b.in_ok-now.ensures.compared (none_at es p b.in-Some.name.now b.in-Some.query.now b.in-Some.ensures.entry (is_searched changed) none) ∙ c.loop-place.invariant.compared none);
           }
-      | in_default b ↦ absurd (true≢false (sym (c.get_index.ensures.found.1 (omega (arith, c.loop-i-test.true, c.len-i-end.ensures.len))) ∙ ap is_some b.in_default.is))
+      | in_default b ↦ absurd (true≢false (sym (c.get_index.ensures.found.1 low) ∙ ap is_some b.in_default.is))
     ]
 
 pub returns-clause-rows : goal.returns-clause-rows
-returns-clause-rows g c = λ hs.
-    let held = map held_of c.args.stored.now.entries in
-    c.loop-i.invariant.rows hs
-    ∙ ap (λ xs. with_rows (map (rows_put c.args.world.now.state c.args.changes.now) xs) hs)
-    (take_all c.loop-i.i held (omega (arith, c.loop-i-test.false, c.len-i-end.ensures.len, length-map c.args.stored.now.entries held_of)))
+returns-clause-rows g c =
+    let w = c.args.world.now.state in
+    let changed = c.args.changes.now in
+    let es = entries_of c.args.stored.now in
+    let hs = map held_of es in
+    let silent = others_silent w changed es c.args.places.now c.keeps.ensures c.requires.after c.requires.was c.requires.led in
+    let all = told_all (told_to w changed) (rows_put w changed) hs c.args.events.now.items c.args.places.now c.requires.ascend silent c.loop-place.place-index c.loop-place.events.items (placed_in c.loop-place.rows.items) (omega arith) c.loop-place.invariant.told in
+    subst (λ hs. ArePlaced (map (rows_put w changed) hs) (placed_in c.loop-place.rows.items)) (take_all (length hs) hs (omega arith)) all.rows
+
+pub returns-clause-told : goal.returns-clause-told
+returns-clause-told g c =
+    let w = c.args.world.now.state in
+    let changed = c.args.changes.now in
+    let es = entries_of c.args.stored.now in
+    let hs = map held_of es in
+    let silent = others_silent w changed es c.args.places.now c.keeps.ensures c.requires.after c.requires.was c.requires.led in
+    let all = told_all (told_to w changed) (rows_put w changed) hs c.args.events.now.items c.args.places.now c.requires.ascend silent c.loop-place.place-index c.loop-place.events.items (placed_in c.loop-place.rows.items) (omega arith) c.loop-place.invariant.told in
+    all.told ∙ ap (λ hs. c.args.events.now.items ++ flat_map (told_to w changed) hs) (take_all (length hs) hs (omega arith))

@@ -3,6 +3,9 @@ use Rattle.std.proofs.Common.{◌≡◌, false, true, refl, sym, ap, subst, ◌�
 use Rattle.std.specs.Prelude.{is_some}
 use Rattle.ecs_model.specs.stored.Session.{unpinned_by, without_stored}
 use Rattle.query_model.specs.Query.{Query}
+use Rattle.name_order.specs.declared.order.Named.{Named}
+use Rattle.watch_order.specs.declared.watching.Watcher.{Watcher}
+use Rattle.ecs_observe.specs.declared.stored.StoredQuery.{StoredQuery}
 use Rattle.ecs_observe.specs.Lists.{HaveLists}
 use Rattle.ecs_observe.specs.Standing.{Standing, session_of, stored_of}
 use Rattle.ecs_observe.proofs.Found.{named, none_found, some_found, waits}
@@ -11,7 +14,12 @@ use Rattle.ecs_observe.proofs.Listed.{lists_less}
 use Rattle.ecs_observe.proofs.OneLess.{one_less_seen, without_seen}
 use Rattle.ecs_observe.proofs.OneMore.{same_seen}
 use Rattle.ecs_observe.proofs.Orders.{drop_done, drop_pending, drop_unknown, none_there}
+use Rattle.ecs_observe.specs.Stored.{entries_of}
 use Rattle.ecs_observe.proofs.session.Session.drop_stored.Goals as goal
+
+-- the query in a box
+abbrev queried : {A : Type 0} → Named (Watcher (StoredQuery A) A) A → Query
+queried m = (m.value.value.plan).query
 
 pub returns-then-is_some-clause-answers : goal.returns-then-is_some-clause-answers
 returns-then-is_some-clause-answers g c =
@@ -21,33 +29,34 @@ returns-then-is_some-clause-answers g c =
 pub returns-in_default-clause-answers : goal.returns-in_default-clause-answers
 returns-in_default-clause-answers g c =
     let idle : is_some c.self.inside.waiting ≡ false = sym c.is_some.ensures ∙ c.if-is_some.false in
-    let none = none_found c.args.name.now c.self.inside.stored.entries (sym c.in_default.ensures.value) in (
+    let none = none_found c.args.name.now (entries_of c.self.inside.stored) (sym c.in_default.ensures.value) in (
       drop_unknown (session_of c.args.self.now) c.args.name.now (waits c.args.self.now ∙ (ap (λ (s : Standing). is_some s.waiting) (sym c.self.view_is) ∙ idle))
-          (stored_there c.args.self.now c.self.inside.world c.self.inside.stored.entries c.self.inside.waiting c.self.inside.compared c.args.name.now (sym c.self.view_is) ∙ none),
+          (stored_there c.args.self.now c.self.inside.world (entries_of c.self.inside.stored) c.self.inside.waiting c.self.inside.compared c.args.name.now (sym c.self.view_is) ∙ none),
       ap session_of
-          (same_seen c.self.inside.world c.self.inside.world c.self.inside.stored.entries c.shift_remove.new.self.entries c.self.inside.waiting c.self.inside.compared refl refl c.in_default.ensures.unchanged ∙ c.self.view_is),
+          (same_seen c.self.inside.world c.self.inside.world (entries_of c.self.inside.stored) (entries_of c.remove.new.self) c.self.inside.waiting c.self.inside.compared refl refl (ap entries_of c.in_default.ensures.none) ∙ c.self.view_is),
     )
 
 pub invariant_of-self-2 : goal.invariant_of-self-2
 invariant_of-self-2 g c =
     let idle : is_some c.self.inside.waiting ≡ false = sym c.is_some.ensures ∙ c.if-is_some.false in (
-      one_less_seen c.args.name.now c.self.inside.world c.unpin_all.new.world c.self.inside.stored.entries c.shift_remove.new.self.entries c.self.inside.waiting c.self.inside.compared c.self.invariant.0
-          c.in-Some.dropped (sym c.in-Some.ensures.value)
-          (c.unpin_all.ensures.state ∙ ap (unpinned_by c.self.inside.world.state) (c.mentions.ensures ∙ ap (λ (q : Query). q.mentions) c.query.ensures))
-          c.shift_remove.ensures.entries (none_there c.self.inside.waiting idle),
-      subst (λ t. HaveLists t c.shift_remove.new.self.entries) (sym c.unpin_all.ensures.tables)
-          (subst (HaveLists c.self.inside.world.tables) (sym c.shift_remove.ensures.entries) (lists_less c.self.inside.world.tables c.args.name.now c.self.inside.stored.entries c.self.invariant.1)),
+      one_less_seen c.args.name.now c.self.inside.world c.unpin_all.new.world (entries_of c.self.inside.stored) (entries_of c.remove.new.self) c.self.inside.waiting c.self.inside.compared c.self.invariant.0
+          (c.in-Some.dropped.value).value.value (sym c.in-Some.ensures.value)
+          (c.unpin_all.ensures.state ∙ ap (unpinned_by c.self.inside.world.state) (c.mentions.ensures ∙ ap (λ (q : Query). q.mentions) (c.query.ensures ∙ ap queried c.deref.ensures)))
+          c.in-Some.ensures.entries (none_there c.self.inside.waiting idle),
+      subst (λ t. HaveLists t (entries_of c.remove.new.self)) (sym c.unpin_all.ensures.tables)
+          (subst (HaveLists c.self.inside.world.tables) (sym c.in-Some.ensures.entries) (lists_less c.self.inside.world.tables c.args.name.now (entries_of c.self.inside.stored) c.self.invariant.1)),
+      c.remove.ensures.stored,
     )
 
 pub returns-clause-answers : goal.returns-clause-answers
 returns-clause-answers g c =
     let idle : is_some c.self.inside.waiting ≡ false = sym c.is_some.ensures ∙ c.if-is_some.false in
-    drop_done (session_of c.args.self.now) c.args.name.now (stored_of (named c.args.name.now c.in-Some.dropped)) _
+    drop_done (session_of c.args.self.now) c.args.name.now (stored_of (named c.args.name.now (c.in-Some.dropped.value).value.value)) _
     (waits c.args.self.now ∙ (ap (λ (s : Standing). is_some s.waiting) (sym c.self.view_is) ∙ idle))
-    (stored_there c.args.self.now c.self.inside.world c.self.inside.stored.entries c.self.inside.waiting c.self.inside.compared c.args.name.now (sym c.self.view_is)
-    ∙ some_found c.args.name.now c.self.inside.stored.entries c.in-Some.dropped (sym c.in-Some.ensures.value))
-    (without_seen c.args.name.now c.self.inside.world c.unpin_all.new.world c.self.inside.stored.entries c.shift_remove.new.self.entries c.self.inside.waiting c.self.inside.compared c.self.invariant.0
-    c.in-Some.dropped (sym c.in-Some.ensures.value)
-    (c.unpin_all.ensures.state ∙ ap (unpinned_by c.self.inside.world.state) (c.mentions.ensures ∙ ap (λ (q : Query). q.mentions) c.query.ensures))
-    c.shift_remove.ensures.entries (none_there c.self.inside.waiting idle)
-    ∙ ap (λ (s : Standing). without_stored (session_of s) (stored_of (named c.args.name.now c.in-Some.dropped))) c.self.view_is)
+    (stored_there c.args.self.now c.self.inside.world (entries_of c.self.inside.stored) c.self.inside.waiting c.self.inside.compared c.args.name.now (sym c.self.view_is)
+    ∙ some_found c.args.name.now (entries_of c.self.inside.stored) (c.in-Some.dropped.value).value.value (sym c.in-Some.ensures.value))
+    (without_seen c.args.name.now c.self.inside.world c.unpin_all.new.world (entries_of c.self.inside.stored) (entries_of c.remove.new.self) c.self.inside.waiting c.self.inside.compared c.self.invariant.0
+    (c.in-Some.dropped.value).value.value (sym c.in-Some.ensures.value)
+    (c.unpin_all.ensures.state ∙ ap (unpinned_by c.self.inside.world.state) (c.mentions.ensures ∙ ap (λ (q : Query). q.mentions) (c.query.ensures ∙ ap queried c.deref.ensures)))
+    c.in-Some.ensures.entries (none_there c.self.inside.waiting idle)
+    ∙ ap (λ (s : Standing). without_stored (session_of s) (stored_of (named c.args.name.now (c.in-Some.dropped.value).value.value))) c.self.view_is)

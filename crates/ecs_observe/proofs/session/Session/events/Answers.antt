@@ -5,6 +5,7 @@ use Rattle.ecs_observe.specs.Parts.{held_of, placed_in}
 use Rattle.ecs_observe.specs.Standing.{Standing, WasNow, is_compared}
 use Rattle.ecs_observe.proofs.Retold.{none_for, none_waits_after, none_waits_told, put_told, retold_after, retold_session, told_waits}
 use Rattle.ecs_observe.proofs.Staying.{none_searched}
+use Rattle.ecs_observe.specs.Stored.{entries_of}
 use Rattle.ecs_observe.proofs.session.Session.events.Goals as goal
 
 pub returns-in_default-clause-told : goal.returns-in_default-clause-told
@@ -13,33 +14,34 @@ returns-in_default-clause-told g c = none_waits_told _ c.args.self.now c.self.vi
 pub returns-in_default-clause-after : goal.returns-in_default-clause-after
 returns-in_default-clause-after g c = none_waits_after _ c.args.self.now c.self.view_is c.in_default.is
 
-pub tell_all-requires-clause-was : goal.tell_all-requires-clause-was
-tell_all-requires-clause-was g c =
-    subst (λ o. IfSome o (λ done. All (WasNow c.self.inside.world.state done) (map held_of c.self.inside.stored.entries))) c.in-Some.is c.self.invariant.0.before
+pub tell_led-requires-clause-was : goal.tell_led-requires-clause-was
+tell_led-requires-clause-was g c =
+    subst (λ o. IfSome o (λ done. All (WasNow c.self.inside.world.state done) (map held_of (entries_of c.self.inside.stored)))) c.in-Some.is c.self.invariant.0.before
 
 pub invariant_of-self : goal.invariant_of-self
 invariant_of-self g c = (
   retold_session _ c.args.self.now c.self.view_is _
-      (put_told _ c.self.invariant.0 c.keeps.ensures c.in-Some.changes c.in-Some.is (placed_in c.tell_all.new.rows.items) _ c.in_ok-tell_all.ensures.rows c.put_rows.ensures.held)
-      c.tell_all.new.compared c.self.invariant.0 c.keeps.ensures,
+      (put_told _ c.self.invariant.0 c.keeps.ensures c.in-Some.changes c.in-Some.is (placed_in c.tell_led.new.rows.items) _ c.in_ok-tell_led.ensures.rows c.put_rows.ensures.held)
+      c.tell_led.new.compared c.self.invariant.0 c.keeps.ensures,
   c.put_rows.ensures.lists c.self.inside.world.tables c.self.invariant.1,
+  c.put_rows.ensures.stored,
 )
 
 pub returns-clause-told : goal.returns-clause-told
 returns-clause-told g c =
-    told_waits _ c.args.self.now c.self.view_is c.in-Some.changes c.new-events.result.items c.tell_all.new.events.items c.in-Some.is c.new-events.ensures.items c.in_ok-tell_all.ensures.told
+    told_waits _ c.args.self.now c.self.view_is c.in-Some.changes c.new-events.result.items c.tell_led.new.events.items c.in-Some.is c.new-events.ensures.items c.in_ok-tell_led.ensures.told
 
 pub returns-clause-after : goal.returns-clause-after
 returns-clause-after g c =
     retold_after _ c.args.self.now c.self.view_is _
-    (put_told _ c.self.invariant.0 c.keeps.ensures c.in-Some.changes c.in-Some.is (placed_in c.tell_all.new.rows.items) _ c.in_ok-tell_all.ensures.rows c.put_rows.ensures.held)
-    c.tell_all.new.compared
+    (put_told _ c.self.invariant.0 c.keeps.ensures c.in-Some.changes c.in-Some.is (placed_in c.tell_led.new.rows.items) _ c.in_ok-tell_led.ensures.rows c.put_rows.ensures.held)
+    c.tell_led.new.compared
 
 pub returns-clause-compared : goal.returns-clause-compared
 returns-clause-compared g c = λ none.
-    c.in_ok-tell_all.ensures.compared (none_searched c.in-Some.changes (map held_of c.self.inside.stored.entries) (ap (λ (s : Standing). list_any is_compared s.stored) c.self.view_is ∙ none))
+    c.in_ok-tell_led.ensures.compared (none_searched c.in-Some.changes (map held_of (entries_of c.self.inside.stored)) (ap (λ (s : Standing). list_any is_compared s.stored) c.self.view_is ∙ none))
     ∙ ap (λ (s : Standing). s.compared) c.self.view_is
 
 pub returns-clause-spared : goal.returns-clause-spared
 returns-clause-spared g c = λ none.
-    c.in_ok-tell_all.ensures.compared (none_for _ c.args.self.now c.self.view_is c.in-Some.changes c.in-Some.is none) ∙ ap (λ (s : Standing). s.compared) c.self.view_is
+    c.in_ok-tell_led.ensures.compared (none_for _ c.args.self.now c.self.view_is c.in-Some.changes c.in-Some.is none) ∙ ap (λ (s : Standing). s.compared) c.self.view_is

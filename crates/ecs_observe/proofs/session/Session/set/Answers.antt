@@ -1,6 +1,7 @@
 use Rattle.ecs_model.specs.traits.Command.{SetValue}
 use Rattle.ecs_observe.proofs.Listed.{lists_later}
 use Rattle.ecs_observe.proofs.Obeyed.{answer_left, pending_now, session_left}
+use Rattle.ecs_observe.specs.Stored.{entries_of}
 use Rattle.ecs_observe.proofs.session.Session.set.Goals as goal
 
 pub returns-then-has_events-clause-answers : goal.returns-then-has_events-clause-answers
@@ -9,7 +10,8 @@ returns-then-has_events-clause-answers g c = pending_now _ c.args.self.now c.sel
 pub invariant_of-self : goal.invariant_of-self
 invariant_of-self g c = (
   session_left _ c.args.self.now c.self.view_is c.has_events.result c.has_events.ensures c.self.invariant.0 c.if-has_events.false c.set-done.new.self (SetValue c.args.entity c.args.id c.args.values.now) c.keeps.ensures c.set-done.result c.answer.result c.answer.new.waiting c.set-done.ensures.answers c.answer.ensures,
-  lists_later c.self.inside.world.tables c.set-done.new.self.tables c.set-done.ensures.goes_on c.self.inside.stored.entries c.self.invariant.1,
+  lists_later c.self.inside.world.tables c.set-done.new.self.tables c.set-done.ensures.goes_on (entries_of c.self.inside.stored) c.self.invariant.1,
+  c.self.invariant.2,
 )
 
 pub returns-clause-answers : goal.returns-clause-answers

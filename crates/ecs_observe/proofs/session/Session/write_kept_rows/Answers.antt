@@ -1,91 +1,96 @@
--- The kept query of the name has its rows written, and its list may be another; or there is none of the name, or it is no kept query.
-use Rattle.std.proofs.Common.{◌++◌, refl, sym, ap, subst, ◌∙◌}
-use Rattle.std.specs.Prelude.{is_some}
-use Rattle.ecs_model.specs.World.{WorldState}
-use Rattle.ecs_model.specs.rows.Text.{rows_text}
-use Rattle.query_model.specs.Query.{Query}
-use Rattle.ecs_observe.specs.Lists.{IsListOf}
-use Rattle.ecs_observe.specs.Standing.{IsHeld, Standing}
-use Rattle.ecs_observe.proofs.Found.{holds_of_found, world_is}
-use Rattle.ecs_observe.proofs.KeptFound.{kept_found, none_kept, other_kind}
-use Rattle.ecs_observe.proofs.Listed.{its_list, kept_kind, list_found, not_kept, relisted, relisted_seen}
+-- The stored query of the name is asked for its rows, and its list may be another; or there is none of the name.
+use Rattle.std.specs.Prelude.{option_map}
+use Rattle.std.specs.Box.{with_value}
+use Rattle.std.specs.Vec.{with_item}
+use Rattle.std.proofs.Common.{Some, ap, refl, subst, sym, ◌∙◌}
+use Rattle.name_order.specs.declared.order.Named.{Named}
+use Rattle.watch_order.specs.Watched.{Boxed}
+use Rattle.watch_order.specs.declared.watching.Watcher.{Watcher}
+use Rattle.ecs_observe.specs.Lists.{HasList}
+use Rattle.ecs_observe.specs.Standing.{IsHeld}
+use Rattle.ecs_observe.specs.Stored.{entries_of, made_of}
+use Rattle.ecs_observe.specs.declared.queries.StoredQueries.{StoredQueries}
+use Rattle.ecs_observe.specs.declared.stored.StoredQuery.{StoredQuery}
+use Rattle.ecs_observe.proofs.Entries.{look_stored, stored_in}
+use Rattle.ecs_observe.proofs.Found.{holds_of_found}
+use Rattle.ecs_observe.proofs.KeptFound.{none_kept, rows_answered}
+use Rattle.ecs_observe.proofs.Rewritten.{here_as, list_there, query_in, still_lists, still_seen, still_session}
+use Rattle.ecs_observe.proofs.Watches.{still_stored}
 use Rattle.ecs_observe.proofs.session.Session.write_kept_rows.Goals as goal
 
 pub returns-in_default-clause-rows : goal.returns-in_default-clause-rows
 returns-in_default-clause-rows g c = (
-  none_kept c.args.self.now c.self.inside.world c.self.inside.stored.entries c.self.inside.waiting c.self.inside.compared c.args.name.now (sym c.self.view_is) (sym c.in_default.ensures.value),
+  none_kept c.args.self.now c.self.inside.world (entries_of c.self.inside.stored) c.self.inside.waiting c.self.inside.compared c.args.name.now (sym c.self.view_is)
+      (look_stored c.args.name.now (made_of c.self.inside.stored) ∙ ap (option_map stored_in) c.in_default.ensures),
   refl,
 )
 
-pub invariant_of-self-in_default-list : goal.invariant_of-self-in_default-list
-invariant_of-self-in_default-list g c =
-    let es = c.self.inside.stored.entries in
-    let there = sym c.in-Some.ensures.value in
-    relisted c.self.inside.world es _ c.self.inside.waiting c.self.inside.compared c.args.name.now c.in-Some.stored.now _ there (c.get_mut.follows.holds _).0 (λ m. refl)
-    c.self.invariant.0 c.self.invariant.1 (list_found c.self.inside.world.tables c.args.name.now es c.in-Some.stored.now c.self.invariant.1 there)
+pub write_rows_of-requires-clause-current : goal.write_rows_of-requires-clause-current
+write_rows_of-requires-clause-current g c =
+    let bs = made_of c.self.inside.stored in
+    let i = c.in-Some.place in
+    let x = c.index_mut-made.result.now in
+    let is = c.deref_mut.ensures.value in
+    let low = c.in-Some.ensures.0 in
+    let here = here_as bs i x low c.index_mut-made.ensures.value in
+    let there = look_stored c.args.name.now bs ∙ ap (option_map stored_in) (c.in-Some.ensures.1 x) ∙ ap (λ (b : Boxed (StoredQuery g.row.A.Denot) g.row.A.Denot). Some (query_in b)) (here x)
+    ∙ sym (ap (λ (m : Named (Watcher (StoredQuery g.row.A.Denot) g.row.A.Denot) g.row.A.Denot). Some (m.value.value)) is) in
+    (holds_of_found c.args.name.now (IsHeld c.self.inside.world.state) (entries_of c.self.inside.stored) c.deref_mut.result.now.value.value (c.self.invariant.0).held there).current
 
-pub returns-in_default-list-clause-rows : goal.returns-in_default-list-clause-rows
-returns-in_default-list-clause-rows g c =
-    let es = c.self.inside.stored.entries in
-    let there = sym c.in-Some.ensures.value in
-    let has = list_found c.self.inside.world.tables c.args.name.now es c.in-Some.stored.now c.self.invariant.1 there in (
-      other_kind c.args.self.now c.self.inside.world es c.self.inside.waiting c.self.inside.compared c.args.name.now (sym c.self.view_is) c.in-Some.stored.now there
-          (not_kept c.self.inside.world.tables c.in-Some.stored.now has c.in_default-list.is),
-      refl,
+pub write_rows_of-requires-clause-list : goal.write_rows_of-requires-clause-list
+write_rows_of-requires-clause-list g c =
+    let bs = made_of c.self.inside.stored in
+    let i = c.in-Some.place in
+    let x = c.index_mut-made.result.now in
+    let is = c.deref_mut.ensures.value in
+    let low = c.in-Some.ensures.0 in
+    let here = here_as bs i x low c.index_mut-made.ensures.value in
+    subst (λ (m : Named (Watcher (StoredQuery g.row.A.Denot) g.row.A.Denot) g.row.A.Denot). HasList c.self.inside.world.tables (m.value.value)) (sym is) (list_there bs i x low here c.self.inside.world.tables c.self.invariant.1)
+
+pub invariant_of-self : goal.invariant_of-self
+invariant_of-self g c =
+    let bs = made_of c.self.inside.stored in
+    let i = c.in-Some.place in
+    let x = c.index_mut-made.result.now in
+    let is = c.deref_mut.ensures.value in
+    let low = c.in-Some.ensures.0 in
+    let here = here_as bs i x low c.index_mut-made.ensures.value in
+    let y : Boxed (StoredQuery g.row.A.Denot) g.row.A.Denot = with_value x (record { number = c.deref_mut.result.now.number; name = c.deref_mut.result.now.name; value = record { occasions = c.deref_mut.result.now.value.occasions; value = c.write_rows_of.new.query } }) in
+    let kind = c.write_rows_of.ensures.kind ∙ ap (λ (m : Named (Watcher (StoredQuery g.row.A.Denot) g.row.A.Denot) g.row.A.Denot). (m.value.value).kind) is in
+    let query = c.write_rows_of.ensures.query ∙ ap (λ (m : Named (Watcher (StoredQuery g.row.A.Denot) g.row.A.Denot) g.row.A.Denot). ((m.value.value).plan).query) is in
+    let these = c.write_rows_of.ensures.these ∙ ap (λ (m : Named (Watcher (StoredQuery g.row.A.Denot) g.row.A.Denot) g.row.A.Denot). (m.value.value).these) is in
+    let s = c.self.inside.stored in
+    let t : StoredQueries g.row.A.Denot = record { all = record { order = record { made = with_item s.all.order.made i y; numbers = s.all.order.numbers }; index = s.all.index }; watches = s.watches } in (
+      still_session c.self.inside.world s t c.self.inside.waiting c.self.inside.compared i x y here refl (ap (λ (m : Named (Watcher (StoredQuery g.row.A.Denot) g.row.A.Denot) g.row.A.Denot). m.name) is) kind query these c.self.invariant.0,
+      still_lists c.self.inside.world s t c.self.inside.waiting c.self.inside.compared i x y here refl (ap (λ (m : Named (Watcher (StoredQuery g.row.A.Denot) g.row.A.Denot) g.row.A.Denot). m.name) is) kind query these c.write_rows_of.ensures.list c.self.invariant.1,
+      still_stored s t i x y low here (ap (λ (m : Named (Watcher (StoredQuery g.row.A.Denot) g.row.A.Denot) g.row.A.Denot). m.name) is) (ap (λ (m : Named (Watcher (StoredQuery g.row.A.Denot) g.row.A.Denot) g.row.A.Denot). m.number) is) (ap (λ (m : Named (Watcher (StoredQuery g.row.A.Denot) g.row.A.Denot) g.row.A.Denot). (m.value).occasions.items) is) kind query refl refl refl refl c.self.invariant.2,
     )
-
-pub returns-in_default-list-clause-same : goal.returns-in_default-list-clause-same
-returns-in_default-list-clause-same g c =
-    relisted_seen c.self.inside.world c.self.inside.stored.entries _ c.self.inside.waiting c.self.inside.compared c.args.name.now c.in-Some.stored.now _ (sym c.in-Some.ensures.value)
-    (c.get_mut.follows.holds _).0 (λ m. refl)
-    ∙ c.self.view_is
-
-pub write_listed_rows-requires-clause-current : goal.write_listed_rows-requires-clause-current
-write_listed_rows-requires-clause-current g c =
-    (holds_of_found c.args.name.now (IsHeld c.self.inside.world.state) c.self.inside.stored.entries c.in-Some.stored.now (c.self.invariant.0).held (sym c.in-Some.ensures.value)).current
-
-pub write_listed_rows-requires-clause-list : goal.write_listed_rows-requires-clause-list
-write_listed_rows-requires-clause-list g c =
-    its_list c.self.inside.world.tables c.in-Some.stored.now
-    (list_found c.self.inside.world.tables c.args.name.now c.self.inside.stored.entries c.in-Some.stored.now c.self.invariant.1 (sym c.in-Some.ensures.value)) c.in-Some-list.list c.in-Some-list.is
-
-pub invariant_of-self-in_err-write_listed_rows : goal.invariant_of-self-in_err-write_listed_rows
-invariant_of-self-in_err-write_listed_rows g c =
-    let es = c.self.inside.stored.entries in
-    let there = sym c.in-Some.ensures.value in
-    let has = list_found c.self.inside.world.tables c.args.name.now es c.in-Some.stored.now c.self.invariant.1 there in
-    relisted c.self.inside.world es _ c.self.inside.waiting c.self.inside.compared c.args.name.now c.in-Some.stored.now _ there (c.get_mut.follows.holds _).0 (λ m. ap (λ (x : Query). record { name = m; kind = c.in-Some.stored.now.kind; query = x; these = (c.in-Some.stored.now.these).items }) c.write_listed_rows.ensures.query)
-    c.self.invariant.0 c.self.invariant.1 (record { kept = sym (ap is_some c.in-Some-list.is) ∙ has.kept; list = subst (λ (x : Query). IsListOf x c.self.inside.world.tables c.write_listed_rows.new.list) (sym c.write_listed_rows.ensures.query) c.write_listed_rows.ensures.list })
-
-pub returns-in_err-write_listed_rows-clause-same : goal.returns-in_err-write_listed_rows-clause-same
-returns-in_err-write_listed_rows-clause-same g c =
-    relisted_seen c.self.inside.world c.self.inside.stored.entries _ c.self.inside.waiting c.self.inside.compared c.args.name.now c.in-Some.stored.now _ (sym c.in-Some.ensures.value)
-    (c.get_mut.follows.holds _).0 (λ m. ap (λ (x : Query). record { name = m; kind = c.in-Some.stored.now.kind; query = x; these = (c.in-Some.stored.now.these).items }) c.write_listed_rows.ensures.query)
-    ∙ c.self.view_is
-
-pub invariant_of-self-2 : goal.invariant_of-self-2
-invariant_of-self-2 g c =
-    let es = c.self.inside.stored.entries in
-    let there = sym c.in-Some.ensures.value in
-    let has = list_found c.self.inside.world.tables c.args.name.now es c.in-Some.stored.now c.self.invariant.1 there in
-    relisted c.self.inside.world es _ c.self.inside.waiting c.self.inside.compared c.args.name.now c.in-Some.stored.now _ there (c.get_mut.follows.holds _).0 (λ m. ap (λ (x : Query). record { name = m; kind = c.in-Some.stored.now.kind; query = x; these = (c.in-Some.stored.now.these).items }) c.write_listed_rows.ensures.query)
-    c.self.invariant.0 c.self.invariant.1 (record { kept = sym (ap is_some c.in-Some-list.is) ∙ has.kept; list = subst (λ (x : Query). IsListOf x c.self.inside.world.tables c.write_listed_rows.new.list) (sym c.write_listed_rows.ensures.query) c.write_listed_rows.ensures.list })
 
 pub returns-clause-rows : goal.returns-clause-rows
 returns-clause-rows g c =
-    let es = c.self.inside.stored.entries in
-    let there = sym c.in-Some.ensures.value in
-    let q = c.in-Some.stored.now in
-    let has = list_found c.self.inside.world.tables c.args.name.now es q c.self.invariant.1 there in (
-      (q.plan).query,
-      kept_found c.args.self.now c.self.inside.world es c.self.inside.waiting c.self.inside.compared c.args.name.now (sym c.self.view_is) q there
-          (kept_kind c.self.inside.world.tables q has c.in-Some-list.list c.in-Some-list.is),
-      c.in_ok-write_listed_rows.ensures.rows
-          ∙ ap (λ (w : WorldState). c.args.out.now.items ++ rows_text w (q.plan).query) (ap (λ (s : Standing). (s.world).state) c.self.view_is ∙ sym (world_is c.args.self.now)),
-    )
+    let bs = made_of c.self.inside.stored in
+    let i = c.in-Some.place in
+    let x = c.index_mut-made.result.now in
+    let is = c.deref_mut.ensures.value in
+    let low = c.in-Some.ensures.0 in
+    let here = here_as bs i x low c.index_mut-made.ensures.value in
+    let there = look_stored c.args.name.now bs ∙ ap (option_map stored_in) (c.in-Some.ensures.1 x) ∙ ap (λ (b : Boxed (StoredQuery g.row.A.Denot) g.row.A.Denot). Some (query_in b)) (here x)
+    ∙ sym (ap (λ (m : Named (Watcher (StoredQuery g.row.A.Denot) g.row.A.Denot) g.row.A.Denot). Some (m.value.value)) is) in
+    rows_answered c.args.self.now c.self.inside.world (entries_of c.self.inside.stored) c.self.inside.waiting c.self.inside.compared c.args.name.now (sym c.self.view_is)
+    c.deref_mut.result.now.value.value there c.write_rows_of.result c.args.out.now.items c.write_rows_of.new.out.items c.write_rows_of.ensures.rows
 
 pub returns-clause-same : goal.returns-clause-same
 returns-clause-same g c =
-    relisted_seen c.self.inside.world c.self.inside.stored.entries _ c.self.inside.waiting c.self.inside.compared c.args.name.now c.in-Some.stored.now _ (sym c.in-Some.ensures.value)
-    (c.get_mut.follows.holds _).0 (λ m. ap (λ (x : Query). record { name = m; kind = c.in-Some.stored.now.kind; query = x; these = (c.in-Some.stored.now.these).items }) c.write_listed_rows.ensures.query)
-    ∙ c.self.view_is
+    let bs = made_of c.self.inside.stored in
+    let i = c.in-Some.place in
+    let x = c.index_mut-made.result.now in
+    let is = c.deref_mut.ensures.value in
+    let low = c.in-Some.ensures.0 in
+    let here = here_as bs i x low c.index_mut-made.ensures.value in
+    let y : Boxed (StoredQuery g.row.A.Denot) g.row.A.Denot = with_value x (record { number = c.deref_mut.result.now.number; name = c.deref_mut.result.now.name; value = record { occasions = c.deref_mut.result.now.value.occasions; value = c.write_rows_of.new.query } }) in
+    let kind = c.write_rows_of.ensures.kind ∙ ap (λ (m : Named (Watcher (StoredQuery g.row.A.Denot) g.row.A.Denot) g.row.A.Denot). (m.value.value).kind) is in
+    let query = c.write_rows_of.ensures.query ∙ ap (λ (m : Named (Watcher (StoredQuery g.row.A.Denot) g.row.A.Denot) g.row.A.Denot). ((m.value.value).plan).query) is in
+    let these = c.write_rows_of.ensures.these ∙ ap (λ (m : Named (Watcher (StoredQuery g.row.A.Denot) g.row.A.Denot) g.row.A.Denot). (m.value.value).these) is in
+    let s = c.self.inside.stored in
+    let t : StoredQueries g.row.A.Denot = record { all = record { order = record { made = with_item s.all.order.made i y; numbers = s.all.order.numbers }; index = s.all.index }; watches = s.watches } in
+    still_seen c.self.inside.world s t c.self.inside.waiting c.self.inside.compared i x y here refl (ap (λ (m : Named (Watcher (StoredQuery g.row.A.Denot) g.row.A.Denot) g.row.A.Denot). m.name) is) kind query these ∙ c.self.view_is

@@ -1,0 +1,207 @@
+//! The stored queries of a session, in the order of making.
+
+ghost use Rattle.std.specs.Prelude.{◌≡◌, ◌↔◌, ◌<◌, ◌++◌, ◌∷◌, [], All, IfNone, IfOk, IfSome, IsSome, None, OnErr, Some, is_some, length, map, option_map, slice_get};
+ghost use Rattle.std.specs.List.{list_any};
+ghost use Rattle.std.specs.List.Sorted.{IsStrictlyIncreasing};
+ghost use Rattle.std.specs.Map.{lookup, remove_entry};
+ghost use Rattle.std.specs.Option.{option_copied};
+ghost use Rattle.std.specs.String.{string_bytes};
+ghost use Rattle.ecs_model.specs.stored.Watches.{is_told};
+ghost use Rattle.ecs_observe.specs.Lists.{KeepLists};
+ghost use Rattle.ecs_observe.specs.Parts.{held_of};
+ghost use Rattle.ecs_observe.specs.Standing.{with_these_at};
+ghost use Rattle.ecs_observe.specs.Stored.{AreLedTo, IsOpened, IsStored, entries_of, made_of};
+ghost use Rattle.ecs_observe.specs.Telling.{is_locally_at};
+ghost use Rattle.name_order.specs.Order.{IsPlaceOf, is_key};
+ghost use Rattle.touched_entities.specs.Concerned.{has_births_or_deaths};
+
+use crate::stored::{StoredQuery, is_told};
+use ecs_world::Changes;
+use entity_set::EntitySet;
+use std::alloc::{AllocError, Allocator};
+use std::hash::RandomState;
+use watch_index::laws::whom_changes_concern_they_lead_to;
+use watch_index::{Happened, occasions_of};
+use watch_order::{Boxed, WatchOrder, Watcher};
+
+/// Stored queries in the order of making, with what each looks out for, and how many of them are told of commands.
+#[derive(Drop)]
+pub(crate) struct StoredQueries<A: Allocator> {
+    pub(crate) all: WatchOrder<StoredQuery<A>, A>,
+    /// How many are told of commands.
+    watches: usize,
+}
+
+impl<A: Allocator + Copy> StoredQueries<A> {
+    pub(crate) fn new(alloc: A, random: RandomState) -> Self
+        ensures none { entries_of result ≡ [] }
+        ensures stored { IsStored result }
+    {
+        StoredQueries {
+            all: WatchOrder::new(alloc, random),
+            watches: 0,
+        }
+    }
+
+    /// Makes a stored query ready to be put behind the others, and lists it for what it looks out for. Then it is put or
+    /// forgotten.
+    ///
+    /// Fails where memory is refused, and then nothing has changed.
+    pub(crate) fn prepare(
+        &mut self,
+        alloc: A,
+        name: String<A>,
+        query: StoredQuery<A>,
+    ) -> Result<(String<A>, Boxed<StoredQuery<A>, A>), AllocError>
+        requires stored { IsStored self.old }
+        ensures same { entries_of self.new ≡ entries_of self.old }
+        ensures opened { IfOk result (IsOpened self.new name query) }
+        ensures refused { OnErr result (IsStored self.new) }
+    {
+        let anchored = query.plan.bonds().anchored;
+        let occasions = occasions_of(alloc, query.kind, query.plan.query(), anchored)?;
+        let watcher = Watcher {
+            occasions,
+            value: query,
+        };
+        self.all.prepare(alloc, name, watcher)
+    }
+
+    /// The places of the stored queries that look out for something that a command did, in order: no other is told anything.
+    ///
+    /// Fails where memory is refused.
+    pub(crate) fn led(&self, alloc: A, changes: &Changes<A>) -> Result<Vec<usize, A>, AllocError>
+        requires stored { IsStored self.now }
+        ensures ascend { IfOk result (λ places. IsStrictlyIncreasing places.items) }
+        ensures within { IfOk result (λ places. All (λ i. i < length (entries_of self.now)) places.items) }
+        ensures led { IfOk result (λ places. AreLedTo changes.now (entries_of self.now) places.items) }
+    {
+        let happened = Happened {
+            lives: has_births_or_deaths(changes),
+            came: changes.came(),
+            went: changes.went(),
+            written: changes.written(),
+        };
+        whom_changes_concern_they_lead_to();
+        self.all.led(alloc, happened)
+    }
+}
+
+impl<A: Allocator> StoredQueries<A> {
+    pub(crate) fn len(&self) -> usize
+        ensures len { result ≡ length (entries_of self.now) }
+    {
+        self.all.order.len()
+    }
+
+    /// Whether one of them is told of commands.
+    pub(crate) fn has_watch(&self) -> bool
+        requires stored { IsStored self.now }
+        ensures { result ≡ list_any (λ query. is_told query.kind) (map (λ e. e.1) (entries_of self.now)) }
+    {
+        self.watches > 0
+    }
+
+    /// The stored query of a name.
+    pub(crate) fn get(&self, name: &str) -> Option<&StoredQuery<A>>
+        requires stored { IsStored self.now }
+        ensures { option_copied result ≡ lookup (is_key name.now) (entries_of self.now) }
+    {
+        match self.all.order.get(name) {
+            Some(watcher) => Some(&watcher.value),
+            None => None,
+        }
+    }
+
+    /// Where the stored query of a name stands.
+    pub(crate) fn place_of(&self, name: &str) -> Option<usize>
+        requires stored { IsStored self.now }
+        ensures { IsPlaceOf name.now (made_of self.now) result }
+    {
+        self.all.order.place_of(name)
+    }
+
+    /// Whether one has a name.
+    pub(crate) fn contains_key(&self, name: &str) -> bool
+        requires stored { IsStored self.now }
+        ensures { result ≡ is_some (lookup (is_key name.now) (entries_of self.now)) }
+    {
+        self.get(name).is_some()
+    }
+
+    /// The stored query at a place, with its name.
+    pub(crate) fn get_index(&self, place: usize) -> Option<(&String<A>, &StoredQuery<A>)>
+        ensures entry { IfSome result (λ p. slice_get (entries_of self.now) place ≡ Some (p.0.now, p.1.now)) }
+        ensures found { IsSome result ↔ (place < length (entries_of self.now)) }
+    {
+        match self.all.order.get_index(place) {
+            Some((name, watcher)) => Some((name, &watcher.value)),
+            None => None,
+        }
+    }
+
+    /// Whether the one at a place is a monitor that is told by the entities that a command touched.
+    pub(crate) fn is_told_locally_at(&self, place: usize) -> bool
+        ensures { result ≡ is_locally_at (entries_of self.now) place }
+    {
+        match self.get_index(place) {
+            Some((_, query)) => query.is_told_locally(),
+            None => false,
+        }
+    }
+
+    /// Puts a stored query that was made ready behind the others. None of them has its name.
+    pub(crate) fn put(&mut self, key: String<A>, made: Boxed<StoredQuery<A>, A>)
+        requires opened { IsOpened self.old made.value.name made.value.value.value (key, made) }
+        requires free { lookup (is_key (string_bytes made.value.name)) (entries_of self.old) ≡ None }
+        ensures entries { entries_of self.new ≡ entries_of self.old ++ (made.value.name, made.value.value.value) ∷ [] }
+        ensures stored { IsStored self.new }
+    {
+        let _few = self.all.order.len();
+        self.watches += is_told(made.value.value.kind) as usize;
+        self.all.put(key, made);
+    }
+
+    /// Forgets a stored query that was made ready.
+    pub(crate) fn forget(&mut self, key: &String<A>, made: &Boxed<StoredQuery<A>, A>)
+        requires opened { IsOpened self.old made.now.value.name made.now.value.value.value (key.now, made.now) }
+        ensures same { entries_of self.new ≡ entries_of self.old }
+        ensures stored { IsStored self.new }
+    {
+        self.all.forget(key, made);
+    }
+
+    /// Takes out the stored query of a name. No other is moved, and no memory taken.
+    pub(crate) fn remove(&mut self, name: &str) -> Option<Boxed<StoredQuery<A>, A>>
+        requires stored { IsStored self.old }
+        ensures value { option_map (λ b. b.value.value.value) result ≡ lookup (is_key name.now) (entries_of self.old) }
+        ensures entries { IfSome result (λ _. entries_of self.new ≡ remove_entry (is_key name.now) (entries_of self.old)) }
+        ensures none { IfNone result (self.new ≡ self.old) }
+        ensures stored { IsStored self.new }
+    {
+        let Some(made) = self.all.remove(name) else {
+            return None;
+        };
+        self.watches -= is_told(made.value.value.kind) as usize;
+        Some(made)
+    }
+
+    /// Keeps these as the entities of the rows of the one at a place, if there is one.
+    pub(crate) fn keep(&mut self, place: usize, these: EntitySet<A>)
+        requires stored { IsStored self.old }
+        ensures held { map held_of (entries_of self.new) ≡ with_these_at place these.items (map held_of (entries_of self.old)) }
+        ensures lists { KeepLists (entries_of self.old) (entries_of self.new) }
+        ensures stored { IsStored self.new }
+    {
+        if place < self.all.order.made.len() {
+            self.all.order.made[place].value.value.keep(these);
+        }
+    }
+}
+
+/// Whether somebody was born or died.
+fn has_births_or_deaths<A: Allocator>(changes: &Changes<A>) -> bool
+    ensures { result ≡ has_births_or_deaths changes.now }
+{
+    changes.born().is_some() || !changes.died().is_empty()
+}
