@@ -2,11 +2,14 @@
 
 use ecs_model::faults::{CommandError, SessionRefusal};
 use std::alloc::AllocError;
+use thiserror::Error;
 
 /// Why a command of a session was not carried out: a refusal by the rules, or memory that was refused.
-#[derive(Clone, Copy, Debug, PartialEq, Eq)]
+#[derive(Clone, Copy, Debug, PartialEq, Eq, Error)]
 pub enum SessionError {
+    #[error("refused: {0:?}")]
     Refused(SessionRefusal),
+    #[error("out of memory")]
     Memory,
 }
 

@@ -32,7 +32,7 @@ const SHIPS: [&str; 3] = ["Heron", "Petrel", "Swift"];
 enum GameError {
     #[error(transparent)]
     Schema(#[from] SchemaError),
-    #[error("{0:?}")]
+    #[error(transparent)]
     Session(#[from] SessionError),
     #[error("no query: {0:?}")]
     Query(#[from] QueryFault),

@@ -10,6 +10,7 @@ use memchr::memchr;
 use std::alloc::{AllocError, Allocator, Global};
 use std::marker::Model;
 use std::mem::swap;
+use thiserror::Error;
 
 /// A script has at most so many bytes.
 pub const MOST_BYTES: usize = 16_777_216;
@@ -21,11 +22,13 @@ const PIECE: usize = 16_384;
 const MOST_KEPT: usize = 4_097;
 
 /// Why no more bytes came.
-#[derive(Clone, Copy, Debug, PartialEq, Eq)]
+#[derive(Clone, Copy, Debug, PartialEq, Eq, Error)]
 pub enum FillError {
     /// A read failed, or 65 in a row were interrupted.
+    #[error("read fault")]
     Read,
     /// The script has more than 16,777,216 bytes.
+    #[error("script too long")]
     TooLong,
 }
 

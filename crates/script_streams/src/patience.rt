@@ -4,12 +4,14 @@ ghost use Rattle.std.specs.Io.KnownBytes.{Appends, Consumes, IsAtEnd, Keeps};
 ghost use Rattle.script_streams.specs.Streams.{StaysCalm, TakesFront};
 
 use crate::streams::{Sink, Source, Stop};
+use thiserror::Error;
 
 /// So many calls in a row may be interrupted before the last is a fault: it is tried again 64 times.
 const MOST_TRIES: u8 = 65;
 
 /// A call failed, 65 in a row were interrupted, or a write took no byte.
-#[derive(Clone, Copy, Debug, PartialEq, Eq)]
+#[derive(Clone, Copy, Debug, PartialEq, Eq, Error)]
+#[error("a read or a write failed")]
 pub struct Fault;
 
 /// Reads, and again after each of up to 64 interruptions in a row. Answers how many bytes came: none only at the end.
