@@ -1,5 +1,5 @@
 -- What the map of the entered tables holds after a change, and that the lists keep to it.
-use Rattle.std.proofs.Common.{◌≡◌, ◌&&◌, ◌||◌, ◌↔◌, not, Bool, true, false, cond, true≢false, List, [], Option, Some, None, Contains, refl, sym, ap, subst, ◌∙◌}
+use Rattle.std.proofs.Common.{◌≡◌, ◌&&◌, ◌||◌, ◌↔◌, not, Bool, true, false, cond, true≢false, List, [], Option, Some, None, unwrap_or, Contains, refl, sym, ap, subst, ◌∙◌}
 use Rattle.std.specs.Option.{option_map_or}
 use Rattle.std.specs.Ordering.{eq_by_cmp}
 use Rattle.std.specs.Map.{lookup}
@@ -13,7 +13,7 @@ use Rattle.ecs_id.specs.declared.TableKey.{TableKey}
 use Rattle.component_index.specs.declared.pattern.Pattern.{Pattern}
 use Rattle.component_index.specs.Patterns.{matches}
 use Rattle.component_index.specs.Entered.{Entered, IsMatched, table_cmp, table_eq, table_cmp_total, eq_by-table_cmp, same_table}
-use Rattle.component_index.specs.Listed.{is_listed, is_matched, Adds, Drops, AreListed}
+use Rattle.component_index.specs.Listed.{is_listed, is_matched, Adds, Drops, AreListed, IsNewest}
 use Rattle.component_index.specs.TableList.{has}
 use Rattle.component_index.specs.SamePattern.{pattern_eq}
 use Rattle.component_index.proofs.TableLemmas.{table_eq_equiv}
@@ -76,6 +76,15 @@ module _ {S : Type 0} (old new : HashMap Pattern (List TableKey) S) (was is : En
       ∙ leave_at (table_eq key k) (list_any (matches p) ids) (is_listed old p k) (λ e. right_at p k ∙ here tables key (Some ids) had p k e)
       ∙ (λ i. cond (table_eq key k) false (right_at p k i)) ∙ sym (matched-remove tables key p k)
       ∙ (λ i. is_matched (finite.remove (sym view i) key) p k) ∙ ap (λ t. is_matched t p k) (sym changed)
+
+-- no list has a table that isn't entered
+unwrapped_has : (o : Option (List TableKey)) (k : TableKey) → has (unwrap_or o []) k ≡ option_map_or (λ list. has list k) o false
+unwrapped_has None k = refl
+unwrapped_has (Some list) k = refl
+
+pub IsNewest-none : {S : Type 0} (was : Entered) (lists : HashMap Pattern (List TableKey) S) → AreListed was lists → (tables : Entered) → was ≡ tables → (key : TableKey) → finite.get tables key ≡ None → IsNewest lists key
+IsNewest-none was lists right tables view key none p h =
+    absurd (true≢false (sym h ∙ unwrapped_has (get pattern_eq lists p) key ∙ right p key ∙ ap (λ t. is_matched t p key) view ∙ here tables key None none p key (table_eq_equiv.refl key)))
 
 pub AreListed-empty : {S : Type 0} (tables : Entered) (lists : HashMap Pattern (List TableKey) S) → tables ≡ finite.empty → lists.entries ≡ [] → AreListed tables lists
 AreListed-empty tables lists none no_lists p k =

@@ -1,5 +1,5 @@
 -- What the lists of the patterns hold after a step, and after many.
-use Rattle.std.proofs.Common.{◌≡◌, ℕ, zero, suc, ◌≤◌, subst, ◌+◌, ◌<◌, ◌&&◌, ◌||◌, not, Bool, true, false, cond, true≢false, List, [], ◌∷◌, length, take, arith, Option, Some, None, refl, sym, ap, ◌∙◌, slice_index_or, Result, Ok, Err, OnErr}
+use Rattle.std.proofs.Common.{◌≡◌, ℕ, zero, suc, ◌≤◌, subst, ◌+◌, ◌<◌, ◌&&◌, ◌||◌, not, Bool, true, false, cond, true≢false, List, [], ◌∷◌, length, take, arith, Option, Some, None, refl, sym, ap, ◌∙◌, slice_index_or, unwrap_or, Result, Ok, Err, OnErr}
 use Rattle.std.specs.Option.{option_map_or}
 use Rattle.std.specs.HashMap.{HashMap, get}
 use Rattle.std.specs.List.{list_any}
@@ -8,8 +8,8 @@ use Rattle.std.proofs.lemmas.List.Folds.{list_any_more}
 use Rattle.ecs_id.specs.declared.TableKey.{TableKey}
 use Rattle.component_index.specs.declared.pattern.Pattern.{Pattern}
 use Rattle.component_index.specs.Entered.{table_eq}
-use Rattle.component_index.specs.Listed.{is_listed, Adds, Drops, Keeps}
-use Rattle.component_index.specs.TableList.{has}
+use Rattle.component_index.specs.Listed.{is_listed, Adds, Drops, IsNewest, Keeps}
+use Rattle.component_index.specs.TableList.{has, IsNewOrLast}
 use Rattle.component_index.specs.SamePattern.{pattern_eq, same_pattern}
 
 or_none : (b : Bool) → b ≡ (b || false)
@@ -112,6 +112,15 @@ module _ {S : Type 0} (m n o : HashMap Pattern (List TableKey) S) (a b c : Patte
   Keeps-steps ac bc f g p k out =
       let outside : (d : Bool) → (d ≡ true → c p ≡ true) → (d && table_eq key k) ≡ false = λ d dc. apart_from (c p) d (table_eq key k) out dc in
       g p k (outside (b p) (bc p)) ∙ f p k ∙ (λ i. is_listed m p k || outside (a p) (ac p) i) ∙ sym (or_none (is_listed m p k))
+
+-- once one list is another that has the table last, no list has it but last
+pub IsNewest-one : {S : Type 0} (m n : HashMap Pattern (List TableKey) S) (pattern : Pattern) (key : TableKey) (list : List TableKey) → ((q : Pattern) → get pattern_eq n q ≡ cond (pattern_eq pattern q) (Some list) (get pattern_eq m q))
+    → IsNewOrLast list key → IsNewest m key → IsNewest n key
+IsNewest-one m n pattern key list writes last newest q = subst (λ o. IsNewOrLast (unwrap_or o []) key) (sym (writes q)) (by (pattern_eq pattern q))
+  where
+    by : (b : Bool) → IsNewOrLast (unwrap_or (cond b (Some list) (get pattern_eq m q)) []) key
+    by true = last
+    by false = newest q
 
 gone_twice : {X : Type 0} (b : Bool) (x : X) (o p q : Option X) → p ≡ cond b (Some x) o → q ≡ cond b None p → q ≡ cond b None o
 gone_twice true x o p q f g = g

@@ -1,20 +1,22 @@
 -- Lists of tables, each of which has a table once.
-use Rattle.std.proofs.Common.{◌≡◌, ℕ, suc, ◌<◌, ◌||◌, not, Bool, true, false, cond, true≢false, List, [], ◌∷◌, ◌++◌, length, get_or, nat_lt, Option, Some, None, is_some, Result, Ok, Err, OnOk, OnErr, refl, sym, ap, subst, ◌∙◌, arith}
-use Rattle.std.specs.List.{IsDistinct, AllByRecursion, list_any, position, position_or_len, swap_remove}
+use Rattle.std.proofs.Common.{◌≡◌, ℕ, suc, ◌-◌, ◌<◌, ◌||◌, not, Bool, true, false, cond, true≢false, List, [], ◌∷◌, ◌++◌, length, get_or, nat_lt, length-append, Option, Some, None, Result, Ok, Err, OnOk, OnErr, refl, sym, ap, subst, ◌∙◌, arith}
+use Rattle.std.specs.Option.{option_map_or}
+use Rattle.std.specs.List.{IsDistinct, AllByRecursion, list_any, position, position_or_len, slice_get, swap_remove}
 use Rattle.std.specs.List.Sorted.{IsPermutation}
 use Rattle.std.specs.Cmp.{IsEquivalence}
 use Rattle.std.proofs.lemmas.Bool.Decides.{Decides-ltb}
 use Rattle.std.proofs.lemmas.Bool.{ltb-false}
 use Rattle.std.proofs.lemmas.Cmp.{eq_by_cmp_equiv}
+use Rattle.std.proofs.Math.Seq.{get_or-append_seam}
+use Rattle.std.proofs.lemmas.Option.{get_or_from_slice_get, slice_get-get_or, slice_get_within}
 use Rattle.std.proofs.lemmas.List.Folds.{list_any_at, list_any-append}
 use Rattle.std.proofs.lemmas.List.Sorted.{IsPermutation-swap_remove, list_any-IsPermutation}
 use Rattle.std.proofs.lemmas.List.Sums.{fails_before_first, prefix_len_stops}
 use Rattle.std.proofs.lemmas.Map.Keys.{IsDistinct-IsPermutation, IsDistinct-head, IsDistinct-push, IsDistinct-tail}
-use Rattle.indexmap.specs.IndexSet.{insert_all, insert_key}
-use Rattle.indexmap.proofs.SetLemmas.{set_all_distinct}
+use Rattle.indexmap.specs.IndexSet.{insert_key}
 use Rattle.ecs_id.specs.declared.TableKey.{TableKey}
 use Rattle.component_index.specs.Entered.{table_cmp_total, table_eq, eq_by-table_cmp, same_table}
-use Rattle.component_index.specs.TableList.{has, Loses}
+use Rattle.component_index.specs.TableList.{has, is_last, IsNewOrLast, IsPlace, Loses}
 
 pub table_eq_equiv : IsEquivalence table_eq
 table_eq_equiv = subst IsEquivalence (λ i x y. eq_by-table_cmp x y i) (eq_by_cmp_equiv table_cmp_total)
@@ -62,6 +64,43 @@ has-insert_key ks key k = by (has ks key) refl
     by true h = at (table_eq key k) refl h
     by false h = list_any-append (table_eq k) ks (key ∷ []) ∙ in_or (has ks k) (table_eq k key) ∙ (λ i. cond (table_eq_equiv.symm k key i) true (has ks k))
 
+-- ---- a table that is new, or stands last
+last_at : (ks : List TableKey) (key : TableKey) (o : Option TableKey) → slice_get ks (length ks - 1) ≡ o → option_map_or (table_eq key) o false ≡ true → has ks key ≡ true
+last_at ks key None e h = absurd (true≢false (sym h))
+last_at ks key (Some x) e h =
+    list_any_at (table_eq key) ks (length ks - 1) x (slice_get_within ks (length ks - 1) x e) (ap (table_eq key) (get_or_from_slice_get ks (length ks - 1) x x e) ∙ h)
+
+-- a list has the table that stands last
+pub last_has : (ks : List TableKey) (key : TableKey) → is_last ks key ≡ true → has ks key ≡ true
+last_has ks key h = last_at ks key (slice_get ks (length ks - 1)) refl h
+
+pub new_unless_last : (ks : List TableKey) (key : TableKey) → IsNewOrLast ks key → is_last ks key ≡ false → has ks key ≡ false
+new_unless_last ks key f h = by (has ks key) refl
+  where
+    by : (b : Bool) → has ks key ≡ b → b ≡ false
+    by true e = sym (f e) ∙ h
+    by false e = refl
+
+last_pushed : (ks : List TableKey) (key : TableKey) → is_last (ks ++ key ∷ []) key ≡ true
+last_pushed ks key =
+    let count : length (ks ++ key ∷ []) - 1 ≡ length ks = omega (arith, length-append ks (key ∷ [])) in
+    let within : length ks < length (ks ++ key ∷ []) = omega (arith, length-append ks (key ∷ [])) in
+    ap (λ n. option_map_or (table_eq key) (slice_get (ks ++ key ∷ []) n) false) count
+    ∙ ap (λ o. option_map_or (table_eq key) o false) (slice_get-get_or (ks ++ key ∷ []) (length ks) key within ∙ ap Some (get_or-append_seam ks key [] key))
+    ∙ table_eq_equiv.refl key
+
+pub last_inserted : (ks : List TableKey) (key : TableKey) → IsNewOrLast ks key → IsNewOrLast (insert_key table_eq ks key) key
+last_inserted ks key f = by (has ks key)
+  where
+    by : (b : Bool) → IsNewOrLast (cond b ks (ks ++ key ∷ [])) key
+    by true = f
+    by false = λ _. last_pushed ks key
+
+-- what a push that succeeds makes of a list that doesn't have the table
+pub inserted : {X E : Type 0} (r : Result X E) (old new : List TableKey) (key : TableKey) → has old key ≡ false → OnOk r (new ≡ old ++ key ∷ []) → OnOk r (new ≡ insert_key table_eq old key)
+inserted (Ok x) old new key h e = e ∙ put old key h
+inserted (Err x) old new key h e = e
+
 -- ---- where a table stands
 not_false : (b : Bool) → not b ≡ false → b ≡ true
 not_false true h = refl
@@ -92,13 +131,13 @@ module _ (key : TableKey) (ks : List TableKey) where
       by true w e = absurd (cc)
       by false w e = none_passes (table_eq key) ks (λ k d below. fails_before_first (table_eq key) ks k d (omega (arith, ltb-false place (length ks) w)))
 
-  -- what a search tells, as a test
-  pub found : is_some (position (table_eq key) ks) ≡ has ks key
-  found = by (position (table_eq key) ks) refl
+  -- what a search finds is where the table stands
+  pub IsPlace-position : IsPlace ks key (position (table_eq key) ks)
+  IsPlace-position = by (position (table_eq key) ks) refl
     where
-      by : (o : Option ℕ) → position (table_eq key) ks ≡ o → is_some o ≡ has ks key
-      by None e = sym (place_none e)
-      by (Some i) e = let at = place_some i e key in sym (list_any_at (table_eq key) ks i key at.0 at.1)
+      by : (o : Option ℕ) → position (table_eq key) ks ≡ o → IsPlace ks key o
+      by None e = place_none e
+      by (Some i) e = ((place_some i e key).0, λ d. (place_some i e d).1)
 
 -- ---- a table that goes
 none_among : (x : TableKey) (ks : List TableKey) → AllByRecursion (λ y. table_eq x y ≡ false) ks → has ks x ≡ false
@@ -120,9 +159,9 @@ Loses-only ks first key is e k = by (table_eq key k) refl
     by false t =
         sym (ap (λ l. has l k) is ∙ or_false (table_eq k first) ∙ table_eq_equiv.symm k first ∙ ap (λ x. table_eq x k) (same_table first key e) ∙ t)
 
-module _ (ks : List TableKey) (once : IsDistinct table_eq ks) (key : TableKey) (i : ℕ) (is : position (table_eq key) ks ≡ Some i) (x : TableKey) (taken : x ≡ get_or ks i x) where
+module _ (ks : List TableKey) (once : IsDistinct table_eq ks) (key : TableKey) (i : ℕ) (is : IsPlace ks key (Some i)) (x : TableKey) (taken : x ≡ get_or ks i x) where
   at : (i < length ks) × (table_eq key (get_or ks i x) ≡ true)
-  at = place_some key ks i is x
+  at = (is.0, is.1 x)
 
   same : key ≡ x
   same = same_table key (get_or ks i x) at.1 ∙ sym taken
@@ -149,19 +188,21 @@ module _ (ks : List TableKey) (once : IsDistinct table_eq ks) (key : TableKey) (
   pub Loses-swap_remove : Loses ks (swap_remove ks i x) key
   Loses-swap_remove k = gone k ∙ (λ j. cond (table_eq key k) false (sym (list_any-IsPermutation (table_eq k) ks (x ∷ rest) moved) j))
 
+-- what is left of a list once its last fills a gap
+module _ (ks new : List TableKey) (once : IsDistinct table_eq ks) (key : TableKey) (i : ℕ) (is : IsPlace ks key (Some i)) (x : TableKey) (taken : x ≡ get_or ks i x) (left : new ≡ swap_remove ks i x) where
+  pub Loses-taken : Loses ks new key
+  Loses-taken = subst (λ l. Loses ks l key) (sym left) (Loses-swap_remove ks once key i is x taken)
+
+  pub once-taken : IsDistinct table_eq new
+  once-taken = subst (IsDistinct table_eq) (sym left) (once-swap_remove ks once key i is x taken)
+
 -- ---- what calls tell
 pub once_inserted : {E : Type 0} (r : Result (Unit {0}) E) (key : TableKey) (old new : List TableKey) → OnOk r (new ≡ insert_key table_eq old key) → OnErr r (new ≡ old) → IsDistinct table_eq old → IsDistinct table_eq new
 once_inserted (Ok u) key old new e h d = subst (IsDistinct table_eq) (sym e) (distinct_key old key d)
 once_inserted (Err x) key old new e h d = subst (IsDistinct table_eq) (sym h) d
 
-pub all_once : (ks : List TableKey) → IsDistinct table_eq ks → insert_all table_eq [] ks ≡ ks
-all_once ks d = set_all_distinct table_eq_equiv [] ks d
-
 pub only_has : (ks : List TableKey) (first key : TableKey) (b : Bool) → ks ≡ first ∷ [] → b ≡ table_eq first key → has ks key ≡ b
 only_has ks first key b is e = ap (λ l. has l key) is ∙ or_false (table_eq key first) ∙ table_eq_equiv.symm key first ∙ sym e
-
-pub search_has : (ks slice : List TableKey) (key : TableKey) (index : Option ℕ) (b : Bool) → slice ≡ ks → index ≡ position (table_eq key) slice → b ≡ is_some index → has ks key ≡ b
-search_has ks slice key index b is e t = sym (t ∙ ap is_some e ∙ found key slice ∙ ap (λ l. has l key) is)
 
 -- what holds holds of an error
 pub on_err : {X E : Type 0} {P : Type 0} (r : Result X E) → P → OnErr r P

@@ -1,5 +1,5 @@
 -- The lists of tables, one for each pattern, and what they have to do with the tables that are entered.
-use Rattle.std.specs.Prelude.{◌≡◌, Bool, false, not, ◌&&◌, ◌||◌, List, [], ◌∷◌, Option, Some, None}
+use Rattle.std.specs.Prelude.{◌≡◌, Bool, false, not, ◌&&◌, ◌||◌, List, [], ◌∷◌, Option, Some, None, unwrap_or}
 use Rattle.std.specs.Option.{option_map_or}
 use Rattle.std.specs.List.{list_any}
 use Rattle.std.specs.HashMap.{HashMap, get}
@@ -11,7 +11,7 @@ use Rattle.component_index.specs.declared.pattern.Pattern.{Pattern}
 use Rattle.component_index.specs.Patterns.{matches, matches_some}
 use Rattle.component_index.specs.SamePattern.{pattern_eq}
 use Rattle.component_index.specs.Entered.{Entered, table_eq}
-use Rattle.component_index.specs.TableList.{has}
+use Rattle.component_index.specs.TableList.{has, IsNewOrLast}
 
 -- the pattern is one of these
 abbrev pub is_among : List Pattern → Pattern → Bool
@@ -52,3 +52,7 @@ module _ {S : Type 0} where
   -- each table is in the list of each pattern that matches one of its ids, and no other table is in it
   abbrev pub AreListed : Entered → HashMap Pattern (List TableKey) S → Type 0
   AreListed tables lists = (p : Pattern) (k : TableKey) → is_listed lists p k ≡ is_matched tables p k
+
+  -- no list has the table but last
+  abbrev pub IsNewest : HashMap Pattern (List TableKey) S → TableKey → Type 0
+  IsNewest lists key = (p : Pattern) → IsNewOrLast (unwrap_or (get pattern_eq lists p) []) key

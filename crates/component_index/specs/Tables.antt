@@ -2,11 +2,10 @@
 use Rattle.std.specs.Prelude.{List, []}
 use Rattle.ecs_id.specs.declared.TableKey.{TableKey}
 use Rattle.component_index.specs.declared.table_list.Tables.{Tables}
-use Rattle.component_index.specs.declared.table_list.Tables.TheVariants.{Empty, One, Few, Many}
+use Rattle.component_index.specs.declared.table_list.Tables.TheVariants.{Empty, One, More}
 
 -- the tables of a list in each of its forms
 abbrev pub keys_of : {A : Type 0} → Tables A → List TableKey
 keys_of Empty = []
 keys_of (One keys) = keys
-keys_of (Few keys) = keys.items
-keys_of (Many keys) = keys.value.keys
+keys_of (More keys) = keys.items

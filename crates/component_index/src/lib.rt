@@ -12,16 +12,18 @@ ghost use Rattle.component_index.specs.declared.pattern.Pattern.{Pattern as Aske
 mod listings;
 mod lists;
 mod pattern;
+mod places;
 mod register;
 mod table_list;
 
 use crate::lists::{Lists, list_all, unlist_all};
+use crate::places::Places;
 use crate::register::{Change, Register};
 use ecs_id::{Id, TableKey};
 use indexmap::IndexMap;
 pub use listings::Listings;
 pub use pattern::{Part, Pattern};
-use secret_hashing::{Hashing, SerialHashing};
+use secret_hashing::Hashing;
 use std::alloc::{AllocError, Allocator, Global};
 use std::hash::RandomState;
 use std::marker::Model;
@@ -35,7 +37,7 @@ use std::marker::Model;
 pub struct ComponentIndex<A: Allocator = Global> {
     entered: Register,
     lists: Lists<A>,
-    hashing: SerialHashing,
+    places: Places<A>,
 }
 
 impl<A: Allocator> Model for ComponentIndex<A> {
@@ -59,11 +61,10 @@ impl<A: Allocator + Copy> ComponentIndex<A> {
     pub fn new(alloc: A, random: RandomState) -> Self
         ensures empty { result ≡ finite.empty }
     {
-        let hashing = Hashing::new(random);
         ComponentIndex {
             entered: Register::new(),
-            lists: IndexMap::with_hasher(alloc, hashing),
-            hashing: hashing.of_serials(),
+            lists: IndexMap::with_hasher(alloc, Hashing::new(random)),
+            places: Places::new(alloc),
         }
     }
 
@@ -75,8 +76,9 @@ impl<A: Allocator + Copy> ComponentIndex<A> {
         ensures entered { OnOk result (self.new ≡ finite.insert self.old key ids.now) }
         ensures refused { OnErr result (self.new ≡ self.old) }
     {
-        if let Err(error) = list_all(&mut self.lists, self.hashing, ids, key) {
-            unlist_all(&mut self.lists, ids, key);
+        if let Err(error) = list_all(&mut self.lists, &mut self.places, ids, key) {
+            unlist_all(&mut self.lists, &mut self.places, ids, key);
+            self.places.forget(key);
             return Err(error);
         }
         self.entered = self.entered.after(&Change::Enters(key, ids));
@@ -106,7 +108,8 @@ impl<A: Allocator> ComponentIndex<A> {
         requires { finite.get self.old key ≡ Some ids.now }
         ensures left { self.new ≡ finite.remove self.old key }
     {
-        unlist_all(&mut self.lists, ids, key);
+        unlist_all(&mut self.lists, &mut self.places, ids, key);
+        self.places.forget(key);
         self.entered = self.entered.after(&Change::Leaves(key));
     }
 }

@@ -4,13 +4,14 @@ ghost use Rattle.std.specs.List.{list_any};
 ghost use Rattle.ecs_id.specs.Id.{pair, plain};
 ghost use Rattle.component_index.specs.Patterns.{matches, matches_some};
 ghost use Rattle.component_index.specs.SamePattern.{pattern_eq};
-ghost use Rattle.component_index.specs.Listed.{is_among, is_new, patterns_of, Adds, Drops, Keeps};
+ghost use Rattle.component_index.specs.Listed.{is_among, is_new, patterns_of, Adds, Drops, IsNewest, Keeps};
 
 use crate::pattern::{Part, Pattern};
+use crate::places::Places;
 use crate::table_list::TableList;
 use ecs_id::{Id, TableKey};
 use indexmap::IndexMap;
-use secret_hashing::{Hashing, SerialHashing};
+use secret_hashing::Hashing;
 use std::alloc::{AllocError, Allocator};
 
 // No list is empty: the entry of a pattern goes with the last table of its list.
@@ -19,16 +20,18 @@ pub type Lists<A> = IndexMap<Pattern, TableList<A>, Hashing, A>;
 /// Puts the table into the list of the pattern, where it isn't in it.
 fn list<A: Allocator + Copy>(
     lists: &mut Lists<A>,
-    hashing: SerialHashing,
+    places: &mut Places<A>,
     pattern: &Pattern,
     key: TableKey,
 ) -> Result<(), AllocError>
+    requires { IsNewest lists.old key }
     ensures listed { OnOk result (Adds lists.old lists.new (pattern_eq pattern.now) key) }
     ensures refused { OnErr result (Keeps lists.old lists.new (pattern_eq pattern.now) key) }
+    ensures newest { OnOk result (IsNewest lists.new key) }
 {
     let alloc = *lists.allocator();
     if let Some(list) = lists.get_mut(pattern) {
-        list.insert(alloc, hashing, key)?;
+        list.insert(alloc, places, pattern.packed(), key)?;
         return Ok(());
     }
     lists.insert(*pattern, TableList::one(key))?;
@@ -36,13 +39,18 @@ fn list<A: Allocator + Copy>(
 }
 
 /// Takes the table out of the list of the pattern, where it is in it.
-fn unlist<A: Allocator>(lists: &mut Lists<A>, pattern: &Pattern, key: TableKey)
+fn unlist<A: Allocator>(
+    lists: &mut Lists<A>,
+    places: &mut Places<A>,
+    pattern: &Pattern,
+    key: TableKey,
+)
     ensures { Drops lists.old lists.new (pattern_eq pattern.now) key }
 {
     let Some(list) = lists.get_mut(pattern) else {
         return;
     };
-    list.remove(key);
+    list.remove(places, pattern.packed(), key);
     if list.is_empty() {
         lists.swap_remove(pattern);
     }
@@ -51,32 +59,36 @@ fn unlist<A: Allocator>(lists: &mut Lists<A>, pattern: &Pattern, key: TableKey)
 /// Puts the table into the list of the pattern, but for one that matches the id before, in whose list the table is.
 fn list_new<A: Allocator + Copy>(
     lists: &mut Lists<A>,
-    hashing: SerialHashing,
+    places: &mut Places<A>,
     before: &Option<Id>,
     pattern: &Pattern,
     key: TableKey,
 ) -> Result<(), AllocError>
+    requires { IsNewest lists.old key }
     ensures listed { OnOk result (Adds lists.old lists.new (λ p. pattern_eq pattern.now p && not (matches_some p before.now)) key) }
     ensures refused { OnErr result (Keeps lists.old lists.new (λ p. pattern_eq pattern.now p && not (matches_some p before.now)) key) }
+    ensures newest { OnOk result (IsNewest lists.new key) }
 {
     if pattern.matches_some(before) {
         return Ok(());
     }
-    list(lists, hashing, pattern, key)
+    list(lists, places, pattern, key)
 }
 
 fn list_each<A: Allocator + Copy>(
     lists: &mut Lists<A>,
-    hashing: SerialHashing,
+    places: &mut Places<A>,
     before: &Option<Id>,
     patterns: &[Pattern],
     key: TableKey,
 ) -> Result<(), AllocError>
+    requires { IsNewest lists.old key }
     ensures listed { OnOk result (Adds lists.old lists.new (λ p. is_among patterns.now p && not (matches_some p before.now)) key) }
     ensures refused { OnErr result (Keeps lists.old lists.new (λ p. is_among patterns.now p && not (matches_some p before.now)) key) }
+    ensures newest { OnOk result (IsNewest lists.new key) }
 {
     for pattern in patterns {
-        list_new(lists, hashing, before, pattern, key)?;
+        list_new(lists, places, before, pattern, key)?;
     }
     Ok(())
 }
@@ -84,6 +96,7 @@ fn list_each<A: Allocator + Copy>(
 /// Takes the table out of the list of the pattern, but for one that matches the id before, out of whose list the table is.
 fn unlist_new<A: Allocator>(
     lists: &mut Lists<A>,
+    places: &mut Places<A>,
     before: &Option<Id>,
     pattern: &Pattern,
     key: TableKey,
@@ -91,12 +104,13 @@ fn unlist_new<A: Allocator>(
     ensures { Drops lists.old lists.new (λ p. pattern_eq pattern.now p && not (matches_some p before.now)) key }
 {
     if !pattern.matches_some(before) {
-        unlist(lists, pattern, key);
+        unlist(lists, places, pattern, key);
     }
 }
 
 fn unlist_each<A: Allocator>(
     lists: &mut Lists<A>,
+    places: &mut Places<A>,
     before: &Option<Id>,
     patterns: &[Pattern],
     key: TableKey,
@@ -104,62 +118,77 @@ fn unlist_each<A: Allocator>(
     ensures { Drops lists.old lists.new (λ p. is_among patterns.now p && not (matches_some p before.now)) key }
 {
     for pattern in patterns {
-        unlist_new(lists, before, pattern, key);
+        unlist_new(lists, places, before, pattern, key);
     }
 }
 
 /// Puts the table into the lists of the patterns that match the id, but for those that match the id before.
 fn list_id<A: Allocator + Copy>(
     lists: &mut Lists<A>,
-    hashing: SerialHashing,
+    places: &mut Places<A>,
     before: &Option<Id>,
     id: Id,
     key: TableKey,
 ) -> Result<(), AllocError>
+    requires { IsNewest lists.old key }
     ensures listed { OnOk result (Adds lists.old lists.new (is_new before.now id) key) }
     ensures refused { OnErr result (Keeps lists.old lists.new (is_new before.now id) key) }
+    ensures newest { OnOk result (IsNewest lists.new key) }
 {
     match id.second() {
-        None => list_each(lists, hashing, before, &of_plain(id.first()), key),
-        Some(target) => list_each(lists, hashing, before, &of_pair(id.first(), target), key),
+        None => list_each(lists, places, before, &of_plain(id.first()), key),
+        Some(target) => list_each(lists, places, before, &of_pair(id.first(), target), key),
     }
 }
 
 /// Takes the table out of the lists of the patterns that match the id, but for those that match the id before.
-fn unlist_id<A: Allocator>(lists: &mut Lists<A>, before: &Option<Id>, id: Id, key: TableKey)
+fn unlist_id<A: Allocator>(
+    lists: &mut Lists<A>,
+    places: &mut Places<A>,
+    before: &Option<Id>,
+    id: Id,
+    key: TableKey,
+)
     ensures { Drops lists.old lists.new (is_new before.now id) key }
 {
     match id.second() {
-        None => unlist_each(lists, before, &of_plain(id.first()), key),
-        Some(target) => unlist_each(lists, before, &of_pair(id.first(), target), key),
+        None => unlist_each(lists, places, before, &of_plain(id.first()), key),
+        Some(target) => unlist_each(lists, places, before, &of_pair(id.first(), target), key),
     }
 }
 
 /// Puts the table into the lists of the patterns that match one of the ids. After an error it is in some of them.
 pub fn list_all<A: Allocator + Copy>(
     lists: &mut Lists<A>,
-    hashing: SerialHashing,
+    places: &mut Places<A>,
     ids: &[Id],
     key: TableKey,
 ) -> Result<(), AllocError>
+    requires { IsNewest lists.old key }
     ensures listed { OnOk result (Adds lists.old lists.new (λ pattern. list_any (matches pattern) ids.now) key) }
     ensures refused { OnErr result (Keeps lists.old lists.new (λ pattern. list_any (matches pattern) ids.now) key) }
+    ensures newest { OnOk result (IsNewest lists.new key) }
 {
     let mut before = None;
     for id in ids {
-        list_id(lists, hashing, &before, *id, key)?;
+        list_id(lists, places, &before, *id, key)?;
         before = Some(*id);
     }
     Ok(())
 }
 
 /// Takes the table out of the lists of the patterns that match one of the ids.
-pub fn unlist_all<A: Allocator>(lists: &mut Lists<A>, ids: &[Id], key: TableKey)
+pub fn unlist_all<A: Allocator>(
+    lists: &mut Lists<A>,
+    places: &mut Places<A>,
+    ids: &[Id],
+    key: TableKey,
+)
     ensures { Drops lists.old lists.new (λ pattern. list_any (matches pattern) ids.now) key }
 {
     let mut before = None;
     for id in ids {
-        unlist_id(lists, &before, *id, key);
+        unlist_id(lists, places, &before, *id, key);
         before = Some(*id);
     }
 }

@@ -67,7 +67,7 @@ impl Pattern {
     }
 
     // No entity has the index 0 or `u32::MAX`.
-    fn packed(self) -> u64
+    pub(crate) fn packed(self) -> u64
         ensures { result ≡ packed self }
     {
         let first = self.first.index_or(0);

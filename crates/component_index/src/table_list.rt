@@ -1,34 +1,23 @@
 //! The list of the tables of one pattern.
-ghost use Rattle.std.specs.Prelude.{◌≡◌, ◌∷◌, ◌++◌, [], ◌↔◌, false, IfOk, IsTrue, OnErr, OnOk, length, position};
+ghost use Rattle.std.specs.Prelude.{◌≡◌, ◌∷◌, ◌++◌, [], ◌↔◌, IfOk, IsTrue, OnErr, OnOk, Some, length, position};
 ghost use Rattle.std.specs.List.{IsDistinct};
-ghost use Rattle.indexmap.specs.IndexSet.{insert_key, IsUnchanged};
+ghost use Rattle.indexmap.specs.IndexSet.{insert_key};
 ghost use Rattle.component_index.specs.Entered.{table_eq};
-ghost use Rattle.component_index.specs.TableList.{has, Loses};
+ghost use Rattle.component_index.specs.TableList.{IsNewOrLast, IsPlace, Loses, is_last};
 ghost use Rattle.component_index.specs.Tables.{keys_of};
 
+use crate::places::Places;
 use ecs_id::TableKey;
-use indexmap::IndexSet;
-use secret_hashing::SerialHashing;
 use std::alloc::{AllocError, Allocator};
 use std::marker::Model;
 
-type KeySet<A> = IndexSet<TableKey, SerialHashing, A>;
-
-// How many tables a list has at most before they are hashed: to compare so few keys takes no longer than to hash one.
+// How many tables a list has at most before it is noted where they stand: so few are searched as fast.
 const FEW: usize = 16;
 
 // How many tables a list gets room for once it has two.
 const FEW_ROOM: usize = 4;
 
-// How many tables a list gets room for once they are hashed.
-const MANY_ROOM: usize = 72;
-
-// How many more tables a hashed list gets room for, where it has no more room: this many times its tables.
-const MORE: usize = 1;
-
-/// The tables of one pattern, each once.
-///
-/// One takes no block of memory, a few stand in a `Vec` and are searched, and many are hashed.
+/// The tables of one pattern, each once. One takes no block of memory.
 #[derive(Drop)]
 pub struct TableList<A: Allocator> {
     tables: Tables<A>,
@@ -70,36 +59,37 @@ impl<A: Allocator> TableList<A> {
         self.as_slice().is_empty()
     }
 
-    /// Puts the table last, unless the list has it.
+    /// Puts the table last, unless it stands there, and notes where it stands in a long list.
     pub fn insert(
         &mut self,
         alloc: A,
-        hashing: SerialHashing,
+        places: &mut Places<A>,
+        word: u64,
         key: TableKey,
     ) -> Result<(), AllocError>
     where
         A: Copy,
+        requires { IsNewOrLast self.old key }
         ensures inserted { OnOk result (self.new ≡ insert_key table_eq self.old key) }
         ensures refused { OnErr result (self.new ≡ self.old) }
     {
-        self.tables.insert(alloc, hashing, key)
+        self.tables.insert(alloc, places, word, key)
     }
 
-    /// Takes the table out, where the list has it. Another may take its place.
-    pub fn remove(&mut self, key: TableKey)
+    /// Takes the table out, where the list has it. The last takes its place.
+    pub fn remove(&mut self, places: &mut Places<A>, word: u64, key: TableKey)
         ensures { Loses self.old self.new key }
     {
-        self.tables.remove(key)
+        self.tables.remove(places, word, key)
     }
 }
 
-// A list with a block of memory doesn't go back to a form with none or with less.
+// A list with a block of memory doesn't go back to a form with none.
 #[derive(Drop)]
 enum Tables<A: Allocator> {
     Empty,
     One([TableKey; 1]),
-    Few(Vec<TableKey, A>),
-    Many(Box<KeySet<A>, A>),
+    More(Vec<TableKey, A>),
 }
 
 impl<A: Allocator> Tables<A> {
@@ -109,50 +99,49 @@ impl<A: Allocator> Tables<A> {
         match self {
             Tables::Empty => &[],
             Tables::One(only) => only.as_slice(),
-            Tables::Few(keys) => keys.as_slice(),
-            Tables::Many(keys) => keys.as_slice(),
+            Tables::More(keys) => keys.as_slice(),
         }
     }
 
-    fn insert(&mut self, alloc: A, hashing: SerialHashing, key: TableKey) -> Result<(), AllocError>
+    fn insert(
+        &mut self,
+        alloc: A,
+        places: &mut Places<A>,
+        word: u64,
+        key: TableKey,
+    ) -> Result<(), AllocError>
     where
         A: Copy,
-        requires { IsDistinct table_eq (keys_of self.old) }
+        requires { IsNewOrLast (keys_of self.old) key }
         ensures inserted { OnOk result (keys_of self.new ≡ insert_key table_eq (keys_of self.old) key) }
         ensures refused { OnErr result (keys_of self.new ≡ keys_of self.old) }
     {
+        let keys = self.as_slice();
+        if is_last(keys, key) {
+            return Ok(());
+        }
+        if FEW <= keys.len() {
+            places.note(key, word, keys.len())?;
+        }
+        self.push(alloc, key)
+    }
+
+    fn push(&mut self, alloc: A, key: TableKey) -> Result<(), AllocError>
+        ensures pushed { OnOk result (keys_of self.new ≡ keys_of self.old ++ key ∷ []) }
+        ensures refused { OnErr result (keys_of self.new ≡ keys_of self.old) }
+    {
         match self {
-            Tables::Empty => {
-                *self = Tables::One([key]);
-                return Ok(());
-            }
+            Tables::Empty => *self = Tables::One([key]),
             Tables::One(only) => {
                 let first = key_of(only);
-                if first != key {
-                    *self = Tables::Few(two(alloc, first, key)?);
-                }
-                return Ok(());
+                *self = Tables::More(two(alloc, first, key)?);
             }
-            Tables::Few(keys) => {
-                if place_of(keys.as_slice(), key).is_some() {
-                    return Ok(());
-                }
-                if keys.len() < FEW {
-                    keys.push(key)?;
-                    return Ok(());
-                }
-            }
-            Tables::Many(keys) => {
-                make_room(keys)?;
-                keys.insert(key)?;
-                return Ok(());
-            }
+            Tables::More(keys) => keys.push(key)?,
         }
-        *self = Tables::Many(hashed(self.as_slice(), alloc, hashing, key)?);
         Ok(())
     }
 
-    fn remove(&mut self, key: TableKey)
+    fn remove(&mut self, places: &mut Places<A>, word: u64, key: TableKey)
         requires { IsDistinct table_eq (keys_of self.old) }
         ensures lost { Loses (keys_of self.old) (keys_of self.new) key }
         ensures once { IsDistinct table_eq (keys_of self.new) }
@@ -165,26 +154,14 @@ impl<A: Allocator> Tables<A> {
                     *self = Tables::Empty;
                 }
             }
-            Tables::Few(keys) => {
-                if let Some(place) = place_of(keys.as_slice(), key) {
+            Tables::More(keys) => {
+                if let Some(place) = place_of(keys.as_slice(), places, word, key) {
+                    note_last_at(place, keys.as_slice(), places, word);
                     keys.swap_remove(place);
                 }
             }
-            Tables::Many(keys) => {
-                keys.swap_remove(&key);
-            }
         }
     }
-}
-
-// Makes room in a hashed list for one table more. A growth moves all of the list, so it makes room for many at once.
-fn make_room<A: Allocator>(keys: &mut KeySet<A>) -> Result<(), AllocError>
-    ensures { IsUnchanged keys.old keys.new }
-{
-    if keys.len() < keys.capacity() {
-        return Ok(());
-    }
-    keys.reserve(keys.len().saturating_mul(MORE))
 }
 
 fn key_of(only: &[TableKey; 1]) -> TableKey
@@ -193,11 +170,50 @@ fn key_of(only: &[TableKey; 1]) -> TableKey
     only[0]
 }
 
-// Where the table stands.
-fn place_of(keys: &[TableKey], key: TableKey) -> Option<usize>
+fn is_last(keys: &[TableKey], key: TableKey) -> bool
+    ensures { result ≡ is_last keys.now key }
+{
+    match keys.last() {
+        Some(last) => key == *last,
+        None => false,
+    }
+}
+
+fn stands_at(keys: &[TableKey], place: usize, key: TableKey) -> bool
+    ensures { IsTrue result → IsPlace keys.now key (Some place) }
+{
+    place < keys.len() && key == keys[place]
+}
+
+// Where the table stands: at the place that is noted, or else among the first.
+fn place_of<A: Allocator>(
+    keys: &[TableKey],
+    places: &mut Places<A>,
+    word: u64,
+    key: TableKey,
+) -> Option<usize>
+    ensures { IsPlace keys.now key result }
+{
+    if FEW < keys.len() {
+        match places.next(key, word) {
+            Some(place) if stands_at(keys, place, key) => return Some(place),
+            _ => {}
+        }
+    }
+    searched(keys, key)
+}
+
+fn searched(keys: &[TableKey], key: TableKey) -> Option<usize>
     ensures { result ≡ position (table_eq key) keys.now }
 {
     keys.iter().position(|other| key == *other)
+}
+
+// Notes for the last table that it comes to this place.
+fn note_last_at<A: Allocator>(place: usize, keys: &[TableKey], places: &mut Places<A>, word: u64) {
+    if let Some(last) = keys.last() {
+        places.moved(*last, word, place);
+    }
 }
 
 fn two<A: Allocator>(
@@ -211,20 +227,4 @@ fn two<A: Allocator>(
     keys.push_reserved(first);
     keys.push_reserved(second);
     Ok(keys)
-}
-
-fn hashed<A: Allocator + Copy>(
-    keys: &[TableKey],
-    alloc: A,
-    hashing: SerialHashing,
-    key: TableKey,
-) -> Result<Box<KeySet<A>, A>, AllocError>
-    requires once { IsDistinct table_eq keys.now }
-    requires new { has keys.now key ≡ false }
-    ensures { IfOk result (λ set. set.value.keys ≡ keys.now ++ key ∷ []) }
-{
-    let mut set = IndexSet::with_capacity_and_hasher(alloc, MANY_ROOM, hashing)?;
-    set.extend(keys)?;
-    set.insert(key)?;
-    Ok(Box::new(alloc, set)?)
 }

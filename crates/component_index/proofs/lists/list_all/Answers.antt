@@ -4,7 +4,7 @@ use Rattle.component_index.proofs.ListedLemmas.{Adds-begin, Adds-new, Adds-end, 
 use Rattle.component_index.proofs.lists.list_all.Goals as goal
 
 pub loop-id-init : goal.loop-id-init
-loop-id-init g c = (Adds-begin (λ id pattern. matches pattern id) c.args.ids.now c.args.key c.args.lists.now, λ p h. absurd (true≢false (sym h)))
+loop-id-init g c = (Adds-begin (λ id pattern. matches pattern id) c.args.ids.now c.args.key c.args.lists.now, λ p h. absurd (true≢false (sym h)), c.requires)
 
 pub returns-in_err-list_id-clause-refused : goal.returns-in_err-list_id-clause-refused
 returns-in_err-list_id-clause-refused g c =
@@ -17,6 +17,7 @@ loop-id-preserved g c = (
   Adds-new (λ id pattern. matches pattern id) c.args.ids.now c.args.key c.args.lists.now c.loop-id.lists c.list_id.new.lists c.loop-id.id-index c.id-item.result c.id-item.result c.id-item.is (omega arith)
       (λ p. matches_some p c.loop-id.before) c.loop-id.invariant.1 c.loop-id.invariant.0 c.in_ok-list_id.ensures.listed,
   had-next (λ id pattern. matches pattern id) c.args.ids.now c.args.key c.args.lists.now c.loop-id.lists c.list_id.new.lists c.loop-id.id-index c.id-item.result c.id-item.result c.id-item.is (omega arith),
+  c.in_ok-list_id.ensures.newest,
 )
 
 pub returns-clause-listed : goal.returns-clause-listed

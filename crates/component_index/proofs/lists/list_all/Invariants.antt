@@ -1,6 +1,6 @@
 use Rattle.std.proofs.Common.{◌≡◌, true}
 use Rattle.component_index.specs.declared.pattern.Pattern.{Pattern}
-use Rattle.component_index.specs.Listed.{Adds}
+use Rattle.component_index.specs.Listed.{Adds, IsNewest}
 use Rattle.component_index.specs.Patterns.{matches, matches_some}
 use Rattle.component_index.proofs.ListedLemmas.{of_first}
 use Rattle.component_index.proofs.lists.list_all.Given as goal
@@ -8,3 +8,4 @@ use Rattle.component_index.proofs.lists.list_all.Given as goal
 abbrev pub invariant-loop-id : goal.invariant-loop-id
 invariant-loop-id g l = Adds l.initial.lists l.lists (of_first (λ id pattern. matches pattern id) l.ids l.id-index) l.key
     × ((p : Pattern) → matches_some p l.before ≡ true → of_first (λ id pattern. matches pattern id) l.ids l.id-index p ≡ true)
+    × IsNewest l.lists l.key

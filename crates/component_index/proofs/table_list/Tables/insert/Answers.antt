@@ -1,24 +1,17 @@
-use Rattle.std.proofs.Common.{◌≡◌, ◌∷◌, [], ◌++◌, false, ◌∙◌}
-use Rattle.component_index.specs.TableList.{has}
-use Rattle.component_index.proofs.TableLemmas.{kept, put, search_has}
+use Rattle.std.proofs.Common.{◌≡◌, false, true, sym, ap, ◌∙◌}
+use Rattle.component_index.specs.TableList.{is_last}
+use Rattle.component_index.specs.Tables.{keys_of}
+use Rattle.component_index.proofs.TableLemmas.{inserted, kept, last_has, new_unless_last}
 use Rattle.component_index.proofs.table_list.Tables.insert.Goals as goal
 
-pub returns-then-is_some-clause-inserted : goal.returns-then-is_some-clause-inserted
-returns-then-is_some-clause-inserted g c =
-    rw c.in-Few.is (kept c.in-Few.keys.items c.args.key
-    (search_has c.in-Few.keys.items c.as_slice.result.now c.args.key c.place_of.result c.is_some.result c.as_slice.ensures.value c.place_of.ensures c.is_some.ensures ∙ c.if-is_some.true))
-
-pub returns-then-len-lt-FEW-clause-inserted : goal.returns-then-len-lt-FEW-clause-inserted
-returns-then-len-lt-FEW-clause-inserted g c =
-    let new : has c.in-Few.keys.items c.args.key ≡ false = search_has c.in-Few.keys.items c.as_slice.result.now c.args.key c.place_of.result c.is_some.result c.as_slice.ensures.value c.place_of.ensures c.is_some.ensures ∙ c.if-is_some.false in
-    rw c.in-Few.is (c.in_ok-push-in-Few.ensures.items ∙ put c.in-Few.keys.items c.args.key new)
-
-pub hashed-requires-clause-new : goal.hashed-requires-clause-new
-hashed-requires-clause-new g c =
-    rw c.as_slice-2.ensures
-    (search_has c.in-Few.keys.items c.as_slice.result.now c.args.key c.place_of.result c.is_some.result c.as_slice.ensures.value c.place_of.ensures c.is_some.ensures ∙ c.if-is_some.false)
+pub returns-then-is_last-clause-inserted : goal.returns-then-is_last-clause-inserted
+returns-then-is_last-clause-inserted g c =
+    let keys = keys_of c.args.self.now in
+    let last : is_last keys c.args.key ≡ true = ap (λ ks. is_last ks c.args.key) (sym c.as_slice-keys.ensures) ∙ sym c.is_last.ensures ∙ c.if-is_last.true in
+    kept keys c.args.key (last_has keys c.args.key last)
 
 pub returns-clause-inserted : goal.returns-clause-inserted
 returns-clause-inserted g c =
-    let new : has c.in-Few.keys.items c.args.key ≡ false = search_has c.in-Few.keys.items c.as_slice.result.now c.args.key c.place_of.result c.is_some.result c.as_slice.ensures.value c.place_of.ensures c.is_some.ensures ∙ c.if-is_some.false in
-    rw c.in-Few.is (c.in_ok-hashed.ensures ∙ (λ i. c.as_slice-2.ensures i ++ c.args.key ∷ []) ∙ put c.in-Few.keys.items c.args.key new)
+    let keys = keys_of c.args.self.now in
+    let not_last : is_last keys c.args.key ≡ false = ap (λ ks. is_last ks c.args.key) (sym c.as_slice-keys.ensures) ∙ sym c.is_last.ensures ∙ c.if-is_last.false in
+    inserted c.push.result keys _ c.args.key (new_unless_last keys c.args.key c.requires not_last) c.push.ensures.pushed

@@ -1,7 +1,8 @@
-use Rattle.std.proofs.Common.{◌≡◌, Some, None, sym, ◌∙◌}
-use Rattle.std.specs.List.{IsDistinct, position}
+use Rattle.std.proofs.Common.{◌≡◌, Some, false, subst, sym, ◌∙◌}
+use Rattle.std.specs.List.{IsDistinct}
 use Rattle.component_index.specs.Entered.{table_eq}
-use Rattle.component_index.proofs.TableLemmas.{Loses-none, Loses-only, Loses-swap_remove, none_once, once-swap_remove, only_has, place_none}
+use Rattle.component_index.specs.TableList.{has, IsPlace}
+use Rattle.component_index.proofs.TableLemmas.{Loses-none, Loses-only, Loses-taken, none_once, once-taken, only_has}
 use Rattle.component_index.proofs.table_list.Tables.remove.Goals as goal
 
 pub returns-then-eq-clause-lost : goal.returns-then-eq-clause-lost
@@ -19,20 +20,23 @@ returns-else-eq-clause-once g c = rw c.in-One.is at c.requires
 
 pub returns-in-Some-clause-lost : goal.returns-in-Some-clause-lost
 returns-in-Some-clause-lost g c =
-    let ks = c.in-Few.keys.items in
-    let once : IsDistinct table_eq ks = rw c.in-Few.is at c.requires in
-    let is : position (table_eq c.args.key) ks ≡ Some c.in-Some.place = (λ i. position (table_eq c.args.key) (sym c.as_slice.ensures.value i)) ∙ sym c.place_of.ensures ∙ c.in-Some.is in
-    rw (c.in-Few.is, c.swap_remove.ensures.items) (Loses-swap_remove ks once c.args.key c.in-Some.place is c.swap_remove.result c.swap_remove.ensures.value)
+    let ks = c.in-More.keys.items in
+    let once : IsDistinct table_eq ks = rw c.in-More.is at c.requires in
+    let found : IsPlace ks c.args.key c.place_of.result = subst (λ l. IsPlace l c.args.key c.place_of.result) c.as_slice.ensures.value c.place_of.ensures in
+    let is : IsPlace ks c.args.key (Some c.in-Some.place) = subst (IsPlace ks c.args.key) c.in-Some.is found in
+    rw c.in-More.is (Loses-taken ks c.swap_remove.new.self.items once c.args.key c.in-Some.place is c.swap_remove.result c.swap_remove.ensures.value c.swap_remove.ensures.items)
 
 pub returns-in-Some-clause-once : goal.returns-in-Some-clause-once
 returns-in-Some-clause-once g c =
-    let ks = c.in-Few.keys.items in
-    let once : IsDistinct table_eq ks = rw c.in-Few.is at c.requires in
-    let is : position (table_eq c.args.key) ks ≡ Some c.in-Some.place = (λ i. position (table_eq c.args.key) (sym c.as_slice.ensures.value i)) ∙ sym c.place_of.ensures ∙ c.in-Some.is in
-    rw c.swap_remove.ensures.items (once-swap_remove ks once c.args.key c.in-Some.place is c.swap_remove.result c.swap_remove.ensures.value)
+    let ks = c.in-More.keys.items in
+    let once : IsDistinct table_eq ks = rw c.in-More.is at c.requires in
+    let found : IsPlace ks c.args.key c.place_of.result = subst (λ l. IsPlace l c.args.key c.place_of.result) c.as_slice.ensures.value c.place_of.ensures in
+    let is : IsPlace ks c.args.key (Some c.in-Some.place) = subst (IsPlace ks c.args.key) c.in-Some.is found in
+    once-taken ks c.swap_remove.new.self.items once c.args.key c.in-Some.place is c.swap_remove.result c.swap_remove.ensures.value c.swap_remove.ensures.items
 
 pub returns-in_default-clause-lost : goal.returns-in_default-clause-lost
 returns-in_default-clause-lost g c =
-    let ks = c.in-Few.keys.items in
-    let is : position (table_eq c.args.key) ks ≡ None = (λ i. position (table_eq c.args.key) (sym c.as_slice.ensures.value i)) ∙ sym c.place_of.ensures ∙ c.in_default.is in
-    rw c.in-Few.is (Loses-none ks c.args.key (place_none c.args.key ks is))
+    let ks = c.in-More.keys.items in
+    let found : IsPlace ks c.args.key c.place_of.result = subst (λ l. IsPlace l c.args.key c.place_of.result) c.as_slice.ensures.value c.place_of.ensures in
+    let none : has ks c.args.key ≡ false = subst (IsPlace ks c.args.key) c.in_default.is found in
+    rw c.in-More.is (Loses-none ks c.args.key none)
