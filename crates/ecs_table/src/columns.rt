@@ -4,6 +4,7 @@ ghost use Rattle.std.specs.List.{filter};
 ghost use Rattle.ecs_table.specs.Archetype.{ids_with_data};
 
 use ecs_id::Id;
+use smallvec::SmallVec;
 use std::alloc::{AllocError, Allocator};
 
 /// The ids with data: those of which a value has bytes.
@@ -21,8 +22,17 @@ pub fn ids_with_data<A: Allocator>(
         .collect(alloc)
 }
 
+// So many sizes take no block of memory.
+const FEW: usize = 8;
+
+/// Sizes that are needed for a moment. Few of them take no block of memory.
+pub type Sizes<'a, A> = SmallVec<usize, FEW, &'a A>;
+
 /// The sizes of the ids with data.
-pub fn sizes_with_data<A: Allocator>(alloc: A, sizes: &[usize]) -> Result<Vec<usize, A>, AllocError>
+pub fn sizes_with_data<'a, A: Allocator>(
+    alloc: &'a A,
+    sizes: &[usize],
+) -> Result<Sizes<'a, A>, AllocError>
     ensures { IfOk result (λ found. found.items ≡ filter (λ s. nat_lt 0 s) sizes.now) }
 {
     sizes

@@ -50,7 +50,7 @@ impl<A: Allocator + Copy> Table<A> {
         requires small { (k : ℕ) → k < length sizes.now → slice_index sizes.now k ≤ 64 }
         ensures { IfOk result (λ table. table ≡ empty_table ids.now sizes.now) }
     {
-        let sized = sizes_with_data(alloc, sizes)?;
+        let sized = sizes_with_data(&alloc, sizes)?;
         let columns = Block::new(alloc, sized.as_slice())?;
         Ok(Table {
             ids: Vec::from_slice(alloc, ids)?,

@@ -10,6 +10,7 @@ ghost use Rattle.table_store.specs.Store.{byte_size, shape_of};
 use crate::sized::SizedId;
 use ecs_id::Id;
 use ecs_table::Table;
+use smallvec::SmallVec;
 use std::alloc::{AllocError, Allocator};
 
 /// Makes the list the shape of a table with one id more, where a size of it is given, or with one less.
@@ -95,9 +96,21 @@ pub fn ids_of<A: Allocator>(alloc: A, shape: &[SizedId]) -> Result<Vec<Id, A>, A
     shape.iter().map(|cell| cell.id()).collect(alloc)
 }
 
-/// The sizes of a shape.
-pub fn sizes_of<A: Allocator>(alloc: A, shape: &[SizedId]) -> Result<Vec<usize, A>, AllocError>
-    ensures { IfOk result (λ sizes. sizes.items ≡ map (λ c. c.1) shape.now) }
+// So many sizes take no block of memory.
+const FEW: usize = 8;
+
+/// Sizes that are needed for a moment. Few of them take no block of memory.
+pub type Sizes<'a, A> = SmallVec<usize, FEW, &'a A>;
+
+/// Adds the sizes of a shape.
+pub fn push_sizes<A: Allocator>(
+    sizes: &mut Sizes<'_, A>,
+    shape: &[SizedId],
+) -> Result<(), AllocError>
+    ensures { OnOk result (sizes.new.items ≡ sizes.old.items ++ map (λ c. c.1) shape.now) }
 {
-    shape.iter().map(|cell| cell.size()).collect(alloc)
+    for cell in shape {
+        sizes.push(cell.size())?;
+    }
+    Ok(())
 }

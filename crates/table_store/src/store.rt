@@ -15,7 +15,7 @@ ghost use Rattle.table_store.specs.Kept.{HasNoEdge, SetsIds, IsMade, IsPut, IsWr
 ghost use Rattle.table_store.specs.Rows.{IsStored, Row, filler, moved_rows, removed_rows, row_at, rows_in, with_cell, with_row_at, zero_cells};
 
 use crate::edges::Edges;
-use crate::shape::{are_tags, ids_of, next_shape, sizes_of};
+use crate::shape::{Sizes, are_tags, ids_of, next_shape, push_sizes};
 use crate::sized::SizedId;
 use ecs_id::{EntityId, Id, TableKey};
 use ecs_table::Table;
@@ -379,7 +379,8 @@ fn new_table<A: Allocator + Copy>(
     if are_tags(cells) {
         return Table::of_tags(alloc, ids);
     }
-    let sizes = sizes_of(alloc, cells)?;
+    let mut sizes = Sizes::new(&alloc);
+    push_sizes(&mut sizes, cells)?;
     Table::new(alloc, ids, sizes.as_slice())
 }
 
