@@ -24,7 +24,7 @@ pub drop_seam : (k : ℕ) (xs ys : List ℕ) → length xs ≡ k → drop k (xs 
 drop_seam k xs ys e = subst (λ j. drop j (xs ++ ys) ≡ ys) e (drop-append_seam xs ys)
 
 -- a write after the first q bytes leaves them
-over_past : (q k s : ℕ) (bs ws : List ℕ) → q ≤ length bs → over (q + k) s bs ws ≡ take q bs ++ over k s (drop q bs) ws
+pub over_past : (q k s : ℕ) (bs ws : List ℕ) → q ≤ length bs → over (q + k) s bs ws ≡ take q bs ++ over k s (drop q bs) ws
 over_past q k s bs ws le =
     let h = take q bs in let ys = drop q bs in let long : length h ≡ q = length-take-le q bs le in
     let whole : h ++ ys ≡ bs = take-append-drop q bs in
@@ -33,7 +33,7 @@ over_past q k s bs ws le =
     let back : drop (q + k + s) bs ≡ drop (k + s) ys = ap₂ drop e2 (sym whole) ∙ drop-append-add h ys (k + s) in
     ap₂ (λ a b. a ++ ws ++ b) front back ∙ ap (λ a. a ++ drop (k + s) ys) (append_assoc h (take k ys) ws) ∙ append_assoc h (take k ys ++ ws) (drop (k + s) ys)
 
-over_zero : (s : ℕ) (bs ws : List ℕ) → over 0 s bs ws ≡ ws ++ drop s bs
+pub over_zero : (s : ℕ) (bs ws : List ℕ) → over 0 s bs ws ≡ ws ++ drop s bs
 over_zero s bs ws = let all : 0 + s ≡ s = omega arith in ap (λ j. ws ++ drop j bs) all
 
 -- bytes that are written over themselves
@@ -56,7 +56,7 @@ module _ (s : ℕ) where
   rows_cons : (n : ℕ) (h ys : List ℕ) → length h ≡ s → rows s (suc n) (h ++ ys) ≡ h ∷ rows s n ys
   rows_cons n h ys e = ap₂ (λ x zs. x ∷ rows s n zs) (take_seam s h ys e) (drop_seam s h ys e)
 
-  rows_get : (n : ℕ) (bs : List ℕ) (i : ℕ) (d : List ℕ) → i < n → get_or (rows s n bs) i d ≡ take s (drop (i * s) bs)
+  pub rows_get : (n : ℕ) (bs : List ℕ) (i : ℕ) (d : List ℕ) → i < n → get_or (rows s n bs) i d ≡ take s (drop (i * s) bs)
   rows_get zero bs i d lt = absurd (omega arith)
   rows_get (suc n) bs zero d lt = let none : 0 ≡ 0 * s = sym (zero-mul s) in ap (λ k. take s (drop k bs)) none
   rows_get (suc n) bs (suc i) d lt =
@@ -74,7 +74,7 @@ module _ (s : ℕ) where
       ap (λ k. rows s (suc n) (over k s bs ws)) next ∙ ap (rows s (suc n)) (over_past s (i * s) s bs ws fits) ∙ rows_cons n h (over (i * s) s ys ws) first
       ∙ ap (λ t. h ∷ t) (rows_write n ys i ws (omega arith) e (omega (arith, suc-mul n s, length-drop s bs)))
 
-  rows_prefix : (n : ℕ) (bs cs : List ℕ) → n * s ≤ length bs → rows s n (bs ++ cs) ≡ rows s n bs
+  pub rows_prefix : (n : ℕ) (bs cs : List ℕ) → n * s ≤ length bs → rows s n (bs ++ cs) ≡ rows s n bs
   rows_prefix zero bs cs le = refl
   rows_prefix (suc n) bs cs le =
       let h = take s bs in let ys = drop s bs in let fits : s ≤ length bs = omega (arith, suc-mul n s) in let first : length h ≡ s = length-take-le s bs fits in
@@ -93,7 +93,7 @@ module _ (s : ℕ) where
       ap (λ k. rows s (suc n) (replicate k 0)) e ∙ ap (rows s (suc n)) (sym (replicate-append-replicate s (n * s) 0)) ∙ rows_cons n (replicate s 0) (replicate (n * s) 0) (length-replicate s 0)
       ∙ ap (λ t. replicate s 0 ∷ t) (rows_zeros n)
 
-  rows_append : (m n : ℕ) (xs ys : List ℕ) → length xs ≡ m * s → rows s (m + n) (xs ++ ys) ≡ rows s m xs ++ rows s n ys
+  pub rows_append : (m n : ℕ) (xs ys : List ℕ) → length xs ≡ m * s → rows s (m + n) (xs ++ ys) ≡ rows s m xs ++ rows s n ys
   rows_append zero n xs ys e =
       let none : length xs ≡ 0 = e ∙ zero-mul s in let all : 0 + n ≡ n = omega arith in
       ap (λ k. rows s k (xs ++ ys)) all ∙ ap (λ l. rows s n (l ++ ys)) (nil_of xs none)

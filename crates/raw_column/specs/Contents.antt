@@ -1,7 +1,7 @@
 -- What a contract sees of a `Block`: for each column a list of byte strings, with how many rows there are and how many more fit.
 use Rattle.std.specs.Prelude.{◌≡◌, ℕ, ◌+◌, ◌-◌, ◌*◌, ◌/◌, ◌^◌, ◌<◌, ◌≤◌, List, [], ◌∷◌, ◌++◌, map, max, take, drop, replicate, length, slice_index, slice_index_or, slice_set}
 use Rattle.std.specs.List.{All, sum, swap_remove}
-use Rattle.raw_column.specs.Places.{Values, columns_in}
+use Rattle.raw_column.specs.Places.{Values, columns_in, rows}
 
 -- how many rows there are, how many more fit, and the values of each column
 pub record Contents : Type 0 where
@@ -53,6 +53,14 @@ with_zeros c = record { len = c.len + 1; room = c.room - 1; columns = map with_z
 -- another value in a column and a row
 abbrev pub with_item_in : Contents → ℕ → ℕ → List ℕ → Contents
 with_item_in c column row bytes = record c { columns = slice_set c.columns column (with_item (column_at c column) row bytes) }
+
+-- the values that these bytes are, those of one row after another
+abbrev pub with_bytes : Values → ℕ → List ℕ → Values
+with_bytes v n bytes = record v { items = rows v.size n bytes }
+
+-- other values in all rows of a column
+abbrev pub with_column : Contents → ℕ → List ℕ → Contents
+with_column c column bytes = record c { columns = slice_set c.columns column (with_bytes (column_at c column) c.len bytes) }
 
 -- without a row, whose place the last one takes
 abbrev pub without_row : Contents → ℕ → Contents

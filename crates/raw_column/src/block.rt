@@ -1,7 +1,7 @@
 //! The columns of a table in one block.
 ghost use Rattle.std.specs.Prelude.{◌≡◌, ℕ, ◌+◌, ◌-◌, ◌*◌, ◌^◌, ◌<◌, ◌≤◌, length, map, min, slice_get, slice_index, slice_index_or, IfOk, Some, OnOk, OnErr, IsOk, IsErr};
 ghost use Rattle.std.specs.List.{concat, fold, sum};
-ghost use Rattle.raw_column.specs.Contents.{HaveOneSize, capacity_of, column_at, empty_contents, most_of, row_bytes, with_copied, with_item_in, with_zeros, without_row};
+ghost use Rattle.raw_column.specs.Contents.{HaveOneSize, capacity_of, column_at, empty_contents, most_of, row_bytes, with_column, with_copied, with_item_in, with_zeros, without_row};
 
 use crate::buffer::Buffer;
 use crate::sizes::Sizes;
@@ -198,6 +198,17 @@ impl<A: Allocator> Block<A> {
     {
         let at = self.sizes.offset_of(column, row, self.capacity);
         self.buffer.write(at, value);
+    }
+
+    /// Overwrites all values in a column with as many bytes, those of one row after another.
+    #[inline(always)]
+    pub fn set_column(&mut self, column: usize, bytes: &[u8])
+        requires column { column < length self.old.columns }
+        requires size { length bytes.now ≡ self.old.len * (column_at self.old column).size }
+        ensures { self.new ≡ with_column self.old column bytes.now }
+    {
+        let at = self.sizes.offset_of(column, 0, self.capacity);
+        self.buffer.write(at, bytes);
     }
 
     /// Removes a row. The last one fills the gap.
