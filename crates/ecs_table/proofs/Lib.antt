@@ -5,3 +5,4 @@ pub mod Places
 pub mod Rows
 pub mod Order
 pub mod Ordered
+pub mod WholeColumns

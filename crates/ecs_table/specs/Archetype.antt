@@ -8,7 +8,7 @@ use Rattle.std.specs.declared.vec.Vec.{Vec}
 use Rattle.ecs_id.specs.Id.{Id, id_cmp, id_eq}
 use Rattle.ecs_id.specs.declared.EntityId.{EntityId}
 pub use Rattle.raw_column.specs.Contents.{no_values}
-use Rattle.raw_column.specs.Contents.{Contents, with_item, with_zero, without_item}
+use Rattle.raw_column.specs.Contents.{Contents, with_bytes, with_item, with_zero, without_item}
 use Rattle.raw_column.specs.Places.{Values}
 
 -- a table: its ids, those with data, the values of each of these, the entities by row, and how many more rows fit
@@ -64,6 +64,15 @@ with_item_in (Some k) columns row bytes = slice_set columns k (with_item (values
 -- the table with another value of an id at a row
 abbrev pub with_value : Archetype → ℕ → Id → List ℕ → Archetype
 with_value t row i bytes = record t { columns = with_item_in (index_in t.data_ids i) t.columns row bytes }
+
+-- the columns with other values in all n rows of one of them, which are these bytes, those of one row after another
+abbrev pub with_bytes_in : Option ℕ → List Values → ℕ → List ℕ → List Values
+with_bytes_in None columns n bytes = columns
+with_bytes_in (Some k) columns n bytes = slice_set columns k (with_bytes (values_at columns k) n bytes)
+
+-- the table with other values of an id in all rows
+abbrev pub with_column : Archetype → Id → List ℕ → Archetype
+with_column t i bytes = record t { columns = with_bytes_in (index_in t.data_ids i) t.columns (length t.entities) bytes }
 
 -- stands for an entity where a list has none
 abbrev pub no_entity : EntityId

@@ -1,9 +1,9 @@
 //! The table.
-ghost use Rattle.std.specs.Prelude.{◌≡◌, ℕ, ◌-◌, ◌<◌, ◌≤◌, max, min, IfOk, IfSome, OnOk, OnErr, IsOk, MatchOption, length, List, map, None, option_map, replicate, Some, option_copied, slice_get, slice_index, slice_index_or, slice_set};
+ghost use Rattle.std.specs.Prelude.{◌≡◌, ℕ, ◌*◌, ◌-◌, ◌<◌, ◌≤◌, max, min, IfOk, IfSome, OnOk, OnErr, IsOk, MatchOption, length, List, map, None, option_map, replicate, Some, option_copied, slice_get, slice_index, slice_index_or, slice_set};
 ghost use Rattle.std.specs.List.{zip};
 ghost use Rattle.raw_column.specs.Contents.{column_at};
 ghost use Rattle.ecs_id.specs.Id.{Id};
-ghost use Rattle.ecs_table.specs.Archetype.{byte_size, column_of, empty_table, moved_into, replaced, size_of, value_of, values_at, with_moved, with_row, with_value, without_row, HaveEqualSizes, IsSound};
+ghost use Rattle.ecs_table.specs.Archetype.{byte_size, column_of, empty_table, moved_into, replaced, size_of, value_of, values_at, with_column, with_moved, with_row, with_value, without_row, HaveEqualSizes, IsSound};
 
 use crate::columns::{ids_with_data, sizes_with_data};
 use crate::data_ids::DataIds;
@@ -211,6 +211,16 @@ impl<A: Allocator> Table<A> {
     {
         if let Some(column) = self.data_ids.find(id) {
             self.columns.set(column, row, value);
+        }
+    }
+
+    /// Overwrites the values of an id in all rows, with as many bytes, those of one row after another. Of an id without data it does nothing.
+    pub fn set_column(&mut self, id: Id, bytes: &[u8])
+        requires { IfSome (size_of self.old id) (λ size. length bytes.now ≡ length self.old.entities * size) }
+        ensures { self.new ≡ with_column self.old id bytes.now }
+    {
+        if let Some(column) = self.data_ids.find(id) {
+            self.columns.set_column(column, bytes);
         }
     }
 
