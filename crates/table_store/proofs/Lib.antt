@@ -13,3 +13,4 @@ pub mod Slots
 pub mod Steps
 pub mod StoreLemmas
 pub mod Tables
+pub mod WholeColumns

@@ -118,7 +118,7 @@ pub ids_rise : {Y : Type 0} (tables : Slab (Held Y)) (last : ℕ) (s : Store) (v
     → (by_ids : ByIds Y) (by_serial : Vec TableKey Y) → IsKept tables by_ids by_serial last → is_sorted id_cmp (shape_of t) ≡ true
 ids_rise tables last s view k t at by_ids by_serial kept = subst (λ o. IfSome o (λ f. is_sorted id_cmp f ≡ true)) (ap (λ w. shape_at w k) view ∙ shape_here s k t at) (kept.store.ascend k)
 
-cells_in_row : (t : Archetype) (r : ℕ) (v : Row) → row_of t r ≡ Some v → v.1 ≡ cells_of t r
+pub cells_in_row : (t : Archetype) (r : ℕ) (v : Row) → row_of t r ≡ Some v → v.1 ≡ cells_of t r
 cells_in_row t r v e = by (slice_get t.entities r) e
   where
     by : (o : Option EntityId) → option_map {U = Row} (λ x. (x, cells_of t r)) o ≡ Some v → v.1 ≡ cells_of t r
@@ -126,7 +126,7 @@ cells_in_row t r v e = by (slice_get t.entities r) e
     by (Some x) h = ap (λ (w : Row). w.1) (sym (one_some (x, cells_of t r) v h))
 
 -- the cell of an id that a table has
-cell_there : (t : Archetype) (r : ℕ) (i : Id) (n : ℕ) → find id_cmp i (shape_of t) ≡ Some n → (old : List ℕ) × (find id_cmp i (cells_of t r) ≡ Some old)
+pub cell_there : (t : Archetype) (r : ℕ) (i : Id) (n : ℕ) → find id_cmp i (shape_of t) ≡ Some n → (old : List ℕ) × (find id_cmp i (cells_of t r) ≡ Some old)
 cell_there t r i n e = by (list_any (id_eq i) t.ids) refl
   where
     by : (b : Bool) → list_any (id_eq i) t.ids ≡ b → (old : List ℕ) × (find id_cmp i (cells_of t r) ≡ Some old)

@@ -1,12 +1,12 @@
 -- The rows of a store by place: what each place holds, before and after a call.
-use Rattle.std.specs.Prelude.{◌≡◌, ℕ, ◌-◌, ◌==◌, Bool, ◌&&◌, cond, List, map, length, Option, Some, None, option_map, option_and_then, unwrap_or, IfSome}
+use Rattle.std.specs.Prelude.{◌≡◌, ℕ, ◌-◌, ◌*◌, ◌<◌, ◌==◌, Bool, ◌&&◌, cond, if◌then◌else◌, List, map, length, take, drop, Option, Some, None, option_map, option_and_then, unwrap_or, IfSome}
 use Rattle.std.specs.FinMap.{put}
 use Rattle.ecs_id.specs.declared.EntityId.{EntityId}
 use Rattle.ecs_id.specs.declared.Place.{Place}
 use Rattle.ecs_id.specs.declared.TableKey.{TableKey}
 use Rattle.ecs_id.specs.Id.{Id, id_cmp}
 pub use Rattle.ecs_table.specs.Archetype.{Cells, carried, cells_of, row_of, zero_cells}
-use Rattle.table_store.specs.Store.{Store, IsStore, Shape, key_eq, shape_at, table_at}
+use Rattle.table_store.specs.Store.{Store, IsStore, Shape, key_eq, shape_at, size_in, table_at}
 
 -- an entity with its cells
 abbrev pub Row : Type 0
@@ -55,6 +55,14 @@ moved_rows s p v q f = gap_filled (with_row_at (without_row_at (row_at s) p) q (
 -- a row with another value of an id
 abbrev pub with_cell : Row → Id → List ℕ → Row
 with_cell v i bytes = (v.0, put id_cmp i bytes v.1)
+
+-- the rows with other values of an id, of n bytes each, in all rows of one table: those of one row after another
+abbrev pub with_column_at : (Place → Option Row) → TableKey → Id → ℕ → List ℕ → Place → Option Row
+with_column_at rows k i n bytes p = if key_eq p.table k then option_map (λ v. with_cell v i (take n (drop (p.row * n) bytes))) (rows p) else rows p
+
+-- these are values of an id with data, one for each row of the table under a key
+abbrev pub AreValues : Store → TableKey → Id → List ℕ → Type 0
+AreValues s k i bytes = (n : ℕ) × (size_in s k i ≡ Some n) × (0 < n) × (length bytes ≡ rows_in s k * n)
 
 -- the shape that cells have
 abbrev pub shape_of_cells : Cells → Shape

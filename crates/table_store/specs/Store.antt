@@ -1,5 +1,5 @@
 -- What a contract sees of a store: the table under each key.
-use Rattle.std.specs.Prelude.{◌≡◌, ℕ, ◌-◌, ◌^◌, ◌<◌, ◌≤◌, ◌==◌, Bool, ◌&&◌, List, map, Option, Some, None, option_map, unwrap_or, if◌then◌else◌, IsTrue, IsSome, IfSome, nat_le, slice_get, not}
+use Rattle.std.specs.Prelude.{◌≡◌, ℕ, ◌-◌, ◌^◌, ◌<◌, ◌≤◌, ◌==◌, Bool, ◌&&◌, List, map, Option, Some, None, option_map, option_and_then, unwrap_or, if◌then◌else◌, IsTrue, IsSome, IfSome, nat_le, slice_get, not}
 use Rattle.std.specs.List.{find, filter, list_all}
 use Rattle.std.specs.FinMap.{put, is_sorted}
 use Rattle.std.specs.FinMap as finite
@@ -51,6 +51,10 @@ room_at s k = unwrap_or (option_map (λ t. t.room) (table_at s k)) 0
 -- the shape of the table under a key
 abbrev pub shape_at : Store → TableKey → Option Shape
 shape_at s k = option_map shape_of (table_at s k)
+
+-- how many bytes a value of an id has in the table under a key, 0 for a tag
+abbrev pub size_in : Store → TableKey → Id → Option ℕ
+size_in s k i = option_and_then (find_in i) (shape_at s k)
 
 -- the shapes with this one under a key
 abbrev pub shaped_at : Store → TableKey → Shape → TableKey → Option Shape

@@ -9,10 +9,10 @@ ghost use Rattle.indexmap.specs.IndexMap as hashed;
 ghost use Rattle.ecs_id.specs.Id.{Id, id_cmp, id_eq};
 ghost use Rattle.ecs_id.specs.declared.Place.{Place};
 ghost use Rattle.ecs_id.specs.declared.TableKey.{TableKey};
-ghost use Rattle.ecs_table.specs.Archetype.{Archetype, with_row, with_value, without_row};
-ghost use Rattle.table_store.specs.Store.{HasSize, Shape, changed_at, find_in, ids_at, made_at, moved_at, released_at, room_at, shape_at, shaped, shaped_at, table_at, with_id, without_id};
+ghost use Rattle.ecs_table.specs.Archetype.{Archetype, with_column, with_row, with_value, without_row};
+ghost use Rattle.table_store.specs.Store.{HasSize, Shape, changed_at, find_in, ids_at, made_at, moved_at, released_at, room_at, shape_at, shaped, shaped_at, size_in, table_at, with_id, without_id};
 ghost use Rattle.table_store.specs.Kept.{HasNoEdge, SetsIds, IsMade, IsPut, IsWritten, edge_of, edges_of, is_held, standing, stepped};
-ghost use Rattle.table_store.specs.Rows.{IsStored, Row, filler, moved_rows, removed_rows, row_at, rows_in, with_cell, with_row_at, zero_cells};
+ghost use Rattle.table_store.specs.Rows.{AreValues, IsStored, Row, filler, moved_rows, removed_rows, row_at, rows_in, with_cell, with_column_at, with_row_at, zero_cells};
 
 use crate::edges::Edges;
 use crate::shape::{Sizes, are_tags, ids_of, next_shape, push_sizes};
@@ -522,6 +522,18 @@ impl<A: Allocator> TableStore<A> {
         self.tables[key.slot as usize]
             .table
             .set_value(row, id, value);
+    }
+
+    /// Overwrites the values of an id with data in all rows of a table, with as many bytes, those of one row after another.
+    pub fn set_column(&mut self, key: TableKey, id: Id, bytes: &[u8])
+        requires { AreValues self.old key id bytes.now }
+        ensures tables { (q : TableKey) → table_at self.new q ≡ changed_at self.old key (λ t. with_column t id bytes.now) q }
+        ensures shapes { (q : TableKey) → shape_at self.new q ≡ shape_at self.old q }
+        ensures rows { (n : ℕ) → size_in self.old key id ≡ Some n → (p : Place) → row_at self.new p ≡ with_column_at (row_at self.old) key id n bytes.now p }
+        ensures last { self.new.last ≡ self.old.last }
+        ensures whole { IsStored self.new }
+    {
+        self.tables[key.slot as usize].table.set_column(id, bytes);
     }
 
     /// Takes a row away. The last row fills the gap; its entity is answered, unless it is the one that went.
