@@ -21,3 +21,4 @@ pub mod FactPlanning
 pub mod FactReads
 pub mod Releases
 pub mod Counting
+pub mod WholeColumns

@@ -1,5 +1,5 @@
 -- Which entities live, and what each of them holds: ids with the bytes of their values.
-use Rattle.std.specs.Prelude.{◌≡◌, ℕ, ◌==◌, ◌+◌, Bool, not, ◌&&◌, ◌||◌, List, [], map, length, replicate, Option, Some, is_some, unwrap_or, option_map, IsTrue, IfSome}
+use Rattle.std.specs.Prelude.{◌≡◌, ℕ, ◌==◌, ◌+◌, Bool, not, ◌&&◌, ◌||◌, List, [], ◌∷◌, map, take, drop, length, replicate, Option, Some, is_some, unwrap_or, option_map, IsTrue, IfSome}
 use Rattle.std.specs.List.{list_all, range_with_len}
 use Rattle.std.specs.Option.{option_eq}
 use Rattle.std.specs.Ordering.{nat_cmp}
@@ -91,6 +91,11 @@ module _ (h : Holdings) where
     deletions = with_value nat_cmp h.deletions i (count_at h.deletions i + 1);
     cells = without nat_cmp h.cells (λ k. k == i);
   }
+
+-- each of the entities in turn has another value of an id: the next n of these bytes
+abbrev pub with_each_written : Id → ℕ → List EntityId → List ℕ → Holdings → Holdings
+with_each_written i n [] bytes h = h
+with_each_written i n (e ∷ es) bytes h = with_each_written i n es (drop n bytes) (with_cells h e.index (with_value id_cmp (held_at h e.index) i (take n bytes)))
 
 -- the built-in entities, none of them settled
 abbrev pub first_holdings : Holdings

@@ -1,18 +1,21 @@
 //! One entity's ids and values: what it holds is found, and then changed at its place.
-ghost use Rattle.std.specs.Prelude.{◌≡◌, ◌<◌, ◌≤◌, [], ◌∷◌, Some, IfOk, IfSome, OnOk, OnErr, IsTrue, is_some, length, option_map, replicate, false, true};
+ghost use Rattle.std.specs.Prelude.{◌≡◌, ℕ, ◌<◌, ◌≤◌, [], ◌∷◌, Some, IfOk, IfSome, OnOk, OnErr, IsTrue, is_some, length, option_map, replicate, false, true};
 ghost use Rattle.ecs_id.specs.Id.{id_cmp, id_eq};
 ghost use Rattle.ecs_model.specs.Map.{with_value, without};
 ghost use Rattle.entity_index.specs.Entities.{place_of};
 ghost use Rattle.ecs_archetypes.specs.Archetypes.{known_in};
-ghost use Rattle.ecs_archetypes.specs.Holdings.{AreHoldings, HoldAlike, KeepsSizes, agrees, held_at, holds_id, is_settled, with_cells};
+ghost use Rattle.ecs_archetypes.specs.Holdings.{AreHoldings, HoldAlike, KeepsSizes, agrees, held_at, holds_id, is_settled, with_cells, with_each_written};
 ghost use Rattle.ecs_archetypes.specs.Housing.{IsHoused, holdings_of};
 ghost use Rattle.ecs_archetypes.specs.Tables.{StandAlike};
+ghost use Rattle.ecs_table.specs.Archetype.{Archetype};
 ghost use Rattle.table_store.specs.Going.{TablesGoOn};
+ghost use Rattle.table_store.specs.Rows.{AreValues};
+ghost use Rattle.table_store.specs.Store.{size_in, table_at};
 
 use crate::Archetypes;
 use crate::rows::carry_alone;
 use crate::tables::{narrower, wider};
-use ecs_id::{EntityId, Id, Place};
+use ecs_id::{EntityId, Id, Place, TableKey};
 use raw_column::Memory;
 use std::alloc::Allocator;
 
@@ -121,6 +124,20 @@ impl<A: Allocator> Archetypes<A> {
     {
         let _ = entity;
         self.tables.set_value(place.table, place.row, id, bytes);
+    }
+
+    /// Overwrites the values of an id with data of all entities of a table, by row, with as many bytes, those of one row after another.
+    pub fn set_column(&mut self, key: TableKey, id: Id, bytes: &[u8])
+        requires { AreValues self.old.tables key id bytes.now }
+        ensures written { (t : Archetype) (n : ℕ) → table_at self.old.tables key ≡ Some t → size_in self.old.tables key id ≡ Some n → HoldAlike (holdings_of self.new) (with_each_written id n t.entities bytes.now (holdings_of self.old)) }
+        ensures entities { self.new.entities ≡ self.old.entities }
+        ensures sizes { KeepsSizes (known_in self.old.tables) [] (known_in self.new.tables) }
+        ensures alike { StandAlike self.old.tables self.new.tables }
+        ensures goes_on { TablesGoOn self.old.tables self.new.tables }
+        ensures holdings { AreHoldings (holdings_of self.new) }
+        ensures whole { IsHoused self.new }
+    {
+        self.tables.set_column(key, id, bytes);
     }
 
     /// Finds the row of a settled entity, and looks there for an id.
