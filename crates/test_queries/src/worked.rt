@@ -82,7 +82,7 @@ const DIAMOND: Base = Base {
 /// Whom a query finds by two groups that each have a variable of their own.
 const SIBLINGS: &str = "Position, !{ (Likes,$x), Planet($x) }, !{ (ChildOf,$x), Position($x) }";
 
-const ROWS: [WorkedRow; 22] = [
+const ROWS: [WorkedRow; 23] = [
     WorkedRow {
         base: SKY,
         more: &[],
@@ -166,6 +166,13 @@ const ROWS: [WorkedRow; 22] = [
         query: "Position || Planet",
         answer: "row $this=Sun [Position@Sun]\nrow $this=Earth [Position@Earth]\nrow $this=Moon [Planet@Moon]\nrows 3\n",
         plans: 1,
+    },
+    WorkedRow {
+        base: SKY,
+        more: &[(EARTH, LIKES, Some(MOON)), (EARTH, LIKES, Some(SUN)), (SUN, LIKES, Some(SUN))],
+        query: "Position, (ChildOf,$x) || (Likes,$x)",
+        answer: "row $this=Sun $x=Sun [Position@Sun] [(Likes,Sun)@Sun]\nrow $this=Earth $x=Sun [Position@Earth] [(ChildOf,Sun)@Earth]\nrow $this=Earth $x=Moon [Position@Earth] [(Likes,Moon)@Earth]\nrows 3\n",
+        plans: 2,
     },
     WorkedRow {
         base: SKY,
