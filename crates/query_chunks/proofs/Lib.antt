@@ -2,11 +2,13 @@ pub mod Bytes
 pub mod Columns
 pub mod Items
 pub mod Judged
+pub mod Keyed
 pub mod Led
 pub mod Levels
 pub mod Named
 pub mod Permuted
 pub mod Running
+pub mod Shortest
 pub mod Standing
 pub mod Terms
 pub mod Whole

@@ -3,11 +3,12 @@
 ghost use Rattle.std.specs.Prelude.{◌≡◌, [], ◌∷◌, IfSome, length, option_map, slice_get, unwrap_or};
 ghost use Rattle.ecs_table.specs.Archetype.{column_of};
 ghost use Rattle.query_check.specs.Seen.{seen_item};
-ghost use Rattle.query_chunks.specs.Chunk.{AreWhole, IsWhole, chunk_of, column_of_id, column_of_item, column_of_terms, seen_column};
+ghost use Rattle.query_model.specs.Query as model;
+ghost use Rattle.query_chunks.specs.Chunk.{AreWhole, IsWhole, chunk_in, chunk_of, column_of_id, column_of_item, column_of_terms, seen_column};
 
 use crate::asked::{hit, outer_item};
 use crate::column::Column;
-use ecs_id::{EntityId, Id};
+use ecs_id::{EntityId, Id, TableKey};
 use ecs_table::Table;
 use ecs_world::World;
 use query_check::{Item, Query};
@@ -15,12 +16,63 @@ use query_model::query::Term;
 use std::alloc::{Allocator, Global};
 use std::marker::Model;
 
+/// A table of a world whose entities match a query, as a `TableCursor` gives it. Its fields are read by that query. It takes no memory.
+#[derive(Drop)]
+pub struct MatchingTable<'r, A: Allocator = Global> {
+    world: &'r World<A>,
+    key: TableKey,
+    table: &'r Table<A>,
+}
+
+impl<'r, A: Allocator> Model for MatchingTable<'r, A> {
+    ghost use Rattle.query_chunks.specs.Chunk as model;
+    ghost use Rattle.query_model.specs.Query as query;
+
+    ghost Value = { model.Matching };
+
+    ghost view = { λ m. record { state = m.world.now.state; key = m.key; table = m.table.now } };
+
+    ghost invariant = { λ m. (q : query.Query) → model.AreWhole (model.chunk_of m.world.now.state q m.key m.table.now) };
+}
+
+impl<'r, A: Allocator> MatchingTable<'r, A> {
+    pub(crate) fn new(world: &'r World<A>, key: TableKey, table: &'r Table<A>) -> Self
+        requires { (q : model.Query) → AreWhole (chunk_of world.now.state q key table.now) }
+        ensures { result ≡ record { state = world.now.state; key = key; table = table.now } }
+    {
+        MatchingTable { world, key, table }
+    }
+
+    /// The key of the table.
+    pub fn key(&self) -> TableKey
+        ensures { result ≡ self.now.key }
+    {
+        self.key
+    }
+
+    /// The entities by row.
+    pub fn entities(&self) -> &'r [EntityId]
+        ensures { result.now ≡ self.now.table.entities }
+    {
+        self.table.rows()
+    }
+
+    /// The column of the item with this number among those of the query that show fields, in the order of the text. Those inside groups
+    /// show none.
+    pub fn column<B: Allocator>(&self, query: &Query<B>, number: usize) -> Option<Column<'r, A>>
+        ensures column { option_map seen_column result ≡ slice_get (chunk_in self.now query.now).columns number }
+        ensures whole { IfSome result (λ column. IsWhole (length self.now.table.entities) (seen_column column)) }
+    {
+        let item = outer_item(query.pieces(), number)?;
+        Some(column_of_item(self.world, self.table, item))
+    }
+}
+
 /// Entities of one table, one a row, and for each item that shows a field the column of its values. It takes no memory.
 #[derive(Drop)]
 pub struct Chunk<'r, A: Allocator = Global, B: Allocator = Global> {
-    world: &'r World<A>,
+    table: MatchingTable<'r, A>,
     query: &'r Query<B>,
-    table: &'r Table<A>,
 }
 
 impl<'r, A: Allocator, B: Allocator> Model for Chunk<'r, A, B> {
@@ -28,28 +80,31 @@ impl<'r, A: Allocator, B: Allocator> Model for Chunk<'r, A, B> {
 
     ghost Value = { model.Chunk };
 
-    ghost view = { λ c. model.chunk_of c.world.now.state c.query.now c.table.now };
+    ghost view = { λ c. model.chunk_in c.table c.query.now };
 
-    ghost invariant = { λ c. model.AreWhole (model.chunk_of c.world.now.state c.query.now c.table.now) };
+    ghost invariant = { λ c. model.AreWhole (model.chunk_in c.table c.query.now) };
 }
 
 impl<'r, A: Allocator, B: Allocator> Chunk<'r, A, B> {
-    pub(crate) fn new(world: &'r World<A>, query: &'r Query<B>, table: &'r Table<A>) -> Self
-        requires { AreWhole (chunk_of world.now.state query.now table.now) }
-        ensures { result ≡ chunk_of world.now.state query.now table.now }
+    pub(crate) fn new(table: MatchingTable<'r, A>, query: &'r Query<B>) -> Self
+        requires { AreWhole (chunk_in table query.now) }
+        ensures { result ≡ chunk_in table.entry query.now }
     {
-        Chunk {
-            world,
-            query,
-            table,
-        }
+        Chunk { table, query }
+    }
+
+    /// The key of its table.
+    pub fn table(&self) -> TableKey
+        ensures { result ≡ self.now.table }
+    {
+        self.table.key()
     }
 
     /// The entities by row.
     pub fn entities(&self) -> &'r [EntityId]
         ensures { result.now ≡ self.now.entities }
     {
-        self.table.rows()
+        self.table.entities()
     }
 
     /// The column of the item with this number among those that show fields, in the order of the text. Those inside groups show none.
@@ -58,8 +113,7 @@ impl<'r, A: Allocator, B: Allocator> Chunk<'r, A, B> {
         ensures column { option_map seen_column result ≡ slice_get self.now.columns number }
         ensures whole { IfSome result (λ column. IsWhole (length self.now.entities) (seen_column column)) }
     {
-        let item = outer_item(self.query.pieces(), number)?;
-        Some(column_of_item(self.world, self.table, item))
+        self.table.column(self.query, number)
     }
 }
 

@@ -17,10 +17,12 @@
 mod asked;
 mod chunk;
 mod column;
+mod cursor;
 mod leading;
 mod run;
 
 pub use asked::has_chunks;
-pub use chunk::Chunk;
+pub use chunk::{Chunk, MatchingTable};
 pub use column::Column;
+pub use cursor::TableCursor;
 pub use run::Chunks;
