@@ -31,3 +31,7 @@ pub mod Deaths
 pub mod ToldAdditions
 pub mod ToldRemovals
 pub mod ToldDeletions
+pub mod Ranges
+pub mod Quiet
+pub mod SetEach
+pub mod WholeColumns

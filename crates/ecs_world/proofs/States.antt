@@ -35,7 +35,7 @@ all_implied p q f [] h = refl
 all_implied p q f (x ∷ xs) h = let parts = both_true (p x) (list_all p xs) h in λ k. f x parts.0 k && all_implied p q f xs parts.1 k
 
 -- a test that the sizes of all cells pass
-size_passes : (test : Id × ℕ → Bool) (cs : Cells) (i : Id) (bs : List ℕ) → list_all test (sizes_of cs) ≡ true → value_at id_cmp cs i ≡ Some bs → test (i, length bs) ≡ true
+pub size_passes : (test : Id × ℕ → Bool) (cs : Cells) (i : Id) (bs : List ℕ) → list_all test (sizes_of cs) ≡ true → value_at id_cmp cs i ≡ Some bs → test (i, length bs) ≡ true
 size_passes test [] i bs h found = absurd (true≢false (sym (ap is_some found)))
 size_passes test (c ∷ cs) i bs h found = by (eq_by_cmp id_cmp i c.0) refl found (both_true (test (c.0, length c.1)) (list_all test (sizes_of cs)) h).0 (size_passes test cs i bs (both_true (test (c.0, length c.1)) (list_all test (sizes_of cs)) h).1)
   where
@@ -47,7 +47,7 @@ size_passes test (c ∷ cs) i bs h found = by (eq_by_cmp id_cmp i c.0) refl foun
         (λ k. test (same k, length (sym is k))) ∙ t
     by false p f t rest = rest f
 
-some_bytes : (o : Option Cells) (i : Id) (bs : List ℕ) → value_at id_cmp (unwrap_or o []) i ≡ Some bs → (cs : Cells) × (o ≡ Some cs) × (value_at id_cmp cs i ≡ Some bs)
+pub some_bytes : (o : Option Cells) (i : Id) (bs : List ℕ) → value_at id_cmp (unwrap_or o []) i ≡ Some bs → (cs : Cells) × (o ≡ Some cs) × (value_at id_cmp cs i ≡ Some bs)
 some_bytes None i bs h = absurd (true≢false (sym (ap is_some h)))
 some_bytes (Some cs) i bs h = (cs, refl, h)
 

@@ -1,5 +1,6 @@
 pub mod BuiltIn
 pub mod Changes
+pub mod Columns
 pub mod Releases
 pub mod Singles
 pub mod Standing

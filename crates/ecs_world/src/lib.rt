@@ -34,6 +34,7 @@ mod additions;
 mod birth_commands;
 mod built_in;
 mod changes;
+mod columns;
 mod deletion;
 mod fact_commands;
 mod pins;
@@ -43,6 +44,7 @@ mod releases;
 mod single_facts;
 
 pub use changes::{Changes, Death};
+pub use columns::ColumnFault;
 use ecs_archetypes::{Archetypes, FactPlan};
 pub use ecs_archetypes::{EntityFacts, Graph};
 pub use ecs_links::Links;
