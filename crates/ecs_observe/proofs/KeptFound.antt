@@ -1,11 +1,13 @@
 -- The kept query of a name, as a session holds it.
-use Rattle.std.specs.Prelude.{◌≡◌, ◌≢◌, ℕ, List, ◌++◌, map, bytes_eq, Option, None, Some, Result, Ok, Err}
+use Rattle.std.specs.Prelude.{◌≡◌, ◌≢◌, ℕ, All, Bool, true, false, cond, List, [], ◌∷◌, ◌++◌, map, bytes_eq, Option, None, Some, Result, Ok, Err}
 use Rattle.std.specs.List.{find}
 use Rattle.std.specs.Option.{option_map_or}
 use Rattle.std.specs.Map.{lookup}
 use Rattle.std.specs.declared.string.String.{String}
 use Rattle.std.proofs.Common.{refl, sym, ap, subst, ◌∙◌}
+use Rattle.std.proofs.lemmas.List.Elements.{All-head, All-tail}
 use Rattle.query_meaning.specs.Standing.{IsCurrentIn}
+use Rattle.query_model.specs.Query.{Query}
 use Rattle.ecs_model.specs.declared.faults.SessionRefusal.TheVariants.{UnknownQuery}
 use Rattle.ecs_model.specs.declared.watches.StoredKind.{StoredKind}
 use Rattle.ecs_model.specs.declared.watches.StoredKind.TheVariants.{Kept, Monitor, OnAdd, OnRemove, OnSet}
@@ -20,8 +22,33 @@ use Rattle.ecs_observe.specs.declared.errors.SessionError.{SessionError}
 use Rattle.ecs_observe.specs.declared.errors.SessionError.TheVariants.{Refused, Memory}
 use Rattle.ecs_observe.specs.declared.stored.StoredQuery.{StoredQuery}
 use Rattle.ecs_observe.specs.Parts.{held_of}
-use Rattle.ecs_observe.specs.Standing.{IsHeld, IsSession, Standing, session_of, stored_of}
+use Rattle.ecs_observe.specs.Standing.{Held, IsHeld, IsSession, Standing, session_of, stored_of}
 use Rattle.ecs_observe.proofs.Found.{holds_of_found, is_key, named, none_found, seen, some_found, stored_is, world_is}
+
+module _ (w : WorldState) (n : List ℕ) (q : Query) where
+  of_kind : (k : StoredKind) (p : Query) → IsCurrentIn w p → if_kept k p ≡ Ok q → IsCurrentIn w q
+  of_kind Kept p current e =
+      let same : Ok p ≡ Ok q = e in
+      let one : p ≡ q = cc in
+      subst (IsCurrentIn w) one current
+  of_kind Monitor p current e = let no : Err UnknownQuery ≡ Ok q = e in cc
+  of_kind OnAdd p current e = let no : Err UnknownQuery ≡ Ok q = e in cc
+  of_kind OnRemove p current e = let no : Err UnknownQuery ≡ Ok q = e in cc
+  of_kind OnSet p current e = let no : Err UnknownQuery ≡ Ok q = e in cc
+
+  find_current : (hs : List Held) → All (IsHeld w) hs → option_map_or (λ x. if_kept x.kind x.query) (find (λ x. bytes_eq n x.name) (map stored_of hs)) (Err UnknownQuery) ≡ Ok q → IsCurrentIn w q
+  find_current [] all e = let no : Err UnknownQuery ≡ Ok q = e in cc
+  find_current (h ∷ hs) all e = by (bytes_eq n h.name) e (find_current hs (All-tail (IsHeld w) h hs all))
+    where
+      by : (b : Bool) → option_map_or (λ x. if_kept x.kind x.query) (cond b (Some (stored_of h)) (find (λ x. bytes_eq n x.name) (map stored_of hs))) (Err UnknownQuery) ≡ Ok q
+          → (option_map_or (λ x. if_kept x.kind x.query) (find (λ x. bytes_eq n x.name) (map stored_of hs)) (Err UnknownQuery) ≡ Ok q → IsCurrentIn w q) → IsCurrentIn w q
+      by true e rest = of_kind h.kind h.query (All-head (IsHeld w) h hs all).current e
+      by false e rest = rest e
+
+-- the kept query of a name is current
+pub kept_current : (s : Standing) → IsSession s → (n : List ℕ) (q : Query) → kept_query (session_of s) n ≡ Ok q → IsCurrentIn (s.world).state q
+unfolding session_of
+kept_current s session n q kept = find_current (s.world).state n q s.stored session.held kept
 
 module _ {A : Type 0} (self : Standing) (w : world.Standing) (es : List (String A × StoredQuery A)) (waiting : Option Changed) (compared : ℕ) (n : List ℕ) (view : self ≡ seen w es waiting compared) where
   pub stored_there : stored_at (session_of self) n ≡ find (λ x. bytes_eq n x.name) (map stored_of (map held_of es))

@@ -8,10 +8,12 @@ pub mod Found
 pub mod KeptFound
 pub mod Obeyed
 pub mod OneLess
+pub mod OneListed
 pub mod OneMore
 pub mod Orders
 pub mod Pinned
 pub mod Staying
+pub mod Synced
 pub mod Retold
 pub mod Tellings
 pub mod Locally

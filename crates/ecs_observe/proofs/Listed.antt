@@ -1,9 +1,9 @@
 -- The lists of kept queries, whatever becomes of the world and of what is stored.
-use Rattle.std.specs.Prelude.{◌≡◌, ◌≢◌, ℕ, Bool, true, false, cond, List, [], ◌∷◌, ◌++◌, Option, None, Some, IfSome, is_some, not}
+use Rattle.std.specs.Prelude.{◌≡◌, ◌≢◌, ℕ, Bool, true, false, cond, All, map, List, [], ◌∷◌, ◌++◌, Option, None, Some, IfSome, is_some, not}
 use Rattle.std.specs.Map.{lookup, remove_entry}
 use Rattle.std.specs.declared.string.String.{String}
 use Rattle.std.proofs.Common.{refl, sym, ap, subst, ◌∙◌, true≢false}
-use Rattle.std.proofs.lemmas.List.Elements.{All-cons, All-head, All-nil, All-push, All-tail, All-weaker}
+use Rattle.std.proofs.lemmas.List.Elements.{All-cons, All-head, All-map, All-nil, All-push, All-tail, All-weaker}
 use Rattle.ecs_model.specs.stored.Watches.{is_told}
 use Rattle.ecs_model.specs.declared.watches.StoredKind.{StoredKind}
 use Rattle.ecs_model.specs.declared.watches.StoredKind.TheVariants.{Kept, Monitor, OnAdd, OnRemove, OnSet}
@@ -11,7 +11,8 @@ use Rattle.query_cache.specs.Kept as cache
 use Rattle.query_cache.proofs.Fitting.{fits_later}
 use Rattle.table_store.specs.Going.{TablesGoOn}
 use Rattle.table_store.specs.Store.{Store}
-use Rattle.ecs_observe.specs.Lists.{HasList, HaveLists, IsListOf}
+use Rattle.ecs_observe.specs.Lists.{HasItsList, HasList, HaveLists, IsListOf}
+use Rattle.ecs_observe.specs.Parts.{held_of}
 use Rattle.ecs_observe.specs.declared.stored.StoredQuery.{StoredQuery}
 use Rattle.ecs_observe.proofs.Found.{is_key}
 
@@ -30,6 +31,10 @@ module _ {A : Type 0} where
 
     pub lists_later : (es : List (String A × StoredQuery A)) → HaveLists s es → HaveLists t es
     lists_later es h = All-weaker (λ (e : String A × StoredQuery A). HasList s e.1) (λ (e : String A × StoredQuery A). HasList t e.1) (λ e. list_later e.1) es h
+
+  -- and each has it as it is seen
+  pub lists_seen : (s : Store) (es : List (String A × StoredQuery A)) → HaveLists s es → All (HasItsList s) (map held_of es)
+  lists_seen s es h = All-map (HasItsList s) held_of es h
 
   pub none_lists : (s : Store) (es : List (String A × StoredQuery A)) → es ≡ [] → HaveLists s es
   none_lists s es e = subst (HaveLists s) (sym e) (All-nil (λ (e : String A × StoredQuery A). HasList s e.1))

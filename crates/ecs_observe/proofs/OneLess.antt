@@ -16,6 +16,7 @@ use Rattle.ecs_model.specs.rows.View.{view_of}
 use Rattle.ecs_model.specs.stored.Session.{unpinned_by, without_stored}
 use Rattle.ecs_model.specs.traits.Pins.{one_less}
 use Rattle.ecs_world.specs.Standing as world
+use Rattle.query_cache.specs.Kept.{Kept}
 use Rattle.query_model.specs.Query.{Query}
 use Rattle.query_meaning.specs.Standing.{IsCurrentIn}
 use Rattle.watch_meaning.specs.Mentions.{mentions_index, times, times_in}
@@ -23,19 +24,26 @@ use Rattle.watch_meaning.specs.Since.{IsAfter}
 use Rattle.watch_meaning.proofs.MentionedOnce.{count_by-cons, queries_mention_once}
 use Rattle.watch_meaning.proofs.Pinning.{current_alive, unpinned_counts, unpinned_current, unpinned_once, unpinned_view}
 use Rattle.ecs_observe.specs.declared.stored.StoredQuery.{StoredQuery}
+use Rattle.ecs_observe.specs.Following.{lists_of}
 use Rattle.ecs_observe.specs.Parts.{held_of}
 use Rattle.ecs_observe.specs.Standing.{Held, IsHeld, IsNow, IsSession, WasNow, session_of, stored_of, told_to}
 use Rattle.ecs_observe.proofs.Found.{holds_of_found, is_key, named, seen}
 use Rattle.ecs_observe.proofs.OneMore.{far_from_most, none_waits, queries, still_held, still_now}
 
+abbrev its_list : Held → List ℕ × Option Kept
+its_list h = (h.name, h.list)
+
+abbrev is_of_other : List ℕ → List ℕ × Option Kept → Bool
+is_of_other n p = not (bytes_eq n p.0)
+
 -- no two have one name
 abbrev pub AreApart : List Held → Type 0
 AreApart hs = AllPairs (λ a b. a.name ≢ b.name) hs
 
-rest_apart : (h : Held) (hs : List Held) → AreApart (h ∷ hs) → AreApart hs
+pub rest_apart : (h : Held) (hs : List Held) → AreApart (h ∷ hs) → AreApart hs
 rest_apart h hs apart = λ i j d l m. apart (suc i) (suc j) d (omega arith) (omega arith)
 
-first_apart : (h : Held) (hs : List Held) → AreApart (h ∷ hs) → All (λ x. h.name ≢ x.name) hs
+pub first_apart : (h : Held) (hs : List Held) → AreApart (h ∷ hs) → All (λ x. h.name ≢ x.name) hs
 first_apart h hs apart = λ k d l. apart 0 (suc k) d (omega arith) (omega arith)
 
 module _ (n : List ℕ) where
@@ -46,7 +54,7 @@ module _ (n : List ℕ) where
   abbrev pub others : List Held → List Held
   others hs = filter (λ h. not (bytes_eq n h.name)) hs
 
-  differs : (m : List ℕ) → n ≢ m → bytes_eq n m ≡ false
+  pub differs : (m : List ℕ) → n ≢ m → bytes_eq n m ≡ false
   differs m unlike = by (bytes_eq n m) refl
     where
       by : (b : Bool) → bytes_eq n m ≡ b → b ≡ false
@@ -71,6 +79,16 @@ module _ (n : List ℕ) where
           → cond (not b) (stored_of h ∷ filter (λ y. not (bytes_eq n y.name)) (map stored_of hs)) (filter (λ y. not (bytes_eq n y.name)) (map stored_of hs)) ≡ map stored_of (cond (not b) (h ∷ others hs) (others hs))
       by true rest = rest
       by false rest = ap (λ xs. stored_of h ∷ xs) rest
+
+  -- the lists of those that are left
+  pub left_lists : (hs : List Held) → map its_list (others hs) ≡ filter (is_of_other n) (map its_list hs)
+  left_lists [] = refl
+  left_lists (h ∷ hs) = by (bytes_eq n h.name) (left_lists hs)
+    where
+      by : (b : Bool) → map its_list (others hs) ≡ filter (is_of_other n) (map its_list hs)
+          → map its_list (cond (not b) (h ∷ others hs) (others hs)) ≡ cond (not b) (its_list h ∷ filter (is_of_other n) (map its_list hs)) (filter (is_of_other n) (map its_list hs))
+      by true rest = rest
+      by false rest = ap (λ xs. its_list h ∷ xs) rest
 
   -- how many mention an index, of those that are left and the one that isn't
   module _ (i : ℕ) (x : Held) where
@@ -150,7 +168,7 @@ module _ {A : Type 0} (n : List ℕ) where
           let one : e.1 ≡ s = cc in
           let text = (bytes_decides n (string_bytes e.0)).0 t in
           ap (λ b. cond b (Some (held_of e)) (find (λ h. bytes_eq n h.name) (map held_of es))) t
-          ∙ (λ i. Some (record { name = sym text i; kind = (one i).kind; query = ((one i).plan).query; these = ((one i).these).items }))
+          ∙ (λ i. Some (record { name = sym text i; kind = (one i).kind; query = ((one i).plan).query; these = ((one i).these).items; list = (one i).list; steps = ((one i).plan).steps }))
       by false t h rest = ap (λ b. cond b (Some (held_of e)) (find (λ h. bytes_eq n h.name) (map held_of es))) t ∙ rest h
 
   -- and without it those of other names are left
@@ -172,6 +190,9 @@ module _ {A : Type 0} (n : List ℕ) where
     one_less_seen =
         subst (λ hs. IsSession (record { world = v; stored = hs; waiting = waiting; compared = m })) (sym others_held)
         (one_less_held w v (map held_of es) (named n d) waiting m kept (first_named es d there) (holds_of_found n (IsHeld w.state) es d kept.held there) new idle)
+
+    pub lists_left : lists_of (seen v fs waiting m) ≡ filter (is_of_other n) (lists_of (seen w es waiting m))
+    lists_left = ap (map its_list) others_held ∙ left_lists n (map held_of es)
 
     -- that of the definitions
     pub without_seen : session_of (seen v fs waiting m) ≡ without_stored (session_of (seen w es waiting m)) (stored_of (named n d))

@@ -11,6 +11,7 @@ use Rattle.std.proofs.lemmas.List.Elements.{All-map}
 use Rattle.std.proofs.lemmas.List.Kept.{AllPairs-cons}
 use Rattle.std.proofs.lemmas.Option.{get_or_from_slice_get, slice_get-map, slice_get_within}
 use Rattle.entity_set.specs.Members.{Entities}
+use Rattle.query_cache.specs.Kept.{Kept as Lists}
 use Rattle.query_model.specs.Local.{is_local}
 use Rattle.query_model.specs.Query.{Query}
 use Rattle.ecs_model.specs.declared.watches.StoredKind.{StoredKind}
@@ -23,6 +24,7 @@ use Rattle.ecs_model.specs.stored.Watches.{Event, matching}
 use Rattle.ecs_model.specs.traits.Keeps.{IsWellFormed}
 use Rattle.watch_meaning.specs.Mentions.{times}
 use Rattle.watch_meaning.specs.Since.{IsAfter}
+use Rattle.ecs_observe.specs.Following.{lists_of}
 use Rattle.ecs_observe.specs.Parts.{held_as, held_of, placed_in}
 use Rattle.ecs_observe.specs.Standing.{ArePlaced, Held, IsHeld, IsNow, IsSession, Standing, WasNow, has_searched, is_compared, is_monitor, is_searched, rows_of, rows_put, session_of, stored_of, told_to, with_placed, with_rows, with_these, with_these_at}
 use Rattle.ecs_observe.specs.declared.stored.StoredQuery.{StoredQuery}
@@ -133,6 +135,13 @@ same_queries : (w : WorldState) (hs : List Held) → map (λ h. h.query) (map (t
 same_queries w [] = refl
 same_queries w (h ∷ hs) = ap (λ xs. h.query ∷ xs) (same_queries w hs)
 
+abbrev its_list : Held → List ℕ × Option Lists
+its_list h = (h.name, h.list)
+
+same_lists : (w : WorldState) (hs : List Held) → map its_list (map (told_now w) hs) ≡ map its_list hs
+same_lists w [] = refl
+same_lists w (h ∷ hs) = ap (λ xs. its_list h ∷ xs) (same_lists w hs)
+
 -- that no two have one name
 apart_now : (w : WorldState) (hs : List Held) → AllPairs (λ a b. a.name ≢ b.name) hs → AllPairs (λ a b. a.name ≢ b.name) (map (told_now w) hs)
 apart_now w [] apart = λ i j d low high. absurd (omega arith)
@@ -232,6 +241,10 @@ module _ (s now : Standing) (view_is : s ≡ now) where
 
     pub retold_after : session_of (record { world = s.world; stored = left; waiting = None; compared = n }) ≡ after_events (session_of now)
     retold_after = ap session_of is_retold ∙ (told_is_after s n ∙ ap (λ x. after_events (session_of x)) view_is)
+
+    -- the lists of kept queries stay
+    pub retold_lists : lists_of (record { world = s.world; stored = left; waiting = None; compared = n }) ≡ lists_of now
+    retold_lists = ap (map its_list) put ∙ (same_lists (s.world).state s.stored ∙ ap lists_of view_is)
 
   pub told_waits : (changed : Changed) (start all : List Event) → s.waiting ≡ Some changed → start ≡ [] → all ≡ start ++ flat_map (told_to (s.world).state changed) s.stored → all ≡ events (session_of now)
   told_waits changed start all waiting none gathered =

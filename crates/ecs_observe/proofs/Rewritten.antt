@@ -1,22 +1,34 @@
--- A session of which one stored query is written: the list of its tables, and nothing that is seen of it.
-use Rattle.std.specs.Prelude.{◌≡◌, ℕ, zero, suc, ◌<◌, List, [], ◌∷◌, length, map, slice_index_or, slice_set, Option}
+-- A session of which one stored query is written: the entities of its rows, or the list of its tables.
+use Rattle.std.specs.Prelude.{◌≡◌, ℕ, zero, suc, ◌<◌, List, [], ◌∷◌, length, map, bytes_eq, slice_index_or, slice_set, Option, Some, option_and_then, option_map, Result, Ok, Err, OnOk}
+use Rattle.std.specs.List.{find}
+use Rattle.std.specs.Cmp.Lexicographic.{bytes_decides}
+use Rattle.std.specs.Map.{lookup}
 use Rattle.std.specs.declared.string.String.{String}
 use Rattle.std.specs.String.{string_bytes}
-use Rattle.std.proofs.Common.{refl, sym, ap, subst, ◌∙◌, arith, get_or}
+use Rattle.std.proofs.Common.{refl, sym, ap, subst, ◌∙◌, arith, get_or, inl, inr}
 use Rattle.std.proofs.lemmas.List.{get_or-map}
+use Rattle.query_cache.specs.Kept.{Kept}
+use Rattle.query_meaning.specs.declared.steps.Step.{Step}
 use Rattle.table_store.specs.Store.{Store}
-use Rattle.name_order.specs.Order.{name_in}
+use Rattle.name_order.specs.Order.{IsPlaceOf, name_in}
 use Rattle.watch_order.specs.Watched.{Boxed}
 use Rattle.ecs_model.specs.Command.{Changed}
+use Rattle.ecs_model.specs.stored.Session.{kept_query}
 use Rattle.ecs_world.specs.Standing as world
+use Rattle.ecs_observe.specs.Following.{Follows, FollowsAt, FollowsIfSome, IsUpToDateAt, RefusesKept, SyncsList, list_at, with_list, with_list_at}
 use Rattle.ecs_observe.specs.Lists.{HasList, HaveLists}
 use Rattle.ecs_observe.specs.Parts.{held_of}
-use Rattle.ecs_observe.specs.Standing.{IsSession, with_these_at}
+use Rattle.ecs_observe.specs.Standing.{Held, IsSession, Standing, session_of, with_these_at}
 use Rattle.ecs_observe.specs.Stored.{entries_in, entries_of, made_of}
+use Rattle.ecs_observe.specs.declared.errors.SessionError.{SessionError}
+use Rattle.ecs_observe.specs.declared.errors.SessionError.TheVariants.{Refused, Memory}
 use Rattle.ecs_observe.specs.declared.queries.StoredQueries.{StoredQueries}
 use Rattle.ecs_observe.specs.declared.stored.StoredQuery.{StoredQuery}
-use Rattle.ecs_observe.proofs.Entries.{as_many, held_same, held_written, lists_written}
-use Rattle.ecs_observe.proofs.Found.{seen}
+use Rattle.ecs_observe.proofs.Entries.{as_many, held_written, lists_written, look_stored, stored_in}
+use Rattle.ecs_observe.proofs.Found.{is_key, named, seen}
+use Rattle.ecs_observe.proofs.KeptFound.{kept_found, other_kind}
+use Rattle.ecs_observe.proofs.OneLess.{AreApart, first_named}
+use Rattle.ecs_observe.proofs.OneListed.{as_it_was, found_then, one_listed, place_named, same_session, still_session}
 
 abbrev pub query_in : {A : Type 0} → Boxed (StoredQuery A) A → StoredQuery A
 query_in b = b.value.value.value
@@ -38,32 +50,100 @@ module _ {A : Type 0} (bs : List (Boxed (StoredQuery A) A)) (i : ℕ) (x : Boxed
       (all i (name_in x, query_in x) (omega (arith, low, as_many bs)))
 
   module _ (y : Boxed (StoredQuery A) A) (these : List ℕ) (name : name_in y ≡ name_in x) (kind : (query_in y).kind ≡ (query_in x).kind) (query : ((query_in y).plan).query ≡ ((query_in x).plan).query)
-      (same : ((query_in y).these).items ≡ these) where
+      (same : ((query_in y).these).items ≡ these) (list : (query_in y).list ≡ (query_in x).list) (steps : ((query_in y).plan).steps ≡ ((query_in x).plan).steps) where
     with_those : (d : Boxed (StoredQuery A) A) → held_of (name_in y, query_in y) ≡ record (held_of (name_in (get_or bs i d), query_in (get_or bs i d))) { these = these }
     with_those d =
-        (λ j. record { name = string_bytes (name j); kind = kind j; query = query j; these = same j })
+        (λ j. record { name = string_bytes (name j); kind = kind j; query = query j; these = same j; list = list j; steps = steps j })
         ∙ ap (λ (b : Boxed (StoredQuery A) A). record (held_of (name_in b, query_in b)) { these = these }) (sym (here d))
 
     pub kept_held : map held_of (entries_in (slice_set bs i y)) ≡ with_these_at i these (map held_of (entries_in bs))
     kept_held = held_written name_in query_in bs i y these low with_those
 
--- y is written over x
-module _ {A : Type 0} (w : world.Standing) (s t : StoredQueries A) (waiting : Option Changed) (compared : ℕ) (i : ℕ) (x y : Boxed (StoredQuery A) A)
-    (here : (d : Boxed (StoredQuery A) A) → slice_index_or (made_of s) i d ≡ x) (made : made_of t ≡ slice_set (made_of s) i y)
-    (name : name_in y ≡ name_in x) (kind : (query_in y).kind ≡ (query_in x).kind) (query : ((query_in y).plan).query ≡ ((query_in x).plan).query) (these : (query_in y).these ≡ (query_in x).these) where
-  same_held : (d : Boxed (StoredQuery A) A) → held_of (name_in y, query_in y) ≡ held_of (name_in (get_or (made_of s) i d), query_in (get_or (made_of s) i d))
-  same_held d =
-      (λ j. record { name = string_bytes (name j); kind = kind j; query = query j; these = (these j).items })
-      ∙ ap (λ (b : Boxed (StoredQuery A) A). held_of (name_in b, query_in b)) (sym (here d))
+-- y is written over x, which is the one of a name
+module _ {A : Type 0} (n : List ℕ) (w : world.Standing) (s t : StoredQueries A) (waiting : Option Changed) (compared : ℕ) (i : ℕ) (x y : Boxed (StoredQuery A) A)
+    (place : IsPlaceOf n (made_of s) (Some i)) (here : (d : Boxed (StoredQuery A) A) → slice_index_or (made_of s) i d ≡ x) (made : made_of t ≡ slice_set (made_of s) i y)
+    (name : name_in y ≡ name_in x) (kind : (query_in y).kind ≡ (query_in x).kind) (query : ((query_in y).plan).query ≡ ((query_in x).plan).query) (these : (query_in y).these ≡ (query_in x).these)
+    (session : IsSession (seen w (entries_of s) waiting compared)) where
+  abbrev old : Standing
+  old = seen w (entries_of s) waiting compared
 
-  pub still_seen : seen w (entries_of t) waiting compared ≡ seen w (entries_of s) waiting compared
-  still_seen =
-      ap (λ bs. seen w (map (λ (b : Boxed (StoredQuery A) A). (b.value.name, query_in b)) bs) waiting compared) made
-      ∙ ap (λ hs. record { world = w; stored = hs; waiting = waiting; compared = compared }) (held_same name_in query_in (made_of s) i y same_held)
+  abbrev list : Option Kept
+  list = (query_in y).list
 
-  pub still_session : IsSession (seen w (entries_of s) waiting compared) → IsSession (seen w (entries_of t) waiting compared)
-  still_session session = subst IsSession (sym still_seen) session
+  abbrev steps : List Step
+  steps = ((query_in y).plan).steps
+
+  its_name : (d : Boxed (StoredQuery A) A) → n ≡ string_bytes (name_in (get_or (made_of s) i d))
+  its_name d = (bytes_decides n _).0 (place_named n (made_of s) i place.0 session.once place.2 d)
+
+  one_held : (d : Boxed (StoredQuery A) A) → held_of (name_in y, query_in y) ≡ record (held_of (name_in (get_or (made_of s) i d), query_in (get_or (made_of s) i d))) { list = list; steps = steps }
+  one_held d =
+      (λ j. record { name = string_bytes (name j); kind = kind j; query = query j; these = (these j).items; list = list; steps = steps })
+      ∙ ap (λ (b : Boxed (StoredQuery A) A). record (held_of (name_in b, query_in b)) { list = list; steps = steps }) (sym (here d))
+
+  in_boxes : (bs : List (Boxed (StoredQuery A) A)) → map held_of (entries_in bs) ≡ map (λ b. held_of (name_in b, query_in b)) bs
+  in_boxes [] = refl
+  in_boxes (b ∷ bs) = ap (λ hs. held_of (name_in b, query_in b) ∷ hs) (in_boxes bs)
+
+  held_then : map held_of (entries_of t) ≡ map (with_list n list steps) (map held_of (entries_of s))
+  held_then =
+      ap (λ bs. map held_of (map (λ (b : Boxed (StoredQuery A) A). (b.value.name, b.value.value.value)) bs)) made
+      ∙ (in_boxes (slice_set (made_of s) i y)
+      ∙ (one_listed n list steps (λ b. held_of (name_in b, query_in b)) (made_of s) i y place.0 (subst AreApart (in_boxes (made_of s)) session.once) its_name one_held
+      ∙ ap (map (with_list n list steps)) (sym (in_boxes (made_of s)))))
+
+  -- the session is seen with its list
+  pub seen_with_list : seen w (entries_of t) waiting compared ≡ with_list_at n list steps old
+  seen_with_list = ap (λ hs. record { world = w; stored = hs; waiting = waiting; compared = compared }) held_then
+
+  pub rewritten_session : IsSession (seen w (entries_of t) waiting compared)
+  rewritten_session = subst IsSession (sym seen_with_list) (still_session n list steps old session)
 
   pub still_lists : HasList w.tables (query_in y) → HaveLists w.tables (entries_of s) → HaveLists w.tables (entries_of t)
   still_lists one all =
-      subst (λ bs. HaveLists w.tables (map (λ (b : Boxed (StoredQuery A) A). (b.value.name, query_in b)) bs)) (sym made) (lists_written name_in query_in w.tables (made_of s) i y one all)
+      subst (λ bs. HaveLists w.tables (map (λ (b : Boxed (StoredQuery A) A). (b.value.name, b.value.value.value)) bs)) (sym made) (lists_written name_in query_in w.tables (made_of s) i y one all)
+
+  -- what was there under the name
+  pub there_was : lookup (is_key n) (entries_of s) ≡ Some (query_in x)
+  there_was = look_stored n (made_of s) ∙ ap (option_map stored_in) (place.1 x) ∙ ap (λ (b : Boxed (StoredQuery A) A). Some (query_in b)) (here x)
+
+  module _ (now : Standing) (view : old ≡ now) where
+    -- the session of the definitions stays
+    pub same_then : session_of (seen w (entries_of t) waiting compared) ≡ session_of now
+    same_then = ap session_of seen_with_list ∙ (same_session n list steps old ∙ ap session_of view)
+
+    list_was : list_at now n ≡ (query_in x).list
+    list_was = ap (λ u. list_at u n) (sym view) ∙ ap (option_and_then (λ (h : Held). h.list)) (first_named n (entries_of s) (query_in x) there_was)
+
+    pub follows_then : FollowsIfSome w.tables (query_in x) (query_in y) → FollowsAt n now (seen w (entries_of t) waiting compared)
+    follows_then (inl same) = inl (seen_with_list ∙ (ap (λ (q : StoredQuery A). with_list_at n q.list (q.plan).steps old) same ∙ (sym unlisted ∙ view)))
+      where
+        unlisted : old ≡ with_list_at n (query_in x).list ((query_in x).plan).steps old
+        unlisted = as_it_was n old (named n (query_in x)) (first_named n (entries_of s) (query_in x) there_was) session.once
+    follows_then (inr h) = inr (record {
+      before = h.0;
+      list = h.1;
+      steps = steps;
+      was = list_was ∙ h.2;
+      left = seen_with_list ∙ (λ j. with_list_at n (h.3 j) steps (view j));
+      follows = subst (λ (u : Standing). Follows (u.world).tables h.0 h.1) view h.4;
+    })
+
+    found_now : find (λ h. bytes_eq n h.name) (map held_of (entries_of t)) ≡ Some (record (named n (query_in x)) { list = list; steps = steps })
+    found_now = ap (find (λ h. bytes_eq n h.name)) held_then ∙ found_then n list steps old (named n (query_in x)) (first_named n (entries_of s) (query_in x) there_was) refl
+
+    -- one that was brought up to date
+    pub synced_then : {T : Type 0} (r : Result T SessionError) → SyncsList r (query_in x).kind ((query_in x).plan).query w.tables list → OnOk r (IsUpToDateAt (seen w (entries_of t) waiting compared) n)
+    synced_then (Ok r) h = record {
+      query = ((query_in x).plan).query;
+      list = h.1.0;
+      kept = ap (λ u. kept_query u n) (same_then ∙ ap session_of (sym view)) ∙ kept_found old w (entries_of s) waiting compared n refl (query_in x) there_was h.0;
+      there = ap (option_and_then (λ (h : Held). h.list)) found_now ∙ h.1.1;
+      current = h.1.2;
+    }
+    synced_then (Err e) h = tt
+
+    pub refused_then : {T : Type 0} (r : Result T SessionError) → SyncsList r (query_in x).kind ((query_in x).plan).query w.tables list → RefusesKept r (session_of now) n
+    refused_then (Ok r) h = (((query_in x).plan).query, kept_found now w (entries_of s) waiting compared n (sym view) (query_in x) there_was h.0)
+    refused_then (Err (Refused reason)) h = other_kind now w (entries_of s) waiting compared n (sym view) (query_in x) there_was h.0 ∙ ap Err (sym h.1)
+    refused_then (Err Memory) h = (((query_in x).plan).query, kept_found now w (entries_of s) waiting compared n (sym view) (query_in x) there_was h)

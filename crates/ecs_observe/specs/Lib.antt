@@ -4,5 +4,6 @@ pub mod Answers
 pub mod Storing
 pub mod Telling
 pub mod Lists
+pub mod Following
 pub mod Moves
 pub mod Stored

@@ -8,7 +8,7 @@ use Rattle.ecs_observe.specs.declared.stored.StoredQuery.{StoredQuery}
 
 -- a stored query of this name
 abbrev pub held_as : {A : Type 0} → List ℕ → StoredQuery A → Held
-held_as name q = record { name = name; kind = q.kind; query = (q.plan).query; these = (q.these).items }
+held_as name q = record { name = name; kind = q.kind; query = (q.plan).query; these = (q.these).items; list = q.list; steps = (q.plan).steps }
 
 -- a stored query under its name
 abbrev pub held_of : {A : Type 0} → String A × StoredQuery A → Held

@@ -3,8 +3,10 @@ use Rattle.std.specs.Prelude.{◌≡◌, ◌≢◌, ℕ, zero, suc, ◌≤◌, B
 use Rattle.std.specs.List.{list_any}
 use Rattle.std.specs.List.Sorted.{IsStrictlyIncreasing}
 use Rattle.std.specs.Option.{option_map_or}
+use Rattle.query_cache.specs.Kept as cache
 use Rattle.query_model.specs.Local.{is_local}
 use Rattle.query_model.specs.Query.{Query}
+use Rattle.query_meaning.specs.declared.steps.Step.{Step}
 use Rattle.query_meaning.specs.Standing.{IsCurrentIn}
 use Rattle.ecs_model.specs.declared.watches.StoredKind.{StoredKind}
 use Rattle.ecs_model.specs.declared.watches.StoredKind.TheVariants.{Monitor}
@@ -20,12 +22,14 @@ use Rattle.touched_entities.specs.Concerned.{is_concerned}
 use Rattle.watch_meaning.specs.Mentions.{times}
 use Rattle.watch_meaning.specs.Since.{IsAfter, told_since}
 
--- a stored query as it is held: a monitor with the entities of its rows as they were told last, unless its query is local
+-- a stored query as it is held: a monitor with the entities of its rows as they were told last, unless its query is local; a kept query with the list of its tables; and the steps by which its rows are found
 pub record Held : Type 0 where
   pub name : List ℕ
   pub kind : StoredKind
   pub query : Query
   pub these : List ℕ
+  pub list : Option cache.Kept
+  pub steps : List Step
 
 -- a session: its world, the stored queries in the order of making, what was changed by a command whose events wait, and how often the whole rows of a monitor were taken
 pub record Standing : Type 0 where

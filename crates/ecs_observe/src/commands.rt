@@ -6,6 +6,7 @@ ghost use Rattle.ecs_observe.specs.Answers.{AnswersApply, AnswersCommand, obeyed
 ghost use Rattle.ecs_observe.specs.Parts.{held_of};
 ghost use Rattle.ecs_observe.specs.Standing.{session_of};
 ghost use Rattle.ecs_observe.specs.Stored.{IsStored, entries_of};
+ghost use Rattle.table_store.specs.Going.{TablesGoOn};
 
 use crate::queries::StoredQueries;
 use crate::{Session, SessionError};
@@ -16,11 +17,14 @@ use ecs_world::Changes;
 use std::alloc::Allocator;
 
 // Each answers the entity that it made, if it makes one. It is refused as `EventsPending` while events wait, and else as the world refuses it.
+// The lists of kept queries stay, and each fits the tables that the command leaves.
 impl<A: Allocator + Copy> Session<A> {
     /// Makes an entity without a name and without facts, and answers it.
     pub fn fresh(&mut self) -> Result<Option<EntityId>, SessionError>
         ensures answers { AnswersApply result (obeyed (session_of self.old) (Fresh)) self.old self.new }
         ensures compared { (self.new).compared ≡ (self.old).compared }
+        ensures lists { (self.new).stored ≡ (self.old).stored }
+        ensures goes_on { TablesGoOn (self.old).world.tables (self.new).world.tables }
     {
         if self.has_events() {
             return Err(SessionError::Refused(SessionRefusal::EventsPending));
@@ -34,6 +38,8 @@ impl<A: Allocator + Copy> Session<A> {
     pub fn entity(&mut self, name: &str) -> Result<Option<EntityId>, SessionError>
         ensures answers { AnswersApply result (obeyed (session_of self.old) (Entity name.now)) self.old self.new }
         ensures compared { (self.new).compared ≡ (self.old).compared }
+        ensures lists { (self.new).stored ≡ (self.old).stored }
+        ensures goes_on { TablesGoOn (self.old).world.tables (self.new).world.tables }
     {
         if self.has_events() {
             return Err(SessionError::Refused(SessionRefusal::EventsPending));
@@ -51,6 +57,8 @@ impl<A: Allocator + Copy> Session<A> {
     ) -> Result<Option<EntityId>, SessionError>
         ensures answers { AnswersApply result (obeyed (session_of self.old) (Component name.now schema)) self.old self.new }
         ensures compared { (self.new).compared ≡ (self.old).compared }
+        ensures lists { (self.new).stored ≡ (self.old).stored }
+        ensures goes_on { TablesGoOn (self.old).world.tables (self.new).world.tables }
     {
         if self.has_events() {
             return Err(SessionError::Refused(SessionRefusal::EventsPending));
@@ -64,6 +72,8 @@ impl<A: Allocator + Copy> Session<A> {
     pub fn add(&mut self, entity: EntityId, id: Id) -> Result<Option<EntityId>, SessionError>
         ensures answers { AnswersApply result (obeyed (session_of self.old) (Add entity id)) self.old self.new }
         ensures compared { (self.new).compared ≡ (self.old).compared }
+        ensures lists { (self.new).stored ≡ (self.old).stored }
+        ensures goes_on { TablesGoOn (self.old).world.tables (self.new).world.tables }
     {
         if self.has_events() {
             return Err(SessionError::Refused(SessionRefusal::EventsPending));
@@ -82,6 +92,8 @@ impl<A: Allocator + Copy> Session<A> {
     ) -> Result<Option<EntityId>, SessionError>
         ensures answers { AnswersApply result (obeyed (session_of self.old) (SetValue entity id values.now)) self.old self.new }
         ensures compared { (self.new).compared ≡ (self.old).compared }
+        ensures lists { (self.new).stored ≡ (self.old).stored }
+        ensures goes_on { TablesGoOn (self.old).world.tables (self.new).world.tables }
     {
         if self.has_events() {
             return Err(SessionError::Refused(SessionRefusal::EventsPending));
@@ -95,6 +107,8 @@ impl<A: Allocator + Copy> Session<A> {
     pub fn remove(&mut self, entity: EntityId, id: Id) -> Result<Option<EntityId>, SessionError>
         ensures answers { AnswersApply result (obeyed (session_of self.old) (Remove entity id)) self.old self.new }
         ensures compared { (self.new).compared ≡ (self.old).compared }
+        ensures lists { (self.new).stored ≡ (self.old).stored }
+        ensures goes_on { TablesGoOn (self.old).world.tables (self.new).world.tables }
     {
         if self.has_events() {
             return Err(SessionError::Refused(SessionRefusal::EventsPending));
@@ -108,6 +122,8 @@ impl<A: Allocator + Copy> Session<A> {
     pub fn delete(&mut self, entity: EntityId) -> Result<Option<EntityId>, SessionError>
         ensures answers { AnswersApply result (obeyed (session_of self.old) (Delete entity)) self.old self.new }
         ensures compared { (self.new).compared ≡ (self.old).compared }
+        ensures lists { (self.new).stored ≡ (self.old).stored }
+        ensures goes_on { TablesGoOn (self.old).world.tables (self.new).world.tables }
     {
         if self.has_events() {
             return Err(SessionError::Refused(SessionRefusal::EventsPending));

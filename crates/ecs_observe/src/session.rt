@@ -1,8 +1,11 @@
 //! The parts of a session.
 
-ghost use Rattle.std.specs.Prelude.{◌≡◌, IfOk, is_some};
-ghost use Rattle.ecs_model.specs.stored.Session.{first_session};
-ghost use Rattle.ecs_observe.specs.Standing.{session_of};
+ghost use Rattle.std.specs.Prelude.{◌≡◌, ℕ, All, IfOk, List, Ok, is_some};
+ghost use Rattle.ecs_model.specs.stored.Session.{first_session, kept_query};
+ghost use Rattle.ecs_observe.specs.Lists.{HasItsList};
+ghost use Rattle.ecs_observe.specs.Standing.{IsSession, session_of};
+ghost use Rattle.query_meaning.specs.Standing.{IsCurrentIn};
+ghost use Rattle.query_model.specs.Query.{Query};
 
 use crate::queries::StoredQueries;
 use ecs_world::{Changes, World};
@@ -58,6 +61,16 @@ impl<A: Allocator + Copy> Session<A> {
 }
 
 impl<A: Allocator> Session<A> {
+    /// Law: what every session keeps. Its stored queries are current in its world, so that they may be asked; each kept query, and no other, has a list,
+    /// which fits the tables of the world. The call does nothing.
+    pub fn keeps(&self)
+        ensures session { IsSession self.now }
+        ensures lists { All (HasItsList (self.now).world.tables) (self.now).stored }
+        ensures current { (n : List ℕ) (q : Query) → kept_query (session_of self.now) n ≡ Ok q → IsCurrentIn (self.now).world.state q }
+    {
+        let _ = &self.compared;
+    }
+
     /// The world, as the last accepted command left it.
     pub fn world(&self) -> &World<A>
         ensures { result.now ≡ (self.now).world }

@@ -5,6 +5,7 @@ ghost use Rattle.std.specs.List.{list_any};
 ghost use Rattle.std.specs.String.{string_bytes};
 ghost use Rattle.ecs_model.specs.stored.Session.{Drop, Store, apply, most_stored};
 ghost use Rattle.ecs_observe.specs.Answers.{AnswersApply};
+ghost use Rattle.ecs_observe.specs.Following.{ListsOneLess, ListsOneMore};
 ghost use Rattle.ecs_observe.specs.Lists.{HasNewList};
 ghost use Rattle.ecs_observe.specs.Parts.{held_of};
 ghost use Rattle.ecs_observe.specs.Standing.{IsHeld, IsNow, is_compared, session_of};
@@ -37,6 +38,8 @@ impl<A: Allocator + Copy> Session<A> {
     ) -> Result<Option<EntityId>, SessionError>
         ensures answers { AnswersApply result (apply (session_of self.old) (Store kind name.now text.now)) self.old self.new }
         ensures compared { list_any is_compared (self.new).stored ≡ false → (self.new).compared ≡ (self.old).compared }
+        ensures lists { ListsOneMore result name.now self.old self.new }
+        ensures tables { (self.new).world.tables ≡ (self.old).world.tables }
     {
         if let Some(reason) = self.store_refusal(name) {
             return Err(SessionError::Refused(reason));
@@ -53,6 +56,8 @@ impl<A: Allocator + Copy> Session<A> {
     pub fn drop_stored(&mut self, name: &str) -> Result<Option<EntityId>, SessionError>
         ensures answers { AnswersApply result (apply (session_of self.old) (Drop name.now)) self.old self.new }
         ensures compared { (self.new).compared ≡ (self.old).compared }
+        ensures lists { ListsOneLess result name.now self.old self.new }
+        ensures tables { (self.new).world.tables ≡ (self.old).world.tables }
     {
         if self.waiting.is_some() {
             return Err(SessionError::Refused(SessionRefusal::EventsPending));

@@ -5,6 +5,7 @@ ghost use Rattle.std.specs.List.{list_any};
 ghost use Rattle.std.specs.List.Sorted.{IsStrictlyIncreasing};
 ghost use Rattle.std.specs.String.{string_bytes};
 ghost use Rattle.ecs_model.specs.stored.Session.{after_events, events};
+ghost use Rattle.ecs_observe.specs.Following.{lists_of};
 ghost use Rattle.ecs_observe.specs.Lists.{KeepLists};
 ghost use Rattle.ecs_observe.specs.Parts.{held_as, held_of, placed_in, put_in};
 ghost use Rattle.ecs_observe.specs.Standing.{ArePlaced, IsHeld, WasNow, has_searched, is_compared, is_monitor, is_searched, is_told_locally, rows_put, session_of, told_to, with_placed};
@@ -38,6 +39,8 @@ impl<A: Allocator + Copy> Session<A> {
         ensures refused { OnErr result (self.new ≡ self.old) }
         ensures compared { list_any is_compared (self.old).stored ≡ false → (self.new).compared ≡ (self.old).compared }
         ensures spared { has_searched self.old ≡ false → (self.new).compared ≡ (self.old).compared }
+        ensures lists { lists_of self.new ≡ lists_of self.old }
+        ensures world { (self.new).world ≡ (self.old).world }
     {
         let mut events = Vec::new(self.alloc);
         let mut rows = Vec::new(self.alloc);

@@ -6,6 +6,7 @@ use Rattle.query_plan.specs.Plans.{Plan}
 use Rattle.world_facts.specs.Kept.{AreTablesOf}
 use Rattle.world_query.specs.Answerable.{IsAnswerable}
 use Rattle.ecs_observe.proofs.Answering.{asked_is_sound, current_answerable}
+use Rattle.ecs_observe.proofs.Synced.{follows_again}
 use Rattle.ecs_observe.proofs.kept.write_listed_rows.Goals as goal
 
 pub plan_if_outgrown-requires-clause-sound : goal.plan_if_outgrown-requires-clause-sound
@@ -31,3 +32,11 @@ write_rows_in-requires-clause-tables g c =
     subst (λ (x : Query). AreTablesOf x (c.args.world.now).tables c.tables.result.now) (sym (ap (λ (p : Plan). p.query) c.plan-2.ensures ∙ c.plan_if_outgrown.ensures.query))
     (subst (AreTablesOf q (c.args.world.now).tables) (sym c.tables.ensures)
     (record { listed = c.in_ok-sync.ensures.listed q c.plan_if_outgrown.ensures.list.patterns; rising = c.sync.ensures.once }))
+
+pub returns-in_err-sync-clause-follows : goal.returns-in_err-sync-clause-follows
+returns-in_err-sync-clause-follows g c =
+    follows_again c.args.world.now.tables c.args.list.now c.plan_if_outgrown.new.list c.sync.new.self c.sync.result c.sync.ensures.patterns c.sync.ensures.judged c.sync.ensures.again c.plan_if_outgrown.ensures.follows c.in_ok-plan_if_outgrown.ensures.synced
+
+pub returns-clause-follows : goal.returns-clause-follows
+returns-clause-follows g c =
+    follows_again c.args.world.now.tables c.args.list.now c.plan_if_outgrown.new.list c.sync.new.self c.sync.result c.sync.ensures.patterns c.sync.ensures.judged c.sync.ensures.again c.plan_if_outgrown.ensures.follows c.in_ok-plan_if_outgrown.ensures.synced

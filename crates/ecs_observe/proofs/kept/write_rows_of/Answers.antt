@@ -1,5 +1,5 @@
 use Rattle.std.specs.Prelude.{is_some}
-use Rattle.std.proofs.Common.{ap, refl, subst, sym, ◌∙◌}
+use Rattle.std.proofs.Common.{ap, inl, inr, refl, subst, sym, ◌∙◌}
 use Rattle.query_model.specs.Query.{Query}
 use Rattle.ecs_observe.specs.Lists.{IsListOf}
 use Rattle.ecs_observe.proofs.Listed.{its_list, kept_kind, not_kept}
@@ -25,3 +25,12 @@ returns-clause-list g c = record {
   kept = sym (ap is_some c.in-Some.is) ∙ c.requires.list.kept;
   list = subst (λ (x : Query). IsListOf x c.args.world.now.tables c.write_listed_rows.new.list) (sym c.write_listed_rows.ensures.query) c.write_listed_rows.ensures.list;
 }
+
+pub returns-in_default-clause-follows : goal.returns-in_default-clause-follows
+returns-in_default-clause-follows g c = inl refl
+
+pub returns-in_err-write_listed_rows-clause-follows : goal.returns-in_err-write_listed_rows-clause-follows
+returns-in_err-write_listed_rows-clause-follows g c = inr (c.in-Some.list, c.write_listed_rows.new.list, c.in-Some.is, refl, c.write_listed_rows.ensures.follows)
+
+pub returns-clause-follows : goal.returns-clause-follows
+returns-clause-follows g c = inr (c.in-Some.list, c.write_listed_rows.new.list, c.in-Some.is, refl, c.write_listed_rows.ensures.follows)

@@ -24,7 +24,8 @@ returns-then-place-len-clause-held g c =
     let here = here_as bs i x low c.index_mut.ensures.value in
     let kind = c.keep.ensures.kind ∙ ap (λ (m : Named (Watcher (StoredQuery g.row.A.Denot) g.row.A.Denot) g.row.A.Denot). (m.value.value).kind) is in
     let query = ap (λ p. p.query) c.keep.ensures.plan ∙ ap (λ (m : Named (Watcher (StoredQuery g.row.A.Denot) g.row.A.Denot) g.row.A.Denot). ((m.value.value).plan).query) is in
-    kept_held bs i x low here y c.args.these.items (ap (λ (m : Named (Watcher (StoredQuery g.row.A.Denot) g.row.A.Denot) g.row.A.Denot). m.name) is) kind query c.keep.ensures.these
+    kept_held bs i x low here y c.args.these.items (ap (λ (m : Named (Watcher (StoredQuery g.row.A.Denot) g.row.A.Denot) g.row.A.Denot). m.name) is) kind query c.keep.ensures.these (c.keep.ensures.list ∙ ap (λ (m : Named (Watcher (StoredQuery g.row.A.Denot) g.row.A.Denot) g.row.A.Denot). (m.value.value).list) is)
+    (ap (λ p. p.steps) c.keep.ensures.plan ∙ ap (λ (m : Named (Watcher (StoredQuery g.row.A.Denot) g.row.A.Denot) g.row.A.Denot). ((m.value.value).plan).steps) is)
 
 pub returns-then-place-len-clause-lists : goal.returns-then-place-len-clause-lists
 returns-then-place-len-clause-lists g c =

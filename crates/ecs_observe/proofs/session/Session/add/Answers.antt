@@ -1,7 +1,10 @@
+use Rattle.std.proofs.Common.{subst}
 use Rattle.ecs_model.specs.traits.Command.{Add}
 use Rattle.ecs_observe.proofs.Listed.{lists_later}
 use Rattle.ecs_observe.proofs.Obeyed.{answer_left, pending_now, session_left}
+use Rattle.ecs_observe.specs.Standing.{Standing}
 use Rattle.ecs_observe.specs.Stored.{entries_of}
+use Rattle.table_store.specs.Going.{goes_on_same, TablesGoOn}
 use Rattle.ecs_observe.proofs.session.Session.add.Goals as goal
 
 pub returns-then-has_events-clause-answers : goal.returns-then-has_events-clause-answers
@@ -17,3 +20,9 @@ invariant_of-self g c = (
 pub returns-clause-answers : goal.returns-clause-answers
 returns-clause-answers g c =
     answer_left _ c.args.self.now c.self.view_is c.has_events.result c.has_events.ensures c.self.invariant.0 c.if-has_events.false c.add-done.new.self (Add c.args.entity c.args.id) c.keeps.ensures c.add-done.result c.answer.result c.answer.new.waiting c.add-done.ensures.answers c.answer.ensures
+
+pub returns-then-has_events-clause-goes_on : goal.returns-then-has_events-clause-goes_on
+returns-then-has_events-clause-goes_on g c = goes_on_same c.args.self.now.world.tables
+
+pub returns-clause-goes_on : goal.returns-clause-goes_on
+returns-clause-goes_on g c = subst (λ (s : Standing). TablesGoOn (s.world).tables c.add-done.new.self.tables) c.self.view_is c.add-done.ensures.goes_on

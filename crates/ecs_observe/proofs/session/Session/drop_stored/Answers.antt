@@ -1,17 +1,19 @@
 -- The stored query of the name is taken out and counted once less, or there is none.
 use Rattle.std.proofs.Common.{◌≡◌, false, true, refl, sym, ap, subst, ◌∙◌}
-use Rattle.std.specs.Prelude.{is_some}
+use Rattle.std.specs.Prelude.{ℕ, List, Option, bytes_eq, filter, is_some, not}
 use Rattle.ecs_model.specs.stored.Session.{unpinned_by, without_stored}
+use Rattle.query_cache.specs.Kept.{Kept}
 use Rattle.query_model.specs.Query.{Query}
 use Rattle.name_order.specs.declared.order.Named.{Named}
 use Rattle.watch_order.specs.declared.watching.Watcher.{Watcher}
 use Rattle.ecs_observe.specs.declared.stored.StoredQuery.{StoredQuery}
+use Rattle.ecs_observe.specs.Following.{lists_of}
 use Rattle.ecs_observe.specs.Lists.{HaveLists}
 use Rattle.ecs_observe.specs.Standing.{Standing, session_of, stored_of}
 use Rattle.ecs_observe.proofs.Found.{named, none_found, some_found, waits}
 use Rattle.ecs_observe.proofs.KeptFound.{stored_there}
 use Rattle.ecs_observe.proofs.Listed.{lists_less}
-use Rattle.ecs_observe.proofs.OneLess.{one_less_seen, without_seen}
+use Rattle.ecs_observe.proofs.OneLess.{lists_left, one_less_seen, without_seen}
 use Rattle.ecs_observe.proofs.OneMore.{same_seen}
 use Rattle.ecs_observe.proofs.Orders.{drop_done, drop_pending, drop_unknown, none_there}
 use Rattle.ecs_observe.specs.Stored.{entries_of}
@@ -60,3 +62,20 @@ returns-clause-answers g c =
     (c.unpin_all.ensures.state ∙ ap (unpinned_by c.self.inside.world.state) (c.mentions.ensures ∙ ap (λ (q : Query). q.mentions) (c.query.ensures ∙ ap queried c.deref.ensures)))
     c.in-Some.ensures.entries (none_there c.self.inside.waiting idle)
     ∙ ap (λ (s : Standing). without_stored (session_of s) (stored_of (named c.args.name.now (c.in-Some.dropped.value).value.value))) c.self.view_is)
+
+pub returns-in_default-clause-lists : goal.returns-in_default-clause-lists
+returns-in_default-clause-lists g c =
+    ap lists_of
+    (same_seen c.self.inside.world c.self.inside.world (entries_of c.self.inside.stored) (entries_of c.remove.new.self) c.self.inside.waiting c.self.inside.compared refl refl (ap entries_of c.in_default.ensures.none) ∙ c.self.view_is)
+
+pub returns-clause-lists : goal.returns-clause-lists
+returns-clause-lists g c =
+    let idle : is_some c.self.inside.waiting ≡ false = sym c.is_some.ensures ∙ c.if-is_some.false in
+    lists_left c.args.name.now c.self.inside.world c.unpin_all.new.world (entries_of c.self.inside.stored) (entries_of c.remove.new.self) c.self.inside.waiting c.self.inside.compared c.self.invariant.0
+    (c.in-Some.dropped.value).value.value (sym c.in-Some.ensures.value)
+    (c.unpin_all.ensures.state ∙ ap (unpinned_by c.self.inside.world.state) (c.mentions.ensures ∙ ap (λ (q : Query). q.mentions) (c.query.ensures ∙ ap queried c.deref.ensures)))
+    c.in-Some.ensures.entries (none_there c.self.inside.waiting idle)
+    ∙ ap (λ (s : Standing). filter (λ (p : List ℕ × Option Kept). not (bytes_eq c.args.name.now p.0)) (lists_of s)) c.self.view_is
+
+pub returns-clause-tables : goal.returns-clause-tables
+returns-clause-tables g c = c.unpin_all.ensures.tables ∙ ap (λ (s : Standing). (s.world).tables) c.self.view_is

@@ -3,7 +3,7 @@ use Rattle.std.specs.List.{list_any}
 use Rattle.std.specs.Prelude.{IfSome}
 use Rattle.ecs_observe.specs.Parts.{held_of, placed_in}
 use Rattle.ecs_observe.specs.Standing.{Standing, WasNow, is_compared}
-use Rattle.ecs_observe.proofs.Retold.{none_for, none_waits_after, none_waits_told, put_told, retold_after, retold_session, told_waits}
+use Rattle.ecs_observe.proofs.Retold.{none_for, none_waits_after, none_waits_told, put_told, retold_after, retold_lists, retold_session, told_waits}
 use Rattle.ecs_observe.proofs.Staying.{none_searched}
 use Rattle.ecs_observe.specs.Stored.{entries_of}
 use Rattle.ecs_observe.proofs.session.Session.events.Goals as goal
@@ -45,3 +45,9 @@ returns-clause-compared g c = λ none.
 pub returns-clause-spared : goal.returns-clause-spared
 returns-clause-spared g c = λ none.
     c.in_ok-tell_led.ensures.compared (none_for _ c.args.self.now c.self.view_is c.in-Some.changes c.in-Some.is none) ∙ ap (λ (s : Standing). s.compared) c.self.view_is
+
+pub returns-clause-lists : goal.returns-clause-lists
+returns-clause-lists g c =
+    retold_lists _ c.args.self.now c.self.view_is _
+    (put_told _ c.self.invariant.0 c.keeps.ensures c.in-Some.changes c.in-Some.is (placed_in c.tell_led.new.rows.items) _ c.in_ok-tell_led.ensures.rows c.put_rows.ensures.held)
+    c.tell_led.new.compared

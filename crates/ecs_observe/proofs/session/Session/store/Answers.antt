@@ -1,10 +1,12 @@
 -- What is against a new stored query is told, and else it is held.
-use Rattle.std.proofs.Common.{◌≡◌, ◌≢◌, All, None, Ok, Err, refl, sym, ap, subst, ◌∙◌}
+use Rattle.std.proofs.Common.{◌≡◌, ◌++◌, [], ◌∷◌, ◌≢◌, All, None, Ok, Err, refl, sym, ap, subst, ◌∙◌}
+use Rattle.std.proofs.lemmas.List.{map-append}
 use Rattle.std.proofs.lemmas.Result.{err_from_is_err_and}
 use Rattle.std.specs.Prelude.{◌&&◌, not}
 use Rattle.std.specs.List.{list_any}
 use Rattle.ecs_model.specs.Query.{query_of}
 use Rattle.query_model.specs.Local.{is_local}
+use Rattle.ecs_observe.specs.Following.{lists_of}
 use Rattle.ecs_observe.specs.Parts.{held_of}
 use Rattle.ecs_observe.specs.Standing.{Held, IsHeld, IsNow, Standing, is_compared, is_monitor, session_of}
 use Rattle.ecs_observe.specs.Storing.{AnswersWatched}
@@ -69,3 +71,15 @@ returns-clause-compared g c = λ none.
     let last = last_isnt (c.args.self.now).stored h (ap (λ (s : Standing). list_any is_compared s.stored) (sym c.in_ok-hold.ensures.held) ∙ none) in
     let one = sym (λ i. is_monitor (c.in_ok-stored.ensures.kind i) && not (is_local (c.in_ok-stored.ensures.query i))) ∙ last in
     ap (λ (s : Standing). s.compared) c.in_ok-hold.ensures.held ∙ (c.stored_query.ensures.compared one ∙ ap (λ (s : Standing). s.compared) c.self.view_is)
+
+pub returns-clause-lists : goal.returns-clause-lists
+returns-clause-lists g c =
+    let h = held_of (c.in_ok-name.name, c.in_ok-stored.stored) in (
+      h.list,
+      ap lists_of c.in_ok-hold.ensures.held
+          ∙ (map-append (λ (x : Held). (x.name, x.list)) (c.args.self.now).stored (h ∷ []) ∙ ap (λ n. lists_of c.args.self.now ++ (n, h.list) ∷ []) c.in_ok-name.ensures.ok),
+      c.in_ok-stored.ensures.blank,
+    )
+
+pub returns-clause-tables : goal.returns-clause-tables
+returns-clause-tables g c = ap (λ (s : Standing). (s.world).tables) c.in_ok-hold.ensures.held

@@ -2,10 +2,11 @@
 use Rattle.std.specs.Prelude.{option_map}
 use Rattle.std.specs.Box.{with_value}
 use Rattle.std.specs.Vec.{with_item}
-use Rattle.std.proofs.Common.{Some, ap, refl, subst, sym, ◌∙◌}
+use Rattle.std.proofs.Common.{Some, ap, inl, refl, subst, sym, ◌∙◌}
 use Rattle.name_order.specs.declared.order.Named.{Named}
 use Rattle.watch_order.specs.Watched.{Boxed}
 use Rattle.watch_order.specs.declared.watching.Watcher.{Watcher}
+use Rattle.ecs_observe.specs.Following.{FollowsIfSome}
 use Rattle.ecs_observe.specs.Lists.{HasList}
 use Rattle.ecs_observe.specs.Standing.{IsHeld}
 use Rattle.ecs_observe.specs.Stored.{entries_of, made_of}
@@ -14,7 +15,7 @@ use Rattle.ecs_observe.specs.declared.stored.StoredQuery.{StoredQuery}
 use Rattle.ecs_observe.proofs.Entries.{look_stored, stored_in}
 use Rattle.ecs_observe.proofs.Found.{holds_of_found}
 use Rattle.ecs_observe.proofs.KeptFound.{none_kept, rows_answered}
-use Rattle.ecs_observe.proofs.Rewritten.{here_as, list_there, query_in, still_lists, still_seen, still_session}
+use Rattle.ecs_observe.proofs.Rewritten.{follows_then, here_as, list_there, query_in, rewritten_session, same_then, still_lists}
 use Rattle.ecs_observe.proofs.Watches.{still_stored}
 use Rattle.ecs_observe.proofs.session.Session.write_kept_rows.Goals as goal
 
@@ -24,6 +25,9 @@ returns-in_default-clause-rows g c = (
       (look_stored c.args.name.now (made_of c.self.inside.stored) ∙ ap (option_map stored_in) c.in_default.ensures),
   refl,
 )
+
+pub returns-in_default-clause-lists : goal.returns-in_default-clause-lists
+returns-in_default-clause-lists g c = inl refl
 
 pub write_rows_of-requires-clause-current : goal.write_rows_of-requires-clause-current
 write_rows_of-requires-clause-current g c =
@@ -59,11 +63,12 @@ invariant_of-self g c =
     let kind = c.write_rows_of.ensures.kind ∙ ap (λ (m : Named (Watcher (StoredQuery g.row.A.Denot) g.row.A.Denot) g.row.A.Denot). (m.value.value).kind) is in
     let query = c.write_rows_of.ensures.query ∙ ap (λ (m : Named (Watcher (StoredQuery g.row.A.Denot) g.row.A.Denot) g.row.A.Denot). ((m.value.value).plan).query) is in
     let these = c.write_rows_of.ensures.these ∙ ap (λ (m : Named (Watcher (StoredQuery g.row.A.Denot) g.row.A.Denot) g.row.A.Denot). (m.value.value).these) is in
+    let name = ap (λ (m : Named (Watcher (StoredQuery g.row.A.Denot) g.row.A.Denot) g.row.A.Denot). m.name) is in
     let s = c.self.inside.stored in
     let t : StoredQueries g.row.A.Denot = record { all = record { order = record { made = with_item s.all.order.made i y; numbers = s.all.order.numbers }; index = s.all.index }; watches = s.watches } in (
-      still_session c.self.inside.world s t c.self.inside.waiting c.self.inside.compared i x y here refl (ap (λ (m : Named (Watcher (StoredQuery g.row.A.Denot) g.row.A.Denot) g.row.A.Denot). m.name) is) kind query these c.self.invariant.0,
-      still_lists c.self.inside.world s t c.self.inside.waiting c.self.inside.compared i x y here refl (ap (λ (m : Named (Watcher (StoredQuery g.row.A.Denot) g.row.A.Denot) g.row.A.Denot). m.name) is) kind query these c.write_rows_of.ensures.list c.self.invariant.1,
-      still_stored s t i x y low here (ap (λ (m : Named (Watcher (StoredQuery g.row.A.Denot) g.row.A.Denot) g.row.A.Denot). m.name) is) (ap (λ (m : Named (Watcher (StoredQuery g.row.A.Denot) g.row.A.Denot) g.row.A.Denot). m.number) is) (ap (λ (m : Named (Watcher (StoredQuery g.row.A.Denot) g.row.A.Denot) g.row.A.Denot). (m.value).occasions.items) is) kind query refl refl refl refl c.self.invariant.2,
+      rewritten_session c.args.name.now c.self.inside.world s t c.self.inside.waiting c.self.inside.compared i x y c.in-Some.ensures here refl name kind query these c.self.invariant.0,
+      still_lists c.args.name.now c.self.inside.world s t c.self.inside.waiting c.self.inside.compared i x y c.in-Some.ensures here refl name kind query these c.self.invariant.0 c.write_rows_of.ensures.list c.self.invariant.1,
+      still_stored s t i x y low here name (ap (λ (m : Named (Watcher (StoredQuery g.row.A.Denot) g.row.A.Denot) g.row.A.Denot). m.number) is) (ap (λ (m : Named (Watcher (StoredQuery g.row.A.Denot) g.row.A.Denot) g.row.A.Denot). (m.value).occasions.items) is) kind query refl refl refl refl c.self.invariant.2,
     )
 
 pub returns-clause-rows : goal.returns-clause-rows
@@ -91,6 +96,25 @@ returns-clause-same g c =
     let kind = c.write_rows_of.ensures.kind ∙ ap (λ (m : Named (Watcher (StoredQuery g.row.A.Denot) g.row.A.Denot) g.row.A.Denot). (m.value.value).kind) is in
     let query = c.write_rows_of.ensures.query ∙ ap (λ (m : Named (Watcher (StoredQuery g.row.A.Denot) g.row.A.Denot) g.row.A.Denot). ((m.value.value).plan).query) is in
     let these = c.write_rows_of.ensures.these ∙ ap (λ (m : Named (Watcher (StoredQuery g.row.A.Denot) g.row.A.Denot) g.row.A.Denot). (m.value.value).these) is in
+    let name = ap (λ (m : Named (Watcher (StoredQuery g.row.A.Denot) g.row.A.Denot) g.row.A.Denot). m.name) is in
     let s = c.self.inside.stored in
     let t : StoredQueries g.row.A.Denot = record { all = record { order = record { made = with_item s.all.order.made i y; numbers = s.all.order.numbers }; index = s.all.index }; watches = s.watches } in
-    still_seen c.self.inside.world s t c.self.inside.waiting c.self.inside.compared i x y here refl (ap (λ (m : Named (Watcher (StoredQuery g.row.A.Denot) g.row.A.Denot) g.row.A.Denot). m.name) is) kind query these ∙ c.self.view_is
+    same_then c.args.name.now c.self.inside.world s t c.self.inside.waiting c.self.inside.compared i x y c.in-Some.ensures here refl name kind query these c.self.invariant.0 c.args.self.now c.self.view_is
+
+pub returns-clause-lists : goal.returns-clause-lists
+returns-clause-lists g c =
+    let bs = made_of c.self.inside.stored in
+    let i = c.in-Some.place in
+    let x = c.index_mut-made.result.now in
+    let is = c.deref_mut.ensures.value in
+    let low = c.in-Some.ensures.0 in
+    let here = here_as bs i x low c.index_mut-made.ensures.value in
+    let y : Boxed (StoredQuery g.row.A.Denot) g.row.A.Denot = with_value x (record { number = c.deref_mut.result.now.number; name = c.deref_mut.result.now.name; value = record { occasions = c.deref_mut.result.now.value.occasions; value = c.write_rows_of.new.query } }) in
+    let kind = c.write_rows_of.ensures.kind ∙ ap (λ (m : Named (Watcher (StoredQuery g.row.A.Denot) g.row.A.Denot) g.row.A.Denot). (m.value.value).kind) is in
+    let query = c.write_rows_of.ensures.query ∙ ap (λ (m : Named (Watcher (StoredQuery g.row.A.Denot) g.row.A.Denot) g.row.A.Denot). ((m.value.value).plan).query) is in
+    let these = c.write_rows_of.ensures.these ∙ ap (λ (m : Named (Watcher (StoredQuery g.row.A.Denot) g.row.A.Denot) g.row.A.Denot). (m.value.value).these) is in
+    let name = ap (λ (m : Named (Watcher (StoredQuery g.row.A.Denot) g.row.A.Denot) g.row.A.Denot). m.name) is in
+    let s = c.self.inside.stored in
+    let t : StoredQueries g.row.A.Denot = record { all = record { order = record { made = with_item s.all.order.made i y; numbers = s.all.order.numbers }; index = s.all.index }; watches = s.watches } in
+    follows_then c.args.name.now c.self.inside.world s t c.self.inside.waiting c.self.inside.compared i x y c.in-Some.ensures here refl name kind query these c.self.invariant.0 c.args.self.now c.self.view_is
+    (subst (λ (m : Named (Watcher (StoredQuery g.row.A.Denot) g.row.A.Denot) g.row.A.Denot). FollowsIfSome c.self.inside.world.tables (m.value.value) c.write_rows_of.new.query) is c.write_rows_of.ensures.follows)

@@ -1,0 +1,108 @@
+-- What becomes of the lists of kept queries.
+use Rattle.std.specs.Prelude.{◌≡◌, ◌≢◌, ◌⊎◌, ℕ, ◌≤◌, not, List, [], ◌∷◌, ◌++◌, filter, length, map, bytes_eq, Option, Some, IfSome, option_and_then, Result, Ok, Err, if◌then◌else◌}
+use Rattle.std.specs.List.{find}
+use Rattle.ecs_id.specs.declared.TableKey.{TableKey}
+use Rattle.ecs_model.specs.declared.faults.SessionRefusal.TheVariants.{UnknownQuery}
+use Rattle.ecs_model.specs.declared.watches.StoredKind.{StoredKind}
+use Rattle.ecs_model.specs.declared.watches.StoredKind.TheVariants as kind
+use Rattle.ecs_model.specs.stored.Session.{SessionState, kept_query}
+use Rattle.query_cache.specs.Kept.{AreAbove, Counts, IsSynced, Kept}
+use Rattle.query_meaning.specs.declared.steps.Step.{Step}
+use Rattle.query_model.specs.Query.{Query}
+use Rattle.table_store.specs.Store.{Store}
+use Rattle.world_facts.specs.Kept.{AreTablesOf}
+use Rattle.ecs_observe.specs.Standing.{Held, Standing, session_of}
+use Rattle.ecs_observe.specs.declared.errors.SessionError.{SessionError}
+use Rattle.ecs_observe.specs.declared.errors.SessionError.TheVariants.{Refused, Memory}
+use Rattle.ecs_observe.specs.declared.stored.StoredQuery.{StoredQuery}
+
+-- ---- one list
+
+-- of the tables that stand and came since the last sync some were judged, each once at most
+pub record JudgesNew (s : Store) (before after : Kept) : Type 0 where
+  pub above : List TableKey
+  pub are_above : AreAbove s before.last above
+  pub count : ℕ
+  pub at_most : count ≤ length above
+  pub counted : Counts before.judged count after.judged
+
+-- a list has followed the tables: it is still that of its query, and it was left as it was, or no table was judged but those that came since the last sync
+pub record Follows (s : Store) (before after : Kept) : Type 0 where
+  pub patterns : after.patterns ≡ before.patterns
+  pub judged : (after ≡ before) ⊎ JudgesNew s before after
+
+-- the same of a stored query, where it has a list; else it was left as it was
+abbrev pub FollowsIfSome : {A : Type 0} → Store → StoredQuery A → StoredQuery A → Type 0
+FollowsIfSome s before after = (after ≡ before) ⊎ ((b : Kept) × (a : Kept) × (before.list ≡ Some b) × (after.list ≡ Some a) × Follows s b a)
+
+-- it is exactly the tables of the query, and none has come since its last sync
+pub record IsUpToDate (q : Query) (s : Store) (list : Kept) : Type 0 where
+  pub synced : IsSynced list s
+  pub tables : AreTablesOf q s list.keys
+
+-- the list of a query of a kind was brought up to date, or it is no kept one
+abbrev pub SyncsList : {T : Type 0} → Result T SessionError → StoredKind → Query → Store → Option Kept → Type 0
+SyncsList (Ok _) k q s list = (k ≡ kind.Kept) × ((l : Kept) × (list ≡ Some l) × IsUpToDate q s l)
+SyncsList (Err (Refused reason)) k q s list = (k ≢ kind.Kept) × (reason ≡ UnknownQuery)
+SyncsList (Err Memory) k q s list = k ≡ kind.Kept
+
+-- a list of no table yet, which never judged any
+pub record IsBlank (list : Kept) : Type 0 where
+  pub keys : list.keys ≡ []
+  pub last : list.last ≡ 0
+  pub judged : list.judged ≡ 0
+
+-- ---- those of a session
+
+-- the list of the kept query of a name
+abbrev pub list_at : Standing → List ℕ → Option Kept
+list_at s n = option_and_then (λ h. h.list) (find (λ h. bytes_eq n h.name) s.stored)
+
+-- a stored query, with this list and these steps if it has the name
+abbrev pub with_list : List ℕ → Option Kept → List Step → Held → Held
+with_list n list steps h = record h { list = if bytes_eq n h.name then list else h.list; steps = if bytes_eq n h.name then steps else h.steps }
+
+-- a session whose stored query of a name has them
+abbrev pub with_list_at : List ℕ → Option Kept → List Step → Standing → Standing
+with_list_at n list steps s = record s { stored = map (with_list n list steps) s.stored }
+
+-- nothing of a session is another but of one stored query, of this name: the steps by which its rows are found, and the list, which has followed the tables
+pub record FollowsOne (n : List ℕ) (old new : Standing) : Type 0 where
+  pub before : Kept
+  pub list : Kept
+  pub steps : List Step
+  pub was : list_at old n ≡ Some before
+  pub left : new ≡ with_list_at n (Some list) steps old
+  pub follows : Follows (old.world).tables before list
+
+-- and maybe not even that
+abbrev pub FollowsAt : List ℕ → Standing → Standing → Type 0
+FollowsAt n old new = (new ≡ old) ⊎ FollowsOne n old new
+
+-- the list of the kept query of a name is up to date
+pub record IsUpToDateAt (s : Standing) (n : List ℕ) : Type 0 where
+  pub query : Query
+  pub list : Kept
+  pub kept : kept_query (session_of s) n ≡ Ok query
+  pub there : list_at s n ≡ Some list
+  pub current : IsUpToDate query (s.world).tables list
+
+-- a call for a kept query is refused exactly where there is none of the name, and memory only where there is one
+abbrev pub RefusesKept : {T : Type 0} → Result T SessionError → SessionState → List ℕ → Type 0
+RefusesKept (Ok _) s n = (q : Query) × (kept_query s n ≡ Ok q)
+RefusesKept (Err (Refused reason)) s n = kept_query s n ≡ Err reason
+RefusesKept (Err Memory) s n = (q : Query) × (kept_query s n ≡ Ok q)
+
+-- each stored query by its name, with its list if it is a kept one
+abbrev pub lists_of : Standing → List (List ℕ × Option Kept)
+lists_of s = map (λ h. (h.name, h.list)) s.stored
+
+-- a new stored query has a blank list, if it has one, and those of the others stay; a refusal leaves all
+abbrev pub ListsOneMore : {T E : Type 0} → Result T E → List ℕ → Standing → Standing → Type 0
+ListsOneMore (Ok _) n old new = (list : Option Kept) × (lists_of new ≡ lists_of old ++ (n, list) ∷ []) × IfSome list IsBlank
+ListsOneMore (Err _) n old new = lists_of new ≡ lists_of old
+
+-- the end of a stored query is that of its list, and those of the others stay; a refusal leaves all
+abbrev pub ListsOneLess : {T E : Type 0} → Result T E → List ℕ → Standing → Standing → Type 0
+ListsOneLess (Ok _) n old new = lists_of new ≡ filter (λ p. not (bytes_eq n p.0)) (lists_of old)
+ListsOneLess (Err _) n old new = lists_of new ≡ lists_of old
