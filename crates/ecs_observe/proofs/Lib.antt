@@ -10,6 +10,7 @@ pub mod Obeyed
 pub mod OneLess
 pub mod OneListed
 pub mod OneMore
+pub mod Ordered
 pub mod Orders
 pub mod Pinned
 pub mod Staying

@@ -5,5 +5,6 @@ pub mod Storing
 pub mod Telling
 pub mod Lists
 pub mod Following
+pub mod Commands
 pub mod Moves
 pub mod Stored

@@ -4,6 +4,7 @@
 //! told them.
 #![tactic(auto)]
 
+mod applying;
 mod asking;
 mod commands;
 mod errors;
@@ -11,12 +12,15 @@ mod kept;
 mod moves;
 mod pinning;
 mod queries;
+mod references;
 mod session;
 mod stored;
 mod storing;
 mod telling;
 mod watched;
 
+pub use applying::{Answer, Command};
 pub use errors::SessionError;
+pub use references::{EntityRef, IdRef};
 pub use session::Session;
 pub use world_events::{Event, write_event};

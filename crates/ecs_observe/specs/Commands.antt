@@ -1,0 +1,74 @@
+-- The commands of a session, as the definitions have them.
+use Rattle.std.specs.Prelude.{◌≡◌, Option, Some, None, Result, Ok, Err}
+use Rattle.ecs_id.specs.declared.EntityId.{EntityId}
+use Rattle.ecs_id.specs.Id.{Id}
+use Rattle.ecs_model.specs.declared.faults.Refusal.{Refusal}
+use Rattle.ecs_model.specs.declared.faults.SessionRefusal.{SessionRefusal}
+use Rattle.ecs_model.specs.Orders.{by_name, by_handle, plain_of, pair_of, MakeFresh, MakeEntity, MakeComponent, AddTo, SetIn, RemoveFrom, DeleteOne, Order, command_of, with_both}
+use Rattle.ecs_model.specs.Orders as orders
+use Rattle.ecs_model.specs.World.{WorldState}
+use Rattle.ecs_model.specs.stored.Session.{InWorld, SessionOrder, SessionState, apply}
+use Rattle.ecs_model.specs.stored.Session as session
+use Rattle.ecs_model.specs.traits.Command as world
+use Rattle.ecs_observe.specs.Answers.{obeyed}
+use Rattle.ecs_observe.specs.Following.{ListsOneLess, ListsOneMore}
+use Rattle.ecs_observe.specs.Standing.{Standing}
+use Rattle.ecs_observe.specs.declared.errors.SessionError.{SessionError}
+use Rattle.ecs_observe.specs.declared.applying.Answer.{Answer}
+use Rattle.ecs_observe.specs.declared.applying.Answer.TheVariants.{Born, Done}
+use Rattle.ecs_observe.specs.declared.applying.Command.{Command}
+use Rattle.ecs_observe.specs.declared.applying.Command.TheVariants.{New, Entity, Component, Add, Set, Remove, Delete, Store, Drop}
+use Rattle.ecs_observe.specs.declared.references.EntityRef.{EntityRef}
+use Rattle.ecs_observe.specs.declared.references.EntityRef.TheVariants.{Name, Handle}
+use Rattle.ecs_observe.specs.declared.references.IdRef.{IdRef}
+use Rattle.ecs_observe.specs.declared.references.IdRef.TheVariants.{Plain, Pair}
+
+abbrev pub seen_entity : EntityRef → orders.EntityRef
+seen_entity (Name name) = by_name name.now
+seen_entity (Handle e) = by_handle e.index e.generation
+
+abbrev pub seen_id : IdRef → orders.IdRef
+seen_id (Plain r) = plain_of (seen_entity r)
+seen_id (Pair r t) = pair_of (seen_entity r) (seen_entity t)
+
+-- the command of the definitions
+abbrev pub order_of : {A : Type 0} → Command A → SessionOrder
+order_of New = InWorld MakeFresh
+order_of (Entity name) = InWorld (MakeEntity name.now)
+order_of (Component name schema) = InWorld (MakeComponent name.now schema)
+order_of (Add entity id) = InWorld (AddTo (seen_entity entity) (seen_id id))
+order_of (Set entity id values) = InWorld (SetIn (seen_entity entity) (seen_id id) values.now)
+order_of (Remove entity id) = InWorld (RemoveFrom (seen_entity entity) (seen_id id))
+order_of (Delete entity) = InWorld (DeleteOne (seen_entity entity))
+order_of (Store kind name text) = session.Store kind name.now text.now
+order_of (Drop name) = session.Drop name.now
+
+-- the entity that was born
+abbrev pub born_of : Answer → Option EntityId
+born_of (Born e) = Some e
+born_of Done = None
+
+abbrev pub answered : Result Answer SessionError → Result (Option EntityId) SessionError
+answered (Ok answer) = Ok (born_of answer)
+answered (Err error) = Err error
+
+-- the entity and the id of references were found, or not: so for each command of an entity and an id
+abbrev pub FindsBoth : WorldState → orders.EntityRef → orders.IdRef → Result (EntityId × Id) Refusal → Type 0
+FindsBoth w entity id (Err reason) = (f : EntityId → Id → world.Command) → with_both w f entity id ≡ Err reason
+FindsBoth w entity id (Ok both) = (f : EntityId → Id → world.Command) → with_both w f entity id ≡ Ok (f both.0 both.1)
+
+-- the entity and the id were found, so that a command of them is what the session does; or each such command is refused for them
+abbrev pub FindsIn : SessionState → orders.EntityRef → orders.IdRef → Result (EntityId × Id) SessionRefusal → Type 0
+FindsIn s r i (Ok both) = (f : EntityId → Id → world.Command) (order : Order) → command_of s.world order ≡ with_both s.world f r i → obeyed s (f both.0 both.1) ≡ apply s (InWorld order)
+FindsIn s r i (Err reason) = (f : EntityId → Id → world.Command) (order : Order) → command_of s.world order ≡ with_both s.world f r i → apply s (InWorld order) ≡ Err reason
+
+-- the same of an entity that is to go
+abbrev pub FindsOne : SessionState → orders.EntityRef → Result EntityId SessionRefusal → Type 0
+FindsOne s r (Ok e) = obeyed s (world.Delete e) ≡ apply s (InWorld (DeleteOne r))
+FindsOne s r (Err reason) = apply s (InWorld (DeleteOne r)) ≡ Err reason
+
+-- what becomes of the lists of kept queries
+abbrev pub ListsApply : {T E : Type 0} → SessionOrder → Result T E → Standing → Standing → Type 0
+ListsApply (InWorld order) r old new = new.stored ≡ old.stored
+ListsApply (session.Store kind n text) r old new = ListsOneMore r n old new
+ListsApply (session.Drop n) r old new = ListsOneLess r n old new

@@ -1,0 +1,203 @@
+//! The commands of a session as values, with entities by name or by handle.
+
+ghost use Rattle.std.specs.Prelude.{◌≡◌, false};
+ghost use Rattle.std.specs.List.{list_any};
+ghost use Rattle.ecs_model.specs.Orders.{AddTo, DeleteOne, RemoveFrom, SetIn};
+ghost use Rattle.ecs_model.specs.stored.Session.{InWorld, apply};
+ghost use Rattle.ecs_observe.specs.Answers.{AnswersApply};
+ghost use Rattle.ecs_observe.specs.Commands.{FindsIn, FindsOne, ListsApply, answered, order_of, seen_entity, seen_id};
+ghost use Rattle.ecs_observe.specs.Standing.{is_compared, session_of};
+ghost use Rattle.table_store.specs.Going.{TablesGoOn};
+
+use crate::references::{EntityRef, IdRef, find_both, find_entity};
+use crate::{Session, SessionError};
+use ecs_id::{EntityId, Id};
+use ecs_model::faults::SessionRefusal;
+use ecs_model::watches::StoredKind;
+use ecs_schema::Schema;
+use std::alloc::{Allocator, Global};
+
+/// A command of a session.
+#[derive(Drop)]
+pub enum Command<'a, A: Allocator = Global> {
+    /// A new entity without a name.
+    New,
+    /// A new entity with a name.
+    Entity {
+        name: &'a str,
+    },
+    /// A new entity with a name and fields.
+    Component {
+        name: &'a str,
+        schema: Schema<A>,
+    },
+    /// A fact comes, and with it those that traits ask for.
+    Add {
+        entity: EntityRef<'a>,
+        id: IdRef<'a>,
+    },
+    /// A fact gets a value, and comes if it isn't held.
+    Set {
+        entity: EntityRef<'a>,
+        id: IdRef<'a>,
+        values: &'a [i128],
+    },
+    /// A fact goes, if it is held.
+    Remove {
+        entity: EntityRef<'a>,
+        id: IdRef<'a>,
+    },
+    /// An entity goes, and what its relationships say goes with it.
+    Delete {
+        entity: EntityRef<'a>,
+    },
+    /// A query is kept under a name, or watched: by a monitor, or by an observer of one kind of events.
+    Store {
+        kind: StoredKind,
+        name: &'a str,
+        text: &'a str,
+    },
+    /// The stored query of a name ends.
+    Drop {
+        name: &'a str,
+    },
+}
+
+/// The answer to a command that was carried out.
+#[derive(Clone, Copy, Debug, PartialEq, Eq)]
+pub enum Answer {
+    /// It has made this entity.
+    Born(EntityId),
+    Done,
+}
+
+impl<A: Allocator + Copy> Session<A> {
+    /// Carries out a command. It is refused as `EventsPending` while events wait; else as `OfWorld(Dead)` where one of its handles is that of no
+    /// live entity, and as `OfWorld(UnknownName)` where one of its names is nobody's; and else as the call of the same name refuses it.
+    pub fn apply(&mut self, command: Command<'_, A>) -> Result<Answer, SessionError>
+        ensures answers { AnswersApply (answered result) (apply (session_of self.old) (order_of command.entry)) self.old self.new }
+        ensures lists { ListsApply (order_of command.entry) result self.old self.new }
+        ensures goes_on { TablesGoOn (self.old).world.tables (self.new).world.tables }
+        ensures compared { list_any is_compared (self.new).stored ≡ false → (self.new).compared ≡ (self.old).compared }
+    {
+        match self.obey(command) {
+            Ok(Some(entity)) => Ok(Answer::Born(entity)),
+            Ok(None) => Ok(Answer::Done),
+            Err(error) => Err(error),
+        }
+    }
+
+    fn obey(&mut self, command: Command<'_, A>) -> Result<Option<EntityId>, SessionError>
+        ensures answers { AnswersApply result (apply (session_of self.old) (order_of command.entry)) self.old self.new }
+        ensures lists { ListsApply (order_of command.entry) result self.old self.new }
+        ensures goes_on { TablesGoOn (self.old).world.tables (self.new).world.tables }
+        ensures compared { list_any is_compared (self.new).stored ≡ false → (self.new).compared ≡ (self.old).compared }
+    {
+        match command {
+            Command::New => self.fresh(),
+            Command::Entity { name } => self.entity(name),
+            Command::Component { name, schema } => self.component(name, schema),
+            Command::Add { entity, id } => self.add_to(entity, id),
+            Command::Set { entity, id, values } => self.set_in(entity, id, values),
+            Command::Remove { entity, id } => self.remove_from(entity, id),
+            Command::Delete { entity } => self.delete_one(entity),
+            Command::Store { kind, name, text } => self.store(kind, name, text),
+            Command::Drop { name } => self.drop_stored(name),
+        }
+    }
+
+    /// Adds a fact.
+    fn add_to(
+        &mut self,
+        entity: EntityRef<'_>,
+        id: IdRef<'_>,
+    ) -> Result<Option<EntityId>, SessionError>
+        ensures answers { AnswersApply result (apply (session_of self.old) (InWorld (AddTo (seen_entity entity.entry) (seen_id id.entry)))) self.old self.new }
+        ensures compared { (self.new).compared ≡ (self.old).compared }
+        ensures lists { (self.new).stored ≡ (self.old).stored }
+        ensures goes_on { TablesGoOn (self.old).world.tables (self.new).world.tables }
+    {
+        match self.found_both(entity, id) {
+            Ok(both) => self.add(both.0, both.1),
+            Err(reason) => Err(SessionError::Refused(reason)),
+        }
+    }
+
+    /// Sets the value of a fact.
+    fn set_in(
+        &mut self,
+        entity: EntityRef<'_>,
+        id: IdRef<'_>,
+        values: &[i128],
+    ) -> Result<Option<EntityId>, SessionError>
+        ensures answers { AnswersApply result (apply (session_of self.old) (InWorld (SetIn (seen_entity entity.entry) (seen_id id.entry) values.now))) self.old self.new }
+        ensures compared { (self.new).compared ≡ (self.old).compared }
+        ensures lists { (self.new).stored ≡ (self.old).stored }
+        ensures goes_on { TablesGoOn (self.old).world.tables (self.new).world.tables }
+    {
+        match self.found_both(entity, id) {
+            Ok(both) => self.set(both.0, both.1, values),
+            Err(reason) => Err(SessionError::Refused(reason)),
+        }
+    }
+
+    /// Removes a fact.
+    fn remove_from(
+        &mut self,
+        entity: EntityRef<'_>,
+        id: IdRef<'_>,
+    ) -> Result<Option<EntityId>, SessionError>
+        ensures answers { AnswersApply result (apply (session_of self.old) (InWorld (RemoveFrom (seen_entity entity.entry) (seen_id id.entry)))) self.old self.new }
+        ensures compared { (self.new).compared ≡ (self.old).compared }
+        ensures lists { (self.new).stored ≡ (self.old).stored }
+        ensures goes_on { TablesGoOn (self.old).world.tables (self.new).world.tables }
+    {
+        match self.found_both(entity, id) {
+            Ok(both) => self.remove(both.0, both.1),
+            Err(reason) => Err(SessionError::Refused(reason)),
+        }
+    }
+
+    /// Deletes an entity.
+    fn delete_one(&mut self, entity: EntityRef<'_>) -> Result<Option<EntityId>, SessionError>
+        ensures answers { AnswersApply result (apply (session_of self.old) (InWorld (DeleteOne (seen_entity entity.entry)))) self.old self.new }
+        ensures compared { (self.new).compared ≡ (self.old).compared }
+        ensures lists { (self.new).stored ≡ (self.old).stored }
+        ensures goes_on { TablesGoOn (self.old).world.tables (self.new).world.tables }
+    {
+        match self.found_entity(entity) {
+            Ok(entity) => self.delete(entity),
+            Err(reason) => Err(SessionError::Refused(reason)),
+        }
+    }
+
+    /// The entity and the id that a command names, or why it is refused for them.
+    fn found_both(
+        &self,
+        entity: EntityRef<'_>,
+        id: IdRef<'_>,
+    ) -> Result<(EntityId, Id), SessionRefusal>
+        ensures { FindsIn (session_of self.now) (seen_entity entity.entry) (seen_id id.entry) result }
+    {
+        if self.has_events() {
+            return Err(SessionRefusal::EventsPending);
+        }
+        match find_both(&self.world, entity, id) {
+            Ok(both) => Ok(both),
+            Err(refusal) => Err(SessionRefusal::OfWorld(refusal)),
+        }
+    }
+
+    /// The entity that a command names, or why it is refused for it.
+    fn found_entity(&self, entity: EntityRef<'_>) -> Result<EntityId, SessionRefusal>
+        ensures { FindsOne (session_of self.now) (seen_entity entity.entry) result }
+    {
+        if self.has_events() {
+            return Err(SessionRefusal::EventsPending);
+        }
+        match find_entity(&self.world, entity) {
+            Ok(found) => Ok(found),
+            Err(refusal) => Err(SessionRefusal::OfWorld(refusal)),
+        }
+    }
+}
