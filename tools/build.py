@@ -20,7 +20,7 @@ UNPROVED = os.path.join(TOP, "out", "try", "flecsq")
 MAN_PAGE = os.path.join(TOP, "docs", "flecsq.1")
 
 # what the proofs and the program were last proved and built with, as `rt version` tells it
-KIT = "rattle-kit-13f logic dac8208d650f15bf"
+KIT = "rattle-kit-13b logic dac8208d650f15bf"
 
 # a proof of one crate takes up to so many GB of memory
 GIGABYTES = 4
@@ -51,13 +51,18 @@ def kit_of_path():
     return told.stdout.strip()
 
 
+def logic_of(kit):
+    """The logic of a kit: the statements that proofs rest on. Kits that differ in other things judge the same proofs."""
+    return kit.rpartition(" logic ")[2]
+
+
 def check_toolchain(is_strict=True):
-    """Whether the toolchain is there that this was proved with. One that is another is only told of, where that is enough."""
+    """Whether a toolchain is there of the logic that this was proved with. One that is another is only told of, where that is enough."""
     check_machine()
     kit = kit_of_path()
     if kit is None:
         raise Missing(f"The Rattle toolchain isn't there: put the folder of its command rt, of the kit {KIT}, on the PATH.")
-    if kit != KIT:
+    if logic_of(kit) != logic_of(KIT):
         odd = f"The command rt on the PATH is of the kit {kit or 'that tells no version'}, and flecsq was proved with {KIT}:"
         if is_strict and not os.environ.get("ANY_KIT"):
             raise Missing(f"{odd} put that one first on the PATH, or set ANY_KIT=1 to try with yours.")
