@@ -169,14 +169,22 @@ const ROWS: [WorkedRow; 24] = [
     },
     WorkedRow {
         base: SKY,
-        more: &[(EARTH, LIKES, Some(MOON)), (EARTH, LIKES, Some(SUN)), (SUN, LIKES, Some(SUN))],
+        more: &[
+            (EARTH, LIKES, Some(MOON)),
+            (EARTH, LIKES, Some(SUN)),
+            (SUN, LIKES, Some(SUN)),
+        ],
         query: "Position, (ChildOf,$x) || (Likes,$x)",
         answer: "row $this=Sun $x=Sun [Position@Sun] [(Likes,Sun)@Sun]\nrow $this=Earth $x=Sun [Position@Earth] [(ChildOf,Sun)@Earth]\nrow $this=Earth $x=Moon [Position@Earth] [(Likes,Moon)@Earth]\nrows 3\n",
         plans: 2,
     },
     WorkedRow {
         base: SKY,
-        more: &[(EARTH, LIKES, Some(MOON)), (EARTH, LIKES, Some(SUN)), (MOON, DISABLED, None)],
+        more: &[
+            (EARTH, LIKES, Some(MOON)),
+            (EARTH, LIKES, Some(SUN)),
+            (MOON, DISABLED, None),
+        ],
         query: "Planet($y), ChildOf($y,$this) || Likes($y,$this)",
         answer: "row $this=Sun $y=Earth [Planet@Earth] [(ChildOf,Sun)@Earth]\nrows 1\n",
         plans: 2,
