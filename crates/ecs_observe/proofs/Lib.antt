@@ -24,3 +24,4 @@ pub mod Untold
 pub mod LedTo
 pub mod Rewritten
 pub mod Watches
+pub mod WholeColumns

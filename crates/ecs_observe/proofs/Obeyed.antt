@@ -47,7 +47,7 @@ abbrev pub left_by : Standing → store.Standing → Option Changed → Standing
 left_by s v waiting = record { world = v; stored = s.stored; waiting = waiting; compared = s.compared }
 
 module _ (s : Standing) (session : IsSession s) (none : is_some s.waiting ≡ false) where
-  none_waits : s.waiting ≡ None
+  pub none_waits : s.waiting ≡ None
   none_waits = by s.waiting none
     where
       by : (o : Option Changed) → is_some o ≡ false → o ≡ None
@@ -81,7 +81,7 @@ module _ (s : Standing) (session : IsSession s) (none : is_some s.waiting ≡ fa
     is_before true = was_now
     is_before false = tt
 
-    accepted_session : IsSession (left_by s v (awaited s.stored changed))
+    pub accepted_session : IsSession (left_by s v (awaited s.stored changed))
     accepted_session = record {
       held = still_held;
       pinned = λ i. ap (λ pins. count_at pins i) (steps_keep_pins (s.world).state v.state c changed stepped) ∙ session.pinned i;
@@ -104,7 +104,7 @@ module _ (s : Standing) (session : IsSession s) (none : is_some s.waiting ≡ fa
         ap (λ b. if b then Some (flat_map (told (s.world).state v.state changed) (map stored_of s.stored)) else None) (any_watch s.stored)
         ∙ waiting_same (list_any (λ h. is_told h.kind) s.stored)
 
-    accepted_answer : obeyed (session_of s) c ≡ Ok (session_of (left_by s v (awaited s.stored changed)), changed.born)
+    pub accepted_answer : obeyed (session_of s) c ≡ Ok (session_of (left_by s v (awaited s.stored changed)), changed.born)
     unfolding session_of
     accepted_answer =
         free s c none
@@ -113,7 +113,7 @@ module _ (s : Standing) (session : IsSession s) (none : is_some s.waiting ≡ fa
 
   -- ---- a refused one
   module _ (v : store.Standing) (same : v.state ≡ (s.world).state) where
-    refused_session : IsSession (left_by s v s.waiting)
+    pub refused_session : IsSession (left_by s v s.waiting)
     refused_session =
         let after : IfSome s.waiting (IsAfter v.state) = subst (λ w. IfSome s.waiting (IsAfter w)) (sym same) session.after in
         let before : IfSome s.waiting (λ changed. All (WasNow v.state changed) s.stored)
@@ -129,7 +129,7 @@ module _ (s : Standing) (session : IsSession s) (none : is_some s.waiting ≡ fa
           before = before;
         }
 
-    refused_state : session_of (left_by s v s.waiting) ≡ session_of s
+    pub refused_state : session_of (left_by s v s.waiting) ≡ session_of s
     unfolding session_of
     refused_state = ap (λ w. record { world = w; stored = map stored_of s.stored; waiting = option_map (λ changed. flat_map (told_to w changed) s.stored) s.waiting }) same
 

@@ -8,3 +8,4 @@ pub mod Following
 pub mod Commands
 pub mod Moves
 pub mod Stored
+pub mod Columns

@@ -1,6 +1,7 @@
 //! Why a command of a session was not carried out.
 
 use ecs_model::faults::{CommandError, SessionRefusal};
+use ecs_world::ColumnFault;
 use std::alloc::AllocError;
 use thiserror::Error;
 
@@ -11,6 +12,32 @@ pub enum SessionError {
     Refused(SessionRefusal),
     #[error("out of memory")]
     Memory,
+}
+
+/// Why the values of a table's entities are not set in a session. Of the reasons that apply, the first in this order is
+/// answered.
+#[derive(Clone, Copy, Debug, PartialEq, Eq, Error)]
+pub enum SetColumnError {
+    /// Events wait to be told.
+    #[error("events wait to be told")]
+    EventsPending,
+    /// A stored query is a monitor or an event observer, which is told of each command.
+    #[error("a stored query is told of each command")]
+    Watched,
+    /// The world refuses it.
+    #[error("{0}")]
+    OfWorld(ColumnFault),
+}
+
+impl From<ColumnFault> for SetColumnError {
+    ghost use Rattle.std.specs.Prelude.{◌≡◌};
+    ghost use Rattle.ecs_observe.specs.declared.errors.SetColumnError.TheVariants.{OfWorld};
+
+    ghost from_gives = { λ fault e. e ≡ OfWorld fault };
+
+    fn from(fault: ColumnFault) -> SetColumnError {
+        SetColumnError::OfWorld(fault)
+    }
 }
 
 impl From<AllocError> for SessionError {

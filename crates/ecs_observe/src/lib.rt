@@ -6,6 +6,7 @@
 
 mod applying;
 mod asking;
+mod columns;
 mod commands;
 mod errors;
 mod kept;
@@ -20,7 +21,7 @@ mod telling;
 mod watched;
 
 pub use applying::{Answer, Command};
-pub use errors::SessionError;
+pub use errors::{SessionError, SetColumnError};
 pub use references::{EntityRef, IdRef};
 pub use session::Session;
 pub use world_events::{Event, write_event};

@@ -1,0 +1,37 @@
+//! The values of an id that all entities of a table get at once.
+
+ghost use Rattle.std.specs.Prelude.{◌≡◌, MatchResult, None, OnErr, OnOk, Some, length};
+ghost use Rattle.ecs_observe.specs.Columns.{IsColumnSetIn, set_column_error};
+ghost use Rattle.ecs_observe.specs.Standing.{session_of};
+ghost use Rattle.table_store.specs.Going.{TablesGoOn};
+
+use crate::{Session, SetColumnError};
+use ecs_id::{Id, TableKey};
+use std::alloc::Allocator;
+
+impl<A: Allocator> Session<A> {
+    /// Sets the value of an id for each entity of a table, by row: the bytes of one value stand behind those of
+    /// another, as in the column of a chunk.
+    ///
+    /// It is as one `set` of each of them in turn. So it is refused while events wait, and while a stored query is a
+    /// watch, which is told of each command; and else as the world refuses it. It looks nothing up for a row, and takes
+    /// no memory.
+    pub fn set_column(&mut self, key: TableKey, id: Id, bytes: &[u8]) -> Result<(), SetColumnError>
+        ensures set { OnOk result (IsColumnSetIn self.old key id bytes.now (session_of self.new)) }
+        ensures judged { MatchResult result (λ _. set_column_error self.old key id (length bytes.now) ≡ None) (λ error. set_column_error self.old key id (length bytes.now) ≡ Some error) }
+        ensures unchanged { OnErr result (self.new ≡ self.old) }
+        ensures rest { self.new ≡ record self.old { world = (self.new).world } }
+        ensures goes_on { TablesGoOn (self.old).world.tables (self.new).world.tables }
+    {
+        if self.has_events() {
+            return Err(SetColumnError::EventsPending);
+        }
+        if self.stored.has_watch() {
+            return Err(SetColumnError::Watched);
+        }
+        // What each `set` begins with.
+        self.world.keeps();
+        self.world.set_column(key, id, bytes)?;
+        Ok(())
+    }
+}
