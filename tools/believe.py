@@ -328,7 +328,7 @@ def page_of(reader, start):
 TRUSTED = """## Trusted
 
 - The toolchain: its prover, its compilers, its standard library. Programs are run as two compilers make them, and the outputs compared.
-- The ported crates in what their contracts state: `arrayvec`, `bitflags`, `bumpalo`, `clap`, `indexmap`, `itoa`, `memchr`, `slab`, `thiserror`; and the C library.
+- The ported crates in what their contracts state: `arrayvec`, `bitflags`, `bumpalo`, `clap`, `indexmap`, `itoa`, `memchr`, `slab`, `smallvec`, `thiserror`; and the C library.
 - These definitions, and the text of the contract. That the definitions are what is meant is tested from outside: the worked scripts of `tests/rows` are
   computed from the definitions by the prover, and run by the program.
 - What the contract says of bytes, it says of readers and writers that tell their bytes, as those in memory do. Files, standard input and standard output tell
