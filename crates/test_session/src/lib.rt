@@ -2,8 +2,12 @@
 #![tactic(auto)]
 
 #[cfg(test)]
+mod columns;
+#[cfg(test)]
 mod growths;
 #[cfg(test)]
 mod lines;
+#[cfg(test)]
+mod named;
 #[cfg(test)]
 mod scripts;

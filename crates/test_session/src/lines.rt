@@ -39,7 +39,7 @@ pub(crate) enum Line {
 /// What a session answers to a line.
 pub(crate) type Answer = Result<Option<EntityId>, SessionError>;
 
-fn first_at(index: u32) -> EntityId {
+pub(crate) fn first_at(index: u32) -> EntityId {
     EntityId {
         index,
         generation: 0,
