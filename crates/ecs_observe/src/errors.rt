@@ -8,7 +8,7 @@ use thiserror::Error;
 /// Why a command of a session was not carried out: a refusal by the rules, or memory that was refused.
 #[derive(Clone, Copy, Debug, PartialEq, Eq, Error)]
 pub enum SessionError {
-    #[error("refused: {0:?}")]
+    #[error("refused: {0}")]
     Refused(SessionRefusal),
     #[error("out of memory")]
     Memory,

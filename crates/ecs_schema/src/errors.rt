@@ -10,7 +10,7 @@ use thiserror::Error;
 /// Why a schema is not made: a fault of its fields, or memory that was refused.
 #[derive(Clone, Copy, Debug, PartialEq, Eq, Error)]
 pub enum SchemaError {
-    #[error("no schema: {0:?}")]
+    #[error("no schema: {0}")]
     Fault(SchemaFault),
     #[error("out of memory")]
     Memory,
