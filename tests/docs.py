@@ -1,20 +1,24 @@
 #!/usr/bin/env python3
-"""docs.py PROGRAM: runs each script of the pages and of examples/, and compares what it prints.
+"""docs.py PROGRAM: runs each script of the pages and of examples/, and compares what it prints; and compares the code of READMEs with its sources.
 
 In PAGES a block that begins with ```flecsq is a script, and the block after it, which begins with ```output, is what it prints. A block of
-no kind is wrong, so that no script is left out. examples/NAME.flecsq prints examples/NAME.output. The code that a page of SHOWN has in
-its ```text blocks stands in that source file.
+no kind is wrong, so that no script is left out. examples/NAME.flecsq prints examples/NAME.output. Each block under `## By example` of a crate's
+README is code of the source file to which the line above it links, word for word: how far it is indented doesn't matter, and a line `// ..`
+stands for lines that are left out.
 """
 import glob
 import os
 import re
 import subprocess
 import sys
+import textwrap
 
 TOP = os.path.realpath(os.path.join(os.path.dirname(os.path.realpath(__file__)), ".."))
 PAGES = ("README.md", "docs/LANGUAGE.md", "docs/FLECS.md")
-SHOWN = {"crates/ecs_observe/README.md": "crates/example_game/src/main.rt"}
 BLOCK = re.compile(r"^```(\w*)\n(.*?)^```$", re.M | re.S)
+BY_EXAMPLE = re.compile(r"^## By example$.*?(?=^## |\Z)", re.M | re.S)
+SOURCE = re.compile(r"\]\(([^()]+\.rt)\)")
+CUT = re.compile(r"^ *// \.\.$", re.M)
 SECONDS = 60
 
 
@@ -49,28 +53,60 @@ def complaint_of(program, script, wanted):
     return None if (ran.returncode, ran.stderr) == (status, b"") else f"its status is {ran.returncode}, or standard error isn't empty"
 
 
-def strange_code():
-    """The code of pages that isn't that of the source file: for each its place."""
-    for page, source in SHOWN.items():
-        text, code = read(page), read(source)
-        for found in BLOCK.finditer(text):
-            if found[1] == "text" and found[2] not in code:
-                yield f"{page}:{text.count(chr(10), 0, found.start()) + 1}"
+def shown_code():
+    """The code of READMEs: for each block its place, its text, and the source file to which the line above it links, None where it links to none."""
+    for path in sorted(glob.glob(os.path.join(TOP, "crates", "*", "README.md"))):
+        page = os.path.relpath(path, TOP)
+        text = read(page)
+        for section in BY_EXAMPLE.finditer(text):
+            for found in BLOCK.finditer(text, *section.span()):
+                above = SOURCE.search(text[section.start() : found.start()].rstrip().rsplit("\n", 1)[-1])
+                source = above and os.path.normpath(os.path.join(os.path.dirname(page), above[1]))
+                yield f"{page}:{text.count(chr(10), 0, found.start()) + 1}", found[2], source
+
+
+def unindented(lines):
+    return textwrap.dedent("\n".join(lines))
+
+
+def missing_code(code, lines):
+    """The first piece of some code that doesn't stand in these lines, behind the pieces before it; None where all do."""
+    at = 0
+    for piece in CUT.split(code):
+        wanted = piece.strip("\n").split("\n")
+        places = range(at, len(lines) - len(wanted) + 1)
+        found = next((it for it in places if unindented(lines[it : it + len(wanted)]) == unindented(wanted)), None)
+        if found is None:
+            return piece
+        at = found + len(wanted)
+    return None
+
+
+def strange_code(code, source):
+    """What is wrong with the code of a README: nothing, where it stands in its source file."""
+    if source is None or not os.path.isfile(os.path.join(TOP, source)):
+        return "the line above it links to no source file"
+    missing = missing_code(code, read(source).split("\n"))
+    return None if missing is None else f"this isn't in {source}, or not in this order\n{missing}"
+
+
+def complaints(program):
+    """What is wrong with each script and with each block of code: for each its place, and nothing where it is right."""
+    for place, script, wanted in [*(it for page in PAGES for it in scripts_of(page)), *examples()]:
+        yield place, complaint_of(program, script, wanted)
+    for place, code, source in shown_code():
+        yield place, strange_code(code, source)
 
 
 def run(program):
     passed = failed = 0
-    for place in strange_code():
-        print(f"{place} FAILED: this code isn't in {SHOWN[place.split(':')[0]]}")
-        failed += 1
-    for place, script, wanted in [*(it for page in PAGES for it in scripts_of(page)), *examples()]:
-        complaint = complaint_of(program, script, wanted)
+    for place, complaint in complaints(program):
         if complaint:
             print(f"{place} FAILED: {complaint}")
             failed += 1
         else:
             passed += 1
-    print(f"scripts of pages and examples: {passed} right, {failed} wrong")
+    print(f"scripts of pages and examples, code of READMEs: {passed} right, {failed} wrong")
     return passed, failed
 
 
