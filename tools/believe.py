@@ -116,12 +116,14 @@ def constructors_of(text):
     return tuple(names)
 
 
-def comment_above(lines, at):
+def comment_above(lines, at, mark="--"):
+    """What the comment right above says. Attributes may stand between."""
     said = []
-    while at and lines[at - 1].strip().startswith("--"):
+    while at and lines[at - 1].strip().startswith((mark, "#[")):
         at -= 1
-        said.insert(0, lines[at].strip()[2:].strip())
-    return " ".join(said)
+        if lines[at].strip().startswith(mark):
+            said.insert(0, lines[at].strip()[len(mark) :].strip())
+    return " ".join(filter(None, said))
 
 
 def read_specs(path):
@@ -152,8 +154,7 @@ def read_declared(place):
         for at, line in enumerate(lines):
             if re.match(rf"\s*pub (?:struct|enum|union) {re.escape(name)}\b", line):
                 end = next((it for it in range(at, len(lines)) if lines[it].startswith("}") or lines[it].endswith(";")), at) + 1
-                said = [it.strip()[3:].strip() for it in lines[max(0, at - 12) : at] if it.strip().startswith("///")]
-                return Definition(f"Rattle.{crate}.src", name, path, at + 1, " ".join(said), lines[at:end])
+                return Definition(f"Rattle.{crate}.src", name, path, at + 1, comment_above(lines, at, "///"), lines[at:end])
     return None
 
 
