@@ -137,10 +137,7 @@ fn take_in<A: Allocator, B: Allocator>(
 {
     let before = keys.len();
     for key in tables.since(last) {
-        if has(tables, *key)
-            && is_kept(patterns, tables, *key, judged)
-            && keys.push(*key).is_err()
-        {
+        if is_kept(patterns, tables, key, judged) && keys.push(key).is_err() {
             keys.truncate(before);
             return Err(AllocError);
         }

@@ -1,4 +1,5 @@
 pub mod Changes
+pub mod Counting
 pub mod Indexes
 pub mod Inserting
 pub mod Listing

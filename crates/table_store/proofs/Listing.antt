@@ -41,7 +41,7 @@ module _ {Y : Type 0} (tables : Slab (Held Y)) (by_ids : ByIds Y) (by_serial : V
 
   no_keys : IsOrder s []
   unfolding IsStrictlySortedBy
-  no_keys = record { has = λ k h. absurd (absent k h); given = λ k c. absurd (omega (arith, c.1)); rising = tt }
+  no_keys = record { has = λ k h. absurd (absent k h); given = λ k c. absurd (omega (arith, c.1)); few = omega arith; rising = tt }
 
   pub empty_kept : IsKept tables by_ids by_serial 0
   empty_kept = record {

@@ -5,7 +5,7 @@ use Rattle.std.specs.List.{list_all}
 use Rattle.std.specs.FinMap.{is_sorted}
 use Rattle.std.specs.declared.vec.Vec.{Vec}
 use Rattle.slab.specs.Slab as slots
-use Rattle.slab.specs.Slab.{Slab, Updates}
+use Rattle.slab.specs.Slab.{Slab, Updates, slab_len}
 use Rattle.ecs_id.specs.Id.{Id, id_cmp}
 use Rattle.ecs_id.specs.declared.Place.{Place}
 use Rattle.ecs_id.specs.declared.TableKey.{TableKey}
@@ -18,6 +18,7 @@ use Rattle.table_store.proofs.Slots.{table_at-made, same_key, key_eq_true, key_e
 use Rattle.table_store.proofs.StoreLemmas.{ids_of, ids_in_shape}
 use Rattle.table_store.proofs.Shapes.{HaveSizes, size_found, shape_of_shaped, all_small}
 use Rattle.table_store.proofs.Indexes.{ids_same, ids_eq_true, get_ids}
+use Rattle.table_store.proofs.Counting.{as_many}
 use Rattle.table_store.proofs.Order.{order_pushed}
 
 pub none_of : {X : Type 0} (o : Option X) → ((x : X) → o ≡ Some x → ⊥) → o ≡ None
@@ -204,8 +205,9 @@ module _ {Y : Type 0} (tables new : Slab (Held Y)) (by_ids named : ByIds Y) (by_
             λ h. elim (ids_cases q) [ inl a ↦ absurd (apart (one_some (ids_of f) ids (sym a.1 ∙ h))) | inr a ↦ g ∙ (kept.index ids q).1 (sym a.1 ∙ h) ],
           )
 
-  order_made : dated.items ≡ by_serial.items ++ k ∷ [] → IsOrder n dated.items
-  order_made = order_pushed s n by_serial.items dated.items k kept.order (λ q h. elim (cases q) [ inl a ↦ inl a.0 | inr a ↦ inr (subst IsSome a.1 h) ]) (omega (arith, serial)) refl
+  order_made : slab_len new ≡ slab_len tables + 1 → dated.items ≡ by_serial.items ++ k ∷ [] → IsOrder n dated.items
+  order_made more = order_pushed s n by_serial.items dated.items k kept.order (λ q h. elim (cases q) [ inl a ↦ inl a.0 | inr a ↦ inr (subst IsSome a.1 h) ]) (omega (arith, serial)) refl
+      (as_many new k.serial ∙ more ∙ ap (λ m. m + 1) (sym (as_many tables last)))
 
-  pub made_kept : IsSound (shaped f) → SetsIds (ids_of f) (Some k) by_ids named → dated.items ≡ by_serial.items ++ k ∷ [] → IsKept new named dated k.serial
-  made_kept sound v o = record { store = made_store; slots = slots_made sound; index = index_made v; order = order_made o }
+  pub made_kept : IsSound (shaped f) → SetsIds (ids_of f) (Some k) by_ids named → slab_len new ≡ slab_len tables + 1 → dated.items ≡ by_serial.items ++ k ∷ [] → IsKept new named dated k.serial
+  made_kept sound v more o = record { store = made_store; slots = slots_made sound; index = index_made v; order = order_made more o }

@@ -1,9 +1,9 @@
 -- The keys by serial, before and after a change, and those with greater serials.
-use Rattle.std.proofs.Common.{◌≡◌, ◌⊎◌, inl, inr, ℕ, zero, suc, ◌+◌, ◌-◌, ◌<◌, ◌≤◌, leb, leb-false, leb-true, Bool, true, false, cond, List, [], ◌∷◌, ◌++◌, IsSome, drop, get_or-drop, length, length-drop, map, slice_index_or, refl, sym, ap, subst, ◌∙◌, arith}
+use Rattle.std.proofs.Common.{◌≡◌, ◌⊎◌, inl, inr, ℕ, zero, suc, ◌+◌, ◌*◌, ◌-◌, ◌<◌, ◌≤◌, leb, leb-false, leb-true, Bool, true, false, cond, List, [], ◌∷◌, ◌++◌, IsSome, drop, get_or-drop, length, length-drop, map, slice_index_or, refl, sym, ap, subst, ◌∙◌, arith}
 use Rattle.std.specs.declared.cmp.Ordering.TheVariants.{Less}
 use Rattle.std.proofs.lemmas.Bool.Decides.{nat_tests}
 use Rattle.std.proofs.lemmas.List.Elements.{Contains-append_cases, Contains-append_left, Contains-append_right}
-use Rattle.std.proofs.lemmas.List.{get_or-map}
+use Rattle.std.proofs.lemmas.List.{get_or-map, length_push}
 use Rattle.std.proofs.lemmas.Map.Keys.{below_from_sorted}
 use Rattle.std.specs.List.{AllByRecursion, Contains, filter}
 use Rattle.std.specs.List.Sorted.{IsNonDecreasingBy, IsPartitionPoint, IsStrictlySortedBy}
@@ -12,7 +12,7 @@ use Rattle.ecs_id.specs.declared.TableKey.{TableKey}
 use Rattle.table_store.specs.Store.{Store, table_at}
 use Rattle.table_store.specs.Kept.{IsOrder}
 
-abbrev serials_of : List TableKey → List ℕ
+abbrev pub serials_of : List TableKey → List ℕ
 serials_of keys = map (λ k. k.serial) keys
 
 abbrev pub IsRising : List TableKey → Type 0
@@ -36,7 +36,7 @@ module _ {X : Type 0} (p : X → Bool) where
       by true (suc j) lt e ih = later x y xs (ih j (omega (arith, lt)) e)
       by false j lt e ih = later x y xs (ih j lt e)
 
-  to_filter : (xs : List X) (x : X) (i : ℕ) → i < length xs → slice_index_or xs i x ≡ x → p x ≡ true → Contains (filter p xs) x
+  pub to_filter : (xs : List X) (x : X) (i : ℕ) → i < length xs → slice_index_or xs i x ≡ x → p x ≡ true → Contains (filter p xs) x
   to_filter [] x i lt e t = absurd (omega (arith, lt))
   to_filter (y ∷ xs) x zero lt e t = subst (λ b. Contains (cond b (y ∷ filter p xs) (filter p xs)) x) (sym (ap p e ∙ t)) (zero, omega arith, e)
   to_filter (y ∷ xs) x (suc i) lt e t = by (p y) (to_filter xs x i (omega (arith, lt)) e t)
@@ -44,6 +44,20 @@ module _ {X : Type 0} (p : X → Bool) where
       by : (b : Bool) → Contains (filter p xs) x → Contains (cond b (y ∷ filter p xs) (filter p xs)) x
       by true h = later x y (filter p xs) h
       by false h = h
+
+-- an element of a filtered list passes the test
+pub passed : {X : Type 0} (p : X → Bool) (xs : List X) (x : X) → Contains (filter p xs) x → Contains xs x × (p x ≡ true)
+passed p xs x c = (from_filter p xs x c.0 c.1 c.2, tested p xs x c.0 c.1 c.2)
+  where
+    tested : {X : Type 0} (p : X → Bool) (xs : List X) (x : X) (i : ℕ) → i < length (filter p xs) → slice_index_or (filter p xs) i x ≡ x → p x ≡ true
+    tested p [] x i lt e = absurd (omega (arith, lt))
+    tested p (y ∷ xs) x i lt e = by (p y) refl i lt e (tested p xs x)
+      where
+        by : (b : Bool) → p y ≡ b → (i : ℕ) → i < length (cond b (y ∷ filter p xs) (filter p xs)) → slice_index_or (cond b (y ∷ filter p xs) (filter p xs)) i x ≡ x
+            → ((j : ℕ) → j < length (filter p xs) → slice_index_or (filter p xs) j x ≡ x → p x ≡ true) → p x ≡ true
+        by true t zero lt e ih = ap p (sym e) ∙ t
+        by true t (suc j) lt e ih = ih j (omega (arith, lt)) e
+        by false t j lt e ih = ih j lt e
 
 -- rising lists
 all_filter : (P : ℕ → Type 0) (p : TableKey → Bool) (keys : List TableKey) → AllByRecursion P (serials_of keys) → AllByRecursion P (serials_of (filter p keys))
@@ -54,7 +68,7 @@ all_filter P p (k ∷ keys) all = by (p k) (all_filter P p keys all.1)
     by true rest = (all.0, rest)
     by false rest = rest
 
-rising_filter : (p : TableKey → Bool) (keys : List TableKey) → IsRising keys → IsRising (filter p keys)
+pub rising_filter : (p : TableKey → Bool) (keys : List TableKey) → IsRising keys → IsRising (filter p keys)
 unfolding IsStrictlySortedBy
 rising_filter p [] rise = tt
 rising_filter p (k ∷ keys) rise = by (p k) (rising_filter p keys rise.1)
@@ -127,8 +141,8 @@ only_one k q (suc i) lt e = absurd (omega (arith, lt))
 
 -- a key more, at the end
 pub order_pushed : (s n : Store) (keys now : List TableKey) (k : TableKey) → IsOrder s keys → ((q : TableKey) → IsSome (table_at n q) → (q ≡ k) ⊎ IsSome (table_at s q)) → s.last < k.serial → n.last ≡ k.serial
-    → now ≡ keys ++ k ∷ [] → IsOrder n now
-order_pushed s n keys now k order was newer last e = subst (IsOrder n) (sym e) (record {
+    → length n.tables ≡ length s.tables + 1 → now ≡ keys ++ k ∷ [] → IsOrder n now
+order_pushed s n keys now k order was newer last more e = subst (IsOrder n) (sym e) (record {
   has = λ q h. elim (was q h) [
     | inl same ↦ Contains-append_right keys (k ∷ []) q (zero, omega arith, sym same)
     | inr old ↦ Contains-append_left keys (k ∷ []) q (order.has q old)
@@ -138,16 +152,18 @@ order_pushed s n keys now k order was newer last e = subst (IsOrder n) (sym e) (
     | inr new ↦ let same : k.serial ≡ q.serial = ap (λ z. z.serial) (only_one k q new.0 new.1 new.2) in omega (arith, same, last)
   ];
   rising = rising_push keys k order.rising (λ q c. let h = order.given q c in omega (arith, h, newer));
+  few = let long = length_push keys k in omega (arith, long, more, order.few);
 })
 
 -- keys of tables that don't stand go, or stay
 pub order_forgotten : (s n : Store) (keys now : List TableKey) (held : TableKey → Bool) → IsOrder s keys → ((q : TableKey) → IsSome (table_at n q) → IsSome (table_at s q) × (held q ≡ true)) → n.last ≡ s.last
-    → (now ≡ keys) ⊎ (now ≡ filter held keys) → IsOrder n now
-order_forgotten s n keys now held order still last e = elim e [
-  | inl same ↦ subst (IsOrder n) (sym same) (record { has = λ q h. order.has q (still q h).0; given = λ q c. let h = order.given q c in omega (arith, h, last); rising = order.rising })
+    → length now ≤ 2 * length n.tables + 1 → (now ≡ keys) ⊎ (now ≡ filter held keys) → IsOrder n now
+order_forgotten s n keys now held order still last few e = elim e [
+  | inl same ↦ subst (IsOrder n) (sym same) (record { has = λ q h. order.has q (still q h).0; given = λ q c. let h = order.given q c in omega (arith, h, last); rising = order.rising; few = subst (λ l. length l ≤ 2 * length n.tables + 1) same few })
   | inr less ↦ subst (IsOrder n) (sym less) (record {
     has = λ q h. let was = still q h in let c = order.has q was.0 in to_filter held keys q c.0 c.1 c.2 was.1;
     given = λ q c. let h = order.given q (from_filter held keys q c.0 c.1 c.2) in omega (arith, h, last);
     rising = rising_filter held keys order.rising;
+    few = subst (λ l. length l ≤ 2 * length n.tables + 1) less few;
   })
 ]

@@ -4,7 +4,7 @@ use Rattle.std.specs.FinMap.{is_sorted}
 use Rattle.std.specs.Map.{lookup}
 use Rattle.std.specs.declared.vec.Vec.{Vec}
 use Rattle.slab.specs.Slab as slots
-use Rattle.slab.specs.Slab.{Slab, Updates}
+use Rattle.slab.specs.Slab.{Slab, Updates, slab_len}
 use Rattle.ecs_id.specs.Id.{Id, id_cmp}
 use Rattle.ecs_id.specs.declared.Place.{Place}
 use Rattle.ecs_id.specs.declared.TableKey.{TableKey}
@@ -54,7 +54,7 @@ module _ {Y : Type 0} (tables grown new : Slab (Held Y)) (by_ids named : ByIds Y
     (f : Shape) (k : TableKey) (y : Held Y) (sorted : IsTrue (is_sorted id_cmp f)) (small : (j : ℕ) → IfSome (slice_get f j) (λ c. c.1 ≤ 64)) (sizes : HaveSizes s f)
     (missing : (q : TableKey) → ids_at s q ≢ Some (ids_of f)) (serial : k.serial ≡ last + 1) (slot : ℕ) (slot_is : slot ≡ k.slot) (free : slots.get tables k.slot ≡ None) (u : Updates grown new slot (Some y))
     (ys : y.value.serial ≡ k.serial) (yt : y.value.table ≡ shaped f) (no_more : HasNoEdge y.value.more) (no_less : HasNoEdge y.value.less) (numbered : k.slot < 2 ^ 32 - 1)
-    (v : SetsIds (ids_of f) (Some k) by_ids named) (o : dated.items ≡ by_serial.items ++ k ∷ []) where
+    (v : SetsIds (ids_of f) (Some k) by_ids named) (o : dated.items ≡ by_serial.items ++ k ∷ []) (more : slab_len new ≡ slab_len grown + 1) where
   kept_grown : IsKept grown by_ids by_serial last
   kept_grown = IsKept-grown tables grown by_ids by_ids by_serial by_serial last (ap (λ t. t.slots) growth) refl refl kept
 
@@ -74,7 +74,7 @@ module _ {Y : Type 0} (tables grown new : Slab (Held Y)) (by_ids named : ByIds Y
   updates = subst (λ z. Updates grown new z (Some y)) slot_is u
 
   pub put_kept : IsKept new named dated k.serial
-  put_kept = made_kept grown new by_ids named by_serial dated last kept_grown f k y sorted small sizes_there none_there serial free_there updates ys yt no_more no_less numbered (sound_shaped f small) v o
+  put_kept = made_kept grown new by_ids named by_serial dated last kept_grown f k y sorted small sizes_there none_there serial free_there updates ys yt no_more no_less numbered (sound_shaped f small) v more o
 
   is_made : IsMade (store_of grown last) f k (store_of new k.serial)
   is_made = record {

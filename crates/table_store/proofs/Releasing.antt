@@ -1,11 +1,11 @@
 -- A store before and after a table without rows is released.
-use Rattle.std.proofs.Common.{◌≡◌, ◌≢◌, ◌↔◌, ◌⊎◌, ℕ, ◌==◌, Bool, true, false, cond, if◌then◌else◌, List, Option, Some, None, IsSome, IfSome, IsTrue, is_some, length, nat_le, option_map, option_and_then, refl, sym, ap, subst, ◌∙◌, true≢false, arith, inl, inr}
+use Rattle.std.proofs.Common.{◌≡◌, ◌≢◌, ◌↔◌, ◌⊎◌, ℕ, ◌+◌, ◌*◌, ◌≤◌, ◌==◌, Bool, true, false, cond, if◌then◌else◌, List, Option, Some, None, IsSome, IfSome, IsTrue, is_some, length, nat_le, option_map, option_and_then, refl, sym, ap, subst, ◌∙◌, true≢false, arith, inl, inr}
 use Rattle.std.proofs.lemmas.Bool.Decides.{Decides-eqb}
 use Rattle.std.specs.List.{filter, list_all}
 use Rattle.std.specs.FinMap.{is_sorted}
 use Rattle.std.specs.declared.vec.Vec.{Vec}
 use Rattle.slab.specs.Slab as slots
-use Rattle.slab.specs.Slab.{Slab, Updates}
+use Rattle.slab.specs.Slab.{Slab, Updates, slab_len}
 use Rattle.ecs_id.specs.Id.{Id, id_cmp}
 use Rattle.ecs_id.specs.declared.Place.{Place}
 use Rattle.ecs_id.specs.declared.TableKey.{TableKey}
@@ -19,6 +19,7 @@ use Rattle.table_store.proofs.Slots.{table_at-released, table_at-slots, same_key
 use Rattle.table_store.proofs.StoreLemmas.{stored}
 use Rattle.table_store.proofs.Changes.{rows_here}
 use Rattle.table_store.proofs.Indexes.{ids_same, ids_eq_true, get_ids}
+use Rattle.table_store.proofs.Counting.{as_many}
 use Rattle.table_store.proofs.Order.{order_forgotten}
 
 -- where no table stands, none is released
@@ -154,8 +155,9 @@ module _ {Y : Type 0} (tables new : Slab (Held Y)) (by_ids named : ByIds Y) (by_
         λ h. g ∙ (kept.index ids q).1 (ids_stood q ids h).1,
       )
 
-  order_left : (dated.items ≡ by_serial.items) ⊎ (dated.items ≡ filter (is_held new) by_serial.items) → IsOrder n dated.items
-  order_left = order_forgotten s n by_serial.items dated.items (is_held new) kept.order (λ q h. ((stood q h).1, subst (λ o. is_some o ≡ true) (table_at-slots new last q) h)) refl
+  order_left : length dated.items ≤ 2 * slab_len new + 1 → (dated.items ≡ by_serial.items) ⊎ (dated.items ≡ filter (is_held new) by_serial.items) → IsOrder n dated.items
+  order_left few = order_forgotten s n by_serial.items dated.items (is_held new) kept.order (λ q h. ((stood q h).1, subst (λ o. is_some o ≡ true) (table_at-slots new last q) h)) refl
+      (subst (λ m. length dated.items ≤ 2 * m + 1) (sym (as_many new last)) few)
 
   rows_left : length x.value.table.entities ≡ 0 → (p : Place) → row_at n p ≡ row_at s p
   unfolding row_at
@@ -164,11 +166,11 @@ module _ {Y : Type 0} (tables new : Slab (Held Y)) (by_ids named : ByIds Y) (by_
     | inr h ↦ ap (option_and_then (λ t. row_of t p.row)) h.1
   ]
 
-  pub released_kept : (l : List Id) → l ≡ x.value.table.ids → SetsIds l None by_ids named → (dated.items ≡ by_serial.items) ⊎ (dated.items ≡ filter (is_held new) by_serial.items) → IsKept new named dated last
-  released_kept l its v o = record { store = store_left; slots = slots_left; index = index_left l its v; order = order_left o }
+  pub released_kept : (l : List Id) → l ≡ x.value.table.ids → SetsIds l None by_ids named → length dated.items ≤ 2 * slab_len new + 1 → (dated.items ≡ by_serial.items) ⊎ (dated.items ≡ filter (is_held new) by_serial.items) → IsKept new named dated last
+  released_kept l its v few o = record { store = store_left; slots = slots_left; index = index_left l its v; order = order_left few o }
 
-  pub released_stored : (l : List Id) → l ≡ x.value.table.ids → SetsIds l None by_ids named → (dated.items ≡ by_serial.items) ⊎ (dated.items ≡ filter (is_held new) by_serial.items) → IsStored (store_of new last)
-  released_stored l its v o = stored new named dated last (released_kept l its v o) (store_of new last) refl
+  pub released_stored : (l : List Id) → l ≡ x.value.table.ids → SetsIds l None by_ids named → length dated.items ≤ 2 * slab_len new + 1 → (dated.items ≡ by_serial.items) ⊎ (dated.items ≡ filter (is_held new) by_serial.items) → IsStored (store_of new last)
+  released_stored l its v few o = stored new named dated last (released_kept l its v few o) (store_of new last) refl
 
   module _ (z : Store) (view : store_of tables last ≡ z) where
     pub released : (q : TableKey) → table_at (store_of new last) q ≡ released_at z k q

@@ -10,7 +10,7 @@ use Rattle.ecs_table.specs.Archetype.{Archetype}
 use Rattle.table_store.specs.Store.{table_at, key_eq, changed_at, made_at, released_at}
 use Rattle.table_store.specs.Kept.{Held, tables_from, store_of, standing}
 
-both : (a b : Bool) → (a && b) ≡ true → (a ≡ true) × (b ≡ true)
+pub both : (a b : Bool) → (a && b) ≡ true → (a ≡ true) × (b ≡ true)
 both true b h = (refl, h)
 both false b h = absurd (true≢false (sym h))
 

@@ -1,5 +1,5 @@
 -- What holds of every store, carried over a change.
-use Rattle.std.proofs.Common.{◌≡◌, ℕ, ◌≤◌, ◌==◌, Bool, true, false, if◌then◌else◌, List, [], ◌∷◌, Option, Some, None, IsSome, IfSome, map, option_map, option_and_then, slice_get, refl, sym, ap, subst, ◌∙◌, true≢false}
+use Rattle.std.proofs.Common.{◌≡◌, ℕ, ◌≤◌, ◌==◌, Bool, true, false, if◌then◌else◌, List, [], ◌∷◌, Option, Some, None, IsSome, IfSome, map, option_map, option_and_then, slice_get, refl, sym, ap, subst, ◌∙◌, true≢false, arith, length}
 use Rattle.std.proofs.lemmas.Bool.Decides.{Decides-eqb}
 use Rattle.slab.specs.Slab as slots
 use Rattle.slab.specs.Slab.{Slab, Updates}
@@ -70,8 +70,13 @@ module _ (s n : Store) (shapes : (q : TableKey) → shape_at n q ≡ shape_at s 
     less = λ i k h. less_at last (shape_of x.table) (shape_of y.table) same i k (is.less i k (subst (λ m. edge_of m i ≡ Some k) less h));
   }
 
-  pub IsOrder-shapes : n.last ≡ s.last → (keys : List TableKey) → IsOrder s keys → IsOrder n keys
-  IsOrder-shapes last keys is = record { has = λ k h. is.has k (still k h); given = λ k c. rw last (is.given k c); rising = is.rising }
+  pub IsOrder-shapes : n.last ≡ s.last → length n.tables ≡ length s.tables → (keys : List TableKey) → IsOrder s keys → IsOrder n keys
+  IsOrder-shapes last many keys is = record {
+    has = λ k h. is.has k (still k h);
+    given = λ k c. rw last (is.given k c);
+    few = omega (arith, many, is.few);
+    rising = is.rising;
+  }
 
 -- the rows of a table that has cells
 rows_of_table : (o : Option Archetype) (r : ℕ) → IfSome o HasCells → IfSome (option_and_then (λ t. row_of t r) o) (λ v. option_map shape_of o ≡ Some (shape_of_cells v.1))

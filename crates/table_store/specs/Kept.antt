@@ -1,5 +1,5 @@
 -- The fields of a store: slots of tables, the key of the table of each list of ids, and the keys by serial.
-use Rattle.std.specs.Prelude.{◌≡◌, Bool, ◌↔◌, ℕ, suc, ◌≤◌, ◌==◌, cond, if◌then◌else◌, List, [], ◌∷◌, Option, Some, None, IsSome, IsNone, IfSome, is_some, map, ◌⊎◌, IfOk, OnErr, Result, max, ◌<◌}
+use Rattle.std.specs.Prelude.{◌≡◌, Bool, ◌↔◌, ℕ, suc, ◌+◌, ◌*◌, ◌≤◌, ◌==◌, cond, if◌then◌else◌, List, [], ◌∷◌, Option, Some, None, IsSome, IsNone, IfSome, is_some, length, map, ◌⊎◌, IfOk, OnErr, Result, max, ◌<◌}
 use Rattle.std.specs.List.{Contains}
 use Rattle.std.specs.List.Sorted.{IsStrictlySortedBy}
 use Rattle.std.specs.Ordering.{nat_cmp}
@@ -93,6 +93,8 @@ IsIndex s by_ids = (ids : List Id) (k : TableKey) → (key_of by_ids ids ≡ Som
 pub record IsOrder (s : Store) (keys : List TableKey) : Type 0 where
   pub has : (k : TableKey) → IsSome (table_at s k) → Contains keys k
   pub given : (k : TableKey) → Contains keys k → k.serial ≤ s.last
+  -- those of released tables are at most one more than tables stand
+  pub few : length keys ≤ 2 * length s.tables + 1
   pub rising : IsStrictlySortedBy nat_cmp (map (λ k. k.serial) keys)
 
 pub record IsKept {Y : Type 0} (tables : Slab (Held Y)) (by_ids : ByIds Y) (by_serial : Vec TableKey Y) (last : ℕ) : Type 0 where

@@ -16,7 +16,7 @@
 //! let (row, filled) = store.move_row(moving, row, still);
 //! assert!(rt; store.without(still, frozen) == Ok(moving) && filled.is_none());
 //!
-//! // the keys that were given after a serial, and one that is gone for good
+//! // the tables that were made after one, and one that is gone for good
 //! for key in store.since(moving.serial) { .. }
 //! store.release(moving);
 //! assert!(rt; store.get(moving).is_none());
@@ -28,8 +28,10 @@
 
 mod edges;
 mod shape;
+mod since;
 mod sized;
 mod store;
 
+pub use since::Since;
 pub use sized::SizedId;
 pub use store::TableStore;

@@ -1,10 +1,10 @@
 //! The store of tables.
-ghost use Rattle.std.specs.Prelude.{◌≡◌, ◌↔◌, ◌<◌, ◌≤◌, ◌-◌, ◌+◌, ◌^◌, ◌⊎◌, ◌≢◌, ◌++◌, ◌∷◌, MatchResult, ℕ, [], IfOk, OnOk, OnErr, IsOk, IsNone, IsSome, IfSome, MatchOption, None, Some, map, max, min, length, option_map, slice_get, IsTrue};
+ghost use Rattle.std.specs.Prelude.{◌≡◌, ◌↔◌, ◌<◌, ◌≤◌, ◌-◌, ◌+◌, ◌*◌, ◌^◌, ◌⊎◌, ◌≢◌, ◌++◌, ◌∷◌, MatchResult, ℕ, [], IfOk, OnOk, OnErr, IsOk, IsNone, IsSome, IfSome, MatchOption, None, Some, map, max, min, length, option_map, slice_get, IsTrue};
 ghost use Rattle.std.specs.FinMap.{is_sorted};
 ghost use Rattle.std.specs.Ordering.{nat_cmp};
 ghost use Rattle.std.specs.List.{Contains, filter};
 ghost use Rattle.std.specs.List.Sorted.{IsStrictlySortedBy};
-ghost use Rattle.slab.specs.Slab.{HasRoomFor, get as slot_at};
+ghost use Rattle.slab.specs.Slab.{HasRoomFor, get as slot_at, slab_len};
 ghost use Rattle.indexmap.specs.IndexMap as hashed;
 ghost use Rattle.ecs_id.specs.Id.{Id, id_cmp, id_eq};
 ghost use Rattle.ecs_id.specs.declared.Place.{Place};
@@ -16,6 +16,7 @@ ghost use Rattle.table_store.specs.Rows.{AreValues, IsStored, Row, filler, moved
 
 use crate::edges::Edges;
 use crate::shape::{Sizes, are_tags, ids_of, next_shape, push_sizes};
+use crate::since::Since;
 use crate::sized::SizedId;
 use ecs_id::{EntityId, Id, TableKey};
 use ecs_table::Table;
@@ -30,7 +31,7 @@ use std::mem;
 
 /// A table with its serial, and the edges that lead from it.
 #[derive(Drop)]
-struct Slot<A: Allocator> {
+pub(crate) struct Slot<A: Allocator> {
     serial: u128,
     table: Table<A>,
     // for an id, the table that has it more
@@ -40,11 +41,11 @@ struct Slot<A: Allocator> {
 }
 
 // In boxes, so that one can be taken out for a moment: two slots of one slab can't be borrowed at once.
-type Slots<A> = Slab<Box<Slot<A>, A>, A>;
+pub(crate) type Slots<A> = Slab<Box<Slot<A>, A>, A>;
 
 type ByIds<A> = IndexMap<Vec<Id, A>, TableKey, Hashing, A>;
 
-// Serials only rise, so each new key stands at the end. Keys of released tables may be among them.
+// Serials only rise, so each new key stands at the end. Keys of released tables may be among them: at most one more than tables stand.
 type BySerial<A> = Vec<TableKey, A>;
 
 /// The tables of a world, one for each set of ids.
@@ -415,7 +416,9 @@ fn newer(keys: &[TableKey], serial: u128) -> &[TableKey]
 
 // Takes the keys of released tables out of the list, once most of its keys are such: so each costs a constant.
 fn forget_released<A: Allocator>(by_serial: &mut BySerial<A>, tables: &Slots<A>)
-    ensures { (by_serial.new.items ≡ by_serial.old.items) ⊎ (by_serial.new.items ≡ filter (is_held tables.now) by_serial.old.items) }
+    requires { IsStrictlySortedBy nat_cmp (map (λ q. q.serial) by_serial.old.items) }
+    ensures few { length by_serial.new.items ≤ 2 * slab_len tables.now + 1 }
+    ensures kept { (by_serial.new.items ≡ by_serial.old.items) ⊎ (by_serial.new.items ≡ filter (is_held tables.now) by_serial.old.items) }
 {
     if by_serial.len() / 2 > tables.len() {
         by_serial.retain(|key| stands(tables, *key));
@@ -423,7 +426,7 @@ fn forget_released<A: Allocator>(by_serial: &mut BySerial<A>, tables: &Slots<A>)
 }
 
 // Whether a table stands under the key.
-fn stands<A: Allocator>(tables: &Slots<A>, key: TableKey) -> bool
+pub(crate) fn stands<A: Allocator>(tables: &Slots<A>, key: TableKey) -> bool
     ensures { result ≡ is_held tables.now key }
 {
     match tables.get(key.slot as usize) {
@@ -580,14 +583,24 @@ impl<A: Allocator> TableStore<A> {
         moved
     }
 
-    /// The keys of the tables whose serials are greater than this one, by rising serial. Keys of tables that were released may be among them.
-    pub fn since(&self, serial: u128) -> &[TableKey]
-        ensures listed { (q : TableKey) → IsSome (table_at self.now q) → serial < q.serial → Contains result.now q }
-        ensures newer { (q : TableKey) → Contains result.now q → serial < q.serial }
-        ensures rising { IsStrictlySortedBy nat_cmp (map (λ q. q.serial) result.now) }
+    /// The keys of the tables whose serials are greater than this one, by rising serial.
+    pub fn since(&self, serial: u128) -> Since<'_, A>
+        ensures exact { (q : TableKey) → Contains result q ↔ (IsSome (table_at self.now q) × (serial < q.serial)) }
+        ensures rising { IsStrictlySortedBy nat_cmp (map (λ q. q.serial) result) }
         ensures whole { IsStored self.now }
     {
-        newer(self.by_serial.as_slice(), serial)
+        Since::new(&self.tables, newer(self.by_serial.as_slice(), serial))
+    }
+
+    /// The keys that the store remembers, by rising serial: those of the tables that stand, and some of tables that were released, at most one more
+    /// than tables stand.
+    pub fn remembered(&self) -> &[TableKey]
+        ensures listed { (q : TableKey) → IsSome (table_at self.now q) → Contains result.now q }
+        ensures rising { IsStrictlySortedBy nat_cmp (map (λ q. q.serial) result.now) }
+        ensures few { length result.now ≤ 2 * length self.now.tables + 1 }
+        ensures whole { IsStored self.now }
+    {
+        self.by_serial.as_slice()
     }
 
     /// Takes a table without rows away, and its key for good. Of a key that is gone it does nothing.

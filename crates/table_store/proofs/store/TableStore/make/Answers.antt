@@ -36,7 +36,7 @@ invariant_of-self-2 g c = put_kept c.self.inside.tables c.prepare.new.tables c.i
     (c.insert_reserved.ensures.key ∙ ap (λ (t : Slab _). t.vacant_key) c.prepare.ensures.tables ∙ sym c.in-Ok.ensures.slot) c.in-Ok.ensures.vacant c.insert_reserved.ensures.updates
     c.in-Ok-prepare.ensures.serial c.in-Ok-prepare.ensures.table c.in-Ok-prepare.ensures.more c.in-Ok-prepare.ensures.less c.in-Ok.ensures.numbered
     (subst (λ (l : List Id). SetsIds l (Some c.in-Ok.key) c.self.inside.by_ids c.prepare.new.by_ids) c.requires.ids c.in-Ok-prepare.ensures.by_ids)
-    c.in-Ok-prepare.ensures.by_serial
+    c.in-Ok-prepare.ensures.by_serial c.insert_reserved.ensures.len
 
 pub returns : goal.returns
 returns g c = is_put c.self.inside.tables c.prepare.new.tables c.insert_reserved.new.self c.self.inside.by_ids c.prepare.new.by_ids c.self.inside.by_serial c.prepare.new.by_serial c.self.inside.last c.args.self.now c.self.view_is c.self.invariant c.prepare.ensures.tables
@@ -44,4 +44,4 @@ returns g c = is_put c.self.inside.tables c.prepare.new.tables c.insert_reserved
     (c.insert_reserved.ensures.key ∙ ap (λ (t : Slab _). t.vacant_key) c.prepare.ensures.tables ∙ sym c.in-Ok.ensures.slot) c.in-Ok.ensures.vacant c.insert_reserved.ensures.updates
     c.in-Ok-prepare.ensures.serial c.in-Ok-prepare.ensures.table c.in-Ok-prepare.ensures.more c.in-Ok-prepare.ensures.less c.in-Ok.ensures.numbered
     (subst (λ (l : List Id). SetsIds l (Some c.in-Ok.key) c.self.inside.by_ids c.prepare.new.by_ids) c.requires.ids c.in-Ok-prepare.ensures.by_ids)
-    c.in-Ok-prepare.ensures.by_serial
+    c.in-Ok-prepare.ensures.by_serial c.insert_reserved.ensures.len

@@ -10,9 +10,12 @@ returns-then-not-stands-clause-tables g c = not_standing c.self.inside.tables c.
 pub returns-then-not-stands-clause-whole : goal.returns-then-not-stands-clause-whole
 returns-then-not-stands-clause-whole g c = stored c.self.inside.tables c.self.inside.by_ids c.self.inside.by_serial c.self.inside.last c.self.invariant c.args.self.now c.self.view_is
 
+pub forget_released-requires : goal.forget_released-requires
+forget_released-requires g c = c.self.invariant.order.rising
+
 pub invariant_of-self : goal.invariant_of-self
 invariant_of-self g c = released_kept c.self.inside.tables c.remove-slot.new.self c.self.inside.by_ids c.swap_remove.new.self c.self.inside.by_serial c.forget_released.new.by_serial c.self.inside.last c.self.invariant c.args.key c.remove-slot.result c.remove-slot.ensures.value (sym c.stands.ensures ∙ c.if-not-stands.false) c.remove-slot.ensures.updates
-    c.ids.result.now (c.ids.ensures.value ∙ ap (λ (d : Slot _). d.table.ids) c.deref.ensures) c.swap_remove.ensures.updates c.forget_released.ensures
+    c.ids.result.now (c.ids.ensures.value ∙ ap (λ (d : Slot _). d.table.ids) c.deref.ensures) c.swap_remove.ensures.updates c.forget_released.ensures.few c.forget_released.ensures.kept
 
 pub returns-clause-tables : goal.returns-clause-tables
 returns-clause-tables g c = released c.self.inside.tables c.remove-slot.new.self c.self.inside.by_ids c.swap_remove.new.self c.self.inside.by_serial c.forget_released.new.by_serial c.self.inside.last c.self.invariant c.args.key c.remove-slot.result c.remove-slot.ensures.value (sym c.stands.ensures ∙ c.if-not-stands.false) c.remove-slot.ensures.updates
@@ -24,4 +27,4 @@ returns-clause-rows g c = released_rows c.self.inside.tables c.remove-slot.new.s
 
 pub returns-clause-whole : goal.returns-clause-whole
 returns-clause-whole g c = released_stored c.self.inside.tables c.remove-slot.new.self c.self.inside.by_ids c.swap_remove.new.self c.self.inside.by_serial c.forget_released.new.by_serial c.self.inside.last c.self.invariant c.args.key c.remove-slot.result c.remove-slot.ensures.value (sym c.stands.ensures ∙ c.if-not-stands.false) c.remove-slot.ensures.updates
-    c.ids.result.now (c.ids.ensures.value ∙ ap (λ (d : Slot _). d.table.ids) c.deref.ensures) c.swap_remove.ensures.updates c.forget_released.ensures
+    c.ids.result.now (c.ids.ensures.value ∙ ap (λ (d : Slot _). d.table.ids) c.deref.ensures) c.swap_remove.ensures.updates c.forget_released.ensures.few c.forget_released.ensures.kept
