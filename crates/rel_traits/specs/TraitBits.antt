@@ -1,6 +1,6 @@
 -- The traits that a set has bits for.
-use Rattle.std.specs.Prelude.{ℕ, ◌+◌, ◌^◌, List, [], ◌∷◌, if◌then◌else◌}
-use Rattle.std.specs.Int.RustNames.{bit_or}
+use Rattle.std.specs.Prelude.{◌≡◌, ℕ, ◌+◌, ◌^◌, ◌<◌, ◌==◌, List, [], ◌∷◌, if◌then◌else◌, slice_index_or}
+use Rattle.std.specs.Int.RustNames.{bit_and, bit_or}
 use Rattle.ecs_id.specs.Id.{Id, plain, pair}
 use Rattle.ecs_model.specs.BuiltIns.{exclusive, symmetric, transitive, reflexive, acyclic, traversable, on_delete, on_delete_target, delete_mode, panic_mode, on_instantiate, inherit_mode, dont_inherit_mode}
 use Rattle.ecs_model.specs.Links.{is_held}
@@ -21,3 +21,7 @@ bit_if held i n = if is_held held i then n else 0
 unfoldable pub bits_from : List Id → ℕ → List Id → ℕ
 bits_from held k [] = 0
 bits_from held k (i ∷ is) = bit_or (bits_from held (k + 1) is) (bit_if held i (2 ^ k))
+
+-- the set has the bits of the traits that are held
+abbrev pub AreTraits : List Id → ℕ → Type 0
+AreTraits held n = (b : ℕ) → b < 13 → (bit_and n (2 ^ b) == 2 ^ b) ≡ is_held held (slice_index_or trait_ids b (plain 0))

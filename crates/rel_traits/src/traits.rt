@@ -1,9 +1,9 @@
 //! The traits of a component or relationship as a set of bits.
 ghost use Rattle.std.specs.Prelude.{⊤, ◌≡◌, ◌≤◌, ◌<◌, ◌^◌, ◌==◌, ℕ, false, [], ◌∷◌, codes, slice_index_or};
 ghost use Rattle.std.specs.Int.RustNames.{bit_and};
-ghost use Rattle.ecs_id.specs.Id.{plain as plain_id};
+ghost use Rattle.ecs_id.specs.Id.{pair as pair_id, plain as plain_id};
 ghost use Rattle.ecs_model.specs.Links.{is_held};
-ghost use Rattle.rel_traits.specs.TraitBits.{bit_if, trait_ids};
+ghost use Rattle.rel_traits.specs.TraitBits.{bits_from, trait_ids};
 
 use bitflags::{Flag, Flags, bitflag_items};
 use ecs_id::Id;
@@ -62,47 +62,58 @@ pub fn traits_of<G: Graph>(graph: &G, index: u32) -> TraitSet
     ensures held { (b : ℕ) → b < 13 → (bit_and result.0 (2 ^ b) == 2 ^ b) ≡ is_held (G.ids graph.now index) (slice_index_or trait_ids b (plain_id 0)) }
     ensures no_more { (b : ℕ) → 13 ≤ b → (bit_and result.0 (2 ^ b) == 2 ^ b) ≡ false }
 {
-    let ids = graph.ids(index);
+    traits_among(graph.ids(index))
+}
+
+/// The traits of one that holds these ids: each bit is set exactly if its fact is among them, and no other bit is. It takes one pass over the ids.
+pub fn traits_among(ids: &[Id]) -> TraitSet
+    ensures held { (b : ℕ) → b < 13 → (bit_and result.0 (2 ^ b) == 2 ^ b) ≡ is_held ids.now (slice_index_or trait_ids b (plain_id 0)) }
+    ensures no_more { (b : ℕ) → 13 ≤ b → (bit_and result.0 (2 ^ b) == 2 ^ b) ≡ false }
+{
     let mut traits = TraitSet::empty();
-    traits.insert(flag_if(
-        ids,
-        Id::pair(ON_INSTANTIATE, DONT_INHERIT),
-        TraitSet::ON_INSTANTIATE_DONT_INHERIT,
-    ));
-    traits.insert(flag_if(
-        ids,
-        Id::pair(ON_INSTANTIATE, INHERIT),
-        TraitSet::ON_INSTANTIATE_INHERIT,
-    ));
-    traits.insert(flag_if(
-        ids,
-        Id::pair(ON_DELETE_TARGET, PANIC),
-        TraitSet::ON_DELETE_TARGET_PANIC,
-    ));
-    traits.insert(flag_if(
-        ids,
-        Id::pair(ON_DELETE_TARGET, DELETE),
-        TraitSet::ON_DELETE_TARGET_DELETE,
-    ));
-    traits.insert(flag_if(ids, Id::pair(ON_DELETE, PANIC), TraitSet::ON_DELETE_PANIC));
-    traits.insert(flag_if(ids, Id::pair(ON_DELETE, DELETE), TraitSet::ON_DELETE_DELETE));
-    traits.insert(flag_if(ids, Id::plain(PAIR_IS_TAG), TraitSet::PAIR_IS_TAG));
-    traits.insert(flag_if(ids, Id::plain(TRAVERSABLE), TraitSet::TRAVERSABLE));
-    traits.insert(flag_if(ids, Id::plain(ACYCLIC), TraitSet::ACYCLIC));
-    traits.insert(flag_if(ids, Id::plain(REFLEXIVE), TraitSet::REFLEXIVE));
-    traits.insert(flag_if(ids, Id::plain(TRANSITIVE), TraitSet::TRANSITIVE));
-    traits.insert(flag_if(ids, Id::plain(SYMMETRIC), TraitSet::SYMMETRIC));
-    traits.insert(flag_if(ids, Id::plain(EXCLUSIVE), TraitSet::EXCLUSIVE));
+    for id in ids {
+        traits.insert(flag_of(*id));
+    }
     traits
 }
 
-/// The flag, where the id is held.
-fn flag_if(ids: &[Id], id: Id, flag: TraitSet) -> TraitSet
-    ensures { result.0 ≡ bit_if ids.now id flag.0 }
+/// The flag of an id that is one of these traits.
+fn flag_of(id: Id) -> TraitSet
+    ensures { result.0 ≡ bits_from (id ∷ []) 0 trait_ids }
 {
-    if ids.contains(&id) {
-        flag
-    } else {
-        TraitSet::empty()
+    match id.second() {
+        None => plain_flag(id.first()),
+        Some(target) => pair_flag(id.first(), target),
+    }
+}
+
+/// The flag of a trait that is a plain id.
+fn plain_flag(index: u32) -> TraitSet
+    ensures { result.0 ≡ bits_from (plain_id index ∷ []) 0 trait_ids }
+{
+    match index {
+        EXCLUSIVE => TraitSet::EXCLUSIVE,
+        SYMMETRIC => TraitSet::SYMMETRIC,
+        TRANSITIVE => TraitSet::TRANSITIVE,
+        REFLEXIVE => TraitSet::REFLEXIVE,
+        ACYCLIC => TraitSet::ACYCLIC,
+        TRAVERSABLE => TraitSet::TRAVERSABLE,
+        PAIR_IS_TAG => TraitSet::PAIR_IS_TAG,
+        _ => TraitSet::empty(),
+    }
+}
+
+/// The flag of a trait that is a pair.
+fn pair_flag(relationship: u32, target: u32) -> TraitSet
+    ensures { result.0 ≡ bits_from (pair_id relationship target ∷ []) 0 trait_ids }
+{
+    match (relationship, target) {
+        (ON_DELETE, DELETE) => TraitSet::ON_DELETE_DELETE,
+        (ON_DELETE, PANIC) => TraitSet::ON_DELETE_PANIC,
+        (ON_DELETE_TARGET, DELETE) => TraitSet::ON_DELETE_TARGET_DELETE,
+        (ON_DELETE_TARGET, PANIC) => TraitSet::ON_DELETE_TARGET_PANIC,
+        (ON_INSTANTIATE, INHERIT) => TraitSet::ON_INSTANTIATE_INHERIT,
+        (ON_INSTANTIATE, DONT_INHERIT) => TraitSet::ON_INSTANTIATE_DONT_INHERIT,
+        _ => TraitSet::empty(),
     }
 }
