@@ -5,12 +5,15 @@ ghost use Rattle.ecs_model.specs.Added.{brought, displaced};
 ghost use Rattle.ecs_model.specs.Links.{targets_in};
 ghost use Rattle.fact_rules.specs.Simple.{ComesAlone, leads_to_copies as leads_to_copies_of};
 ghost use Rattle.rel_traits.specs.After.{ClosesAt};
+ghost use Rattle.rel_traits.specs.TraitBits.{AreTraits};
 
 use crate::copies::gives_copies;
 use crate::traits::is_trait;
+use bitflags::Flags;
 use ecs_id::Id;
 use ecs_model::FactKey;
-use ecs_model::built_ins::{ACYCLIC, EXCLUSIVE, IS_A, SYMMETRIC, WITH};
+use ecs_model::built_ins::{IS_A, WITH};
+use rel_traits::{TraitSet, traits_among};
 use rel_travel::{Graph, Holders, may_be_target, target_under};
 
 /// Whether a fact is seen to come alone: it is no trait, brings no other, copies nothing, lets none give way, and closes no cycle.
@@ -22,9 +25,10 @@ pub fn comes_alone<G: Holders>(graph: &G, fact: FactKey) -> bool
     ensures { IsTrue result → ComesAlone (G.ids graph.now) fact }
 {
     let id = fact.id();
-    let traits = graph.ids(id.first());
+    let held = graph.ids(id.first());
+    let traits = traits_among(held);
     !is_trait(id)
-        && !may_bring(traits, id)
+        && !may_bring(held, traits, id)
         && !leads_to_copies(graph, id)
         && !may_displace(graph, traits, fact)
         && !may_close(graph, traits, fact)
@@ -36,14 +40,15 @@ pub fn plain_comes_alone(traits: &[Id], id: Id) -> bool
     requires { second_of id ≡ None }
     ensures { IsTrue result → (ids : ℕ → List IdValue) (e : ℕ) → traits.now ≡ ids (first_of id) → ComesAlone ids (e, id) }
 {
-    !is_trait(id) && !may_bring(traits, id)
+    !is_trait(id) && !has_target(traits, WITH)
 }
 
-/// Whether facts of an id may bring others, where its component or relationship holds these ids.
-fn may_bring(traits: &[Id], id: Id) -> bool
-    ensures { result ≡ false → (ids : ℕ → List IdValue) (e : ℕ) → traits.now ≡ ids (first_of id) → brought ids (e, id) ≡ [] }
+/// Whether facts of an id may bring others, where its component or relationship holds these ids, and so has these traits.
+fn may_bring(held: &[Id], traits: TraitSet, id: Id) -> bool
+    requires { AreTraits held.now traits.0 }
+    ensures { result ≡ false → (ids : ℕ → List IdValue) (e : ℕ) → held.now ≡ ids (first_of id) → brought ids (e, id) ≡ [] }
 {
-    has_target(traits, WITH) || id.is_pair() && traits.contains(&Id::plain(SYMMETRIC))
+    has_target(held, WITH) || id.is_pair() && traits.contains(TraitSet::SYMMETRIC)
 }
 
 /// Whether an id leads from an instance to a base of which something may be copied.
@@ -57,26 +62,26 @@ fn leads_to_copies<G: Graph>(graph: &G, id: Id) -> bool
 }
 
 /// Whether others may give way to a fact.
-fn may_displace<G: Graph>(graph: &G, traits: &[Id], fact: FactKey) -> bool
-    requires { traits.now ≡ G.ids graph.now (first_of fact.1) }
+fn may_displace<G: Graph>(graph: &G, traits: TraitSet, fact: FactKey) -> bool
+    requires { AreTraits (G.ids graph.now (first_of fact.1)) traits.0 }
     ensures { result ≡ false → displaced (G.ids graph.now) fact ≡ [] }
 {
     let id = fact.id();
     id.is_pair()
-        && traits.contains(&Id::plain(EXCLUSIVE))
+        && traits.contains(TraitSet::EXCLUSIVE)
         && has_target(graph.ids(fact.entity()), id.first())
 }
 
 /// Whether a fact may close a cycle.
-fn may_close<G: Holders>(graph: &G, traits: &[Id], fact: FactKey) -> bool
-    requires { traits.now ≡ G.ids graph.now (first_of fact.1) }
+fn may_close<G: Holders>(graph: &G, traits: TraitSet, fact: FactKey) -> bool
+    requires { AreTraits (G.ids graph.now (first_of fact.1)) traits.0 }
     ensures { result ≡ false → ¬ (ClosesAt (G.ids graph.now) fact.0 fact) }
 {
     let id = fact.id();
     let Some(target) = id.second() else {
         return false;
     };
-    traits.contains(&Id::plain(ACYCLIC))
+    traits.contains(TraitSet::ACYCLIC)
         && (target == fact.entity() || may_be_target(graph, id.first(), fact.entity()))
 }
 

@@ -11,12 +11,11 @@ ghost use Rattle.fact_rules.specs.Copies.{IsJoined, base_among, base_at, copies_
 
 use crate::fact_lists::put_in_order;
 use crate::traits::is_trait;
+use bitflags::Flags;
 use ecs_id::Id;
 use ecs_model::FactKey;
-use ecs_model::built_ins::{
-    DONT_INHERIT, EXCLUSIVE, INHERIT, IS_A, ON_INSTANTIATE, SYMMETRIC, TRAVERSABLE,
-};
-use rel_traits::is_fact;
+use ecs_model::built_ins::{DONT_INHERIT, INHERIT, IS_A, ON_INSTANTIATE};
+use rel_traits::{TraitSet, is_fact, traits_among};
 use rel_travel::{Graph, target_under};
 use std::alloc::{AllocError, Allocator};
 
@@ -171,14 +170,6 @@ fn is_left_to_base(traits: &[Id]) -> bool
     false
 }
 
-/// Whether one with these traits has a plain one.
-fn has_trait(traits: &[Id], index: u32) -> bool
-    requires { IsIndex index }
-    ensures { result ≡ is_held traits.now (plain index) }
-{
-    traits.contains(&Id::plain(index))
-}
-
 /// Whether an id stays with the base.
 fn stays_behind(id: Id) -> bool
     ensures { result ≡ stays id }
@@ -224,9 +215,11 @@ fn takes(held: &[Id], entity: u32, added: &[FactKey], traits: &[Id], id: Id) -> 
 fn takes_pair(held: &[Id], entity: u32, added: &[FactKey], traits: &[Id], relationship: u32) -> bool
     ensures { result ≡ takes_pair_own traits.now held.now entity added.now relationship }
 {
-    !has_trait(traits, TRAVERSABLE)
-        && !has_trait(traits, SYMMETRIC)
-        && !(has_trait(traits, EXCLUSIVE) && has_own_pair(held, entity, added, relationship))
+    let traits = traits_among(traits);
+    !traits.contains(TraitSet::TRAVERSABLE)
+        && !traits.contains(TraitSet::SYMMETRIC)
+        && !(traits.contains(TraitSet::EXCLUSIVE)
+            && has_own_pair(held, entity, added, relationship))
 }
 
 /// Whether an entity that holds these ids has a pair of a relationship, or gets one by these facts.
