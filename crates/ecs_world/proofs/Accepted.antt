@@ -1,5 +1,5 @@
 -- What the calls need that carry out accepted commands, and what they leave.
-use Rattle.std.proofs.Common.{◌≡◌, ℕ, ◌+◌, ◌==◌, Bool, true, false, not, ◌&&◌, List, [], ◌∷◌, length, replicate, ℤ, Option, Some, None, is_some, IsTrue, Result, Ok, Err, is_err, IfOk, OnOk, OnErr, refl, sym, ap, subst, ◌∙◌, true≢false}
+use Rattle.std.proofs.Common.{◌≡◌, ◌<◌, ℕ, ◌+◌, ◌==◌, Bool, true, false, not, ◌&&◌, List, [], ◌∷◌, length, replicate, ℤ, Option, Some, None, is_some, IsTrue, Result, Ok, Err, is_err, IfOk, OnOk, OnErr, refl, sym, ap, subst, ◌∙◌, true≢false}
 use Rattle.std.proofs.lemmas.Bool.Decides.{Decides-eqb}
 use Rattle.std.proofs.lemmas.List.{length-map}
 use Rattle.std.specs.FinMap as finite
@@ -23,6 +23,7 @@ use Rattle.ecs_model.proofs.traits.Held.{removes_held_alone}
 use Rattle.fact_rules.specs.Simple.{ComesAlone, is_unmirrored}
 use Rattle.name_index.specs.Names.{IsUnnamed, Names}
 use Rattle.ecs_archetypes.specs.Holdings.{AreHoldings, HoldAlike, Holdings, KeepsSizes, Sizes, agrees, cells_at, held_at, holds_id, is_settled, lives, upcoming, with_cells, with_entity}
+use Rattle.pin_counts.specs.Counts.{Counts}
 use Rattle.ecs_world.specs.State.{IsWorld, Parts, parts_of, byte_count, is_known_rightly, state_of, type_of, value_in}
 use Rattle.ecs_world.proofs.Births.{birth_left, component_known, effect-component, effect-entity, effect-fresh, none_live, other_schemas, state_component, state_fresh, state_named, tags_empty, tags_tagged}
 use Rattle.ecs_world.proofs.Judged.{CanBear, CanChange, add_of_set, judged-add, judged-remove}
@@ -66,7 +67,7 @@ module _ {parts : Parts} (world : IsWorld parts) {v : WorldState} (is : state_of
   abbrev schemas : Map ℕ Schema
   schemas = parts.schemas
 
-  abbrev pins : Map ℕ ℕ
+  abbrev pins : Counts
   pins = parts.pins
 
   abbrev accepted : ℕ
@@ -187,6 +188,7 @@ module _ {parts : Parts} (world : IsWorld parts) {v : WorldState} (is : state_of
           known = world.known;
           named = world.named;
           one_to_one = world.one_to_one;
+          covered = world.covered;
         },
         state,
       )
@@ -202,6 +204,7 @@ module _ {parts : Parts} (world : IsWorld parts) {v : WorldState} (is : state_of
           known = world.known;
           named = world.named;
           one_to_one = world.one_to_one;
+          covered = world.covered;
         },
         state,
       )
@@ -241,39 +244,39 @@ module _ {parts : Parts} (world : IsWorld parts) {v : WorldState} (is : state_of
             ∙ ap is_some (none_live world e next_w)))
 
     -- an entity without a name
-    pub fresh_left : first_reason (reasons v Fresh) ≡ None → (h' : Holdings) → AreHoldings h' → HoldAlike h' (with_cells (with_entity h e) e.index []) → KeepsSizes h.known [] h'.known
+    pub fresh_left : e.index < pins.reach → first_reason (reasons v Fresh) ≡ None → (h' : Holdings) → AreHoldings h' → HoldAlike h' (with_cells (with_entity h e) e.index []) → KeepsSizes h.known [] h'.known
         → IsWorld (parts_of h' names schemas pins (accepted + 1)) × (state_of (parts_of h' names schemas pins (accepted + 1)) ≡ counted (effect v Fresh))
-    fresh_left none h' whole' alike keeps =
+    fresh_left covers none h' whole' alike keeps =
         let state : state_of (parts_of h' names schemas pins (accepted + 1)) ≡ counted (effect v Fresh) =
         state_fresh world e next_w h' whole' alike (accepted + 1)
         ∙ (λ k. record (is k) { live = with_value nat_cmp (is k).live e.index e.generation; accepted = (is k).accepted + 1 }) ∙ ap counted (sym (effect-fresh v e next)) in (
-          birth_left world e next_w h' whole' [] alike schemas (λ j d. refl) (tags_empty world e next_w h' whole' alike) names
+          birth_left world e next_w h' whole' [] alike schemas (λ j d. refl) (tags_empty world e next_w h' whole' alike) covers names
               (AreNamed-same names h.live (AreNamed-world world) e (none_live world e next_w)) [] keeps refl (accepted + 1)
               (sound_after v (state_of (parts_of h' names schemas pins (accepted + 1))) Fresh sound_v tt none state),
           state,
         )
 
     -- an entity with a name
-    pub named_left : (n : List ℕ) → first_reason (reasons v (Entity n)) ≡ None → finite.get names n ≡ None → (names' : Names) → names' ≡ finite.insert names n e
+    pub named_left : e.index < pins.reach → (n : List ℕ) → first_reason (reasons v (Entity n)) ≡ None → finite.get names n ≡ None → (names' : Names) → names' ≡ finite.insert names n e
         → (h' : Holdings) → AreHoldings h' → HoldAlike h' (with_cells (with_entity h e) e.index []) → KeepsSizes h.known [] h'.known
         → IsWorld (parts_of h' names' schemas pins (accepted + 1)) × (state_of (parts_of h' names' schemas pins (accepted + 1)) ≡ counted (effect v (Entity n)))
-    named_left n none free names' bound h' whole' alike keeps =
+    named_left covers n none free names' bound h' whole' alike keeps =
         subst (λ ns. IsWorld (parts_of h' ns schemas pins (accepted + 1)) × (state_of (parts_of h' ns schemas pins (accepted + 1)) ≡ counted (effect v (Entity n)))) (sym bound)
         (let state : state_of (parts_of h' (finite.insert names n e) schemas pins (accepted + 1)) ≡ counted (effect v (Entity n)) =
         state_named world e next_w h' whole' alike n free (accepted + 1)
         ∙ (λ k. record (is k) { live = with_value nat_cmp (is k).live e.index e.generation; names = with_value nat_cmp (is k).names e.index n; accepted = (is k).accepted + 1 }) ∙ ap counted (sym (effect-entity v n e next)) in (
-          birth_left world e next_w h' whole' [] alike schemas (λ j d. refl) (tags_empty world e next_w h' whole' alike) (finite.insert names n e)
+          birth_left world e next_w h' whole' [] alike schemas (λ j d. refl) (tags_empty world e next_w h' whole' alike) covers (finite.insert names n e)
               (AreNamed-bound names h.live (AreNamed-world world) e (none_live world e next_w) n free) [] keeps refl (accepted + 1)
               (sound_after v (state_of (parts_of h' (finite.insert names n e) schemas pins (accepted + 1))) (Entity n) sound_v tt none state),
           state,
         ))
 
     -- a component
-    pub component_left : (n : List ℕ) (s : Schema) → schema_fault s ≡ None → first_reason (reasons v (Component n s)) ≡ None → finite.get names n ≡ None → (names' : Names) → names' ≡ finite.insert names n e
+    pub component_left : e.index < pins.reach → (n : List ℕ) (s : Schema) → schema_fault s ≡ None → first_reason (reasons v (Component n s)) ≡ None → finite.get names n ≡ None → (names' : Names) → names' ≡ finite.insert names n e
         → (schemas' : Map ℕ Schema) → schemas' ≡ with_value nat_cmp schemas e.index s
         → (h' : Holdings) → AreHoldings h' → HoldAlike h' (with_cells (with_entity h e) e.index ((plain component, []) ∷ [])) → KeepsSizes h.known ((plain component, 0) ∷ []) h'.known
         → IsWorld (parts_of h' names' schemas' pins (accepted + 1)) × (state_of (parts_of h' names' schemas' pins (accepted + 1)) ≡ counted (effect v (Component n s)))
-    component_left n s proper none free names' bound schemas' typed h' whole' alike keeps =
+    component_left covers n s proper none free names' bound schemas' typed h' whole' alike keeps =
         subst (λ ns. IsWorld (parts_of h' ns schemas' pins (accepted + 1)) × (state_of (parts_of h' ns schemas' pins (accepted + 1)) ≡ counted (effect v (Component n s)))) (sym bound)
         (subst (λ ss. IsWorld (parts_of h' (finite.insert names n e) ss pins (accepted + 1)) × (state_of (parts_of h' (finite.insert names n e) ss pins (accepted + 1)) ≡ counted (effect v (Component n s)))) (sym typed)
         (let state : state_of (parts_of h' (finite.insert names n e) (with_value nat_cmp schemas e.index s) pins (accepted + 1)) ≡ counted (effect v (Component n s)) =
@@ -286,7 +289,7 @@ module _ {parts : Parts} (world : IsWorld parts) {v : WorldState} (is : state_of
           accepted = (is k).accepted + 1;
         }) ∙ ap counted (sym (effect-component v n s e next)) in (
           birth_left world e next_w h' whole' ((plain component, []) ∷ []) alike (with_value nat_cmp schemas e.index s) (other_schemas world e next_w h' whole' alike s)
-              (tags_tagged world e next_w h' whole' alike s) (finite.insert names n e)
+              (tags_tagged world e next_w h' whole' alike s) covers (finite.insert names n e)
               (AreNamed-bound names h.live (AreNamed-world world) e (none_live world e next_w) n free) ((plain component, 0) ∷ []) keeps
               (component_known world e next_w h' whole' alike s) (accepted + 1)
               (sound_after v (state_of (parts_of h' (finite.insert names n e) (with_value nat_cmp schemas e.index s) pins (accepted + 1))) (Component n s) sound_v proper none state),

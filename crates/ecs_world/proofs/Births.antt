@@ -1,5 +1,5 @@
 -- What the birth of an entity leaves.
-use Rattle.std.proofs.Common.{◌≡◌, ◌≢◌, ℕ, ◌==◌, Bool, true, false, cond, ◌&&◌, List, [], ◌∷◌, Option, Some, None, is_some, refl, sym, ap, ◌∙◌, inl, inr, true≢false}
+use Rattle.std.proofs.Common.{◌≡◌, ◌≢◌, ℕ, ◌<◌, ◌==◌, Bool, true, false, cond, ◌&&◌, List, [], ◌∷◌, Option, Some, None, is_some, refl, sym, ap, subst, ◌∙◌, inl, inr, true≢false}
 use Rattle.std.specs.Cmp.{Equal-is}
 use Rattle.std.specs.FinMap as finite
 use Rattle.std.specs.FinMap.Entries.{by_order}
@@ -20,6 +20,7 @@ use Rattle.ecs_model.proofs.Maps.{both_true, key_cmp_same, nat_value_at}
 use Rattle.ecs_model.proofs.Reasons.{next_is_free}
 use Rattle.name_index.specs.Names.{Names}
 use Rattle.ecs_archetypes.specs.Holdings.{AreHoldings, Cells, HoldAlike, Holdings, KeepsSizes, Sizes, cells_at, holds_id, with_cells, with_entity}
+use Rattle.pin_counts.specs.Counts.{Counts}
 use Rattle.ecs_world.specs.State.{IsWorld, Parts, parts_of, all_facts, byte_count, is_known_rightly, names_of, state_of, type_of, value_in}
 use Rattle.ecs_world.proofs.Entities.{alive_of}
 use Rattle.ecs_world.proofs.Facts.{bytes_in}
@@ -70,7 +71,7 @@ module _ {parts : Parts} (world : IsWorld parts) (e : EntityId) (next : next_ent
   abbrev schemas : Map ℕ Schema
   schemas = parts.schemas
 
-  abbrev pins : Map ℕ ℕ
+  abbrev pins : Counts
   pins = parts.pins
 
   abbrev accepted : ℕ
@@ -97,6 +98,9 @@ module _ {parts : Parts} (world : IsWorld parts) (e : EntityId) (next : next_ent
   still_live : (j : ℕ) → has_key nat_cmp h.live j ≡ true → has_key nat_cmp born j ≡ true
   still_live j live = elim (nat_value_at h.live e.index e.generation j) [ inl p ↦ ap is_some p.1 | inr p ↦ ap is_some p.1 ∙ live ]
 
+  covers_born : e.index < pins.reach → (j : ℕ) → has_key nat_cmp born j ≡ true → j < pins.reach
+  covers_born covers j live = elim (nat_value_at h.live e.index e.generation j) [ inl p ↦ subst (λ i. i < pins.reach) (sym p.0) covers | inr p ↦ world.covered j (ap is_some (sym p.1) ∙ live) ]
+
   module _ (h' : Holdings) (whole' : AreHoldings h') (cs' : Cells) (alike : HoldAlike h' (with_cells (with_entity h e) e.index cs')) (schemas' : Map ℕ Schema)
       (same : (j : ℕ) → j ≢ e.index → value_at nat_cmp schemas' j ≡ value_at nat_cmp schemas j) (tags : (r : ℕ) → holds_id h' r (plain pair_is_tag) ≡ holds_id h r (plain pair_is_tag)) where
     types_born : (j : Id) → list_all (has_key nat_cmp h.live) (mentioned j) ≡ true → type_of h' schemas' j ≡ type_of h schemas j
@@ -112,15 +116,16 @@ module _ {parts : Parts} (world : IsWorld parts) (e : EntityId) (next : next_ent
         let live : list_all (has_key nat_cmp h'.live) (mentioned c.0) ≡ true = ap (λ m. list_all (has_key nat_cmp m) (mentioned c.0)) alike.live ∙ all_implied (has_key nat_cmp h.live) (has_key nat_cmp born) still_live (mentioned c.0) parts.1 in
         λ i. size i && live i
 
-    pub birth_left : (names' : Names) → AreNamed names' born → (added : Sizes) → KeepsSizes h.known added h'.known → list_all (is_known_rightly h' schemas') added ≡ true
+    pub birth_left : e.index < pins.reach → (names' : Names) → AreNamed names' born → (added : Sizes) → KeepsSizes h.known added h'.known → list_all (is_known_rightly h' schemas') added ≡ true
         → (accepted' : ℕ) → IsWellFormed (state_of (parts_of h' names' schemas' pins accepted')) → IsWorld (parts_of h' names' schemas' pins accepted')
-    birth_left names' named' added keeps fits accepted' sound = record {
+    birth_left covers names' named' added keeps fits accepted' sound = record {
       whole = whole';
       sound = sound;
       settled = ap keys alike.cells ∙ keys_put h.cells h.live e.index cs' e.generation world.settled ∙ ap keys (sym alike.live);
       known = keeps (is_known_rightly h' schemas') (all_implied (is_known_rightly h schemas) (is_known_rightly h' schemas') known_born h.known world.known) fits;
       named = λ n f p. ap (λ live. option_eq ◌==◌ (value_at nat_cmp live f.index) (Some f.generation)) alike.live ∙ alive_of (value_at nat_cmp born f.index) f.generation (named'.named n f p);
       one_to_one = named'.one;
+      covered = λ j l. covers_born covers j (ap (λ live. has_key nat_cmp live j) (sym alike.live) ∙ l);
     }
 
   -- an entity that holds nothing
@@ -142,7 +147,7 @@ module _ {parts : Parts} (world : IsWorld parts) (e : EntityId) (next : next_ent
       names = (ap (names_of names) alike.live ∙ names_same names h.live (AreNamed-world world) e none_live) k;
       schemas = schemas;
       deletions = alike.deletions k;
-      pins = pins;
+      pins = pins.entries;
       accepted = accepted';
     }
 
@@ -154,7 +159,7 @@ module _ {parts : Parts} (world : IsWorld parts) (e : EntityId) (next : next_ent
       names = (ap (names_of (finite.insert names n e)) alike.live ∙ names_bound names h.live (AreNamed-world world) e none_live n free) k;
       schemas = schemas;
       deletions = alike.deletions k;
-      pins = pins;
+      pins = pins.entries;
       accepted = accepted';
     }
 
@@ -197,7 +202,7 @@ module _ {parts : Parts} (world : IsWorld parts) (e : EntityId) (next : next_ent
       names = (ap (names_of (finite.insert names n e)) alike.live ∙ names_bound names h.live (AreNamed-world world) e none_live n free) k;
       schemas = typed;
       deletions = alike.deletions k;
-      pins = pins;
+      pins = pins.entries;
       accepted = accepted';
     }
 

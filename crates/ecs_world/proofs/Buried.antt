@@ -33,7 +33,7 @@ use Rattle.ecs_model.proofs.Reasons.{neither, passed}
 use Rattle.ecs_model.proofs.Removals.{IsMap-without, value_at-without}
 use Rattle.ecs_model.proofs.traits.Adding.{from_map, in_map}
 use Rattle.ecs_model.proofs.traits.Deleted.{deleted_reached, may_go}
-use Rattle.ecs_model.proofs.traits.Deletions.{MayGo, counted_up, deletion_keeps, nat_IsMap-without, nat_value_at-without}
+use Rattle.ecs_model.proofs.traits.Deletions.{MayGo, counted_up, deletion_keeps, nat_IsMap-without, nat_value_at-without, was_there}
 use Rattle.ecs_model.proofs.traits.Differences.{keys-without}
 use Rattle.ecs_model.proofs.traits.Facts.{key_there, listed_live, there_key}
 use Rattle.ecs_model.proofs.traits.Kept.{all_pass, refuted}
@@ -44,6 +44,7 @@ use Rattle.ecs_archetypes.specs.Moves.{are_apart, are_deletable, without_each}
 use Rattle.ecs_archetypes.proofs.FactReads.{bytes_changed, cells_changed}
 use Rattle.fact_rules.specs.Deletions.{is_lost}
 use Rattle.name_index.specs.Names.{IsOneToOne, Names}
+use Rattle.pin_counts.specs.Counts.{Counts}
 use Rattle.ecs_world.specs.Changes.{entities_at}
 use Rattle.ecs_world.specs.Releases.{mentions_one}
 use Rattle.ecs_world.specs.State.{IsWorld, Parts, all_facts, byte_count, is_known_rightly, name_in, names_of, parts_of, state_of, type_of, value_in}
@@ -209,7 +210,7 @@ module _ {parts : Parts} (world : IsWorld parts) (e : EntityId) (none : first_re
   abbrev schemas : Map ℕ Schema
   schemas = parts.schemas
 
-  abbrev pins : Map ℕ ℕ
+  abbrev pins : Counts
   pins = parts.pins
 
   abbrev accepted : ℕ
@@ -482,7 +483,7 @@ module _ {parts : Parts} (world : IsWorld parts) (e : EntityId) (none : first_re
           names = names_left k;
           schemas = schemas_are k;
           deletions = deletions_are k;
-          pins = pins;
+          pins = pins.entries;
           accepted = accepted;
         }
 
@@ -497,6 +498,7 @@ module _ {parts : Parts} (world : IsWorld parts) (e : EntityId) (none : first_re
             known = released (is_known_rightly h' schemas') known_left;
             named = λ n f p. alive_of (value_at nat_cmp h'.live f.index) f.generation (alive' n f p);
             one_to_one = one';
+            covered = λ i l. world.covered i (was_there (is_gone i) (value_at nat_cmp h'.live i) (value_at nat_cmp h.live i) (live_at i) l).1;
           },
           state_left,
         )

@@ -11,7 +11,7 @@ use Rattle.std.specs.declared.cmp.Ordering.{Ordering}
 use Rattle.std.specs.declared.cmp.Ordering.TheVariants.{Less, Equal, Greater}
 use Rattle.ecs_id.specs.Id.{Id, plain, pair, id_cmp}
 use Rattle.ecs_model.specs.Command.{counted, with_facts}
-use Rattle.ecs_model.specs.Map.{Map, IsMap, keys, value_at}
+use Rattle.ecs_model.specs.Map.{Map, IsMap, has_key, keys, value_at}
 use Rattle.ecs_model.specs.Schema.{Schema, all_fit, zeros}
 use Rattle.ecs_model.specs.World.{WorldState, Key, key_cmp, key_eq, pair_is_tag, holds, new_value, type_of_id, value_of}
 use Rattle.ecs_model.specs.traits.Keeps.{IsWellFormed}
@@ -22,6 +22,7 @@ use Rattle.name_index.specs.Names.{Names}
 use Rattle.ecs_archetypes.specs.FactChanges.{Coming, changed_cells, coming_to, goes_from, with_facts_changed}
 use Rattle.ecs_archetypes.specs.Holdings.{AreHoldings, Cells, HoldAlike, Holdings, bytes_at, cells_at, holds_id}
 use Rattle.ecs_archetypes.proofs.FactReads.{bytes_changed, cells_changed, come_or}
+use Rattle.pin_counts.specs.Counts.{Counts}
 use Rattle.ecs_world.specs.State.{IsWorld, Parts, parts_of, all_facts, is_known_rightly, names_of, state_of, type_of, value_in}
 use Rattle.ecs_world.proofs.Facts.{IsMap-facts, find-facts, same_facts}
 use Rattle.ecs_world.proofs.States.{AreCells-whole}
@@ -96,7 +97,7 @@ facts_are types h facts whole in_order read =
 
 -- the state of parts, part by part
 pub state_left : (p : Parts) (v : WorldState) → all_facts (type_of p.holdings p.schemas) (p.holdings).cells ≡ v.facts → (p.holdings).live ≡ v.live → names_of p.names (p.holdings).live ≡ v.names
-    → p.schemas ≡ v.schemas → (p.holdings).deletions ≡ v.deletions → p.pins ≡ v.pins → p.accepted ≡ v.accepted → state_of p ≡ v
+    → p.schemas ≡ v.schemas → (p.holdings).deletions ≡ v.deletions → (p.pins).entries ≡ v.pins → p.accepted ≡ v.accepted → state_of p ≡ v
 state_left p v facts live names schemas deletions pins accepted = λ k. record {
   live = live k;
   facts = facts k;
@@ -125,7 +126,7 @@ module _ {parts : Parts} (world : IsWorld parts) (came : Coming) (went : List Ke
   abbrev schemas : Map ℕ Schema
   schemas = parts.schemas
 
-  abbrev pins : Map ℕ ℕ
+  abbrev pins : Counts
   pins = parts.pins
 
   abbrev accepted : ℕ
@@ -174,6 +175,7 @@ module _ {parts : Parts} (world : IsWorld parts) (came : Coming) (went : List Ke
       known = known;
       named = λ n f p. ap (λ live. option_eq ◌==◌ (value_at nat_cmp live f.index) (Some f.generation)) alike.live ∙ world.named n f p;
       one_to_one = world.one_to_one;
+      covered = λ i l. world.covered i (ap (λ live. has_key nat_cmp live i) (sym alike.live) ∙ l);
     }
 
 -- the same in other tables, twice

@@ -28,4 +28,4 @@ module _ {parts : Parts} (world : IsWorld parts) (w : WorldState) (c : Command) 
   sound = subst IsWellFormed (sym counted_state) (effect_well_formed w c h command none)
 
   pub counted_world : IsWorld after
-  counted_world = record { whole = world.whole; sound = sound; settled = world.settled; known = world.known; named = world.named; one_to_one = world.one_to_one }
+  counted_world = record { whole = world.whole; sound = sound; settled = world.settled; known = world.known; named = world.named; one_to_one = world.one_to_one; covered = world.covered }

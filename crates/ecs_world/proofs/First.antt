@@ -1,5 +1,6 @@
 -- The built-in entities, settled and named one after another.
-use Rattle.std.proofs.Common.{◌≡◌, ℕ, zero, suc, ◌+◌, ◌≤◌, ◌<◌, ◌==◌, Bool, true, false, cond, not, ◌&&◌, ◌||◌, List, [], ◌∷◌, ◌++◌, map, take, length, get_or, nat_le, Some, None, is_some, if◌then◌else◌, refl, sym, ap, subst, ◌∙◌, arith}
+use Rattle.std.proofs.Common.{◌≡◌, ℕ, zero, suc, ◌+◌, ◌≤◌, ◌<◌, ◌==◌, Bool, true, false, cond, not, ◌&&◌, ◌||◌, ◌⊎◌, inl, inr, true≢false, List, [], ◌∷◌, ◌++◌, map, take, length, get_or, nat_le, Some, None, is_some, if◌then◌else◌, refl, sym, ap, subst, ◌∙◌, arith}
+use Rattle.std.proofs.lemmas.Bool.{cases_lt}
 use Rattle.std.proofs.lemmas.Bool.Decides.{nat_tests, Decides-eqb}
 use Rattle.std.proofs.lemmas.List.{length-map}
 use Rattle.std.specs.Borrow.{Bor}
@@ -19,6 +20,7 @@ use Rattle.ecs_model.proofs.traits.FirstTraits.{first_world_keeps_traits}
 use Rattle.ecs_model.proofs.Maps.{both_true}
 use Rattle.name_index.specs.Names.{IsUnnamed, Names}
 use Rattle.ecs_archetypes.specs.Holdings.{AreHoldings, HoldAlike, Holdings, KeepsSizes, Sizes, agrees, cells_at, first_holdings, holds_id, lives, with_cells, zero_cells}
+use Rattle.pin_counts.specs.Counts.{Counts}
 use Rattle.ecs_world.specs.State.{IsWorld, parts_of, all_facts, byte_count, is_known_rightly, names_of, state_of, type_in, type_of}
 use Rattle.ecs_world.specs.BuiltIn.{AreFirstNames, IsSettled, first_cells, first_live, is_first_tag, settled_to, tags_of}
 use Rattle.ecs_world.proofs.NameLists.{AreNamed, AreNamed-bound, names_bound, unnamed}
@@ -199,12 +201,12 @@ computed : record { live = first_live 22; facts = all_facts (type_of (settled_to
 unfolding first_world id_cmp key_cmp
 computed = refl
 
-first_is : (names : Names) → names_of names (first_live 22) ≡ enumerate_from 1 built_in_names → state_of (parts_of (settled_to 22) names [] [] 0) ≡ first_world
+first_is : (names : Names) (pins : Counts) → pins.entries ≡ [] → names_of names (first_live 22) ≡ enumerate_from 1 built_in_names → state_of (parts_of (settled_to 22) names [] pins 0) ≡ first_world
 unfolding first_world
-first_is names told = (λ k. record (state_of (parts_of (settled_to 22) names [] [] 0)) { names = told k }) ∙ computed
+first_is names pins none told = (λ k. record (state_of (parts_of (settled_to 22) names [] pins 0)) { names = told k; pins = none k }) ∙ computed
 
-pub first_state : (h : Holdings) (names : Names) → IsSettled h 22 → AreFirstNames names 22 → state_of (parts_of h names [] [] 0) ≡ first_world
-first_state h names settled first = state_alike h (settled_to 22) names [] [] 0 settled.alike ∙ first_is names first.told
+pub first_state : (h : Holdings) (names : Names) (pins : Counts) → IsSettled h 22 → AreFirstNames names 22 → pins.entries ≡ [] → state_of (parts_of h names [] pins 0) ≡ first_world
+first_state h names pins settled first unpinned = state_alike h (settled_to 22) names [] pins 0 settled.alike ∙ first_is names pins unpinned first.told
 
 built_in_live : (i : ℕ) → is_built_in i ≡ true → has_key nat_cmp (first_live 22) i ≡ true
 built_in_live i h = ap is_some (row_at (λ i. 0) 1 22 i (low i h) (high i h))
@@ -215,16 +217,21 @@ built_in_live i h = ap is_some (row_at (λ i. 0) 1 22 i (low i h) (high i h))
     high : (i : ℕ) → is_built_in i ≡ true → i < 23
     high i h = grind (arith, nat_tests)
 
-pub first_is_world : (h : Holdings) (names : Names) → IsSettled h 22 → AreFirstNames names 22 → IsWorld (parts_of h names [] [] 0)
-first_is_world h names settled first = record {
+pub first_is_world : (h : Holdings) (names : Names) (pins : Counts) → IsSettled h 22 → AreFirstNames names 22 → pins.entries ≡ [] → 22 < pins.reach → IsWorld (parts_of h names [] pins 0)
+first_is_world h names pins settled first unpinned covers = record {
   whole = settled.whole;
-  sound = subst IsWellFormed (sym (first_state h names settled first)) first_world_keeps_traits;
+  sound = subst IsWellFormed (sym (first_state h names pins settled first unpinned)) first_world_keeps_traits;
   settled = ap keys (settled.alike).cells ∙ ap keys (sym (settled.alike).live);
   known = all_implied is_first_tag (is_known_rightly h []) each h.known settled.tags;
   named = λ n e g. ap (λ live. option_eq ◌==◌ (value_at nat_cmp live e.index) (Some e.generation)) (settled.alike).live ∙ ap (λ o. option_eq ◌==◌ o (Some e.generation)) (first.named n e g) ∙ (Decides-eqb e.generation e.generation).1 refl;
   one_to_one = first.one_to_one;
+  covered = λ i l. low i (cases_lt i 23) (ap (λ live. has_key nat_cmp live i) (sym (settled.alike).live) ∙ l);
 }
   where
+    low : (i : ℕ) → (i < 23) ⊎ (23 ≤ i) → has_key nat_cmp (first_live 22) i ≡ true → i < pins.reach
+    low i (inl lt) l = omega (arith, lt, covers)
+    low i (inr past) l = absurd (true≢false (sym l ∙ ap is_some (row_past (λ i. 0) 1 22 i past)))
+
     each : (c : Id × ℕ) → is_first_tag c ≡ true → is_known_rightly h [] c ≡ true
     each c t =
         let parts = both_true (c.1 == 0) (list_all is_built_in (mentioned c.0)) t in

@@ -21,6 +21,7 @@ use Rattle.ecs_model.proofs.Answering.{effect_well_formed}
 use Rattle.fact_rules.specs.Simple.{ComesAlone, is_unmirrored}
 use Rattle.name_index.specs.Names.{Names}
 use Rattle.ecs_archetypes.specs.Holdings.{AreHoldings, Cells, HoldAlike, Holdings, KeepsSizes, Sizes, cells_at, held_at, holds_id, with_cells}
+use Rattle.pin_counts.specs.Counts.{Counts}
 use Rattle.ecs_world.specs.Singles.{with_one, without_one}
 use Rattle.ecs_world.specs.State.{IsWorld, Parts, parts_of, all_facts, byte_count, is_known_rightly, names_of, state_of, type_of, value_in}
 use Rattle.ecs_world.proofs.Entities.{generation_of}
@@ -114,7 +115,7 @@ module _ {parts : Parts} (world : IsWorld parts) (e : EntityId) (i : Id) (can : 
   abbrev schemas : Map ℕ Schema
   schemas = parts.schemas
 
-  abbrev pins : Map ℕ ℕ
+  abbrev pins : Counts
   pins = parts.pins
 
   abbrev accepted : ℕ
@@ -139,6 +140,7 @@ module _ {parts : Parts} (world : IsWorld parts) (e : EntityId) (i : Id) (can : 
       known = (λ k. list_all (λ c. (c.1 == byte_count (types_left c.0 k)) && list_all (has_key nat_cmp (alike.live k)) (mentioned c.0)) h'.known) ∙ keeps (is_known_rightly h schemas) world.known fits;
       named = λ n f p. ap (λ live. option_eq ◌==◌ (value_at nat_cmp live f.index) (Some f.generation)) alike.live ∙ world.named n f p;
       one_to_one = world.one_to_one;
+      covered = λ j l. world.covered j (ap (λ live. has_key nat_cmp live j) (sym alike.live) ∙ l);
     }
 
   -- a fact comes, or has new bytes
@@ -163,7 +165,7 @@ module _ {parts : Parts} (world : IsWorld parts) (e : EntityId) (i : Id) (can : 
       names = names_of names (alike.live k);
       schemas = schemas;
       deletions = alike.deletions k;
-      pins = pins;
+      pins = pins.entries;
       accepted = accepted';
     }
 
@@ -191,7 +193,7 @@ module _ {parts : Parts} (world : IsWorld parts) (e : EntityId) (i : Id) (can : 
       names = names_of names (alike.live k);
       schemas = schemas;
       deletions = alike.deletions k;
-      pins = pins;
+      pins = pins.entries;
       accepted = accepted';
     }
 

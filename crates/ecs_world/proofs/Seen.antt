@@ -93,5 +93,5 @@ module _ {parts : Parts} (world : IsWorld parts) where
       dead (Some g) is = cc
 
   -- how often it is mentioned by stored queries, and whether a further command is counted
-  pub has_counts : (spent : Bool) → spent ≡ is_spent w → HasCounts w parts.pins spent
+  pub has_counts : (spent : Bool) → spent ≡ is_spent w → HasCounts w (parts.pins).entries spent
   has_counts spent is = record { pins_are = refl; spent_is = sym is }

@@ -12,6 +12,7 @@ use Rattle.ecs_archetypes.specs.Housing.{Housing, holdings_of}
 use Rattle.entity_index.specs.Sizes.{live_size}
 use Rattle.table_store.specs.Going.{TablesGoOn}
 use Rattle.table_store.specs.Store.{Store}
+use Rattle.pin_counts.specs.Counts.{Counts}
 use Rattle.ecs_world.specs.Standing.{IsGraphOf, IsLinksOf, Standing}
 use Rattle.ecs_world.specs.State.{AreFactsOf, IsWorld, Parts, parts_of, state_of}
 use Rattle.ecs_world.proofs.Entities.{generation_of}
@@ -48,11 +49,11 @@ module _ {parts : Parts} (world : IsWorld parts) where
   }
 
 -- the entities of a world in its tables
-pub graph_told : (g : Housing) (names : Names) (schemas : Map ℕ Schema) (pins : Map ℕ ℕ) (accepted : ℕ) → IsWorld (parts_of (holdings_of g) names schemas pins accepted)
+pub graph_told : (g : Housing) (names : Names) (schemas : Map ℕ Schema) (pins : Counts) (accepted : ℕ) → IsWorld (parts_of (holdings_of g) names schemas pins accepted)
     → IsGraphOf (record { state = state_of (parts_of (holdings_of g) names schemas pins accepted); tables = g.tables }) g
 graph_told g names schemas pins accepted world = record { tables = refl; live = refl; settled = alive_settled world; facts = held_facts world }
 
 -- and so do the searches along relationships
-pub links_told : (g : Housing) (names : Names) (schemas : Map ℕ Schema) (pins : Map ℕ ℕ) (accepted : ℕ) → IsWorld (parts_of (holdings_of g) names schemas pins accepted) → (n : ℕ) → n ≡ live_size (holdings_of g).live → (lists : Lists)
+pub links_told : (g : Housing) (names : Names) (schemas : Map ℕ Schema) (pins : Counts) (accepted : ℕ) → IsWorld (parts_of (holdings_of g) names schemas pins accepted) → (n : ℕ) → n ≡ live_size (holdings_of g).live → (lists : Lists)
     → IsLinksOf (record { state = state_of (parts_of (holdings_of g) names schemas pins accepted); tables = g.tables }) (record { housing = g; size = n; lists = lists })
 links_told g names schemas pins accepted world n is lists = record { sees = sees world; tables = refl; size = is }

@@ -20,6 +20,7 @@ use Rattle.ecs_archetypes.specs.Archetypes.{known_in}
 use Rattle.ecs_archetypes.specs.Housing.{Housing, IsHoused}
 use Rattle.ecs_archetypes.proofs.Known.{of_all_shapes}
 use Rattle.table_store.specs.Store.{shape_at}
+use Rattle.pin_counts.specs.Counts.{Counts}
 use Rattle.ecs_world.specs.State.{AreFactsOf, IsWorld, Parts, parts_of, byte_count, is_known_rightly, name_in, state_of, type_in, type_of, value_in}
 use Rattle.ecs_world.proofs.Entities.{generation_of}
 use Rattle.ecs_world.proofs.Facts.{find-facts, ids-facts}
@@ -95,7 +96,7 @@ module _ {parts : Parts} (world : IsWorld parts) where
   abbrev schemas : Map ℕ Schema
   schemas = parts.schemas
 
-  abbrev pins : Map ℕ ℕ
+  abbrev pins : Counts
   pins = parts.pins
 
   abbrev accepted : ℕ
@@ -239,11 +240,11 @@ module _ {parts : Parts} (world : IsWorld parts) where
       by (Some g) p = let same : e ≡ record { index = i; generation = g } = cc in is ∙ ap (name_in names) same
 
 -- the same in other tables is one state
-pub state_alike : (g h : Holdings) (names : Names) (schemas : Map ℕ Schema) (pins : Map ℕ ℕ) (accepted : ℕ) → HoldAlike g h → state_of (parts_of g names schemas pins accepted) ≡ state_of (parts_of h names schemas pins accepted)
+pub state_alike : (g h : Holdings) (names : Names) (schemas : Map ℕ Schema) (pins : Counts) (accepted : ℕ) → HoldAlike g h → state_of (parts_of g names schemas pins accepted) ≡ state_of (parts_of h names schemas pins accepted)
 state_alike g h names schemas pins accepted alike = λ k. state_of (parts_of (record { live = alike.live k; deletions = alike.deletions k; cells = alike.cells k; known = [] }) names schemas pins accepted)
 
 -- a world whose entities hold the same in other tables
-pub world_alike : (g h : Holdings) (names : Names) (schemas : Map ℕ Schema) (pins : Map ℕ ℕ) (accepted : ℕ) (added : Sizes) → IsWorld (parts_of h names schemas pins accepted) → AreHoldings g → HoldAlike g h
+pub world_alike : (g h : Holdings) (names : Names) (schemas : Map ℕ Schema) (pins : Counts) (accepted : ℕ) (added : Sizes) → IsWorld (parts_of h names schemas pins accepted) → AreHoldings g → HoldAlike g h
     → KeepsSizes h.known added g.known → list_all (is_known_rightly h schemas) added ≡ true → IsWorld (parts_of g names schemas pins accepted)
 world_alike g h names schemas pins accepted added world whole alike keeps fits = record {
   whole = whole;
@@ -254,6 +255,7 @@ world_alike g h names schemas pins accepted added world whole alike keeps fits =
       (keeps (is_known_rightly h schemas) world.known fits));
   named = λ n e p. ap (λ live. option_eq ◌==◌ (value_at nat_cmp live e.index) (Some e.generation)) alike.live ∙ world.named n e p;
   one_to_one = world.one_to_one;
+  covered = λ i l. world.covered i (ap (λ live. has_key nat_cmp live i) (sym alike.live) ∙ l);
 }
 
 pub copied : {B C : Type 0} (f : B → C) (o : Option B) → is_some (option_map f o) ≡ is_some o

@@ -30,6 +30,7 @@ use Rattle.name_index.specs.Names.{Names}
 use Rattle.table_store.specs.Rows.{AreValues, Row, cells_of, row_at, rows_in}
 use Rattle.table_store.specs.Store.{find_in, shape_at, shape_of, table_at}
 use Rattle.table_store.proofs.Changes.{row_here, rows_here, shape_here}
+use Rattle.pin_counts.specs.Counts.{Counts}
 use Rattle.ecs_world.specs.Columns.{AreSet, IsColumnSet, column_fault, column_faults, first_fault, may_bring}
 use Rattle.ecs_world.specs.Standing.{Standing}
 use Rattle.ecs_world.specs.State.{IsWorld, Parts, byte_count, is_known_rightly, parts_of, state_of, type_of}
@@ -194,7 +195,7 @@ each_known : (i : Id) (n : ℕ) (es : List EntityId) (bytes : List ℕ) (h : Hol
 each_known i n [] bytes h = refl
 each_known i n (e ∷ es) bytes h = each_known i n es (drop n bytes) (with_cells h e.index (with_value id_cmp (held_at h e.index) i (take n bytes)))
 
-module _ (g : Housing) (names : Names) (schemas : Map ℕ Schema) (pins : Map ℕ ℕ) (accepted : ℕ) (world : IsWorld (parts_of (holdings_of g) names schemas pins accepted)) (rows : HaveRows g)
+module _ (g : Housing) (names : Names) (schemas : Map ℕ Schema) (pins : Counts) (accepted : ℕ) (world : IsWorld (parts_of (holdings_of g) names schemas pins accepted)) (rows : HaveRows g)
     (w : Standing) (view : record { state = state_of (parts_of (holdings_of g) names schemas pins accepted); tables = g.tables } ≡ w)
     (k : TableKey) (i : Id) (bytes : List ℕ) (none : column_fault w k i (length bytes) ≡ None) where
   abbrev parts : Parts

@@ -89,4 +89,5 @@ module _ {parts : Parts} (world : IsWorld parts) {v : WorldState} (is : state_of
               ∙ keeps (is_known_rightly h schemas) world.known refl;
           named = λ n f p. ap (λ live. option_eq ◌==◌ (value_at nat_cmp live f.index) (Some f.generation)) alike.live ∙ world.named n f p;
           one_to_one = world.one_to_one;
+          covered = λ j l. world.covered j (ap (λ live. has_key nat_cmp live j) (sym alike.live) ∙ l);
         }

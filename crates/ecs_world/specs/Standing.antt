@@ -1,8 +1,6 @@
 -- What is seen of a world: its state, and the tables that stand.
-use Rattle.std.specs.Prelude.{◌≡◌, ℕ, Result, Ok, Err, IsOk}
+use Rattle.std.specs.Prelude.{◌≡◌, ℕ, Result, Ok, Err}
 use Rattle.ecs_id.specs.declared.EntityId.{EntityId}
-use Rattle.ecs_model.specs.declared.faults.CommandError.{CommandError}
-use Rattle.ecs_model.specs.declared.faults.CommandError.TheVariants.{Refused, Memory}
 use Rattle.ecs_model.specs.declared.faults.Refusal.{Refusal}
 use Rattle.ecs_model.specs.World.{WorldState, is_alive}
 use Rattle.entity_index.specs.Sizes.{live_size}
@@ -32,8 +30,7 @@ pub record IsLinksOf (w : Standing) (l : Linked) : Type 0 where
   -- the greatest live index plus 1
   pub size : l.size ≡ live_size (w.state).live
 
--- a call answers as the definition and leaves its state, and a refusal leaves the state as it was; so does refused memory, where nothing else is against it
-abbrev pub AnswersPin : {T : Type 0} → Result T CommandError → Result WorldState Refusal → WorldState → WorldState → Type 0
+-- a call answers as the definition: it leaves the definition's state, and a refusal leaves the state as it was
+abbrev pub AnswersPin : {T : Type 0} → Result T Refusal → Result WorldState Refusal → WorldState → WorldState → Type 0
 AnswersPin (Ok _) pinned old new = pinned ≡ Ok new
-AnswersPin (Err (Refused reason)) pinned old new = (pinned ≡ Err reason) × (new ≡ old)
-AnswersPin (Err Memory) pinned old new = IsOk pinned × (new ≡ old)
+AnswersPin (Err reason) pinned old new = (pinned ≡ Err reason) × (new ≡ old)

@@ -1,5 +1,5 @@
 -- What the parts of a world mean: its state.
-use Rattle.std.specs.Prelude.{◌≡◌, ℕ, ◌≤◌, nat_le, ◌==◌, Bool, not, ◌&&◌, take, List, [], ◌∷◌, length, map, flat_map, filter_map, ℤ, Option, Some, None, option_map, is_some, if◌then◌else◌, IsTrue, IfSome}
+use Rattle.std.specs.Prelude.{◌≡◌, ℕ, ◌<◌, ◌≤◌, nat_le, ◌==◌, Bool, not, ◌&&◌, take, List, [], ◌∷◌, length, map, flat_map, filter_map, ℤ, Option, Some, None, option_map, is_some, if◌then◌else◌, IsTrue, IfSome}
 use Rattle.std.specs.List.{find, list_all}
 use Rattle.std.specs.Option.{option_map_or, option_or}
 use Rattle.std.specs.Ordering.{nat_cmp}
@@ -19,6 +19,7 @@ use Rattle.ecs_model.specs.declared.faults.CommandError.TheVariants.{Refused, Me
 use Rattle.ecs_model.specs.World.{WorldState, Key, holds, ids_of, most_ids, pair_is_tag, type_of_id, value_of}
 use Rattle.ecs_model.specs.Command.{Changed}
 use Rattle.name_index.specs.Names.{Names, IsOneToOne, entity_eq}
+use Rattle.pin_counts.specs.Counts.{Counts}
 use Rattle.ecs_archetypes.specs.declared.facts.Found.{Found}
 use Rattle.ecs_archetypes.specs.Holdings.{AreHoldings, Cells, Holdings, holds_id, lives}
 
@@ -60,10 +61,10 @@ pub record Parts : Type 0 where
   pub holdings : Holdings
   pub names : Names
   pub schemas : Map ℕ Schema
-  pub pins : Map ℕ ℕ
+  pub pins : Counts
   pub accepted : ℕ
 
-abbrev pub parts_of : Holdings → Names → Map ℕ Schema → Map ℕ ℕ → ℕ → Parts
+abbrev pub parts_of : Holdings → Names → Map ℕ Schema → Counts → ℕ → Parts
 parts_of h names schemas pins accepted = record { holdings = h; names = names; schemas = schemas; pins = pins; accepted = accepted }
 
 -- the state of a world of these parts
@@ -74,7 +75,7 @@ state_of p = record {
   names = names_of p.names (p.holdings).live;
   schemas = p.schemas;
   deletions = (p.holdings).deletions;
-  pins = p.pins;
+  pins = (p.pins).entries;
   accepted = p.accepted;
 }
 
@@ -93,6 +94,8 @@ pub record IsWorld (p : Parts) : Type 0 where
   -- names are of live entities
   pub named : (n : List ℕ) (e : EntityId) → finite.get p.names n ≡ Some e → IsTrue (lives p.holdings e)
   pub one_to_one : IsOneToOne p.names
+  -- stored queries that mention a live entity are counted without more memory
+  pub covered : (i : ℕ) → IsTrue (has_key nat_cmp (p.holdings).live i) → i < (p.pins).reach
 
 -- cells are the facts of an entity: its ids in order, each with the bytes of its value
 pub record AreFactsOf (w : WorldState) (e : ℕ) (cells : Cells) : Type 0 where

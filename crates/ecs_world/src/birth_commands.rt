@@ -1,8 +1,9 @@
 //! Commands that make an entity. Where memory is refused, what was done before is undone.
 
-ghost use Rattle.std.specs.Prelude.{◌≡◌, IfErr, None, OnErr, OnOk, true};
+ghost use Rattle.std.specs.Prelude.{◌≡◌, ◌<◌, ◌≤◌, IfErr, None, OnErr, OnOk, true};
 ghost use Rattle.std.specs.FinMap as finite;
 ghost use Rattle.ecs_model.specs.Command.{AnswersStep, birth_reasons};
+ghost use Rattle.ecs_model.specs.declared.faults.CommandError.TheVariants.{Memory};
 ghost use Rattle.ecs_model.specs.traits.Command.{Component, Entity, Fresh, step};
 ghost use Rattle.ecs_model.specs.Refusal.{first_reason};
 ghost use Rattle.ecs_model.specs.Text.{is_name};
@@ -16,6 +17,7 @@ use ecs_id::{EntityId, Id};
 use ecs_model::faults::{CommandError, Refusal};
 use ecs_schema::Schema;
 use name_index::{BindError, NameIndex};
+use pin_counts::PinCounts;
 use std::alloc::Allocator;
 use table_store::SizedId;
 
@@ -58,9 +60,11 @@ impl<A: Allocator + Copy> World<A> {
         ensures answers { AnswersStep result (step self.old.state Fresh) self.old.state self.new.state }
         ensures goes_on { TablesGoOn self.old.tables self.new.tables }
     {
-        let Ok(entity) = self.archetypes.create(&[]) else {
+        let entity = self.archetypes.upcoming().unwrap();
+        cover(&mut self.pins, entity)?;
+        if self.archetypes.create(&[]).is_err() {
             return Err(CommandError::Memory);
-        };
+        }
         self.accepted += 1;
         Ok(Changes::of_birth(entity))
     }
@@ -71,6 +75,7 @@ impl<A: Allocator + Copy> World<A> {
         ensures goes_on { TablesGoOn self.old.tables self.new.tables }
     {
         let entity = self.archetypes.upcoming().unwrap();
+        cover(&mut self.pins, entity)?;
         bind(&mut self.names, name, entity)?;
         if self.archetypes.create(&[]).is_err() {
             self.names.unbind(entity);
@@ -88,6 +93,7 @@ impl<A: Allocator + Copy> World<A> {
         let entity = self.archetypes.upcoming().unwrap();
         // What is known of it: it has no fault.
         let _ = schema.fields();
+        cover(&mut self.pins, entity)?;
         bind(&mut self.names, name, entity)?;
         if self.schemas.insert(entity.index, schema).is_err() {
             self.names.unbind(entity);
@@ -101,6 +107,19 @@ impl<A: Allocator + Copy> World<A> {
         }
         self.accepted += 1;
         Ok(Changes::of_birth_with(entity, component))
+    }
+}
+
+/// Makes room for the count of the stored queries that will mention a new entity.
+fn cover<A: Allocator>(pins: &mut PinCounts<A>, entity: EntityId) -> Result<(), CommandError>
+    ensures entries { pins.new.entries ≡ pins.old.entries }
+    ensures further { pins.old.reach ≤ pins.new.reach }
+    ensures covers { OnOk result (entity.index < pins.new.reach) }
+    ensures refused { IfErr result (λ error. error ≡ Memory) }
+{
+    match pins.cover(entity.index) {
+        Ok(()) => Ok(()),
+        Err(_) => Err(CommandError::Memory),
     }
 }
 

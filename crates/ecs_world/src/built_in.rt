@@ -1,6 +1,6 @@
 //! The built-in entities and their facts.
 
-ghost use Rattle.std.specs.Prelude.{◌≡◌, ◌+◌, ◌<◌, IfOk, OnOk, IsTrue, map};
+ghost use Rattle.std.specs.Prelude.{◌≡◌, ◌+◌, ◌<◌, [], IfOk, OnOk, IsTrue, map};
 ghost use Rattle.std.specs.List.{list_all};
 ghost use Rattle.ecs_archetypes.specs.Housing.{holdings_of};
 ghost use Rattle.ecs_id.specs.Id.{id_cmp};
@@ -17,6 +17,7 @@ use ecs_model::built_ins::{
     TRANSITIVE, TRAVERSABLE, WITH,
 };
 use name_index::NameIndex;
+use pin_counts::PinCounts;
 use raw_column::Memory;
 use std::alloc::Allocator;
 use std::hash::RandomState;
@@ -49,6 +50,16 @@ const NAMES: [&str; 22] = [
 ];
 
 const CHILD_OF: u32 = 1;
+
+/// The counts of the built-in entities, before any query is stored.
+pub(crate) fn pins<A: Allocator>(alloc: A) -> Result<PinCounts<A>, Memory>
+    ensures none { IfOk result (λ pins. pins.entries ≡ []) }
+    ensures covers { IfOk result (λ pins. 22 < pins.reach) }
+{
+    let mut pins = PinCounts::new(alloc);
+    pins.cover(LAST_BUILT_IN)?;
+    Ok(pins)
+}
 
 /// The built-in entities, each in its table.
 pub(crate) fn archetypes<A: Allocator + Copy>(

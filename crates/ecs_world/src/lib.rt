@@ -51,6 +51,7 @@ pub use ecs_links::Links;
 pub use ecs_model::FactKey;
 use ecs_schema::Schema;
 use name_index::NameIndex;
+use pin_counts::PinCounts;
 pub use raw_column::Memory;
 use rel_travel::Scratch;
 use std::alloc::{Allocator, Global};
@@ -65,8 +66,8 @@ pub struct World<A: Allocator = Global> {
     names: NameIndex<A>,
     /// By the component's index.
     schemas: BTreeMap<u32, Schema<A>, A>,
-    /// How many stored queries mention an entity, by its index. No count is 0.
-    pins: BTreeMap<u32, u64, A>,
+    /// How many stored queries mention an entity, by its index. Every live entity is covered.
+    pins: PinCounts<A>,
     /// How many commands were accepted.
     accepted: u64,
     /// Room for the searches along relationships.
@@ -84,11 +85,11 @@ impl<A: Allocator> Model for World<A> {
     ghost Value = { Standing };
 
     ghost view = { λ w. record {
-      state = state_of (parts_of (holdings_of w.archetypes) w.names w.schemas.entries w.pins.entries w.accepted);
+      state = state_of (parts_of (holdings_of w.archetypes) w.names w.schemas.entries w.pins w.accepted);
       tables = (w.archetypes).tables;
     } };
 
-    ghost invariant = { λ w. IsWorld (parts_of (holdings_of w.archetypes) w.names w.schemas.entries w.pins.entries w.accepted) };
+    ghost invariant = { λ w. IsWorld (parts_of (holdings_of w.archetypes) w.names w.schemas.entries w.pins w.accepted) };
 }
 
 impl<A: Allocator + Copy> World<A> {
@@ -102,7 +103,7 @@ impl<A: Allocator + Copy> World<A> {
             archetypes: built_in::archetypes(alloc, random)?,
             names: built_in::names(alloc, random)?,
             schemas: BTreeMap::new(alloc),
-            pins: BTreeMap::new(alloc),
+            pins: built_in::pins(alloc)?,
             accepted: 0,
             scratch: Scratch::new(alloc),
             plan: FactPlan::new(alloc),

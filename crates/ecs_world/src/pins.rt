@@ -7,7 +7,7 @@ ghost use Rattle.ecs_world.specs.Standing.{AnswersPin};
 
 use crate::World;
 use ecs_id::EntityId;
-use ecs_model::faults::{CommandError, Refusal};
+use ecs_model::faults::Refusal;
 use std::alloc::Allocator;
 
 impl<A: Allocator> World<A> {
@@ -15,25 +15,23 @@ impl<A: Allocator> World<A> {
     pub fn pin_count(&self, index: u32) -> u64
         ensures { result ≡ count_at self.now.state.pins index }
     {
-        self.pins.get(&index).copied().unwrap_or(0)
+        self.pins.count(index)
     }
 }
 
 impl<A: Allocator + Copy> World<A> {
     /// Counts one stored query more that mentions an entity. A count that reaches 2^64 - 1 stays for good.
     ///
-    /// Fails of a dead entity, and where memory is refused. Then nothing changes.
-    pub fn pin(&mut self, entity: EntityId) -> Result<(), CommandError>
+    /// Fails of a dead entity, and then nothing changes. It takes no memory.
+    pub fn pin(&mut self, entity: EntityId) -> Result<(), Refusal>
         ensures answers { AnswersPin result (pin self.old.state entity) self.old.state self.new.state }
         ensures tables { self.new.tables ≡ self.old.tables }
     {
         if !self.is_alive(entity) {
-            return Err(CommandError::Refused(Refusal::Dead));
+            return Err(Refusal::Dead);
         }
         let count = one_more(self.pin_count(entity.index));
-        if self.pins.insert(entity.index, count).is_err() {
-            return Err(CommandError::Memory);
-        }
+        self.pins.set_count(entity.index, count);
         Ok(())
     }
 
@@ -46,12 +44,7 @@ impl<A: Allocator + Copy> World<A> {
             return;
         }
         let count = one_less(self.pin_count(entity.index));
-        if count == 0 {
-            self.pins.remove(&entity.index);
-        } else {
-            // This takes no memory: another count stands there already.
-            let _ = self.pins.insert(entity.index, count);
-        }
+        self.pins.set_count(entity.index, count);
     }
 }
 

@@ -11,9 +11,9 @@ ghost use Rattle.fact_rules.specs.Deletions.{IsDeletion, OfDeletion};
 
 use crate::stored_queries::any_pinned;
 use ecs_model::faults::Refusal;
+use pin_counts::PinCounts;
 use rel_travel::{Graph, Holders, Scratch, deleted, deletion_is_forbidden, find_referrers};
 use std::alloc::Allocator;
-use std::collections::BTreeMap;
 
 /// Finds all who fall with an entity and all who refer to these, and answers why they can't be deleted: a stored query mentions one, a
 /// cleanup rule forbids it, or no further command is counted.
@@ -22,7 +22,7 @@ use std::collections::BTreeMap;
 pub fn judge_delete<G: Holders, A: Allocator>(
     graph: &G,
     index: u32,
-    pins: &BTreeMap<u32, u64, A>,
+    pins: &PinCounts<A>,
     is_spent: bool,
     scratch: &mut Scratch<A>,
 ) -> Option<Refusal>
@@ -41,7 +41,7 @@ pub fn judge_delete<G: Holders, A: Allocator>(
 /// The first reason against the deletion of the found.
 fn reason_against<G: Graph, A: Allocator>(
     graph: &G,
-    pins: &BTreeMap<u32, u64, A>,
+    pins: &PinCounts<A>,
     is_spent: bool,
     scratch: &Scratch<A>,
 ) -> Option<Refusal>

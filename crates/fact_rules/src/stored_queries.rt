@@ -3,21 +3,18 @@ ghost use Rattle.std.specs.Prelude.{◌≡◌, nat_lt};
 ghost use Rattle.std.specs.List.{list_any};
 ghost use Rattle.ecs_model.specs.Map.{count_at};
 
+use pin_counts::PinCounts;
 use std::alloc::Allocator;
-use std::collections::BTreeMap;
 
 /// Whether one does, by how many mention each.
-pub fn is_pinned<A: Allocator>(pins: &BTreeMap<u32, u64, A>, index: u32) -> bool
+pub fn is_pinned<A: Allocator>(pins: &PinCounts<A>, index: u32) -> bool
     ensures { result ≡ nat_lt 0 (count_at pins.now.entries index) }
 {
-    match pins.get(&index) {
-        Some(count) => *count > 0,
-        None => false,
-    }
+    pins.count(index) > 0
 }
 
 /// Whether one mentions any of these.
-pub fn any_pinned<A: Allocator>(pins: &BTreeMap<u32, u64, A>, indexes: &[u32]) -> bool
+pub fn any_pinned<A: Allocator>(pins: &PinCounts<A>, indexes: &[u32]) -> bool
     ensures { result ≡ list_any (λ i. nat_lt 0 (count_at pins.now.entries i)) indexes.now }
 {
     for index in indexes {

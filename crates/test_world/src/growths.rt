@@ -51,7 +51,6 @@ enum Call {
     Add,
     Set,
     Remove,
-    Pin,
     /// A fact and its mirror come, and another with its mirror goes.
     Marry,
     /// A component comes with the one that it brings.
@@ -140,7 +139,6 @@ fn carry_out<A: Allocator + Copy>(
         // (a short name may take no memory)
         Call::Entity => world.entity("MoonOfTheThirdPlanet")?,
         Call::Component => world.component("Mass", mass)?,
-        Call::Pin => return world.pin(first_at(SHIP)),
         Call::New => return Ok(()),
         _ => change(world, call)?,
     };
@@ -278,7 +276,6 @@ fn a_refused_call_changes_nothing(rt: HostRuntime) -> Result<(), Fail> {
         Call::Add,
         Call::Set,
         Call::Remove,
-        Call::Pin,
         Call::Marry,
         Call::Harden,
         Call::Hold,
@@ -288,4 +285,27 @@ fn a_refused_call_changes_nothing(rt: HostRuntime) -> Result<(), Fail> {
         refuse_each(&rt, rt.alloc(), &heap, random, call)?;
     }
     Ok(())
+}
+
+fn pin_without_memory<'a>(
+    rt: &impl Abort,
+    heap: &'a Refusing<Global>,
+    world: &mut World<&'a Refusing<Global>>,
+) -> Result<(), Fail> {
+    world.fresh()?;
+    heap.refuse_after(0);
+    let pinned = world.pin(first_at(POSITION));
+    heap.refuse_none();
+    assert!(rt; pinned == Ok(()));
+    assert!(rt; world.pin_count(POSITION) == 1);
+    Ok(())
+}
+
+#[test]
+fn a_pin_takes_no_memory(rt: HostRuntime) -> Result<(), Fail> {
+    let heap = Refusing::new(rt.alloc());
+    let mut world = World::new(&heap, RandomState::new(&rt)?)?;
+    let done = pin_without_memory(&rt, &heap, &mut world);
+    drop(world);
+    done
 }

@@ -282,8 +282,11 @@ fn fill(world: &mut World, position: Schema) -> Result<(), CommandError> {
     for name in ["Planet", "Likes", "Sun", "Earth", "Moon"] {
         world.entity(name)?;
     }
-    world.pin(first_at(POSITION))?;
-    world.pin(first_at(PLANET))?;
+    for index in [POSITION, PLANET] {
+        if let Err(refusal) = world.pin(first_at(index)) {
+            return Err(CommandError::Refused(refusal));
+        }
+    }
     Ok(())
 }
 

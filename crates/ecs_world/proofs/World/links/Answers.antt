@@ -8,4 +8,4 @@ new-requires g c = record { linked = linked c.self.invariant c.size.result c.siz
 pub returns : goal.returns
 returns g c =
     let w = c.self.inside in
-    rw (c.new.ensures, ← c.self.view_is) (links_told w.archetypes w.names w.schemas.entries w.pins.entries w.accepted c.self.invariant c.size.result c.size.ensures c.new.result.lists)
+    rw (c.new.ensures, ← c.self.view_is) (links_told w.archetypes w.names w.schemas.entries w.pins w.accepted c.self.invariant c.size.result c.size.ensures c.new.result.lists)

@@ -13,6 +13,7 @@ use Rattle.ecs_world.proofs.Bound.{none_component, unbound_component}
 use Rattle.ecs_world.proofs.Judged.{births}
 use Rattle.ecs_world.proofs.NameLists.{freed}
 use Rattle.ecs_world.proofs.Ordered.{insert_put, removed_again}
+use Rattle.ecs_world.proofs.Pinned.{further}
 use Rattle.ecs_world.proofs.Told.{told_component}
 use Rattle.ecs_world.proofs.Standings.{going_on, state_is}
 use Rattle.ecs_world.proofs.World.make_component.Goals as goal
@@ -21,18 +22,34 @@ pub unwrap-entity-requires : goal.unwrap-entity-requires
 unwrap-entity-requires g c =
     ap is_some c.upcoming.ensures ∙ next_some c.self.invariant (state_is c.self.view_is) (births c.args.self.now.state c.requires)
 
+pub invariant_of-self : goal.invariant_of-self
+invariant_of-self g c =
+    (further c.self.invariant (state_is c.self.view_is) c.cover.new.pins c.cover.ensures.entries c.cover.ensures.further).0
+
+pub returns-in_err-cover-clause-answers : goal.returns-in_err-cover-clause-answers
+returns-in_err-cover-clause-answers g c =
+    let p = err_from_is_err_and c.from_residual.result c.from_residual.ensures.1 in
+    rw (p.1, p.2, c.in_err-cover.ensures.refused) (further c.self.invariant (state_is c.self.view_is) c.cover.new.pins c.cover.ensures.entries c.cover.ensures.further).1
+
+pub returns-in_err-cover-clause-goes_on : goal.returns-in_err-cover-clause-goes_on
+returns-in_err-cover-clause-goes_on g c = going_on c.self.view_is (goes_on_same _)
+
 pub bind-requires : goal.bind-requires
 bind-requires g c =
-    let next = next_of c.self.invariant (state_is c.self.view_is) c.unwrap-entity.result (sym c.upcoming.ensures ∙ c.unwrap-entity.ensures) in
-    next_unnamed c.self.invariant (state_is c.self.view_is) c.unwrap-entity.result next
+    let roomy = further c.self.invariant (state_is c.self.view_is) c.cover.new.pins c.cover.ensures.entries c.cover.ensures.further in
+    let next = next_of roomy.0 roomy.1 c.unwrap-entity.result (sym c.upcoming.ensures ∙ c.unwrap-entity.ensures) in
+    next_unnamed roomy.0 roomy.1 c.unwrap-entity.result next
 
-pub invariant_of-self : goal.invariant_of-self
-invariant_of-self g c = (kept c.self.invariant (state_is c.self.view_is) (holdings_of c.self.inside.archetypes) c.bind.new.names c.self.inside.schemas.entries (unchanged c.self.invariant (state_is c.self.view_is)) c.in_err-bind.ensures.err refl).0
+pub invariant_of-self-in_err-bind : goal.invariant_of-self-in_err-bind
+invariant_of-self-in_err-bind g c =
+    let roomy = further c.self.invariant (state_is c.self.view_is) c.cover.new.pins c.cover.ensures.entries c.cover.ensures.further in
+    (kept roomy.0 roomy.1 (holdings_of c.self.inside.archetypes) c.bind.new.names c.self.inside.schemas.entries (unchanged roomy.0 roomy.1) c.in_err-bind.ensures.err refl).0
 
 pub returns-in_err-bind-clause-answers : goal.returns-in_err-bind-clause-answers
 returns-in_err-bind-clause-answers g c =
-    let p = err_from_is_err_and c.from_residual.result c.from_residual.ensures.1 in
-    rw (p.1, p.2) (unbound_component c.self.invariant (state_is c.self.view_is) c.args.name.now c.args.schema _ c.in_err-bind.ensures.refused _ (kept c.self.invariant (state_is c.self.view_is) (holdings_of c.self.inside.archetypes) c.bind.new.names c.self.inside.schemas.entries (unchanged c.self.invariant (state_is c.self.view_is)) c.in_err-bind.ensures.err refl).1)
+    let roomy = further c.self.invariant (state_is c.self.view_is) c.cover.new.pins c.cover.ensures.entries c.cover.ensures.further in
+    let p = err_from_is_err_and c.from_residual-in_err-bind.result c.from_residual-in_err-bind.ensures.1 in
+    rw (p.1, p.2) (unbound_component roomy.0 roomy.1 c.args.name.now c.args.schema _ c.in_err-bind.ensures.refused _ (kept roomy.0 roomy.1 (holdings_of c.self.inside.archetypes) c.bind.new.names c.self.inside.schemas.entries (unchanged roomy.0 roomy.1) c.in_err-bind.ensures.err refl).1)
 
 pub returns-in_err-bind-clause-goes_on : goal.returns-in_err-bind-clause-goes_on
 returns-in_err-bind-clause-goes_on g c = going_on c.self.view_is (goes_on_same _)
@@ -42,15 +59,17 @@ same-schema g c = refl
 
 pub invariant_of-self-then-is_err : goal.invariant_of-self-then-is_err
 invariant_of-self-then-is_err g c =
+    let roomy = further c.self.invariant (state_is c.self.view_is) c.cover.new.pins c.cover.ensures.entries c.cover.ensures.further in
     let w = c.self.inside in
-    (kept c.self.invariant (state_is c.self.view_is) (holdings_of w.archetypes) c.unbind.new.self c.insert.new.self.entries (unchanged c.self.invariant (state_is c.self.view_is))
+    (kept roomy.0 roomy.1 (holdings_of w.archetypes) c.unbind.new.self c.insert.new.self.entries (unchanged roomy.0 roomy.1)
     (freed w.names c.bind.new.names c.unbind.new.self c.args.name.now c.unwrap-entity.result c.in_ok-bind.ensures.free.1 c.in_ok-bind.ensures.bound c.unbind.ensures.named)
     (on_err c.insert.result c.insert.ensures.err (sym c.is_err.ensures.value ∙ c.if-is_err.true))).0
 
 pub returns-then-is_err-clause-answers : goal.returns-then-is_err-clause-answers
 returns-then-is_err-clause-answers g c =
+    let roomy = further c.self.invariant (state_is c.self.view_is) c.cover.new.pins c.cover.ensures.entries c.cover.ensures.further in
     let w = c.self.inside in
-    (kept c.self.invariant (state_is c.self.view_is) (holdings_of w.archetypes) c.unbind.new.self c.insert.new.self.entries (unchanged c.self.invariant (state_is c.self.view_is))
+    (kept roomy.0 roomy.1 (holdings_of w.archetypes) c.unbind.new.self c.insert.new.self.entries (unchanged roomy.0 roomy.1)
     (freed w.names c.bind.new.names c.unbind.new.self c.args.name.now c.unwrap-entity.result c.in_ok-bind.ensures.free.1 c.in_ok-bind.ensures.bound c.unbind.ensures.named)
     (on_err c.insert.result c.insert.ensures.err (sym c.is_err.ensures.value ∙ c.if-is_err.true))).1
 
@@ -65,7 +84,8 @@ shared_whole_as_slice-create g c = omega arith
 
 pub create-requires-clause-left : goal.create-requires-clause-left
 create-requires-clause-left g c =
-    next_some c.self.invariant (state_is c.self.view_is) (births c.args.self.now.state c.requires)
+    let roomy = further c.self.invariant (state_is c.self.view_is) c.cover.new.pins c.cover.ensures.entries c.cover.ensures.further in
+    next_some roomy.0 roomy.1 (births c.args.self.now.state c.requires)
 
 pub create-requires-clause-ascend : goal.create-requires-clause-ascend
 create-requires-clause-ascend g c = refl
@@ -75,27 +95,30 @@ create-requires-clause-small g c = rw (c.tag.ensures) refl
 
 pub create-requires-clause-agree : goal.create-requires-clause-agree
 create-requires-clause-agree g c =
-    rw (c.tag.ensures, c.plain-component.ensures) (component_agrees c.self.invariant (state_is c.self.view_is))
+    let roomy = further c.self.invariant (state_is c.self.view_is) c.cover.new.pins c.cover.ensures.entries c.cover.ensures.further in
+    rw (c.tag.ensures, c.plain-component.ensures) (component_agrees roomy.0 roomy.1)
 
 pub invariant_of-self-then-is_err-2 : goal.invariant_of-self-then-is_err-2
 invariant_of-self-then-is_err-2 g c =
+    let roomy = further c.self.invariant (state_is c.self.view_is) c.cover.new.pins c.cover.ensures.entries c.cover.ensures.further in
     let w = c.self.inside in
-    let next = next_of c.self.invariant (state_is c.self.view_is) c.unwrap-entity.result (sym c.upcoming.ensures ∙ c.unwrap-entity.ensures) in
+    let next = next_of roomy.0 roomy.1 c.unwrap-entity.result (sym c.upcoming.ensures ∙ c.unwrap-entity.ensures) in
     let inserted = on_ok c.insert.result c.insert.ensures.entries (sym c.is_err.ensures.value ∙ c.if-is_err.false) in
-    (kept c.self.invariant (state_is c.self.view_is) (holdings_of c.create.new.self) c.unbind-then-is_err-2.new.self c.remove.new.self.entries
-    (failed c.self.invariant (state_is c.self.view_is) ((plain component, 0) ∷ []) (component_fits c.self.invariant (state_is c.self.view_is)) (holdings_of c.create.new.self) c.create.ensures.holdings (on_err c.create.result c.create.ensures.refused (sym c.is_err-2.ensures.value ∙ c.if-is_err-2.true)) (rw (c.tag.ensures, c.plain-component.ensures) at c.create.ensures.sizes))
+    (kept roomy.0 roomy.1 (holdings_of c.create.new.self) c.unbind-then-is_err-2.new.self c.remove.new.self.entries
+    (failed roomy.0 roomy.1 ((plain component, 0) ∷ []) (component_fits roomy.0 roomy.1) (holdings_of c.create.new.self) c.create.ensures.holdings (on_err c.create.result c.create.ensures.refused (sym c.is_err-2.ensures.value ∙ c.if-is_err-2.true)) (rw (c.tag.ensures, c.plain-component.ensures) at c.create.ensures.sizes))
     (freed w.names c.bind.new.names c.unbind-then-is_err-2.new.self c.args.name.now c.unwrap-entity.result c.in_ok-bind.ensures.free.1 c.in_ok-bind.ensures.bound c.unbind-then-is_err-2.ensures.named)
-    (rw (c.remove.ensures.entries, inserted) (removed_again w.schemas.entries c.unwrap-entity.result.index c.args.schema (next_plain c.self.invariant (state_is c.self.view_is) c.unwrap-entity.result next)))).0
+    (rw (c.remove.ensures.entries, inserted) (removed_again w.schemas.entries c.unwrap-entity.result.index c.args.schema (next_plain roomy.0 roomy.1 c.unwrap-entity.result next)))).0
 
 pub returns-then-is_err-2-clause-answers : goal.returns-then-is_err-2-clause-answers
 returns-then-is_err-2-clause-answers g c =
+    let roomy = further c.self.invariant (state_is c.self.view_is) c.cover.new.pins c.cover.ensures.entries c.cover.ensures.further in
     let w = c.self.inside in
-    let next = next_of c.self.invariant (state_is c.self.view_is) c.unwrap-entity.result (sym c.upcoming.ensures ∙ c.unwrap-entity.ensures) in
+    let next = next_of roomy.0 roomy.1 c.unwrap-entity.result (sym c.upcoming.ensures ∙ c.unwrap-entity.ensures) in
     let inserted = on_ok c.insert.result c.insert.ensures.entries (sym c.is_err.ensures.value ∙ c.if-is_err.false) in
-    (kept c.self.invariant (state_is c.self.view_is) (holdings_of c.create.new.self) c.unbind-then-is_err-2.new.self c.remove.new.self.entries
-    (failed c.self.invariant (state_is c.self.view_is) ((plain component, 0) ∷ []) (component_fits c.self.invariant (state_is c.self.view_is)) (holdings_of c.create.new.self) c.create.ensures.holdings (on_err c.create.result c.create.ensures.refused (sym c.is_err-2.ensures.value ∙ c.if-is_err-2.true)) (rw (c.tag.ensures, c.plain-component.ensures) at c.create.ensures.sizes))
+    (kept roomy.0 roomy.1 (holdings_of c.create.new.self) c.unbind-then-is_err-2.new.self c.remove.new.self.entries
+    (failed roomy.0 roomy.1 ((plain component, 0) ∷ []) (component_fits roomy.0 roomy.1) (holdings_of c.create.new.self) c.create.ensures.holdings (on_err c.create.result c.create.ensures.refused (sym c.is_err-2.ensures.value ∙ c.if-is_err-2.true)) (rw (c.tag.ensures, c.plain-component.ensures) at c.create.ensures.sizes))
     (freed w.names c.bind.new.names c.unbind-then-is_err-2.new.self c.args.name.now c.unwrap-entity.result c.in_ok-bind.ensures.free.1 c.in_ok-bind.ensures.bound c.unbind-then-is_err-2.ensures.named)
-    (rw (c.remove.ensures.entries, inserted) (removed_again w.schemas.entries c.unwrap-entity.result.index c.args.schema (next_plain c.self.invariant (state_is c.self.view_is) c.unwrap-entity.result next)))).1
+    (rw (c.remove.ensures.entries, inserted) (removed_again w.schemas.entries c.unwrap-entity.result.index c.args.schema (next_plain roomy.0 roomy.1 c.unwrap-entity.result next)))).1
 
 pub returns-then-is_err-2-clause-goes_on : goal.returns-then-is_err-2-clause-goes_on
 returns-then-is_err-2-clause-goes_on g c = going_on c.self.view_is c.create.ensures.goes_on
@@ -107,22 +130,24 @@ overflow_add-self g c =
 
 pub invariant_of-self-2 : goal.invariant_of-self-2
 invariant_of-self-2 g c =
+    let roomy = further c.self.invariant (state_is c.self.view_is) c.cover.new.pins c.cover.ensures.entries c.cover.ensures.further in
     let w = c.self.inside in
-    let next = next_of c.self.invariant (state_is c.self.view_is) c.unwrap-entity.result (sym c.upcoming.ensures ∙ c.unwrap-entity.ensures) in
+    let next = next_of roomy.0 roomy.1 c.unwrap-entity.result (sym c.upcoming.ensures ∙ c.unwrap-entity.ensures) in
     let inserted = on_ok c.insert.result c.insert.ensures.entries (sym c.is_err.ensures.value ∙ c.if-is_err.false) in
     let born = made_is (upcoming (holdings_of w.archetypes)) (λ f. HoldAlike (holdings_of c.create.new.self) (with_cells (with_entity (holdings_of w.archetypes) f) f.index ((plain component, []) ∷ []))) c.create.result c.unwrap-entity.result c.create.ensures.next (rw (c.tag.ensures, c.plain-component.ensures) at c.create.ensures.born) (sym c.is_err-2.ensures.value ∙ c.if-is_err-2.false) (sym c.upcoming.ensures ∙ c.unwrap-entity.ensures) in
-    (component_left c.self.invariant (state_is c.self.view_is) c.unwrap-entity.result next c.args.name.now c.args.schema c.fields.ensures.sound (none_component c.self.invariant (state_is c.self.view_is) c.args.name.now c.args.schema c.in_ok-bind.ensures.free c.requires) c.in_ok-bind.ensures.free.1 c.bind.new.names c.in_ok-bind.ensures.bound c.insert.new.self.entries (inserted ∙ insert_put w.schemas.entries c.unwrap-entity.result.index c.args.schema)
+    (component_left roomy.0 roomy.1 c.unwrap-entity.result next c.in_ok-cover.ensures.covers c.args.name.now c.args.schema c.fields.ensures.sound (none_component roomy.0 roomy.1 c.args.name.now c.args.schema c.in_ok-bind.ensures.free c.requires) c.in_ok-bind.ensures.free.1 c.bind.new.names c.in_ok-bind.ensures.bound c.insert.new.self.entries (inserted ∙ insert_put w.schemas.entries c.unwrap-entity.result.index c.args.schema)
     (holdings_of c.create.new.self) c.create.ensures.holdings born (rw (c.tag.ensures, c.plain-component.ensures) at c.create.ensures.sizes)).0
 
 pub returns-clause-answers : goal.returns-clause-answers
 returns-clause-answers g c =
+    let roomy = further c.self.invariant (state_is c.self.view_is) c.cover.new.pins c.cover.ensures.entries c.cover.ensures.further in
     let w = c.self.inside in
-    let next = next_of c.self.invariant (state_is c.self.view_is) c.unwrap-entity.result (sym c.upcoming.ensures ∙ c.unwrap-entity.ensures) in
+    let next = next_of roomy.0 roomy.1 c.unwrap-entity.result (sym c.upcoming.ensures ∙ c.unwrap-entity.ensures) in
     let inserted = on_ok c.insert.result c.insert.ensures.entries (sym c.is_err.ensures.value ∙ c.if-is_err.false) in
     let born = made_is (upcoming (holdings_of w.archetypes)) (λ f. HoldAlike (holdings_of c.create.new.self) (with_cells (with_entity (holdings_of w.archetypes) f) f.index ((plain component, []) ∷ []))) c.create.result c.unwrap-entity.result c.create.ensures.next (rw (c.tag.ensures, c.plain-component.ensures) at c.create.ensures.born) (sym c.is_err-2.ensures.value ∙ c.if-is_err-2.false) (sym c.upcoming.ensures ∙ c.unwrap-entity.ensures) in
     let sound : IsWellFormed c.args.self.now.state = subst IsWellFormed (state_is c.self.view_is) c.self.invariant.sound in
-    told_component c.args.self.now.state _ c.of_birth_with.result c.args.name.now c.args.schema c.unwrap-entity.result sound next (none_component c.self.invariant (state_is c.self.view_is) c.args.name.now c.args.schema c.in_ok-bind.ensures.free c.requires)
-    (component_left c.self.invariant (state_is c.self.view_is) c.unwrap-entity.result next c.args.name.now c.args.schema c.fields.ensures.sound (none_component c.self.invariant (state_is c.self.view_is) c.args.name.now c.args.schema c.in_ok-bind.ensures.free c.requires) c.in_ok-bind.ensures.free.1 c.bind.new.names c.in_ok-bind.ensures.bound c.insert.new.self.entries (inserted ∙ insert_put w.schemas.entries c.unwrap-entity.result.index c.args.schema)
+    told_component c.args.self.now.state _ c.of_birth_with.result c.args.name.now c.args.schema c.unwrap-entity.result sound next (none_component roomy.0 roomy.1 c.args.name.now c.args.schema c.in_ok-bind.ensures.free c.requires)
+    (component_left roomy.0 roomy.1 c.unwrap-entity.result next c.in_ok-cover.ensures.covers c.args.name.now c.args.schema c.fields.ensures.sound (none_component roomy.0 roomy.1 c.args.name.now c.args.schema c.in_ok-bind.ensures.free c.requires) c.in_ok-bind.ensures.free.1 c.bind.new.names c.in_ok-bind.ensures.bound c.insert.new.self.entries (inserted ∙ insert_put w.schemas.entries c.unwrap-entity.result.index c.args.schema)
     (holdings_of c.create.new.self) c.create.ensures.holdings born (rw (c.tag.ensures, c.plain-component.ensures) at c.create.ensures.sizes)).1
     (c.of_birth_with.ensures ∙ (λ k. record (birth c.unwrap-entity.result) { came = (c.unwrap-entity.result.index, c.plain-component.ensures k) ∷ [] }))
 

@@ -8,6 +8,7 @@ use Rattle.ecs_world.proofs.Accepted.{failed, kept, made_is, named_left, next_of
 use Rattle.ecs_world.proofs.Bound.{none_entity, unbound_entity}
 use Rattle.ecs_world.proofs.Judged.{births}
 use Rattle.ecs_world.proofs.NameLists.{freed}
+use Rattle.ecs_world.proofs.Pinned.{further}
 use Rattle.ecs_world.proofs.Told.{told_entity}
 use Rattle.ecs_world.proofs.Standings.{going_on, state_is}
 use Rattle.ecs_world.proofs.World.make_entity.Goals as goal
@@ -16,18 +17,34 @@ pub unwrap-entity-requires : goal.unwrap-entity-requires
 unwrap-entity-requires g c =
     ap is_some c.upcoming.ensures ∙ next_some c.self.invariant (state_is c.self.view_is) (births c.args.self.now.state c.requires)
 
+pub invariant_of-self : goal.invariant_of-self
+invariant_of-self g c =
+    (further c.self.invariant (state_is c.self.view_is) c.cover.new.pins c.cover.ensures.entries c.cover.ensures.further).0
+
+pub returns-in_err-cover-clause-answers : goal.returns-in_err-cover-clause-answers
+returns-in_err-cover-clause-answers g c =
+    let p = err_from_is_err_and c.from_residual.result c.from_residual.ensures.1 in
+    rw (p.1, p.2, c.in_err-cover.ensures.refused) (further c.self.invariant (state_is c.self.view_is) c.cover.new.pins c.cover.ensures.entries c.cover.ensures.further).1
+
+pub returns-in_err-cover-clause-goes_on : goal.returns-in_err-cover-clause-goes_on
+returns-in_err-cover-clause-goes_on g c = going_on c.self.view_is (goes_on_same _)
+
 pub bind-requires : goal.bind-requires
 bind-requires g c =
-    let next = next_of c.self.invariant (state_is c.self.view_is) c.unwrap-entity.result (sym c.upcoming.ensures ∙ c.unwrap-entity.ensures) in
-    next_unnamed c.self.invariant (state_is c.self.view_is) c.unwrap-entity.result next
+    let roomy = further c.self.invariant (state_is c.self.view_is) c.cover.new.pins c.cover.ensures.entries c.cover.ensures.further in
+    let next = next_of roomy.0 roomy.1 c.unwrap-entity.result (sym c.upcoming.ensures ∙ c.unwrap-entity.ensures) in
+    next_unnamed roomy.0 roomy.1 c.unwrap-entity.result next
 
-pub invariant_of-self : goal.invariant_of-self
-invariant_of-self g c = (kept c.self.invariant (state_is c.self.view_is) (holdings_of c.self.inside.archetypes) c.bind.new.names c.self.inside.schemas.entries (unchanged c.self.invariant (state_is c.self.view_is)) c.in_err-bind.ensures.err refl).0
+pub invariant_of-self-in_err-bind : goal.invariant_of-self-in_err-bind
+invariant_of-self-in_err-bind g c =
+    let roomy = further c.self.invariant (state_is c.self.view_is) c.cover.new.pins c.cover.ensures.entries c.cover.ensures.further in
+    (kept roomy.0 roomy.1 (holdings_of c.self.inside.archetypes) c.bind.new.names c.self.inside.schemas.entries (unchanged roomy.0 roomy.1) c.in_err-bind.ensures.err refl).0
 
 pub returns-in_err-bind-clause-answers : goal.returns-in_err-bind-clause-answers
 returns-in_err-bind-clause-answers g c =
-    let p = err_from_is_err_and c.from_residual.result c.from_residual.ensures.1 in
-    rw (p.1, p.2) (unbound_entity c.self.invariant (state_is c.self.view_is) c.args.name.now _ c.in_err-bind.ensures.refused _ (kept c.self.invariant (state_is c.self.view_is) (holdings_of c.self.inside.archetypes) c.bind.new.names c.self.inside.schemas.entries (unchanged c.self.invariant (state_is c.self.view_is)) c.in_err-bind.ensures.err refl).1)
+    let roomy = further c.self.invariant (state_is c.self.view_is) c.cover.new.pins c.cover.ensures.entries c.cover.ensures.further in
+    let p = err_from_is_err_and c.from_residual-in_err-bind.result c.from_residual-in_err-bind.ensures.1 in
+    rw (p.1, p.2) (unbound_entity roomy.0 roomy.1 c.args.name.now _ c.in_err-bind.ensures.refused _ (kept roomy.0 roomy.1 (holdings_of c.self.inside.archetypes) c.bind.new.names c.self.inside.schemas.entries (unchanged roomy.0 roomy.1) c.in_err-bind.ensures.err refl).1)
 
 pub returns-in_err-bind-clause-goes_on : goal.returns-in_err-bind-clause-goes_on
 returns-in_err-bind-clause-goes_on g c = going_on c.self.view_is (goes_on_same _)
@@ -37,7 +54,8 @@ slice_bounds-create-end g c = refl
 
 pub create-requires-clause-left : goal.create-requires-clause-left
 create-requires-clause-left g c =
-    next_some c.self.invariant (state_is c.self.view_is) (births c.args.self.now.state c.requires)
+    let roomy = further c.self.invariant (state_is c.self.view_is) c.cover.new.pins c.cover.ensures.entries c.cover.ensures.further in
+    next_some roomy.0 roomy.1 (births c.args.self.now.state c.requires)
 
 pub create-requires-clause-ascend : goal.create-requires-clause-ascend
 create-requires-clause-ascend g c = refl
@@ -50,16 +68,18 @@ create-requires-clause-agree g c = refl
 
 pub invariant_of-self-then-is_err : goal.invariant_of-self-then-is_err
 invariant_of-self-then-is_err g c =
+    let roomy = further c.self.invariant (state_is c.self.view_is) c.cover.new.pins c.cover.ensures.entries c.cover.ensures.further in
     let w = c.self.inside in
-    (kept c.self.invariant (state_is c.self.view_is) (holdings_of c.create.new.self) c.unbind.new.self w.schemas.entries
-    (failed c.self.invariant (state_is c.self.view_is) [] refl (holdings_of c.create.new.self) c.create.ensures.holdings (on_err c.create.result c.create.ensures.refused (sym c.is_err.ensures.value ∙ c.if-is_err.true)) c.create.ensures.sizes)
+    (kept roomy.0 roomy.1 (holdings_of c.create.new.self) c.unbind.new.self w.schemas.entries
+    (failed roomy.0 roomy.1 [] refl (holdings_of c.create.new.self) c.create.ensures.holdings (on_err c.create.result c.create.ensures.refused (sym c.is_err.ensures.value ∙ c.if-is_err.true)) c.create.ensures.sizes)
     (freed w.names c.bind.new.names c.unbind.new.self c.args.name.now c.unwrap-entity.result c.in_ok-bind.ensures.free.1 c.in_ok-bind.ensures.bound c.unbind.ensures.named) refl).0
 
 pub returns-then-is_err-clause-answers : goal.returns-then-is_err-clause-answers
 returns-then-is_err-clause-answers g c =
+    let roomy = further c.self.invariant (state_is c.self.view_is) c.cover.new.pins c.cover.ensures.entries c.cover.ensures.further in
     let w = c.self.inside in
-    (kept c.self.invariant (state_is c.self.view_is) (holdings_of c.create.new.self) c.unbind.new.self w.schemas.entries
-    (failed c.self.invariant (state_is c.self.view_is) [] refl (holdings_of c.create.new.self) c.create.ensures.holdings (on_err c.create.result c.create.ensures.refused (sym c.is_err.ensures.value ∙ c.if-is_err.true)) c.create.ensures.sizes)
+    (kept roomy.0 roomy.1 (holdings_of c.create.new.self) c.unbind.new.self w.schemas.entries
+    (failed roomy.0 roomy.1 [] refl (holdings_of c.create.new.self) c.create.ensures.holdings (on_err c.create.result c.create.ensures.refused (sym c.is_err.ensures.value ∙ c.if-is_err.true)) c.create.ensures.sizes)
     (freed w.names c.bind.new.names c.unbind.new.self c.args.name.now c.unwrap-entity.result c.in_ok-bind.ensures.free.1 c.in_ok-bind.ensures.bound c.unbind.ensures.named) refl).1
 
 pub returns-then-is_err-clause-goes_on : goal.returns-then-is_err-clause-goes_on
@@ -72,18 +92,20 @@ overflow_add-self g c =
 
 pub invariant_of-self-2 : goal.invariant_of-self-2
 invariant_of-self-2 g c =
+    let roomy = further c.self.invariant (state_is c.self.view_is) c.cover.new.pins c.cover.ensures.entries c.cover.ensures.further in
     let w = c.self.inside in
-    let next = next_of c.self.invariant (state_is c.self.view_is) c.unwrap-entity.result (sym c.upcoming.ensures ∙ c.unwrap-entity.ensures) in
+    let next = next_of roomy.0 roomy.1 c.unwrap-entity.result (sym c.upcoming.ensures ∙ c.unwrap-entity.ensures) in
     let born = made_is (upcoming (holdings_of w.archetypes)) (λ f. HoldAlike (holdings_of c.create.new.self) (with_cells (with_entity (holdings_of w.archetypes) f) f.index [])) c.create.result c.unwrap-entity.result c.create.ensures.next c.create.ensures.born (sym c.is_err.ensures.value ∙ c.if-is_err.false) (sym c.upcoming.ensures ∙ c.unwrap-entity.ensures) in
-    (named_left c.self.invariant (state_is c.self.view_is) c.unwrap-entity.result next c.args.name.now (none_entity c.self.invariant (state_is c.self.view_is) c.args.name.now c.in_ok-bind.ensures.free c.requires) c.in_ok-bind.ensures.free.1 c.bind.new.names c.in_ok-bind.ensures.bound (holdings_of c.create.new.self) c.create.ensures.holdings born c.create.ensures.sizes).0
+    (named_left roomy.0 roomy.1 c.unwrap-entity.result next c.in_ok-cover.ensures.covers c.args.name.now (none_entity roomy.0 roomy.1 c.args.name.now c.in_ok-bind.ensures.free c.requires) c.in_ok-bind.ensures.free.1 c.bind.new.names c.in_ok-bind.ensures.bound (holdings_of c.create.new.self) c.create.ensures.holdings born c.create.ensures.sizes).0
 
 pub returns-clause-answers : goal.returns-clause-answers
 returns-clause-answers g c =
+    let roomy = further c.self.invariant (state_is c.self.view_is) c.cover.new.pins c.cover.ensures.entries c.cover.ensures.further in
     let w = c.self.inside in
-    let next = next_of c.self.invariant (state_is c.self.view_is) c.unwrap-entity.result (sym c.upcoming.ensures ∙ c.unwrap-entity.ensures) in
+    let next = next_of roomy.0 roomy.1 c.unwrap-entity.result (sym c.upcoming.ensures ∙ c.unwrap-entity.ensures) in
     let born = made_is (upcoming (holdings_of w.archetypes)) (λ f. HoldAlike (holdings_of c.create.new.self) (with_cells (with_entity (holdings_of w.archetypes) f) f.index [])) c.create.result c.unwrap-entity.result c.create.ensures.next c.create.ensures.born (sym c.is_err.ensures.value ∙ c.if-is_err.false) (sym c.upcoming.ensures ∙ c.unwrap-entity.ensures) in
-    told_entity c.args.self.now.state _ c.of_birth.result c.args.name.now c.unwrap-entity.result next (none_entity c.self.invariant (state_is c.self.view_is) c.args.name.now c.in_ok-bind.ensures.free c.requires)
-    (named_left c.self.invariant (state_is c.self.view_is) c.unwrap-entity.result next c.args.name.now (none_entity c.self.invariant (state_is c.self.view_is) c.args.name.now c.in_ok-bind.ensures.free c.requires) c.in_ok-bind.ensures.free.1 c.bind.new.names c.in_ok-bind.ensures.bound (holdings_of c.create.new.self) c.create.ensures.holdings born c.create.ensures.sizes).1
+    told_entity c.args.self.now.state _ c.of_birth.result c.args.name.now c.unwrap-entity.result next (none_entity roomy.0 roomy.1 c.args.name.now c.in_ok-bind.ensures.free c.requires)
+    (named_left roomy.0 roomy.1 c.unwrap-entity.result next c.in_ok-cover.ensures.covers c.args.name.now (none_entity roomy.0 roomy.1 c.args.name.now c.in_ok-bind.ensures.free c.requires) c.in_ok-bind.ensures.free.1 c.bind.new.names c.in_ok-bind.ensures.bound (holdings_of c.create.new.self) c.create.ensures.holdings born c.create.ensures.sizes).1
     c.of_birth.ensures
 
 pub returns-clause-goes_on : goal.returns-clause-goes_on

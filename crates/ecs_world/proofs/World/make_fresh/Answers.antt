@@ -1,11 +1,31 @@
-use Rattle.std.proofs.Common.{[], refl, sym, ◌∙◌, arith}
+use Rattle.std.proofs.Common.{[], is_some, refl, sym, ap, ◌∙◌, arith}
 use Rattle.ecs_archetypes.specs.Housing.{holdings_of}
+use Rattle.std.proofs.lemmas.Result.{err_from_is_err_and}
 use Rattle.ecs_model.proofs.Additions.{not_spent}
-use Rattle.ecs_world.proofs.Accepted.{failed, fresh_left, next_of, next_some}
+use Rattle.ecs_archetypes.specs.Holdings.{HoldAlike, upcoming, with_cells, with_entity}
+use Rattle.table_store.specs.Going.{goes_on_same}
+use Rattle.ecs_world.proofs.Accepted.{failed, fresh_left, made_is, next_of, next_some, on_err}
 use Rattle.ecs_world.proofs.Judged.{births, fresh_refusal}
+use Rattle.ecs_world.proofs.Pinned.{further}
 use Rattle.ecs_world.proofs.Told.{told_fresh}
 use Rattle.ecs_world.proofs.Standings.{going_on, state_is}
 use Rattle.ecs_world.proofs.World.make_fresh.Goals as goal
+
+pub unwrap-entity-requires : goal.unwrap-entity-requires
+unwrap-entity-requires g c =
+    ap is_some c.upcoming.ensures ∙ next_some c.self.invariant (state_is c.self.view_is) (births c.args.self.now.state c.requires)
+
+pub invariant_of-self : goal.invariant_of-self
+invariant_of-self g c =
+    (further c.self.invariant (state_is c.self.view_is) c.cover.new.pins c.cover.ensures.entries c.cover.ensures.further).0
+
+pub returns-in_err-cover-clause-answers : goal.returns-in_err-cover-clause-answers
+returns-in_err-cover-clause-answers g c =
+    let p = err_from_is_err_and c.from_residual.result c.from_residual.ensures.1 in
+    rw (p.1, p.2, c.in_err-cover.ensures.refused) (further c.self.invariant (state_is c.self.view_is) c.cover.new.pins c.cover.ensures.entries c.cover.ensures.further).1
+
+pub returns-in_err-cover-clause-goes_on : goal.returns-in_err-cover-clause-goes_on
+returns-in_err-cover-clause-goes_on g c = going_on c.self.view_is (goes_on_same _)
 
 pub slice_bounds-create-end : goal.slice_bounds-create-end
 slice_bounds-create-end g c = refl
@@ -23,16 +43,18 @@ create-requires-clause-small g c = refl
 pub create-requires-clause-agree : goal.create-requires-clause-agree
 create-requires-clause-agree g c = refl
 
-pub invariant_of-self : goal.invariant_of-self
-invariant_of-self g c =
-    (failed c.self.invariant (state_is c.self.view_is) [] refl (holdings_of c.create.new.self) c.create.ensures.holdings c.in_default.ensures.refused c.create.ensures.sizes).0
+pub invariant_of-self-then-is_err : goal.invariant_of-self-then-is_err
+invariant_of-self-then-is_err g c =
+    let roomy = further c.self.invariant (state_is c.self.view_is) c.cover.new.pins c.cover.ensures.entries c.cover.ensures.further in
+    (failed roomy.0 roomy.1 [] refl (holdings_of c.create.new.self) c.create.ensures.holdings (on_err c.create.result c.create.ensures.refused (sym c.is_err.ensures.value ∙ c.if-is_err.true)) c.create.ensures.sizes).0
 
-pub returns-in_default-clause-answers : goal.returns-in_default-clause-answers
-returns-in_default-clause-answers g c =
-    (failed c.self.invariant (state_is c.self.view_is) [] refl (holdings_of c.create.new.self) c.create.ensures.holdings c.in_default.ensures.refused c.create.ensures.sizes).1
+pub returns-then-is_err-clause-answers : goal.returns-then-is_err-clause-answers
+returns-then-is_err-clause-answers g c =
+    let roomy = further c.self.invariant (state_is c.self.view_is) c.cover.new.pins c.cover.ensures.entries c.cover.ensures.further in
+    (failed roomy.0 roomy.1 [] refl (holdings_of c.create.new.self) c.create.ensures.holdings (on_err c.create.result c.create.ensures.refused (sym c.is_err.ensures.value ∙ c.if-is_err.true)) c.create.ensures.sizes).1
 
-pub returns-in_default-clause-goes_on : goal.returns-in_default-clause-goes_on
-returns-in_default-clause-goes_on g c = going_on c.self.view_is c.create.ensures.goes_on
+pub returns-then-is_err-clause-goes_on : goal.returns-then-is_err-clause-goes_on
+returns-then-is_err-clause-goes_on g c = going_on c.self.view_is c.create.ensures.goes_on
 
 pub overflow_add-self : goal.overflow_add-self
 overflow_add-self g c =
@@ -41,13 +63,20 @@ overflow_add-self g c =
 
 pub invariant_of-self-2 : goal.invariant_of-self-2
 invariant_of-self-2 g c =
-    (fresh_left c.self.invariant (state_is c.self.view_is) c.in-Ok.entity (next_of c.self.invariant (state_is c.self.view_is) c.in-Ok.entity c.in-Ok.ensures.next) (sym (fresh_refusal c.args.self.now.state) ∙ c.requires) (holdings_of c.create.new.self) c.create.ensures.holdings c.in-Ok.ensures.born c.create.ensures.sizes).0
+    let w = c.self.inside in
+    let roomy = further c.self.invariant (state_is c.self.view_is) c.cover.new.pins c.cover.ensures.entries c.cover.ensures.further in
+    let next = next_of roomy.0 roomy.1 c.unwrap-entity.result (sym c.upcoming.ensures ∙ c.unwrap-entity.ensures) in
+    let born = made_is (upcoming (holdings_of w.archetypes)) (λ f. HoldAlike (holdings_of c.create.new.self) (with_cells (with_entity (holdings_of w.archetypes) f) f.index [])) c.create.result c.unwrap-entity.result c.create.ensures.next c.create.ensures.born (sym c.is_err.ensures.value ∙ c.if-is_err.false) (sym c.upcoming.ensures ∙ c.unwrap-entity.ensures) in
+    (fresh_left roomy.0 roomy.1 c.unwrap-entity.result next c.in_ok-cover.ensures.covers (sym (fresh_refusal c.args.self.now.state) ∙ c.requires) (holdings_of c.create.new.self) c.create.ensures.holdings born c.create.ensures.sizes).0
 
 pub returns-clause-answers : goal.returns-clause-answers
 returns-clause-answers g c =
-    let next = next_of c.self.invariant (state_is c.self.view_is) c.in-Ok.entity c.in-Ok.ensures.next in
-    told_fresh c.args.self.now.state _ c.of_birth.result c.in-Ok.entity next (sym (fresh_refusal c.args.self.now.state) ∙ c.requires)
-    (fresh_left c.self.invariant (state_is c.self.view_is) c.in-Ok.entity next (sym (fresh_refusal c.args.self.now.state) ∙ c.requires) (holdings_of c.create.new.self) c.create.ensures.holdings c.in-Ok.ensures.born c.create.ensures.sizes).1
+    let w = c.self.inside in
+    let roomy = further c.self.invariant (state_is c.self.view_is) c.cover.new.pins c.cover.ensures.entries c.cover.ensures.further in
+    let next = next_of roomy.0 roomy.1 c.unwrap-entity.result (sym c.upcoming.ensures ∙ c.unwrap-entity.ensures) in
+    let born = made_is (upcoming (holdings_of w.archetypes)) (λ f. HoldAlike (holdings_of c.create.new.self) (with_cells (with_entity (holdings_of w.archetypes) f) f.index [])) c.create.result c.unwrap-entity.result c.create.ensures.next c.create.ensures.born (sym c.is_err.ensures.value ∙ c.if-is_err.false) (sym c.upcoming.ensures ∙ c.unwrap-entity.ensures) in
+    told_fresh c.args.self.now.state _ c.of_birth.result c.unwrap-entity.result next (sym (fresh_refusal c.args.self.now.state) ∙ c.requires)
+    (fresh_left roomy.0 roomy.1 c.unwrap-entity.result next c.in_ok-cover.ensures.covers (sym (fresh_refusal c.args.self.now.state) ∙ c.requires) (holdings_of c.create.new.self) c.create.ensures.holdings born c.create.ensures.sizes).1
     c.of_birth.ensures
 
 pub returns-clause-goes_on : goal.returns-clause-goes_on

@@ -1,5 +1,5 @@
 -- The values are written, and counted as one command for each row.
-use Rattle.std.proofs.Common.{◌+◌, ap, subst, ◌∙◌, arith}
+use Rattle.std.proofs.Common.{◌+◌, ap, subst, arith}
 use Rattle.ecs_archetypes.specs.Scans.{HaveRows}
 use Rattle.ecs_archetypes.specs.Tables.{StandAlike}
 use Rattle.ecs_world.specs.Standing.{Standing}
@@ -10,7 +10,7 @@ use Rattle.ecs_world.proofs.World.set_column.Goals as goal
 pub set_column-requires : goal.set_column-requires
 set_column-requires g c =
     let a = c.self.inside in
-    are_values a.archetypes a.names a.schemas.entries a.pins.entries a.accepted c.self.invariant (subst HaveRows c.graph-graph.ensures c.store.ensures.rows) c.args.self.now c.self.view_is
+    are_values a.archetypes a.names a.schemas.entries a.pins a.accepted c.self.invariant (subst HaveRows c.graph-graph.ensures c.store.ensures.rows) c.args.self.now c.self.view_is
     c.args.key c.args.id c.args.bytes.now c.in_ok-rows.ensures.judged c.in_ok-rows.ensures.some
 
 pub overflow_add-self : goal.overflow_add-self
@@ -19,21 +19,21 @@ overflow_add-self g c =
     omega (
       arith,
       c.in_ok-rows.ensures.rows,
-      fits a.archetypes a.names a.schemas.entries a.pins.entries a.accepted c.self.invariant (subst HaveRows c.graph-graph.ensures c.store.ensures.rows) c.args.self.now c.self.view_is
+      fits a.archetypes a.names a.schemas.entries a.pins a.accepted c.self.invariant (subst HaveRows c.graph-graph.ensures c.store.ensures.rows) c.args.self.now c.self.view_is
           c.args.key c.args.id c.args.bytes.now c.in_ok-rows.ensures.judged,
     )
 
 pub invariant_of-self : goal.invariant_of-self
 invariant_of-self g c =
     let a = c.self.inside in
-    (column_left a.archetypes a.names a.schemas.entries a.pins.entries a.accepted c.self.invariant (subst HaveRows c.graph-graph.ensures c.store.ensures.rows) c.args.self.now c.self.view_is
+    (column_left a.archetypes a.names a.schemas.entries a.pins a.accepted c.self.invariant (subst HaveRows c.graph-graph.ensures c.store.ensures.rows) c.args.self.now c.self.view_is
     c.args.key c.args.id c.args.bytes.now c.in_ok-rows.ensures.judged (λ k. (c.type_inv.bytes k).fits)
     c.set_column.new.self c.set_column.ensures.holdings c.set_column.ensures.sizes c.set_column.ensures.written _ (ap (λ n. a.accepted + n) c.in_ok-rows.ensures.rows)).0
 
 pub returns-clause-set : goal.returns-clause-set
 returns-clause-set g c =
     let a = c.self.inside in
-    (column_left a.archetypes a.names a.schemas.entries a.pins.entries a.accepted c.self.invariant (subst HaveRows c.graph-graph.ensures c.store.ensures.rows) c.args.self.now c.self.view_is
+    (column_left a.archetypes a.names a.schemas.entries a.pins a.accepted c.self.invariant (subst HaveRows c.graph-graph.ensures c.store.ensures.rows) c.args.self.now c.self.view_is
     c.args.key c.args.id c.args.bytes.now c.in_ok-rows.ensures.judged (λ k. (c.type_inv.bytes k).fits)
     c.set_column.new.self c.set_column.ensures.holdings c.set_column.ensures.sizes c.set_column.ensures.written _ (ap (λ n. a.accepted + n) c.in_ok-rows.ensures.rows)).1
 
