@@ -162,15 +162,6 @@ impl<A: Allocator> StoredQueries<A> {
         self.all.put(key, made);
     }
 
-    /// Forgets a stored query that was made ready.
-    pub(crate) fn forget(&mut self, key: &String<A>, made: &Boxed<StoredQuery<A>, A>)
-        requires opened { IsOpened self.old made.now.value.name made.now.value.value.value (key.now, made.now) }
-        ensures same { entries_of self.new ≡ entries_of self.old }
-        ensures stored { IsStored self.new }
-    {
-        self.all.forget(key, made);
-    }
-
     /// Takes out the stored query of a name. No other is moved, and no memory taken.
     pub(crate) fn remove(&mut self, name: &str) -> Option<Boxed<StoredQuery<A>, A>>
         requires stored { IsStored self.old }

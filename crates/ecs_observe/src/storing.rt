@@ -107,10 +107,7 @@ impl<A: Allocator + Copy> Session<A> {
         ensures refused { OnErr result (self.new ≡ self.old) }
     {
         let (key, made) = self.stored.prepare(self.alloc, name, stored)?;
-        if let Err(error) = pin_all(&mut self.world, made.value.value.plan.query().mentions()) {
-            self.stored.forget(&key, &made);
-            return Err(error);
-        }
+        pin_all(&mut self.world, made.value.value.plan.query().mentions());
         self.stored.put(key, made);
         self.compared = compared;
         Ok(())

@@ -1,5 +1,5 @@
 -- One more stored query is held, or nothing has changed.
-use Rattle.std.proofs.Common.{◌≡◌, ◌≢◌, ◌<◌, ◌≤◌, ◌++◌, [], ◌∷◌, All, None, length, sym, ap, subst, ◌∙◌}
+use Rattle.std.proofs.Common.{◌≡◌, ◌≢◌, ◌<◌, ◌++◌, [], ◌∷◌, All, None, length, sym, ap, subst, ◌∙◌}
 use Rattle.std.specs.Map.{lookup}
 use Rattle.std.specs.declared.string.String.{String}
 use Rattle.std.specs.String.{string_bytes}
@@ -9,17 +9,15 @@ use Rattle.watch_order.specs.declared.watching.Watcher.{Watcher}
 use Rattle.ecs_model.specs.stored.Session.{most_stored, pinned_by}
 use Rattle.query_model.specs.Query.{Query}
 use Rattle.watch_meaning.proofs.Pinning.{AreAlive, current_alive}
-use Rattle.watch_meaning.proofs.MentionedOnce.{queries_mention_once}
-use Rattle.watch_meaning.specs.Mentions.{times_in}
 use Rattle.ecs_observe.specs.Lists.{HaveLists}
 use Rattle.ecs_observe.specs.Parts.{held_of}
-use Rattle.ecs_observe.specs.Standing.{IsHeld, IsNow, IsSession, Standing}
+use Rattle.ecs_observe.specs.Standing.{IsHeld, IsNow, Standing}
 use Rattle.ecs_observe.specs.Stored.{entries_of}
 use Rattle.ecs_observe.specs.Storing.{with_held}
 use Rattle.ecs_observe.specs.declared.stored.StoredQuery.{StoredQuery}
 use Rattle.ecs_observe.proofs.Entries.{none_of_name}
 use Rattle.ecs_observe.proofs.Listed.{lists_more}
-use Rattle.ecs_observe.proofs.OneMore.{far_from_most, one_more_seen, same_seen, with_held_seen}
+use Rattle.ecs_observe.proofs.OneMore.{one_more_seen, with_held_seen}
 use Rattle.ecs_observe.proofs.Watches.{opened_as}
 use Rattle.ecs_observe.proofs.session.Session.hold.Goals as goal
 
@@ -27,22 +25,11 @@ use Rattle.ecs_observe.proofs.session.Session.hold.Goals as goal
 abbrev queried : {A : Type 0} → Named (Watcher (StoredQuery A) A) A → Query
 queried m = (m.value.value.plan).query
 
-pub pin_all-requires-clause-alive : goal.pin_all-requires-clause-alive
-pin_all-requires-clause-alive g c =
+pub pin_all-requires : goal.pin_all-requires
+pin_all-requires g c =
     let h = subst (λ (s : Standing). IsHeld (s.world).state (held_of (c.args.name, c.args.stored))) (sym c.self.view_is) c.requires.held in
     let same = c.query.ensures ∙ ap queried c.deref.ensures ∙ ap (λ (x : StoredQuery g.row.A.Denot). (x.plan).query) c.in_ok-key.ensures.opened.query in
     subst (AreAlive c.self.inside.world.state) (sym (c.mentions.ensures ∙ ap (λ (q : Query). q.mentions) same)) (current_alive c.self.inside.world.state ((c.args.stored).plan).query h.current)
-
-pub pin_all-requires-clause-once : goal.pin_all-requires-clause-once
-pin_all-requires-clause-once g c = λ i.
-    let same = c.query.ensures ∙ ap queried c.deref.ensures ∙ ap (λ (x : StoredQuery g.row.A.Denot). (x.plan).query) c.in_ok-key.ensures.opened.query in
-    subst (λ ms. times_in i ms ≤ 1) (sym (c.mentions.ensures ∙ ap (λ (q : Query). q.mentions) same)) (queries_mention_once ((c.args.stored).plan).query ((c.requires.held).current).asked i)
-
-pub pin_all-requires-clause-few : goal.pin_all-requires-clause-few
-pin_all-requires-clause-few g c = far_from_most c.self.inside.world _ c.self.inside.waiting c.self.inside.compared c.self.invariant.0
-
-pub forget-requires : goal.forget-requires
-forget-requires g c = record { opened = opened_as c.prepare.new.self c.args.name c.in_ok-key.key c.args.stored c.in_ok-key.made c.in_ok-key.ensures.opened }
 
 pub put-requires : goal.put-requires
 put-requires g c = record {
@@ -52,23 +39,13 @@ put-requires g c = record {
       ∙ none_of_name (string_bytes c.args.name) (entries_of c.self.inside.stored) (subst (λ (s : Standing). All (λ h. h.name ≢ string_bytes c.args.name) s.stored) (sym c.self.view_is) c.requires.free));
 }
 
-pub invariant_of-self-in-Err : goal.invariant_of-self-in-Err
-invariant_of-self-in-Err g c =
-    let same = c.forget.ensures.same ∙ c.prepare.ensures.same in (
-      subst IsSession
-          (sym (same_seen c.self.inside.world c.pin_all.new.world (entries_of c.self.inside.stored) (entries_of c.forget.new.self) c.self.inside.waiting c.self.inside.compared c.in-Err.ensures.refused c.pin_all.ensures.tables same))
-          c.self.invariant.0,
-      subst (λ t. HaveLists t (entries_of c.forget.new.self)) (sym c.pin_all.ensures.tables) (subst (HaveLists c.self.inside.world.tables) (sym same) c.self.invariant.1),
-      c.forget.ensures.stored,
-    )
-
 pub invariant_of-self-2 : goal.invariant_of-self-2
 invariant_of-self-2 g c =
     let seen_as = sym c.self.view_is in
     let ready = c.in_ok-key.ensures.opened in
     let same = c.query.ensures ∙ ap queried c.deref.ensures ∙ ap (λ (x : StoredQuery g.row.A.Denot). (x.plan).query) ready.query in
     let put = c.put.ensures.entries ∙ (λ j. c.prepare.ensures.same j ++ (ready.open_one.ready.name j, ready.query j) ∷ []) in
-    let counted = c.in_default.ensures.pinned ∙ ap (pinned_by c.self.inside.world.state) (c.mentions.ensures ∙ ap (λ (q : Query). q.mentions) same) in
+    let counted = c.pin_all.ensures.pinned ∙ ap (pinned_by c.self.inside.world.state) (c.mentions.ensures ∙ ap (λ (q : Query). q.mentions) same) in
     let free = subst (λ (s : Standing). All (λ h. h.name ≢ string_bytes c.args.name) s.stored) seen_as c.requires.free in (
       one_more_seen c.args.name c.args.stored c.self.inside.world c.pin_all.new.world (entries_of c.self.inside.stored) (entries_of c.put.new.self) c.self.inside.waiting c.self.inside.compared c.self.invariant.0
           free counted put
@@ -88,7 +65,7 @@ returns-clause-held g c =
     let ready = c.in_ok-key.ensures.opened in
     let same = c.query.ensures ∙ ap queried c.deref.ensures ∙ ap (λ (x : StoredQuery g.row.A.Denot). (x.plan).query) ready.query in
     let put = c.put.ensures.entries ∙ (λ j. c.prepare.ensures.same j ++ (ready.open_one.ready.name j, ready.query j) ∷ []) in
-    let counted = c.in_default.ensures.pinned ∙ ap (pinned_by c.self.inside.world.state) (c.mentions.ensures ∙ ap (λ (q : Query). q.mentions) same) in
+    let counted = c.pin_all.ensures.pinned ∙ ap (pinned_by c.self.inside.world.state) (c.mentions.ensures ∙ ap (λ (q : Query). q.mentions) same) in
     with_held_seen c.args.name c.args.stored c.self.inside.world c.pin_all.new.world (entries_of c.self.inside.stored) (entries_of c.put.new.self) c.self.inside.waiting c.self.inside.compared c.self.invariant.0
     (subst (λ (s : Standing). All (λ h. h.name ≢ string_bytes c.args.name) s.stored) seen_as c.requires.free) counted put c.pin_all.ensures.tables c.args.compared
     ∙ ap (λ s. record (with_held s (held_of (c.args.name, c.args.stored))) { compared = c.args.compared }) c.self.view_is
