@@ -9,3 +9,4 @@ mod Probes
 mod Planned
 mod Chains
 mod Sheets
+mod Fronts

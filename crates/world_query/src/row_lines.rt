@@ -1,6 +1,7 @@
 //! The line of a row.
 
-ghost use Rattle.std.specs.Prelude.{◌≡◌, ◌+◌, ◌<◌, ◌≤◌, ◌++◌, All, OnOk, Some, codes, flat_map, length, map};
+ghost use Rattle.std.specs.Prelude.{◌≡◌, ◌+◌, ◌<◌, ◌≤◌, ◌++◌, All, OnErr, OnOk, Some, codes, flat_map, length, map};
+ghost use Rattle.std.specs.Io.{StartsWith};
 ghost use Rattle.std.specs.List.{zip};
 ghost use Rattle.ecs_model.specs.Bytes.{size_of, values_in};
 ghost use Rattle.ecs_model.specs.Print.{field_text, index_text, value_text};
@@ -42,6 +43,7 @@ pub(crate) fn write_row<'w, A: Allocator, B: Allocator>(
     requires texts { AreTexts world.now.state (length starts.now) (length (fields.now).items) texts.old }
     ensures texts { OnOk result (AreTexts world.now.state (length starts.now) (length (fields.now).items) texts.new) }
     ensures row { OnOk result (written out.new end.new ≡ written out.old end.old ++ line_headed world.now.state (starts_in starts.now) entities.now (fields.now).current) }
+    ensures front { OnErr result (StartsWith (written out.new end.new) (written out.old end.old)) }
 {
     begin_row(starts, end, out)?;
     write_bindings(
@@ -61,7 +63,8 @@ fn begin_row<A: Allocator, B: Allocator>(
     end: &mut usize,
     out: &mut Vec<u8, A>,
 ) -> Result<(), AllocError>
-    ensures { OnOk result (written out.new end.new ≡ written out.old end.old ++ row_alone (starts_in starts.now)) }
+    ensures text { OnOk result (written out.new end.new ≡ written out.old end.old ++ row_alone (starts_in starts.now)) }
+    ensures front { OnErr result (StartsWith (written out.new end.new) (written out.old end.old)) }
 {
     match starts {
         [] => put(b"row                             ", 3, end, out),
@@ -82,6 +85,7 @@ fn write_bindings<A: Allocator, B: Allocator>(
     requires texts { All (IsKept world.now.state) texts.old }
     ensures texts { OnOk result (All (IsKept world.now.state) texts.new) }
     ensures text { OnOk result (written out.new end.new ≡ written out.old end.old ++ flat_map (started world.now.state) (zip (starts_in starts.now) entities.now)) }
+    ensures front { OnErr result (StartsWith (written out.new end.new) (written out.old end.old)) }
 {
     for place in 0..starts.len().min(entities.len()) {
         write_binding(
@@ -109,6 +113,7 @@ fn write_all_fields<'w, A: Allocator, B: Allocator>(
     requires texts { AreTexts world.now.state columns (length (fields.now).items) texts.old }
     ensures texts { OnOk result (AreTexts world.now.state columns (length (fields.now).items) texts.new) }
     ensures text { OnOk result (written out.new end.new ≡ written out.old end.old ++ flat_map (field_text world.now.state) (map (shown_field (view_of world.now.state)) (fields.now).current) ++ codes "\n") }
+    ensures front { OnErr result (StartsWith (written out.new end.new) (written out.old end.old)) }
 {
     let Some(last) = fields.len().checked_sub(1) else {
         return put(b"\n                               ", 1, end, out);
@@ -142,6 +147,7 @@ fn write_binding<A: Allocator, B: Allocator>(
     requires texts { All (IsKept world.now.state) texts.old }
     ensures texts { OnOk result (All (IsKept world.now.state) texts.new) }
     ensures text { OnOk result (written out.new end.new ≡ written out.old end.old ++ started world.now.state (text_of start.now, entity)) }
+    ensures front { OnErr result (StartsWith (written out.new end.new) (written out.old end.old)) }
 {
     let found = place_of_text(world, texts, place, entity)?;
     let text = &texts[found];
@@ -172,6 +178,7 @@ fn write_field<'w, A: Allocator, B: Allocator>(
     ensures texts { OnOk result (All (IsKept world.now.state) texts.new) }
     ensures label { OnOk result (IsLabel world.now.state label.new) }
     ensures text { OnOk result (written out.new end.new ≡ written out.old end.old ++ field_text world.now.state (shown_field (view_of world.now.state) shown) ++ line_end is_last) }
+    ensures front { OnErr result (StartsWith (written out.new end.new) (written out.old end.old)) }
 {
     let Some(fact) = shown else {
         return write_unset(is_last, end, out);
@@ -191,7 +198,8 @@ fn write_unset<A: Allocator>(
     end: &mut usize,
     out: &mut Vec<u8, A>,
 ) -> Result<(), AllocError>
-    ensures { OnOk result (written out.new end.new ≡ written out.old end.old ++ codes " [-]" ++ line_end is_last) }
+    ensures text { OnOk result (written out.new end.new ≡ written out.old end.old ++ codes " [-]" ++ line_end is_last) }
+    ensures front { OnErr result (StartsWith (written out.new end.new) (written out.old end.old)) }
 {
     if is_last {
         return put(b" [-]\n                           ", 5, end, out);
@@ -211,7 +219,8 @@ fn write_valued<'w, A: Allocator, B: Allocator>(
 ) -> Result<(), AllocError>
     requires label { IsLabelOf world.now.state label.now fact.id }
     requires source { IsEntityText world.now.state source.now }
-    ensures { OnOk result (written out.new end.new ≡ written out.old end.old ++ label_text world.now.state fact.id ++ index_text world.now.state (source.now).index ++ value_text ((view_of world.now.state).value fact.source fact.id) ++ field_end is_last) }
+    ensures text { OnOk result (written out.new end.new ≡ written out.old end.old ++ label_text world.now.state fact.id ++ index_text world.now.state (source.now).index ++ value_text ((view_of world.now.state).value fact.source fact.id) ++ field_end is_last) }
+    ensures front { OnErr result (StartsWith (written out.new end.new) (written out.old end.old)) }
 {
     let Some(schema) = label.schema else {
         return write_bare(world, fact.id, is_last, label, source, end, out);
@@ -245,7 +254,8 @@ fn write_bare<'w, A: Allocator, B: Allocator>(
 ) -> Result<(), AllocError>
     requires label { IsLabelOf world.now.state label.now id }
     requires source { IsEntityText world.now.state source.now }
-    ensures { OnOk result (written out.new end.new ≡ written out.old end.old ++ label_text world.now.state id ++ index_text world.now.state (source.now).index ++ field_end is_last) }
+    ensures text { OnOk result (written out.new end.new ≡ written out.old end.old ++ label_text world.now.state id ++ index_text world.now.state (source.now).index ++ field_end is_last) }
+    ensures front { OnErr result (StartsWith (written out.new end.new) (written out.old end.old)) }
 {
     put_pair(
         label.text.bytes.as_slice(),
@@ -266,7 +276,8 @@ fn write_numbers<A: Allocator>(
     out: &mut Vec<u8, A>,
 ) -> Result<(), AllocError>
     requires { length bytes.now ≡ size_of schema.now }
-    ensures { OnOk result (written out.new end.new ≡ written out.old end.old ++ value_text (Some (values_in schema.now bytes.now)) ++ field_end is_last) }
+    ensures text { OnOk result (written out.new end.new ≡ written out.old end.old ++ value_text (Some (values_in schema.now bytes.now)) ++ field_end is_last) }
+    ensures front { OnErr result (StartsWith (written out.new end.new) (written out.old end.old)) }
 {
     let mut text = [b']'; MOST_TEXT + CHUNK];
     text[MOST_TEXT + 1] = b'\n';

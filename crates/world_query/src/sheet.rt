@@ -2,7 +2,8 @@
 //!
 //! Of a sheet's bytes those before a place are written, and what stands behind them is room. The place is kept beside the bytes.
 
-ghost use Rattle.std.specs.Prelude.{◌≡◌, ◌+◌, ◌-◌, ◌<◌, ◌≤◌, ◌++◌, OnOk, IfOk, drop, false, length, replicate, take, true};
+ghost use Rattle.std.specs.Prelude.{◌≡◌, ◌+◌, ◌-◌, ◌<◌, ◌≤◌, ◌++◌, OnErr, OnOk, IfOk, drop, false, length, replicate, take, true};
+ghost use Rattle.std.specs.Io.{StartsWith};
 ghost use Rattle.world_query.specs.Lines.{written};
 
 use std::alloc::{AllocError, Allocator};
@@ -24,7 +25,8 @@ pub(crate) fn put<A: Allocator>(
     end: &mut usize,
     sheet: &mut Vec<u8, A>,
 ) -> Result<(), AllocError>
-    ensures { OnOk result (written sheet.new end.new ≡ written sheet.old end.old ++ take count text.now) }
+    ensures text { OnOk result (written sheet.new end.new ≡ written sheet.old end.old ++ take count text.now) }
+    ensures front { OnErr result (StartsWith (written sheet.new end.new) (written sheet.old end.old)) }
 {
     let place = *end;
     if is_short(text, count) && has_room(place, CHUNK, sheet.len()) {
@@ -47,7 +49,8 @@ pub(crate) fn put_pair<A: Allocator>(
     sheet: &mut Vec<u8, A>,
 ) -> Result<(), AllocError>
     requires { 32 ≤ length other.now }
-    ensures { OnOk result (written sheet.new end.new ≡ (written sheet.old end.old ++ take count text.now) ++ take more other.now) }
+    ensures text { OnOk result (written sheet.new end.new ≡ (written sheet.old end.old ++ take count text.now) ++ take more other.now) }
+    ensures front { OnErr result (StartsWith (written sheet.new end.new) (written sheet.old end.old)) }
 {
     let place = *end;
     if is_short(text, count) && more <= CHUNK && has_room(place, PAIR, sheet.len()) {
@@ -117,7 +120,8 @@ fn put_long<A: Allocator>(
     end: &mut usize,
     sheet: &mut Vec<u8, A>,
 ) -> Result<(), AllocError>
-    ensures { OnOk result (written sheet.new end.new ≡ written sheet.old end.old ++ take count text.now) }
+    ensures text { OnOk result (written sheet.new end.new ≡ written sheet.old end.old ++ take count text.now) }
+    ensures front { OnErr result (StartsWith (written sheet.new end.new) (written sheet.old end.old)) }
 {
     let text = &text[..count.min(text.len())];
     let place = (*end).min(sheet.len());
@@ -141,6 +145,7 @@ pub(crate) fn put_at<A: Allocator>(text: &[u8], place: usize, sheet: &mut Vec<u8
 fn reach<A: Allocator>(least: usize, sheet: &mut Vec<u8, A>) -> Result<(), AllocError>
     ensures long { IfOk result (λ _. least ≤ length sheet.new.items) }
     ensures same { OnOk result (take (length sheet.old.items) sheet.new.items ≡ sheet.old.items) }
+    ensures kept { OnErr result (sheet.new.items ≡ sheet.old.items) }
 {
     if !has_room(least, PAIR, sheet.len()) {
         let room = least.checked_add(MORE_ROOM).ok_or(AllocError)?;

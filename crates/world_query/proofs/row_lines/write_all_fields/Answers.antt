@@ -11,6 +11,7 @@ use Rattle.row_fields.specs.Fields.{shown_field}
 use Rattle.world_query.specs.Lines.{IsLabel, line_end, written}
 use Rattle.world_query.proofs.Kept.{texts_lent}
 use Rattle.world_query.proofs.Printed.{line_ended, line_goes_on}
+use Rattle.world_query.proofs.Fronts.{front_before, on_err_anyway}
 use Rattle.world_query.proofs.row_lines.write_all_fields.Goals as goal
 
 pub loop-number-preserved : goal.loop-number-preserved
@@ -45,3 +46,6 @@ returns-clause-text g c =
     let current = c.args.fields.now.current in
     c.loop-number.invariant.all (omega arith)
     ∙ ap (λ t. written c.args.out.now c.args.end.now ++ t ++ codes "\n") (sym (flat_map-map (field_text w) (shown_field (view_of w)) current))
+
+pub returns-in_err-write_field-clause-front : goal.returns-in_err-write_field-clause-front
+returns-in_err-write_field-clause-front g c = on_err_anyway _ (front_before _ _ _ _ (c.loop-number.invariant.more (omega arith)) c.in_err-write_field.ensures.front)

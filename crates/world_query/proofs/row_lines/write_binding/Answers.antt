@@ -14,4 +14,4 @@ pub returns-clause-text : goal.returns-clause-text
 returns-clause-text g c =
     on_ok_weaker c.put_pair.result (λ h. h
     ∙ binding_put c.args.world.now.state c.place_of_text.new.texts c.args.entity c.in_ok-found.found c.index-texts-found.result c.args.start.now (written c.args.out.now c.args.end.now)
-    c.as_slice.result.now c.as_slice-2.result.now c.in_ok-found.ensures.place c.as_slice.ensures.value c.as_slice-2.ensures.value) c.put_pair.ensures
+    c.as_slice.result.now c.as_slice-2.result.now c.in_ok-found.ensures.place c.as_slice.ensures.value c.as_slice-2.ensures.value) c.put_pair.ensures.text

@@ -9,6 +9,7 @@ use Rattle.ecs_model.specs.World.{WorldState}
 use Rattle.world_query.specs.declared.labels.Piece.{Piece}
 use Rattle.world_query.specs.Lines.{started, starts_in, text_of, written}
 use Rattle.world_query.proofs.Printed.{both_at, one_more}
+use Rattle.world_query.proofs.Fronts.{front_before, on_err_anyway}
 use Rattle.world_query.proofs.row_lines.write_bindings.Goals as goal
 
 pub loop-place-preserved : goal.loop-place-preserved
@@ -38,3 +39,6 @@ all_bindings w starts entities n before now all written =
 pub returns-clause-text : goal.returns-clause-text
 returns-clause-text g c =
     all_bindings c.args.world.now.state c.args.starts.now c.args.entities.now c.loop-place.place (written c.args.out.now c.args.end.now) (written c.loop-place.out c.loop-place.end) (omega arith) c.loop-place.invariant.text
+
+pub returns-in_err-write_binding-clause-front : goal.returns-in_err-write_binding-clause-front
+returns-in_err-write_binding-clause-front g c = on_err_anyway _ (front_before _ _ _ _ c.loop-place.invariant.text c.in_err-write_binding.ensures.front)

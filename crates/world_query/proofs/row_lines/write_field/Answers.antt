@@ -43,7 +43,7 @@ pub returns-then-fact-clause-text : goal.returns-then-fact-clause-text
 returns-then-fact-clause-text g c =
     on_ok_weaker c.write_valued.result
     (with_value c.args.world.now.state c.in-Some.fact c.args.is_last c.args.shown _ (written c.args.out.now c.args.end.now) (written c.write_valued.new.out c.write_valued.new.end) c.in-Some.is (c.in_ok-found.ensures.place.index c.index-texts-found.result) c.if-fact.true)
-    c.write_valued.ensures
+    c.write_valued.ensures.text
 
 pub write_bare-requires-clause-source : goal.write_bare-requires-clause-source
 write_bare-requires-clause-source g c = c.in_ok-found.ensures.place.text c.index-texts-found.result
@@ -52,4 +52,4 @@ pub returns-clause-text : goal.returns-clause-text
 returns-clause-text g c =
     on_ok_weaker c.write_bare.result
     (without_value c.args.world.now.state c.in-Some.fact c.args.is_last c.args.shown _ (written c.args.out.now c.args.end.now) (written c.write_bare.new.out c.write_bare.new.end) c.in-Some.is (c.in_ok-found.ensures.place.index c.index-texts-found.result) c.if-fact.false)
-    c.write_bare.ensures
+    c.write_bare.ensures.text

@@ -9,8 +9,8 @@ use Rattle.world_query.specs.Lines.{field_end, written}
 use Rattle.world_query.proofs.Sheets.{closed_value, closing_room, closing_short}
 use Rattle.world_query.proofs.row_lines.write_numbers.Goals as goal
 
-pub returns : goal.returns
-returns g c =
+pub returns-clause-text : goal.returns-clause-text
+returns-clause-text g c =
     let value = value_text (Some (values_in c.args.schema.now c.args.bytes.now)) in
     let start = c.put_fields-start.result in
     let last = c.args.is_last in
@@ -22,4 +22,4 @@ returns g c =
     let within : c.value_end.result - start ≤ 208 - start = omega (arith, short, c.value_end.ensures) in
     on_ok_weaker c.put.result (λ h. h
     ∙ ap (λ t. before ++ t) (take-take (c.value_end.result - start) (208 - start) text within ∙ ap (λ n. take (n - start) text) c.value_end.ensures ∙ closed)
-    ∙ sym (append_assoc before value (field_end last))) c.put.ensures
+    ∙ sym (append_assoc before value (field_end last))) c.put.ensures.text
