@@ -87,6 +87,13 @@ def beside(kind, text):
     return difference
 
 
+def beside_many():
+    """A command that concerns none of 1,000 event observers, each of another id, against the same without them."""
+    tags = [*tagged(OBSERVERS)]
+    stored, told = [*observers(OBSERVERS)], [*changes(COMMANDS)]
+    return [(1, tags + stored + told), (-1, tags + stored), (-1, tags + told), (1, tags)], COMMANDS
+
+
 def dropped_monitors():
     """A `drop` line of the oldest of 1,024 monitors that look out for the same."""
     stored = [*tagged(1), *(f"monitor k{number} T0, !Sun" for number in range(STORED))]
@@ -103,6 +110,7 @@ DIFFERENCES = {
     "beside_up": beside("monitor", "T0(up)"),
     "beside_tied": beside("monitor", "(T0,$x), T0($x)"),
     "beside_observers": beside("on add", "T0"),
+    "beside_many": beside_many,
 }
 DIFFERENCES.update((f"moved_{name}_{count}", partial(moving, text, count)) for name, text in MONITORS.items() for count in ROWS)
 

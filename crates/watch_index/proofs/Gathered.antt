@@ -1,11 +1,10 @@
 -- What is gathered of lists, one after another.
-use Rattle.std.specs.Prelude.{◌≡◌, ℕ, ◌+◌, Bool, true, false, List, [], ◌∷◌, ◌++◌, map, flat_map, take, slice_get, if◌then◌else◌}
-use Rattle.std.proofs.Common.{refl, sym, ap, ◌∙◌, append_assoc, append-nil}
+use Rattle.std.specs.Prelude.{◌≡◌, ℕ, Bool, List, [], ◌∷◌, ◌++◌, map, flat_map, if◌then◌else◌}
+use Rattle.std.proofs.Common.{refl, sym, ap, ◌∙◌, append_assoc}
 use Rattle.std.proofs.lemmas.List.Concat.{flat_map-append}
 use Rattle.std.proofs.lemmas.List.Folds.{flat_map-map}
 use Rattle.ecs_id.specs.Id.{Id}
 use Rattle.component_index.specs.declared.pattern.Pattern.{Pattern}
-use Rattle.component_index.specs.Listed.{patterns_of}
 use Rattle.ecs_model.specs.World.{Key}
 use Rattle.watch_index.specs.declared.occasion.Occasion.{Occasion}
 use Rattle.watch_index.specs.declared.occasion.Occasion.TheVariants.{Life, Fact}

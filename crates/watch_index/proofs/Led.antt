@@ -1,17 +1,15 @@
 -- Whomever changes may concern looks out for some of them.
-use Rattle.std.specs.Prelude.{◌≡◌, ℕ, ◌==◌, Bool, true, false, not, ◌&&◌, ◌||◌, List, [], ◌∷◌, ◌++◌, map, flat_map, Option, Some, None, if◌then◌else◌}
+use Rattle.std.specs.Prelude.{◌≡◌, ℕ, ◌==◌, Bool, true, false, not, ◌&&◌, ◌||◌, List, [], ◌∷◌, ◌++◌, flat_map, Option, Some, None, if◌then◌else◌}
 use Rattle.std.specs.List.{list_any}
 use Rattle.std.specs.Option.{option_map_or}
-use Rattle.std.proofs.Common.{refl, sym, ap, subst, ◌∙◌, true≢false, ◌⊎◌, inl, inr}
+use Rattle.std.proofs.Common.{refl, sym, ap, ◌∙◌, true≢false, ◌⊎◌, inl, inr}
 use Rattle.std.proofs.lemmas.Bool.{and_parts, not-true, or_left, or_right}
-use Rattle.std.proofs.lemmas.Bool.Decides.{Decides-eqb, nat_tests}
+use Rattle.std.proofs.lemmas.Bool.Decides.{Decides-eqb}
 use Rattle.std.proofs.lemmas.List.Folds.{list_any-append}
 use Rattle.ecs_id.specs.Id.{Id, plain, pair}
 use Rattle.component_index.specs.declared.pattern.Part.{Part}
 use Rattle.component_index.specs.declared.pattern.Part.TheVariants as part
 use Rattle.component_index.specs.declared.pattern.Pattern.{Pattern}
-use Rattle.component_index.specs.Listed.{patterns_of}
-use Rattle.ecs_model.specs.declared.watches.StoredKind.{StoredKind}
 use Rattle.ecs_model.specs.declared.watches.StoredKind.TheVariants.{Kept, Monitor, OnAdd, OnRemove, OnSet}
 use Rattle.ecs_model.specs.rows.Rows.{fits, matches}
 use Rattle.ecs_model.specs.stored.Watches.{matches_term, only_term}
@@ -26,9 +24,9 @@ use Rattle.watch_index.specs.declared.occasion.Occasion.{Occasion}
 use Rattle.watch_index.specs.declared.occasion.Occasion.TheVariants.{Life, AskedByAll, Fact}
 use Rattle.watch_index.specs.declared.occasion.Way.{Way}
 use Rattle.watch_index.specs.declared.occasion.Way.TheVariants.{Moves, IsWritten}
-use Rattle.watch_index.specs.Laws.{WhomChangesConcernTheyLeadTo, may_concern, meets}
+use Rattle.watch_index.specs.Laws.{WhomChangesConcernTheyLeadTo, meets}
 use Rattle.watch_index.specs.Listed.{is_among}
-use Rattle.watch_index.specs.Occasions.{closed_occasions, facts_of, happening, item_occasions, moved, occasions_of, of_all, of_monitors, pairs_of, part_of, pattern_of, piece_occasions, term_occasions, up_occasions}
+use Rattle.watch_index.specs.Occasions.{closed_occasions, facts_of, happening, item_occasions, moved, of_all, of_monitors, pairs_of, part_of, pattern_of, piece_occasions, term_occasions, up_occasions}
 use Rattle.component_index.specs.SamePattern.{pattern_eq}
 use Rattle.watch_index.specs.SameOccasion.{occasion_eq, same_occasion}
 

@@ -2,3 +2,4 @@ mod Entering
 mod Gathered
 mod Increasing
 mod Led
+mod Marked

@@ -1,4 +1,5 @@
 pub mod Occasions
 pub mod SameOccasion
+pub mod Marks
 pub mod Listed
 pub mod Laws

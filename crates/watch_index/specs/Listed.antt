@@ -4,6 +4,7 @@ use Rattle.std.specs.Option.{option_map_or}
 use Rattle.std.specs.List.{list_any}
 use Rattle.std.specs.Map.{lookup}
 use Rattle.watch_index.specs.declared.occasion.Occasion.{Occasion}
+use Rattle.watch_index.specs.Marks.{has as is_set, mark_of}
 use Rattle.watch_index.specs.SameOccasion.{occasion_eq}
 
 -- occasions, each with the numbers of the stored queries that look out for it
@@ -45,3 +46,13 @@ Keeps old new test number = (o : Occasion) (n : ℕ) → (test o && number == n)
 -- both have the same
 abbrev pub AreSame : Listings → Listings → Type 0
 AreSame old new = (o : Occasion) (n : ℕ) → is_listed new o n ≡ is_listed old o n
+
+-- ---- marks
+
+-- whether one of these occasions has the mark
+abbrev pub shares_mark : List Occasion → ℕ → Bool
+shares_mark os m = list_any (λ one. m == mark_of one) os
+
+-- whatever has no mark is looked out for by nobody
+abbrev pub AreMarked : List ℕ → Listings → Type 0
+AreMarked words ls = (o : Occasion) (n : ℕ) → is_set words (mark_of o) ≡ false → is_listed ls o n ≡ false

@@ -1,10 +1,8 @@
 -- When two occasions are the same.
-use Rattle.std.proofs.Common.{◌≡◌, Bool, true, false, true≢false, refl, sym, ap}
-use Rattle.component_index.specs.declared.pattern.Pattern.{Pattern}
+use Rattle.std.proofs.Common.{◌≡◌, Bool, true, true≢false, refl, sym, ap}
 use Rattle.component_index.specs.SamePattern.{same_pattern}
 use Rattle.watch_index.specs.declared.occasion.Occasion.{Occasion}
 use Rattle.watch_index.specs.declared.occasion.Occasion.TheVariants.{Life, AskedByAll, Fact}
-use Rattle.watch_index.specs.declared.occasion.Way.{Way}
 use Rattle.watch_index.specs.declared.occasion.Way.TheVariants.{Moves, IsWritten}
 use Rattle.watch_index.specs.contracts.occasion.OccasionPartialEq.TheImpl as same_occasions
 

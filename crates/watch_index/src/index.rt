@@ -1,12 +1,13 @@
 //! For each thing that may happen, the stored queries that look out for it.
-ghost use Rattle.std.specs.Prelude.{◌≡◌, ◌↔◌, [], ℕ, Contains, IfOk, OnErr, OnOk, false, flat_map};
+ghost use Rattle.std.specs.Prelude.{◌≡◌, ◌↔◌, ◌++◌, [], ℕ, Contains, IfOk, OnErr, OnOk, false, flat_map};
 ghost use Rattle.std.specs.List.Sorted.{IsStrictlyIncreasing};
 ghost use Rattle.watch_index.specs.Listed.{Adds, AreSame, Drops, is_among, is_listed, listed};
 ghost use Rattle.watch_index.specs.Occasions.{happening};
 ghost use Rattle.watch_index.specs.declared.occasion.Occasion.{Occasion as Awaited};
 
 use crate::gathering::{Happened, gathered, put_in_order};
-use crate::lists::{Lists, list_all, unlist_all};
+use crate::lists::{Lists, list_all, push_list, unlist_all};
+use crate::marks::Marks;
 use crate::occasion::Occasion;
 use indexmap::IndexMap;
 use secret_hashing::Hashing;
@@ -21,14 +22,18 @@ use std::marker::Model;
 #[derive(Drop)]
 pub struct WatchIndex<A: Allocator = Global> {
     lists: Lists<A>,
+    // A mark goes only with all others, as the index gets empty.
+    marks: Marks,
 }
 
 impl<A: Allocator> Model for WatchIndex<A> {
-    ghost use Rattle.watch_index.specs.Listed.{Listings};
+    ghost use Rattle.watch_index.specs.Listed.{AreMarked, Listings};
 
     ghost Value = { Listings };
 
     ghost view = { λ index. index.lists.entries };
+
+    ghost invariant = { λ index. AreMarked index.marks.words index.lists.entries };
 }
 
 impl<A: Allocator + Copy> WatchIndex<A> {
@@ -38,6 +43,7 @@ impl<A: Allocator + Copy> WatchIndex<A> {
     {
         WatchIndex {
             lists: IndexMap::with_hasher(alloc, Hashing::new(random)),
+            marks: Marks::none(),
         }
     }
 
@@ -49,6 +55,7 @@ impl<A: Allocator + Copy> WatchIndex<A> {
         ensures entered { OnOk result (Adds self.old self.new (is_among occasions.now) number) }
         ensures refused { OnErr result (AreSame self.old self.new) }
     {
+        self.marks.set_all(occasions);
         if let Err(error) = list_all(&mut self.lists, occasions, number) {
             unlist_all(&mut self.lists, occasions, number);
             return Err(error);
@@ -61,7 +68,7 @@ impl<A: Allocator + Copy> WatchIndex<A> {
         ensures ascend { IfOk result (λ numbers. IsStrictlyIncreasing numbers.items) }
         ensures exact { IfOk result (λ numbers. (n : ℕ) → Contains numbers.items n ↔ Contains (flat_map (listed self.now) (happening happened.entry.lives (happened.entry.came).now (happened.entry.went).now (happened.entry.written).now)) n) }
     {
-        let mut numbers = gathered(alloc, &self.lists, happened)?;
+        let mut numbers = gathered(alloc, self, happened)?;
         put_in_order(&mut numbers);
         Ok(numbers)
     }
@@ -73,5 +80,23 @@ impl<A: Allocator> WatchIndex<A> {
         ensures { Drops self.old self.new (is_among occasions.now) number }
     {
         unlist_all(&mut self.lists, occasions, number);
+        if !occasions.is_empty() && self.lists.is_empty() {
+            self.marks = Marks::none();
+        }
+    }
+
+    /// Adds the numbers that are listed for an occasion. What has no mark isn't looked up.
+    #[inline(always)]
+    pub(crate) fn push_listed(
+        &self,
+        occasion: &Occasion,
+        numbers: &mut Vec<u64, A>,
+    ) -> Result<(), AllocError>
+        ensures { OnOk result (numbers.new.items ≡ numbers.old.items ++ listed self.now occasion.now) }
+    {
+        if self.marks.has(occasion) {
+            return push_list(&self.lists, occasion, numbers);
+        }
+        Ok(())
     }
 }

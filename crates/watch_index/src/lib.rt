@@ -17,6 +17,7 @@ mod gathering;
 mod index;
 pub mod laws;
 mod lists;
+mod marks;
 mod numbers;
 mod occasion;
 mod wanting;

@@ -1,6 +1,6 @@
 //! The list of numbers of each occasion.
-ghost use Rattle.std.specs.Prelude.{OnErr, OnOk};
-ghost use Rattle.watch_index.specs.Listed.{Adds, Drops, Keeps, is_among};
+ghost use Rattle.std.specs.Prelude.{◌≡◌, ◌++◌, OnErr, OnOk};
+ghost use Rattle.watch_index.specs.Listed.{Adds, Drops, Keeps, is_among, listed};
 ghost use Rattle.watch_index.specs.SameOccasion.{occasion_eq};
 
 use crate::numbers::Numbers;
@@ -65,4 +65,20 @@ pub fn unlist_all<A: Allocator>(lists: &mut Lists<A>, occasions: &[Occasion], nu
     for occasion in occasions {
         unlist(lists, occasion, number);
     }
+}
+
+/// Adds the numbers of the list of an occasion, if it has one.
+pub fn push_list<A: Allocator>(
+    lists: &Lists<A>,
+    occasion: &Occasion,
+    numbers: &mut Vec<u64, A>,
+) -> Result<(), AllocError>
+    ensures { OnOk result (numbers.new.items ≡ numbers.old.items ++ listed lists.now.entries occasion.now) }
+{
+    if let Some(list) = lists.get(occasion) {
+        let (front, rest) = list.as_slices();
+        numbers.extend_from_slice(front)?;
+        numbers.extend_from_slice(rest)?;
+    }
+    Ok(())
 }

@@ -1,15 +1,16 @@
 //! The numbers of the stored queries that look out for one thing.
-ghost use Rattle.std.specs.Prelude.{◌≡◌, ◌==◌, ◌∷◌, [], ℕ, true, cond, IfOk, IsTrue, OnErr, OnOk, ◌↔◌, length};
+ghost use Rattle.std.specs.Prelude.{◌≡◌, ◌==◌, ◌∷◌, ◌++◌, [], ℕ, true, cond, IfOk, IsTrue, OnErr, OnOk, ◌↔◌, length};
 ghost use Rattle.std.specs.List.Sorted.{IsStrictlyIncreasing};
 ghost use Rattle.watch_index.specs.Listed.{Loses, has};
 
 use std::alloc::{AllocError, Allocator};
+use std::collections::VecDeque;
 use std::marker::Model;
 
-/// Numbers in ascending order, each once.
+/// Numbers in ascending order, each once. What is taken out moves those behind it or those before it, whichever are fewer.
 #[derive(Drop)]
 pub struct Numbers<A: Allocator> {
-    items: Vec<u64, A>,
+    items: VecDeque<u64, A>,
 }
 
 impl<A: Allocator> Model for Numbers<A> {
@@ -28,21 +29,22 @@ impl<A: Allocator> Numbers<A> {
     pub fn one(alloc: A, number: u64) -> Result<Self, AllocError>
         ensures { IfOk result (λ numbers. numbers ≡ number ∷ []) }
     {
-        let mut items = Vec::new(alloc);
-        items.push(number)?;
+        let mut items = VecDeque::new(alloc);
+        items.push_back(number)?;
         Ok(Numbers { items })
     }
 
-    pub fn as_slice(&self) -> &[u64]
-        ensures { result.now ≡ self.now }
+    /// Them in two parts, the second of which is mostly empty.
+    pub fn as_slices(&self) -> (&[u64], &[u64])
+        ensures { result.0.now ++ result.1.now ≡ self.now }
     {
-        self.items.as_slice()
+        self.items.as_slices()
     }
 
     pub fn is_empty(&self) -> bool
         ensures { IsTrue result ↔ (length self.now ≡ 0) }
     {
-        self.as_slice().is_empty()
+        self.items.is_empty()
     }
 
     /// Puts a number in its place, unless it is there.

@@ -71,6 +71,15 @@ module _ {X : Type 0} (number : X → ℕ) (occasions : X → List Occasion) (xs
       have i d l (all (number x) (led_at ls (number x) (occasions x) happened
       (λ o e. indexed o (number x) ∙ list_any_at (looks number occasions (number x) o) xs i d l (ap (λ b. b && is_among (occasions x) o) ((Decides-eqb (number x) (number x)).1 refl) ∙ e)) h))
 
+  -- where nobody is listed, nobody is led to
+  pub nobody_led : (ls : Listings) → AreIndexed number occasions ls xs → (happened : List Occasion) (ns places : List ℕ) → length ns ≡ 0
+      → ((n : ℕ) → Contains (flat_map (listed ls) happened) n → Contains ns n) → (i : ℕ) (d : X) → i < length xs → meets (occasions (slice_index_or xs i d)) happened ≡ true → Contains places i
+  nobody_led ls indexed happened ns places none all i d l h =
+      let x = slice_index_or xs i d in
+      let found : Contains ns (number x) = all (number x) (led_at ls (number x) (occasions x) happened
+      (λ o e. indexed o (number x) ∙ list_any_at (looks number occasions (number x) o) xs i d l (ap (λ b. b && is_among (occasions x) o) ((Decides-eqb (number x) (number x)).1 refl) ∙ e)) h) in
+      absurd (omega (arith, found.1, none))
+
   pub none_placed : HavePlaces [] []
   none_placed i d l c = absurd (omega (arith, c.1))
 

@@ -75,6 +75,9 @@ impl<V, A: Allocator + Copy> WatchOrder<V, A> {
         ensures led { IfOk result (λ places. AreLed self.now.order.made.items (happening happened.entry.lives (happened.entry.came).now (happened.entry.went).now (happened.entry.written).now) places.items) }
     {
         let numbers = self.index.led(alloc, happened)?;
+        if numbers.is_empty() {
+            return Ok(Vec::new(alloc));
+        }
         let mut places = self.places(alloc, numbers.as_slice())?;
         places.sort_unstable();
         places.dedup();

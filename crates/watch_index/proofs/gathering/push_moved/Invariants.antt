@@ -5,4 +5,4 @@ use Rattle.watch_index.specs.Occasions.{moved}
 use Rattle.watch_index.proofs.gathering.push_moved.Given as goal
 
 abbrev pub invariant-loop-fact : goal.invariant-loop-fact
-invariant-loop-fact g l = l.numbers.items ≡ l.initial.numbers.items ++ flat_map (λ k. flat_map (listed l.lists.entries) (moved k.1)) (take l.fact-index l.facts)
+invariant-loop-fact g l = l.numbers.items ≡ l.initial.numbers.items ++ flat_map (λ k. flat_map (listed l.index) (moved k.1)) (take l.fact-index l.facts)

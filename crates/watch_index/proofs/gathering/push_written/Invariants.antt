@@ -6,4 +6,4 @@ use Rattle.watch_index.specs.declared.occasion.Way.TheVariants.{IsWritten}
 use Rattle.watch_index.proofs.gathering.push_written.Given as goal
 
 abbrev pub invariant-loop-fact : goal.invariant-loop-fact
-invariant-loop-fact g l = l.numbers.items ≡ l.initial.numbers.items ++ flat_map (λ k. flat_map (listed l.lists.entries) (facts_of IsWritten k.1)) (take l.fact-index l.facts)
+invariant-loop-fact g l = l.numbers.items ≡ l.initial.numbers.items ++ flat_map (λ k. flat_map (listed l.index) (facts_of IsWritten k.1)) (take l.fact-index l.facts)

@@ -8,12 +8,12 @@ use Rattle.std.proofs.lemmas.List.Sorted.{Contains-permutation, IsPermutation-sy
 use Rattle.std.proofs.lemmas.Map.Keys.{IsStrictlyIncreasing-dedup}
 use Rattle.watch_index.proofs.gathering.put_in_order.Goals as goal
 
-pub returns-clause-ascend : goal.returns-clause-ascend
-returns-clause-ascend g c =
+pub returns-then-len-gt1-clause-ascend : goal.returns-then-len-gt1-clause-ascend
+returns-then-len-gt1-clause-ascend g c =
     subst IsStrictlyIncreasing (sym (dedup_is _ _ _ c.dedup.ensures.filtered)) (IsStrictlyIncreasing-dedup c.sort_unstable.new.self.items c.sort_unstable.ensures.sorted)
 
-pub returns-clause-same : goal.returns-clause-same
-returns-clause-same g c =
+pub returns-then-len-gt1-clause-same : goal.returns-then-len-gt1-clause-same
+returns-then-len-gt1-clause-same g c =
     let old = c.args.numbers.now.items in
     let mid = c.sort_unstable.new.self.items in
     let once = dedup_is _ _ _ c.dedup.ensures.filtered in

@@ -1,0 +1,7 @@
+use Rattle.std.proofs.Common.{ap, ◌∙◌}
+use Rattle.watch_index.specs.Marks.{has}
+use Rattle.watch_index.proofs.Marked.{has_tests}
+use Rattle.watch_index.proofs.marks.Marks.has.Goals as goal
+
+pub returns : goal.returns
+returns c = has_tests c.args.self.now.words c.mark_of-mark.result ∙ ap (has c.args.self.now.words) c.mark_of-mark.ensures.mark

@@ -1,0 +1,33 @@
+-- The marks of what is looked out for: a few thousand bits, so that occasions may share one.
+use Rattle.std.specs.Prelude.{ℕ, ◌+◌, ◌*◌, ◌/◌, ◌%◌, ◌==◌, Bool, List, Option, Some, None, slice_index}
+use Rattle.std.specs.Int.{bit_at}
+use Rattle.component_index.specs.declared.pattern.Part.{Part}
+use Rattle.component_index.specs.declared.pattern.Part.TheVariants.{Is, Any}
+use Rattle.watch_index.specs.declared.occasion.Occasion.{Occasion}
+use Rattle.watch_index.specs.declared.occasion.Occasion.TheVariants.{Life, AskedByAll, Fact}
+use Rattle.watch_index.specs.declared.occasion.Way.{Way}
+use Rattle.watch_index.specs.declared.occasion.Way.TheVariants.{Moves, IsWritten}
+
+-- `*` has a number above all indexes
+abbrev pub number_of : Part → ℕ
+number_of (Is n) = n
+number_of Any = 4294967296
+
+-- and a plain id the one above
+abbrev pub second_number : Option Part → ℕ
+second_number None = 4294967297
+second_number (Some p) = number_of p
+
+abbrev pub way_number : Way → ℕ
+way_number Moves = 0
+way_number IsWritten = 536870912
+
+-- the mark of an occasion. The factors are 2^30 by the golden ratio, and by the root of two less one, so that numbers that follow one another are spread
+abbrev pub mark_of : Occasion → ℕ
+mark_of Life = 0
+mark_of AskedByAll = 1
+mark_of (Fact way p) = ((number_of p.first * 663608941 + second_number p.second * 444758425 + way_number way) / 262144) % 4096
+
+-- whether a mark is set
+unfoldable pub has : List ℕ → ℕ → Bool
+has words m = bit_at (slice_index words (m / 64)) (m % 64) == 1
