@@ -3,5 +3,7 @@ mod Given
 mod Permuted
 mod Pulled
 mod Running
+mod Shortest
 mod Starting
+mod Tabled
 mod Values

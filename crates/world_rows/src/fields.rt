@@ -1,16 +1,19 @@
 //! The fields of a row, with their values.
 
-ghost use Rattle.std.specs.Prelude.{◌≡◌, Some, length, option_map, slice_get, if◌then◌else◌, None};
+ghost use Rattle.std.specs.Prelude.{◌≡◌, ◌≤◌, ◌+◌, ◌*◌, Some, length, option_map, slice_get, if◌then◌else◌, None};
 ghost use Rattle.ecs_model.specs.Bytes.{size_of};
 ghost use Rattle.ecs_model.specs.rows.View.{view_of};
+ghost use Rattle.query_chunks.specs.Chunk.{field_at as column_field, seen_column, value_at as column_value};
 ghost use Rattle.row_fields.specs.Fields.{shown_field};
 ghost use Rattle.world_rows.specs.Fields.{as_field};
+ghost use Rattle.world_rows.specs.Tabled.{HasRow};
 ghost use Rattle.world_rows.specs.Values.{numbers_of};
 
 use ecs_id::Id;
 use ecs_schema::Schema;
 use ecs_schema::laws::bytes_are_a_value;
 use ecs_world::World;
+use query_chunks::Column;
 use row_fields::ShownFact;
 use std::alloc::Allocator;
 use std::marker::Model;
@@ -77,6 +80,47 @@ pub(crate) fn field_of<'w, W: Allocator>(world: &'w World<W>, fact: ShownFact) -
     let (source, id) = (fact.source, fact.id);
     let value = shown_value(world, source, id, fact.valued);
     Field { source, id, value }
+}
+
+/// The field that a column has in a row, in which this entity stands.
+pub(crate) fn field_at<'w, W: Allocator>(
+    column: &Column<'w, W>,
+    row: usize,
+    source: u32,
+) -> Option<Field<'w, W>>
+    requires { HasRow row (seen_column column.now) }
+    ensures { as_field result ≡ column_field source row (seen_column column.now) }
+{
+    match column {
+        Column::Unset => None,
+        Column::Id(id) => Some(Field {
+            source,
+            id: *id,
+            value: None,
+        }),
+        Column::Values(id, schema, bytes) => Some(Field {
+            source,
+            id: *id,
+            value: Some(value_at(schema, bytes, row)),
+        }),
+    }
+}
+
+/// The value of a row in the bytes of a column.
+fn value_at<'w, W: Allocator>(
+    schema: &'w Schema<W>,
+    bytes: &'w [u8],
+    row: usize,
+) -> FactValue<'w, W>
+    requires { (row + 1) * size_of schema.now ≤ length bytes.now }
+    ensures { numbers_of result ≡ column_value row (schema.now, bytes.now) }
+{
+    let size = schema.size();
+    let from = &bytes[row * size..];
+    FactValue {
+        schema,
+        bytes: &from[..size],
+    }
 }
 
 /// The value of a fact of a world, if it is to be shown.

@@ -20,9 +20,13 @@
 #![tactic(auto)]
 
 mod asked;
+mod columns;
 mod fields;
 mod rows;
+mod search_rows;
+mod table_rows;
 mod view;
+mod way;
 
 pub use asked::Asked;
 pub use fields::{FactValue, Field};
