@@ -19,6 +19,7 @@ use Rattle.ecs_world.specs.Standing as world
 use Rattle.query_cache.specs.Kept.{Kept}
 use Rattle.query_model.specs.Query.{Query}
 use Rattle.query_meaning.specs.Standing.{IsCurrentIn}
+use Rattle.query_meaning.specs.declared.steps.Step.{Step}
 use Rattle.watch_meaning.specs.Mentions.{mentions_index, times, times_in}
 use Rattle.watch_meaning.specs.Since.{IsAfter}
 use Rattle.watch_meaning.proofs.MentionedOnce.{count_by-cons, queries_mention_once}
@@ -30,10 +31,10 @@ use Rattle.ecs_observe.specs.Standing.{Held, IsHeld, IsNow, IsSession, WasNow, s
 use Rattle.ecs_observe.proofs.Found.{holds_of_found, is_key, named, seen}
 use Rattle.ecs_observe.proofs.OneMore.{far_from_most, none_waits, queries, still_held, still_now}
 
-abbrev its_list : Held → List ℕ × Option Kept
-its_list h = (h.name, h.list)
+abbrev its_list : Held → List ℕ × Option Kept × List Step
+its_list h = (h.name, h.list, h.steps)
 
-abbrev is_of_other : List ℕ → List ℕ × Option Kept → Bool
+abbrev is_of_other : List ℕ → List ℕ × Option Kept × List Step → Bool
 is_of_other n p = not (bytes_eq n p.0)
 
 -- no two have one name

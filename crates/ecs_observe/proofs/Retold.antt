@@ -14,6 +14,7 @@ use Rattle.entity_set.specs.Members.{Entities}
 use Rattle.query_cache.specs.Kept.{Kept as Lists}
 use Rattle.query_model.specs.Local.{is_local}
 use Rattle.query_model.specs.Query.{Query}
+use Rattle.query_meaning.specs.declared.steps.Step.{Step}
 use Rattle.ecs_model.specs.declared.watches.StoredKind.{StoredKind}
 use Rattle.ecs_model.specs.declared.watches.StoredKind.TheVariants.{Kept, Monitor, OnAdd, OnRemove, OnSet}
 use Rattle.ecs_model.specs.Command.{Changed}
@@ -135,8 +136,8 @@ same_queries : (w : WorldState) (hs : List Held) → map (λ h. h.query) (map (t
 same_queries w [] = refl
 same_queries w (h ∷ hs) = ap (λ xs. h.query ∷ xs) (same_queries w hs)
 
-abbrev its_list : Held → List ℕ × Option Lists
-its_list h = (h.name, h.list)
+abbrev its_list : Held → List ℕ × Option Lists × List Step
+its_list h = (h.name, h.list, h.steps)
 
 same_lists : (w : WorldState) (hs : List Held) → map its_list (map (told_now w) hs) ≡ map its_list hs
 same_lists w [] = refl

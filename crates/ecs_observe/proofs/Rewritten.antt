@@ -1,6 +1,7 @@
 -- A session of which one stored query is written: the entities of its rows, or the list of its tables.
-use Rattle.std.specs.Prelude.{◌≡◌, ℕ, zero, suc, ◌<◌, List, [], ◌∷◌, length, map, bytes_eq, slice_index_or, slice_set, Option, Some, option_and_then, option_map, Result, Ok, Err, OnOk}
+use Rattle.std.specs.Prelude.{◌≡◌, ℕ, zero, suc, ◌<◌, List, [], ◌∷◌, length, map, bytes_eq, slice_index_or, slice_set, true, false, Option, Some, IfSome, option_and_then, option_map, Result, Ok, Err, OnOk}
 use Rattle.std.specs.List.{find}
+use Rattle.std.specs.Option.{option_map_or}
 use Rattle.std.specs.Cmp.Lexicographic.{bytes_decides}
 use Rattle.std.specs.Map.{lookup}
 use Rattle.std.specs.declared.string.String.{String}
@@ -15,7 +16,9 @@ use Rattle.watch_order.specs.Watched.{Boxed}
 use Rattle.ecs_model.specs.Command.{Changed}
 use Rattle.ecs_model.specs.stored.Session.{kept_query}
 use Rattle.ecs_world.specs.Standing as world
-use Rattle.ecs_observe.specs.Following.{Follows, FollowsAt, FollowsIfSome, IsUpToDateAt, RefusesKept, SyncsList, list_at, with_list, with_list_at}
+use Rattle.query_plan.specs.Plans.{Plan}
+use Rattle.plan_steps.specs.Nobody.{begins_with_this}
+use Rattle.ecs_observe.specs.Following.{Follows, FollowsAt, FollowsIfSome, IsPlannedNow, IsUpToDate, IsUpToDateAt, PlansAt, ReadsList, RefusesKept, StaysOrIsPlanned, SyncsList, begins_in_list, list_at, plan_at, plan_of, with_list, with_list_at}
 use Rattle.ecs_observe.specs.Lists.{HasList, HaveLists}
 use Rattle.ecs_observe.specs.Parts.{held_of}
 use Rattle.ecs_observe.specs.Standing.{Held, IsSession, Standing, session_of, with_these_at}
@@ -27,6 +30,7 @@ use Rattle.ecs_observe.specs.declared.stored.StoredQuery.{StoredQuery}
 use Rattle.ecs_observe.proofs.Entries.{as_many, held_written, lists_written, look_stored, stored_in}
 use Rattle.ecs_observe.proofs.Found.{is_key, named, seen}
 use Rattle.ecs_observe.proofs.KeptFound.{kept_found, other_kind}
+use Rattle.ecs_observe.proofs.Listed.{kept_kind}
 use Rattle.ecs_observe.proofs.OneLess.{AreApart, first_named}
 use Rattle.ecs_observe.proofs.OneListed.{as_it_was, found_then, one_listed, place_named, same_session, still_session}
 
@@ -131,6 +135,35 @@ module _ {A : Type 0} (n : List ℕ) (w : world.Standing) (s t : StoredQueries A
 
     found_now : find (λ h. bytes_eq n h.name) (map held_of (entries_of t)) ≡ Some (record (named n (query_in x)) { list = list; steps = steps })
     found_now = ap (find (λ h. bytes_eq n h.name)) held_then ∙ found_then n list steps old (named n (query_in x)) (first_named n (entries_of s) (query_in x) there_was) refl
+
+    -- its plan, before and after
+    plan_was : plan_at now n ≡ Some (query_in x).plan
+    plan_was = ap (λ u. plan_at u n) (sym view) ∙ ap (option_map plan_of) (first_named n (entries_of s) (query_in x) there_was)
+
+    plan_is : plan_at (seen w (entries_of t) waiting compared) n ≡ Some (query_in y).plan
+    plan_is = ap (option_map plan_of) found_now ∙ (λ j. Some (record { query = sym query j; steps = steps }))
+
+    pub same_plan : (query_in y).plan ≡ (query_in x).plan → plan_at (seen w (entries_of t) waiting compared) n ≡ plan_at now n
+    same_plan same = plan_is ∙ (ap Some same ∙ sym plan_was)
+
+    pub planned_then : StaysOrIsPlanned w (query_in x).plan (query_in y).plan → PlansAt n now (seen w (entries_of t) waiting compared)
+    planned_then (inl same) = inl (same_plan same)
+    planned_then (inr h) =
+        inr (subst (λ o. IfSome o (IsPlannedNow now.world)) (sym plan_is) (subst (λ (u : Standing). IsPlannedNow u.world (query_in y).plan) view h))
+
+    -- one that was asked for its rows
+    pub reads_then : {T : Type 0} (r : Result T SessionError) → HasList w.tables (query_in y) → OnOk r (ReadsList w.tables (query_in y))
+        → OnOk r (begins_in_list (seen w (entries_of t) waiting compared) n ≡ true → IsUpToDateAt (seen w (entries_of t) waiting compared) n)
+    reads_then (Ok r) has h = λ begins.
+        let up = h (sym (ap (λ o. option_map_or (λ (p : Plan). begins_with_this p.query p.steps) o false) plan_is) ∙ begins) in record {
+          query = ((query_in x).plan).query;
+          list = up.0;
+          kept = ap (λ u. kept_query u n) (same_then ∙ ap session_of (sym view))
+              ∙ kept_found old w (entries_of s) waiting compared n refl (query_in x) there_was (sym kind ∙ kept_kind w.tables (query_in y) has up.0 up.1);
+          there = ap (option_and_then (λ (h : Held). h.list)) found_now ∙ up.1;
+          current = subst (λ q. IsUpToDate q w.tables up.0) query up.2;
+        }
+    reads_then (Err e) has h = tt
 
     -- one that was brought up to date
     pub synced_then : {T : Type 0} (r : Result T SessionError) → SyncsList r (query_in x).kind ((query_in x).plan).query w.tables list → OnOk r (IsUpToDateAt (seen w (entries_of t) waiting compared) n)

@@ -1,5 +1,5 @@
 -- How the list of a kept query has followed the tables, by one sync or by two.
-use Rattle.std.specs.Prelude.{◌≡◌, ◌⊎◌, Result}
+use Rattle.std.specs.Prelude.{◌≡◌, ◌⊎◌, OnOk, Result, Ok, Err}
 use Rattle.std.proofs.Common.{inl, inr, refl, subst, sym, ◌∙◌}
 use Rattle.query_cache.specs.Kept.{Counts, IsSynced, Judges, Kept}
 use Rattle.table_store.specs.Store.{Store}
@@ -28,3 +28,8 @@ module _ {X E : Type 0} (s : Store) (first before after : Kept) (r : Result X E)
         patterns = patterns ∙ was.patterns;
         judged = inr (record { above = new.above; are_above = new.are_above; count = new.count; at_most = new.at_most; counted = subst (Counts first.judged new.count) (sym (again synced)) new.counted });
       }
+
+-- what holds of any answer holds of Ok
+pub of_any : {T E P : Type 0} (r : Result T E) → P → OnOk r P
+of_any (Ok x) h = h
+of_any (Err e) h = tt

@@ -1,16 +1,21 @@
--- What becomes of the lists of kept queries.
-use Rattle.std.specs.Prelude.{◌≡◌, ◌≢◌, ◌⊎◌, ℕ, ◌≤◌, not, List, [], ◌∷◌, ◌++◌, filter, length, map, bytes_eq, Option, Some, IfSome, option_and_then, Result, Ok, Err, if◌then◌else◌}
+-- What becomes of the lists of kept queries, and of their plans.
+use Rattle.std.specs.Prelude.{◌≡◌, ◌≢◌, ◌⊎◌, ℕ, ◌≤◌, Bool, true, false, not, List, [], ◌∷◌, ◌++◌, filter, length, map, bytes_eq, Option, Some, IfSome, option_and_then, option_map, Result, Ok, Err, if◌then◌else◌}
 use Rattle.std.specs.List.{find}
+use Rattle.std.specs.Option.{option_map_or}
 use Rattle.ecs_id.specs.declared.TableKey.{TableKey}
 use Rattle.ecs_model.specs.declared.faults.SessionRefusal.TheVariants.{UnknownQuery}
 use Rattle.ecs_model.specs.declared.watches.StoredKind.{StoredKind}
 use Rattle.ecs_model.specs.declared.watches.StoredKind.TheVariants as kind
 use Rattle.ecs_model.specs.stored.Session.{SessionState, kept_query}
+use Rattle.ecs_world.specs.Standing as world
+use Rattle.plan_steps.specs.Nobody.{begins_with_this}
 use Rattle.query_cache.specs.Kept.{AreAbove, Counts, IsSynced, Kept}
 use Rattle.query_meaning.specs.declared.steps.Step.{Step}
 use Rattle.query_model.specs.Query.{Query}
+use Rattle.query_plan.specs.Plans.{Plan}
 use Rattle.table_store.specs.Store.{Store}
 use Rattle.world_facts.specs.Kept.{AreTablesOf}
+use Rattle.world_query.specs.Planned.{IsPlannedForKept, IsPlannedIn}
 use Rattle.ecs_observe.specs.Standing.{Held, Standing, session_of}
 use Rattle.ecs_observe.specs.declared.errors.SessionError.{SessionError}
 use Rattle.ecs_observe.specs.declared.errors.SessionError.TheVariants.{Refused, Memory}
@@ -45,6 +50,20 @@ abbrev pub SyncsList : {T : Type 0} → Result T SessionError → StoredKind →
 SyncsList (Ok _) k q s list = (k ≡ kind.Kept) × ((l : Kept) × (list ≡ Some l) × IsUpToDate q s l)
 SyncsList (Err (Refused reason)) k q s list = (k ≢ kind.Kept) × (reason ≡ UnknownQuery)
 SyncsList (Err Memory) k q s list = k ≡ kind.Kept
+
+-- where the rows of a stored query are found from its list, it has one, which is up to date
+abbrev pub ReadsList : {A : Type 0} → Store → StoredQuery A → Type 0
+ReadsList s q = begins_with_this (q.plan).query (q.plan).steps ≡ true → (l : Kept) × (q.list ≡ Some l) × IsUpToDate (q.plan).query s l
+
+-- the steps are the planner's by this world, given how many tables the query has in it
+pub record IsPlannedNow (w : world.Standing) (p : Plan) : Type 0 where
+  pub tables : List TableKey
+  pub are_tables : AreTablesOf p.query w.tables tables
+  pub planned : IsPlannedForKept w p.query (length tables) p
+
+-- a plan was left as it was, or it is the planner's by this world
+abbrev pub StaysOrIsPlanned : world.Standing → Plan → Plan → Type 0
+StaysOrIsPlanned w before after = (after ≡ before) ⊎ IsPlannedNow w after
 
 -- a list of no table yet, which never judged any
 pub record IsBlank (list : Kept) : Type 0 where
@@ -93,16 +112,31 @@ RefusesKept (Ok _) s n = (q : Query) × (kept_query s n ≡ Ok q)
 RefusesKept (Err (Refused reason)) s n = kept_query s n ≡ Err reason
 RefusesKept (Err Memory) s n = (q : Query) × (kept_query s n ≡ Ok q)
 
--- each stored query by its name, with its list if it is a kept one
-abbrev pub lists_of : Standing → List (List ℕ × Option Kept)
-lists_of s = map (λ h. (h.name, h.list)) s.stored
+-- the plan by which the rows of a stored query are found, and that of the stored query of a name
+abbrev pub plan_of : Held → Plan
+plan_of h = record { query = h.query; steps = h.steps }
 
--- a new stored query has a blank list, if it has one, and those of the others stay; a refusal leaves all
+abbrev pub plan_at : Standing → List ℕ → Option Plan
+plan_at s n = option_map plan_of (find (λ h. bytes_eq n h.name) s.stored)
+
+-- whether its rows are found from its list
+abbrev pub begins_in_list : Standing → List ℕ → Bool
+begins_in_list s n = option_map_or (λ p. begins_with_this p.query p.steps) (plan_at s n) false
+
+-- it was left as it was, or it is the planner's by the world of then
+abbrev pub PlansAt : List ℕ → Standing → Standing → Type 0
+PlansAt n old new = (plan_at new n ≡ plan_at old n) ⊎ IfSome (plan_at new n) (IsPlannedNow old.world)
+
+-- each stored query by its name, with its list if it is a kept one, and with the steps by which its rows are found
+abbrev pub lists_of : Standing → List (List ℕ × Option Kept × List Step)
+lists_of s = map (λ h. (h.name, h.list, h.steps)) s.stored
+
+-- a new stored query has a blank list, if it has one, and the planner's steps by the world of then; all others stay. A refusal leaves their lists and steps
 abbrev pub ListsOneMore : {T E : Type 0} → Result T E → List ℕ → Standing → Standing → Type 0
-ListsOneMore (Ok _) n old new = (list : Option Kept) × (lists_of new ≡ lists_of old ++ (n, list) ∷ []) × IfSome list IsBlank
+ListsOneMore (Ok _) n old new = (h : Held) × (new.stored ≡ old.stored ++ h ∷ []) × (h.name ≡ n) × IfSome h.list IsBlank × IsPlannedIn old.world h.query (plan_of h)
 ListsOneMore (Err _) n old new = lists_of new ≡ lists_of old
 
--- the end of a stored query is that of its list, and those of the others stay; a refusal leaves all
+-- the end of a stored query is that of its list, and those of the others stay with their steps; a refusal leaves all
 abbrev pub ListsOneLess : {T E : Type 0} → Result T E → List ℕ → Standing → Standing → Type 0
 ListsOneLess (Ok _) n old new = lists_of new ≡ filter (λ p. not (bytes_eq n p.0)) (lists_of old)
 ListsOneLess (Err _) n old new = lists_of new ≡ lists_of old

@@ -1,5 +1,11 @@
 -- A list stays that of its query when it is brought up to date.
-use Rattle.std.proofs.Common.{inl, inr, refl}
+use Rattle.std.specs.Prelude.{length}
+use Rattle.std.proofs.Common.{◌≡◌, ◌∙◌, inl, inr, refl, subst, sym}
+use Rattle.query_model.specs.Query.{Query}
+use Rattle.query_plan.specs.Plans.{Plan}
+use Rattle.world_facts.specs.Kept.{AreTablesOf}
+use Rattle.world_query.specs.Planned.{IsPlannedForKept}
+use Rattle.ecs_observe.specs.Following.{IsPlannedNow}
 use Rattle.ecs_observe.proofs.Synced.{follows_itself, follows_sync}
 use Rattle.ecs_observe.proofs.kept.plan_if_outgrown.Goals as goal
 
@@ -23,3 +29,26 @@ returns-clause-follows g c = follows_sync c.args.world.now.tables c.args.list.no
 
 pub returns-clause-synced : goal.returns-clause-synced
 returns-clause-synced g c = inr c.in_ok-sync.ensures.synced
+
+pub returns-then-not-is_outgrown-clause-planned : goal.returns-then-not-is_outgrown-clause-planned
+returns-then-not-is_outgrown-clause-planned g c = inl refl
+
+pub returns-in_err-sync-clause-planned : goal.returns-in_err-sync-clause-planned
+returns-in_err-sync-clause-planned g c = inl refl
+
+pub returns-in_err-planned-clause-planned : goal.returns-in_err-planned-clause-planned
+returns-in_err-planned-clause-planned g c = inl refl
+
+pub returns-clause-planned : goal.returns-clause-planned
+returns-clause-planned g c =
+    let w = c.args.world.now in
+    let q = (c.args.plan.now).query in
+    let p : Plan = c.in_ok-planned.planned in
+    let asked : p.query ≡ c.query.result.now = c.in_ok-planned.ensures.query in
+    let same : p.query ≡ q = asked ∙ c.query.ensures in
+    inr (subst (IsPlannedNow w) (sym c.replace.ensures) (record {
+      tables = c.tables.result.now;
+      are_tables = subst (λ (x : Query). AreTablesOf x w.tables c.tables.result.now) (sym same)
+          (subst (AreTablesOf q w.tables) (sym c.tables.ensures) (record { listed = c.in_ok-sync.ensures.listed q c.requires.list.patterns; rising = c.sync.ensures.once }));
+      planned = subst (λ (x : Query). IsPlannedForKept w x (length c.tables.result.now) p) (sym asked) c.in_ok-planned.ensures.planned;
+    }))

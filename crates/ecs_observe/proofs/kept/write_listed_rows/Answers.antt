@@ -1,12 +1,13 @@
 -- The query of the plan stays, whether it is planned anew or not.
-use Rattle.std.proofs.Common.{ap, sym, subst, ◌∙◌}
+use Rattle.std.proofs.Common.{ap, sym, subst, ◌∙◌, true≢false}
 use Rattle.ecs_model.specs.rows.View.{view_of}
 use Rattle.query_model.specs.Query.{Query}
 use Rattle.query_plan.specs.Plans.{Plan}
 use Rattle.world_facts.specs.Kept.{AreTablesOf}
 use Rattle.world_query.specs.Answerable.{IsAnswerable}
 use Rattle.ecs_observe.proofs.Answering.{asked_is_sound, current_answerable}
-use Rattle.ecs_observe.proofs.Synced.{follows_again}
+use Rattle.ecs_observe.specs.Following.{IsUpToDate}
+use Rattle.ecs_observe.proofs.Synced.{follows_again, of_any}
 use Rattle.ecs_observe.proofs.kept.write_listed_rows.Goals as goal
 
 pub plan_if_outgrown-requires-clause-sound : goal.plan_if_outgrown-requires-clause-sound
@@ -40,3 +41,14 @@ returns-in_err-sync-clause-follows g c =
 pub returns-clause-follows : goal.returns-clause-follows
 returns-clause-follows g c =
     follows_again c.args.world.now.tables c.args.list.now c.plan_if_outgrown.new.list c.sync.new.self c.sync.result c.sync.ensures.patterns c.sync.ensures.judged c.sync.ensures.again c.plan_if_outgrown.ensures.follows c.in_ok-plan_if_outgrown.ensures.synced
+
+pub returns-then-not-begins_in_tables-clause-reads : goal.returns-then-not-begins_in_tables-clause-reads
+returns-then-not-begins_in_tables-clause-reads g c =
+    of_any c.write_planned_rows.result (λ begins. absurd (true≢false (sym begins ∙ (sym c.begins_in_tables.ensures ∙ c.if-not-begins_in_tables.true))))
+
+pub returns-clause-reads : goal.returns-clause-reads
+returns-clause-reads g c =
+    let q = (c.args.plan.now).query in
+    of_any c.write_rows_in.result (λ begins.
+    subst (λ (x : Query). IsUpToDate x (c.args.world.now).tables c.sync.new.self) (sym c.plan_if_outgrown.ensures.query)
+    (record { synced = c.in_ok-sync.ensures.synced; tables = record { listed = c.in_ok-sync.ensures.listed q c.plan_if_outgrown.ensures.list.patterns; rising = c.sync.ensures.once } }))

@@ -34,3 +34,9 @@ returns-in_err-write_listed_rows-clause-follows g c = inr (c.in-Some.list, c.wri
 
 pub returns-clause-follows : goal.returns-clause-follows
 returns-clause-follows g c = inr (c.in-Some.list, c.write_listed_rows.new.list, c.in-Some.is, refl, c.write_listed_rows.ensures.follows)
+
+pub returns-in_default-clause-planned : goal.returns-in_default-clause-planned
+returns-in_default-clause-planned g c = inl refl
+
+pub returns-clause-reads : goal.returns-clause-reads
+returns-clause-reads g c = λ begins. (c.write_listed_rows.new.list, refl, c.in_ok-write_listed_rows.ensures.reads begins)

@@ -3,6 +3,7 @@ use Rattle.std.proofs.Common.{◌≡◌, false, true, refl, sym, ap, subst, ◌�
 use Rattle.std.specs.Prelude.{ℕ, List, Option, bytes_eq, filter, is_some, not}
 use Rattle.ecs_model.specs.stored.Session.{unpinned_by, without_stored}
 use Rattle.query_cache.specs.Kept.{Kept}
+use Rattle.query_meaning.specs.declared.steps.Step.{Step}
 use Rattle.query_model.specs.Query.{Query}
 use Rattle.name_order.specs.declared.order.Named.{Named}
 use Rattle.watch_order.specs.declared.watching.Watcher.{Watcher}
@@ -75,7 +76,7 @@ returns-clause-lists g c =
     (c.in-Some.dropped.value).value.value (sym c.in-Some.ensures.value)
     (c.unpin_all.ensures.state ∙ ap (unpinned_by c.self.inside.world.state) (c.mentions.ensures ∙ ap (λ (q : Query). q.mentions) (c.query.ensures ∙ ap queried c.deref.ensures)))
     c.in-Some.ensures.entries (none_there c.self.inside.waiting idle)
-    ∙ ap (λ (s : Standing). filter (λ (p : List ℕ × Option Kept). not (bytes_eq c.args.name.now p.0)) (lists_of s)) c.self.view_is
+    ∙ ap (λ (s : Standing). filter (λ (p : List ℕ × Option Kept × List Step). not (bytes_eq c.args.name.now p.0)) (lists_of s)) c.self.view_is
 
 pub returns-clause-tables : goal.returns-clause-tables
 returns-clause-tables g c = c.unpin_all.ensures.tables ∙ ap (λ (s : Standing). (s.world).tables) c.self.view_is

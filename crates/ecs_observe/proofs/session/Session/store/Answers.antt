@@ -1,12 +1,13 @@
 -- What is against a new stored query is told, and else it is held.
-use Rattle.std.proofs.Common.{◌≡◌, ◌++◌, [], ◌∷◌, ◌≢◌, All, None, Ok, Err, refl, sym, ap, subst, ◌∙◌}
-use Rattle.std.proofs.lemmas.List.{map-append}
+use Rattle.std.proofs.Common.{◌≡◌, ◌≢◌, All, None, Ok, Err, refl, sym, ap, subst, ◌∙◌}
 use Rattle.std.proofs.lemmas.Result.{err_from_is_err_and}
 use Rattle.std.specs.Prelude.{◌&&◌, not}
 use Rattle.std.specs.List.{list_any}
 use Rattle.ecs_model.specs.Query.{query_of}
 use Rattle.query_model.specs.Local.{is_local}
-use Rattle.ecs_observe.specs.Following.{lists_of}
+use Rattle.query_model.specs.Query.{Query}
+use Rattle.world_query.specs.Planned.{IsPlannedIn}
+use Rattle.ecs_observe.specs.Following.{plan_of}
 use Rattle.ecs_observe.specs.Parts.{held_of}
 use Rattle.ecs_observe.specs.Standing.{Held, IsHeld, IsNow, Standing, is_compared, is_monitor, session_of}
 use Rattle.ecs_observe.specs.Storing.{AnswersWatched}
@@ -75,10 +76,12 @@ returns-clause-compared g c = λ none.
 pub returns-clause-lists : goal.returns-clause-lists
 returns-clause-lists g c =
     let h = held_of (c.in_ok-name.name, c.in_ok-stored.stored) in (
-      h.list,
-      ap lists_of c.in_ok-hold.ensures.held
-          ∙ (map-append (λ (x : Held). (x.name, x.list)) (c.args.self.now).stored (h ∷ []) ∙ ap (λ n. lists_of c.args.self.now ++ (n, h.list) ∷ []) c.in_ok-name.ensures.ok),
+      h,
+      ap (λ (s : Standing). s.stored) c.in_ok-hold.ensures.held,
+      c.in_ok-name.ensures.ok,
       c.in_ok-stored.ensures.blank,
+      subst (λ (s : Standing). IsPlannedIn s.world h.query (plan_of h)) c.self.view_is
+          (subst (λ (q : Query). IsPlannedIn c.self.inside.world q (plan_of h)) (sym c.in_ok-stored.ensures.query) c.in_ok-stored.ensures.planned),
     )
 
 pub returns-clause-tables : goal.returns-clause-tables

@@ -13,9 +13,15 @@ use Rattle.ecs_observe.specs.declared.queries.StoredQueries.{StoredQueries}
 use Rattle.ecs_observe.specs.declared.stored.StoredQuery.{StoredQuery}
 use Rattle.ecs_observe.proofs.Entries.{look_stored, stored_in}
 use Rattle.ecs_observe.proofs.KeptFound.{none_kept}
-use Rattle.ecs_observe.proofs.Rewritten.{follows_then, here_as, list_there, refused_then, rewritten_session, same_then, still_lists, synced_then}
+use Rattle.ecs_observe.proofs.Rewritten.{follows_then, here_as, list_there, refused_then, rewritten_session, same_plan, same_then, still_lists, synced_then}
 use Rattle.ecs_observe.proofs.Watches.{still_stored}
 use Rattle.ecs_observe.proofs.session.Session.sync_kept.Goals as goal
+
+abbrev Entry : Type 0 → Type 0
+Entry A = Named (Watcher (StoredQuery A) A) A
+
+abbrev Box : Type 0 → Type 0
+Box A = Boxed (StoredQuery A) A
 
 pub returns-in_default-clause-refused : goal.returns-in_default-clause-refused
 returns-in_default-clause-refused g c =
@@ -33,7 +39,7 @@ sync_list_of-requires g c =
     let is = c.deref_mut.ensures.value in
     let low = c.in-Some.ensures.0 in
     let here = here_as bs i x low c.index_mut-made.ensures.value in
-    record { list = subst (λ (m : Named (Watcher (StoredQuery g.row.A.Denot) g.row.A.Denot) g.row.A.Denot). HasList c.self.inside.world.tables (m.value.value)) (sym is) (list_there bs i x low here c.self.inside.world.tables c.self.invariant.1) }
+    record { list = subst (λ (m : Entry g.row.A.Denot). HasList c.self.inside.world.tables (m.value.value)) (sym is) (list_there bs i x low here c.self.inside.world.tables c.self.invariant.1) }
 
 pub invariant_of-self : goal.invariant_of-self
 invariant_of-self g c =
@@ -43,16 +49,20 @@ invariant_of-self g c =
     let is = c.deref_mut.ensures.value in
     let low = c.in-Some.ensures.0 in
     let here = here_as bs i x low c.index_mut-made.ensures.value in
-    let y : Boxed (StoredQuery g.row.A.Denot) g.row.A.Denot = with_value x (record { number = c.deref_mut.result.now.number; name = c.deref_mut.result.now.name; value = record { occasions = c.deref_mut.result.now.value.occasions; value = c.sync_list_of.new.query } }) in
-    let kind = c.sync_list_of.ensures.kind ∙ ap (λ (m : Named (Watcher (StoredQuery g.row.A.Denot) g.row.A.Denot) g.row.A.Denot). (m.value.value).kind) is in
-    let query = c.sync_list_of.ensures.query ∙ ap (λ (m : Named (Watcher (StoredQuery g.row.A.Denot) g.row.A.Denot) g.row.A.Denot). ((m.value.value).plan).query) is in
-    let these = c.sync_list_of.ensures.these ∙ ap (λ (m : Named (Watcher (StoredQuery g.row.A.Denot) g.row.A.Denot) g.row.A.Denot). (m.value.value).these) is in
-    let name = ap (λ (m : Named (Watcher (StoredQuery g.row.A.Denot) g.row.A.Denot) g.row.A.Denot). m.name) is in
+    let m = c.deref_mut.result.now in
+    let y : Box g.row.A.Denot = with_value x (record { number = m.number; name = m.name; value = record { occasions = m.value.occasions; value = c.sync_list_of.new.query } }) in
+    let kind = c.sync_list_of.ensures.kind ∙ ap (λ (m : Entry g.row.A.Denot). (m.value.value).kind) is in
+    let query = c.sync_list_of.ensures.query ∙ ap (λ (m : Entry g.row.A.Denot). ((m.value.value).plan).query) is in
+    let these = c.sync_list_of.ensures.these ∙ ap (λ (m : Entry g.row.A.Denot). (m.value.value).these) is in
+    let name = ap (λ (m : Entry g.row.A.Denot). m.name) is in
     let s = c.self.inside.stored in
-    let t : StoredQueries g.row.A.Denot = record { all = record { order = record { made = with_item s.all.order.made i y; numbers = s.all.order.numbers }; index = s.all.index }; watches = s.watches } in (
+    let t : StoredQueries g.row.A.Denot = record {
+      all = record { order = record { made = with_item s.all.order.made i y; numbers = s.all.order.numbers }; index = s.all.index };
+      watches = s.watches;
+    } in (
       rewritten_session c.args.name.now c.self.inside.world s t c.self.inside.waiting c.self.inside.compared i x y c.in-Some.ensures here refl name kind query these c.self.invariant.0,
       still_lists c.args.name.now c.self.inside.world s t c.self.inside.waiting c.self.inside.compared i x y c.in-Some.ensures here refl name kind query these c.self.invariant.0 c.sync_list_of.ensures.list c.self.invariant.1,
-      still_stored s t i x y low here name (ap (λ (m : Named (Watcher (StoredQuery g.row.A.Denot) g.row.A.Denot) g.row.A.Denot). m.number) is) (ap (λ (m : Named (Watcher (StoredQuery g.row.A.Denot) g.row.A.Denot) g.row.A.Denot). (m.value).occasions.items) is) kind query refl refl refl refl c.self.invariant.2,
+      still_stored s t i x y low here name (ap (λ (m : Entry g.row.A.Denot). m.number) is) (ap (λ (m : Entry g.row.A.Denot). (m.value).occasions.items) is) kind query refl refl refl refl c.self.invariant.2,
     )
 
 pub returns-clause-refused : goal.returns-clause-refused
@@ -63,15 +73,20 @@ returns-clause-refused g c =
     let is = c.deref_mut.ensures.value in
     let low = c.in-Some.ensures.0 in
     let here = here_as bs i x low c.index_mut-made.ensures.value in
-    let y : Boxed (StoredQuery g.row.A.Denot) g.row.A.Denot = with_value x (record { number = c.deref_mut.result.now.number; name = c.deref_mut.result.now.name; value = record { occasions = c.deref_mut.result.now.value.occasions; value = c.sync_list_of.new.query } }) in
-    let kind = c.sync_list_of.ensures.kind ∙ ap (λ (m : Named (Watcher (StoredQuery g.row.A.Denot) g.row.A.Denot) g.row.A.Denot). (m.value.value).kind) is in
-    let query = c.sync_list_of.ensures.query ∙ ap (λ (m : Named (Watcher (StoredQuery g.row.A.Denot) g.row.A.Denot) g.row.A.Denot). ((m.value.value).plan).query) is in
-    let these = c.sync_list_of.ensures.these ∙ ap (λ (m : Named (Watcher (StoredQuery g.row.A.Denot) g.row.A.Denot) g.row.A.Denot). (m.value.value).these) is in
-    let name = ap (λ (m : Named (Watcher (StoredQuery g.row.A.Denot) g.row.A.Denot) g.row.A.Denot). m.name) is in
+    let m = c.deref_mut.result.now in
+    let y : Box g.row.A.Denot = with_value x (record { number = m.number; name = m.name; value = record { occasions = m.value.occasions; value = c.sync_list_of.new.query } }) in
+    let kind = c.sync_list_of.ensures.kind ∙ ap (λ (m : Entry g.row.A.Denot). (m.value.value).kind) is in
+    let query = c.sync_list_of.ensures.query ∙ ap (λ (m : Entry g.row.A.Denot). ((m.value.value).plan).query) is in
+    let these = c.sync_list_of.ensures.these ∙ ap (λ (m : Entry g.row.A.Denot). (m.value.value).these) is in
+    let name = ap (λ (m : Entry g.row.A.Denot). m.name) is in
     let s = c.self.inside.stored in
-    let t : StoredQueries g.row.A.Denot = record { all = record { order = record { made = with_item s.all.order.made i y; numbers = s.all.order.numbers }; index = s.all.index }; watches = s.watches } in
-    refused_then c.args.name.now c.self.inside.world s t c.self.inside.waiting c.self.inside.compared i x y c.in-Some.ensures here refl name kind query these c.self.invariant.0 c.args.self.now c.self.view_is c.sync_list_of.result
-    (subst (λ (m : Named (Watcher (StoredQuery g.row.A.Denot) g.row.A.Denot) g.row.A.Denot). SyncsList c.sync_list_of.result (m.value.value).kind ((m.value.value).plan).query c.self.inside.world.tables c.sync_list_of.new.query.list) is c.sync_list_of.ensures.synced)
+    let t : StoredQueries g.row.A.Denot = record {
+      all = record { order = record { made = with_item s.all.order.made i y; numbers = s.all.order.numbers }; index = s.all.index };
+      watches = s.watches;
+    } in
+    refused_then c.args.name.now c.self.inside.world s t c.self.inside.waiting c.self.inside.compared i x y
+    c.in-Some.ensures here refl name kind query these c.self.invariant.0 c.args.self.now c.self.view_is c.sync_list_of.result
+    (subst (λ (m : Entry g.row.A.Denot). SyncsList c.sync_list_of.result (m.value.value).kind ((m.value.value).plan).query c.self.inside.world.tables c.sync_list_of.new.query.list) is c.sync_list_of.ensures.synced)
 
 pub returns-clause-current : goal.returns-clause-current
 returns-clause-current g c =
@@ -81,15 +96,20 @@ returns-clause-current g c =
     let is = c.deref_mut.ensures.value in
     let low = c.in-Some.ensures.0 in
     let here = here_as bs i x low c.index_mut-made.ensures.value in
-    let y : Boxed (StoredQuery g.row.A.Denot) g.row.A.Denot = with_value x (record { number = c.deref_mut.result.now.number; name = c.deref_mut.result.now.name; value = record { occasions = c.deref_mut.result.now.value.occasions; value = c.sync_list_of.new.query } }) in
-    let kind = c.sync_list_of.ensures.kind ∙ ap (λ (m : Named (Watcher (StoredQuery g.row.A.Denot) g.row.A.Denot) g.row.A.Denot). (m.value.value).kind) is in
-    let query = c.sync_list_of.ensures.query ∙ ap (λ (m : Named (Watcher (StoredQuery g.row.A.Denot) g.row.A.Denot) g.row.A.Denot). ((m.value.value).plan).query) is in
-    let these = c.sync_list_of.ensures.these ∙ ap (λ (m : Named (Watcher (StoredQuery g.row.A.Denot) g.row.A.Denot) g.row.A.Denot). (m.value.value).these) is in
-    let name = ap (λ (m : Named (Watcher (StoredQuery g.row.A.Denot) g.row.A.Denot) g.row.A.Denot). m.name) is in
+    let m = c.deref_mut.result.now in
+    let y : Box g.row.A.Denot = with_value x (record { number = m.number; name = m.name; value = record { occasions = m.value.occasions; value = c.sync_list_of.new.query } }) in
+    let kind = c.sync_list_of.ensures.kind ∙ ap (λ (m : Entry g.row.A.Denot). (m.value.value).kind) is in
+    let query = c.sync_list_of.ensures.query ∙ ap (λ (m : Entry g.row.A.Denot). ((m.value.value).plan).query) is in
+    let these = c.sync_list_of.ensures.these ∙ ap (λ (m : Entry g.row.A.Denot). (m.value.value).these) is in
+    let name = ap (λ (m : Entry g.row.A.Denot). m.name) is in
     let s = c.self.inside.stored in
-    let t : StoredQueries g.row.A.Denot = record { all = record { order = record { made = with_item s.all.order.made i y; numbers = s.all.order.numbers }; index = s.all.index }; watches = s.watches } in
-    synced_then c.args.name.now c.self.inside.world s t c.self.inside.waiting c.self.inside.compared i x y c.in-Some.ensures here refl name kind query these c.self.invariant.0 c.args.self.now c.self.view_is c.sync_list_of.result
-    (subst (λ (m : Named (Watcher (StoredQuery g.row.A.Denot) g.row.A.Denot) g.row.A.Denot). SyncsList c.sync_list_of.result (m.value.value).kind ((m.value.value).plan).query c.self.inside.world.tables c.sync_list_of.new.query.list) is c.sync_list_of.ensures.synced)
+    let t : StoredQueries g.row.A.Denot = record {
+      all = record { order = record { made = with_item s.all.order.made i y; numbers = s.all.order.numbers }; index = s.all.index };
+      watches = s.watches;
+    } in
+    synced_then c.args.name.now c.self.inside.world s t c.self.inside.waiting c.self.inside.compared i x y
+    c.in-Some.ensures here refl name kind query these c.self.invariant.0 c.args.self.now c.self.view_is c.sync_list_of.result
+    (subst (λ (m : Entry g.row.A.Denot). SyncsList c.sync_list_of.result (m.value.value).kind ((m.value.value).plan).query c.self.inside.world.tables c.sync_list_of.new.query.list) is c.sync_list_of.ensures.synced)
 
 pub returns-clause-same : goal.returns-clause-same
 returns-clause-same g c =
@@ -99,14 +119,19 @@ returns-clause-same g c =
     let is = c.deref_mut.ensures.value in
     let low = c.in-Some.ensures.0 in
     let here = here_as bs i x low c.index_mut-made.ensures.value in
-    let y : Boxed (StoredQuery g.row.A.Denot) g.row.A.Denot = with_value x (record { number = c.deref_mut.result.now.number; name = c.deref_mut.result.now.name; value = record { occasions = c.deref_mut.result.now.value.occasions; value = c.sync_list_of.new.query } }) in
-    let kind = c.sync_list_of.ensures.kind ∙ ap (λ (m : Named (Watcher (StoredQuery g.row.A.Denot) g.row.A.Denot) g.row.A.Denot). (m.value.value).kind) is in
-    let query = c.sync_list_of.ensures.query ∙ ap (λ (m : Named (Watcher (StoredQuery g.row.A.Denot) g.row.A.Denot) g.row.A.Denot). ((m.value.value).plan).query) is in
-    let these = c.sync_list_of.ensures.these ∙ ap (λ (m : Named (Watcher (StoredQuery g.row.A.Denot) g.row.A.Denot) g.row.A.Denot). (m.value.value).these) is in
-    let name = ap (λ (m : Named (Watcher (StoredQuery g.row.A.Denot) g.row.A.Denot) g.row.A.Denot). m.name) is in
+    let m = c.deref_mut.result.now in
+    let y : Box g.row.A.Denot = with_value x (record { number = m.number; name = m.name; value = record { occasions = m.value.occasions; value = c.sync_list_of.new.query } }) in
+    let kind = c.sync_list_of.ensures.kind ∙ ap (λ (m : Entry g.row.A.Denot). (m.value.value).kind) is in
+    let query = c.sync_list_of.ensures.query ∙ ap (λ (m : Entry g.row.A.Denot). ((m.value.value).plan).query) is in
+    let these = c.sync_list_of.ensures.these ∙ ap (λ (m : Entry g.row.A.Denot). (m.value.value).these) is in
+    let name = ap (λ (m : Entry g.row.A.Denot). m.name) is in
     let s = c.self.inside.stored in
-    let t : StoredQueries g.row.A.Denot = record { all = record { order = record { made = with_item s.all.order.made i y; numbers = s.all.order.numbers }; index = s.all.index }; watches = s.watches } in
-    same_then c.args.name.now c.self.inside.world s t c.self.inside.waiting c.self.inside.compared i x y c.in-Some.ensures here refl name kind query these c.self.invariant.0 c.args.self.now c.self.view_is
+    let t : StoredQueries g.row.A.Denot = record {
+      all = record { order = record { made = with_item s.all.order.made i y; numbers = s.all.order.numbers }; index = s.all.index };
+      watches = s.watches;
+    } in
+    same_then c.args.name.now c.self.inside.world s t c.self.inside.waiting c.self.inside.compared i x y
+    c.in-Some.ensures here refl name kind query these c.self.invariant.0 c.args.self.now c.self.view_is
 
 pub returns-clause-lists : goal.returns-clause-lists
 returns-clause-lists g c =
@@ -116,12 +141,40 @@ returns-clause-lists g c =
     let is = c.deref_mut.ensures.value in
     let low = c.in-Some.ensures.0 in
     let here = here_as bs i x low c.index_mut-made.ensures.value in
-    let y : Boxed (StoredQuery g.row.A.Denot) g.row.A.Denot = with_value x (record { number = c.deref_mut.result.now.number; name = c.deref_mut.result.now.name; value = record { occasions = c.deref_mut.result.now.value.occasions; value = c.sync_list_of.new.query } }) in
-    let kind = c.sync_list_of.ensures.kind ∙ ap (λ (m : Named (Watcher (StoredQuery g.row.A.Denot) g.row.A.Denot) g.row.A.Denot). (m.value.value).kind) is in
-    let query = c.sync_list_of.ensures.query ∙ ap (λ (m : Named (Watcher (StoredQuery g.row.A.Denot) g.row.A.Denot) g.row.A.Denot). ((m.value.value).plan).query) is in
-    let these = c.sync_list_of.ensures.these ∙ ap (λ (m : Named (Watcher (StoredQuery g.row.A.Denot) g.row.A.Denot) g.row.A.Denot). (m.value.value).these) is in
-    let name = ap (λ (m : Named (Watcher (StoredQuery g.row.A.Denot) g.row.A.Denot) g.row.A.Denot). m.name) is in
+    let m = c.deref_mut.result.now in
+    let y : Box g.row.A.Denot = with_value x (record { number = m.number; name = m.name; value = record { occasions = m.value.occasions; value = c.sync_list_of.new.query } }) in
+    let kind = c.sync_list_of.ensures.kind ∙ ap (λ (m : Entry g.row.A.Denot). (m.value.value).kind) is in
+    let query = c.sync_list_of.ensures.query ∙ ap (λ (m : Entry g.row.A.Denot). ((m.value.value).plan).query) is in
+    let these = c.sync_list_of.ensures.these ∙ ap (λ (m : Entry g.row.A.Denot). (m.value.value).these) is in
+    let name = ap (λ (m : Entry g.row.A.Denot). m.name) is in
     let s = c.self.inside.stored in
-    let t : StoredQueries g.row.A.Denot = record { all = record { order = record { made = with_item s.all.order.made i y; numbers = s.all.order.numbers }; index = s.all.index }; watches = s.watches } in
-    follows_then c.args.name.now c.self.inside.world s t c.self.inside.waiting c.self.inside.compared i x y c.in-Some.ensures here refl name kind query these c.self.invariant.0 c.args.self.now c.self.view_is
-    (subst (λ (m : Named (Watcher (StoredQuery g.row.A.Denot) g.row.A.Denot) g.row.A.Denot). FollowsIfSome c.self.inside.world.tables (m.value.value) c.sync_list_of.new.query) is c.sync_list_of.ensures.follows)
+    let t : StoredQueries g.row.A.Denot = record {
+      all = record { order = record { made = with_item s.all.order.made i y; numbers = s.all.order.numbers }; index = s.all.index };
+      watches = s.watches;
+    } in
+    follows_then c.args.name.now c.self.inside.world s t c.self.inside.waiting c.self.inside.compared i x y
+    c.in-Some.ensures here refl name kind query these c.self.invariant.0 c.args.self.now c.self.view_is
+    (subst (λ (m : Entry g.row.A.Denot). FollowsIfSome c.self.inside.world.tables (m.value.value) c.sync_list_of.new.query) is c.sync_list_of.ensures.follows)
+
+pub returns-clause-plan : goal.returns-clause-plan
+returns-clause-plan g c =
+    let bs = made_of c.self.inside.stored in
+    let i = c.in-Some.place in
+    let x = c.index_mut-made.result.now in
+    let is = c.deref_mut.ensures.value in
+    let low = c.in-Some.ensures.0 in
+    let here = here_as bs i x low c.index_mut-made.ensures.value in
+    let m = c.deref_mut.result.now in
+    let y : Box g.row.A.Denot = with_value x (record { number = m.number; name = m.name; value = record { occasions = m.value.occasions; value = c.sync_list_of.new.query } }) in
+    let kind = c.sync_list_of.ensures.kind ∙ ap (λ (m : Entry g.row.A.Denot). (m.value.value).kind) is in
+    let query = c.sync_list_of.ensures.query ∙ ap (λ (m : Entry g.row.A.Denot). ((m.value.value).plan).query) is in
+    let these = c.sync_list_of.ensures.these ∙ ap (λ (m : Entry g.row.A.Denot). (m.value.value).these) is in
+    let name = ap (λ (m : Entry g.row.A.Denot). m.name) is in
+    let s = c.self.inside.stored in
+    let t : StoredQueries g.row.A.Denot = record {
+      all = record { order = record { made = with_item s.all.order.made i y; numbers = s.all.order.numbers }; index = s.all.index };
+      watches = s.watches;
+    } in
+    same_plan c.args.name.now c.self.inside.world s t c.self.inside.waiting c.self.inside.compared i x y
+    c.in-Some.ensures here refl name kind query these c.self.invariant.0 c.args.self.now c.self.view_is
+    (c.sync_list_of.ensures.plan ∙ ap (λ (m : Entry g.row.A.Denot). (m.value.value).plan) is)
