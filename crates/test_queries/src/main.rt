@@ -6,6 +6,8 @@
 #[cfg(test)]
 mod chunks;
 #[cfg(test)]
+mod diamond;
+#[cfg(test)]
 mod judging;
 #[cfg(test)]
 mod orders;
