@@ -1,8 +1,9 @@
-//! Entities in twenty tables, gone through by chunks and by rows, and as many in plain slices.
+//! Entities in twenty tables, gone through by chunks and by rows, with a value written or without, and as many in plain slices.
 
 use crate::by_rows::sum_by_rows;
 use crate::commands::Fault;
 use crate::values::{component, tag};
+use crate::writing::{Turn, move_all};
 use ecs_id::{EntityId, Id};
 use ecs_schema::Kind;
 use ecs_world::World;
@@ -17,23 +18,25 @@ use world_query::read_query;
 const COUNT: u32 = 10_000;
 
 /// The bytes of a value: two numbers of four bytes.
-const PLANE: usize = 8;
+pub(crate) const PLANE: usize = 8;
 
 /// What is asked for.
 const TEXT: &str = "Position, Velocity";
 
 /// The workloads.
-const NAMES: [&str; 6] = [
+const NAMES: [&str; 8] = [
     "ids",
     "values",
     "row_ids",
     "row_values",
+    "written",
     "plain_ids",
     "plain_values",
+    "plain_written",
 ];
 
-/// Makes entities with two values, in the twenty tables of so many sets of five tags.
-fn fill(alloc: Global, world: &mut World, count: u32) -> Result<(), Fault> {
+/// Makes entities with two values, in the twenty tables of so many sets of five tags. It tells the id of the first value.
+fn fill(alloc: Global, world: &mut World, count: u32) -> Result<Id, Fault> {
     let plane = [("x", Kind::I32), ("y", Kind::I32)];
     let position = component(alloc, world, "Position", &plane)?;
     let velocity = component(alloc, world, "Velocity", &plane)?;
@@ -53,7 +56,7 @@ fn fill(alloc: Global, world: &mut World, count: u32) -> Result<(), Fault> {
         world.set(entity, position, &[x, -x])?;
         world.set(entity, velocity, &[1, x])?;
     }
-    Ok(())
+    Ok(position)
 }
 
 /// Adds the tags of the bits of a number.
@@ -78,7 +81,7 @@ fn sum_of_entities(entities: &[EntityId]) -> u64 {
 
 /// The numbers of a value.
 #[inline(always)]
-fn plane_of(bytes: &[u8]) -> (i32, i32) {
+pub(crate) fn plane_of(bytes: &[u8]) -> (i32, i32) {
     match bytes {
         [a, b, c, d, e, f, g, h] => (
             i32::from_le_bytes([*a, *b, *c, *d]),
@@ -177,6 +180,15 @@ fn sum_plain(alloc: Global, values: bool, count: u32, times: u32) -> Result<u64,
     Ok(sum)
 }
 
+/// Moves so many plain values so often by others, and goes over them once.
+fn sum_plain_written(alloc: Global, count: u32, times: u32) -> Result<u64, Fault> {
+    let mut all = plain_entities(alloc, count)?;
+    for _ in 0..times {
+        move_all(all.positions.as_mut_slice(), all.velocities.as_slice());
+    }
+    Ok(sum_of_values(all.positions.as_slice(), all.velocities.as_slice()))
+}
+
 /// Goes over the entities of a world so often by chunks.
 fn sum_of_chunks(alloc: Global, world: &World, values: bool, times: u32) -> Result<u64, Fault> {
     let query = read_query(alloc, world, TEXT).or(Err(Fault::World))?;
@@ -192,6 +204,21 @@ fn sum_of_rows(alloc: Global, world: &World, values: bool, times: u32) -> Result
     sum_by_rows(alloc, world, TEXT, values, times).or(Err(Fault::World))
 }
 
+/// Moves the entities of a world so often by their velocities, and goes over them once.
+fn sum_of_written(
+    alloc: Global,
+    world: &mut World,
+    position: Id,
+    times: u32,
+) -> Result<u64, Fault> {
+    let query = read_query(alloc, world, TEXT).or(Err(Fault::World))?;
+    let mut turn = Turn::new(alloc);
+    for _ in 0..times {
+        turn.take(world, &query, position)?;
+    }
+    Ok(sum_by_chunks(world, &query, true))
+}
+
 /// Makes so many entities, and goes over them so often.
 fn sum_of_world(
     alloc: Global,
@@ -200,8 +227,9 @@ fn sum_of_world(
     count: u32,
     times: u32,
 ) -> Result<u64, Fault> {
-    fill(alloc, world, count)?;
+    let position = fill(alloc, world, count)?;
     match name {
+        "written" => sum_of_written(alloc, world, position, times),
         "row_ids" => sum_of_rows(alloc, world, false, times),
         "row_values" => sum_of_rows(alloc, world, true, times),
         _ => sum_of_chunks(alloc, world, name == "values", times),
@@ -218,6 +246,7 @@ fn sum(
     match name {
         "plain_ids" => sum_plain(alloc, false, count, times),
         "plain_values" => sum_plain(alloc, true, count, times),
+        "plain_written" => sum_plain_written(alloc, count, times),
         _ => {
             let mut world = World::new(alloc, random).or(Err(Fault::World))?;
             let sum = sum_of_world(alloc, &mut world, name, count, times);

@@ -9,6 +9,7 @@
 //!   - `ids`: their entities; `values`: two values of each
 //!   - `row_ids`, `row_values`: the same by rows
 //!   - `plain_ids`, `plain_values`: the same over plain slices
+//!   - `written`, `plain_written`: one value of each is set to a new one, by table and in plain slices, and then all are read
 //! - `world WORKLOAD SIZE`: carries out commands, 10,000 times where no size is named
 //!   - `values`: entities with three components, whose values are set; each moves to another table and on to a third
 //!   - `tree`: each entity is a child of one of those before it, chosen at random
@@ -26,6 +27,7 @@ mod relations;
 mod texts;
 mod values;
 mod words;
+mod writing;
 
 use std::{env, io};
 

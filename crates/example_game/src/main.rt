@@ -1,5 +1,5 @@
 //! A harbour, as a game on a session: a monitor tells which ships put to sea, a kept query is asked each turn, and the rows of another query
-//! are pulled one at a time, with their values.
+//! are pulled one at a time, with their values, or gone over table by table, frame after frame.
 //!
 //! It has no proof of its own: what its contracts say follows from those of the calls.
 #![tactic(auto)]
@@ -13,6 +13,7 @@ use ecs_id::Id;
 use ecs_model::watches::StoredKind;
 use ecs_observe::{Session, SessionError, write_event};
 use ecs_schema::{Kind, Schema, SchemaError};
+use query_chunks::{Chunk, Chunks, Column, has_chunks};
 use query_model::faults::QueryFault;
 use std::alloc::{AllocError, Global};
 use std::hash::RandomState;
@@ -24,6 +25,9 @@ use world_rows::{Asked, Rows, WorldView};
 const FUEL: u32 = 64;
 
 const DOCKED: u32 = 65;
+
+/// How often the game goes over its ships.
+const FRAMES: u32 = 60;
 
 const SHIPS: [&str; 3] = ["Heron", "Petrel", "Swift"];
 
@@ -120,6 +124,52 @@ fn show_fuel(
     Ok(rows.into_asked())
 }
 
+/// The litres of the ships of one table. Their values stand one after another, of two bytes each.
+fn litres_of_table(ships: &Chunk<'_>) -> u64 {
+    let Some(Column::Values(_, _, bytes)) = ships.column(0) else {
+        return 0;
+    };
+    let mut litres: u64 = 0;
+    for value in bytes.chunks_exact(2) {
+        if let [low, high] = value {
+            let held = u16::from_le_bytes([*low, *high]);
+            litres = litres.saturating_add(u64::from(held));
+        }
+    }
+    litres
+}
+
+/// The litres of all ships, table by table. It takes no memory.
+fn litres_by_table(session: &Session, asked: &Asked) -> u64 {
+    if !has_chunks(asked.query()) {
+        return 0;
+    }
+    let mut litres: u64 = 0;
+    let mut tables = Chunks::start(session.world(), asked.query());
+    for _ in 0..u64::MAX {
+        let Some(ships) = tables.next_chunk() else {
+            break;
+        };
+        litres = litres.saturating_add(litres_of_table(&ships));
+    }
+    litres
+}
+
+/// Goes over all ships in each frame, and prints how many litres were seen.
+fn show_frames(
+    alloc: Global,
+    session: &Session,
+    asked: &Asked,
+    out: &mut Vec<u8>,
+) -> Result<(), AllocError> {
+    let mut litres: u64 = 0;
+    for _ in 0..FRAMES {
+        litres = litres.saturating_add(litres_by_table(session, asked));
+    }
+    let line = format!(in alloc; "{litres} litres in {FRAMES} frames\n")?;
+    out.extend_from_slice(line.as_bytes())
+}
+
 /// Two turns, with a ship that puts to sea between them.
 fn play(alloc: Global, session: &mut Session, out: &mut Vec<u8>) -> Result<(), GameError> {
     begin(alloc, session)?;
@@ -129,6 +179,7 @@ fn play(alloc: Global, session: &mut Session, out: &mut Vec<u8>) -> Result<(), G
     let fuel = show_fuel(alloc, session, fuel, out)?;
     put_to_sea(session, "Petrel", 33, out)?;
     show_docked(session, out)?;
+    show_frames(alloc, session, &fuel, out)?;
     show_fuel(alloc, session, fuel, out)?;
     Ok(())
 }

@@ -1,0 +1,105 @@
+//! One value of the same entities written for each of them: by table, and in plain slices.
+
+use crate::commands::Fault;
+use crate::iterating::{PLANE, plane_of};
+use ecs_id::{Id, TableKey};
+use ecs_world::World;
+use query_check::Query;
+use query_chunks::{Chunks, Column, has_chunks};
+use std::alloc::{AllocError, Global};
+
+/// The bytes that tables get for one id, one table's behind those of another. The room stays from one turn to the next.
+#[derive(Drop)]
+pub(crate) struct Turn {
+    /// Each table, and how many bytes it gets.
+    tables: Vec<(TableKey, usize)>,
+    bytes: Vec<u8>,
+}
+
+/// A position that was moved by a velocity.
+#[inline(always)]
+fn moved(position: &[u8], velocity: &[u8]) -> [u8; PLANE] {
+    let (x, y) = plane_of(position);
+    let (dx, dy) = plane_of(velocity);
+    let [a, b, c, d] = x.wrapping_add(dx).to_le_bytes();
+    let [e, f, g, h] = y.wrapping_add(dy).to_le_bytes();
+    [a, b, c, d, e, f, g, h]
+}
+
+/// Moves each position by its velocity, where it stands.
+pub(crate) fn move_all(positions: &mut [u8], velocities: &[u8]) {
+    let pairs = positions
+        .chunks_exact_mut(PLANE)
+        .zip(velocities.chunks_exact(PLANE));
+    for (position, velocity) in pairs {
+        let new = moved(position, velocity);
+        if let [a, b, c, d, e, f, g, h] = position {
+            [*a, *b, *c, *d, *e, *f, *g, *h] = new;
+        }
+    }
+}
+
+impl Turn {
+    pub(crate) fn new(alloc: Global) -> Turn {
+        Turn {
+            tables: Vec::new(alloc),
+            bytes: Vec::new(alloc),
+        }
+    }
+
+    /// Adds the moved positions of a table.
+    fn add(
+        &mut self,
+        key: TableKey,
+        positions: &[u8],
+        velocities: &[u8],
+    ) -> Result<(), AllocError> {
+        self.tables.push((key, positions.len()))?;
+        let begin = self.bytes.len();
+        self.bytes.extend_from_slice(positions)?;
+        move_all(&mut self.bytes.as_mut_slice()[begin..], velocities);
+        Ok(())
+    }
+
+    /// Finds the moved positions of all tables of a query for both values.
+    fn find(&mut self, world: &World, query: &Query) -> Result<(), AllocError> {
+        self.tables.clear();
+        self.bytes.clear();
+        if !has_chunks(query) {
+            return Ok(());
+        }
+        let mut chunks = Chunks::start(world, query);
+        for _ in 0..u32::MAX {
+            let Some(chunk) = chunks.next_chunk() else {
+                break;
+            };
+            if let (
+                Some(Column::Values(_, _, positions)),
+                Some(Column::Values(_, _, velocities)),
+            ) = (chunk.column(0), chunk.column(1))
+            {
+                self.add(chunk.table(), positions, velocities)?;
+            }
+        }
+        Ok(())
+    }
+
+    /// Moves each entity of a query by its velocity.
+    pub(crate) fn take(
+        &mut self,
+        world: &mut World,
+        query: &Query,
+        position: Id,
+    ) -> Result<(), Fault> {
+        self.find(world, query)?;
+        let mut left = self.bytes.as_slice();
+        for (key, size) in self.tables.as_slice() {
+            let (bytes, later) = left.split_at_checked(*size).ok_or(Fault::World)?;
+            world
+                .set_column(*key, position, bytes)
+                .or(Err(Fault::World))?;
+            left = later;
+        }
+        Ok(())
+    }
+}
