@@ -5,6 +5,7 @@ pub mod Counted
 pub mod Entries
 pub mod First
 pub mod Found
+pub mod Fronts
 pub mod KeptFound
 pub mod Obeyed
 pub mod OneLess

@@ -5,6 +5,7 @@ use Rattle.query_model.specs.Query.{Query}
 use Rattle.query_plan.specs.Plans.{Plan}
 use Rattle.world_facts.specs.Kept.{AreTablesOf}
 use Rattle.world_query.specs.Answerable.{IsAnswerable}
+use Rattle.ecs_observe.proofs.Fronts.{stays_in_front}
 use Rattle.ecs_observe.proofs.Answering.{asked_is_sound, current_answerable}
 use Rattle.ecs_observe.specs.Following.{IsUpToDate}
 use Rattle.ecs_observe.proofs.Synced.{follows_again, of_any}
@@ -52,3 +53,12 @@ returns-clause-reads g c =
     of_any c.write_rows_in.result (λ begins.
     subst (λ (x : Query). IsUpToDate x (c.args.world.now).tables c.sync.new.self) (sym c.plan_if_outgrown.ensures.query)
     (record { synced = c.in_ok-sync.ensures.synced; tables = record { listed = c.in_ok-sync.ensures.listed q c.plan_if_outgrown.ensures.list.patterns; rising = c.sync.ensures.once } }))
+
+pub returns-in_err-plan_if_outgrown-clause-front : goal.returns-in_err-plan_if_outgrown-clause-front
+returns-in_err-plan_if_outgrown-clause-front g c = stays_in_front _ c.args.out.now.items
+
+pub returns-in_err-room-clause-front : goal.returns-in_err-room-clause-front
+returns-in_err-room-clause-front g c = stays_in_front _ c.args.out.now.items
+
+pub returns-in_err-sync-clause-front : goal.returns-in_err-sync-clause-front
+returns-in_err-sync-clause-front g c = stays_in_front _ c.args.out.now.items

@@ -1,6 +1,7 @@
 use Rattle.std.specs.Prelude.{is_some}
 use Rattle.std.proofs.Common.{ap, inl, inr, refl, subst, sym, ◌∙◌}
 use Rattle.query_model.specs.Query.{Query}
+use Rattle.std.proofs.Math.Seq.{take-length}
 use Rattle.ecs_observe.specs.Lists.{IsListOf}
 use Rattle.ecs_observe.proofs.Listed.{its_list, kept_kind, not_kept}
 use Rattle.ecs_observe.proofs.kept.write_rows_of.Goals as goal
@@ -40,3 +41,6 @@ returns-in_default-clause-planned g c = inl refl
 
 pub returns-clause-reads : goal.returns-clause-reads
 returns-clause-reads g c = λ begins. (c.write_listed_rows.new.list, refl, c.in_ok-write_listed_rows.ensures.reads begins)
+
+pub returns-in_default-clause-front : goal.returns-in_default-clause-front
+returns-in_default-clause-front g c = take-length c.args.out.now.items

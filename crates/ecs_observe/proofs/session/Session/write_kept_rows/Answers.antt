@@ -6,6 +6,7 @@ use Rattle.std.proofs.Common.{Some, ap, inl, refl, subst, sym, ◌∙◌}
 use Rattle.name_order.specs.declared.order.Named.{Named}
 use Rattle.watch_order.specs.Watched.{Boxed}
 use Rattle.watch_order.specs.declared.watching.Watcher.{Watcher}
+use Rattle.std.proofs.Math.Seq.{take-length}
 use Rattle.ecs_observe.specs.Following.{FollowsIfSome, StaysOrIsPlanned}
 use Rattle.ecs_observe.specs.Lists.{HasList}
 use Rattle.ecs_observe.specs.Standing.{IsHeld}
@@ -187,3 +188,6 @@ returns-clause-reads g c =
     reads_then c.args.name.now c.self.inside.world s t c.self.inside.waiting c.self.inside.compared i x y
     c.in-Some.ensures here refl name kind query these c.self.invariant.0 c.args.self.now c.self.view_is
     c.write_rows_of.result c.write_rows_of.ensures.list c.write_rows_of.ensures.reads
+
+pub returns-in_default-clause-front : goal.returns-in_default-clause-front
+returns-in_default-clause-front g c = take-length c.args.out.now.items
