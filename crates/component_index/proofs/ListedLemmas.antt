@@ -221,34 +221,6 @@ module _ {X : Type 0} (test : X → Pattern → Bool) (xs : List X) where
 
 -- ---- one pattern, but where the id before has it
 module _ {S : Type 0} (m n : HashMap Pattern (List TableKey) S) (pattern : Pattern) (key : TableKey) (h : Pattern → Bool) where
-  new_test : h pattern ≡ false → (p : Pattern) → pattern_eq pattern p ≡ (pattern_eq pattern p && not (h p))
-  new_test out p = by (pattern_eq pattern p) refl
-    where
-      by : (b : Bool) → pattern_eq pattern p ≡ b → b ≡ (b && not (h p))
-      by true e = λ i. not (sym (ap h (sym (same_pattern pattern p e)) ∙ out) i)
-      by false e = refl
-
-  no_test : h pattern ≡ true → (p : Pattern) → (pattern_eq pattern p && not (h p)) ≡ false
-  no_test here p = by (pattern_eq pattern p) refl
-    where
-      by : (b : Bool) → pattern_eq pattern p ≡ b → (b && not (h p)) ≡ false
-      by true e = λ i. not ((ap h (sym (same_pattern pattern p e)) ∙ here) i)
-      by false e = refl
-
-  pub Adds-not_before : h pattern ≡ false → Adds m n (pattern_eq pattern) key → Adds m n (λ p. pattern_eq pattern p && not (h p)) key
-  Adds-not_before out f p k = f p k ∙ (λ i. is_listed m p k || (new_test out p i && table_eq key k))
-
-  pub Keeps-not_before : h pattern ≡ false → Keeps m n (pattern_eq pattern) key → Keeps m n (λ p. pattern_eq pattern p && not (h p)) key
-  Keeps-not_before out f p k e = f p k ((λ i. new_test out p i && table_eq key k) ∙ e)
-
-  pub Adds-before : h pattern ≡ true → Adds m m (λ p. pattern_eq pattern p && not (h p)) key
-  Adds-before here p k = or_none (is_listed m p k) ∙ (λ i. is_listed m p k || (sym (no_test here p) i && table_eq key k))
-
-  pub Drops-not_before : h pattern ≡ false → Drops m n (pattern_eq pattern) key → Drops m n (λ p. pattern_eq pattern p && not (h p)) key
-  Drops-not_before out f p k = f p k ∙ (λ i. is_listed m p k && not (new_test out p i && table_eq key k))
-
-  pub Drops-before : h pattern ≡ true → Drops m m (λ p. pattern_eq pattern p && not (h p)) key
-  Drops-before here p k = and_all (is_listed m p k) ∙ (λ i. is_listed m p k && not (sym (no_test here p) i && table_eq key k))
 
 -- ---- what holds of each of a list, and of one more
 any_and : {X : Type 0} (f : X → Bool) (b : Bool) (xs : List X) → list_any (λ x. f x && b) xs ≡ (list_any f xs && b)

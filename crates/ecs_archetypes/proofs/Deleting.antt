@@ -48,9 +48,6 @@ pub record AreDeleted (before : Housing) (dead : List EntityId) (now : Housing) 
   pub held : HoldAlike (without_each rest (holdings_of now)) (without_each dead (holdings_of before))
   pub alike : StandAlike before.tables now.tables
 
-pub deleted_none : (before : Housing) (dead : List EntityId) → are_deletable (holdings_of before) dead ≡ true → AreDeleted before dead before dead
-deleted_none before dead ready = record { ready = ready; held = record { live = refl; deletions = refl; cells = refl }; alike = record { shapes = λ k. refl; last = refl } }
-
 not_true : (b : Bool) → not b ≡ true → b ≡ false
 not_true true h = sym h
 not_true false h = refl

@@ -6,11 +6,11 @@ use Rattle.ecs_model.specs.World.{last_index, next_among}
 use Rattle.entity_index.specs.Entities.{Entities, IsWellFormed, is_alive, built_in_entities, place_of}
 use Rattle.entity_index.specs.Entities as index
 use Rattle.ecs_archetypes.specs.Archetypes.{IsSound, meaning}
-use Rattle.ecs_archetypes.specs.Holdings.{first_holdings, upcoming}
+use Rattle.ecs_archetypes.specs.Holdings.{upcoming}
 use Rattle.table_store.specs.Rows.{IsStored, row_at, row_of}
-use Rattle.table_store.specs.Store.{Store, key_eq, shape_of, table_at}
+use Rattle.table_store.specs.Store.{Store, key_eq, table_at}
 use Rattle.std.specs.Option.{option_and_then}
-use Rattle.std.specs.List.{find, flat_map}
+use Rattle.std.specs.List.{find}
 
 -- the index and the holdings agree on which entity comes next
 pub same_next : (w : Entities) (s : Store) → w.last ≡ last_index → index.next_entity w ≡ upcoming (meaning w s)
@@ -38,6 +38,3 @@ sound_first w s e wf none stored = record {
   last = ap (λ u. u.last) e;
   placed = λ x p. apart (place_of w x) (option_map (λ r. r.0) (row_at s p)) p x (no_place w e x) (ap (option_map (λ r. r.0)) (no_row s none p));
 }
-
-pub meaning_first : (w : Entities) (s : Store) → w ≡ built_in_entities last_index → s.tables ≡ [] → meaning w s ≡ first_holdings
-meaning_first w s e none = ap (λ u. meaning u s) e ∙ ap (λ ts. record { live = first_holdings.live; deletions = []; cells = []; known = flat_map (λ e. shape_of e.1) ts }) none

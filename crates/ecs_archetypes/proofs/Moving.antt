@@ -15,13 +15,13 @@ use Rattle.ecs_table.specs.Archetype as table
 use Rattle.ecs_model.proofs.Maps.{both_true, to_T}
 use Rattle.entity_index.specs.Entities.{Entities, place_of}
 use Rattle.table_store.specs.Rows.{Cells, carried, row_at, shape_of_cells}
-use Rattle.table_store.specs.Store.{Shape, Store, changed_at, key_eq, moved_at, room_at, shape_at, table_at}
+use Rattle.table_store.specs.Store.{Shape, Store, key_eq, moved_at, room_at, shape_at, table_at}
 use Rattle.ecs_archetypes.specs.declared.plans.Move.{Move}
 use Rattle.ecs_archetypes.specs.Archetypes.{IsSound, meaning}
 use Rattle.ecs_archetypes.specs.Holdings.{HoldAlike, Holdings, cells_at, held_at, is_settled, lives, with_cells}
 use Rattle.ecs_archetypes.specs.Housing.{Housing, holdings_of}
 use Rattle.ecs_archetypes.specs.Moves.{AreReady, shape_in, with_all_moved, with_moved}
-use Rattle.ecs_archetypes.specs.Tables.{LeavesRoom, StandAlike, TakesRoom, one_in}
+use Rattle.ecs_archetypes.specs.Tables.{StandAlike, TakesRoom, one_in}
 use Rattle.ecs_archetypes.proofs.ArchetypeCalls.{cells_view, row_here}
 use Rattle.ecs_archetypes.proofs.Carried.{carried_self}
 use Rattle.ecs_archetypes.proofs.Known.{room_stands}
@@ -42,14 +42,6 @@ moved_room s n from to row t tables q = by (key_eq q to) (key_eq q from) (table_
     by false true None m e = omega arith
     by false true (Some u) m e = subst (λ z. u.room ≤ room_of z + 0) (sym e) (omega arith)
     by false false o m e = subst (λ z. room_of o ≤ room_of z + 0) (sym e) (omega arith)
-
-pub removed_room : (s n : Store) (from : TableKey) (row : ℕ) → ((q : TableKey) → table_at n q ≡ changed_at s from (λ t. without_row t row) q) → LeavesRoom s n
-removed_room s n from row tables q = by (key_eq q from) (table_at s q) (table_at n q) (tables q)
-  where
-    by : (b : Bool) (o m : Option Archetype) → m ≡ cond b (option_map (λ u. without_row u row) o) o → room_of o ≤ room_of m
-    by true None m e = omega arith
-    by true (Some u) m e = subst (λ z. u.room ≤ room_of z) (sym e) (omega arith)
-    by false o m e = subst (λ z. room_of o ≤ room_of z) (sym e) (omega arith)
 
 put_same : (i : ℕ) (v : Cells) (m : List (ℕ × Cells)) → is_sorted nat_cmp m ≡ true → find nat_cmp i m ≡ Some v → m ≡ put nat_cmp i v m
 put_same i v m s at = same_entries nat_cmp nat_cmp_total nat_cmp-IsAntisymmetric m (put nat_cmp i v m) (to_T (is_sorted nat_cmp m) s) (is_sorted-put nat_cmp nat_cmp_total i v m (to_T (is_sorted nat_cmp m) s))
@@ -106,9 +98,6 @@ pub record AreCarried (before : Housing) (moves : List Move) (now : Housing) (re
   pub held : HoldAlike (with_all_moved before.tables rest (holdings_of now)) (with_all_moved before.tables moves (holdings_of before))
   pub alike : StandAlike before.tables now.tables
 
-pub carried_none : (before : Housing) (moves : List Move) → AreReady before moves → AreCarried before moves before moves
-carried_none before moves ready = record { ready = ready; held = record { live = refl; deletions = refl; cells = refl }; alike = record { shapes = λ k. refl; last = refl } }
-
 -- the table of the next move has room
 pub next_room : (before now : Housing) (moves rest : List Move) (m : Move) → AreCarried before moves now (m ∷ rest) → 0 < room_at now.tables m.to
 next_room before now moves rest m so_far = let le = so_far.ready.room m.to in let one = itself m.to in omega (arith, le, one)
@@ -140,9 +129,6 @@ carried_more before now next moves rest m so_far held alike room =
 pub record AreShrunk (before now : Housing) : Type 0 where
   pub held : HoldAlike (holdings_of now) (holdings_of before)
   pub alike : StandAlike before.tables now.tables
-
-pub shrunk_none : (h : Housing) → AreShrunk h h
-shrunk_none h = record { held = record { live = refl; deletions = refl; cells = refl }; alike = record { shapes = λ k. refl; last = refl } }
 
 pub shrunk_more : (before now next : Housing) → AreShrunk before now → HoldAlike (holdings_of next) (holdings_of now) → StandAlike now.tables next.tables → AreShrunk before next
 shrunk_more before now next so_far held alike = record {

@@ -82,13 +82,6 @@ under_max a b c e = grind (arith, common_steps)
 
 -- a table that is found or made
 module _ (s n : Store) (key : TableKey) (f : Shape) (made : (q : TableKey) → table_at n q ≡ made_at s key (shaped f) q) (newest : IsNone (table_at s key) ↔ (s.last < key.serial)) (last : n.last ≡ max s.last key.serial) where
-  pub made_stands : (k : TableKey) (t : Archetype) → table_at s k ≡ Some t → table_at n k ≡ Some t
-  made_stands k t h = made k ∙ by (key_eq k key)
-    where
-      by : (b : Bool) → cond b (Some (unwrap_or (table_at s k) (shaped f))) (table_at s k) ≡ Some t
-      by true = ap (λ o. Some (unwrap_or o (shaped f))) h
-      by false = h
-
   -- under each key stands what stood there, or it is the new one's
   pub made_new : (k : TableKey) → (table_at n k ≡ table_at s k) ⊎ ((k ≡ key) × (table_at s key ≡ None) × (s.last < key.serial))
   made_new k = by (key_eq k key) (key_eq-tells k key).0 (table_at s k) refl (made k)
@@ -104,13 +97,6 @@ module _ (s n : Store) (key : TableKey) (f : Shape) (made : (q : TableKey) → t
     stood = λ k ids given h. either (made_new k) (λ same. ap (option_map (λ t. t.ids)) (sym same) ∙ h) (λ new. let later : s.last < k.serial = subst (λ z. s.last < z.serial) (sym new.0) new.2 in absurd (omega (arith, given, later)));
     last = under_max s.last key.serial n.last last;
   }
-
-  pub grown_made : ((p : Place) → row_at n p ≡ row_at s p) → HasGrown s n
-  grown_made rows = grown_by s n goes_on_made (λ k t h. (t, made_stands k t h, refl, omega arith)) rows
-
-  -- of a table that stood, the entry stands already
-  pub entered_found : (x : Entered) → AreEntered s x → (s.last < key.serial → ⊥) → AreEntered n x
-  entered_found x are old k = are k ∙ either (made_new k) (λ same. ap (option_map (λ t. t.ids)) (sym same)) (λ new. absurd (old new.2))
 
   -- of a new one it comes
   pub entered_made : (x y : Entered) (ids : List Id) → AreEntered s x → y ≡ finite.insert x key ids → ids_at n key ≡ Some ids → AreEntered n y
@@ -151,11 +137,6 @@ made_empty s n key f is m new =
 
 -- tables that are the same, under serials that may have been given
 module _ (s n : Store) (same : (k : TableKey) → table_at n k ≡ table_at s k) (last : s.last ≤ n.last) (rows : (p : Place) → row_at n p ≡ row_at s p) where
-  pub grown_back : HasGrown s n
-  grown_back = grown_by s n (record { stood = λ k ids given h. ap (option_map (λ t. t.ids)) (sym (same k)) ∙ h; last = last }) (λ k t h. (t, same k ∙ h, refl, omega arith)) rows
-
-  pub entered_back : (x : Entered) → AreEntered s x → AreEntered n x
-  entered_back x are k = are k ∙ ap (option_map (λ t. t.ids)) (sym (same k))
 
 abbrev roomier : ℕ → Archetype → Archetype
 roomier more t = record t { room = max t.room more }

@@ -67,16 +67,6 @@ module _ (w : WorldState) (changed : Changed) (h : Held) (not_locally : is_told_
   of_monitor : h.kind ≡ Monitor → told_to w changed h ≡ told_since w changed h.name h.kind h.query h.these
   of_monitor m = ap (λ b. told_since w changed h.name h.kind h.query (if b then matching (view_before w changed) h.query else h.these)) (isnt_local h not_locally m)
 
-  of_other : is_monitor h.kind ≡ false → told_to w changed h ≡ told_since w changed h.name h.kind h.query h.these
-  of_other = same_told w changed h.name h.query h.kind (rows_before w changed h) h.these
-
-  pub told_of_held : told_to w changed h ≡ told_since w changed h.name h.kind h.query h.these
-  told_of_held = by (is_monitor h.kind) refl
-    where
-      by : (b : Bool) → is_monitor h.kind ≡ b → told_to w changed h ≡ told_since w changed h.name h.kind h.query h.these
-      by true m = of_monitor (monitor_is h.kind m)
-      by false m = of_other m
-
 -- both views ascend
 pub before_ascends : (w : WorldState) (changed : Changed) → IsAfter w changed → IsStrictlyIncreasing (view_before w changed).entities
 before_ascends w changed after =

@@ -32,9 +32,6 @@ use Rattle.ecs_observe.specs.declared.stored.StoredQuery.{StoredQuery}
 use Rattle.ecs_observe.proofs.Answering.{matching_ascends}
 use Rattle.ecs_observe.proofs.Staying.{told_now, with_rows_told}
 
-none_is_not_some : {X : Type 0} {x : X} → None ≡ Some x → ⊥
-none_is_not_some e = cc
-
 -- ---- one stored query more
 module _ {A X : Type 0} (f : X → List A) where
   flat_more : (xs : List X) (i : ℕ) (x : X) → slice_get xs i ≡ Some x → flat_map f (take (suc i) xs) ≡ flat_map f (take i xs) ++ f x
@@ -54,13 +51,6 @@ module _ {X Y : Type 0} (f : X → Y) where
   map_more [] i x h = cc
   map_more (y ∷ ys) zero x h = let same : y ≡ x = cc in ap (λ z. f z ∷ []) same
   map_more (y ∷ ys) (suc i) x h = ap (λ zs. f y ∷ zs) (map_more ys i x h)
-
-  -- the same of what is one for each
-  pub mapped_more : (start done more : List Y) (xs : List X) (i : ℕ) (x : X) → slice_get xs i ≡ Some x
-      → done ≡ start ++ map f (take i xs) → more ≡ done ++ f x ∷ [] → more ≡ start ++ map f (take (i + 1) xs)
-  mapped_more start done more xs i x h so e =
-      let step : map f (take (i + 1) xs) ≡ map f (take i xs) ++ f x ∷ [] = rw add-one (map_more xs i x h) in
-      e ∙ (ap (λ d. d ++ f x ∷ []) so ∙ (append_assoc start (map f (take i xs)) (f x ∷ []) ∙ ap (λ zs. start ++ zs) (sym step)))
 
 module _ {A : Type 0} where
   -- a stored query in a map is among what is held

@@ -235,7 +235,3 @@ data_filtered f (i ∷ ids) =
       | true ↦ ap {B = List Id} (λ l. i ∷ l) (data_filtered f ids)
       | false ↦ data_filtered f ids
     ]
-
--- of ids that rise, those with data are those whose values have bytes
-pub data_ids_are : (t : Archetype) → IsSound t → IsTrue (is_sorted id_cmp (shape_of t)) → t.data_ids ≡ filter (λ i. nat_lt 0 (byte_size t i)) t.ids
-data_ids_are t h rise = h.with_data ∙ ap (λ f. map (λ c. c.0) (filter (λ c. nat_lt 0 c.1) f)) (sym (shape_is t h rise)) ∙ data_filtered (byte_size t) t.ids

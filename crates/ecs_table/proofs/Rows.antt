@@ -18,7 +18,7 @@ use Rattle.ecs_table.proofs.Soundness.{columns_paired, sizes_each, sizes_paired,
 use Rattle.ecs_table.proofs.Stored.{size_found, value_found}
 use Rattle.raw_column.specs.Contents.{with_item, with_zero, without_item}
 use Rattle.raw_column.specs.Places.{Values}
-use Rattle.ecs_table.specs.Archetype.{Archetype, Cells, HaveEqualSizes, HaveOneSize, IsSound, byte_size, carried, cells_of, empty_table, entity_at, fitting, ids_with_data, index_in, moved_into, no_entity, row_of, shape_of, size_of, value_of, values_at, with_cell, with_item_in, with_last, with_moved, with_row, with_value, without_row, zero_cells, no_values}
+use Rattle.ecs_table.specs.Archetype.{Archetype, Cells, HaveEqualSizes, HaveOneSize, IsSound, byte_size, carried, cells_of, entity_at, fitting, ids_with_data, index_in, moved_into, no_entity, row_of, shape_of, size_of, value_of, values_at, with_cell, with_item_in, with_last, with_moved, with_row, with_value, without_row, zero_cells, no_values}
 
 -- where an id stands among others
 pub index_says : (ids : List Id) (i : Id) (k : ℕ) (d : Id) → index_in ids i ≡ Some k → (k < length ids) × (get_or ids k d ≡ i)
@@ -375,10 +375,6 @@ sound_with_value t row i bytes lt sized h = elim (index_cases t.data_ids i) [
       subst IsSound (sym (set_at t row k i bytes w.1)) (sound_with_item t row k bytes within lt long h)
 ]
 
--- each row has a cell of the right size for each id
-pub shape_of_row : (t : Archetype) (r : ℕ) → r < length t.entities → IsSound t → map (λ c. (c.0, length c.1)) (cells_of t r) ≡ shape_of t
-shape_of_row t r lt h = map_fused (λ c. (c.0, length c.1)) (λ i. (i, unwrap_or (value_of t r i) [])) t.ids ∙ (λ p. map (λ i. (i, cell_size t r i lt h p)) t.ids)
-
 -- ---- look-ups by id in what a table gives
 -- the cell of an id in a row
 pub found_in_row : (t : Archetype) (r : ℕ) (i : Id) → IsListed i t.ids → find id_cmp i (cells_of t r) ≡ Some (unwrap_or (value_of t r i) [])
@@ -388,26 +384,8 @@ found_in_row t r i listed = find_listed (λ j. unwrap_or (value_of t r j) []) t.
 pub found_in_shape : (t : Archetype) (i : Id) → IsListed i t.ids → find id_cmp i (shape_of t) ≡ Some (byte_size t i)
 found_in_shape t i listed = find_listed (byte_size t) t.ids i listed
 
-pub not_in_row : (t : Archetype) (r : ℕ) (i : Id) → list_any (id_eq i) t.ids ≡ false → find id_cmp i (cells_of t r) ≡ None
-not_in_row t r i none = find_unlisted (λ j. unwrap_or (value_of t r j) []) t.ids i none
-
 pub not_in_shape : (t : Archetype) (i : Id) → list_any (id_eq i) t.ids ≡ false → find id_cmp i (shape_of t) ≡ None
 not_in_shape t i none = find_unlisted (byte_size t) t.ids i none
-
--- what is found with bytes is the value, and a size that is found and is not 0 is the size of the values
-pub value_from_row : (t : Archetype) (r : ℕ) (i : Id) (n : ℕ) (bytes : List ℕ) → find id_cmp i (cells_of t r) ≡ Some (n ∷ bytes) → value_of t r i ≡ Some (n ∷ bytes)
-value_from_row t r i n bytes e =
-    elim (list_any (id_eq i) t.ids) as (λ b. list_any (id_eq i) t.ids ≡ b → value_of t r i ≡ Some (n ∷ bytes)) [
-      | true ↦ λ listed. value_read (value_of t r i) n bytes (same_Some (unwrap_or (value_of t r i) []) (n ∷ bytes) (sym (found_in_row t r i listed) ∙ e))
-      | false ↦ λ none. absurd (none-some (n ∷ bytes) (sym (not_in_row t r i none) ∙ e))
-    ] refl
-  where
-    value_read : (o : Option (List ℕ)) (n : ℕ) (bytes : List ℕ) → unwrap_or o [] ≡ n ∷ bytes → o ≡ Some (n ∷ bytes)
-    value_read None n bytes e = absurd (zero_less (ap length e))
-      where
-        zero_less : 0 ≡ suc (length bytes) → ⊥
-        zero_less h = omega arith
-    value_read (Some b) n bytes e = ap Some e
 
 pub size_from_shape : (t : Archetype) (i : Id) (n : ℕ) → 0 < n → find id_cmp i (shape_of t) ≡ Some n → size_of t i ≡ Some n
 size_from_shape t i n some e =
@@ -421,14 +399,6 @@ size_from_shape t i n some e =
     size_read (Some m) n some e = ap Some e
 
 -- ---- what is left as it is, and who filled a gap
-pub row_of_reserved : (t : Archetype) (n r : ℕ) → row_of (record t { room = n }) r ≡ row_of t r
-row_of_reserved t n r = refl
-
-pub shape_of_reserved : (t : Archetype) (n : ℕ) → shape_of (record t { room = n }) ≡ shape_of t
-shape_of_reserved t n = refl
-
-pub row_of_new : (ids : List Id) (sizes : List ℕ) (r : ℕ) → row_of (empty_table ids sizes) r ≡ None
-row_of_new ids sizes r = refl
 
 pub entity_of_row : (t : Archetype) (r : ℕ) → option_map (λ v. v.0) (row_of t r) ≡ slice_get t.entities r
 entity_of_row t r = elim (slice_get t.entities r) as (λ o. option_map {U = EntityId} (λ v. v.0) (option_map {U = EntityId × Cells} (λ e. (e, cells_of t r)) o) ≡ o) [ None ↦ refl | Some e ↦ refl ]
@@ -462,9 +432,6 @@ byte_size_small t i h = elim (index_cases t.data_ids i) [
 -- ---- sizes alone, of whatever table
 pub size_of_appended : (t : Archetype) (e : EntityId) (i : Id) → size_of (with_row t e) i ≡ size_of t i
 size_of_appended t e = size_kept (with_row t e) t refl (sizes_each with_zero (λ v. refl) t.columns)
-
-pub size_of_removed : (t : Archetype) (row : ℕ) (i : Id) → size_of (without_row t row) i ≡ size_of t i
-size_of_removed t row = size_kept (without_row t row) t refl (sizes_each (without_item row) (λ v. refl) t.columns)
 
 sizes_with_item : (cs : List Values) (k row : ℕ) (bytes : List ℕ) (v : Values) → (k < length cs → v.size ≡ (values_at cs k).size) → map (λ w. w.size) (slice_set cs k v) ≡ map (λ w. w.size) cs
 sizes_with_item cs k row bytes v same = elim (cases_lt k (length cs)) [

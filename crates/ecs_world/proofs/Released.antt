@@ -222,9 +222,6 @@ module _ {X : Type 0} (goes : X → Id → Bool) (xs : List X) (g : Housing) whe
   abbrev pub IsLeftTo : ℕ → Housing → Type 0
   IsLeftTo n h = AreLeft (λ i. list_any (λ x. goes x i) (take n xs)) g h
 
-  pub left_first : IsHoused g → IsLeftTo 0 g
-  left_first whole = left_none g whole
-
   pub left_next : (n : ℕ) (d x : X) (h k : Housing) → n < length xs → x ≡ get_or xs n d → IsLeftTo n h → AreLeft (goes x) h k → IsLeftTo (n + 1) k
   left_next n d x h k within is so_far now =
       left_fewer (λ i. list_any (λ y. goes y i) (take n xs) || goes x i) (λ i. list_any (λ y. goes y i) (take (n + 1) xs)) g k

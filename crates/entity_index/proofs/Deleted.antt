@@ -1,9 +1,8 @@
 -- What `delete` does to the fields.
-use Rattle.std.proofs.Common.{◌≡◌, ℕ, ◌+◌, ◌≤◌, ◌<◌, true, false, not, ◌&&◌, ◌⊎◌, inl, inr, eqb, List, ◌∷◌, length, set, get_or, Option, Some, None, is_some, refl, sym, ap, subst, ◌∙◌, arith, true≢false}
+use Rattle.std.proofs.Common.{◌≡◌, ℕ, ◌+◌, ◌≤◌, ◌<◌, true, false, ◌&&◌, ◌⊎◌, eqb, List, ◌∷◌, length, set, get_or, Option, Some, None, is_some, refl, sym, ap, subst, ◌∙◌, arith, true≢false}
 use Rattle.std.proofs.lemmas.List.{get_or_default}
 use Rattle.std.specs.Option.{option_eq}
 use Rattle.std.specs.Ordering.{nat_cmp}
-use Rattle.std.specs.FinMap.{find}
 use Rattle.std.specs.BinaryHeap.{heap_items, heap_len, heap_capacity, KeepsHeap}
 use Rattle.std.specs.List.Sorted.{IsPermutation}
 use Rattle.std.specs.declared.collections.binary_heap.BinaryHeap.{BinaryHeap}
@@ -11,8 +10,8 @@ use Rattle.std.specs.declared.cmp.Reverse.{Reverse}
 use Rattle.ecs_id.specs.declared.EntityId.{EntityId}
 use Rattle.ecs_id.specs.declared.Place.{Place}
 use Rattle.entity_index.specs.declared.slot.Slot.{Slot}
-use Rattle.ecs_model.specs.World.{first_index, is_built_in}
-use Rattle.entity_index.specs.Entities.{Entities, is_alive, is_deletable, without_entity, IsWellFormed}
+use Rattle.ecs_model.specs.World.{first_index}
+use Rattle.entity_index.specs.Entities.{Entities, is_alive, without_entity}
 use Rattle.entity_index.specs.Slots.{unused, generations, slot_at, meaning, IsSound}
 use Rattle.entity_index.proofs.EntryLists.{Changes-set}
 use Rattle.entity_index.proofs.Meanings.{meaning-deleted}
@@ -24,16 +23,6 @@ module _ (w : Entities) (e : EntityId) where
   live_at : (o : Option ℕ) → option_eq eqb o (Some e.generation) ≡ true → is_some o ≡ true
   live_at None h = absurd (true≢false (sym h))
   live_at (Some g) h = refl
-
-  pub not_deletable_below : IsWellFormed w → is_alive w e ≡ true → e.index < first_index → false ≡ is_deletable w e
-  not_deletable_below well alive below = by (well.given_out e.index (live_at (find nat_cmp e.index w.live) alive))
-    where
-      by : {A : Type 0} → (is_built_in e.index ≡ true) ⊎ ((first_index ≤ e.index) × A) → false ≡ is_deletable w e
-      by (inl built_in) = sym (λ k. alive k && not (built_in k))
-      by (inr h) = absurd (omega (arith, h.0))
-
-  pub not_deletable_dead : is_alive w e ≡ false → false ≡ is_deletable w e
-  not_deletable_dead dead = sym (ap (λ b. b && not (is_built_in e.index)) dead)
 
 module _ {Z : Type 0} (slots : List Slot) (places : List (Option Place)) (heap : BinaryHeap (Reverse ℕ) Z) (last : ℕ) (sound : IsSound slots places heap last) (e : EntityId) (alive : is_alive (meaning slots places last) e ≡ true) (s : Slot) (is : s ≡ get_or slots e.index s) where
   within : e.index < length slots

@@ -14,15 +14,18 @@ use std::alloc::{AllocError, Allocator, Global};
 use std::cmp::Reverse;
 use std::collections::BinaryHeap;
 use std::marker::Model;
+use thiserror::Error;
 
 const GENERATIONS: u32 = 65536;
 
 /// Why no entity was created.
-#[derive(Clone, Copy, Debug, PartialEq, Eq)]
+#[derive(Clone, Copy, Debug, PartialEq, Eq, Error)]
 pub enum CreateError {
     /// No index is left.
+    #[error("no index is left")]
     Full,
     /// A growth was refused.
+    #[error("out of memory")]
     Memory,
 }
 

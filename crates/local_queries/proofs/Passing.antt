@@ -32,10 +32,6 @@ module _ (this : ℕ) (ids : List Id) where
   first_joined [] = refl
   first_joined (l ∷ ls) = refl
 
-  item_next : (b : Bool) (depth : ℕ) (l : Level) (ls : List Level) → up_from (not (b && level_holds l)) depth ls ≡ value (with_item b (suc depth)) (l ∷ ls)
-  item_next true depth l ls = refl
-  item_next false depth l ls = refl
-
   item_next_top : (b : Bool) (ls : List Level) → (b && level_holds (joined ls)) ≡ value (with_item b zero) ls
   item_next_top true ls = refl
   item_next_top false ls = refl

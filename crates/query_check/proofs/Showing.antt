@@ -28,9 +28,6 @@ pub record IsShowing (pieces : List Piece) (i number depth : ℕ) (now : List �
   pub few : (number ≤ i) × (depth ≤ i)
   pub left : now ++ shown_from number (entries_from number around (drop i pieces)) ≡ shown_from 0 (entries_from 0 [] pieces)
 
-pub none_shown : (pieces : List Piece) → IsShowing pieces 0 0 0 []
-none_shown pieces = record { around = []; deep = refl; positive = tt; few = (omega arith, omega arith); left = refl }
-
 pub all_shown : (pieces : List Piece) (i number depth : ℕ) (now : List ℕ) → IsShowing pieces i number depth now → length pieces ≤ i → now ≡ shown_from 0 (entries_from 0 [] pieces)
 all_shown pieces i number depth now s h =
     sym (append-nil now) ∙ ap (λ l. now ++ shown_from number (entries_from number s.around l)) (sym (drop_all i pieces h)) ∙ s.left

@@ -1,8 +1,6 @@
 -- Lemmas on reading one token after another.
-use Rattle.std.proofs.Common.{◌≡◌, ℕ, zero, suc, Bool, false, sym, one-add, ◌+◌, ◌-◌, ◌<◌, ◌≤◌, true, List, [], ◌∷◌, All, length, get_or, take, drop, arith, refl, ap, ◌∙◌, Some, None, Ok, subst, length-drop, length-take}
-use Rattle.std.specs.List.{prefix_len, find}
-use Rattle.std.proofs.lemmas.List.{drop_more}
-use Rattle.query_model.specs.declared.Mark.{Mark}
+use Rattle.std.proofs.Common.{◌≡◌, ℕ, zero, suc, sym, one-add, ◌+◌, ◌-◌, ◌<◌, ◌≤◌, true, List, [], ◌∷◌, All, length, get_or, take, drop, arith, refl, ap, ◌∙◌, Some, None, Ok, subst, length-drop, length-take}
+use Rattle.std.specs.List.{prefix_len}
 use Rattle.std.specs.Str.{IsUtf8, IsCharBoundary}
 use Rattle.std.proofs.lemmas.List.{get_or-take, get_or-drop}
 use Rattle.std.proofs.lemmas.List.Sums.{prefix_len_passes}
@@ -21,11 +19,6 @@ name_byte_is_ascii b e = grind (arith, nat_tests)
 -- a letter may stand in a name
 pub letter_is_name_byte : (b : ℕ) → is_letter b ≡ true → is_name_byte b ≡ true
 letter_is_name_byte b e = grind (arith, nat_tests)
-
--- what begins with a letter has a name of one byte or more at its front
-pub name_is_not_empty : (xs : List ℕ) → 0 < length xs → is_letter (get_or xs 0 0) ≡ true → 0 < prefix_len is_name_byte xs
-name_is_not_empty [] l e = absurd (omega arith)
-name_is_not_empty (b ∷ bs) l e = let t : is_name_byte b ≡ true = letter_is_name_byte b e in rw t (omega arith)
 
 -- the bytes of a name are ASCII
 pub name_is_ascii : (xs : List ℕ) → All (λ byte. byte < 128) (take (prefix_len is_name_byte xs) xs)
@@ -99,10 +92,3 @@ variable_is_ascii (b ∷ bs) len l e m =
     behind_first : (b : ℕ) (ys : List ℕ) → b < 128 → All (λ byte. byte < 128) ys → All (λ byte. byte < 128) (b ∷ ys)
     behind_first b ys small all zero d h = small
     behind_first b ys small all (suc k) d h = all k d (omega arith)
-
--- an element at which no test passes is passed over
-pub find_more : (p : Mark → Bool) (xs : List Mark) (i : ℕ) (d : Mark) → i < length xs → p (get_or xs i d) ≡ false → find p (drop i xs) ≡ find p (drop (i + 1) xs)
-find_more p xs i d l e = ap (find p) (drop_more xs i d l) ∙ by_test (get_or xs i d) (drop (i + 1) xs) e
-  where
-    by_test : (x : Mark) (ys : List Mark) → p x ≡ false → find p (x ∷ ys) ≡ find p ys
-    by_test x ys fails = rw fails refl

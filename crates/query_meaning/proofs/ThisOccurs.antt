@@ -160,9 +160,6 @@ risen_is_other : (path : Path) (r : Option Reference) → is_word_if_written r �
 risen_is_other path None w e = absurd (let x : false ≡ true = e in cc)
 risen_is_other path (Some r) w e = word_is_other path r.spoken r.span w e
 
-none_says : (b : Bool) → (false || b) ≡ true → b ≡ true
-none_says b e = e
-
 module _ (k : Known) (all : List Sighting) (vs : List Variable) (first : number_from 0 (this, 0) vs ≡ 0) where
   owner_of_this : (path : Path) → owner all this path ≡ 0
   owner_of_this path = refl

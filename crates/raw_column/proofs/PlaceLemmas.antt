@@ -271,19 +271,8 @@ filled_upto n c d le ge ss bs all k lt =
     let front : c * sum (take k ss) ≤ c * sum ss = mul-le-mul_left c (sum_by-take-le (λ n. n) ss k) in
     length_resized n c d le ge (take k ss) bs (omega arith) ∙ omega (arith, place_is d ss k 0 lt)
 
-pub filled_fits : (n d : ℕ) → n ≤ d → (ss : List ℕ) (k : ℕ) → k < length ss → place_of d ss k 0 + n * get_or ss k 0 + (d - n) * get_or ss k 0 ≤ d * sum ss
-filled_fits n d ge ss k lt =
-    let t = get_or ss k 0 in let r : ℕ = d - n in let both : n + r ≡ d = omega arith in let start : 0 + d ≡ d = omega arith in
-    let parts : n * t + r * t ≡ d * t = sym (add-mul n r t) ∙ ap (λ k. k * t) both in
-    let whole : place_of d ss k d ≡ place_of d ss k 0 + d * t = ap (place_of d ss k) (sym start) ∙ place_next d ss k 0 d lt in
-    omega (arith, place_within d ss k d lt (omega arith))
-
 pub resized_all : (n c d : ℕ) → n ≤ c → n ≤ d → (ss bs : List ℕ) → length bs ≡ c * sum ss → length (resized n c d ss bs) ≡ d * sum ss
 resized_all n c d le ge ss bs all = length_resized n c d le ge ss bs (omega arith)
-
--- a column's values of the first n rows
-pub kept_bytes : (c : ℕ) (ss : List ℕ) (k n : ℕ) → k < length ss → place_of c ss k n ≡ place_of c ss k 0 + n * get_or ss k 0
-kept_bytes c ss k n lt = let start : 0 + n ≡ n = omega arith in ap (place_of c ss k) (sym start) ∙ place_next c ss k 0 n lt
 
 -- without bytes there are no columns
 pub no_columns : (c : ℕ) (ss : List ℕ) → 0 < c → ((k : ℕ) → k < length ss → 0 < slice_index ss k) → c * sum ss ≡ 0 → ss ≡ []

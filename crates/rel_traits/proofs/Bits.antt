@@ -1,5 +1,5 @@
 -- A set's bits say which traits are held.
-use Rattle.std.proofs.Common.{◌≡◌, ◌≢◌, ℕ, zero, suc, ◌+◌, ◌*◌, ◌^◌, ◌≤◌, ◌<◌, ◌==◌, Bool, true, false, ◌||◌, cond, List, [], ◌∷◌, ◌++◌, length, get_or, take, Some, None, refl, sym, ap, ap₂, subst, take_all, ◌∙◌, arith}
+use Rattle.std.proofs.Common.{◌≡◌, ◌≢◌, ℕ, zero, suc, ◌+◌, ◌*◌, ◌^◌, ◌≤◌, ◌<◌, ◌==◌, Bool, true, false, ◌||◌, cond, List, [], ◌∷◌, ◌++◌, length, get_or, take, refl, sym, ap, ap₂, subst, take_all, ◌∙◌, arith}
 use Rattle.std.specs.Prelude.{max}
 use Rattle.std.specs.Int.{bit_at}
 use Rattle.std.proofs.Math.Nat.{pow-suc}
@@ -8,8 +8,7 @@ use Rattle.std.proofs.lemmas.Bool.Decides.{nat_tests}
 use Rattle.std.proofs.lemmas.List.{take_more}
 use Rattle.std.proofs.lemmas.List.Folds.{list_any-append}
 use Rattle.std.proofs.lemmas.Nat.Bits.{and_pow, bit_at_or, bit_at-pow_other, bit_at-pow_same, bit_at-zero}
-use Rattle.std.proofs.lemmas.Option.{same_Some}
-use Rattle.ecs_id.specs.Id.{Id, plain, pair, first_of, second_of, target_or_zero, id_eq, id_eq_apart}
+use Rattle.ecs_id.specs.Id.{Id, plain, pair, first_of, target_or_zero, id_eq, id_eq_apart}
 use Rattle.ecs_model.specs.Links.{is_held}
 use Rattle.rel_traits.specs.TraitBits.{bit_if, bits_from, trait_ids}
 
@@ -178,14 +177,6 @@ no_pair_bits r t hdd hdp htd htp hi hn = no_bits (pair r t) 0 trait_ids (
     ),
   ),
 )
-
-pub plain_again : (i : Id) → second_of i ≡ None → i ≡ plain (first_of i)
-plain_again (plain c) h = refl
-plain_again (pair r t) h = absurd cc
-
-pub pair_again : (i : Id) (t : ℕ) → second_of i ≡ Some t → i ≡ pair (first_of i) t
-pair_again (plain c) t h = absurd cc
-pair_again (pair r u) t h = ap (pair r) (same_Some u t h)
 
 pub tells : (held : List Id) (b n : ℕ) → HasBitsOf held n → b < 13 → (bit_and n (2 ^ b) == 2 ^ b) ≡ is_held held (get_or trait_ids b (plain 0))
 tells held b n is l = tested n b (is_held held (get_or trait_ids b (plain 0))) (is b ∙ ap (bit_at (bits_from held 0 trait_ids)) (let z : b ≡ 0 + b = omega arith in z) ∙ bits_at held 0 trait_ids b (plain 0) (omega arith))

@@ -1,13 +1,6 @@
 -- How great a number of so many digits is.
-use Rattle.std.proofs.Common.{ℕ, ◌^◌, ◌<◌, ◌≤◌, List, length, arith}
-use Rattle.std.specs.Prelude.{IsTrue}
+use Rattle.std.proofs.Common.{ℕ, ◌^◌, ◌<◌, ◌≤◌, arith}
 use Rattle.std.proofs.Math.Nat.{pow-le-pow_right}
-use Rattle.std.proofs.lemmas.Bool.{and_parts, leb-true}
-use Rattle.ecs_model.specs.Text.{is_number}
-
--- a number has at most so many digits
-pub length-number : (most : ℕ) (bs : List ℕ) → IsTrue (is_number 1 most bs) → length bs ≤ most
-length-number most bs h = leb-true (length bs) most (and_parts _ _ h).1
 
 -- what is below a power of ten is below the greater ones
 pub below_power : (n i k : ℕ) → n < 10 ^ i → i ≤ k → n < 10 ^ k

@@ -5,19 +5,13 @@ use Rattle.std.specs.List.{list_any, position_or_len, before_first, after_first}
 use Rattle.std.proofs.lemmas.Bool.{cases_Bool, eqb-true, false_from_ne_true}
 use Rattle.std.proofs.lemmas.List.{drop_all}
 use Rattle.ecs_model.specs.Text.{is_blank, trim_front, trimmed}
-use Rattle.ecs_model.specs.Orders.{EntityRef, IdRef, by_name, plain_of}
-use Rattle.ecs_model.specs.Script.{handle_of, id_and_rest, is_apart, pair_and_rest, pair_in, pair_ref, reference_of}
-use Rattle.script_line.specs.Line.{ends_reference, word_read}
+use Rattle.ecs_model.specs.Orders.{EntityRef, IdRef, plain_of}
+use Rattle.ecs_model.specs.Script.{id_and_rest, is_apart, pair_and_rest, pair_in, pair_ref, reference_of}
+use Rattle.script_line.specs.Line.{word_read}
 
 -- a text that doesn't begin with a byte
 pub begins_not : (c b : ℕ) (bs : List ℕ) → ((rest : List ℕ) → b ∷ bs ≢ c ∷ rest) → (b == c) ≡ false
 begins_not c b bs p = false_from_ne_true (b == c) (λ e. p bs (ap (λ x. x ∷ bs) (eqb-true b c e)))
-
--- a name
-pub name_read : (bs : List ℕ) → list_any ends_reference bs ≡ false → bs ≢ [] → ((rest : List ℕ) → bs ≢ 35 ∷ rest) → Some (by_name bs) ≡ reference_of bs
-name_read [] h n p = absurd (n refl)
-name_read (b ∷ bs) h n p =
-    sym (ap (λ v. if v then None else if b == 35 then handle_of bs else Some (by_name (b ∷ bs))) h ∙ ap (λ v. if v then handle_of bs else Some (by_name (b ∷ bs))) (begins_not 35 b bs p))
 
 -- f behind g
 both_mapped : {A B C : Type 0} (g : A → B) (f : B → C) (o : Option A) → option_map f (option_map g o) ≡ option_map (λ x. f (g x)) o

@@ -1,5 +1,5 @@
 -- Lists that are read item by item, where each item has to be readable.
-use Rattle.std.proofs.Common.{◌≡◌, List, [], ◌∷◌, ◌++◌, Option, Some, None, option_map, option_and_then, refl, ap, ◌∙◌, sym, append_assoc, append-nil}
+use Rattle.std.proofs.Common.{◌≡◌, List, [], ◌∷◌, ◌++◌, Option, Some, None, option_map, option_and_then, refl, ap, ◌∙◌, sym, append_assoc}
 use Rattle.ecs_model.specs.Script.{all_of}
 
 -- xs give what was read, ys, and then what the rest gives
@@ -23,11 +23,3 @@ next_item f xs ys rest x behind o h e fx =
 -- one item more
 pub read_more : {A B : Type 0} (f : A → Option B) (xs : List A) (ys : List B) (rest : List A) (x : A) (behind : List A) (y : B) → IsReadSoFar f xs ys rest → rest ≡ x ∷ behind → f x ≡ Some y → IsReadSoFar f xs (ys ++ y ∷ []) behind
 read_more f xs ys rest x behind y h e fx = next_item f xs ys rest x behind (Some y) h e fx ∙ joined ys y (all_of f behind)
-
--- an item that can't be read
-pub read_fails : {A B : Type 0} (f : A → Option B) (xs : List A) (ys : List B) (rest : List A) (x : A) (behind : List A) → IsReadSoFar f xs ys rest → rest ≡ x ∷ behind → f x ≡ None → all_of f xs ≡ None
-read_fails f xs ys rest x behind h e fx = next_item f xs ys rest x behind None h e fx
-
--- all is read
-pub read_all : {A B : Type 0} (f : A → Option B) (xs : List A) (ys : List B) (rest : List A) → IsReadSoFar f xs ys rest → rest ≡ [] → all_of f xs ≡ Some ys
-read_all f xs ys rest h e = h ∙ ap (λ r. option_map (λ zs. ys ++ zs) (all_of f r)) e ∙ ap Some (append-nil ys)

@@ -1,13 +1,8 @@
-//! How the keys of indexes are hashed that scripts choose, or that are made of serials.
+//! How the keys of indexes are hashed that scripts choose.
 //!
 //! ```text
 //! let hashing = Hashing::new(RandomState::new(&rt)?);
-//!
-//! // keys that are made of what a script chooses
 //! let mut by_ids: IndexMap<Vec<Id>, u32, Hashing> = IndexMap::with_hasher(rt.alloc(), hashing);
-//!
-//! // keys that end with a number that no other key has, and that nobody chooses
-//! let mut by_key: IndexMap<TableKey, u32, SerialHashing> = IndexMap::with_hasher(rt.alloc(), hashing.of_serials());
 //! ```
 #![tactic(auto)]
 
@@ -36,11 +31,6 @@ impl Hashing {
             begun,
             secret: high << 64 | low,
         }
-    }
-
-    /// How keys are hashed then that end with a serial.
-    pub fn of_serials(self) -> SerialHashing {
-        SerialHashing { begun: self.begun }
     }
 }
 
@@ -79,49 +69,5 @@ impl Hasher for SecretHasher {
 
     fn write(&mut self, bytes: &[u8]) {
         self.folded.write(bytes);
-    }
-}
-
-/// Hashes keys that end with a serial, by one multiplication that begins with a secret number.
-///
-/// No two keys have one serial, and nobody chooses serials, since they are counted.
-#[derive(Clone, Copy)]
-pub struct SerialHashing {
-    begun: FoldHasher,
-}
-
-impl BuildHasher for SerialHashing {
-    type Hasher = LastHasher;
-
-    ghost build_hasher = { λ s. record { begun = s.begun; folded = s.begun } };
-
-    fn build_hasher(&self) -> LastHasher {
-        LastHasher {
-            begun: self.begun,
-            folded: self.begun,
-        }
-    }
-}
-
-/// Folds in what is written last alone: of a key that ends with a serial, the serial.
-#[derive(Clone, Copy)]
-pub struct LastHasher {
-    begun: FoldHasher,
-    folded: FoldHasher,
-}
-
-impl Hasher for LastHasher {
-    ghost write = { λ s bytes. record s { folded = folding.write s.begun bytes } };
-
-    ghost finish = { λ s. folding.finish s.folded };
-
-    fn finish(&self) -> u64 {
-        self.folded.finish()
-    }
-
-    fn write(&mut self, bytes: &[u8]) {
-        let mut last = self.begun;
-        last.write(bytes);
-        self.folded = last;
     }
 }

@@ -135,16 +135,9 @@ module _ (words more : List ℕ) (os : List Occasion) (set_all : AreSet words mo
       let parts = unset o h in
       drops o n ∙ (λ i. (keeps o n (λ j. parts.1 j && number == n) ∙ were o n parts.0) i && not (is_among os o && number == n))
 
-pub marked_less : (words : List ℕ) (os : List Occasion) (ls new : Listings) (number : ℕ) → AreMarked words ls → Drops ls new (is_among os) number → AreMarked words new
-marked_less words os ls new number were drops o n h = drops o n ∙ (λ i. were o n h i && not (is_among os o && number == n))
-
 -- where nothing is listed, no mark is needed
 pub none_marked : (words : List ℕ) (ls : Listings) → ls ≡ [] → AreMarked words ls
 none_marked words ls none o n h = ap (λ ms. is_listed ms o n) none
-
-pub nothing_listed : (ls : Listings) → length ls ≡ 0 → ls ≡ []
-nothing_listed [] e = refl
-nothing_listed (x ∷ ls) e = absurd (omega arith)
 
 -- what has no mark has no numbers
 pub unmarked : (words : List ℕ) (ls : Listings) → AreMarked words ls → (o : Occasion) → has words (mark_of o) ≡ false → listed ls o ≡ []

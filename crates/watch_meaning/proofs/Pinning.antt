@@ -1,24 +1,20 @@
 -- What a stored query more or less does to the counts of those whom stored queries mention.
-use Rattle.std.specs.Prelude.{◌≡◌, ℕ, ◌+◌, ◌-◌, ◌^◌, ◌<◌, ◌≤◌, ◌==◌, Bool, true, false, ◌||◌, List, [], ◌∷◌, All, count_by, fold, Option, Some, None, Ok, Err, cond, unwrap_or, if◌then◌else◌}
+use Rattle.std.specs.Prelude.{◌≡◌, ℕ, ◌+◌, ◌-◌, ◌^◌, ◌<◌, ◌≤◌, ◌==◌, Bool, true, false, ◌||◌, List, [], ◌∷◌, All, count_by, fold, Option, Some, None, Ok, Err, cond, if◌then◌else◌}
 use Rattle.std.specs.List.{list_any, list_all}
-use Rattle.std.specs.Cmp.{nat_cmp_total}
-use Rattle.std.specs.FinMap.{nat_cmp-IsAntisymmetric}
-use Rattle.std.specs.FinMap.Entries.{same_entries}
-use Rattle.std.specs.Ordering.{nat_cmp}
-use Rattle.std.proofs.Common.{refl, sym, ap, subst, ◌∙◌, arith, true≢false}
+use Rattle.std.proofs.Common.{refl, sym, ap, ◌∙◌, arith, true≢false}
 use Rattle.std.proofs.lemmas.Bool.Decides.{nat_tests}
 use Rattle.std.proofs.lemmas.List.Elements.{All-cons, All-nil, All-head, All-tail}
 use Rattle.ecs_id.specs.declared.EntityId.{EntityId}
 use Rattle.ecs_model.specs.declared.faults.Refusal.TheVariants.{Dead}
-use Rattle.ecs_model.specs.Map.{count_at, value_at}
+use Rattle.ecs_model.specs.Map.{count_at}
 use Rattle.ecs_model.specs.Query.{known_of}
-use Rattle.ecs_model.specs.World.{WorldState, is_alive, is_live}
+use Rattle.ecs_model.specs.World.{WorldState, is_alive}
 use Rattle.ecs_model.specs.rows.View.{view_of}
 use Rattle.ecs_model.specs.stored.Session.{pinned_by, unpinned_by}
 use Rattle.ecs_model.specs.traits.Keeps.{IsWellFormed}
 use Rattle.ecs_model.specs.traits.Pins.{most_pins, one_less, one_more, pin, unpin, with_pins}
-use Rattle.ecs_model.proofs.Maps.{both_true, of_some, to_T}
-use Rattle.ecs_model.proofs.Members.{eq_itself, eq_same}
+use Rattle.ecs_model.proofs.Maps.{both_true}
+use Rattle.ecs_model.proofs.Members.{eq_same}
 use Rattle.ecs_model.proofs.Reasons.{neither}
 use Rattle.ecs_model.proofs.traits.Kept.{refuted}
 use Rattle.ecs_model.proofs.traits.Pinned.{count-with_count, pins_keep}
@@ -206,23 +202,6 @@ module _ (w : WorldState) (h : IsWellFormed w) where
   abbrev if_counted : ℕ → Option ℕ
   if_counted n = cond (n == 0) None (Some n)
 
-  value_by_count : (i : ℕ) → value_at nat_cmp w.pins i ≡ if_counted (count_at w.pins i)
-  value_by_count i = by (value_at nat_cmp w.pins i) refl
-    where
-      positive : (n : ℕ) → 0 < n → (n == 0) ≡ false
-      positive n l = grind (arith, nat_tests)
-
-      by : (o : Option ℕ) → value_at nat_cmp w.pins i ≡ o → o ≡ if_counted (unwrap_or o 0)
-      by None e = refl
-      by (Some n) e =
-          let kept = of_some (λ n. (is_live w i ≡ true) × (0 < n) × (n < 2 ^ 64)) (value_at nat_cmp w.pins i) ((h.live).pins i) n e in
-          sym (ap (λ b. cond b None (Some n)) (positive n kept.1))
-
-pub same_pins : (w v : WorldState) → IsWellFormed w → IsWellFormed v → ((i : ℕ) → count_at w.pins i ≡ count_at v.pins i) → w.pins ≡ v.pins
-same_pins w v h k same =
-    same_entries nat_cmp nat_cmp_total nat_cmp-IsAntisymmetric w.pins v.pins (to_T _ (h.in_order).pins) (to_T _ (k.in_order).pins)
-    (λ i. value_by_count w h i ∙ (ap (λ n. cond (n == 0) None (Some n)) (same i) ∙ sym (value_by_count v k i)))
-
 -- ---- one more and one less
 
 back_of : (n : ℕ) → n + 1 < most_pins → one_less (one_more n) ≡ n
@@ -231,56 +210,6 @@ back_of n l = ap one_less (more_of n (omega (arith, l))) ∙ by (n + 1 == most_p
     by : (b : Bool) → (n + 1 == most_pins) ≡ b → cond b (n + 1) (n + 1 - 1) ≡ n
     by true e = absurd (omega (arith, l, eq_same (n + 1) most_pins e))
     by false e = omega arith
-
--- one more and then one less of those who live, each mentioned at most once, gives the world back, where no count comes to the greatest
-pub unpinned_pinned : (w : WorldState) (ms : List Mention) → IsWellFormed w → AreAlive w ms → ((i : ℕ) → times_in i ms ≤ 1) → ((i : ℕ) → mentions_index ms i ≡ true → count_at w.pins i + 1 < most_pins)
-    → unpinned_by (pinned_by w ms) ms ≡ w
-unpinned_pinned w ms h alive once small =
-    unpinned_alone v ms ∙ (λ j. record (pinned_alone w ms j) { pins = same j })
-  where
-    v : WorldState
-    v = pinned_by w ms
-
-    still : AreAlive v ms
-    still = subst (λ (u : WorldState). AreAlive u ms) (sym (pinned_alone w ms)) alive
-
-    by : (i : ℕ) (b : Bool) → mentions_index ms i ≡ b → cond b (one_less (cond b (one_more (count_at w.pins i)) (count_at w.pins i))) (cond b (one_more (count_at w.pins i)) (count_at w.pins i)) ≡ count_at w.pins i
-    by i true e = back_of (count_at w.pins i) (small i e)
-    by i false e = refl
-
-    counts : (i : ℕ) → count_at (unpinned_by v ms).pins i ≡ count_at w.pins i
-    counts i =
-        unpinned_once v ms i still (once i)
-        ∙ (ap (λ n. cond (mentions_index ms i) (one_less n) n) (pinned_once w ms i (once i)) ∙ by i (mentions_index ms i) refl)
-
-    same : (unpinned_by v ms).pins ≡ w.pins
-    same = same_pins (unpinned_by v ms) w (unpinned_well_formed ms v (pinned_well_formed ms w h alive)) h counts
-
--- the same of one entity
-pub unpin_pinned : (w : WorldState) (e : EntityId) → IsWellFormed w → is_alive w e ≡ true → count_at w.pins e.index + 1 < most_pins → unpin (with_pins w one_more e.index) e ≡ w
-unpin_pinned w e h alive small =
-    unpin_alive v e alive ∙ ap (λ p. record w { pins = p }) (same_pins (with_pins v one_less e.index) w left h counts)
-  where
-    v : WorldState
-    v = with_pins w one_more e.index
-
-    left : IsWellFormed (with_pins v one_less e.index)
-    left = subst IsWellFormed (unpin_alive v e alive) (pins_keep v e (pinned_one_well_formed w e h alive)).1
-
-    n : ℕ
-    n = count_at w.pins e.index
-
-    own : count_at v.pins e.index ≡ one_more n
-    own = count-with_count w.pins e.index (one_more n) e.index ∙ ap (λ b. cond b (one_more n) n) (eq_itself e.index)
-
-    by : (i : ℕ) (b : Bool) → (i == e.index) ≡ b → cond b (one_less (count_at v.pins e.index)) (cond b (one_more n) (count_at w.pins i)) ≡ count_at w.pins i
-    by i true s = ap one_less own ∙ (back_of n small ∙ ap (count_at w.pins) (sym (eq_same i e.index s)))
-    by i false s = refl
-
-    counts : (i : ℕ) → count_at (with_pins v one_less e.index).pins i ≡ count_at w.pins i
-    counts i =
-        count-with_count v.pins e.index (one_less (count_at v.pins e.index)) i
-        ∙ (ap (λ x. cond (i == e.index) (one_less (count_at v.pins e.index)) x) (count-with_count w.pins e.index (one_more n) i) ∙ by i (i == e.index) refl)
 
 -- ---- what a query asks stays
 

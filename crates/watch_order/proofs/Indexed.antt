@@ -65,12 +65,6 @@ module _ {X : Type 0} (number : X → ℕ) (occasions : X → List Occasion) whe
   none_above : (n : ℕ) (o : Occasion) (xs : List X) → All (λ x. number x < n) xs → list_any (looks n o) xs ≡ false
   none_above n o xs above = nobody n o xs (λ k d l. below_apart (number (get_or xs k d)) n (above k d l))
 
-  pub none_indexed : (xs : List X) → AreIndexed [] xs → (o : Occasion) (n : ℕ) → list_any (looks n o) xs ≡ false
-  none_indexed xs indexed o n = sym (indexed o n)
-
-  pub first_indexed : AreIndexed [] []
-  first_indexed o n = refl
-
   module _ (ls new : Listings) (xs : List X) where
     -- a number above all is listed for nothing
     pub free : AreIndexed ls xs → (n : ℕ) → All (λ x. number x < n) xs → (o : Occasion) → is_listed ls o n ≡ false

@@ -111,17 +111,6 @@ impl<V, A: Allocator> WatchOrder<V, A> {
         self.order.put(key, made);
     }
 
-    /// Forgets a value that was made ready.
-    pub fn forget(&mut self, key: &String<A>, made: &Boxed<V, A>)
-        requires open { IsOpen self.old made.now.value.name made.now.value.value (key.now, made.now) }
-        ensures same { self.new.order.made.items ≡ self.old.order.made.items }
-        ensures watched { IsWatched self.new }
-    {
-        let _ = key;
-        self.index
-            .leave(made.number, made.value.occasions.as_slice());
-    }
-
     /// Takes out the value of a name, with what it looks out for. It takes no memory.
     pub fn remove(&mut self, name: &str) -> Option<Boxed<V, A>>
         requires watched { IsWatched self.old }

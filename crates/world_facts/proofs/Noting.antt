@@ -11,10 +11,6 @@ known_with above words i word lt here known e = elim (cases_eq e i) [
   | inr b ↦ subst (λ w. IfSome (told w) (λ found. found ≡ above e)) (sym (get_or-set_other words i e word 0 b)) (known e)
 ]
 
--- a word that tells what was found tells what is found from an entity on
-pub tells_so : (o : Option (Option ℕ)) (found other : Option ℕ) → found ≡ other → IfSome o (λ f. f ≡ found) → IfSome o (λ f. f ≡ other)
-tells_so o found other e h = subst (λ x. IfSome o (λ f. f ≡ x)) e h
-
 -- what a word tells is found from its entity on
 pub tells : (above : ℕ → Option ℕ) (words : List ℕ) (e word : ℕ) (found : Option ℕ) (o : Option (Option ℕ)) → AreKnown above words → word ≡ get_or words e 0 → o ≡ told word → o ≡ Some found → found ≡ above e
 tells above words e word found o known at says is = subst (λ t. IfSome t (λ f. f ≡ above e)) (sym (ap told at) ∙ sym says ∙ is) (known e)

@@ -85,9 +85,6 @@ module _ {w : WorldState} {live : List ℕ} {ids : ℕ → List Id} (sees : Sees
   pub same_first : (p : Pattern) (r e : ℕ) → find (λ t. list_any (matches p) (ids t)) (line ids live r e) ≡ find (λ t. list_any (matches p) (ids_of w t)) (line (ids_of w) (entities w) r e)
   same_first p r e = λ i. find (λ t. list_any (matches p) (sym ids_same i t)) (line (sym ids_same i) (sym sees.live_are i) r e)
 
-  pub same_reach : (r s t : ℕ) → reaches ids live r s t ≡ reaches (ids_of w) (entities w) r s t
-  same_reach r s t = λ i. reaches (sym ids_same i) (sym sees.live_are i) r s t
-
   pub lives_same : (e : ℕ) → contains (entities w) e ≡ contains live e
   lives_same e = ap (λ es. contains es e) sees.live_are
 
@@ -101,6 +98,3 @@ module _ (l : Linked) (r e : ℕ) where
 
   pub above_none : contains (indexes l) e ≡ false → [] ≡ all_above l r e
   above_none dead = rw dead refl
-
-  pub below_none : contains (indexes l) e ≡ false → [] ≡ all_below l r e
-  below_none dead = rw dead refl

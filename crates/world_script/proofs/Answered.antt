@@ -1,5 +1,5 @@
 -- What is told of an answer, from what else is told of it.
-use Rattle.std.proofs.Common.{◌≡◌, ◌⊎◌, ◌==◌, ℕ, false, inl, inr, refl, sym, ◌∙◌, ap, subst}
+use Rattle.std.proofs.Common.{◌≡◌, ◌⊎◌, ◌==◌, ℕ, false, refl, sym, ◌∙◌, ap, subst}
 use Rattle.std.proofs.lemmas.Bool.{eqb-false}
 use Rattle.std.specs.Prelude.{Result, Ok, Err, IsErrAnd, OnErr, OnOk}
 use Rattle.script_streams.specs.declared.streams.Calls.{Calls}
@@ -27,14 +27,6 @@ FaultyAt-ok error old new answer told calm =
     let P : Result _ RunError → Type 0 = λ r. OnErr r ⊥ in
     (told calm).1 (λ e. subst P e tt)
 
--- calls that were calm stay so up to a call that tells more
-pub FaultyAt-behind : {T : Type 0} (error : RunError) (old mid new : Calls) (r : Result T RunError) → (IsCalm old → IsCalm mid) → FaultyAt error mid r new → FaultyAt error old r new
-FaultyAt-behind error old mid new r calm told = λ c. told (calm c)
-
--- and stay so where another fault is answered
-pub FaultyAt-other : {T : Type 0} (error : RunError) (old new : Calls) (r : Result T RunError) → ¬ (r ≡ Err error) → (IsCalm old → IsCalm new) → FaultyAt error old r new
-FaultyAt-other error old new r other calm = λ c. (λ e. absurd (other e), λ _. calm c)
-
 -- ---- faults that differ
 
 abbrev place : RunError → ℕ
@@ -50,14 +42,6 @@ apart a b differ e = eqb-false _ _ differ (ap place e)
 pub err_is : {T : Type 0} (P : RunError → Type 0) (r : Result T RunError) (e : RunError) → IsErrAnd r P → r ≡ Err e → P e
 err_is P r e told is = let Q : Result _ RunError → Type 0 = λ q. IsErrAnd q P in subst Q is told
 
-pub not_read : (e : RunError) → (e ≡ run.Memory) ⊎ (e ≡ run.Write) → ¬ (run.Read ≡ e)
-not_read e (inl memory) is = apart run.Read run.Memory refl (is ∙ memory)
-not_read e (inr write) is = apart run.Read run.Write refl (is ∙ write)
-
-pub not_too_long : (e : RunError) → (e ≡ run.Memory) ⊎ (e ≡ run.Write) → ¬ (run.TooLong ≡ e)
-not_too_long e (inl memory) is = apart run.TooLong run.Memory refl (is ∙ memory)
-not_too_long e (inr write) is = apart run.TooLong run.Write refl (is ∙ write)
-
 pub fill_read : (e : FillError) → run.Read ≡ run_error e → e ≡ fill.Read
 fill_read fill.Read is = refl
 fill_read fill.TooLong is = absurd (apart run.Read run.TooLong refl is)
@@ -65,14 +49,6 @@ fill_read fill.TooLong is = absurd (apart run.Read run.TooLong refl is)
 pub fill_too_long : (e : FillError) → run.TooLong ≡ run_error e → e ≡ fill.TooLong
 fill_too_long fill.Read is = absurd (apart run.TooLong run.Read refl is)
 fill_too_long fill.TooLong is = refl
-
-pub fill_not_memory : (e : FillError) → ¬ (run.Memory ≡ run_error e)
-fill_not_memory fill.Read is = apart run.Memory run.Read refl is
-fill_not_memory fill.TooLong is = apart run.Memory run.TooLong refl is
-
-pub fill_not_write : (e : FillError) → ¬ (run.Write ≡ run_error e)
-fill_not_write fill.Read is = apart run.Write run.Read refl is
-fill_not_write fill.TooLong is = apart run.Write run.TooLong refl is
 
 -- what holds of an error, where one is answered
 pub on_err_at : {T E : Type 0} (P : Type 0) (r : Result T E) (e : E) → r ≡ Err e → OnErr r P → P

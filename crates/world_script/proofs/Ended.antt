@@ -8,24 +8,9 @@ use Rattle.script_streams.specs.Lines.{Held}
 use Rattle.world_script.specs.declared.lines.Summary.{Summary}
 use Rattle.world_script.specs.Run.{line_effect}
 use Rattle.world_script.specs.Running.{HasEnded, IsRunning, RunsLine}
-use Rattle.world_script.specs.Whole.{FitsScript, IsCount, IsOutput}
-use Rattle.world_script.proofs.Kept.{kept-empty, kept-some, kept_again}
+use Rattle.world_script.specs.Whole.{IsCount, IsOutput}
+use Rattle.world_script.proofs.Kept.{kept-some, kept_again}
 use Rattle.world_script.proofs.Running.{HasRun-line, RunsLine-kept, all_taken, last_line}
-
--- no last line is there
-pub HasEnded-none : (told left old new : Option (List ℕ)) (h : Held) (s : SessionState) (a : Summary) (output : List ℕ) → h.unread ≡ [] → length h.front ≡ 0
-    → IsRunning told left old new h s a output → HasEnded told left old new a output
-HasEnded-none told left old new h s a output taken empty so =
-    let none : so.part ≡ [] = kept-empty so.part (sym (ap length so.front) ∙ empty) in
-    let all : so.whole ++ so.part ++ h.unread ≡ so.whole = all_taken told left old new h s a output so taken ∙ ap (λ l. so.whole ++ l) none ∙ append-nil so.whole in
-    record {
-      script = so.whole;
-      written = so.written;
-      bytes = subst (Consumes told left) all so.bytes;
-      fits = omega (arith, so.fits, so.counted, ap length all);
-      wrote = so.wrote;
-      has_run = so.has_run;
-    }
 
 -- the last line was run
 pub HasEnded-line : (told left old new : Option (List ℕ)) (h : Held) (s t : SessionState) (a b : Summary) (before after : List ℕ) → h.unread ≡ [] → ¬ (length h.front ≡ 0)
@@ -58,9 +43,6 @@ pub IsOutput-ended : (told left old new newer : Option (List ℕ)) (a : Summary)
 IsOutput-ended told left old new newer a output end so more =
     IfSome-read (λ script. Appends old newer (output_of script)) told left so.script so.bytes end
     (subst (Appends old newer) so.has_run.printed_is (Appends-trans old new newer so.written output so.wrote more))
-
-pub FitsScript-ended : (told left old new : Option (List ℕ)) (a : Summary) (output : List ℕ) → IsAtEnd left → HasEnded told left old new a output → FitsScript told
-FitsScript-ended told left old new a output end so = IfSome-read (λ script. length script ≤ 16777216) told left so.script so.bytes end so.fits
 
 pub IsCount-ended : (told left old new : Option (List ℕ)) (a : Summary) (output : List ℕ) → IsAtEnd left → HasEnded told left old new a output → IsCount told a
 IsCount-ended told left old new a output end so =

@@ -215,12 +215,6 @@ IsRunning-filled told left later old new h k s a output none came same more fits
       has_run = so.has_run;
     }
 
--- the lines that were run and the bytes that are in none are no more than were read
-pub IsRunning-room : (told left old new : Option (List ℕ)) (h : Held) (s : SessionState) (a : Summary) (output : List ℕ) → IsRunning told left old new h s a output
-    → a.lines + length h.unread ≤ most_bytes
-IsRunning-room told left old new h s a output so =
-    omega (arith, so.has_run.few, so.fits, so.counted, length-append (so.whole ++ so.part) h.unread, length-append so.whole so.part)
-
 -- and so they are behind a line
 pub room-line : (h k : Held) (e : Effect) (t : SessionState) (before after : List ℕ) (a b : Summary) → TakesLine true h k → RunsLine e t before after a b
     → a.lines + length h.unread ≤ most_bytes → b.lines + length k.unread ≤ most_bytes
