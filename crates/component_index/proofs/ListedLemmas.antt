@@ -221,6 +221,12 @@ module _ {X : Type 0} (test : X → Pattern → Bool) (xs : List X) where
 
 -- ---- one pattern, but where the id before has it
 module _ {S : Type 0} (m n : HashMap Pattern (List TableKey) S) (pattern : Pattern) (key : TableKey) (h : Pattern → Bool) where
+  new_test : h pattern ≡ false → (p : Pattern) → pattern_eq pattern p ≡ (pattern_eq pattern p && not (h p))
+  new_test out p = by (pattern_eq pattern p) refl
+    where
+      by : (b : Bool) → pattern_eq pattern p ≡ b → b ≡ (b && not (h p))
+      by true e = λ i. not (sym (ap h (sym (same_pattern pattern p e)) ∙ out) i)
+      by false e = refl
 
 -- ---- what holds of each of a list, and of one more
 any_and : {X : Type 0} (f : X → Bool) (b : Bool) (xs : List X) → list_any (λ x. f x && b) xs ≡ (list_any f xs && b)

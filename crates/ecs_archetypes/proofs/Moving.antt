@@ -15,13 +15,13 @@ use Rattle.ecs_table.specs.Archetype as table
 use Rattle.ecs_model.proofs.Maps.{both_true, to_T}
 use Rattle.entity_index.specs.Entities.{Entities, place_of}
 use Rattle.table_store.specs.Rows.{Cells, carried, row_at, shape_of_cells}
-use Rattle.table_store.specs.Store.{Shape, Store, key_eq, moved_at, room_at, shape_at, table_at}
+use Rattle.table_store.specs.Store.{Shape, Store, changed_at, key_eq, moved_at, room_at, shape_at, table_at}
 use Rattle.ecs_archetypes.specs.declared.plans.Move.{Move}
 use Rattle.ecs_archetypes.specs.Archetypes.{IsSound, meaning}
 use Rattle.ecs_archetypes.specs.Holdings.{HoldAlike, Holdings, cells_at, held_at, is_settled, lives, with_cells}
 use Rattle.ecs_archetypes.specs.Housing.{Housing, holdings_of}
 use Rattle.ecs_archetypes.specs.Moves.{AreReady, shape_in, with_all_moved, with_moved}
-use Rattle.ecs_archetypes.specs.Tables.{StandAlike, TakesRoom, one_in}
+use Rattle.ecs_archetypes.specs.Tables.{LeavesRoom, StandAlike, TakesRoom, one_in}
 use Rattle.ecs_archetypes.proofs.ArchetypeCalls.{cells_view, row_here}
 use Rattle.ecs_archetypes.proofs.Carried.{carried_self}
 use Rattle.ecs_archetypes.proofs.Known.{room_stands}

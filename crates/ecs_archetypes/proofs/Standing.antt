@@ -82,6 +82,13 @@ under_max a b c e = grind (arith, common_steps)
 
 -- a table that is found or made
 module _ (s n : Store) (key : TableKey) (f : Shape) (made : (q : TableKey) → table_at n q ≡ made_at s key (shaped f) q) (newest : IsNone (table_at s key) ↔ (s.last < key.serial)) (last : n.last ≡ max s.last key.serial) where
+  pub made_stands : (k : TableKey) (t : Archetype) → table_at s k ≡ Some t → table_at n k ≡ Some t
+  made_stands k t h = made k ∙ by (key_eq k key)
+    where
+      by : (b : Bool) → cond b (Some (unwrap_or (table_at s k) (shaped f))) (table_at s k) ≡ Some t
+      by true = ap (λ o. Some (unwrap_or o (shaped f))) h
+      by false = h
+
   -- under each key stands what stood there, or it is the new one's
   pub made_new : (k : TableKey) → (table_at n k ≡ table_at s k) ⊎ ((k ≡ key) × (table_at s key ≡ None) × (s.last < key.serial))
   made_new k = by (key_eq k key) (key_eq-tells k key).0 (table_at s k) refl (made k)
@@ -137,6 +144,8 @@ made_empty s n key f is m new =
 
 -- tables that are the same, under serials that may have been given
 module _ (s n : Store) (same : (k : TableKey) → table_at n k ≡ table_at s k) (last : s.last ≤ n.last) (rows : (p : Place) → row_at n p ≡ row_at s p) where
+  pub grown_back : HasGrown s n
+  grown_back = grown_by s n (record { stood = λ k ids given h. ap (option_map (λ t. t.ids)) (sym (same k)) ∙ h; last = last }) (λ k t h. (t, same k ∙ h, refl, omega arith)) rows
 
 abbrev roomier : ℕ → Archetype → Archetype
 roomier more t = record t { room = max t.room more }

@@ -1,8 +1,9 @@
 -- What `delete` does to the fields.
-use Rattle.std.proofs.Common.{◌≡◌, ℕ, ◌+◌, ◌≤◌, ◌<◌, true, false, ◌&&◌, ◌⊎◌, eqb, List, ◌∷◌, length, set, get_or, Option, Some, None, is_some, refl, sym, ap, subst, ◌∙◌, arith, true≢false}
+use Rattle.std.proofs.Common.{◌≡◌, ℕ, ◌+◌, ◌≤◌, ◌<◌, true, false, not, ◌&&◌, ◌⊎◌, inl, inr, eqb, List, ◌∷◌, length, set, get_or, Option, Some, None, is_some, refl, sym, ap, subst, ◌∙◌, arith, true≢false}
 use Rattle.std.proofs.lemmas.List.{get_or_default}
 use Rattle.std.specs.Option.{option_eq}
 use Rattle.std.specs.Ordering.{nat_cmp}
+use Rattle.std.specs.FinMap.{find}
 use Rattle.std.specs.BinaryHeap.{heap_items, heap_len, heap_capacity, KeepsHeap}
 use Rattle.std.specs.List.Sorted.{IsPermutation}
 use Rattle.std.specs.declared.collections.binary_heap.BinaryHeap.{BinaryHeap}
@@ -10,8 +11,8 @@ use Rattle.std.specs.declared.cmp.Reverse.{Reverse}
 use Rattle.ecs_id.specs.declared.EntityId.{EntityId}
 use Rattle.ecs_id.specs.declared.Place.{Place}
 use Rattle.entity_index.specs.declared.slot.Slot.{Slot}
-use Rattle.ecs_model.specs.World.{first_index}
-use Rattle.entity_index.specs.Entities.{Entities, is_alive, without_entity}
+use Rattle.ecs_model.specs.World.{first_index, is_built_in}
+use Rattle.entity_index.specs.Entities.{Entities, is_alive, is_deletable, without_entity, IsWellFormed}
 use Rattle.entity_index.specs.Slots.{unused, generations, slot_at, meaning, IsSound}
 use Rattle.entity_index.proofs.EntryLists.{Changes-set}
 use Rattle.entity_index.proofs.Meanings.{meaning-deleted}

@@ -1,7 +1,7 @@
 -- Which facts come alone.
-use Rattle.std.proofs.Common.{◌≡◌, ◌⊎◌, ℕ, ◌+◌, ◌<◌, ◌==◌, false, List, [], ◌∷◌, ◌++◌, length, take, get_or, Option, Some, None, is_some, if◌then◌else◌, refl, sym, ap, ◌∙◌, inl, inr, true≢false}
+use Rattle.std.proofs.Common.{◌≡◌, ◌⊎◌, ℕ, ◌+◌, ◌<◌, ◌==◌, Bool, true, false, not, List, [], ◌∷◌, ◌++◌, length, take, get_or, Option, Some, None, is_some, if◌then◌else◌, refl, sym, ap, ◌∙◌, inl, inr, true≢false}
 use Rattle.std.specs.Prelude.{map}
-use Rattle.std.specs.List.{Contains, cons_option}
+use Rattle.std.specs.List.{Contains, cons_option, filter, flat_map}
 use Rattle.std.proofs.lemmas.List.{take_more}
 use Rattle.std.proofs.lemmas.List.Elements.{filter_map-append}
 use Rattle.std.proofs.lemmas.Option.{same_Some}
@@ -11,6 +11,8 @@ use Rattle.ecs_model.specs.BuiltIns.{acyclic, with_trait}
 use Rattle.ecs_model.specs.Links.{is_held, target_under, targets_in, upward}
 use Rattle.ecs_model.specs.Reach.{Reached, itself, onward}
 use Rattle.ecs_model.specs.World.{Key}
+use Rattle.ecs_model.specs.traits.Rules.{is_trait}
+use Rattle.fact_rules.specs.Simple.{ComesAlone}
 use Rattle.rel_traits.specs.After.{ClosesAt}
 
 -- one id more that is no pair of the relationship leads nowhere along it
@@ -37,6 +39,15 @@ module _ (ids : ℕ → List Id) (e : ℕ) where
   brings_none i leads alone = λ k. map (λ c. (e, with_first c i)) (leads k) ++ alone k
 
 module _ (ids : ℕ → List Id) where
+  -- where the entity has no target, none gives way
+  pub displaces_none : (k : Key) → targets_in (ids k.0) (first_of k.1) ≡ [] → displaced ids k ≡ []
+  displaces_none (e, plain c) none = refl
+  displaces_none (e, pair r t) none = ap (λ ts. if is_exclusive ids r then flat_map (λ u. (e, pair r u) ∷ (if is_symmetric ids r then (u, pair r e) ∷ [] else [])) (filter (λ u. not (u == t)) ts) else []) none ∙ either (is_exclusive ids r)
+    where
+      either : (b : Bool) → ◌≡◌ {A = List Key} (if b then [] else []) []
+      either true = refl
+      either false = refl
+
   -- a fact of a relationship that may have cycles closes none
   pub may_have_cycles : (k : Key) → is_held (ids (first_of k.1)) (plain acyclic) ≡ false → ¬ (ClosesAt ids k.0 k)
   may_have_cycles k free c = true≢false (sym c.2 ∙ free)

@@ -1,6 +1,6 @@
 -- Who is `$this` of a row of a local query is told by the ids of each entity alone.
 use Rattle.std.proofs.Common.{◌≡◌, ℕ, zero, suc, Bool, true, false, cond, inl, inr, List, [], ◌∷◌, ◌++◌, length, refl, sym, ap, ◌∙◌, arith}
-use Rattle.std.specs.Prelude.{◌==◌, ◌&&◌, ◌||◌, filter, flat_map, map, not, take, Option, Some, None, is_none, if◌then◌else◌}
+use Rattle.std.specs.Prelude.{◌==◌, ◌&&◌, ◌||◌, filter, flat_map, map, not, take, Contains, Option, Some, None, is_none, if◌then◌else◌}
 use Rattle.std.specs.List.{list_any, list_all, range_with_len}
 use Rattle.std.specs.List.Sorted.{IsStrictlyIncreasing}
 use Rattle.std.specs.Option.{option_eq, option_map_or}
@@ -27,6 +27,8 @@ use Rattle.query_meaning.specs.Local.{IsLocal}
 use Rattle.query_meaning.specs.Variables.{contains}
 use Rattle.query_meaning.proofs.Ordered.{any-ordered}
 use Rattle.query_meaning.proofs.Assignments.{at, at-with_other}
+use Rattle.query_meaning.proofs.Lists.{In-from_place}
+use Rattle.query_meaning.proofs.Numbers.{contains-from_In}
 use Rattle.local_queries.specs.Judging.{has_hit, is_same, item_holds, judged, stands_for, suits}
 use Rattle.local_queries.proofs.Ascending.{contains-filter}
 use Rattle.query_meaning.proofs.Locality.{is_local_level, top_local}
@@ -303,3 +305,8 @@ matched_where_judged w q local e =
 pub matching_ascends : (w : View) (q : Query) → IsStrictlyIncreasing w.entities → IsStrictlyIncreasing (matching w q)
 unfolding matching
 matching_ascends w q up = IsStrictlyIncreasing-filter (λ e. list_any (is_this e) (rows w q)) w.entities up
+
+pub judged_matches : (w : View) (q : Query) → IsLocal q → (e : ℕ) (ids : List Id) → Contains w.entities e → w.ids e ≡ ids → judged q e ids ≡ contains (matching w q) e
+judged_matches w q local e ids lives same =
+    let there = contains-from_In w.entities e (In-from_place w.entities lives.0 e lives.1 lives.2) in
+    sym (matched_where_judged w q local e ∙ ap (λ b. b && judged q e (w.ids e)) there ∙ ap (judged q e) same)

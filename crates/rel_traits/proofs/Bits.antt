@@ -1,5 +1,5 @@
 -- A set's bits say which traits are held.
-use Rattle.std.proofs.Common.{◌≡◌, ◌≢◌, ℕ, zero, suc, ◌+◌, ◌*◌, ◌^◌, ◌≤◌, ◌<◌, ◌==◌, Bool, true, false, ◌||◌, cond, List, [], ◌∷◌, ◌++◌, length, get_or, take, refl, sym, ap, ap₂, subst, take_all, ◌∙◌, arith}
+use Rattle.std.proofs.Common.{◌≡◌, ◌≢◌, ℕ, zero, suc, ◌+◌, ◌*◌, ◌^◌, ◌≤◌, ◌<◌, ◌==◌, Bool, true, false, ◌||◌, cond, List, [], ◌∷◌, ◌++◌, length, get_or, take, Some, None, refl, sym, ap, ap₂, subst, take_all, ◌∙◌, arith}
 use Rattle.std.specs.Prelude.{max}
 use Rattle.std.specs.Int.{bit_at}
 use Rattle.std.proofs.Math.Nat.{pow-suc}
@@ -8,7 +8,8 @@ use Rattle.std.proofs.lemmas.Bool.Decides.{nat_tests}
 use Rattle.std.proofs.lemmas.List.{take_more}
 use Rattle.std.proofs.lemmas.List.Folds.{list_any-append}
 use Rattle.std.proofs.lemmas.Nat.Bits.{and_pow, bit_at_or, bit_at-pow_other, bit_at-pow_same, bit_at-zero}
-use Rattle.ecs_id.specs.Id.{Id, plain, pair, first_of, target_or_zero, id_eq, id_eq_apart}
+use Rattle.std.proofs.lemmas.Option.{same_Some}
+use Rattle.ecs_id.specs.Id.{Id, plain, pair, first_of, second_of, target_or_zero, id_eq, id_eq_apart}
 use Rattle.ecs_model.specs.Links.{is_held}
 use Rattle.rel_traits.specs.TraitBits.{bit_if, bits_from, trait_ids}
 

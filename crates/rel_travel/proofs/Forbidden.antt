@@ -1,6 +1,7 @@
 -- Who forbids that one of some entities is deleted refers to it.
 use Rattle.std.proofs.Common.{◌≡◌, ℕ, ◌+◌, ◌==◌, ◌<◌, ◌≤◌, ◌↔◌, IsTrue, Bool, true, false, ◌&&◌, ◌||◌, not, List, length, get_or, take, take_all, Some, None, refl, sym, ◌∙◌, inl, inr, arith, true≢false}
 use Rattle.std.specs.List.{All, Contains, list_any}
+use Rattle.std.proofs.lemmas.List.Folds.{list_any_more}
 use Rattle.std.proofs.lemmas.List.Elements.{Contains-get_or}
 use Rattle.ecs_id.specs.Id.{Id, plain, pair, first_of, second_of, mentioned}
 use Rattle.ecs_model.specs.Links.{AreLinks}
@@ -109,6 +110,9 @@ mentioned_below links m l e i h k d in' = let live = links.below _ (links.live e
 
 -- the test stops at the first that passes, or passes none
 module _ {A : Type 0} (p : A → Bool) (xs : List A) (k : ℕ) (d : A) where
+  pub none_yet : k < length xs → list_any p (take k xs) ≡ false → p (get_or xs k d) ≡ false → list_any p (take (k + 1) xs) ≡ false
+  none_yet l none e = list_any_more p xs k d l ∙ (rw (none, e) refl)
+
   pub one_is : k < length xs → p (get_or xs k d) ≡ true → list_any p xs ≡ true
   one_is l e = any_passes p xs (get_or xs k d) (Contains-get_or xs k d l) e
 

@@ -1,7 +1,15 @@
 -- Lines as far as they are kept.
-use Rattle.std.proofs.Common.{◌≡◌, ℕ, Bool, true, false, not, cond, true≢false, ◌+◌, ◌-◌, ◌≤◌, List, ◌++◌, sym, ◌∙◌, ap, arith}
-use Rattle.std.proofs.lemmas.List.{take-take}
+use Rattle.std.proofs.Common.{◌≡◌, ℕ, Bool, true, false, not, cond, true≢false, ◌+◌, ◌-◌, ◌≤◌, List, ◌++◌, length, take, min, sym, ◌∙◌, ap, arith}
+use Rattle.std.proofs.lemmas.List.{take-take, take_min}
+use Rattle.std.proofs.Math.Seq.{take-append-add}
 use Rattle.script_streams.specs.Lines.{kept}
+
+-- a front with more bytes, as far as they are kept
+pub kept_added : (front bytes : List ℕ) → length front ≤ 4097 → front ++ take (min (4097 - length front) (length bytes)) bytes ≡ kept (front ++ bytes)
+kept_added front bytes few =
+    let room = 4097 - length front in
+    let all : length front + room ≡ 4097 = omega (arith, few) in
+    ap (λ l. front ++ l) (take_min room bytes) ∙ sym (take-append-add front bytes room) ∙ ap (λ n. take n (front ++ bytes)) all
 
 -- what is kept of a line is kept again
 pub kept_twice : (line : List ℕ) → kept (kept line) ≡ kept line

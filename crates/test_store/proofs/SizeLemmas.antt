@@ -60,11 +60,6 @@ sized_made s n k f h shapes is q g e = by (key_eq q k) (sym (shapes q) ∙ e)
     by true x = subst IsOfSizes (one_some f g x) h
     by false x = is q g x
 
--- a table is found or made
-pub sized_put : {E : Type 0} (s n : Store) (r : Result TableKey E) (f : Shape) → IsOfSizes f → IfOk r (λ k. (q : TableKey) → shape_at n q ≡ shaped_at s k f q) → IsSized s → OnOk r (IsSized n)
-sized_put s n (Ok k) f h shapes is = sized_made s n k f h shapes is
-sized_put s n (Err e) f h shapes is = tt
-
 pub sized_empty : (s : Store) → s.tables ≡ [] → IsSized s
 unfolding table_at
 sized_empty s none k f e = absurd (none_is_some f (ap (λ l. option_map shape_of (option_map (λ x. x.1) (find (λ x. key_eq k x.0) l))) (sym none) ∙ e))

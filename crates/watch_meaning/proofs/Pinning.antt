@@ -1,20 +1,24 @@
 -- What a stored query more or less does to the counts of those whom stored queries mention.
-use Rattle.std.specs.Prelude.{◌≡◌, ℕ, ◌+◌, ◌-◌, ◌^◌, ◌<◌, ◌≤◌, ◌==◌, Bool, true, false, ◌||◌, List, [], ◌∷◌, All, count_by, fold, Option, Some, None, Ok, Err, cond, if◌then◌else◌}
+use Rattle.std.specs.Prelude.{◌≡◌, ℕ, ◌+◌, ◌-◌, ◌^◌, ◌<◌, ◌≤◌, ◌==◌, Bool, true, false, ◌||◌, List, [], ◌∷◌, All, count_by, fold, Option, Some, None, Ok, Err, cond, unwrap_or, if◌then◌else◌}
 use Rattle.std.specs.List.{list_any, list_all}
-use Rattle.std.proofs.Common.{refl, sym, ap, ◌∙◌, arith, true≢false}
+use Rattle.std.specs.Cmp.{nat_cmp_total}
+use Rattle.std.specs.FinMap.{nat_cmp-IsAntisymmetric}
+use Rattle.std.specs.FinMap.Entries.{same_entries}
+use Rattle.std.specs.Ordering.{nat_cmp}
+use Rattle.std.proofs.Common.{refl, sym, ap, subst, ◌∙◌, arith, true≢false}
 use Rattle.std.proofs.lemmas.Bool.Decides.{nat_tests}
 use Rattle.std.proofs.lemmas.List.Elements.{All-cons, All-nil, All-head, All-tail}
 use Rattle.ecs_id.specs.declared.EntityId.{EntityId}
 use Rattle.ecs_model.specs.declared.faults.Refusal.TheVariants.{Dead}
-use Rattle.ecs_model.specs.Map.{count_at}
+use Rattle.ecs_model.specs.Map.{count_at, value_at}
 use Rattle.ecs_model.specs.Query.{known_of}
-use Rattle.ecs_model.specs.World.{WorldState, is_alive}
+use Rattle.ecs_model.specs.World.{WorldState, is_alive, is_live}
 use Rattle.ecs_model.specs.rows.View.{view_of}
 use Rattle.ecs_model.specs.stored.Session.{pinned_by, unpinned_by}
 use Rattle.ecs_model.specs.traits.Keeps.{IsWellFormed}
 use Rattle.ecs_model.specs.traits.Pins.{most_pins, one_less, one_more, pin, unpin, with_pins}
-use Rattle.ecs_model.proofs.Maps.{both_true}
-use Rattle.ecs_model.proofs.Members.{eq_same}
+use Rattle.ecs_model.proofs.Maps.{both_true, of_some, to_T}
+use Rattle.ecs_model.proofs.Members.{eq_itself, eq_same}
 use Rattle.ecs_model.proofs.Reasons.{neither}
 use Rattle.ecs_model.proofs.traits.Kept.{refuted}
 use Rattle.ecs_model.proofs.traits.Pinned.{count-with_count, pins_keep}
@@ -186,16 +190,6 @@ current_alive w q h = each q.mentions h.current
 pub pinned_one_well_formed : (w : WorldState) (e : EntityId) → IsWellFormed w → is_alive w e ≡ true → IsWellFormed (with_pins w one_more e.index)
 unfolding pin
 pinned_one_well_formed w e h alive = (pins_keep w e h).0 (with_pins w one_more e.index) (ap (λ b. if b then Ok (with_pins w one_more e.index) else Err Dead) alive)
-
-pub pinned_well_formed : (ms : List Mention) (w : WorldState) → IsWellFormed w → AreAlive w ms → IsWellFormed (pinned_by w ms)
-pinned_well_formed [] w h alive = h
-pinned_well_formed (m ∷ ms) w h alive =
-    pinned_well_formed ms (with_pins w one_more (m.entity).index)
-    (pinned_one_well_formed w m.entity h (All-head (λ x. is_alive w x.entity ≡ true) m ms alive)) (All-tail (λ x. is_alive w x.entity ≡ true) m ms alive)
-
-pub unpinned_well_formed : (ms : List Mention) (w : WorldState) → IsWellFormed w → IsWellFormed (unpinned_by w ms)
-unpinned_well_formed [] w h = h
-unpinned_well_formed (m ∷ ms) w h = unpinned_well_formed ms (unpin w m.entity) (pins_keep w m.entity h).1
 
 -- no count of 0 is kept, so the counts tell the map
 module _ (w : WorldState) (h : IsWellFormed w) where

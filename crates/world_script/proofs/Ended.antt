@@ -8,8 +8,8 @@ use Rattle.script_streams.specs.Lines.{Held}
 use Rattle.world_script.specs.declared.lines.Summary.{Summary}
 use Rattle.world_script.specs.Run.{line_effect}
 use Rattle.world_script.specs.Running.{HasEnded, IsRunning, RunsLine}
-use Rattle.world_script.specs.Whole.{IsCount, IsOutput}
-use Rattle.world_script.proofs.Kept.{kept-some, kept_again}
+use Rattle.world_script.specs.Whole.{FitsScript, IsCount, IsOutput}
+use Rattle.world_script.proofs.Kept.{kept-empty, kept-some, kept_again}
 use Rattle.world_script.proofs.Running.{HasRun-line, RunsLine-kept, all_taken, last_line}
 
 -- the last line was run
