@@ -1,1 +1,2 @@
 pub mod Archetype
+pub mod IdList

@@ -3,6 +3,7 @@
 
 mod columns;
 mod data_ids;
+mod id_list;
 mod table;
 
 pub use table::Table;

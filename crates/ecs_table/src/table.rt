@@ -7,6 +7,7 @@ ghost use Rattle.ecs_table.specs.Archetype.{byte_size, column_of, empty_table, m
 
 use crate::columns::{ids_with_data, sizes_with_data};
 use crate::data_ids::DataIds;
+use crate::id_list::IdList;
 use ecs_id::{EntityId, Id};
 use raw_column::{Block, Memory};
 use std::alloc::{Allocator, Global};
@@ -24,7 +25,7 @@ const ENTITY_BYTES: usize = 8;
 /// gives it back.
 #[derive(Drop)]
 pub struct Table<A: Allocator = Global> {
-    ids: Vec<Id, A>,
+    ids: IdList<A>,
     data_ids: DataIds<A>,
     // a column for each id with data
     columns: Block<A>,
@@ -38,9 +39,9 @@ impl<A: Allocator> Model for Table<A> {
 
     ghost Value = { Archetype };
 
-    ghost view = { λ t. seen t.ids.items t.data_ids t.columns t.entities.items t.room };
+    ghost view = { λ t. seen t.ids t.data_ids t.columns t.entities.items t.room };
 
-    ghost invariant = { λ t. IsStored t.ids.items t.data_ids t.columns t.entities t.room };
+    ghost invariant = { λ t. IsStored t.ids t.data_ids t.columns t.entities t.room };
 }
 
 impl<A: Allocator + Copy> Table<A> {
@@ -53,7 +54,7 @@ impl<A: Allocator + Copy> Table<A> {
         let sized = sizes_with_data(&alloc, sizes)?;
         let columns = Block::new(alloc, sized.as_slice())?;
         Ok(Table {
-            ids: Vec::from_slice(alloc, ids)?,
+            ids: IdList::from_slice(alloc, ids)?,
             data_ids: DataIds::new(ids_with_data(alloc, ids, sizes)?),
             columns,
             entities: Vec::new(alloc),
@@ -67,7 +68,7 @@ impl<A: Allocator + Copy> Table<A> {
     {
         let room = 0;
         Ok(Table {
-            ids: Vec::from_slice(alloc, ids)?,
+            ids: IdList::from_slice(alloc, ids)?,
             data_ids: DataIds::new(Vec::new(alloc)),
             columns: Block::new(alloc, &[])?,
             entities: Vec::new(alloc),

@@ -10,11 +10,11 @@ invariant_of-self g c =
     let some : 0 < a.room = subst (λ (t : Archetype). 0 < t.room) (sym c.self.view_is) c.requires in
     let grown : c.push.new.self.items ≡ a.entities.items ++ c.args.entity ∷ [] = search rules in
     let longer : vec_len c.push.new.self ≡ vec_len a.entities + 1 = search rules in
-    stored_row a.ids.items a.data_ids a.columns c.push_zero.new.self a.entities c.push.new.self a.room c.args.entity c.self.invariant some c.push_zero.ensures grown longer c.push.ensures.capacity
+    stored_row a.ids a.data_ids a.columns c.push_zero.new.self a.entities c.push.new.self a.room c.args.entity c.self.invariant some c.push_zero.ensures grown longer c.push.ensures.capacity
     (ap length grown ∙ length_push a.entities.items c.args.entity)
 
 pub returns : goal.returns
 returns g c =
     let a = c.self.inside in
     let grown : c.push.new.self.items ≡ a.entities.items ++ c.args.entity ∷ [] = search rules in
-    seen_row a.ids.items a.data_ids a.columns c.push_zero.new.self a.entities.items c.push.new.self.items a.room c.args.entity c.push_zero.ensures grown ∙ ap (λ (t : Archetype). with_row t c.args.entity) c.self.view_is
+    seen_row a.ids a.data_ids a.columns c.push_zero.new.self a.entities.items c.push.new.self.items a.room c.args.entity c.push_zero.ensures grown ∙ ap (λ (t : Archetype). with_row t c.args.entity) c.self.view_is

@@ -13,7 +13,7 @@ use Rattle.ecs_table.proofs.table.Table.push_row.Goals as goal
 pub copy_values-requires-clause-paired : goal.copy_values-requires-clause-paired
 copy_values-requires-clause-paired g c =
     let a = c.self.inside in
-    ap length c.as_slice.ensures ∙ stored_paired a.ids.items a.data_ids a.columns a.entities a.room c.self.invariant ∙ sym (ap (λ (v : Contents). length v.columns) c.push_zero.ensures ∙ length-map a.columns.columns with_zero)
+    ap length c.as_slice.ensures ∙ stored_paired a.ids a.data_ids a.columns a.entities a.room c.self.invariant ∙ sym (ap (λ (v : Contents). length v.columns) c.push_zero.ensures ∙ length-map a.columns.columns with_zero)
 
 pub invariant_of-self : goal.invariant_of-self
 invariant_of-self g c =
@@ -34,7 +34,7 @@ invariant_of-self g c =
     let grown : c.push.new.self.items ≡ a.entities.items ++ entity_at s row ∷ [] = pushed ∙ ap (λ x. a.entities.items ++ x ∷ []) same in
     let some : 0 < a.room = subst (λ (t : Archetype). 0 < t.room) (sym c.self.view_is) c.requires.room in
     let longer : vec_len c.push.new.self ≡ vec_len a.entities + 1 = search rules in
-    stored_moved s row a.ids.items ds old c.copy_values.new.columns a.entities c.push.new.self a.room h some columns len room grown longer c.push.ensures.capacity (ap length grown ∙ length_push a.entities.items (entity_at s row))
+    stored_moved s row a.ids ds old c.copy_values.new.columns a.entities c.push.new.self a.room h some columns len room grown longer c.push.ensures.capacity (ap length grown ∙ length_push a.entities.items (entity_at s row))
 
 pub returns-clause-came : goal.returns-clause-came
 returns-clause-came g c =
@@ -51,7 +51,7 @@ returns-clause-came g c =
     let same : entity ≡ entity_at s row = c.index.ensures ∙ get_or_default source row entity no_entity lt ∙ ap (λ (t : Archetype). slice_index_or t.entities row no_entity) c.source.view_is in
     let pushed : c.push.new.self.items ≡ a.entities.items ++ entity ∷ [] = search rules in
     let grown : c.push.new.self.items ≡ a.entities.items ++ entity_at s row ∷ [] = pushed ∙ ap (λ x. a.entities.items ++ x ∷ []) same in
-    seen_moved s row a.ids.items ds old c.copy_values.new.columns a.entities.items c.push.new.self.items a.room columns grown ∙ ap (λ (t : Archetype). with_moved t s row) c.self.view_is
+    seen_moved s row a.ids ds old c.copy_values.new.columns a.entities.items c.push.new.self.items a.room columns grown ∙ ap (λ (t : Archetype). with_moved t s row) c.self.view_is
 
 pub returns-clause-kept : goal.returns-clause-kept
 returns-clause-kept g c i n bytes sized e =

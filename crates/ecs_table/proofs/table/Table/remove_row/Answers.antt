@@ -15,8 +15,8 @@ invariant_of-self g c =
     let lt : row < length a.entities.items = subst (λ (t : Archetype). row < length t.entities) (sym c.self.view_is) c.requires in
     let some : 0 < length a.entities.items = omega arith in
     let gone : c.swap_remove.new.self.items ≡ swap_remove a.entities.items row no_entity = c.swap_remove.ensures.items ∙ swap_remove_default a.entities.items row c.swap_remove.result no_entity some in
-    stored_without a.ids.items a.data_ids a.columns c.swap_remove-2.new.self a.entities c.swap_remove.new.self a.room row lt c.self.invariant c.swap_remove-2.ensures gone c.swap_remove.ensures.len c.swap_remove.ensures.capacity
-    (ap length gone ∙ length_without (seen a.ids.items a.data_ids a.columns a.entities.items a.room) row)
+    stored_without a.ids a.data_ids a.columns c.swap_remove-2.new.self a.entities c.swap_remove.new.self a.room row lt c.self.invariant c.swap_remove-2.ensures gone c.swap_remove.ensures.len c.swap_remove.ensures.capacity
+    (ap length gone ∙ length_without (seen a.ids a.data_ids a.columns a.entities.items a.room) row)
 
 pub returns-clause-row : goal.returns-clause-row
 returns-clause-row g c =
@@ -24,7 +24,7 @@ returns-clause-row g c =
     let lt : row < length a.entities.items = subst (λ (t : Archetype). row < length t.entities) (sym c.self.view_is) c.requires in
     let some : 0 < length a.entities.items = omega arith in
     let gone : c.swap_remove.new.self.items ≡ swap_remove a.entities.items row no_entity = c.swap_remove.ensures.items ∙ swap_remove_default a.entities.items row c.swap_remove.result no_entity some in
-    seen_without a.ids.items a.data_ids a.columns c.swap_remove-2.new.self a.entities.items c.swap_remove.new.self.items a.room row c.swap_remove-2.ensures gone ∙ ap (λ (t : Archetype). without_row t row) c.self.view_is
+    seen_without a.ids a.data_ids a.columns c.swap_remove-2.new.self a.entities.items c.swap_remove.new.self.items a.room row c.swap_remove-2.ensures gone ∙ ap (λ (t : Archetype). without_row t row) c.self.view_is
 
 pub returns-clause-moved : goal.returns-clause-moved
 returns-clause-moved g c =
