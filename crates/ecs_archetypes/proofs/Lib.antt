@@ -8,6 +8,7 @@ pub mod ArchetypeCalls
 pub mod RowReads
 pub mod FirstHoldings
 pub mod Standing
+pub mod Staying
 pub mod Moving
 pub mod Leaving
 pub mod Planning

@@ -2,6 +2,7 @@ pub mod Holdings
 pub mod Placings
 pub mod Archetypes
 pub mod Housing
+pub mod Staying
 pub mod Tables
 pub mod Moves
 pub mod FactChanges

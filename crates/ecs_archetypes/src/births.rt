@@ -9,6 +9,7 @@ ghost use Rattle.ecs_archetypes.specs.Archetypes.{known_in};
 ghost use Rattle.ecs_archetypes.specs.Holdings.{AreHoldings, HoldAlike, KeepsSizes, agrees, cells_at, lives, upcoming, with_cells, with_entity, zero_cells};
 ghost use Rattle.ecs_archetypes.specs.Housing.{IsHoused, holdings_of};
 ghost use Rattle.ecs_archetypes.specs.Tables.{StandAlike};
+ghost use Rattle.ecs_archetypes.specs.Staying.{TablesStay, none_goes};
 ghost use Rattle.table_store.specs.Going.{TablesGoOn};
 ghost use Rattle.table_store.specs.Store.{Shape, room_at, shape_at};
 
@@ -32,6 +33,7 @@ impl<A: Allocator + Copy> Archetypes<A> {
         ensures refused { OnErr result (HoldAlike (holdings_of self.new) (holdings_of self.old)) }
         ensures sizes { KeepsSizes (known_in self.old.tables) ids.now (known_in self.new.tables) }
         ensures goes_on { TablesGoOn self.old.tables self.new.tables }
+        ensures stay { TablesStay none_goes self.old.tables self.new.tables }
         ensures holdings { AreHoldings (holdings_of self.new) }
         ensures whole { IsHoused self.new }
     {
@@ -51,6 +53,7 @@ impl<A: Allocator + Copy> Archetypes<A> {
         ensures refused { OnErr result (HoldAlike (holdings_of self.new) (holdings_of self.old)) }
         ensures sizes { KeepsSizes (known_in self.old.tables) ids.now (known_in self.new.tables) }
         ensures goes_on { TablesGoOn self.old.tables self.new.tables }
+        ensures stay { TablesStay none_goes self.old.tables self.new.tables }
         ensures holdings { AreHoldings (holdings_of self.new) }
         ensures whole { IsHoused self.new }
     {

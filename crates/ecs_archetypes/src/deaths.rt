@@ -1,10 +1,13 @@
 //! Entities and tables that go, and memory that is given back.
 ghost use Rattle.std.specs.Prelude.{◌≡◌, not, false, IsTrue};
+ghost use Rattle.std.specs.List.{list_any};
+ghost use Rattle.component_index.specs.Patterns.{matches};
 ghost use Rattle.ecs_id.specs.declared.TableKey.{TableKey};
 ghost use Rattle.ecs_archetypes.specs.Holdings.{AreHoldings, HoldAlike, is_settled, without_entity};
 ghost use Rattle.ecs_archetypes.specs.Housing.{IsHoused, holdings_of};
 ghost use Rattle.ecs_archetypes.specs.Moves.{are_deletable, without_each};
 ghost use Rattle.ecs_archetypes.specs.Scans.{HasMatch, StandApart};
+ghost use Rattle.ecs_archetypes.specs.Staying.{TablesStay};
 ghost use Rattle.ecs_archetypes.specs.Tables.{StandAlike};
 ghost use Rattle.ecs_model.specs.World.{is_built_in};
 ghost use Rattle.table_store.specs.Rows.{rows_in};
@@ -62,6 +65,7 @@ impl<A: Allocator + Copy> Archetypes<A> {
         requires empty { (k : TableKey) → HasMatch self.old.tables pattern k → rows_in self.old.tables k ≡ 0 }
         ensures gone { (k : TableKey) → HasMatch self.new.tables pattern k → ⊥ }
         ensures others { StandApart pattern self.old.tables self.new.tables }
+        ensures stay { TablesStay (list_any (matches pattern)) self.old.tables self.new.tables }
         ensures entities { self.new.entities ≡ self.old.entities }
         ensures held { HoldAlike (holdings_of self.new) (holdings_of self.old) }
         ensures whole { IsHoused self.new }

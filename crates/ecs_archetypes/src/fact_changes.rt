@@ -13,6 +13,7 @@ ghost use Rattle.ecs_archetypes.specs.Holdings.{AreHoldings, HoldAlike, KeepsSiz
 ghost use Rattle.ecs_archetypes.specs.Housing.{IsHoused, holdings_of};
 ghost use Rattle.ecs_archetypes.specs.Moves.{AreReady, IsPlanned, are_deletable, moves_to, with_all_moved, without_each};
 ghost use Rattle.ecs_archetypes.specs.Tables.{HasGrown};
+ghost use Rattle.ecs_archetypes.specs.Staying.{TablesStay, none_goes};
 ghost use Rattle.table_store.specs.Going.{TablesGoOn};
 ghost use Rattle.table_store.specs.Rows.{shape_of_cells};
 ghost use Rattle.table_store.specs.Store.{Shape, room_at, shape_at, table_at, with_id, without_id};
@@ -48,6 +49,7 @@ impl<A: Allocator + Copy> Archetypes<A> {
         ensures refused { OnErr result (HoldAlike (holdings_of self.new) (holdings_of self.old)) }
         ensures sizes { KeepsSizes (known_in self.old.tables) (ids_coming came.now) (known_in self.new.tables) }
         ensures goes_on { TablesGoOn self.old.tables self.new.tables }
+        ensures stay { TablesStay none_goes self.old.tables self.new.tables }
         ensures holdings { AreHoldings (holdings_of self.new) }
         ensures whole { IsHoused self.new }
     {

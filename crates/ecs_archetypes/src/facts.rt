@@ -8,6 +8,7 @@ ghost use Rattle.ecs_archetypes.specs.Holdings.{AreHoldings, HoldAlike, KeepsSiz
 ghost use Rattle.ecs_archetypes.specs.Housing.{IsHoused, holdings_of};
 ghost use Rattle.ecs_archetypes.specs.Tables.{StandAlike};
 ghost use Rattle.ecs_table.specs.Archetype.{Archetype};
+ghost use Rattle.ecs_archetypes.specs.Staying.{TablesStay, none_goes};
 ghost use Rattle.table_store.specs.Going.{TablesGoOn};
 ghost use Rattle.table_store.specs.Rows.{AreValues};
 ghost use Rattle.table_store.specs.Store.{size_in, table_at};
@@ -46,6 +47,7 @@ impl<A: Allocator + Copy> Archetypes<A> {
         ensures refused { OnErr result (HoldAlike (holdings_of self.new) (holdings_of self.old)) }
         ensures sizes { KeepsSizes (known_in self.old.tables) ((id, size) ∷ []) (known_in self.new.tables) }
         ensures goes_on { TablesGoOn self.old.tables self.new.tables }
+        ensures stay { TablesStay none_goes self.old.tables self.new.tables }
         ensures holdings { AreHoldings (holdings_of self.new) }
         ensures whole { IsHoused self.new }
     {
@@ -78,6 +80,7 @@ impl<A: Allocator + Copy> Archetypes<A> {
         ensures refused { OnErr result (HoldAlike (holdings_of self.new) (holdings_of self.old)) }
         ensures sizes { KeepsSizes (known_in self.old.tables) ((id, length bytes.now) ∷ []) (known_in self.new.tables) }
         ensures goes_on { TablesGoOn self.old.tables self.new.tables }
+        ensures stay { TablesStay none_goes self.old.tables self.new.tables }
         ensures holdings { AreHoldings (holdings_of self.new) }
         ensures whole { IsHoused self.new }
     {
@@ -98,6 +101,7 @@ impl<A: Allocator + Copy> Archetypes<A> {
         ensures refused { OnErr result (HoldAlike (holdings_of self.new) (holdings_of self.old)) }
         ensures sizes { KeepsSizes (known_in self.old.tables) [] (known_in self.new.tables) }
         ensures goes_on { TablesGoOn self.old.tables self.new.tables }
+        ensures stay { TablesStay none_goes self.old.tables self.new.tables }
         ensures holdings { AreHoldings (holdings_of self.new) }
         ensures whole { IsHoused self.new }
     {
@@ -119,6 +123,7 @@ impl<A: Allocator> Archetypes<A> {
         ensures sizes { KeepsSizes (known_in self.old.tables) [] (known_in self.new.tables) }
         ensures alike { StandAlike self.old.tables self.new.tables }
         ensures goes_on { TablesGoOn self.old.tables self.new.tables }
+        ensures stay { TablesStay none_goes self.old.tables self.new.tables }
         ensures holdings { AreHoldings (holdings_of self.new) }
         ensures whole { IsHoused self.new }
     {
@@ -134,6 +139,7 @@ impl<A: Allocator> Archetypes<A> {
         ensures sizes { KeepsSizes (known_in self.old.tables) [] (known_in self.new.tables) }
         ensures alike { StandAlike self.old.tables self.new.tables }
         ensures goes_on { TablesGoOn self.old.tables self.new.tables }
+        ensures stay { TablesStay none_goes self.old.tables self.new.tables }
         ensures holdings { AreHoldings (holdings_of self.new) }
         ensures whole { IsHoused self.new }
     {

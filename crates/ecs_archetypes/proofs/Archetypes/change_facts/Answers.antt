@@ -8,6 +8,8 @@ use Rattle.ecs_archetypes.proofs.Known.{KeepsSizes-then, same_kept}
 use Rattle.ecs_archetypes.proofs.FactPlanning.{facts_dead, facts_gone}
 use Rattle.ecs_archetypes.proofs.Standing.{goes_on_alike}
 use Rattle.ecs_archetypes.proofs.Soundness.{holdings}
+use Rattle.ecs_archetypes.specs.Staying.{none_goes, stay_then}
+use Rattle.ecs_archetypes.proofs.Staying.{stay_alike, stay_grown, stay_moved}
 use Rattle.ecs_archetypes.proofs.Archetypes.change_facts.Goals as goal
 
 pub delete_each-requires : goal.delete_each-requires
@@ -28,3 +30,11 @@ returns-in_err-plan_facts-clause-holdings g c = holdings c.plan_facts.new.self.e
 pub returns-clause-sizes : goal.returns-clause-sizes
 returns-clause-sizes g c = KeepsSizes-then (known_in c.args.self.now.tables) (ids_coming c.args.came.now) (known_in c.plan_facts.new.self.tables) (known_in c.delete_each.new.self.tables) c.plan_facts.ensures.sizes
     (same_kept c.plan_facts.new.self.tables c.delete_each.new.self.tables c.delete_each.ensures.whole.stored.0 (λ q. c.delete_each.ensures.alike.shapes q ∙ c.carry_out.ensures.alike.shapes q))
+
+pub returns-in_err-plan_facts-clause-stay : goal.returns-in_err-plan_facts-clause-stay
+returns-in_err-plan_facts-clause-stay g c = stay_grown c.args.self.now.tables c.plan_facts.new.self.tables c.plan_facts.ensures.grown
+
+pub returns-clause-stay : goal.returns-clause-stay
+returns-clause-stay g c = stay_then none_goes c.args.self.now.tables c.carry_out.new.self.tables c.delete_each.new.self.tables
+    (stay_moved c.args.self.now.tables c.plan_facts.new.self.tables c.carry_out.new.self.tables c.plan_facts.ensures.grown c.carry_out.ensures.alike)
+    (stay_alike c.carry_out.new.self.tables c.delete_each.new.self.tables c.delete_each.ensures.alike)

@@ -7,6 +7,7 @@ use Rattle.ecs_archetypes.proofs.ArchetypeCalls.{born_over}
 use Rattle.ecs_archetypes.proofs.Known.{KeepsSizes-then, same_kept}
 use Rattle.ecs_archetypes.proofs.Soundness.{holdings}
 use Rattle.ecs_archetypes.proofs.Standing.{goes_on_alike}
+use Rattle.ecs_archetypes.proofs.Staying.{stay_grown, stay_moved}
 use Rattle.ecs_archetypes.proofs.Archetypes.create.Goals as goal
 
 pub returns-in_err-key-clause-holdings : goal.returns-in_err-key-clause-holdings
@@ -29,3 +30,12 @@ returns-clause-sizes g c = KeepsSizes-then (known_in c.args.self.now.tables) c.a
 
 pub returns-clause-goes_on : goal.returns-clause-goes_on
 returns-clause-goes_on g c = goes_on_then c.args.self.now.tables c.prepare.new.self.tables c.create_in.new.self.tables c.prepare.ensures.grown.goes_on (goes_on_alike c.prepare.new.self.tables c.create_in.new.self.tables c.create_in.ensures.alike)
+
+pub returns-in_err-key-clause-stay : goal.returns-in_err-key-clause-stay
+returns-in_err-key-clause-stay g c = stay_grown c.args.self.now.tables c.prepare.new.self.tables c.prepare.ensures.grown
+
+pub returns-in_err-entity-clause-stay : goal.returns-in_err-entity-clause-stay
+returns-in_err-entity-clause-stay g c = stay_moved c.args.self.now.tables c.prepare.new.self.tables c.create_in.new.self.tables c.prepare.ensures.grown c.create_in.ensures.alike
+
+pub returns-clause-stay : goal.returns-clause-stay
+returns-clause-stay g c = stay_moved c.args.self.now.tables c.prepare.new.self.tables c.create_in.new.self.tables c.prepare.ensures.grown c.create_in.ensures.alike

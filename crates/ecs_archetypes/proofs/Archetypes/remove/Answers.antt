@@ -9,6 +9,8 @@ use Rattle.ecs_archetypes.proofs.ArchetypeCalls.{alike_narrower, apart_narrower,
 use Rattle.ecs_archetypes.proofs.Known.{KeepsSizes-then, same_kept}
 use Rattle.ecs_archetypes.proofs.Soundness.{holdings, own_row, row_stands, sound_same}
 use Rattle.ecs_archetypes.proofs.Standing.{entered_alike, goes_on_alike}
+use Rattle.ecs_archetypes.specs.Staying.{TablesStay, none_goes}
+use Rattle.ecs_archetypes.proofs.Staying.{stay_grown, stay_moved}
 use Rattle.ecs_archetypes.proofs.Archetypes.remove.Goals as goal
 
 pub narrower-requires-clause-stands : goal.narrower-requires-clause-stands
@@ -40,3 +42,10 @@ returns-clause-sizes g c = subst (λ h. KeepsSizes (known_in h.tables) [] (known
 pub returns-clause-goes_on : goal.returns-clause-goes_on
 returns-clause-goes_on g c = subst (λ h. TablesGoOn h.tables c.carry_alone.new.tables) c.self.view_is
     (goes_on_then c.self.inside.tables c.narrower.new.tables c.carry_alone.new.tables c.narrower.ensures.grown.goes_on (goes_on_alike c.narrower.new.tables c.carry_alone.new.tables c.carry_alone.ensures.alike))
+
+pub returns-in_err-to-clause-stay : goal.returns-in_err-to-clause-stay
+returns-in_err-to-clause-stay g c = subst (λ h. TablesStay none_goes h.tables c.narrower.new.tables) c.self.view_is (stay_grown c.self.inside.tables c.narrower.new.tables c.narrower.ensures.grown)
+
+pub returns-clause-stay : goal.returns-clause-stay
+returns-clause-stay g c = subst (λ h. TablesStay none_goes h.tables c.carry_alone.new.tables) c.self.view_is
+    (stay_moved c.self.inside.tables c.narrower.new.tables c.carry_alone.new.tables c.narrower.ensures.grown c.carry_alone.ensures.alike)

@@ -9,6 +9,8 @@ use Rattle.ecs_archetypes.proofs.Known.{same_kept}
 use Rattle.ecs_archetypes.proofs.Soundness.{holdings}
 use Rattle.ecs_archetypes.proofs.Standing.{entered_alike, goes_on_alike}
 use Rattle.ecs_archetypes.proofs.WholeColumns.{alike_column, sound_column}
+use Rattle.ecs_archetypes.specs.Staying.{TablesStay, none_goes}
+use Rattle.ecs_archetypes.proofs.Staying.{stay_alike}
 use Rattle.ecs_archetypes.proofs.Archetypes.set_column.Goals as goal
 
 pub set_column-requires : goal.set_column-requires
@@ -42,3 +44,6 @@ pub returns-clause-whole : goal.returns-clause-whole
 returns-clause-whole g c =
     let values = subst (λ h. AreValues h.tables c.args.key c.args.id c.args.bytes.now) (sym c.self.view_is) c.requires in
     sound_column c.self.inside.entities c.self.inside.tables c.set_column.new.self c.self.invariant.sound c.set_column.ensures.whole c.args.key c.args.id values.0 c.args.bytes.now (c.set_column.ensures.rows values.0 values.1)
+
+pub returns-clause-stay : goal.returns-clause-stay
+returns-clause-stay g c = subst (λ h. TablesStay none_goes h.tables c.set_column.new.self) c.self.view_is (stay_alike c.self.inside.tables c.set_column.new.self (record { shapes = c.set_column.ensures.shapes; last = c.set_column.ensures.last }))

@@ -12,6 +12,8 @@ use Rattle.ecs_archetypes.proofs.Known.{same_kept}
 use Rattle.ecs_archetypes.proofs.RowChanges.{alike_written, sound_written}
 use Rattle.ecs_archetypes.proofs.Soundness.{holdings, row_within}
 use Rattle.ecs_archetypes.proofs.Standing.{entered_alike}
+use Rattle.ecs_archetypes.specs.Staying.{TablesStay, none_goes}
+use Rattle.ecs_archetypes.proofs.Staying.{stay_alike}
 use Rattle.ecs_archetypes.proofs.Archetypes.set_value.Goals as goal
 
 pub set_value-requires-clause-there : goal.set_value-requires-clause-there
@@ -51,3 +53,6 @@ pub returns-clause-whole : goal.returns-clause-whole
 returns-clause-whole g c =
     let r = row_here c.self.inside.entities c.self.inside.tables c.self.invariant.sound (holdings_of c.args.self.now) (ap holdings_of c.self.view_is) c.args.entity (found_lives c.self.inside.entities c.self.inside.tables c.self.invariant.sound (holdings_of c.args.self.now) (ap holdings_of c.self.view_is) c.args.entity c.args.place (ap (λ h. place_of h.entities c.args.entity) c.self.view_is ∙ c.requires.there)) c.args.place (ap (λ h. place_of h.entities c.args.entity) c.self.view_is ∙ c.requires.there) in
     sound_written c.self.inside.entities c.self.inside.tables c.set_value.new.self c.self.invariant.sound c.args.entity c.args.place (put id_cmp c.args.id c.args.bytes.now r.0) (ap (λ h. place_of h.entities c.args.entity) c.self.view_is ∙ c.requires.there) c.set_value.ensures.whole (c.set_value.ensures.rows (c.args.entity, r.0) r.1)
+
+pub returns-clause-stay : goal.returns-clause-stay
+returns-clause-stay g c = subst (λ h. TablesStay none_goes h.tables c.set_value.new.self) c.self.view_is (stay_alike c.self.inside.tables c.set_value.new.self (record { shapes = c.set_value.ensures.shapes; last = c.set_value.ensures.last }))

@@ -8,6 +8,8 @@ use Rattle.ecs_archetypes.proofs.Soundness.{alike_same, holdings, sound_same}
 use Rattle.ecs_archetypes.proofs.ArchetypeCalls.{alike_with, unsettled_nowhere}
 use Rattle.ecs_archetypes.proofs.Known.{KeepsSizes-then, same_kept}
 use Rattle.ecs_archetypes.proofs.Standing.{entered_alike, goes_on_alike}
+use Rattle.ecs_archetypes.specs.Staying.{TablesStay, none_goes}
+use Rattle.ecs_archetypes.proofs.Staying.{stay_grown, stay_moved}
 use Rattle.ecs_archetypes.proofs.Archetypes.settle.Goals as goal
 
 pub returns-in_err-key-clause-holdings : goal.returns-in_err-key-clause-holdings
@@ -34,3 +36,9 @@ returns-clause-sizes g c = subst (λ h. KeepsSizes (known_in h.tables) c.args.id
 pub returns-clause-goes_on : goal.returns-clause-goes_on
 returns-clause-goes_on g c = subst (λ h. TablesGoOn h.tables c.enter.new.tables) c.self.view_is
     (goes_on_then c.self.inside.tables c.table_for.new.tables c.enter.new.tables c.table_for.ensures.grown.goes_on (goes_on_alike c.table_for.new.tables c.enter.new.tables c.enter.ensures.alike))
+
+pub returns-in_err-key-clause-stay : goal.returns-in_err-key-clause-stay
+returns-in_err-key-clause-stay g c = subst (λ h. TablesStay none_goes h.tables c.table_for.new.tables) c.self.view_is (stay_grown c.self.inside.tables c.table_for.new.tables c.table_for.ensures.grown)
+
+pub returns-clause-stay : goal.returns-clause-stay
+returns-clause-stay g c = subst (λ h. TablesStay none_goes h.tables c.enter.new.tables) c.self.view_is (stay_moved c.self.inside.tables c.table_for.new.tables c.enter.new.tables c.table_for.ensures.grown c.enter.ensures.alike)
