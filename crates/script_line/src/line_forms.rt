@@ -112,12 +112,13 @@ pub(crate) fn read_form<'a, A: Allocator + Copy>(
 }
 
 /// Reads a line by its first word, which is none of those that most lines begin with.
+// The words are compared one after another. A `remove` comes here only where there are other blanks around it than one space.
 #[tactic(auto, unfolding(ecs_model::specs::Script::forms))]
 fn rarer_line<'a, A: Allocator>(word: &str, rest: &'a str) -> Line<'a, A>
     ensures { (values : List ℤ) → seen values result ≡ by_rarer_word word.now rest.now }
 {
     match word {
-        "remove" => remove_line(rest),
+        "rows" => rows_line(rest),
         "delete" => delete_line(rest),
         "new" => new_line(rest),
         "show" => show_line(rest),
@@ -127,8 +128,8 @@ fn rarer_line<'a, A: Allocator>(word: &str, rest: &'a str) -> Line<'a, A>
         "keep" => store_line(StoredKind::Kept, rest),
         "monitor" => store_line(StoredKind::Monitor, rest),
         "on" => on_line(rest),
-        "rows" => rows_line(rest),
         "drop" => drop_line(rest),
+        "remove" => remove_line(rest),
         _ => Line::Bad,
     }
 }
