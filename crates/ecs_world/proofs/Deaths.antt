@@ -43,7 +43,7 @@ module _ (w : WorldState) where
           ∙ sym (ap (λ o. told (entity (unwrap_or o 0)) ∷ map (with_name w) (map with_generation is)) p)
 
   -- who falls with a live entity is live
-  falls_live : (e : ℕ) → is_live w e ≡ true → {y : ℕ} → Reached (falling (ids_of w) (entities w)) e y → is_live w y ≡ true
+  pub falls_live : (e : ℕ) → is_live w e ≡ true → {y : ℕ} → Reached (falling (ids_of w) (entities w)) e y → is_live w y ≡ true
   falls_live e live itself = live
   falls_live e live (onward {y = y} {z = z} r c) = listed_live w z ((filtered (λ x. list_any (falls_by (ids_of w) y) (ids_of w x)) (entities w) z).0 c).0
 

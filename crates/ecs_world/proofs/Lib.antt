@@ -35,3 +35,4 @@ pub mod Ranges
 pub mod Quiet
 pub mod SetEach
 pub mod WholeColumns
+pub mod Forgotten

@@ -21,12 +21,14 @@ use Rattle.ecs_archetypes.specs.Archetypes.{known_in}
 use Rattle.ecs_archetypes.specs.Holdings.{AreHoldings, HoldAlike, holds_id}
 use Rattle.ecs_archetypes.specs.Housing.{Housing, IsHoused, holdings_of}
 use Rattle.ecs_archetypes.specs.Scans.{HasMatch, StandApart}
+use Rattle.ecs_archetypes.specs.Staying.{TablesStay, stay_more, stay_same, stay_then}
 use Rattle.ecs_archetypes.proofs.FactSections.{key_other, key_own}
 use Rattle.ecs_archetypes.proofs.Known.{of_all_shapes, of_shape, shape_stands}
 use Rattle.ecs_archetypes.proofs.MapLists.{both}
 use Rattle.ecs_archetypes.proofs.Scanning.{have_rows}
 use Rattle.ecs_archetypes.proofs.Soundness.{holdings}
 use Rattle.ecs_archetypes.proofs.Standing.{ids_of_shape}
+use Rattle.ecs_archetypes.proofs.Staying.{stay_apart}
 use Rattle.ecs_world.specs.Releases.{gets_no_data, mentions_one}
 
 -- cells have each id that is found among theirs
@@ -77,7 +79,7 @@ no_rows g pattern whole unheld k m = by (rows_in g.tables k) refl
         let i = any_key (matches pattern) v.0.1 (ap (list_any (matches pattern)) (sym same) ∙ m.2) in
         absurd (true≢false (sym (ap (λ o. is_some (value_at id_cmp (unwrap_or o []) i.0)) row.cells ∙ i.2) ∙ unheld v.0.0.index i.0 i.1))
 
-neither : (a b : Bool) → (a || b) ≡ false → (a ≡ false) × (b ≡ false)
+pub neither : (a b : Bool) → (a || b) ≡ false → (a ≡ false) × (b ≡ false)
 neither true b h = absurd (true≢false h)
 neither false b h = (refl, h)
 
@@ -89,7 +91,7 @@ spared gone test (c ∷ f) none all =
     let parts = both_true (gone c.0 || test c) (list_all (λ c. gone c.0 || test c) f) all in
     both (test c) (list_all test f) (ap (λ b. b || test c) (sym nots.0) ∙ parts.0) (spared gone test f nots.1 parts.1)
 
-no_true : (b : Bool) → (b ≡ true → ⊥) → b ≡ false
+pub no_true : (b : Bool) → (b ≡ true → ⊥) → b ≡ false
 no_true true h = absurd (h refl)
 no_true false h = refl
 
@@ -108,18 +110,25 @@ sizes_released pattern s n is gone apart test old = of_all_shapes n is test each
         let unmatched : HasMatch s pattern k → ⊥ = λ m. let here : Some m.0 ≡ Some (map (λ c. c.0) f) = sym m.1 ∙ was in let same : m.0 ≡ map (λ c. c.0) f = cc in true≢false (sym m.2 ∙ ap (list_any (matches pattern)) same ∙ none) in
         spared (matches pattern) test f none (of_shape s (λ c. matches pattern c.0 || test c) k f (sym (ap (option_map shape_of) (apart.others k unmatched)) ∙ at) old)
 
--- the housing after some tables with ids of these were released, and all without
+-- the housing after all tables with ids of these were released, and none without
 pub record AreLeft (gone : Id → Bool) (g h : Housing) : Type 0 where
   pub held : HoldAlike (holdings_of h) (holdings_of g)
   pub sizes : (test : Id × ℕ → Bool) → list_all (λ c. gone c.0 || test c) (known_in g.tables) ≡ true → list_all test (known_in h.tables) ≡ true
   pub goes_on : TablesGoOn g.tables h.tables
+  pub stay : TablesStay (list_any gone) g.tables h.tables
   pub whole : IsHoused h
 
 pub left_none : (g : Housing) → IsHoused g → AreLeft (λ i. false) g g
-left_none g whole = record { held = record { live = refl; deletions = refl; cells = refl }; sizes = λ test old. old; goes_on = goes_on_same g.tables; whole = whole }
+left_none g whole = record { held = record { live = refl; deletions = refl; cells = refl }; sizes = λ test old. old; goes_on = goes_on_same g.tables; stay = stay_same (list_any (λ i. false)) g.tables; whole = whole }
 
 pub left_matched : (pattern : Pattern) (g h : Housing) → IsHoused h → HoldAlike (holdings_of h) (holdings_of g) → ((k : TableKey) → HasMatch h.tables pattern k → ⊥) → StandApart pattern g.tables h.tables → AreLeft (matches pattern) g h
-left_matched pattern g h whole held gone apart = record { held = held; sizes = sizes_released pattern g.tables h.tables whole.stored.0 gone apart; goes_on = apart.goes_on; whole = whole }
+left_matched pattern g h whole held gone apart = record {
+  held = held;
+  sizes = sizes_released pattern g.tables h.tables whole.stored.0 gone apart;
+  goes_on = apart.goes_on;
+  stay = stay_apart pattern g.tables h.tables apart;
+  whole = whole;
+}
 
 implied : (p q : Id × ℕ → Bool) → ((c : Id × ℕ) → p c ≡ true → q c ≡ true) → (xs : List (Id × ℕ)) → list_all p xs ≡ true → list_all q xs ≡ true
 implied p q f [] h = refl
@@ -129,10 +138,14 @@ or_either : (a b d : Bool) → ((a || b) || d) ≡ true → (a || (b || d)) ≡ 
 or_either true b d h = refl
 or_either false b d h = h
 
-or_more : (a b d : Bool) → (a ≡ true → b ≡ true) → (a || d) ≡ true → (b || d) ≡ true
-or_more true b d f h = ap (λ z. z || d) (f refl)
-or_more false true d f h = refl
-or_more false false d f h = h
+-- where no id passes either of two tests, none passes the one, and none the other
+none_of_either : (a b : Id → Bool) (ids : List Id) → list_any (λ i. a i || b i) ids ≡ false → (list_any a ids ≡ false) × (list_any b ids ≡ false)
+none_of_either a b [] h = (refl, refl)
+none_of_either a b (i ∷ ids) h =
+    let parts = neither (a i || b i) (list_any (λ i. a i || b i) ids) h in
+    let here = neither (a i) (b i) parts.0 in
+    let rest = none_of_either a b ids parts.1 in
+    (ap (λ z. z || list_any a ids) here.0 ∙ rest.0, ap (λ z. z || list_any b ids) here.1 ∙ rest.1)
 
 -- one release after another
 pub left_then : (a b : Id → Bool) (f g h : Housing) → AreLeft a f g → AreLeft b g h → AreLeft (λ i. a i || b i) f h
@@ -140,17 +153,15 @@ left_then a b f g h first second = record {
   held = record { live = second.held.live ∙ first.held.live; deletions = second.held.deletions ∙ first.held.deletions; cells = second.held.cells ∙ first.held.cells };
   sizes = λ test old. second.sizes test (first.sizes (λ c. b c.0 || test c) (implied (λ c. (a c.0 || b c.0) || test c) (λ c. a c.0 || (b c.0 || test c)) (λ c. or_either (a c.0) (b c.0) (test c)) (known_in f.tables) old));
   goes_on = goes_on_then f.tables g.tables h.tables first.goes_on second.goes_on;
+  stay = stay_then (list_any (λ i. a i || b i)) f.tables g.tables h.tables
+      (stay_more (list_any a) (list_any (λ i. a i || b i)) f.tables g.tables (λ ids none. (none_of_either a b ids none).0) first.stay)
+      (stay_more (list_any b) (list_any (λ i. a i || b i)) g.tables h.tables (λ ids none. (none_of_either a b ids none).1) second.stay);
   whole = second.whole;
 }
 
--- fewer ids are told to have gone
-pub left_fewer : (a b : Id → Bool) (g h : Housing) → ((i : Id) → b i ≡ true → a i ≡ true) → AreLeft a g h → AreLeft b g h
-left_fewer a b g h within left = record {
-  held = left.held;
-  sizes = λ test old. left.sizes test (implied (λ c. b c.0 || test c) (λ c. a c.0 || test c) (λ c. or_more (b c.0) (a c.0) (test c) (within c.0)) (known_in g.tables) old);
-  goes_on = left.goes_on;
-  whole = left.whole;
-}
+-- the same ids, told otherwise
+pub left_same : (a b : Id → Bool) (g h : Housing) → ((i : Id) → a i ≡ b i) → AreLeft a g h → AreLeft b g h
+left_same a b g h same left = subst (λ gone. AreLeft gone g h) (λ k. λ i. same i k) left
 
 -- what isn't held at first isn't held after
 pub unheld_still : (a gone : Id → Bool) (g h : Housing) → AreLeft a g h → AreUnheld gone g → AreUnheld gone h
@@ -198,23 +209,23 @@ pub targets_mention : (dead : ℕ) (i : Id) → matches (pairs_to dead) i ≡ tr
 targets_mention dead (plain c) h = absurd (true≢false (sym h))
 targets_mention dead (pair r t) h = second_of_two (r == dead) (t == dead) h
 
-all_three : (dead : ℕ) (i : Id) → mentions dead i ≡ true → ((matches (plain_of dead) i || matches (pairs_of dead) i) || matches (pairs_to dead) i) ≡ true
-all_three dead (plain c) h = by (c == dead) h
+all_three : (dead : ℕ) (i : Id) → ((matches (plain_of dead) i || matches (pairs_of dead) i) || matches (pairs_to dead) i) ≡ mentions dead i
+all_three dead (plain c) = by (c == dead)
   where
-    by : (a : Bool) → (a || false) ≡ true → ((a || false) || false) ≡ true
-    by true h = refl
-    by false h = h
-all_three dead (pair r t) h = by (r == dead) (t == dead) h
+    by : (a : Bool) → ((a || false) || false) ≡ (a || false)
+    by true = refl
+    by false = refl
+all_three dead (pair r t) = by (r == dead) (t == dead)
   where
-    by : (a b : Bool) → (a || (b || false)) ≡ true → ((a && true) || b) ≡ true
-    by true b h = refl
-    by false true h = refl
-    by false false h = h
+    by : (a b : Bool) → ((a && true) || b) ≡ (a || (b || false))
+    by true b = refl
+    by false true = refl
+    by false false = refl
 
 -- all ids that mention an entity have gone after the three
 pub left_mentions : (dead : ℕ) (g h m n : Housing) → AreLeft (matches (plain_of dead)) g h → AreLeft (matches (pairs_of dead)) h m → AreLeft (matches (pairs_to dead)) m n → AreLeft (mentions dead) g n
 left_mentions dead g h m n first second third =
-    left_fewer (λ i. (matches (plain_of dead) i || matches (pairs_of dead) i) || matches (pairs_to dead) i) (mentions dead) g n (all_three dead)
+    left_same (λ i. (matches (plain_of dead) i || matches (pairs_of dead) i) || matches (pairs_to dead) i) (mentions dead) g n (all_three dead)
     (left_then (λ i. matches (plain_of dead) i || matches (pairs_of dead) i) (matches (pairs_to dead)) g m n (left_then (matches (plain_of dead)) (matches (pairs_of dead)) g h m first second) third)
 
 -- item by item of a list, each with the ids that go with it
@@ -224,13 +235,13 @@ module _ {X : Type 0} (goes : X → Id → Bool) (xs : List X) (g : Housing) whe
 
   pub left_next : (n : ℕ) (d x : X) (h k : Housing) → n < length xs → x ≡ get_or xs n d → IsLeftTo n h → AreLeft (goes x) h k → IsLeftTo (n + 1) k
   left_next n d x h k within is so_far now =
-      left_fewer (λ i. list_any (λ y. goes y i) (take n xs) || goes x i) (λ i. list_any (λ y. goes y i) (take (n + 1) xs)) g k
-      (λ i. λ gone. ap (λ y. list_any (λ y. goes y i) (take n xs) || goes y i) is ∙ sym (list_any_more (λ y. goes y i) xs n d within) ∙ gone)
+      left_same (λ i. list_any (λ y. goes y i) (take n xs) || goes x i) (λ i. list_any (λ y. goes y i) (take (n + 1) xs)) g k
+      (λ i. ap (λ y. list_any (λ y. goes y i) (take n xs) || goes y i) is ∙ sym (list_any_more (λ y. goes y i) xs n d within))
       (left_then (λ i. list_any (λ y. goes y i) (take n xs)) (goes x) g h k so_far now)
 
   -- an item for which nothing is to be released
   pub left_skipped : (x : X) (h : Housing) → ((i : Id) → goes x i ≡ false) → IsHoused h → AreLeft (goes x) h h
-  left_skipped x h nothing whole = left_fewer (λ i. false) (goes x) h h (λ i gone. sym (nothing i) ∙ gone) (left_none h whole)
+  left_skipped x h nothing whole = left_same (λ i. false) (goes x) h h (λ i. sym (nothing i)) (left_none h whole)
 
   pub unheld_at : (n : ℕ) (d x : X) (h : Housing) → n < length xs → x ≡ get_or xs n d → IsLeftTo n h → AreUnheld (λ i. list_any (λ y. goes y i) xs) g → AreUnheld (goes x) h
   unheld_at n d x h within is so_far unheld = unheld_still (λ i. list_any (λ y. goes y i) (take n xs)) (goes x) g h so_far
@@ -278,10 +289,10 @@ pub left_all : {X : Type 0} (goes : X → Id → Bool) (xs : List X) (g h : Hous
 left_all goes xs g h n end left = subst (λ ys. AreLeft (λ i. list_any (λ y. goes y i) ys) g h) (take_whole xs n end) left
 
 pub left_dead : (dead : List ℕ) (g h : Housing) (n : ℕ) → length dead ≤ n → IsLeftTo mentions dead g n h → AreLeft (mentions_one dead) g h
-left_dead dead g h n end left = left_fewer (λ i. list_any (λ d. mentions d i) dead) (mentions_one dead) g h (λ i gone. sym (mentions_each dead i) ∙ gone) (left_all mentions dead g h n end left)
+left_dead dead g h n end left = left_same (λ i. list_any (λ d. mentions d i) dead) (mentions_one dead) g h (λ i. sym (mentions_each dead i)) (left_all mentions dead g h n end left)
 
 pub left_tagged : (came : List (Key × ℕ)) (g h : Housing) (n : ℕ) → length came ≤ n → IsLeftTo tags_with came g n h → AreLeft (gets_no_data came) g h
-left_tagged came g h n end left = left_fewer (λ i. list_any (λ k. tags_with k i) came) (gets_no_data came) g h (λ i gone. sym (tags_each came i) ∙ gone) (left_all tags_with came g h n end left)
+left_tagged came g h n end left = left_same (λ i. list_any (λ k. tags_with k i) came) (gets_no_data came) g h (λ i. sym (tags_each came i)) (left_all tags_with came g h n end left)
 
 -- the pairs of a relationship to which PairIsTag comes
 pub tags_match : (x : Key × ℕ) (e : ℕ) (i : Id) → x.0 ≡ (e, plain pair_is_tag) → tags_with x i ≡ matches (pairs_of e) i
@@ -305,7 +316,7 @@ unheld_tag came g h n x e within is tag so_far unheld d i gone =
 
 -- a fact that brings PairIsTag is done with once the pairs are released
 pub left_tag : (x : Key × ℕ) (e : ℕ) (g h : Housing) → x.0 ≡ (e, plain pair_is_tag) → AreLeft (matches (pairs_of e)) g h → AreLeft (tags_with x) g h
-left_tag x e g h tag left = left_fewer (matches (pairs_of e)) (tags_with x) g h (λ i gone. sym (tags_match x e i tag) ∙ gone) left
+left_tag x e g h tag left = left_same (matches (pairs_of e)) (tags_with x) g h (λ i. sym (tags_match x e i tag)) left
 
 -- a fact whose id was compared with PairIsTag
 module _ (x : Key × ℕ) (a : Key) (i p : Id) (is_key : a ≡ x.0) (is_id : i ≡ a.1) (is_tag : p ≡ plain pair_is_tag) where

@@ -1,7 +1,8 @@
 -- What is seen of a world tells of its state, of its tables, and of the entities in them.
-use Rattle.std.proofs.Common.{◌≡◌, ℕ, ◌&&◌, Bool, true, false, is_some, refl, sym, ap, subst}
+use Rattle.std.proofs.Common.{◌≡◌, ℕ, ◌&&◌, Bool, true, false, List, is_some, refl, sym, ap, subst}
 use Rattle.std.specs.Ordering.{nat_cmp}
 use Rattle.ecs_id.specs.declared.EntityId.{EntityId}
+use Rattle.ecs_id.specs.Id.{Id}
 use Rattle.component_index.specs.Listings.{Lists}
 use Rattle.ecs_model.specs.Map.{Map, value_at}
 use Rattle.ecs_model.specs.Schema.{Schema}
@@ -9,6 +10,7 @@ use Rattle.ecs_model.specs.World.{WorldState, is_alive}
 use Rattle.name_index.specs.Names.{Names}
 use Rattle.ecs_archetypes.specs.Holdings.{Holdings, bytes_at, cells_at, held_at, is_settled, lives}
 use Rattle.ecs_archetypes.specs.Housing.{Housing, holdings_of}
+use Rattle.ecs_archetypes.specs.Staying.{TablesStay}
 use Rattle.entity_index.specs.Sizes.{live_size}
 use Rattle.table_store.specs.Going.{TablesGoOn}
 use Rattle.table_store.specs.Store.{Store}
@@ -25,6 +27,10 @@ state_is is = ap (λ u. u.state) is
 -- the tables go on from those that were seen
 pub going_on : {s t : Standing} {n : Store} → s ≡ t → TablesGoOn s.tables n → TablesGoOn t.tables n
 going_on {n = n} is on = subst (λ u. TablesGoOn u.tables n) is on
+
+-- and stay
+pub staying_on : {may_go : List Id → Bool} {s t : Standing} {n : Store} → s ≡ t → TablesStay may_go s.tables n → TablesStay may_go t.tables n
+staying_on {may_go = may_go} {n = n} is stay = subst (λ u. TablesStay may_go u.tables n) is stay
 
 module _ {parts : Parts} (world : IsWorld parts) where
   abbrev h : Holdings

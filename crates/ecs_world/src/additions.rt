@@ -2,6 +2,7 @@
 
 ghost use Rattle.std.specs.Prelude.{◌≡◌, ◌<◌, [], ◌∷◌, false, true, None, All, IfOk, IsTrue, OnErr, OnOk, filter, length, nat_le};
 ghost use Rattle.std.specs.List.{list_all, list_any};
+ghost use Rattle.ecs_archetypes.specs.Staying.{TablesStay};
 ghost use Rattle.ecs_id.specs.Id.{mentioned};
 ghost use Rattle.ecs_model.specs.Command.{with_facts};
 ghost use Rattle.ecs_model.specs.Map.{keys};
@@ -11,6 +12,7 @@ ghost use Rattle.ecs_model.specs.traits.Changes.{facts_after_add, facts_after_re
 ghost use Rattle.ecs_model.specs.traits.Command.{Add, Remove, add_reasons, adds_built_in as brings_built_in, reasons};
 ghost use Rattle.ecs_model.specs.traits.Keeps.{IsWellFormed};
 ghost use Rattle.ecs_world.specs.Changes.{AreCopies, facts_with_new, sized_by, with_bytes, with_copies};
+ghost use Rattle.ecs_world.specs.Releases.{NoneGo, gets_no_data};
 ghost use Rattle.ecs_world.specs.State.{byte_count};
 ghost use Rattle.fact_rules.specs.Additions.{TellsAddition};
 ghost use Rattle.rel_traits.specs.FactLists.{IsOfLive};
@@ -100,6 +102,8 @@ impl<A: Allocator + Copy> World<A> {
         ensures brought { OnOk result (self.new.state ≡ with_facts self.old.state (facts_after_add self.old.state entity.index id)) }
         ensures refused { OnErr result (self.new.state ≡ self.old.state) }
         ensures goes_on { TablesGoOn self.old.tables self.new.tables }
+        ensures stay { OnOk result (TablesStay (list_any (gets_no_data (sized_by self.old.state additions.now.came.items))) self.old.tables self.new.tables) }
+        ensures kept { OnErr result (NoneGo self.old self.new) }
     {
         self.keeps();
         self.bring_new(entity, id, additions)?;
@@ -121,6 +125,8 @@ impl<A: Allocator + Copy> World<A> {
         ensures brought { OnOk result (self.new.state ≡ with_facts self.old.state (facts_with_new self.old.state entity.index id)) }
         ensures refused { OnErr result (self.new.state ≡ self.old.state) }
         ensures goes_on { TablesGoOn self.old.tables self.new.tables }
+        ensures stay { OnOk result (TablesStay (list_any (gets_no_data (sized_by self.old.state additions.now.came.items))) self.old.tables self.new.tables) }
+        ensures kept { OnErr result (NoneGo self.old self.new) }
     {
         let _ = (entity, id);
         let mut came = Vec::new(self.alloc);
@@ -136,6 +142,7 @@ impl<A: Allocator + Copy> World<A> {
         requires { AreCopies self.old.state entity base copies.now }
         ensures state { self.new.state ≡ with_copies self.old.state base copies.now }
         ensures goes_on { TablesGoOn self.old.tables self.new.tables }
+        ensures stay { NoneGo self.old self.new }
     {
         for copy in copies {
             self.write_copy(entity, base, copy.id());
@@ -150,6 +157,7 @@ impl<A: Allocator + Copy> World<A> {
         requires sound { IsWellFormed (with_copies self.old.state base ((entity.index, id) ∷ [])) }
         ensures state { self.new.state ≡ with_copies self.old.state base ((entity.index, id) ∷ []) }
         ensures goes_on { TablesGoOn self.old.tables self.new.tables }
+        ensures stay { NoneGo self.old self.new }
     {
         self.keeps();
         let bytes = self.bytes(base, id).unwrap();
@@ -188,6 +196,7 @@ impl<A: Allocator + Copy> World<A> {
         requires sound { IsWellFormed (with_bytes self.old.state entity.index id bytes.now) }
         ensures state { self.new.state ≡ with_bytes self.old.state entity.index id bytes.now }
         ensures goes_on { TablesGoOn self.old.tables self.new.tables }
+        ensures stay { NoneGo self.old self.new }
     {
         let found = self.archetypes.find(entity, id).unwrap();
         self.archetypes.set_value(entity, found.place, id, bytes);
@@ -218,6 +227,7 @@ impl<A: Allocator + Copy> World<A> {
         ensures taken { OnOk result (self.new.state ≡ with_facts self.old.state (facts_after_remove self.old.state entity.index id)) }
         ensures refused { OnErr result (self.new.state ≡ self.old.state) }
         ensures goes_on { TablesGoOn self.old.tables self.new.tables }
+        ensures stay { NoneGo self.old self.new }
     {
         let _ = (entity, id);
         self.archetypes.change_facts(&mut self.plan, &[], went, &[])

@@ -9,6 +9,7 @@ ghost use Rattle.ecs_model.specs.Refusal.{first_reason};
 ghost use Rattle.ecs_model.specs.Text.{is_name};
 ghost use Rattle.name_index.specs.Names.{IsUnnamed};
 ghost use Rattle.ecs_world.specs.State.{IsUnbound};
+ghost use Rattle.ecs_world.specs.Releases.{NoneGo};
 ghost use Rattle.table_store.specs.Going.{TablesGoOn};
 
 use crate::built_in::COMPONENT;
@@ -26,6 +27,7 @@ impl<A: Allocator + Copy> World<A> {
     pub fn fresh(&mut self) -> Result<Changes<A>, CommandError>
         ensures answers { AnswersStep result (step self.old.state Fresh) self.old.state self.new.state }
         ensures goes_on { TablesGoOn self.old.tables self.new.tables }
+        ensures stay { NoneGo self.old self.new }
     {
         match self.birth_refusal() {
             None => self.make_fresh(),
@@ -37,6 +39,7 @@ impl<A: Allocator + Copy> World<A> {
     pub fn entity(&mut self, name: &str) -> Result<Changes<A>, CommandError>
         ensures answers { AnswersStep result (step self.old.state (Entity name.now)) self.old.state self.new.state }
         ensures goes_on { TablesGoOn self.old.tables self.new.tables }
+        ensures stay { NoneGo self.old self.new }
     {
         match self.birth_refusal() {
             None => self.make_entity(name),
@@ -48,6 +51,7 @@ impl<A: Allocator + Copy> World<A> {
     pub fn component(&mut self, name: &str, schema: Schema<A>) -> Result<Changes<A>, CommandError>
         ensures answers { AnswersStep result (step self.old.state (Component name.now schema)) self.old.state self.new.state }
         ensures goes_on { TablesGoOn self.old.tables self.new.tables }
+        ensures stay { NoneGo self.old self.new }
     {
         match self.birth_refusal() {
             None => self.make_component(name, schema),
@@ -59,6 +63,7 @@ impl<A: Allocator + Copy> World<A> {
         requires { first_reason (birth_reasons self.old.state) ≡ None }
         ensures answers { AnswersStep result (step self.old.state Fresh) self.old.state self.new.state }
         ensures goes_on { TablesGoOn self.old.tables self.new.tables }
+        ensures stay { NoneGo self.old self.new }
     {
         let entity = self.archetypes.upcoming().unwrap();
         cover(&mut self.pins, entity)?;
@@ -73,6 +78,7 @@ impl<A: Allocator + Copy> World<A> {
         requires { first_reason (birth_reasons self.old.state) ≡ None }
         ensures answers { AnswersStep result (step self.old.state (Entity name.now)) self.old.state self.new.state }
         ensures goes_on { TablesGoOn self.old.tables self.new.tables }
+        ensures stay { NoneGo self.old self.new }
     {
         let entity = self.archetypes.upcoming().unwrap();
         cover(&mut self.pins, entity)?;
@@ -89,6 +95,7 @@ impl<A: Allocator + Copy> World<A> {
         requires { first_reason (birth_reasons self.old.state) ≡ None }
         ensures answers { AnswersStep result (step self.old.state (Component name.now schema)) self.old.state self.new.state }
         ensures goes_on { TablesGoOn self.old.tables self.new.tables }
+        ensures stay { NoneGo self.old self.new }
     {
         let entity = self.archetypes.upcoming().unwrap();
         // What is known of it: it has no fault.

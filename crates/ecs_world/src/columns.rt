@@ -5,6 +5,7 @@ ghost use Rattle.std.specs.List.{list_any};
 ghost use Rattle.ecs_model.specs.BuiltIns.{with_trait};
 ghost use Rattle.ecs_model.specs.Links.{target_under};
 ghost use Rattle.ecs_model.specs.World.{ids_of, type_of_id};
+ghost use Rattle.ecs_world.specs.Releases.{NoneGo};
 ghost use Rattle.table_store.specs.Going.{TablesGoOn};
 ghost use Rattle.table_store.specs.Rows.{rows_in};
 ghost use Rattle.ecs_archetypes.specs.Tables.{StandAlike};
@@ -52,6 +53,7 @@ impl<A: Allocator> World<A> {
         ensures unchanged { OnErr result (self.new ≡ self.old) }
         ensures alike { StandAlike self.old.tables self.new.tables }
         ensures goes_on { TablesGoOn self.old.tables self.new.tables }
+        ensures stay { NoneGo self.old self.new }
     {
         let rows = self.judge_column(key, id, bytes.len())?;
         // What is known of each row.

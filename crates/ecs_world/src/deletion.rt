@@ -5,6 +5,7 @@ ghost use Rattle.std.specs.List.{list_any};
 ghost use Rattle.std.specs.Ordering.{nat_cmp};
 ghost use Rattle.std.specs.String.{string_bytes};
 ghost use Rattle.std.specs.FinMap as finite;
+ghost use Rattle.ecs_archetypes.specs.Staying.{TablesStay};
 ghost use Rattle.ecs_id.specs.declared.EntityId.{EntityId};
 ghost use Rattle.ecs_model.specs.Command.{AnswersStep};
 ghost use Rattle.ecs_model.specs.Map.{IsMap, keys, without};
@@ -13,6 +14,7 @@ ghost use Rattle.ecs_model.specs.World.{is_alive};
 ghost use Rattle.ecs_model.specs.traits.Changes.{deleted, mentions_gone};
 ghost use Rattle.ecs_model.specs.traits.Command.{Delete, delete_reasons, reasons, step, without_entities};
 ghost use Rattle.ecs_world.specs.Changes.{TellsRefusal, deaths_of, entities_at};
+ghost use Rattle.ecs_world.specs.Releases.{NoneGo, OnlyForgottenGo, mentions_one};
 ghost use Rattle.fact_rules.specs.Deletions.{is_lost};
 ghost use Rattle.table_store.specs.Going.{TablesGoOn};
 
@@ -35,6 +37,7 @@ impl<A: Allocator + Copy> World<A> {
     pub fn delete(&mut self, entity: EntityId) -> Result<Changes<A>, CommandError>
         ensures answers { AnswersStep result (step self.old.state (Delete entity)) self.old.state self.new.state }
         ensures goes_on { TablesGoOn self.old.tables self.new.tables }
+        ensures stay { OnlyForgottenGo self.old self.new }
     {
         if !self.is_alive(entity) {
             return Err(CommandError::Refused(Refusal::Dead));
@@ -122,6 +125,8 @@ impl<A: Allocator + Copy> World<A> {
         ensures buried { OnOk result (self.new.state ≡ without_entities self.old.state (deleted self.old.state entity.index)) }
         ensures refused { OnErr result (self.new.state ≡ self.old.state) }
         ensures goes_on { TablesGoOn self.old.tables self.new.tables }
+        ensures stay { OnOk result (TablesStay (list_any (mentions_one deletion.now.dead.items)) self.old.tables self.new.tables) }
+        ensures kept { OnErr result (NoneGo self.old self.new) }
     {
         let _ = entity;
         let mut dead = Vec::new(self.alloc);

@@ -2,6 +2,7 @@
 
 ghost use Rattle.ecs_model.specs.Command.{AnswersStep};
 ghost use Rattle.ecs_model.specs.traits.Command.{Add, Remove, SetValue, step};
+ghost use Rattle.ecs_world.specs.Releases.{NoneGo, OnlyForgottenGo};
 ghost use Rattle.table_store.specs.Going.{TablesGoOn};
 
 use crate::changes::ChangeLists;
@@ -20,6 +21,7 @@ impl<A: Allocator + Copy> World<A> {
     pub fn add(&mut self, entity: EntityId, id: Id) -> Result<Changes<A>, CommandError>
         ensures answers { AnswersStep result (step self.old.state (Add entity id)) self.old.state self.new.state }
         ensures goes_on { TablesGoOn self.old.tables self.new.tables }
+        ensures stay { OnlyForgottenGo self.old self.new }
     {
         if self.comes_alone(entity, id) {
             self.add_single(entity, id)
@@ -37,6 +39,7 @@ impl<A: Allocator + Copy> World<A> {
     ) -> Result<Changes<A>, CommandError>
         ensures answers { AnswersStep result (step self.old.state (SetValue entity id values.now)) self.old.state self.new.state }
         ensures goes_on { TablesGoOn self.old.tables self.new.tables }
+        ensures stay { OnlyForgottenGo self.old self.new }
     {
         if self.comes_alone(entity, id) {
             self.set_single(entity, id, values)
@@ -50,6 +53,7 @@ impl<A: Allocator + Copy> World<A> {
     pub fn remove(&mut self, entity: EntityId, id: Id) -> Result<Changes<A>, CommandError>
         ensures answers { AnswersStep result (step self.old.state (Remove entity id)) self.old.state self.new.state }
         ensures goes_on { TablesGoOn self.old.tables self.new.tables }
+        ensures stay { NoneGo self.old self.new }
     {
         if self.is_unmirrored(id) {
             self.remove_single(entity, id)
@@ -62,6 +66,7 @@ impl<A: Allocator + Copy> World<A> {
     fn add_all(&mut self, entity: EntityId, id: Id) -> Result<Changes<A>, CommandError>
         ensures answers { AnswersStep result (step self.old.state (Add entity id)) self.old.state self.new.state }
         ensures goes_on { TablesGoOn self.old.tables self.new.tables }
+        ensures stay { OnlyForgottenGo self.old self.new }
     {
         if !self.is_alive(entity) || !self.mentions_live(id) {
             return Err(CommandError::Refused(Refusal::Dead));
@@ -98,6 +103,7 @@ impl<A: Allocator + Copy> World<A> {
     ) -> Result<Changes<A>, CommandError>
         ensures answers { AnswersStep result (step self.old.state (SetValue entity id values.now)) self.old.state self.new.state }
         ensures goes_on { TablesGoOn self.old.tables self.new.tables }
+        ensures stay { OnlyForgottenGo self.old self.new }
     {
         if !self.is_alive(entity) || !self.mentions_live(id) {
             return Err(CommandError::Refused(Refusal::Dead));
@@ -137,6 +143,7 @@ impl<A: Allocator + Copy> World<A> {
     fn remove_both(&mut self, entity: EntityId, id: Id) -> Result<Changes<A>, CommandError>
         ensures answers { AnswersStep result (step self.old.state (Remove entity id)) self.old.state self.new.state }
         ensures goes_on { TablesGoOn self.old.tables self.new.tables }
+        ensures stay { NoneGo self.old self.new }
     {
         if !self.is_alive(entity) {
             return Err(CommandError::Refused(Refusal::Dead));

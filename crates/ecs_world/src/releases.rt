@@ -6,6 +6,7 @@ ghost use Rattle.ecs_id.specs.Id.{Id, mentioned};
 ghost use Rattle.ecs_archetypes.specs.Archetypes.{known_in};
 ghost use Rattle.ecs_archetypes.specs.Holdings.{AreHoldings, HoldAlike, holds_id};
 ghost use Rattle.ecs_archetypes.specs.Housing.{IsHoused, holdings_of};
+ghost use Rattle.ecs_archetypes.specs.Staying.{TablesStay};
 ghost use Rattle.ecs_world.specs.Releases.{gets_no_data, mentions_one};
 ghost use Rattle.table_store.specs.Going.{TablesGoOn};
 
@@ -24,6 +25,7 @@ pub(crate) fn release_tag_pairs<A: Allocator + Copy>(
     ensures held { HoldAlike (holdings_of archetypes.new) (holdings_of archetypes.old) }
     ensures sizes { (test : Id × ℕ → Bool) → IsTrue (list_all (λ c. gets_no_data came.now c.0 || test c) (known_in archetypes.old.tables)) → IsTrue (list_all test (known_in archetypes.new.tables)) }
     ensures goes_on { TablesGoOn archetypes.old.tables archetypes.new.tables }
+    ensures stay { TablesStay (list_any (gets_no_data came.now)) archetypes.old.tables archetypes.new.tables }
     ensures holdings { AreHoldings (holdings_of archetypes.new) }
     ensures whole { IsHoused archetypes.new }
 {
@@ -48,6 +50,7 @@ pub(crate) fn release_dead<A: Allocator + Copy>(archetypes: &mut Archetypes<A>, 
     ensures held { HoldAlike (holdings_of archetypes.new) (holdings_of archetypes.old) }
     ensures sizes { (test : Id × ℕ → Bool) → IsTrue (list_all (λ c. mentions_one dead.now c.0 || test c) (known_in archetypes.old.tables)) → IsTrue (list_all test (known_in archetypes.new.tables)) }
     ensures goes_on { TablesGoOn archetypes.old.tables archetypes.new.tables }
+    ensures stay { TablesStay (list_any (mentions_one dead.now)) archetypes.old.tables archetypes.new.tables }
     ensures holdings { AreHoldings (holdings_of archetypes.new) }
     ensures whole { IsHoused archetypes.new }
 {
@@ -67,6 +70,7 @@ fn release_mentions<A: Allocator + Copy>(archetypes: &mut Archetypes<A>, index: 
     ensures held { HoldAlike (holdings_of archetypes.new) (holdings_of archetypes.old) }
     ensures sizes { (test : Id × ℕ → Bool) → IsTrue (list_all (λ c. list_any (λ x. x == index) (mentioned c.0) || test c) (known_in archetypes.old.tables)) → IsTrue (list_all test (known_in archetypes.new.tables)) }
     ensures goes_on { TablesGoOn archetypes.old.tables archetypes.new.tables }
+    ensures stay { TablesStay (list_any (λ i. list_any (λ x. x == index) (mentioned i))) archetypes.old.tables archetypes.new.tables }
     ensures holdings { AreHoldings (holdings_of archetypes.new) }
     ensures whole { IsHoused archetypes.new }
 {

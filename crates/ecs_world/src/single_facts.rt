@@ -5,6 +5,7 @@ ghost use Rattle.ecs_model.specs.Command.{AnswersStep};
 ghost use Rattle.ecs_model.specs.World.{ids_of};
 ghost use Rattle.ecs_model.specs.traits.Command.{Add, Remove, SetValue, step};
 ghost use Rattle.fact_rules.specs.Simple.{ComesAlone, is_unmirrored};
+ghost use Rattle.ecs_world.specs.Releases.{NoneGo};
 ghost use Rattle.table_store.specs.Going.{TablesGoOn};
 
 use crate::{Changes, World};
@@ -23,6 +24,7 @@ impl<A: Allocator + Copy> World<A> {
         requires alone { ComesAlone (ids_of self.old.state) (entity.index, id) }
         ensures answers { AnswersStep result (step self.old.state (Add entity id)) self.old.state self.new.state }
         ensures goes_on { TablesGoOn self.old.tables self.new.tables }
+        ensures stay { NoneGo self.old self.new }
     {
         let Some(found) = self.archetypes.find(entity, id) else {
             return Err(CommandError::Refused(Refusal::Dead));
@@ -53,6 +55,7 @@ impl<A: Allocator + Copy> World<A> {
         requires alone { ComesAlone (ids_of self.old.state) (entity.index, id) }
         ensures answers { AnswersStep result (step self.old.state (SetValue entity id values.now)) self.old.state self.new.state }
         ensures goes_on { TablesGoOn self.old.tables self.new.tables }
+        ensures stay { NoneGo self.old self.new }
     {
         let Some(found) = self.archetypes.find(entity, id) else {
             return Err(CommandError::Refused(Refusal::Dead));
@@ -84,6 +87,7 @@ impl<A: Allocator + Copy> World<A> {
         requires unmirrored { is_unmirrored (ids_of self.old.state) id ≡ true }
         ensures answers { AnswersStep result (step self.old.state (Remove entity id)) self.old.state self.new.state }
         ensures goes_on { TablesGoOn self.old.tables self.new.tables }
+        ensures stay { NoneGo self.old self.new }
     {
         let Some(found) = self.archetypes.find(entity, id) else {
             return Err(CommandError::Refused(Refusal::Dead));

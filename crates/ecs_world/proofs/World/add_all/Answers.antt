@@ -13,6 +13,7 @@ use Rattle.ecs_world.proofs.Accepted.{on_ok}
 use Rattle.ecs_model.proofs.Answering.{answers_refused}
 use Rattle.ecs_world.proofs.Counting.{counted_state, counted_world}
 use Rattle.ecs_world.proofs.FirstReasons.{add_of_dead, add_otherwise, add_to_built_in}
+use Rattle.ecs_world.proofs.Forgotten.{added_stay, going_to}
 use Rattle.ecs_world.proofs.Left.{effect-add}
 use Rattle.ecs_world.proofs.Refusing.{entity_dead, mention_dead, not_dead}
 use Rattle.ecs_world.proofs.Standings.{state_is}
@@ -91,3 +92,18 @@ returns-clause-answers g c =
     (state_is c.self-3.view_is ∙ brought ∙ ap (λ u. with_facts u (facts_after_add u c.args.entity.index c.args.id)) (state_is c.addition_refusal.ensures.same ∙ seen) ∙ sym (effect-add c.args.self.now.state c.args.entity c.args.id))
     sound tt none)
     (c.of_lists.ensures ∙ c.with_facts.ensures ∙ (λ k. record (c.in-Ok-new.ensures k) { came = c.list_additions.new.additions.came.items; went = c.list_additions.new.additions.went.items }))
+
+pub returns-clause-stay : goal.returns-clause-stay
+returns-clause-stay g c =
+    let live = not_dead c.args.self.now.state c.args.entity c.args.id (sym c.is_alive.ensures ∙ c.if-not-is_alive.false) (sym c.mentions_live.ensures ∙ c.if-not-mentions_live.false) in
+    let lists = on_ok c.list_additions.result c.list_additions.ensures.tells (sym c.is_err.ensures.value ∙ c.if-is_err.false) in
+    let own = ap (list_any is_of_built_in) (sym (c.deref.ensures.value ∙ lists.all_are)) ∙ sym c.adds_built_in.ensures ∙ c.if-adds_built_in.false in
+    let seen = state_is c.list_additions.ensures.same in
+    let none = add_otherwise c.args.self.now.state c.args.entity c.args.id live own ∙ ap (λ u. first_reason (add_reasons u c.args.entity.index c.args.id)) (sym seen) ∙ sym c.in-Ok.ensures.judged ∙ c.in_default-judged.is in
+    let brought = on_ok c.bring.result c.bring.ensures.brought (sym c.is_err-2.ensures.value ∙ c.if-is_err-2.false) in
+    let sound = subst IsWellFormed (state_is c.self.view_is) c.self.invariant.sound in
+    let left = counted_state c.self-3.invariant c.args.self.now.state (Add c.args.entity c.args.id)
+    (state_is c.self-3.view_is ∙ brought ∙ ap (λ u. with_facts u (facts_after_add u c.args.entity.index c.args.id)) (state_is c.addition_refusal.ensures.same ∙ seen) ∙ sym (effect-add c.args.self.now.state c.args.entity c.args.id)) sound tt none in
+    let brought_stay = on_ok c.bring.result c.bring.ensures.stay (sym c.is_err-2.ensures.value ∙ c.if-is_err-2.false) in
+    going_to (c.addition_refusal.ensures.same ∙ c.list_additions.ensures.same) c.bring.new.self (sym (ap (λ s. s.tables) c.self-3.view_is))
+    (added_stay c.args.self.now.state _ c.args.entity c.args.id lists sound c.addition_refusal.new.self.state c.addition_refusal.new.self.tables c.bring.new.self.tables brought_stay none left)

@@ -6,6 +6,7 @@ use Rattle.ecs_model.specs.traits.Command.{Add}
 use Rattle.ecs_model.specs.traits.Keeps.{IsWellFormed}
 use Rattle.ecs_model.proofs.Additions.{not_spent}
 use Rattle.ecs_model.proofs.Answering.{step-refused}
+use Rattle.ecs_archetypes.specs.Staying.{none_goes, stay_same}
 use Rattle.table_store.specs.Going.{goes_on_same}
 use Rattle.ecs_world.specs.State.{no_change}
 use Rattle.ecs_world.proofs.Accepted.{added_left, counted_left, failed, fits_there, found_count, found_dead, found_held, on_err, on_ok, size_there}
@@ -13,7 +14,7 @@ use Rattle.ecs_world.proofs.Judged.{judged-add}
 use Rattle.ecs_world.proofs.Left.{effect-add, facts_held}
 use Rattle.ecs_world.proofs.Refusing.{add_dead, entity_dead}
 use Rattle.ecs_world.proofs.Told.{told_add}
-use Rattle.ecs_world.proofs.Standings.{going_on, state_is}
+use Rattle.ecs_world.proofs.Standings.{going_on, state_is, staying_on}
 use Rattle.ecs_world.proofs.World.add_single.Goals as goal
 
 pub returns-in_default-clause-answers : goal.returns-in_default-clause-answers
@@ -28,6 +29,9 @@ returns-in_default-clause-answers g c =
 pub returns-in_default-clause-goes_on : goal.returns-in_default-clause-goes_on
 returns-in_default-clause-goes_on g c = goes_on_same _
 
+pub returns-in_default-clause-stay : goal.returns-in_default-clause-stay
+returns-in_default-clause-stay g c = stay_same none_goes _
+
 pub single_refusal-requires-clause-held : goal.single_refusal-requires-clause-held
 single_refusal-requires-clause-held g c = found_held c.self.invariant (state_is c.self.view_is) c.args.entity c.args.id c.in-Some.found.is_held c.in-Some.ensures.held
 
@@ -39,6 +43,9 @@ returns-in-Some-single_refusal-clause-answers g c = (step-refused c.args.self.no
 
 pub returns-in-Some-single_refusal-clause-goes_on : goal.returns-in-Some-single_refusal-clause-goes_on
 returns-in-Some-single_refusal-clause-goes_on g c = goes_on_same _
+
+pub returns-in-Some-single_refusal-clause-stay : goal.returns-in-Some-single_refusal-clause-stay
+returns-in-Some-single_refusal-clause-stay g c = stay_same none_goes _
 
 pub overflow_add-self : goal.overflow_add-self
 overflow_add-self g c =
@@ -73,6 +80,9 @@ returns-then-found-clause-answers g c =
 
 pub returns-then-found-clause-goes_on : goal.returns-then-found-clause-goes_on
 returns-then-found-clause-goes_on g c = going_on c.self.view_is (goes_on_same _)
+
+pub returns-then-found-clause-stay : goal.returns-then-found-clause-stay
+returns-then-found-clause-stay g c = staying_on c.self.view_is (stay_same none_goes _)
 
 pub add-requires-clause-agree : goal.add-requires-clause-agree
 add-requires-clause-agree g c =
@@ -112,6 +122,9 @@ returns-then-is_err-clause-answers g c =
 pub returns-then-is_err-clause-goes_on : goal.returns-then-is_err-clause-goes_on
 returns-then-is_err-clause-goes_on g c = going_on c.self.view_is c.add.ensures.goes_on
 
+pub returns-then-is_err-clause-stay : goal.returns-then-is_err-clause-stay
+returns-then-is_err-clause-stay g c = staying_on c.self.view_is c.add.ensures.stay
+
 pub overflow_add-self-2 : goal.overflow_add-self-2
 overflow_add-self-2 g c =
     let spent = rw (← state_is c.self.view_is) at ((judged-add c.args.self.now.state c.args.entity c.args.id c.requires.alone.no_trait (sym c.in_default-single_refusal.ensures)).room) in
@@ -146,3 +159,6 @@ returns-clause-answers g c =
 
 pub returns-clause-goes_on : goal.returns-clause-goes_on
 returns-clause-goes_on g c = going_on c.self.view_is c.add.ensures.goes_on
+
+pub returns-clause-stay : goal.returns-clause-stay
+returns-clause-stay g c = staying_on c.self.view_is c.add.ensures.stay

@@ -2,6 +2,7 @@ use Rattle.std.proofs.Common.{sym, ap, ◌∙◌}
 use Rattle.ecs_model.specs.Command.{with_facts}
 use Rattle.ecs_model.proofs.traits.Copies.{facts_brought}
 use Rattle.ecs_world.proofs.Brought.{unbased}
+use Rattle.ecs_archetypes.specs.Staying.{stay_all, stay_then}
 use Rattle.ecs_world.proofs.Copied.{copies_left, copies_may}
 use Rattle.ecs_world.proofs.World.bring.Goals as goal
 
@@ -22,3 +23,6 @@ returns-in_default-clause-brought g c =
     let e = c.args.entity.index in
     let none = sym c.requires.tells.base_is ∙ c.in_default.is in
     c.in_ok-bring_new.ensures.brought ∙ ap (λ o. with_facts w (facts_brought w e c.args.id o)) none ∙ ap (with_facts w) (unbased w e c.args.id none)
+
+pub returns-in-Some-clause-stay : goal.returns-in-Some-clause-stay
+returns-in-Some-clause-stay g c = stay_then _ _ _ _ c.in_ok-bring_new.ensures.stay (stay_all c.write_copies.ensures.stay)

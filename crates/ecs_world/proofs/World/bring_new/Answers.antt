@@ -1,9 +1,12 @@
-use Rattle.std.proofs.Common.{sym, ap, ◌∙◌}
+use Rattle.std.proofs.Common.{subst, sym, ap, ◌∙◌}
+use Rattle.std.specs.List.{list_any}
 use Rattle.ecs_archetypes.specs.Housing.{holdings_of}
+use Rattle.ecs_archetypes.specs.Staying.{TablesStay, stay_all, stay_then}
 use Rattle.ecs_world.specs.Changes.{sized_by}
+use Rattle.ecs_world.specs.Releases.{gets_no_data}
 use Rattle.ecs_world.proofs.Brought.{all_agree, all_settled, came_ascend, listed, none_held, state_brought, state_kept, untagged, went_ascend, world_brought, world_kept}
 use Rattle.ecs_world.proofs.Changed.{alike_then, when_err}
-use Rattle.ecs_world.proofs.Standings.{state_is}
+use Rattle.ecs_world.proofs.Standings.{state_is, staying_on}
 use Rattle.ecs_world.proofs.World.bring_new.Goals as goal
 
 pub change_facts-requires-clause-came_ascend : goal.change_facts-requires-clause-came_ascend
@@ -74,3 +77,12 @@ returns-clause-brought g c =
     (c.deref-2.ensures.value ∙ c.in_ok-size_facts.ensures.sized ∙ ap (sized_by c.args.self.now.state) c.deref.ensures.value))
     (holdings_of c.release_tag_pairs.new.archetypes) (alike_then c.release_tag_pairs.ensures.held c.in_ok-change_facts.ensures.changed) (holdings_of c.change_facts.new.self) c.deref-4.result.now
     (c.deref-4.ensures.value ∙ sym c.deref-2.ensures.value) c.change_facts.ensures.sizes c.release_tag_pairs.ensures.sizes c.release_tag_pairs.ensures.holdings (state_is c.self.view_is)
+
+pub returns-in_err-change_facts-clause-kept : goal.returns-in_err-change_facts-clause-kept
+returns-in_err-change_facts-clause-kept g c = when_err c.from_residual-in_err-change_facts.result (staying_on c.self.view_is c.change_facts.ensures.stay)
+
+pub returns-clause-stay : goal.returns-clause-stay
+returns-clause-stay g c =
+    let came = c.deref-4.ensures.value ∙ c.in_ok-size_facts.ensures.sized ∙ ap (sized_by c.args.self.now.state) c.deref.ensures.value in
+    staying_on c.self.view_is (stay_then _ _ _ _ (stay_all c.change_facts.ensures.stay)
+    (subst (λ ks. TablesStay (list_any (gets_no_data ks)) c.change_facts.new.self.tables c.release_tag_pairs.new.archetypes.tables) came c.release_tag_pairs.ensures.stay))

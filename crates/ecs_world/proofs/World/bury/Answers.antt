@@ -1,9 +1,11 @@
-use Rattle.std.proofs.Common.{◌||◌, refl, sym, ◌∙◌}
+use Rattle.std.proofs.Common.{◌||◌, refl, subst, sym, ◌∙◌}
+use Rattle.std.specs.List.{list_any}
 use Rattle.ecs_archetypes.specs.Housing.{holdings_of}
+use Rattle.ecs_archetypes.specs.Staying.{TablesStay, stay_all, stay_then}
 use Rattle.ecs_archetypes.proofs.Moving.{alike_then}
 use Rattle.ecs_world.specs.Releases.{mentions_one}
 use Rattle.ecs_world.proofs.Buried.{buried_is, dead_can_go, losing_rise, losing_settled, none_rise, unburied, unheld, whatever}
-use Rattle.ecs_world.proofs.Standings.{state_is}
+use Rattle.ecs_world.proofs.Standings.{state_is, staying_on}
 use Rattle.ecs_world.proofs.World.bury.Goals as goal
 
 pub change_facts-requires-clause-came_ascend : goal.change_facts-requires-clause-came_ascend
@@ -57,3 +59,11 @@ returns-clause-buried g c =
     c.deref-4.result.now (c.deref-4.ensures.value ∙ sym c.deref.ensures.value) c.deref-5.result.now (c.deref-5.ensures.value ∙ sym c.deref-3.ensures.value)
     c.forget.new.schemas.entries c.forget.ensures.schemas c.forget.new.names c.forget.ensures.names
     (λ test t. c.release_dead.ensures.sizes test (c.change_facts.ensures.sizes (λ x. mentions_one c.deref-4.result.now x.0 || test x) t refl))).1
+
+pub returns-in_err-change_facts-clause-kept : goal.returns-in_err-change_facts-clause-kept
+returns-in_err-change_facts-clause-kept g c = whatever c.from_residual-in_err-change_facts.result (staying_on c.self.view_is c.change_facts.ensures.stay)
+
+pub returns-clause-stay : goal.returns-clause-stay
+returns-clause-stay g c =
+    staying_on c.self.view_is (stay_then _ _ _ _ (stay_all c.change_facts.ensures.stay)
+    (subst (λ dead. TablesStay (list_any (mentions_one dead)) c.change_facts.new.self.tables c.release_dead.new.archetypes.tables) c.deref-4.ensures.value c.release_dead.ensures.stay))

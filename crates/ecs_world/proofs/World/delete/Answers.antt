@@ -7,10 +7,12 @@ use Rattle.ecs_model.specs.traits.Changes.{deleted}
 use Rattle.ecs_model.specs.traits.Command.{Delete, reasons, without_entities}
 use Rattle.ecs_model.specs.traits.Keeps.{IsWellFormed}
 use Rattle.ecs_world.specs.Changes.{deaths_of}
-use Rattle.ecs_world.proofs.Accepted.{on_ok}
+use Rattle.ecs_archetypes.specs.Staying.{stay_all}
+use Rattle.ecs_world.proofs.Accepted.{on_err, on_ok}
 use Rattle.ecs_model.proofs.Answering.{answers_refused}
 use Rattle.ecs_world.proofs.Counting.{counted_state, counted_world}
 use Rattle.ecs_world.proofs.FirstReasons.{answers_undeleted, delete_of_built_in, delete_of_dead, delete_otherwise}
+use Rattle.ecs_world.proofs.Forgotten.{deleted_stay, going_to}
 use Rattle.ecs_world.proofs.Standings.{state_is}
 use Rattle.ecs_world.proofs.ToldDeletions.{deletion_told, effect-delete}
 use Rattle.ecs_world.proofs.World.delete.Goals as goal
@@ -73,3 +75,20 @@ returns-clause-answers g c =
     (c.of_lists.ensures ∙ c.with_died.ensures
     ∙ (λ k. record (c.with_facts-lists.ensures k) { died = died k })
     ∙ (λ k. record (c.in-Ok.ensures k) { died = deaths_of c.args.self.now.state (keys (deleted c.args.self.now.state c.args.entity.index)); came = c.new-2.ensures.items k; went = c.in_ok-find_deletion.ensures.went k }))
+
+pub returns-clause-stay : goal.returns-clause-stay
+returns-clause-stay g c =
+    let alive = sym c.is_alive.ensures ∙ c.if-not-is_alive.false in
+    let own = sym c.is_built_in.ensures ∙ c.if-is_built_in.false in
+    let none = delete_otherwise c.args.self.now.state c.args.entity alive own ∙ c.in_ok-find_deletion.ensures.judged in
+    let sound = subst IsWellFormed (state_is c.self.view_is) c.self.invariant.sound in
+    let seen = state_is c.in_ok-find_deletion.ensures.same in
+    let left = state_is c.self-3.view_is ∙ on_ok c.bury.result c.bury.ensures.buried (sym c.is_err-2.ensures.value ∙ c.if-is_err-2.false) ∙ ap (λ u. without_entities u (deleted u c.args.entity.index)) seen ∙ sym (effect-delete c.args.self.now.state c.args.entity) in
+    let buried_stay = on_ok c.bury.result c.bury.ensures.stay (sym c.is_err-2.ensures.value ∙ c.if-is_err-2.false) in
+    going_to c.in_ok-find_deletion.ensures.same c.bury.new.self (sym (ap (λ s. s.tables) c.self-3.view_is))
+    (deleted_stay c.args.self.now.state _ c.args.entity alive (counted_state c.self-3.invariant c.args.self.now.state (Delete c.args.entity) left sound tt none) _ c.in_ok-find_deletion.ensures.dead
+    c.find_deletion.new.self.tables c.bury.new.self.tables buried_stay)
+
+pub returns-then-is_err-2-clause-stay : goal.returns-then-is_err-2-clause-stay
+returns-then-is_err-2-clause-stay g c =
+    going_to c.in_ok-find_deletion.ensures.same c.bury.new.self refl (stay_all (on_err c.bury.result c.bury.ensures.kept (sym c.is_err-2.ensures.value ∙ c.if-is_err-2.true)))

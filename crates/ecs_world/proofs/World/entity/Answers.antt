@@ -1,6 +1,7 @@
 use Rattle.std.proofs.Common.{refl, sym, ◌∙◌}
 use Rattle.ecs_model.specs.traits.Command.{Entity}
 use Rattle.ecs_model.proofs.Answering.{step-refused}
+use Rattle.ecs_archetypes.specs.Staying.{none_goes, stay_same}
 use Rattle.table_store.specs.Going.{goes_on_same}
 use Rattle.ecs_world.proofs.Judged.{entity_refusal}
 use Rattle.ecs_world.proofs.World.entity.Goals as goal
@@ -16,3 +17,6 @@ returns-in-Some-clause-answers g c = (step-refused c.args.self.now.state (Entity
 
 pub returns-in-Some-clause-goes_on : goal.returns-in-Some-clause-goes_on
 returns-in-Some-clause-goes_on g c = goes_on_same _
+
+pub returns-in-Some-clause-stay : goal.returns-in-Some-clause-stay
+returns-in-Some-clause-stay g c = stay_same none_goes _

@@ -1,6 +1,7 @@
 use Rattle.std.proofs.Common.{refl, sym, ◌∙◌}
 use Rattle.ecs_model.specs.traits.Command.{Fresh}
 use Rattle.ecs_model.proofs.Answering.{step-refused}
+use Rattle.ecs_archetypes.specs.Staying.{none_goes, stay_same}
 use Rattle.table_store.specs.Going.{goes_on_same}
 use Rattle.ecs_world.proofs.Judged.{fresh_refusal}
 use Rattle.ecs_world.proofs.World.fresh.Goals as goal
@@ -10,6 +11,9 @@ returns-in-Some-clause-answers g c = (step-refused c.args.self.now.state Fresh c
 
 pub returns-in-Some-clause-goes_on : goal.returns-in-Some-clause-goes_on
 returns-in-Some-clause-goes_on g c = goes_on_same _
+
+pub returns-in-Some-clause-stay : goal.returns-in-Some-clause-stay
+returns-in-Some-clause-stay g c = stay_same none_goes _
 
 pub make_fresh-requires : goal.make_fresh-requires
 make_fresh-requires g c = sym c.in-None.ensures

@@ -6,6 +6,7 @@ use Rattle.ecs_model.specs.traits.Keeps.{IsWellFormed}
 use Rattle.ecs_model.specs.World.{component}
 use Rattle.ecs_model.proofs.Additions.{not_spent}
 use Rattle.ecs_archetypes.specs.Holdings.{HoldAlike, upcoming, with_cells, with_entity}
+use Rattle.ecs_archetypes.specs.Staying.{none_goes, stay_same}
 use Rattle.table_store.specs.Going.{goes_on_same}
 use Rattle.ecs_world.specs.State.{birth}
 use Rattle.ecs_world.proofs.Accepted.{component_agrees, component_fits, component_left, failed, kept, made_is, next_of, next_plain, next_some, next_unnamed, on_err, on_ok, unchanged}
@@ -15,7 +16,7 @@ use Rattle.ecs_world.proofs.NameLists.{freed}
 use Rattle.ecs_world.proofs.Ordered.{insert_put, removed_again}
 use Rattle.ecs_world.proofs.Pinned.{further}
 use Rattle.ecs_world.proofs.Told.{told_component}
-use Rattle.ecs_world.proofs.Standings.{going_on, state_is}
+use Rattle.ecs_world.proofs.Standings.{going_on, state_is, staying_on}
 use Rattle.ecs_world.proofs.World.make_component.Goals as goal
 
 pub unwrap-entity-requires : goal.unwrap-entity-requires
@@ -33,6 +34,9 @@ returns-in_err-cover-clause-answers g c =
 
 pub returns-in_err-cover-clause-goes_on : goal.returns-in_err-cover-clause-goes_on
 returns-in_err-cover-clause-goes_on g c = going_on c.self.view_is (goes_on_same _)
+
+pub returns-in_err-cover-clause-stay : goal.returns-in_err-cover-clause-stay
+returns-in_err-cover-clause-stay g c = staying_on c.self.view_is (stay_same none_goes _)
 
 pub bind-requires : goal.bind-requires
 bind-requires g c =
@@ -53,6 +57,9 @@ returns-in_err-bind-clause-answers g c =
 
 pub returns-in_err-bind-clause-goes_on : goal.returns-in_err-bind-clause-goes_on
 returns-in_err-bind-clause-goes_on g c = going_on c.self.view_is (goes_on_same _)
+
+pub returns-in_err-bind-clause-stay : goal.returns-in_err-bind-clause-stay
+returns-in_err-bind-clause-stay g c = staying_on c.self.view_is (stay_same none_goes _)
 
 pub same-schema : goal.same-schema
 same-schema g c = refl
@@ -75,6 +82,9 @@ returns-then-is_err-clause-answers g c =
 
 pub returns-then-is_err-clause-goes_on : goal.returns-then-is_err-clause-goes_on
 returns-then-is_err-clause-goes_on g c = going_on c.self.view_is (goes_on_same _)
+
+pub returns-then-is_err-clause-stay : goal.returns-then-is_err-clause-stay
+returns-then-is_err-clause-stay g c = staying_on c.self.view_is (stay_same none_goes _)
 
 pub plain-component-requires : goal.plain-component-requires
 plain-component-requires g c = (omega arith, omega arith)
@@ -123,6 +133,9 @@ returns-then-is_err-2-clause-answers g c =
 pub returns-then-is_err-2-clause-goes_on : goal.returns-then-is_err-2-clause-goes_on
 returns-then-is_err-2-clause-goes_on g c = going_on c.self.view_is c.create.ensures.goes_on
 
+pub returns-then-is_err-2-clause-stay : goal.returns-then-is_err-2-clause-stay
+returns-then-is_err-2-clause-stay g c = staying_on c.self.view_is c.create.ensures.stay
+
 pub overflow_add-self : goal.overflow_add-self
 overflow_add-self g c =
     let spent = rw (← state_is c.self.view_is) at ((births c.args.self.now.state c.requires).room) in
@@ -153,3 +166,6 @@ returns-clause-answers g c =
 
 pub returns-clause-goes_on : goal.returns-clause-goes_on
 returns-clause-goes_on g c = going_on c.self.view_is c.create.ensures.goes_on
+
+pub returns-clause-stay : goal.returns-clause-stay
+returns-clause-stay g c = staying_on c.self.view_is c.create.ensures.stay

@@ -3,6 +3,7 @@ use Rattle.ecs_archetypes.specs.Housing.{holdings_of}
 use Rattle.std.proofs.lemmas.Result.{err_from_is_err_and}
 use Rattle.ecs_model.proofs.Additions.{not_spent}
 use Rattle.ecs_archetypes.specs.Holdings.{HoldAlike, upcoming, with_cells, with_entity}
+use Rattle.ecs_archetypes.specs.Staying.{none_goes, stay_same}
 use Rattle.table_store.specs.Going.{goes_on_same}
 use Rattle.ecs_world.proofs.Accepted.{failed, kept, made_is, named_left, next_of, next_some, next_unnamed, on_err, unchanged}
 use Rattle.ecs_world.proofs.Bound.{none_entity, unbound_entity}
@@ -10,7 +11,7 @@ use Rattle.ecs_world.proofs.Judged.{births}
 use Rattle.ecs_world.proofs.NameLists.{freed}
 use Rattle.ecs_world.proofs.Pinned.{further}
 use Rattle.ecs_world.proofs.Told.{told_entity}
-use Rattle.ecs_world.proofs.Standings.{going_on, state_is}
+use Rattle.ecs_world.proofs.Standings.{going_on, state_is, staying_on}
 use Rattle.ecs_world.proofs.World.make_entity.Goals as goal
 
 pub unwrap-entity-requires : goal.unwrap-entity-requires
@@ -28,6 +29,9 @@ returns-in_err-cover-clause-answers g c =
 
 pub returns-in_err-cover-clause-goes_on : goal.returns-in_err-cover-clause-goes_on
 returns-in_err-cover-clause-goes_on g c = going_on c.self.view_is (goes_on_same _)
+
+pub returns-in_err-cover-clause-stay : goal.returns-in_err-cover-clause-stay
+returns-in_err-cover-clause-stay g c = staying_on c.self.view_is (stay_same none_goes _)
 
 pub bind-requires : goal.bind-requires
 bind-requires g c =
@@ -48,6 +52,9 @@ returns-in_err-bind-clause-answers g c =
 
 pub returns-in_err-bind-clause-goes_on : goal.returns-in_err-bind-clause-goes_on
 returns-in_err-bind-clause-goes_on g c = going_on c.self.view_is (goes_on_same _)
+
+pub returns-in_err-bind-clause-stay : goal.returns-in_err-bind-clause-stay
+returns-in_err-bind-clause-stay g c = staying_on c.self.view_is (stay_same none_goes _)
 
 pub slice_bounds-create-end : goal.slice_bounds-create-end
 slice_bounds-create-end g c = refl
@@ -85,6 +92,9 @@ returns-then-is_err-clause-answers g c =
 pub returns-then-is_err-clause-goes_on : goal.returns-then-is_err-clause-goes_on
 returns-then-is_err-clause-goes_on g c = going_on c.self.view_is c.create.ensures.goes_on
 
+pub returns-then-is_err-clause-stay : goal.returns-then-is_err-clause-stay
+returns-then-is_err-clause-stay g c = staying_on c.self.view_is c.create.ensures.stay
+
 pub overflow_add-self : goal.overflow_add-self
 overflow_add-self g c =
     let spent = rw (← state_is c.self.view_is) at ((births c.args.self.now.state c.requires).room) in
@@ -110,3 +120,6 @@ returns-clause-answers g c =
 
 pub returns-clause-goes_on : goal.returns-clause-goes_on
 returns-clause-goes_on g c = going_on c.self.view_is c.create.ensures.goes_on
+
+pub returns-clause-stay : goal.returns-clause-stay
+returns-clause-stay g c = staying_on c.self.view_is c.create.ensures.stay

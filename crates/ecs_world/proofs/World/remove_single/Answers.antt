@@ -6,13 +6,14 @@ use Rattle.ecs_model.specs.traits.Keeps.{IsWellFormed}
 use Rattle.ecs_model.proofs.Additions.{not_spent}
 use Rattle.ecs_model.proofs.Answering.{step-refused}
 use Rattle.ecs_model.proofs.Reasons.{denied}
+use Rattle.ecs_archetypes.specs.Staying.{none_goes, stay_same}
 use Rattle.table_store.specs.Going.{goes_on_same}
 use Rattle.ecs_world.specs.State.{no_change}
 use Rattle.ecs_world.proofs.Accepted.{counted_left, effect-remove-none, failed, found_dead, found_held, go, on_err, on_ok, refuted}
 use Rattle.ecs_world.proofs.Judged.{judged-remove, remove_dead}
 use Rattle.ecs_world.proofs.Refusing.{entity_dead}
 use Rattle.ecs_world.proofs.Told.{told_remove}
-use Rattle.ecs_world.proofs.Standings.{going_on, state_is}
+use Rattle.ecs_world.proofs.Standings.{going_on, state_is, staying_on}
 use Rattle.ecs_world.proofs.World.remove_single.Goals as goal
 
 pub returns-in_default-clause-answers : goal.returns-in_default-clause-answers
@@ -27,11 +28,17 @@ returns-in_default-clause-answers g c =
 pub returns-in_default-clause-goes_on : goal.returns-in_default-clause-goes_on
 returns-in_default-clause-goes_on g c = goes_on_same _
 
+pub returns-in_default-clause-stay : goal.returns-in_default-clause-stay
+returns-in_default-clause-stay g c = stay_same none_goes _
+
 pub returns-in-Some-remove_refusal-clause-answers : goal.returns-in-Some-remove_refusal-clause-answers
 returns-in-Some-remove_refusal-clause-answers g c = (step-refused c.args.self.now.state (Remove c.args.entity c.args.id) c.in-Some-remove_refusal.refusal (sym c.in-Some-remove_refusal.ensures), refl)
 
 pub returns-in-Some-remove_refusal-clause-goes_on : goal.returns-in-Some-remove_refusal-clause-goes_on
 returns-in-Some-remove_refusal-clause-goes_on g c = goes_on_same _
+
+pub returns-in-Some-remove_refusal-clause-stay : goal.returns-in-Some-remove_refusal-clause-stay
+returns-in-Some-remove_refusal-clause-stay g c = stay_same none_goes _
 
 pub overflow_add-self : goal.overflow_add-self
 overflow_add-self g c =
@@ -67,6 +74,9 @@ returns-then-not-found-clause-answers g c =
 pub returns-then-not-found-clause-goes_on : goal.returns-then-not-found-clause-goes_on
 returns-then-not-found-clause-goes_on g c = going_on c.self.view_is (goes_on_same _)
 
+pub returns-then-not-found-clause-stay : goal.returns-then-not-found-clause-stay
+returns-then-not-found-clause-stay g c = staying_on c.self.view_is (stay_same none_goes _)
+
 pub invariant_of-self-then-is_err : goal.invariant_of-self-then-is_err
 invariant_of-self-then-is_err g c =
     let is = state_is c.self.view_is in
@@ -81,6 +91,9 @@ returns-then-is_err-clause-answers g c =
 
 pub returns-then-is_err-clause-goes_on : goal.returns-then-is_err-clause-goes_on
 returns-then-is_err-clause-goes_on g c = going_on c.self.view_is c.remove.ensures.goes_on
+
+pub returns-then-is_err-clause-stay : goal.returns-then-is_err-clause-stay
+returns-then-is_err-clause-stay g c = staying_on c.self.view_is c.remove.ensures.stay
 
 pub overflow_add-self-2 : goal.overflow_add-self-2
 overflow_add-self-2 g c =
@@ -114,3 +127,6 @@ returns-clause-answers g c =
 
 pub returns-clause-goes_on : goal.returns-clause-goes_on
 returns-clause-goes_on g c = going_on c.self.view_is c.remove.ensures.goes_on
+
+pub returns-clause-stay : goal.returns-clause-stay
+returns-clause-stay g c = staying_on c.self.view_is c.remove.ensures.stay

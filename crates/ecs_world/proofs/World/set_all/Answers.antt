@@ -10,12 +10,14 @@ use Rattle.ecs_model.specs.traits.Command.{SetValue, Add, add_reasons, reasons}
 use Rattle.ecs_model.specs.traits.Keeps.{IsWellFormed}
 use Rattle.fact_rules.specs.Additions.{is_of_built_in}
 use Rattle.rel_traits.specs.FactLists.{IsOfLive}
+use Rattle.ecs_archetypes.specs.Staying.{stay_all, stay_then}
 use Rattle.table_store.specs.Going.{TablesGoOn, goes_on_then}
 use Rattle.ecs_world.specs.State.{byte_count, value_in}
-use Rattle.ecs_world.proofs.Accepted.{on_ok}
+use Rattle.ecs_world.proofs.Accepted.{on_err, on_ok}
 use Rattle.ecs_model.proofs.Answering.{answers_refused}
 use Rattle.ecs_world.proofs.Counting.{counted_state, counted_world}
 use Rattle.ecs_world.proofs.FirstReasons.{add_otherwise, set_no_value, set_of_dead, set_on_built_in, set_value}
+use Rattle.ecs_world.proofs.Forgotten.{going_to, set_stay}
 use Rattle.ecs_world.proofs.Refusing.{entity_dead, mention_dead, not_dead}
 use Rattle.ecs_world.proofs.Standings.{going_on, state_is}
 use Rattle.ecs_world.proofs.ToldAdditions.{set_held, set_sound, set_state, set_typed, setting_told}
@@ -142,3 +144,25 @@ pub returns-clause-goes_on : goal.returns-clause-goes_on
 returns-clause-goes_on g c =
     going_on (c.addition_refusal.ensures.same ∙ c.list_additions.ensures.same)
     (goes_on_then _ _ _ c.bring.ensures.goes_on (subst (λ u. TablesGoOn c.bring.new.self.tables u.tables) (sym c.self-3.view_is) c.write.ensures.goes_on))
+
+pub returns-clause-stay : goal.returns-clause-stay
+returns-clause-stay g c =
+    let live = not_dead c.args.self.now.state c.args.entity c.args.id (sym c.is_alive.ensures ∙ c.if-not-is_alive.false) (sym c.mentions_live.ensures ∙ c.if-not-mentions_live.false) in
+    let lists = on_ok c.list_additions.result c.list_additions.ensures.tells (sym c.is_err.ensures.value ∙ c.if-is_err.false) in
+    let own = ap (list_any is_of_built_in) (sym (c.deref.ensures.value ∙ lists.all_are)) ∙ sym c.adds_built_in.ensures ∙ c.if-adds_built_in.false in
+    let seen = state_is c.list_additions.ensures.same in
+    let sound = subst IsWellFormed (state_is c.self.view_is) c.self.invariant.sound in
+    let none = set_value c.args.self.now.state c.args.entity c.args.id c.args.values.now live own (ap (λ u. first_reason (value_reasons (type_of_id u c.args.id) c.args.values.now)) (sym seen) ∙ c.in-Ok.ensures.judged) ∙ ap (λ u. first_reason (add_reasons u c.args.entity.index c.args.id)) (sym seen) ∙ sym c.in-Ok-addition_refusal.ensures.judged ∙ c.in_default-judged.is in
+    let brought = on_ok c.bring.result c.bring.ensures.brought (sym c.is_err-2.ensures.value ∙ c.if-is_err-2.false) ∙ ap (λ u. with_facts u (facts_after_add u c.args.entity.index c.args.id)) (state_is c.addition_refusal.ensures.same ∙ seen) in
+    let value = ap (λ u. value_in (type_of_id u c.args.id) (take c.in-Ok.size c.encode.new.buffer)) (sym seen) ∙ c.in-Ok.ensures.encoded.value in
+    let left = state_is c.self-3.view_is ∙ c.write.ensures.state ∙ set_state c.args.self.now.state c.args.entity c.args.id c.args.values.now sound none c.bring.new.self.state brought (take c.in-Ok.size c.encode.new.buffer) value in
+    let counted = counted_state c.self-3.invariant c.args.self.now.state (SetValue c.args.entity c.args.id c.args.values.now) left sound tt none in
+    let brought_stay = on_ok c.bring.result c.bring.ensures.stay (sym c.is_err-2.ensures.value ∙ c.if-is_err-2.false) in
+    going_to (c.addition_refusal.ensures.same ∙ c.list_additions.ensures.same) c.write.new.self (sym (ap (λ s. s.tables) c.self-3.view_is))
+    (stay_then _ _ _ _
+    (set_stay c.args.self.now.state _ c.args.entity c.args.id lists sound c.addition_refusal.new.self.state c.addition_refusal.new.self.tables c.bring.new.self.tables brought_stay c.args.values.now none counted)
+    (stay_all c.write.ensures.stay))
+
+pub returns-then-is_err-2-clause-stay : goal.returns-then-is_err-2-clause-stay
+returns-then-is_err-2-clause-stay g c =
+    going_to (c.addition_refusal.ensures.same ∙ c.list_additions.ensures.same) c.bring.new.self refl (stay_all (on_err c.bring.result c.bring.ensures.kept (sym c.is_err-2.ensures.value ∙ c.if-is_err-2.true)))

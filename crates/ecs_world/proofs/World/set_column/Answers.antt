@@ -4,7 +4,7 @@ use Rattle.ecs_archetypes.specs.Scans.{HaveRows}
 use Rattle.ecs_archetypes.specs.Tables.{StandAlike}
 use Rattle.ecs_world.specs.Standing.{Standing}
 use Rattle.ecs_world.proofs.WholeColumns.{are_values, column_left, fits}
-use Rattle.ecs_world.proofs.Standings.{going_on}
+use Rattle.ecs_world.proofs.Standings.{going_on, staying_on}
 use Rattle.ecs_world.proofs.World.set_column.Goals as goal
 
 pub set_column-requires : goal.set_column-requires
@@ -42,3 +42,6 @@ returns-clause-alike g c = subst (λ (s : Standing). StandAlike s.tables c.set_c
 
 pub returns-clause-goes_on : goal.returns-clause-goes_on
 returns-clause-goes_on g c = going_on c.self.view_is c.set_column.ensures.goes_on
+
+pub returns-clause-stay : goal.returns-clause-stay
+returns-clause-stay g c = staying_on c.self.view_is c.set_column.ensures.stay

@@ -6,13 +6,14 @@ use Rattle.ecs_model.specs.traits.Command.{SetValue}
 use Rattle.ecs_model.specs.traits.Keeps.{IsWellFormed}
 use Rattle.ecs_model.proofs.Additions.{not_spent}
 use Rattle.ecs_model.proofs.Answering.{step-refused}
+use Rattle.ecs_archetypes.specs.Staying.{none_goes, stay_same}
 use Rattle.table_store.specs.Going.{goes_on_same}
 use Rattle.ecs_world.specs.State.{no_change}
 use Rattle.ecs_world.proofs.Accepted.{failed, fits_there, found_count, found_dead, found_held, on_err, on_ok, set_left, size_there}
 use Rattle.ecs_world.proofs.Judged.{add_of_set, judged-add}
 use Rattle.ecs_world.proofs.Refusing.{entity_dead, set_dead}
 use Rattle.ecs_world.proofs.Told.{told_set}
-use Rattle.ecs_world.proofs.Standings.{going_on, state_is}
+use Rattle.ecs_world.proofs.Standings.{going_on, state_is, staying_on}
 use Rattle.ecs_world.proofs.World.set_single.Goals.{then-found, else-found}
 use Rattle.ecs_world.proofs.World.set_single.Goals as goal
 
@@ -29,6 +30,9 @@ returns-in_default-clause-answers g c =
 pub returns-in_default-clause-goes_on : goal.returns-in_default-clause-goes_on
 returns-in_default-clause-goes_on g c = goes_on_same _
 
+pub returns-in_default-clause-stay : goal.returns-in_default-clause-stay
+returns-in_default-clause-stay g c = stay_same none_goes _
+
 pub judge_single-requires-clause-held : goal.judge_single-requires-clause-held
 judge_single-requires-clause-held g c = found_held c.self.invariant (state_is c.self.view_is) c.args.entity c.args.id c.in-Some.found.is_held c.in-Some.ensures.held
 
@@ -40,6 +44,9 @@ returns-in-Err-clause-answers g c = (step-refused c.args.self.now.state (SetValu
 
 pub returns-in-Err-clause-goes_on : goal.returns-in-Err-clause-goes_on
 returns-in-Err-clause-goes_on g c = goes_on_same _
+
+pub returns-in-Err-clause-stay : goal.returns-in-Err-clause-stay
+returns-in-Err-clause-stay g c = stay_same none_goes _
 
 pub put-requires-clause-agree : goal.put-requires-clause-agree
 put-requires-clause-agree g c =
@@ -90,6 +97,9 @@ returns-then-is_err-clause-answers g c =
 
 pub returns-then-is_err-clause-goes_on : goal.returns-then-is_err-clause-goes_on
 returns-then-is_err-clause-goes_on g c = going_on c.self.view_is c.put.ensures.goes_on
+
+pub returns-then-is_err-clause-stay : goal.returns-then-is_err-clause-stay
+returns-then-is_err-clause-stay g c = staying_on c.self.view_is c.put.ensures.stay
 
 pub overflow_add-self : goal.overflow_add-self
 overflow_add-self g c =
@@ -143,3 +153,6 @@ returns-clause-answers g c =
 
 pub returns-clause-goes_on : goal.returns-clause-goes_on
 returns-clause-goes_on g c = going_on c.self.view_is c.put.ensures.goes_on
+
+pub returns-clause-stay : goal.returns-clause-stay
+returns-clause-stay g c = staying_on c.self.view_is c.put.ensures.stay

@@ -1,4 +1,5 @@
 use Rattle.std.proofs.Common.{[], ◌∷◌, ap, ◌∙◌, arith}
+use Rattle.ecs_archetypes.specs.Staying.{none_goes, stay_then}
 use Rattle.table_store.specs.Going.{goes_on_then}
 use Rattle.ecs_world.specs.Changes.{with_copies}
 use Rattle.ecs_world.proofs.Copied.{copy_alive, copy_held, copy_next, copy_of_base, copy_sound}
@@ -30,4 +31,5 @@ loop-copy-preserved g c = record {
       ∙ ap (λ i. with_copies c.loop-copy.self.state c.args.base ((c.args.entity.index, i) ∷ [])) c.id.ensures
       ∙ copy_next c.args.self.now.state c.args.entity c.args.base c.args.copies.now c.requires c.loop-copy.copy-index c.copy-item.result (omega arith) c.copy-item.is c.loop-copy.self.state c.loop-copy.invariant.state;
   tables = goes_on_then _ _ _ c.loop-copy.invariant.tables c.write_copy.ensures.goes_on;
+  stay = stay_then none_goes _ _ _ c.loop-copy.invariant.stay c.write_copy.ensures.stay;
 }

@@ -39,6 +39,16 @@ returns-clause-sizes g c =
     left_matched (pairs_to c.args.index) c.release_matched-2.new.self c.release_matched-3.new.self c.release_matched-3.ensures.whole c.release_matched-3.ensures.held c.release_matched-3.ensures.gone c.release_matched-3.ensures.others in
     (left_mentions c.args.index c.args.archetypes.now c.release_matched.new.self c.release_matched-2.new.self c.release_matched-3.new.self first second third).sizes
 
+pub returns-clause-stay : goal.returns-clause-stay
+returns-clause-stay g c =
+    let first : AreLeft (matches (plain_of c.args.index)) c.args.archetypes.now c.release_matched.new.self =
+    left_matched (plain_of c.args.index) c.args.archetypes.now c.release_matched.new.self c.release_matched.ensures.whole c.release_matched.ensures.held c.release_matched.ensures.gone c.release_matched.ensures.others in
+    let second : AreLeft (matches (pairs_of c.args.index)) c.release_matched.new.self c.release_matched-2.new.self =
+    left_matched (pairs_of c.args.index) c.release_matched.new.self c.release_matched-2.new.self c.release_matched-2.ensures.whole c.release_matched-2.ensures.held c.release_matched-2.ensures.gone c.release_matched-2.ensures.others in
+    let third : AreLeft (matches (pairs_to c.args.index)) c.release_matched-2.new.self c.release_matched-3.new.self =
+    left_matched (pairs_to c.args.index) c.release_matched-2.new.self c.release_matched-3.new.self c.release_matched-3.ensures.whole c.release_matched-3.ensures.held c.release_matched-3.ensures.gone c.release_matched-3.ensures.others in
+    (left_mentions c.args.index c.args.archetypes.now c.release_matched.new.self c.release_matched-2.new.self c.release_matched-3.new.self first second third).stay
+
 pub returns-clause-holdings : goal.returns-clause-holdings
 returns-clause-holdings g c = left_holdings (matches (pairs_to c.args.index)) c.release_matched-2.new.self c.release_matched-3.new.self
     (left_matched (pairs_to c.args.index) c.release_matched-2.new.self c.release_matched-3.new.self c.release_matched-3.ensures.whole c.release_matched-3.ensures.held c.release_matched-3.ensures.gone c.release_matched-3.ensures.others)

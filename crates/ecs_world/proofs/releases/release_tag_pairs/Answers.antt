@@ -32,3 +32,6 @@ returns-clause-sizes g c = (left_tagged c.args.came.now c.args.archetypes.now c.
 
 pub returns-clause-holdings : goal.returns-clause-holdings
 returns-clause-holdings g c = left_holdings _ c.args.archetypes.now c.loop-fact.archetypes c.loop-fact.invariant
+
+pub returns-clause-stay : goal.returns-clause-stay
+returns-clause-stay g c = (left_tagged c.args.came.now c.args.archetypes.now c.loop-fact.archetypes c.loop-fact.fact-index (omega arith) c.loop-fact.invariant).stay
