@@ -26,3 +26,4 @@ pub mod LedTo
 pub mod Rewritten
 pub mod Watches
 pub mod WholeColumns
+pub mod NoRows

@@ -12,6 +12,7 @@ ghost use Rattle.watch_meaning.specs.Since.{IsAfter};
 use crate::asking::found_among;
 use crate::stored::StoredQuery;
 use crate::watched::whole_rows;
+use asking_room::AskingRoom;
 use ecs_world::{Changes, World};
 use entity_set::EntitySet;
 use std::alloc::{AllocError, Allocator};
@@ -26,7 +27,7 @@ pub(crate) struct RowsAfter<A: Allocator> {
 }
 
 /// The rows of a monitor whose query isn't local, after a command. Where all who may have moved are found, their ids or a search tell who of them is in
-/// the rows; else all rows are taken, counted, and compared.
+/// the rows; else all rows are taken, counted, and compared. The room for searches is for any queries, one after another.
 ///
 /// Fails where memory is refused.
 pub(crate) fn rows_after<A: Allocator + Copy>(
@@ -34,6 +35,7 @@ pub(crate) fn rows_after<A: Allocator + Copy>(
     world: &World<A>,
     changes: &Changes<A>,
     query: &StoredQuery<A>,
+    room: &mut AskingRoom<A>,
     compared: &mut u64,
 ) -> Result<RowsAfter<A>, AllocError>
     requires after { IsAfter world.now.state changes.now }
@@ -45,7 +47,7 @@ pub(crate) fn rows_after<A: Allocator + Copy>(
 {
     let bonds = query.plan.bonds();
     match who_may_have_moved(alloc, world, changes, query.plan.query(), bonds)? {
-        Some(moved) => rows_by_asking(alloc, world, query, &moved),
+        Some(moved) => rows_by_asking(alloc, world, query, room, &moved),
         None => rows_by_all(alloc, world, query, compared),
     }
 }
@@ -55,6 +57,7 @@ fn rows_by_asking<A: Allocator + Copy>(
     alloc: A,
     world: &World<A>,
     query: &StoredQuery<A>,
+    room: &mut AskingRoom<A>,
     moved: &Moved<A>,
 ) -> Result<RowsAfter<A>, AllocError>
     requires current { IsCurrentIn world.now.state (query.now.plan).query }
@@ -65,7 +68,7 @@ fn rows_by_asking<A: Allocator + Copy>(
     ensures these { IfOk result (λ rows. rows.these.items ≡ matching (view_of world.now.state) (query.now.plan).query) }
 {
     world.keeps();
-    let found = found_among(alloc, world, &query.plan, moved.asked.as_slice())?;
+    let found = found_among(alloc, world, &query.plan, room, moved.asked.as_slice())?;
     let told = told_of(alloc, &query.these, moved, found.as_slice())?;
     let these = query
         .these

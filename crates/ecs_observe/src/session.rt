@@ -8,6 +8,7 @@ ghost use Rattle.query_meaning.specs.Standing.{IsCurrentIn};
 ghost use Rattle.query_model.specs.Query.{Query};
 
 use crate::queries::StoredQueries;
+use asking_room::AskingRoom;
 use ecs_world::{Changes, World};
 use std::alloc::{AllocError, Allocator, Global};
 use std::hash::RandomState;
@@ -22,6 +23,8 @@ pub struct Session<A: Allocator = Global> {
     pub(crate) waiting: Option<Changes<A>>,
     /// How often the whole rows of a monitor were taken.
     pub(crate) compared: u64,
+    /// Room for the searches of monitors, of one after another.
+    pub(crate) room: AskingRoom<A>,
     pub(crate) alloc: A,
 }
 
@@ -55,6 +58,7 @@ impl<A: Allocator + Copy> Session<A> {
             stored: StoredQueries::new(alloc, random),
             waiting: None,
             compared: 0,
+            room: AskingRoom::new(alloc),
             alloc,
         })
     }

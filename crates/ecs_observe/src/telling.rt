@@ -19,6 +19,7 @@ use crate::Session;
 use crate::moves::rows_after;
 use crate::queries::StoredQueries;
 use crate::stored::StoredQuery;
+use asking_room::AskingRoom;
 use ecs_world::{Changes, World};
 use entity_set::EntitySet;
 use local_queries::{Touched, local_told};
@@ -54,6 +55,7 @@ impl<A: Allocator + Copy> Session<A> {
             &self.world,
             changes,
             &self.stored,
+            &mut self.room,
             &mut rows,
             &mut compared,
             &mut events,
@@ -72,6 +74,7 @@ fn tell_led<A: Allocator + Copy>(
     world: &World<A>,
     changes: &Changes<A>,
     stored: &StoredQueries<A>,
+    room: &mut AskingRoom<A>,
     rows: &mut Vec<(usize, EntitySet<A>), A>,
     compared: &mut u64,
     events: &mut Vec<Event<A>, A>,
@@ -90,7 +93,7 @@ fn tell_led<A: Allocator + Copy>(
     let touched = touched_if_asked(alloc, world, changes, stored, places)?;
     let touched = touched.as_slice();
     tell_all(
-        alloc, world, changes, touched, stored, places, rows, compared, events,
+        alloc, world, changes, touched, stored, places, room, rows, compared, events,
     )
 }
 
@@ -128,6 +131,7 @@ fn tell_all<A: Allocator + Copy>(
     touched: &[Touched<'_, A>],
     stored: &StoredQueries<A>,
     places: &[usize],
+    room: &mut AskingRoom<A>,
     rows: &mut Vec<(usize, EntitySet<A>), A>,
     compared: &mut u64,
     events: &mut Vec<Event<A>, A>,
@@ -148,7 +152,7 @@ fn tell_all<A: Allocator + Copy>(
     for place in places {
         if let Some((name, query)) = stored.get_index(*place) {
             let now = tell_one(
-                alloc, world, changes, touched, name, query, compared, events,
+                alloc, world, changes, touched, name, query, room, compared, events,
             )?;
             if let Some(these) = now {
                 rows.push((*place, these))?;
@@ -167,6 +171,7 @@ fn tell_one<A: Allocator + Copy>(
     touched: &[Touched<'_, A>],
     name: &String<A>,
     query: &StoredQuery<A>,
+    room: &mut AskingRoom<A>,
     compared: &mut u64,
     events: &mut Vec<Event<A>, A>,
 ) -> Result<Option<EntitySet<A>>, AllocError>
@@ -182,7 +187,7 @@ fn tell_one<A: Allocator + Copy>(
         return Ok(None);
     }
     if query.is_compared() {
-        return tell_compared(alloc, world, changes, name, query, compared, events);
+        return tell_compared(alloc, world, changes, name, query, room, compared, events);
     }
     if query.is_told_locally() {
         tell_locally(alloc, world, changes, touched, name, query, events)?;
@@ -200,6 +205,7 @@ fn tell_compared<A: Allocator + Copy>(
     changes: &Changes<A>,
     name: &String<A>,
     query: &StoredQuery<A>,
+    room: &mut AskingRoom<A>,
     compared: &mut u64,
     events: &mut Vec<Event<A>, A>,
 ) -> Result<Option<EntitySet<A>>, AllocError>
@@ -216,7 +222,7 @@ fn tell_compared<A: Allocator + Copy>(
     if !is_concerned(query.plan.query(), bonds, changes) {
         return Ok(None);
     }
-    let rows = rows_after(alloc, world, changes, query, compared)?;
+    let rows = rows_after(alloc, world, changes, query, room, compared)?;
     let moves = Moves {
         left: rows.left.as_slice(),
         entered: rows.entered.as_slice(),

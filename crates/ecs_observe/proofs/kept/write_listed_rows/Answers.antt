@@ -23,13 +23,13 @@ write_planned_rows-requires g c = record {
 pub sync-requires : goal.sync-requires
 sync-requires g c = c.plan_if_outgrown.ensures.list.fits
 
-pub write_rows_in-requires-clause-answerable : goal.write_rows_in-requires-clause-answerable
-write_rows_in-requires-clause-answerable g c =
+pub write_rows_from-requires-clause-answerable : goal.write_rows_from-requires-clause-answerable
+write_rows_from-requires-clause-answerable g c =
     subst (λ (q : Query). IsAnswerable (view_of c.args.world.now.state) q) (sym (ap (λ (p : Plan). p.query) c.plan-2.ensures ∙ c.plan_if_outgrown.ensures.query))
     (current_answerable c.args.world.now.state (c.args.plan.now).query c.keeps.ensures c.requires.current)
 
-pub write_rows_in-requires-clause-tables : goal.write_rows_in-requires-clause-tables
-write_rows_in-requires-clause-tables g c =
+pub write_rows_from-requires-clause-tables : goal.write_rows_from-requires-clause-tables
+write_rows_from-requires-clause-tables g c =
     let q = (c.args.plan.now).query in
     subst (λ (x : Query). AreTablesOf x (c.args.world.now).tables c.tables.result.now) (sym (ap (λ (p : Plan). p.query) c.plan-2.ensures ∙ c.plan_if_outgrown.ensures.query))
     (subst (AreTablesOf q (c.args.world.now).tables) (sym c.tables.ensures)
@@ -50,7 +50,7 @@ returns-then-not-begins_in_tables-clause-reads g c =
 pub returns-clause-reads : goal.returns-clause-reads
 returns-clause-reads g c =
     let q = (c.args.plan.now).query in
-    of_any c.write_rows_in.result (λ begins.
+    of_any c.write_rows_from.result (λ begins.
     subst (λ (x : Query). IsUpToDate x (c.args.world.now).tables c.sync.new.self) (sym c.plan_if_outgrown.ensures.query)
     (record { synced = c.in_ok-sync.ensures.synced; tables = record { listed = c.in_ok-sync.ensures.listed q c.plan_if_outgrown.ensures.list.patterns; rising = c.sync.ensures.once } }))
 

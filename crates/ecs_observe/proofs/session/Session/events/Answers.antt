@@ -18,8 +18,8 @@ pub tell_led-requires-clause-was : goal.tell_led-requires-clause-was
 tell_led-requires-clause-was g c =
     subst (λ o. IfSome o (λ done. All (WasNow c.self.inside.world.state done) (map held_of (entries_of c.self.inside.stored)))) c.in-Some.is c.self.invariant.0.before
 
-pub invariant_of-self : goal.invariant_of-self
-invariant_of-self g c = (
+pub invariant_of-self-2 : goal.invariant_of-self-2
+invariant_of-self-2 g c = (
   retold_session _ c.args.self.now c.self.view_is _
       (put_told _ c.self.invariant.0 c.keeps.ensures c.in-Some.changes c.in-Some.is (placed_in c.tell_led.new.rows.items) _ c.in_ok-tell_led.ensures.rows c.put_rows.ensures.held)
       c.tell_led.new.compared c.self.invariant.0 c.keeps.ensures,
