@@ -7,6 +7,7 @@ ghost use Rattle.ecs_model.specs.stored.Session.{InWorld, apply};
 ghost use Rattle.ecs_observe.specs.Answers.{AnswersApply};
 ghost use Rattle.ecs_observe.specs.Commands.{FindsIn, FindsOne, ListsApply, answered, order_of, seen_entity, seen_id};
 ghost use Rattle.ecs_observe.specs.Standing.{is_compared, session_of};
+ghost use Rattle.ecs_world.specs.Releases.{NoneGo, OnlyForgottenGo};
 ghost use Rattle.table_store.specs.Going.{TablesGoOn};
 
 use crate::references::{EntityRef, IdRef, find_both, find_entity};
@@ -78,6 +79,7 @@ impl<A: Allocator + Copy> Session<A> {
         ensures answers { AnswersApply (answered result) (apply (session_of self.old) (order_of command.entry)) self.old self.new }
         ensures lists { ListsApply (order_of command.entry) result self.old self.new }
         ensures goes_on { TablesGoOn (self.old).world.tables (self.new).world.tables }
+        ensures stay { OnlyForgottenGo (self.old).world (self.new).world }
         ensures compared { list_any is_compared (self.new).stored ≡ false → (self.new).compared ≡ (self.old).compared }
     {
         match self.obey(command) {
@@ -91,6 +93,7 @@ impl<A: Allocator + Copy> Session<A> {
         ensures answers { AnswersApply result (apply (session_of self.old) (order_of command.entry)) self.old self.new }
         ensures lists { ListsApply (order_of command.entry) result self.old self.new }
         ensures goes_on { TablesGoOn (self.old).world.tables (self.new).world.tables }
+        ensures stay { OnlyForgottenGo (self.old).world (self.new).world }
         ensures compared { list_any is_compared (self.new).stored ≡ false → (self.new).compared ≡ (self.old).compared }
     {
         match command {
@@ -116,6 +119,7 @@ impl<A: Allocator + Copy> Session<A> {
         ensures compared { (self.new).compared ≡ (self.old).compared }
         ensures lists { (self.new).stored ≡ (self.old).stored }
         ensures goes_on { TablesGoOn (self.old).world.tables (self.new).world.tables }
+        ensures stay { OnlyForgottenGo (self.old).world (self.new).world }
     {
         match self.found_both(entity, id) {
             Ok(both) => self.add(both.0, both.1),
@@ -134,6 +138,7 @@ impl<A: Allocator + Copy> Session<A> {
         ensures compared { (self.new).compared ≡ (self.old).compared }
         ensures lists { (self.new).stored ≡ (self.old).stored }
         ensures goes_on { TablesGoOn (self.old).world.tables (self.new).world.tables }
+        ensures stay { OnlyForgottenGo (self.old).world (self.new).world }
     {
         match self.found_both(entity, id) {
             Ok(both) => self.set(both.0, both.1, values),
@@ -151,6 +156,7 @@ impl<A: Allocator + Copy> Session<A> {
         ensures compared { (self.new).compared ≡ (self.old).compared }
         ensures lists { (self.new).stored ≡ (self.old).stored }
         ensures goes_on { TablesGoOn (self.old).world.tables (self.new).world.tables }
+        ensures stay { NoneGo (self.old).world (self.new).world }
     {
         match self.found_both(entity, id) {
             Ok(both) => self.remove(both.0, both.1),
@@ -164,6 +170,7 @@ impl<A: Allocator + Copy> Session<A> {
         ensures compared { (self.new).compared ≡ (self.old).compared }
         ensures lists { (self.new).stored ≡ (self.old).stored }
         ensures goes_on { TablesGoOn (self.old).world.tables (self.new).world.tables }
+        ensures stay { OnlyForgottenGo (self.old).world (self.new).world }
     {
         match self.found_entity(entity) {
             Ok(entity) => self.delete(entity),

@@ -3,6 +3,7 @@
 ghost use Rattle.std.specs.Prelude.{◌≡◌, MatchResult, None, OnErr, OnOk, Some, length};
 ghost use Rattle.ecs_observe.specs.Columns.{IsColumnSetIn, set_column_error};
 ghost use Rattle.ecs_observe.specs.Standing.{session_of};
+ghost use Rattle.ecs_world.specs.Releases.{NoneGo};
 ghost use Rattle.table_store.specs.Going.{TablesGoOn};
 
 use crate::{Session, SetColumnError};
@@ -22,6 +23,7 @@ impl<A: Allocator> Session<A> {
         ensures unchanged { OnErr result (self.new ≡ self.old) }
         ensures rest { self.new ≡ record self.old { world = (self.new).world } }
         ensures goes_on { TablesGoOn (self.old).world.tables (self.new).world.tables }
+        ensures stay { NoneGo (self.old).world (self.new).world }
     {
         if self.has_events() {
             return Err(SetColumnError::EventsPending);

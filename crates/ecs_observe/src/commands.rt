@@ -6,6 +6,7 @@ ghost use Rattle.ecs_observe.specs.Answers.{AnswersApply, AnswersCommand, obeyed
 ghost use Rattle.ecs_observe.specs.Parts.{held_of};
 ghost use Rattle.ecs_observe.specs.Standing.{session_of};
 ghost use Rattle.ecs_observe.specs.Stored.{IsStored, entries_of};
+ghost use Rattle.ecs_world.specs.Releases.{NoneGo, OnlyForgottenGo};
 ghost use Rattle.table_store.specs.Going.{TablesGoOn};
 
 use crate::queries::StoredQueries;
@@ -25,6 +26,7 @@ impl<A: Allocator + Copy> Session<A> {
         ensures compared { (self.new).compared ≡ (self.old).compared }
         ensures lists { (self.new).stored ≡ (self.old).stored }
         ensures goes_on { TablesGoOn (self.old).world.tables (self.new).world.tables }
+        ensures stay { NoneGo (self.old).world (self.new).world }
     {
         if self.has_events() {
             return Err(SessionError::Refused(SessionRefusal::EventsPending));
@@ -40,6 +42,7 @@ impl<A: Allocator + Copy> Session<A> {
         ensures compared { (self.new).compared ≡ (self.old).compared }
         ensures lists { (self.new).stored ≡ (self.old).stored }
         ensures goes_on { TablesGoOn (self.old).world.tables (self.new).world.tables }
+        ensures stay { NoneGo (self.old).world (self.new).world }
     {
         if self.has_events() {
             return Err(SessionError::Refused(SessionRefusal::EventsPending));
@@ -59,6 +62,7 @@ impl<A: Allocator + Copy> Session<A> {
         ensures compared { (self.new).compared ≡ (self.old).compared }
         ensures lists { (self.new).stored ≡ (self.old).stored }
         ensures goes_on { TablesGoOn (self.old).world.tables (self.new).world.tables }
+        ensures stay { NoneGo (self.old).world (self.new).world }
     {
         if self.has_events() {
             return Err(SessionError::Refused(SessionRefusal::EventsPending));
@@ -74,6 +78,7 @@ impl<A: Allocator + Copy> Session<A> {
         ensures compared { (self.new).compared ≡ (self.old).compared }
         ensures lists { (self.new).stored ≡ (self.old).stored }
         ensures goes_on { TablesGoOn (self.old).world.tables (self.new).world.tables }
+        ensures stay { OnlyForgottenGo (self.old).world (self.new).world }
     {
         if self.has_events() {
             return Err(SessionError::Refused(SessionRefusal::EventsPending));
@@ -94,6 +99,7 @@ impl<A: Allocator + Copy> Session<A> {
         ensures compared { (self.new).compared ≡ (self.old).compared }
         ensures lists { (self.new).stored ≡ (self.old).stored }
         ensures goes_on { TablesGoOn (self.old).world.tables (self.new).world.tables }
+        ensures stay { OnlyForgottenGo (self.old).world (self.new).world }
     {
         if self.has_events() {
             return Err(SessionError::Refused(SessionRefusal::EventsPending));
@@ -109,6 +115,7 @@ impl<A: Allocator + Copy> Session<A> {
         ensures compared { (self.new).compared ≡ (self.old).compared }
         ensures lists { (self.new).stored ≡ (self.old).stored }
         ensures goes_on { TablesGoOn (self.old).world.tables (self.new).world.tables }
+        ensures stay { NoneGo (self.old).world (self.new).world }
     {
         if self.has_events() {
             return Err(SessionError::Refused(SessionRefusal::EventsPending));
@@ -124,6 +131,7 @@ impl<A: Allocator + Copy> Session<A> {
         ensures compared { (self.new).compared ≡ (self.old).compared }
         ensures lists { (self.new).stored ≡ (self.old).stored }
         ensures goes_on { TablesGoOn (self.old).world.tables (self.new).world.tables }
+        ensures stay { OnlyForgottenGo (self.old).world (self.new).world }
     {
         if self.has_events() {
             return Err(SessionError::Refused(SessionRefusal::EventsPending));

@@ -4,6 +4,8 @@ use Rattle.ecs_observe.proofs.Listed.{lists_later}
 use Rattle.ecs_observe.proofs.Obeyed.{answer_left, pending_now, session_left}
 use Rattle.ecs_observe.specs.Standing.{Standing}
 use Rattle.ecs_observe.specs.Stored.{entries_of}
+use Rattle.ecs_archetypes.specs.Staying.{stay_same}
+use Rattle.ecs_world.specs.Releases.{NoneGo}
 use Rattle.table_store.specs.Going.{goes_on_same, TablesGoOn}
 use Rattle.ecs_observe.proofs.session.Session.fresh.Goals as goal
 
@@ -24,5 +26,11 @@ returns-clause-answers g c =
 pub returns-then-has_events-clause-goes_on : goal.returns-then-has_events-clause-goes_on
 returns-then-has_events-clause-goes_on g c = goes_on_same c.args.self.now.world.tables
 
+pub returns-then-has_events-clause-stay : goal.returns-then-has_events-clause-stay
+returns-then-has_events-clause-stay g c = stay_same _ c.args.self.now.world.tables
+
 pub returns-clause-goes_on : goal.returns-clause-goes_on
 returns-clause-goes_on g c = subst (λ (s : Standing). TablesGoOn (s.world).tables c.fresh-done.new.self.tables) c.self.view_is c.fresh-done.ensures.goes_on
+
+pub returns-clause-stay : goal.returns-clause-stay
+returns-clause-stay g c = subst (λ (s : Standing). NoneGo s.world c.fresh-done.new.self) c.self.view_is c.fresh-done.ensures.stay

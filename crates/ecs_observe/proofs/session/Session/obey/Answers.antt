@@ -6,6 +6,7 @@ use Rattle.ecs_observe.specs.Answers.{AnswersApply}
 use Rattle.ecs_observe.specs.Commands.{order_of}
 use Rattle.ecs_observe.specs.Standing.{session_of}
 use Rattle.ecs_observe.specs.declared.applying.Command.{Command}
+use Rattle.ecs_archetypes.specs.Staying.{TablesStay, stay_all, stay_same}
 use Rattle.table_store.specs.Going.{goes_on_same, TablesGoOn}
 use Rattle.ecs_observe.proofs.Ordered.{as_obeyed}
 use Rattle.ecs_observe.proofs.session.Session.obey.Goals as goal
@@ -30,3 +31,21 @@ returns-in-Store-clause-goes_on g c = subst (TablesGoOn c.args.self.now.world.ta
 
 pub returns-in-Drop-clause-goes_on : goal.returns-in-Drop-clause-goes_on
 returns-in-Drop-clause-goes_on g c = subst (TablesGoOn c.args.self.now.world.tables) (sym c.drop_stored.ensures.tables) (goes_on_same c.args.self.now.world.tables)
+
+pub returns-in-New-clause-stay : goal.returns-in-New-clause-stay
+returns-in-New-clause-stay g c = stay_all c.fresh.ensures.stay
+
+pub returns-in-Entity-clause-stay : goal.returns-in-Entity-clause-stay
+returns-in-Entity-clause-stay g c = stay_all c.entity.ensures.stay
+
+pub returns-in-Component-clause-stay : goal.returns-in-Component-clause-stay
+returns-in-Component-clause-stay g c = stay_all c.component.ensures.stay
+
+pub returns-in-Remove-clause-stay : goal.returns-in-Remove-clause-stay
+returns-in-Remove-clause-stay g c = stay_all c.remove_from.ensures.stay
+
+pub returns-in-Store-clause-stay : goal.returns-in-Store-clause-stay
+returns-in-Store-clause-stay g c = subst (TablesStay _ c.args.self.now.world.tables) (sym c.store.ensures.tables) (stay_same _ c.args.self.now.world.tables)
+
+pub returns-in-Drop-clause-stay : goal.returns-in-Drop-clause-stay
+returns-in-Drop-clause-stay g c = subst (TablesStay _ c.args.self.now.world.tables) (sym c.drop_stored.ensures.tables) (stay_same _ c.args.self.now.world.tables)

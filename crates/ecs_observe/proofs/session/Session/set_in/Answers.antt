@@ -4,6 +4,7 @@ use Rattle.ecs_model.specs.stored.Session.{Answer}
 use Rattle.ecs_model.specs.traits.Command.{SetValue}
 use Rattle.ecs_observe.specs.Answers.{AnswersApply}
 use Rattle.ecs_observe.specs.Commands.{seen_entity, seen_id}
+use Rattle.ecs_archetypes.specs.Staying.{stay_same}
 use Rattle.table_store.specs.Going.{goes_on_same}
 use Rattle.ecs_observe.proofs.session.Session.set_in.Goals as goal
 
@@ -18,3 +19,6 @@ returns-in-Err-clause-answers g c = (c.in-Err.ensures (λ e i. SetValue e i c.ar
 
 pub returns-in-Err-clause-goes_on : goal.returns-in-Err-clause-goes_on
 returns-in-Err-clause-goes_on g c = goes_on_same c.args.self.now.world.tables
+
+pub returns-in-Err-clause-stay : goal.returns-in-Err-clause-stay
+returns-in-Err-clause-stay g c = stay_same _ c.args.self.now.world.tables
