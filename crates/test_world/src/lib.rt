@@ -1,6 +1,8 @@
-//! A world at work: each growth refused in turn, searches along relationships, and the list of a kept query.
+//! A world at work: each growth refused in turn, columns of values, searches along relationships, and the list of a kept query.
 #![tactic(auto)]
 
+#[cfg(test)]
+mod columns;
 #[cfg(test)]
 mod growths;
 #[cfg(test)]
