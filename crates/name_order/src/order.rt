@@ -7,6 +7,7 @@ ghost use Rattle.std.specs.String.{string_bytes};
 ghost use Rattle.name_order.specs.Order.{HasRoom, IsInOrder, IsPlaceOf, IsReady, IsTakenOut, StandsAt, entries_of, is_key, number_in};
 
 use indexmap::IndexMap;
+use secret_hashing::Hashing;
 use std::alloc::{AllocError, Allocator};
 use std::hash::RandomState;
 
@@ -28,7 +29,7 @@ pub struct NameOrder<V, A: Allocator> {
     /// In boxes, so that a removal moves none of those behind it but its pointer. Values may be written, and nothing else.
     pub made: Vec<Box<Named<V, A>, A>, A>,
     // the number of each by its name
-    numbers: IndexMap<String<A>, u64, RandomState, A>,
+    numbers: IndexMap<String<A>, u64, Hashing, A>,
 }
 
 impl<V, A: Allocator + Copy> NameOrder<V, A> {
@@ -39,7 +40,7 @@ impl<V, A: Allocator + Copy> NameOrder<V, A> {
     {
         NameOrder {
             made: Vec::new(alloc),
-            numbers: IndexMap::with_hasher(alloc, random),
+            numbers: IndexMap::with_hasher(alloc, Hashing::new(random)),
         }
     }
 
