@@ -1,4 +1,5 @@
 pub mod Told
 pub mod Terms
+pub mod Text
 pub mod Values
 pub mod Hits

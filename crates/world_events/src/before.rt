@@ -8,10 +8,11 @@ ghost use Rattle.std.specs.Ordering.{nat_cmp};
 ghost use Rattle.ecs_model.specs.World.{key_cmp, key_eq};
 ghost use Rattle.watch_meaning.specs.Since.{IsAfter, dead_text, entity_before, entity_text_before, held_before, id_text_before, index_text_before};
 
-use crate::texts::entity_now;
+use crate::text::Text;
+use crate::texts::{entity_now, entity_text, handle_text};
 use ecs_id::{EntityId, Id};
 use ecs_model::FactKey;
-use ecs_print::{write_entity, write_handle, write_index};
+use ecs_print::{write_handle, write_index};
 use ecs_world::{Changes, Death, World};
 use std::alloc::{AllocError, Allocator};
 
@@ -71,16 +72,24 @@ pub(crate) fn entity_text_before<A: Allocator + Copy>(
     world: &World<A>,
     changes: &Changes<A>,
     index: u32,
-) -> Result<Vec<u8, A>, AllocError>
+) -> Result<Text<A>, AllocError>
     requires { IsAfter world.now.state changes.now }
-    ensures { IfOk result (λ text. text.items ≡ entity_text_before world.now.state changes.now index) }
+    ensures { IfOk result (λ text. text ≡ entity_text_before world.now.state changes.now index) }
 {
-    let mut text = Vec::new(alloc);
     match death_at(changes, index) {
-        Some(death) => write_dead(death, &mut text)?,
-        None => write_entity(world, entity_now(world, index), &mut text)?,
+        Some(death) => dead_text(alloc, death),
+        None => entity_text(alloc, world, entity_now(world, index)),
     }
-    Ok(text)
+}
+
+/// The text of an entity that died: the name that it had, or its handle where it had none.
+fn dead_text<A: Allocator + Copy>(alloc: A, death: &Death<A>) -> Result<Text<A>, AllocError>
+    ensures { IfOk result (λ text. text ≡ dead_text death.now) }
+{
+    match death.name() {
+        Some(name) => Text::from_slice(alloc, name.as_bytes()),
+        None => handle_text(alloc, death.entity()),
+    }
 }
 
 /// The text by which an id printed.

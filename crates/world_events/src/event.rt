@@ -1,11 +1,12 @@
 //! Events, and their lines.
 
-ghost use Rattle.std.specs.Prelude.{◌≡◌, ◌++◌, OnOk, Some, flat_map};
+ghost use Rattle.std.specs.Prelude.{◌≡◌, ◌++◌, ◌∷◌, [], OnOk, Some, flat_map};
 ghost use Rattle.std.specs.Fmt.{signed_decimal};
 ghost use Rattle.ecs_model.specs.Print.{value_text};
 ghost use Rattle.ecs_model.specs.stored.Watches.{event_id_text, event_text, event_word};
 ghost use Rattle.world_events.specs.Values.{behind_comma};
 
+use crate::text::Text;
 use ecs_id::{EntityId, Id};
 use ecs_model::Value;
 use ecs_model::watches::EventKind;
@@ -20,8 +21,8 @@ pub struct Event<A: Allocator = Global> {
     pub(crate) entity: EntityId,
     pub(crate) id: Option<Id>,
     pub(crate) value: Option<Value>,
-    pub(crate) watch: Vec<u8, A>,
-    pub(crate) entity_text: Vec<u8, A>,
+    pub(crate) watch: Text<A>,
+    pub(crate) entity_text: Text<A>,
     pub(crate) id_text: Vec<u8, A>,
 }
 
@@ -31,12 +32,12 @@ impl<A: Allocator> Model for Event<A> {
     ghost Value = { model.Event };
 
     ghost view = { λ e. record {
-      watch = e.watch.items;
+      watch = e.watch;
       kind = e.kind;
       entity = e.entity;
       id = e.id;
       value = e.value;
-      entity_text = e.entity_text.items;
+      entity_text = e.entity_text;
       id_text = e.id_text.items;
     } };
 }
@@ -90,6 +91,21 @@ impl<A: Allocator> Event<A> {
     {
         self.id_text.as_slice()
     }
+}
+
+/// Puts an event behind others. Most commands tell one alone, for which no more room is made.
+#[inline(always)]
+pub(crate) fn push_event<A: Allocator>(
+    event: Event<A>,
+    events: &mut Vec<Event<A>, A>,
+) -> Result<(), AllocError>
+    ensures { OnOk result (events.new.items ≡ events.old.items ++ event ∷ []) }
+{
+    if events.is_empty() {
+        events.reserve_exact(1)?;
+    }
+    events.push(event)?;
+    Ok(())
 }
 
 /// Writes the line of an event: its word, the name of the stored query, the entity, and the fact with the value that was set.

@@ -7,9 +7,10 @@ ghost use Rattle.ecs_model.specs.stored.Watches.{fact_event, observes};
 ghost use Rattle.ecs_model.specs.World.{holds};
 ghost use Rattle.world_events.specs.Terms.{has_unasked, tells, told_facts, told_value};
 
-use crate::event::Event;
+use crate::event::{Event, push_event};
 use crate::telling::Audience;
 use crate::terms::{asks_this, matches, only_term};
+use crate::text::Text;
 use crate::texts::{entity_now, entity_text, id_text};
 use ecs_id::Id;
 use ecs_model::built_ins::{DISABLED, PREFAB};
@@ -38,7 +39,10 @@ pub(crate) fn tell_facts<A: Allocator + Copy>(
     let facts = told_facts(changes, kind);
     for fact in facts {
         if tells(world, term, *fact) {
-            events.push(fact_event(alloc, world, audience.name, kind, *fact)?)?;
+            push_event(
+                fact_event(alloc, world, audience.name, kind, *fact)?,
+                events,
+            )?;
         }
     }
     Ok(())
@@ -87,7 +91,7 @@ fn fact_event<A: Allocator + Copy>(
         entity,
         id: Some(fact.id()),
         value: told_value(world, kind, fact),
-        watch: Vec::from_slice(alloc, name)?,
+        watch: Text::from_slice(alloc, name)?,
         entity_text: entity_text(alloc, world, entity)?,
         id_text: id_text(alloc, world, fact.id())?,
     })

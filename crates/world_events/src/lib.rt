@@ -9,6 +9,7 @@ mod removals;
 mod rows;
 mod telling;
 mod terms;
+mod text;
 mod texts;
 
 pub use event::{Event, write_event};

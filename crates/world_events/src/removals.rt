@@ -6,9 +6,10 @@ ghost use Rattle.watch_meaning.specs.Since.{IsAfter, held_before, observed_befor
 ghost use Rattle.world_events.specs.Terms.{has_unasked, tells};
 
 use crate::before::{entity_before, entity_text_before, held_before, id_text_before};
-use crate::event::Event;
+use crate::event::{Event, push_event};
 use crate::telling::Audience;
 use crate::terms::{asks_this, matches, only_term};
+use crate::text::Text;
 use ecs_id::Id;
 use ecs_model::FactKey;
 use ecs_model::built_ins::{DISABLED, PREFAB};
@@ -35,7 +36,10 @@ pub(crate) fn tell_removals<A: Allocator + Copy>(
     let facts = changes.went();
     for fact in facts {
         if tells_before(world, changes, term, *fact) {
-            events.push(removed_event(alloc, world, changes, audience.name, *fact)?)?;
+            push_event(
+                removed_event(alloc, world, changes, audience.name, *fact)?,
+                events,
+            )?;
         }
     }
     Ok(())
@@ -87,7 +91,7 @@ fn removed_event<A: Allocator + Copy>(
         entity: entity_before(world, changes, fact.entity()),
         id: Some(fact.id()),
         value: None,
-        watch: Vec::from_slice(alloc, name)?,
+        watch: Text::from_slice(alloc, name)?,
         entity_text: entity_text_before(alloc, world, changes, fact.entity())?,
         id_text: id_text_before(alloc, world, changes, fact.id())?,
     })

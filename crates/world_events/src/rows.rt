@@ -7,7 +7,8 @@ ghost use Rattle.watch_meaning.specs.Since.{IsAfter, left_event};
 ghost use Rattle.world_events.specs.Told.{told_of_moves};
 
 use crate::before::{entity_before, entity_text_before};
-use crate::event::Event;
+use crate::event::{Event, push_event};
+use crate::text::Text;
 use crate::texts::{entity_now, entity_text};
 use ecs_model::watches::EventKind;
 use ecs_world::{Changes, World};
@@ -52,7 +53,7 @@ fn tell_each_left<A: Allocator + Copy>(
     ensures { OnOk result (events.new.items ≡ events.old.items ++ map (left_event world.now.state changes.now name.now) left.now) }
 {
     for index in left {
-        events.push(left_event(alloc, world, changes, name, *index)?)?;
+        push_event(left_event(alloc, world, changes, name, *index)?, events)?;
     }
     Ok(())
 }
@@ -68,7 +69,7 @@ fn tell_each_entered<A: Allocator + Copy>(
     ensures { OnOk result (events.new.items ≡ events.old.items ++ map (entity_event name.now Entered world.now.state) entered.now) }
 {
     for index in entered {
-        events.push(entered_event(alloc, world, name, *index)?)?;
+        push_event(entered_event(alloc, world, name, *index)?, events)?;
     }
     Ok(())
 }
@@ -89,7 +90,7 @@ fn left_event<A: Allocator + Copy>(
         entity: entity_before(world, changes, index),
         id: None,
         value: None,
-        watch: Vec::from_slice(alloc, name)?,
+        watch: Text::from_slice(alloc, name)?,
         entity_text: entity_text_before(alloc, world, changes, index)?,
         id_text: Vec::new(alloc),
     })
@@ -110,7 +111,7 @@ fn entered_event<A: Allocator + Copy>(
         entity,
         id: None,
         value: None,
-        watch: Vec::from_slice(alloc, name)?,
+        watch: Text::from_slice(alloc, name)?,
         entity_text: entity_text(alloc, world, entity)?,
         id_text: Vec::new(alloc),
     })

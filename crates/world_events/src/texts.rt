@@ -2,10 +2,11 @@
 
 ghost use Rattle.std.specs.Prelude.{◌≡◌, IfOk};
 ghost use Rattle.ecs_model.specs.Map.{count_at};
-ghost use Rattle.ecs_model.specs.Print.{entity_text, id_text};
+ghost use Rattle.ecs_model.specs.Print.{entity_text, handle_text, id_text};
 
+use crate::text::Text;
 use ecs_id::{EntityId, Id};
-use ecs_print::{write_entity, write_id};
+use ecs_print::{write_handle, write_id};
 use ecs_world::World;
 use std::alloc::{AllocError, Allocator};
 
@@ -27,12 +28,25 @@ pub(crate) fn entity_text<A: Allocator + Copy>(
     alloc: A,
     world: &World<A>,
     entity: EntityId,
-) -> Result<Vec<u8, A>, AllocError>
-    ensures { IfOk result (λ text. text.items ≡ entity_text world.now.state entity) }
+) -> Result<Text<A>, AllocError>
+    ensures { IfOk result (λ text. text ≡ entity_text world.now.state entity) }
+{
+    match world.name_of(entity.index) {
+        Some(name) => Text::from_slice(alloc, name.as_bytes()),
+        None => handle_text(alloc, entity),
+    }
+}
+
+/// The text of a handle.
+pub(crate) fn handle_text<A: Allocator + Copy>(
+    alloc: A,
+    entity: EntityId,
+) -> Result<Text<A>, AllocError>
+    ensures { IfOk result (λ text. text ≡ handle_text entity) }
 {
     let mut text = Vec::new(alloc);
-    write_entity(world, entity, &mut text)?;
-    Ok(text)
+    write_handle(entity, &mut text)?;
+    Ok(Text::from_vec(text))
 }
 
 /// The text of an id.
