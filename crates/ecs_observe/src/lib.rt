@@ -9,6 +9,7 @@ mod asking;
 mod columns;
 mod commands;
 mod errors;
+mod indexes;
 mod kept;
 mod moves;
 mod pinning;

@@ -10,6 +10,7 @@ ghost use Rattle.touched_entities.specs.Before.{view_before};
 ghost use Rattle.watch_meaning.specs.Since.{IsAfter};
 
 use crate::asking::found_among;
+use crate::indexes::Indexes;
 use crate::stored::StoredQuery;
 use crate::watched::whole_rows;
 use asking_room::AskingRoom;
@@ -21,8 +22,8 @@ use touched_entities::{Moved, who_may_have_moved};
 /// The entities of a monitor's rows after a command, with those who left the rows by it and those who entered them. Both ascend.
 #[derive(Drop)]
 pub(crate) struct RowsAfter<A: Allocator> {
-    pub(crate) left: Vec<u32, A>,
-    pub(crate) entered: Vec<u32, A>,
+    pub(crate) left: Indexes<A>,
+    pub(crate) entered: Indexes<A>,
     pub(crate) these: EntitySet<A>,
 }
 
@@ -96,8 +97,8 @@ fn rows_by_all<A: Allocator + Copy>(
     let left = query.these.without(alloc, &these)?;
     let entered = these.without(alloc, &query.these)?;
     Ok(RowsAfter {
-        left,
-        entered,
+        left: Indexes::from_vec(left),
+        entered: Indexes::from_vec(entered),
         these,
     })
 }
@@ -105,8 +106,8 @@ fn rows_by_all<A: Allocator + Copy>(
 /// Who left and who entered.
 #[derive(Drop)]
 struct Told<A: Allocator> {
-    left: Vec<u32, A>,
-    entered: Vec<u32, A>,
+    left: Indexes<A>,
+    entered: Indexes<A>,
 }
 
 /// Of those who may have moved, who was in the rows and isn't any more, and who is in them and wasn't. In them are those whose ids tell it, and those whom
@@ -122,28 +123,29 @@ fn told_of<A: Allocator + Copy>(
     ensures left { IfOk result (λ told. told.left.items ≡ filter (λ e. is_among before.now.items e && not (is_among moved.now.sure.items e || is_among found.now e)) moved.now.all.items) }
     ensures entered { IfOk result (λ told. told.entered.items ≡ filter (λ e. (is_among moved.now.sure.items e || is_among found.now e) && not (is_among before.now.items e)) moved.now.all.items) }
 {
-    let mut left = Vec::new(alloc);
-    let mut entered = Vec::new(alloc);
+    let mut left = Indexes::new();
+    let mut entered = Indexes::new();
     let all = moved.all.as_slice();
     let sure = moved.sure.as_slice();
     for entity in all {
         let was = before.contains(*entity);
         let is = is_among(sure, *entity) | is_among(found, *entity);
-        push_if(was & !is, *entity, &mut left)?;
-        push_if(is & !was, *entity, &mut entered)?;
+        push_if(alloc, was & !is, *entity, &mut left)?;
+        push_if(alloc, is & !was, *entity, &mut entered)?;
     }
     Ok(Told { left, entered })
 }
 
 fn push_if<A: Allocator>(
+    alloc: A,
     wanted: bool,
     entity: u32,
-    entities: &mut Vec<u32, A>,
+    entities: &mut Indexes<A>,
 ) -> Result<(), AllocError>
     ensures { OnOk result (entities.new.items ≡ entities.old.items ++ (if wanted then entity ∷ [] else [])) }
 {
     if wanted {
-        entities.push(entity)?;
+        entities.push(alloc, entity)?;
     }
     Ok(())
 }

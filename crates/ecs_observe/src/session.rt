@@ -10,6 +10,7 @@ ghost use Rattle.query_model.specs.Query.{Query};
 use crate::queries::StoredQueries;
 use asking_room::AskingRoom;
 use ecs_world::{Changes, World};
+use entity_set::EntitySet;
 use std::alloc::{AllocError, Allocator, Global};
 use std::hash::RandomState;
 use std::marker::Model;
@@ -25,6 +26,8 @@ pub struct Session<A: Allocator = Global> {
     pub(crate) compared: u64,
     /// Room for the searches of monitors, of one after another.
     pub(crate) room: AskingRoom<A>,
+    /// Room for the rows of monitors that a command moves.
+    pub(crate) rows: Vec<(usize, EntitySet<A>), A>,
     pub(crate) alloc: A,
 }
 
@@ -59,6 +62,7 @@ impl<A: Allocator + Copy> Session<A> {
             waiting: None,
             compared: 0,
             room: AskingRoom::new(alloc),
+            rows: Vec::new(alloc),
             alloc,
         })
     }

@@ -44,23 +44,23 @@ impl<A: Allocator + Copy> Session<A> {
         ensures world { (self.new).world ≡ (self.old).world }
     {
         let mut events = Vec::new(self.alloc);
-        let mut rows = Vec::new(self.alloc);
         let mut compared = self.compared;
         let Some(changes) = &self.waiting else {
             return Ok(events);
         };
         self.world.keeps();
+        self.rows.clear();
         tell_led(
             self.alloc,
             &self.world,
             changes,
             &self.stored,
             &mut self.room,
-            &mut rows,
+            &mut self.rows,
             &mut compared,
             &mut events,
         )?;
-        put_rows(&mut self.stored, rows);
+        put_rows(&mut self.stored, &mut self.rows);
         self.waiting = None;
         self.compared = compared;
         Ok(events)
@@ -277,9 +277,9 @@ fn tell_locally<A: Allocator + Copy>(
 }
 
 /// Keeps the entities of the rows that stored queries were told, where they don't stay.
-fn put_rows<A: Allocator>(stored: &mut StoredQueries<A>, mut rows: Vec<(usize, EntitySet<A>), A>)
+fn put_rows<A: Allocator>(stored: &mut StoredQueries<A>, rows: &mut Vec<(usize, EntitySet<A>), A>)
     requires stored { IsStored stored.old }
-    ensures held { map held_of (entries_of stored.new) ≡ with_placed (placed_in rows.items) (map held_of (entries_of stored.old)) }
+    ensures held { map held_of (entries_of stored.new) ≡ with_placed (placed_in rows.old.items) (map held_of (entries_of stored.old)) }
     ensures lists { KeepLists (entries_of stored.old) (entries_of stored.new) }
     ensures stored { IsStored stored.new }
 {

@@ -53,5 +53,5 @@ returns-clause-these g c =
     let are = c.as_slice-2.ensures.value ∙ (c.in_ok-found.ensures ∙ ap (filter (is_among now)) c.as_slice.ensures.value) in
     let left = c.in_ok-told.ensures.left ∙ left_are w q before _ _ _ c.as_slice-2.result.now c.requires.told c.requires.ascends now refl up are in
     let entered = c.in_ok-told.ensures.entered ∙ entered_are w q before _ _ _ c.as_slice-2.result.now c.requires.told c.requires.ascends now refl up are in
-    moved_are before now c.as_slice-3.result.now c.as_slice-4.result.now c.in_ok-these.these.items (c.as_slice-3.ensures.value ∙ left) (c.as_slice-4.ensures.value ∙ entered)
+    moved_are before now c.as_slice-3.result.now c.as_slice-4.result.now c.in_ok-these.these.items (c.as_slice-3.ensures ∙ left) (c.as_slice-4.ensures ∙ entered)
     c.in_ok-these.ensures.ascends up c.in_ok-these.ensures.members

@@ -24,6 +24,6 @@ returns-clause-told g c =
     let changed = c.args.changes.now in
     let h = held_as (string_bytes c.args.name.now) c.args.query.now in
     let told =
-    (λ i. told_of_moves w changed (c.as_bytes.ensures.value i) ((c.as_slice.ensures.value ∙ c.in_ok-rows.ensures.left) i) ((c.as_slice-2.ensures.value ∙ c.in_ok-rows.ensures.entered) i))
+    (λ i. told_of_moves w changed (c.as_bytes.ensures.value i) ((c.as_slice.ensures ∙ c.in_ok-rows.ensures.left) i) ((c.as_slice-2.ensures ∙ c.in_ok-rows.ensures.entered) i))
     ∙ told_of_compared w changed h c.requires.was c.requires.compared in
     c.in_ok-tell_moves.ensures ∙ ap (λ es. c.args.events.now.items ++ es) told
