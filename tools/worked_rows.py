@@ -31,7 +31,7 @@ TOO_MANY_STEPS = {
 
 HEAD = """-- The worked rows, computed by the definitions. Made by tools/worked_rows.py.
 -- Too long to be computed here, and run by the program alone: {long_rows}.
-use Rattle.std.specs.Prelude.{{◌≡◌, ℕ, List, [], ◌∷◌, ◌++◌, refl, codes}}
+use Rattle.std.specs.Prelude.{{◌≡◌, ℕ, List, [], ◌∷◌, ◌++◌, refl, codes, drop, get_or, flat_map, length, count_by}}
 use Rattle.std.specs.Fmt.{{digits}}
 use Rattle.std.specs.Str.{{chars, is_utf8}}
 use Rattle.ecs_id.specs.Id.{{id_cmp}}
@@ -50,15 +50,25 @@ use Rattle.query_model.specs.Check.{{faults}}
 use Rattle.query_model.specs.Query.{{checked_query, query_of}}
 use Rattle.ecs_model.specs.Orders.{{command_of}}
 use Rattle.ecs_model.specs.Script.{{lines_of, forms, form_among}}
-use Rattle.ecs_model.specs.Output.{{effect_of, effects_of, output_of, count_of}}
+use Rattle.ecs_model.specs.Output.{{Effect, effect_of, effects_of, output_of, count_of}}
 use Rattle.ecs_model.specs.stored.Session.{{free_order, apply}}
 use Rattle.ecs_model.specs.stored.Watches.{{matching, told_of_rows, told_of}}
 use Rattle.ecs_model.specs.traits.Pins.{{unpin}}
+use Rattle.std.proofs.Common.{{ap}}
 use lib.Utf8.{{encode}}
 
 -- the script prints this output, and has so many lines, of which so many are refused
-abbrev Gives : List ℕ → List ℕ → ℕ → ℕ → Type 0
+unfoldable Gives : List ℕ → List ℕ → ℕ → ℕ → Type 0
 Gives script output lines refused = (output_of script ≡ output) × (count_of script ≡ (lines, refused))
+
+-- how many lines there are and how many are refused, and behind these numbers what they print
+abbrev told : List Effect → List ℕ
+told es = length es ∷ count_by (λ e. e.refused) es ∷ flat_map (λ e. e.printed) es
+
+-- what the lines do is computed once for all three
+gives : (script output : List ℕ) (lines refused : ℕ) → told (effects_of script) ≡ lines ∷ refused ∷ output → Gives script output lines refused
+unfolding Gives
+gives script output lines refused h = (ap (λ t. drop 2 t) h, ap (λ t. (get_or t 0 0, get_or t 1 0)) h)
 """
 UNFOLDING = (
     "id_cmp key_cmp first_world next_among within has_chain added replaced facts_with_added new_base copied facts_after_add facts_after_remove deleted facts_after_delete without_entities "
@@ -114,7 +124,7 @@ def lemma(row, script, output):
     return (
         f"{name} : Gives {literal(script)} {literal(output)} {len(lines_of(script))} {refused_in(output)}\n"
         f"unfolding {UNFOLDING}\n"
-        f"{name} = (refl, refl)\n"
+        f"{name} = gives _ _ _ _ refl\n"
     )
 
 
@@ -149,7 +159,7 @@ def pieces_written():
     parts = {}
     text = read(OUT).decode()
     head, *lemmas = text.split("\n\n")
-    if lemmas and lemmas[0].startswith("-- "):
+    while lemmas and lemmas[0].startswith("-- "):
         head += "\n\n" + lemmas.pop(0)
     parts["head"] = head + "\n"
     for part in lemmas:
