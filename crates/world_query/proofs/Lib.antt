@@ -10,3 +10,4 @@ mod Planned
 mod Chains
 mod Sheets
 mod Fronts
+pub mod Sent

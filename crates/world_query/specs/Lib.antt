@@ -4,3 +4,4 @@ pub mod Candidates
 pub mod Lines
 pub mod Planned
 pub mod Probes
+pub mod Sent

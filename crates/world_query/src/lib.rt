@@ -12,6 +12,7 @@ mod names;
 mod reading;
 mod row_lines;
 mod rows;
+mod sending;
 mod sheet;
 mod table_counts;
 
@@ -19,5 +20,6 @@ pub use names::Names;
 pub use reading::read_query;
 pub use rows::{
     QUERY_ROOM, asking_in, matching, matching_among, matching_by_asking, plan_for_kept, plan_in,
-    write_planned_rows, write_rows, write_rows_in,
+    send_planned_rows, send_rows, send_rows_in, write_planned_rows, write_rows, write_rows_in,
 };
+pub use sending::{Nowhere, SendError};

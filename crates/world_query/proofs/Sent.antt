@@ -1,0 +1,155 @@
+-- A text more behind what was sent and what is still to be.
+use Rattle.std.proofs.Common.{◌≡◌, ℕ, List, [], ◌∷◌, ◌++◌, length, take, drop, refl, sym, ap, ◌∙◌, subst, append_assoc, append-nil, arith}
+use Rattle.std.specs.Prelude.{Option, Some, Result, Ok, Err, IsErrAnd, OnErr, ⊤}
+use Rattle.std.specs.Io.{StartsWith}
+use Rattle.std.specs.Io.KnownBytes.{Appends}
+use Rattle.std.proofs.KnownBytes.{Appends-nil, Appends-trans}
+use Rattle.std.proofs.lemmas.List.{take-append-drop}
+use Rattle.script_streams.specs.declared.streams.Calls.{Calls}
+use Rattle.script_streams.specs.Streams.{IsCalm, TakesFront}
+use Rattle.world_query.specs.declared.sending.SendError.{SendError}
+use Rattle.world_query.specs.declared.sending.SendError.TheVariants.{Memory, Write}
+use Rattle.world_query.specs.Sent.{FailsAtWrite, IsSent, StopsSending}
+use Rattle.world_query.proofs.Fronts.{starts_before}
+
+-- what begins with a list is that and more
+begins : (old new : List ℕ) → StartsWith new old → new ≡ old ++ drop (length old) new
+begins old new starts = sym (take-append-drop (length old) new) ∙ ap (λ t. t ++ drop (length old) new) starts
+
+-- nothing is sent
+pub sent_here : (c : Option (List ℕ)) (before after text : List ℕ) → after ≡ before ++ text → IsSent c c before after text
+sent_here c before after text is = record { sent = []; wrote = Appends-nil c; whole = is }
+
+pub stops_here : (c : Option (List ℕ)) (before after text : List ℕ) → StartsWith after before → StopsSending c c before after text
+stops_here c before after text starts = record {
+  sent = [];
+  part = [];
+  more = drop (length before) after;
+  rest = before ++ text;
+  wrote = Appends-nil c;
+  kept = begins before after starts;
+  front = refl;
+}
+
+-- all that is written is sent
+pub sent_off : (a b : Option (List ℕ)) (before after : List ℕ) → Appends a b before → after ≡ [] → IsSent a b before after []
+sent_off a b before after wrote none = record { sent = before; wrote = wrote; whole = ap (λ t. before ++ t) none }
+
+-- or a front of it
+pub stops_off : (a b : Option (List ℕ)) (before after text : List ℕ) → TakesFront a b before → after ≡ before → StopsSending a b before after text
+stops_off a b before after text front same = record {
+  sent = [];
+  part = take front.0 before;
+  more = [];
+  rest = drop front.0 before ++ text;
+  wrote = front.2;
+  kept = same ∙ sym (append-nil before);
+  front = ap (λ t. t ++ text) (sym (take-append-drop front.0 before)) ∙ append_assoc (take front.0 before) (drop front.0 before) text;
+}
+
+-- s ++ z, where s ++ y is x ++ t and z is what y is behind another front
+through : (s1 s2 x y z t u : List ℕ) → s1 ++ y ≡ x ++ t → s2 ++ z ≡ y ++ u → (s1 ++ s2) ++ z ≡ x ++ (t ++ u)
+through s1 s2 x y z t u first second =
+    append_assoc s1 s2 z ∙ ap (λ l. s1 ++ l) second ∙ sym (append_assoc s1 y u) ∙ ap (λ l. l ++ u) first ∙ append_assoc x t u
+
+pub sent_then : (a b c : Option (List ℕ)) (x y z t u : List ℕ) → IsSent a b x y t → IsSent b c y z u → IsSent a c x z (t ++ u)
+sent_then a b c x y z t u first second = record {
+  sent = first.sent ++ second.sent;
+  wrote = Appends-trans a b c first.sent second.sent first.wrote second.wrote;
+  whole = through first.sent second.sent x y z t u first.whole second.whole;
+}
+
+pub stops_then : (a b c : Option (List ℕ)) (x y z t u : List ℕ) → IsSent a b x y t → StopsSending b c y z u → StopsSending a c x z (t ++ u)
+stops_then a b c x y z t u first second =
+    let s = first.sent in
+    let taken = second.sent ++ second.part in
+    let assoc : (s ++ second.sent) ++ second.part ≡ s ++ taken = append_assoc s second.sent second.part in
+    record {
+      sent = s ++ second.sent;
+      part = second.part;
+      more = t ++ second.more;
+      rest = second.rest;
+      wrote = subst (Appends a c) (sym assoc) (Appends-trans a b c s taken first.wrote second.wrote);
+      kept = through s second.sent x y z t second.more first.whole second.kept;
+      front = sym (append_assoc x t u) ∙ ap (λ l. l ++ u) (sym first.whole) ∙ append_assoc s y u ∙ ap (λ l. s ++ l) second.front
+          ∙ sym (append_assoc s taken second.rest) ∙ ap (λ l. l ++ second.rest) (sym assoc);
+    }
+
+-- the same as the front of a text
+pub stops_within : (a b : Option (List ℕ)) (x y t more all : List ℕ) → all ≡ t ++ more → StopsSending a b x y t → StopsSending a b x y all
+stops_within a b x y t more all is stops = record {
+  sent = stops.sent;
+  part = stops.part;
+  more = stops.more;
+  rest = stops.rest ++ more;
+  wrote = stops.wrote;
+  kept = stops.kept;
+  front = ap (λ l. x ++ l) is ∙ sym (append_assoc x t more) ∙ ap (λ l. l ++ more) stops.front ∙ append_assoc (stops.sent ++ stops.part) stops.rest more;
+}
+
+-- where a text is put down whose front was sent and kept
+pub stops_at : (a b : Option (List ℕ)) (x y z t more all : List ℕ) → all ≡ t ++ more → StartsWith z y → IsSent a b x y t → StopsSending a b x z all
+stops_at a b x y z t more all is starts sent = subst (StopsSending a b x z) (sym is) (stops_then a b b x y z t more sent (stops_here b y z more starts))
+
+-- the same of lists that are the same
+pub sent_as : (a b : Option (List ℕ)) (x y t before after : List ℕ) → before ≡ x → after ≡ y → IsSent a b x y t → IsSent a b before after t
+sent_as a b x y t before after first last so =
+    record { sent = so.sent; wrote = so.wrote; whole = ap (λ l. so.sent ++ l) last ∙ so.whole ∙ ap (λ l. l ++ t) (sym first) }
+
+pub stops_as : (a b : Option (List ℕ)) (x y t before after : List ℕ) → before ≡ x → after ≡ y → StopsSending a b x y t → StopsSending a b before after t
+stops_as a b x y t before after first last so = record {
+  sent = so.sent;
+  part = so.part;
+  more = so.more;
+  rest = so.rest;
+  wrote = so.wrote;
+  kept = ap (λ l. so.sent ++ l) last ∙ so.kept ∙ ap (λ l. l ++ so.more) (sym first);
+  front = ap (λ l. l ++ t) first ∙ so.front;
+}
+
+-- a writer that takes nothing has taken nothing
+none_sent : (s part : List ℕ) → [] ≡ s ++ part → s ≡ []
+none_sent [] part none = refl
+none_sent (x ∷ s) part none = absurd (omega (arith, ap length none))
+
+pub sent_nowhere : (before after text : List ℕ) → IsSent (Some []) (Some []) before after text → after ≡ before ++ text
+sent_nowhere before after text so = ap (λ s. s ++ after) so.wrote ∙ so.whole
+
+pub stops_nowhere : (before after text : List ℕ) → StopsSending (Some []) (Some []) before after text → StartsWith after before
+stops_nowhere before after text so = starts_before before so.more after (ap (λ s. s ++ after) (sym (none_sent so.sent so.part so.wrote)) ∙ so.kept)
+
+-- calls stay calm where no fault is answered
+pub calm_still : {T : Type 0} (old new : Calls) (answer : T) → FailsAtWrite old (Ok answer) new → IsCalm old → IsCalm new
+calm_still old new answer told calm =
+    let P : Result _ SendError → Type 0 = λ r. OnErr r ⊥ in
+    (told calm).1 (λ e. subst P e tt)
+
+err_of : {T : Type 0} (d e : SendError) (r : Result T SendError) → r ≡ Err d → r ≡ Err e → d ≡ e
+err_of d e r first second = let P : Result _ SendError → Type 0 = λ q. IsErrAnd q (λ x. x ≡ e) in subst P first (subst P (sym second) refl)
+
+-- an error that is passed on tells the same of the calls, also of those before
+pub fails_same : {T U : Type 0} (e : SendError) (old mid new : Calls) (given : Result T SendError) (r : Result U SendError) → (IsCalm old → IsCalm mid) → given ≡ Err e
+    → IsErrAnd r (λ x. x ≡ e) → FailsAtWrite mid given new → FailsAtWrite old r new
+fails_same e old mid new given (Ok x) before was passed told = absurd passed
+fails_same e old mid new given (Err d) before was passed told = λ calm. (
+  λ is. (told (before calm)).0 (was ∙ ap (λ x. Err x) (sym passed ∙ err_of d Write _ refl is)),
+  λ other. (told (before calm)).1 (λ is. other (ap (λ x. Err x) (passed ∙ err_of e Write given was is))),
+)
+
+-- and where nothing was written, or all of it
+abbrev IsMemory : SendError → Type 0
+IsMemory Memory = ⊤
+IsMemory Write = ⊥
+
+pub calm_memory : {T : Type 0} (old new : Calls) (r : Result T SendError) → (IsCalm old → IsCalm new) → IsErrAnd r (λ x. x ≡ Memory) → FailsAtWrite old r new
+calm_memory old new (Ok x) calm is = absurd is
+calm_memory old new (Err d) calm is = λ was. (
+  λ write. let P : Result _ SendError → Type 0 = λ r. IsErrAnd r IsMemory in absurd (subst P write (subst IsMemory (sym is) tt)),
+  λ _. calm was,
+)
+
+pub calm_ok : {T : Type 0} (old new : Calls) (x : T) → (IsCalm old → IsCalm new) → FailsAtWrite old (Ok x) new
+calm_ok old new x calm = λ was. (
+  λ write. let P : Result _ SendError → Type 0 = λ r. OnErr r ⊥ in absurd (subst P write tt),
+  λ _. calm was,
+)

@@ -1,0 +1,31 @@
+-- What has become of a text where a writer takes what stands in a list before it is whole.
+use Rattle.std.specs.Prelude.{◌≡◌, ℕ, List, ◌++◌, Option, Result, Err}
+use Rattle.std.specs.Io.KnownBytes.{Appends}
+use Rattle.script_streams.specs.declared.streams.Calls.{Calls}
+use Rattle.script_streams.specs.Streams.{IsCalm, IsFaulty}
+use Rattle.world_query.specs.declared.sending.SendError.{SendError}
+use Rattle.world_query.specs.declared.sending.SendError.TheVariants.{Write}
+
+-- the text was put behind what the list held, and the writer has taken a front of that
+pub record IsSent (old new : Option (List ℕ)) (before after text : List ℕ) : Type 0 where
+  pub sent : List ℕ
+  pub wrote : Appends old new sent
+  pub whole : sent ++ after ≡ before ++ text
+
+-- the writer has taken a front of that, and of what the list held nothing is lost but what it has taken
+pub record StopsSending (old new : Option (List ℕ)) (before after text : List ℕ) : Type 0 where
+  pub sent : List ℕ
+  pub part : List ℕ
+  pub more : List ℕ
+  pub rest : List ℕ
+  pub wrote : Appends old new (sent ++ part)
+  pub kept : sent ++ after ≡ before ++ more
+  pub front : before ++ text ≡ (sent ++ part) ++ rest
+
+-- where the calls of a writer were calm, they are faulty after a fault of a write, and calm after any other answer
+abbrev pub FailsAtWrite : {T : Type 0} → Calls → Result T SendError → Calls → Type 0
+FailsAtWrite old answer new = IsCalm old → (answer ≡ Err Write → IsFaulty new) × (¬ (answer ≡ Err Write) → IsCalm new)
+
+-- where so many bytes may stand, none are sent
+abbrev pub most_usize : ℕ
+most_usize = 18446744073709551615

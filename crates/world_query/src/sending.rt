@@ -1,0 +1,101 @@
+//! Rows that go to a writer as soon as many bytes of them have come together.
+
+ghost use Rattle.std.specs.Prelude.{◌≡◌, ℕ, List, [], OnErr, OnOk};
+ghost use Rattle.world_query.specs.Lines.{written};
+ghost use Rattle.world_query.specs.Sent.{FailsAtWrite, IsSent, StopsSending, most_usize};
+
+use script_streams::{Fault, Sink, Stop, write_all};
+use std::alloc::{AllocError, Allocator};
+use thiserror::Error;
+
+/// Why rows were not sent.
+#[derive(Clone, Copy, Debug, PartialEq, Eq, Error)]
+pub enum SendError {
+    /// Memory was refused.
+    #[error("out of memory")]
+    Memory,
+    /// A write failed or took no byte, or 65 in a row were interrupted.
+    #[error("write fault")]
+    Write,
+}
+
+impl From<AllocError> for SendError {
+    ghost use Rattle.std.specs.Prelude.{◌≡◌};
+    ghost use Rattle.world_query.specs.declared.sending.SendError.TheVariants.{Memory};
+
+    ghost from_gives = { λ _ e. e ≡ Memory };
+
+    fn from(_error: AllocError) -> SendError {
+        SendError::Memory
+    }
+}
+
+impl From<Fault> for SendError {
+    ghost use Rattle.std.specs.Prelude.{◌≡◌};
+    ghost use Rattle.world_query.specs.declared.sending.SendError.TheVariants.{Write};
+
+    ghost from_gives = { λ _ e. e ≡ Write };
+
+    fn from(_fault: Fault) -> SendError {
+        SendError::Write
+    }
+}
+
+/// A writer that takes nothing, for rows that stay where they are written.
+#[derive(Clone, Copy, Drop)]
+pub struct Nowhere;
+
+impl Sink for Nowhere {
+    ghost use Rattle.std.specs.Prelude.{Some, [], true};
+
+    ghost contents = { λ _. Some [] };
+
+    ghost calls = { λ _. record { interruptions = 0; has_failed = true } };
+
+    fn write(&mut self, _bytes: &[u8]) -> Result<usize, Stop> {
+        Err(Stop::Failed)
+    }
+}
+
+/// Sends what is written on a sheet where that is more than so many bytes. Then nothing is written there.
+#[inline(always)]
+pub(crate) fn send_beyond<A: Allocator, W: Sink>(
+    most: usize,
+    writer: &mut W,
+    end: &mut usize,
+    sheet: &Vec<u8, A>,
+) -> Result<(), SendError>
+    ensures sent { OnOk result (IsSent (W.contents writer.old) (W.contents writer.new) (written sheet.now end.old) (written sheet.now end.new) []) }
+    ensures front { (text : List ℕ) → OnErr result (StopsSending (W.contents writer.old) (W.contents writer.new) (written sheet.now end.old) (written sheet.now end.new) text) }
+    ensures writes { FailsAtWrite (W.calls writer.old) result (W.calls writer.new) }
+    ensures kept { most ≡ most_usize → writer.new ≡ writer.old }
+{
+    if *end <= most {
+        return Ok(());
+    }
+    send(writer, end, sheet)
+}
+
+/// Sends what is written on a sheet.
+#[inline(never)]
+fn send<A: Allocator, W: Sink>(
+    writer: &mut W,
+    end: &mut usize,
+    sheet: &Vec<u8, A>,
+) -> Result<(), SendError>
+    ensures sent { OnOk result (IsSent (W.contents writer.old) (W.contents writer.new) (written sheet.now end.old) (written sheet.now end.new) []) }
+    ensures front { (text : List ℕ) → OnErr result (StopsSending (W.contents writer.old) (W.contents writer.new) (written sheet.now end.old) (written sheet.now end.new) text) }
+    ensures writes { FailsAtWrite (W.calls writer.old) result (W.calls writer.new) }
+{
+    write_all(writer, written_on(sheet, *end))?;
+    *end = 0;
+    Ok(())
+}
+
+/// What is written on a sheet, up to a place.
+#[tactic(auto, using(std::proofs::lemmas::List::take_min))]
+fn written_on<A: Allocator>(sheet: &Vec<u8, A>, end: usize) -> &[u8]
+    ensures { result.now ≡ written sheet.now end }
+{
+    &sheet[..end.min(sheet.len())]
+}
