@@ -8,6 +8,8 @@ mod growths;
 #[cfg(test)]
 mod lines;
 #[cfg(test)]
+mod lists;
+#[cfg(test)]
 mod named;
 #[cfg(test)]
 mod scripts;

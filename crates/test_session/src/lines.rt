@@ -6,7 +6,7 @@ ghost use Rattle.ecs_id.specs.Id.{IsIndex};
 use ecs_id::{EntityId, Id, LAST_INDEX};
 use ecs_model::faults::{Refusal, SessionRefusal};
 use ecs_model::watches::StoredKind;
-use ecs_observe::{Event, Session, SessionError, write_event};
+use ecs_observe::{Command, EntityRef, Event, IdRef, Session, SessionError, write_event};
 use ecs_schema::{Kind, Schema};
 use std::alloc::{AllocError, Allocator};
 
@@ -30,6 +30,10 @@ pub(crate) enum Line {
     Store(StoredKind, &'static str, &'static str),
     Drop(&'static str),
     Rows(&'static str),
+    /// In no script: a fact comes, whose entity and tag are named.
+    AddNamed(&'static str, &'static str),
+    /// In no script: the list of a kept query is brought up to date.
+    Sync(&'static str),
     /// In no script, but after each of its lines: the events that wait are told.
     Events,
     /// In no script, but before one: a session is made.
@@ -114,9 +118,21 @@ pub(crate) fn carry_out<A: Allocator + Copy>(
             session.write_kept_rows(name, out)?;
             Ok(None)
         }
+        Line::AddNamed(entity, tag) => {
+            let entity = EntityRef::Name(entity);
+            let id = IdRef::Plain(EntityRef::Name(tag));
+            session.apply(Command::Add { entity, id })?;
+            Ok(None)
+        }
+        Line::Sync(name) => {
+            session.sync_kept(name)?;
+            Ok(None)
+        }
         Line::Events => {
             let told = session.events()?;
-            write_events(told.as_slice(), out)?;
+            let written = write_events(told.as_slice(), out);
+            drop(told);
+            written?;
             Ok(None)
         }
     }

@@ -111,6 +111,7 @@ fn expect_watched(rt: &impl Abort, session: &mut Session) -> Result<(), Fail> {
     expect(rt, session, Command::Drop { name }, pending);
     let told = session.events()?;
     assert!(rt; told.len() == 1);
+    drop(told);
     expect_done(rt, session, Command::Drop { name });
     let unknown = Err(SessionError::Refused(SessionRefusal::UnknownQuery));
     expect(rt, session, Command::Drop { name }, unknown);

@@ -34,18 +34,18 @@ const PREFAB: u32 = 4;
 
 const DISABLED: u32 = 5;
 
-const POSITION: u32 = 64;
+pub(crate) const POSITION: u32 = 64;
 
-const PLANET: u32 = 65;
+pub(crate) const PLANET: u32 = 65;
 
 const SUN: u32 = 67;
 
-const EARTH: u32 = 68;
+pub(crate) const EARTH: u32 = 68;
 
-const MOON: u32 = 69;
+pub(crate) const MOON: u32 = 69;
 
 /// The entity that is made after those of the system.
-const HOT: u32 = 70;
+pub(crate) const HOT: u32 = 70;
 
 /// The sun with a position, the earth, a planet with one, around it, and the moon around the earth.
 const SYSTEM: [Line; 11] = [
@@ -368,8 +368,10 @@ pub(crate) const EACH_CALL: Script = Script {
         Line::Component("Mass", &[("x", Kind::I32)]),
         Line::Fresh,
         Line::Add(MOON, Named::Plain(PLANET)),
+        Line::AddNamed("Sun", "Planet"),
         Line::Set(MOON, Named::Plain(POSITION), &[9, 9]),
         Line::Set(MOON, Named::Plain(POSITION), &[8, 8]),
+        Line::Sync("k"),
         Line::Rows("k"),
         Line::Remove(EARTH, Named::Plain(PLANET)),
         Line::Delete(SUN),

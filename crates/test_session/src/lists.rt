@@ -1,0 +1,155 @@
+//! The lists of kept queries: which tables are judged for them, and what is lent.
+
+ghost use Rattle.ecs_observe.specs.Following.{IsUpToDateAt};
+
+use crate::lines::{Line, Named, print_lines};
+use crate::scripts::{EARTH, HOT, KEPT_QUERY, MOON, PLANET, POSITION};
+use ecs_model::faults::SessionRefusal;
+use ecs_model::watches::StoredKind;
+use ecs_observe::{Session, SessionError};
+use std::alloc::{AllocError, Global};
+use std::hash::RandomState;
+use std::process::Abort;
+use std::test::Fail;
+use world_rows::{Asked, Rows, WorldView};
+
+/// Two kept queries, of which one is asked for its rows.
+const STORED: [Line; 3] = [
+    Line::Store(StoredKind::Kept, "k", "Position, Planet"),
+    Line::Store(StoredKind::Kept, "other", "Position, Planet"),
+    Line::Store(StoredKind::Monitor, "m", "Position"),
+];
+
+const ROWS: [Line; 1] = [Line::Rows("k")];
+
+/// The earth moves to a new table.
+const HEATED: [Line; 4] = [
+    Line::Entity("Hot"),
+    Line::Events,
+    Line::Add(EARTH, Named::Plain(HOT)),
+    Line::Events,
+];
+
+/// And the moon becomes a planet with a position.
+const SETTLED: [Line; 4] = [
+    Line::Set(MOON, Named::Plain(POSITION), &[4, 4]),
+    Line::Events,
+    Line::Add(MOON, Named::Plain(PLANET)),
+    Line::Events,
+];
+
+/// Carries out lines, whatever they print.
+fn run(alloc: Global, session: &mut Session, lines: &[Line]) -> Result<(), Fail> {
+    let mut printed = Vec::new(alloc);
+    print_lines(session, alloc, lines, &mut printed)?;
+    Ok(())
+}
+
+fn judged(rt: &impl Abort, session: &Session, name: &str) -> u64 {
+    let judged = session.judged(name);
+    assert!(rt; judged.is_ok());
+    judged.unwrap_or(0)
+}
+
+/// A `rows` line judges the tables that came, and none where none came; a list that isn't asked for judges none.
+fn expect_judged(rt: &impl Abort, alloc: Global, session: &mut Session) -> Result<(), Fail> {
+    run(alloc, session, KEPT_QUERY.base)?;
+    run(alloc, session, &STORED)?;
+    assert!(rt; judged(rt, session, "k") == 0);
+    run(alloc, session, &ROWS)?;
+    let first = judged(rt, session, "k");
+    assert!(rt; first > 0);
+    run(alloc, session, &ROWS)?;
+    assert!(rt; judged(rt, session, "k") == first);
+    run(alloc, session, &HEATED)?;
+    run(alloc, session, &ROWS)?;
+    let second = first.saturating_add(1);
+    assert!(rt; judged(rt, session, "k") == second);
+    session.sync_kept("k")?;
+    assert!(rt; judged(rt, session, "k") == second);
+    assert!(rt; judged(rt, session, "other") == 0);
+    session.sync_kept("other")?;
+    assert!(rt; judged(rt, session, "other") == second);
+    Ok(())
+}
+
+#[test]
+fn each_table_is_judged_once(rt: HostRuntime) -> Result<(), Fail> {
+    let random = RandomState::new(&rt)?;
+    let mut session = Session::new(rt.alloc(), random)?;
+    let done = expect_judged(&rt, rt.alloc(), &mut session);
+    drop(session);
+    done
+}
+
+/// There is no list of a name that nothing has, nor of a monitor's.
+fn expect_no_list(rt: &impl Abort, session: &mut Session, name: &str) {
+    let refusal = SessionRefusal::UnknownQuery;
+    assert!(rt; session.judged(name) == Err(refusal));
+    assert!(rt; session.kept_tables(name).is_err());
+    assert!(rt; session.sync_kept(name) == Err(SessionError::Refused(refusal)));
+}
+
+/// Takes in the entities of the rows to come.
+fn take_entities(rows: &mut Rows<'_, Global>, found: &mut Vec<u32>) -> Result<(), AllocError> {
+    for _ in 0..1000 {
+        if !rows.next() {
+            break;
+        }
+        found.extend_from_slice(rows.entities())?;
+    }
+    Ok(())
+}
+
+/// The entities of the rows that the list of a kept query leads to.
+fn lent_rows(alloc: Global, session: &Session, name: &str, found: &mut Vec<u32>) -> Result<(), Fail>
+    requires { IsUpToDateAt session.now name.now }
+{
+    session.keeps();
+    let tables = session.kept_tables(name)?;
+    let kept = session.kept_query(name)?;
+    let query = kept.try_clone(alloc)?;
+    let view = WorldView::new(session.world());
+    let asked = Asked::of(alloc, &view, query)?;
+    let mut rows = asked.rows_in(&view, tables);
+    let taken = take_entities(&mut rows, found);
+    drop(rows);
+    Ok(taken?)
+}
+
+/// The rows of a kept query, once its list was brought up to date, have these entities.
+fn expect_rows(
+    rt: &impl Abort,
+    alloc: Global,
+    session: &mut Session,
+    entities: &[u32],
+) -> Result<(), Fail> {
+    session.sync_kept("k")?;
+    let mut found = Vec::new(alloc);
+    lent_rows(alloc, session, "k", &mut found)?;
+    found.sort()?;
+    assert!(rt; found.as_slice() == entities);
+    Ok(())
+}
+
+/// The list of a kept query, as it is lent, leads to the rows of the query, through changes.
+fn expect_lent(rt: &impl Abort, alloc: Global, session: &mut Session) -> Result<(), Fail> {
+    run(alloc, session, KEPT_QUERY.base)?;
+    run(alloc, session, &STORED)?;
+    expect_no_list(rt, session, "nobody");
+    expect_no_list(rt, session, "m");
+    expect_rows(rt, alloc, session, &[EARTH])?;
+    run(alloc, session, &HEATED)?;
+    expect_rows(rt, alloc, session, &[EARTH])?;
+    run(alloc, session, &SETTLED)?;
+    expect_rows(rt, alloc, session, &[EARTH, MOON])
+}
+
+#[test]
+fn lists_are_lent(rt: HostRuntime) -> Result<(), Fail> {
+    let random = RandomState::new(&rt)?;
+    let mut session = Session::new(rt.alloc(), random)?;
+    let done = expect_lent(&rt, rt.alloc(), &mut session);
+    drop(session);
+    done
+}
