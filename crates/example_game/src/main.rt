@@ -99,29 +99,28 @@ fn litres_of(rows: &Rows<'_, Global>) -> Option<i128>
     rows.field(0)?.value?.number(0)
 }
 
-/// Prints how many litres all ships have. Pulling the rows takes no memory, and the query is given back for the next turn.
-fn show_fuel(
-    alloc: Global,
-    session: &Session,
-    asked: Asked,
-    out: &mut Vec<u8>,
-) -> Result<Asked, GameError> {
-    let view = WorldView::new(session.world());
-    if !asked.is_current(&view) || !asked.covers(&view) {
-        return Ok(asked);
-    }
+/// The litres of the ships of all rows to come.
+fn litres_to_come(rows: &mut Rows<'_, Global>) -> u64 {
     let mut litres: u64 = 0;
-    let mut rows = asked.rows(&view);
     for _ in 0..u64::MAX {
         if !rows.next() {
             break;
         }
-        let held = litres_of(&rows).and_then(|number| u64::try_from(number).ok());
+        let held = litres_of(rows).and_then(|number| u64::try_from(number).ok());
         litres = litres.saturating_add(held.unwrap_or(0));
     }
-    let line = format!(in alloc; "{litres} litres\n")?;
-    out.extend_from_slice(line.as_bytes())?;
-    Ok(rows.into_asked())
+    litres
+}
+
+/// The litres of all ships, row by row. Pulling the rows takes no memory, and the query is given back for the next turn.
+fn litres_by_row(session: &Session, asked: Asked) -> (Asked, u64) {
+    let view = WorldView::new(session.world());
+    if !asked.is_current(&view) || !asked.covers(&view) {
+        return (asked, 0);
+    }
+    let mut rows = asked.rows(&view);
+    let litres = litres_to_come(&mut rows);
+    (rows.into_asked(), litres)
 }
 
 /// The litres of the ships of one table. Their values stand one after another, of two bytes each.
@@ -155,32 +154,31 @@ fn litres_by_table(session: &Session, asked: &Asked) -> u64 {
     litres
 }
 
-/// Goes over all ships in each frame, and prints how many litres were seen.
-fn show_frames(
-    alloc: Global,
-    session: &Session,
-    asked: &Asked,
-    out: &mut Vec<u8>,
-) -> Result<(), AllocError> {
+/// The litres that are seen where all ships are gone over in each frame.
+fn litres_in_frames(session: &Session, asked: &Asked) -> u64 {
     let mut litres: u64 = 0;
     for _ in 0..FRAMES {
         litres = litres.saturating_add(litres_by_table(session, asked));
     }
-    let line = format!(in alloc; "{litres} litres in {FRAMES} frames\n")?;
-    out.extend_from_slice(line.as_bytes())
+    litres
 }
 
-/// Two turns, with a ship that puts to sea between them.
+/// Two turns, with a ship that puts to sea between them, and at the end how many litres they counted.
 fn play(alloc: Global, session: &mut Session, out: &mut Vec<u8>) -> Result<(), GameError> {
     begin(alloc, session)?;
     tell_events(session, out)?;
+    show_docked(session, out)?;
     let fuel = Asked::new(alloc, &WorldView::new(session.world()), "Fuel")?;
-    show_docked(session, out)?;
-    let fuel = show_fuel(alloc, session, fuel, out)?;
+    let (fuel, before) = litres_by_row(session, fuel);
     put_to_sea(session, "Petrel", 33, out)?;
+    let in_frames = litres_in_frames(session, &fuel);
+    let (fuel, after) = litres_by_row(session, fuel);
+    drop(fuel);
     show_docked(session, out)?;
-    show_frames(alloc, session, &fuel, out)?;
-    show_fuel(alloc, session, fuel, out)?;
+    let line = format!(in alloc;
+        "{before} litres, then {after}; {in_frames} in {FRAMES} frames\n"
+    )?;
+    out.extend_from_slice(line.as_bytes())?;
     Ok(())
 }
 
