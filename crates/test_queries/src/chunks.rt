@@ -1,7 +1,13 @@
 //! Chunks, compared with the rows of a query as they print.
 
-use crate::worked::{WorkedRow, first_at};
-use ecs_id::{EntityId, Id};
+ghost use Rattle.std.specs.Prelude.{IsTrue};
+ghost use Rattle.query_chunks.specs.Asked.{has_chunks};
+
+use crate::kept::list_in;
+use crate::lines::{expect_rows, write_entity, write_field};
+use crate::rows::compare_rows;
+use crate::worked::first_at;
+use ecs_id::Id;
 use ecs_model::faults::CommandError;
 use ecs_schema::{Kind, Schema};
 use ecs_world::World;
@@ -40,7 +46,7 @@ const MOLD: u32 = 73;
 const GONE: u32 = 74;
 
 /// Queries with chunks, and how many rows each has.
-const QUERIES: [(&str, usize); 10] = [
+const QUERIES: [(&str, usize); 12] = [
     ("Position", 3),
     ("[none] Position, ?Mass, !Frozen", 2),
     ("Frozen || Mass", 3),
@@ -51,6 +57,11 @@ const QUERIES: [(&str, usize); 10] = [
     ("(Likes,Sun), Position", 1),
     ("!{ Frozen, !Mass }, Position", 2),
     ("Frozen, Mass", 0),
+    ("Position, [none] Mass || Frozen", 2),
+    (
+        "?Frozen, ?Disabled, ?(Likes,Sun), ?Prefab, ?Mass, Position",
+        5,
+    ),
 ];
 
 fn make(alloc: Global, world: &mut World) -> Result<(), Fail> {
@@ -91,130 +102,125 @@ fn leave_tables(world: &mut World) -> Result<(), CommandError> {
     Ok(())
 }
 
-fn name(world: &World, index: u32) -> &str {
-    world.name_of(index).unwrap_or("?")
-}
-
-fn write_id(world: &World, id: Id, line: &mut String) -> Result<(), AllocError> {
-    let Some(target) = id.second() else {
-        return line.push_str(name(world, id.first()));
-    };
-    line.push_str("(")?;
-    line.push_str(name(world, id.first()))?;
-    line.push_str(",")?;
-    line.push_str(name(world, target))?;
-    line.push_str(")")
-}
-
-/// Writes the numbers of a value behind `=`.
-fn write_value(
-    alloc: Global,
-    schema: &Schema,
-    bytes: &[u8],
-    line: &mut String,
-) -> Result<(), AllocError> {
-    for field in 0..schema.field_count() {
-        if bytes.len() == schema.size() {
-            line.push_str(if field == 0 { "=" } else { "," })?;
-            let number = format!(in alloc; "{}", schema.decode(bytes, field))?;
-            line.push_str(number.as_str())?;
-        }
-    }
-    Ok(())
-}
-
 /// Writes the field of an entity in a row of a column.
-fn write_field(
+fn write_column(
     alloc: Global,
     world: &World,
-    entity: EntityId,
+    entity: u32,
     row: usize,
     column: &Column<'_>,
-    line: &mut String,
+    lines: &mut String,
 ) -> Result<(), AllocError> {
-    let (Column::Id(id) | Column::Values(id, _, _)) = column else {
-        return line.push_str(" [-]");
-    };
-    line.push_str(" [")?;
-    write_id(world, *id, line)?;
-    line.push_str("@")?;
-    line.push_str(name(world, entity.index))?;
-    if let Column::Values(_, schema, bytes) = column {
-        let value = bytes.chunks_exact(schema.size()).nth(row);
-        write_value(alloc, schema, value.unwrap_or(&[]), line)?;
+    match column {
+        Column::Unset => lines.push_str(" [-]"),
+        Column::Id(id) => write_field(alloc, world, *id, entity, None, lines),
+        Column::Values(id, schema, bytes) => {
+            let value = bytes.chunks_exact(schema.size()).nth(row).unwrap_or(&[]);
+            write_field(alloc, world, *id, entity, Some((*schema, value)), lines)
+        }
     }
-    line.push_str("]")
 }
 
-/// A row of a chunk as a query prints it.
-fn line_of(
+fn write_row(
     alloc: Global,
     world: &World,
     chunk: &Chunk<'_>,
     row: usize,
-    entity: EntityId,
-) -> Result<String, AllocError> {
-    let mut line = String::new(alloc);
-    line.push_str("row $this=")?;
-    line.push_str(name(world, entity.index))?;
+    entity: u32,
+    lines: &mut String,
+) -> Result<(), AllocError> {
+    lines.push_str("row")?;
+    write_entity(world, "this", entity, lines)?;
     for number in 0..64 {
-        match chunk.column(number) {
-            Some(column) => write_field(alloc, world, entity, row, &column, &mut line)?,
-            None => break,
-        }
+        let Some(column) = chunk.column(number) else {
+            break;
+        };
+        write_column(alloc, world, entity, row, &column, lines)?;
     }
-    line.push_str("\n")?;
-    Ok(line)
+    lines.push_str("\n")
 }
 
-/// Whether each row of the chunks stands in a text, and how many there are.
-fn find_lines(
-    rt: &impl Abort,
+/// Writes the rows of the chunks to come.
+fn write_chunks(
     alloc: Global,
     world: &World,
-    query: &Query,
-    text: &str,
-) -> Result<usize, AllocError> {
-    if !has_chunks(query) {
-        return Ok(usize::MAX);
-    }
-    let mut chunks = Chunks::start(world, query);
-    let mut count: usize = 0;
+    chunks: &mut Chunks<'_>,
+    lines: &mut String,
+) -> Result<(), AllocError> {
     for _ in 0..1000 {
         let Some(chunk) = chunks.next_chunk() else {
             break;
         };
         for (row, entity) in chunk.entities().iter().enumerate() {
-            let line = line_of(alloc, world, &chunk, row, *entity)?;
-            assert!(rt; text.contains(line.as_str()), "{line}");
-            count = count.saturating_add(1);
+            write_row(alloc, world, &chunk, row, entity.index, lines)?;
         }
-    }
-    assert!(rt; chunks.next_chunk().is_none());
-    Ok(count)
-}
-
-/// The chunks of a worked query have the rows that it prints, if it has any.
-pub(crate) fn compare_worked(
-    rt: &impl Abort,
-    alloc: Global,
-    world: &World,
-    row: &WorkedRow,
-) -> Result<(), Fail> {
-    let query = read_query(alloc, world, row.query)?;
-    if has_chunks(&query) {
-        let wanted = row.answer.lines().count().saturating_sub(1);
-        assert!(rt;
-            find_lines(rt, alloc, world, &query, row.answer)? == wanted,
-            "{}",
-            row.query
-        );
     }
     Ok(())
 }
 
-/// A query has as many chunk rows as are wanted, and these are the lines that it prints.
+/// The rows of the chunks are those that a query prints. Behind the last there is none.
 fn compare(
+    rt: &impl Abort,
+    alloc: Global,
+    world: &World,
+    chunks: &mut Chunks<'_>,
+    printed: &str,
+) -> Result<(), AllocError> {
+    let mut lines = String::new(alloc);
+    write_chunks(alloc, world, chunks, &mut lines)?;
+    expect_rows(rt, lines.as_str(), printed);
+    assert!(rt; chunks.next_chunk().is_none());
+    Ok(())
+}
+
+/// The same of the chunks from the tables that are kept for a query.
+fn compare_kept(
+    rt: &impl Abort,
+    alloc: Global,
+    world: &World,
+    query: &Query,
+    printed: &str,
+) -> Result<(), AllocError>
+    requires { IsTrue (has_chunks query.now) }
+{
+    let kept = list_in(rt, alloc, world, query);
+    let mut chunks = Chunks::start_in(world, query, kept.tables());
+    compare(rt, alloc, world, &mut chunks, printed)
+}
+
+/// The same of all chunks of a query, if it has any, and of those from the tables that are kept for it.
+fn compare_query(
+    rt: &impl Abort,
+    alloc: Global,
+    world: &World,
+    query: &Query,
+    printed: &str,
+) -> Result<(), AllocError> {
+    if !has_chunks(query) {
+        return Ok(());
+    }
+    compare(rt, alloc, world, &mut Chunks::start(world, query), printed)?;
+    compare_kept(rt, alloc, world, query, printed)
+}
+
+/// The chunks of a query, if it has any, have the rows that it prints. Whether it has.
+pub(crate) fn compare_chunks(
+    rt: &impl Abort,
+    alloc: Global,
+    world: &World,
+    text: &str,
+    printed: &str,
+) -> Result<bool, Fail> {
+    let query = read_query(alloc, world, text)?;
+    let chunked = has_chunks(&query);
+    let done = compare_query(rt, alloc, world, &query, printed);
+    drop(query);
+    done?;
+    Ok(chunked)
+}
+
+/// A query has as many rows as are wanted, and its chunks have those that it prints.
+fn try_query(
     rt: &impl Abort,
     alloc: Global,
     world: &World,
@@ -223,25 +229,24 @@ fn compare(
 ) -> Result<(), Fail> {
     let mut printed = Vec::new(alloc);
     write_rows(alloc, world, read_query(alloc, world, text)?, &mut printed)?;
-    let query = read_query(alloc, world, text)?;
-    let lines = str::from_utf8(printed.as_slice()).unwrap_or("");
-    assert!(rt; lines.lines().count() == wanted.saturating_add(1), "{text}");
+    let printed = str::from_utf8(printed.as_slice()).unwrap_or("");
     assert!(rt;
-        find_lines(rt, alloc, world, &query, lines)? == wanted,
+        printed.lines().count() == wanted.saturating_add(1),
         "{text}"
     );
-    Ok(())
+    assert!(rt; compare_chunks(rt, alloc, world, text, printed)?, "{text}");
+    compare_rows(rt, alloc, world, text, printed)
 }
 
-fn compare_all(rt: &impl Abort, alloc: Global, world: &mut World) -> Result<(), Fail> {
+fn try_all(rt: &impl Abort, alloc: Global, world: &mut World) -> Result<(), Fail> {
     make(alloc, world)?;
     fill(world)?;
     for (text, wanted) in &QUERIES {
-        compare(rt, alloc, world, text, *wanted)?;
+        try_query(rt, alloc, world, text, *wanted)?;
     }
     leave_tables(world)?;
     for (text, wanted) in &QUERIES {
-        compare(rt, alloc, world, text, *wanted)?;
+        try_query(rt, alloc, world, text, *wanted)?;
     }
     Ok(())
 }
@@ -249,7 +254,7 @@ fn compare_all(rt: &impl Abort, alloc: Global, world: &mut World) -> Result<(), 
 #[test]
 fn chunks_have_the_rows_that_print(rt: HostRuntime) -> Result<(), Fail> {
     let mut world = World::new(rt.alloc(), RandomState::new(&rt)?)?;
-    let done = compare_all(&rt, rt.alloc(), &mut world);
+    let done = try_all(&rt, rt.alloc(), &mut world);
     drop(world);
     done
 }

@@ -16,7 +16,7 @@ use std::process::Abort;
 use std::test::Fail;
 use world_query::{read_query, write_planned_rows};
 
-const IS_A: u32 = 2;
+pub(crate) const IS_A: u32 = 2;
 
 const A: u32 = 64;
 
@@ -24,7 +24,7 @@ const B: u32 = 65;
 
 const C: u32 = 66;
 
-const D: u32 = 67;
+pub(crate) const D: u32 = 67;
 
 const ANSWER: &[u8] = b"row $x=A [(IsA,A)@D]
 row $x=B [(IsA,B)@D]
@@ -34,7 +34,7 @@ rows 4
 ";
 
 /// B and C are A, and D is both.
-fn fill(world: &mut World) -> Result<(), CommandError> {
+pub(crate) fn make_diamond(world: &mut World) -> Result<(), CommandError> {
     for name in ["A", "B", "C", "D"] {
         world.entity(name)?;
     }
@@ -55,7 +55,9 @@ fn write_by_each(
     requires { IsAnswerable (view_of world.now.state) query.now }
 {
     let plan = Plan::from_steps(alloc, query, &[Each(0), Check(0)])?;
-    Ok(write_planned_rows(alloc, world, &plan, rows)?)
+    let done = write_planned_rows(alloc, world, &plan, rows);
+    drop(plan);
+    Ok(done?)
 }
 
 /// The same of a query that was read in the world.
@@ -67,12 +69,13 @@ fn write_asked(alloc: Global, world: &World, query: &Query, rows: &mut Vec<u8>) 
 }
 
 fn try_diamond(rt: &impl Abort, alloc: Global, world: &mut World) -> Result<(), Fail> {
-    fill(world)?;
+    make_diamond(world)?;
     let query = read_query(alloc, world, "IsA(D,$x)")?;
     let mut rows = Vec::new(alloc);
-    write_asked(alloc, world, &query, &mut rows)?;
+    let done = write_asked(alloc, world, &query, &mut rows);
+    drop(query);
     assert!(rt; rows.as_slice() == ANSWER);
-    Ok(())
+    done
 }
 
 #[test]

@@ -10,11 +10,17 @@ mod diamond;
 #[cfg(test)]
 mod judging;
 #[cfg(test)]
+mod kept;
+#[cfg(test)]
+mod lines;
+#[cfg(test)]
 mod orders;
 #[cfg(test)]
 mod plans;
 #[cfg(test)]
 mod probes;
+#[cfg(test)]
+mod rows;
 #[cfg(test)]
 mod runs;
 mod sky;

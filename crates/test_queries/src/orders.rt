@@ -85,7 +85,9 @@ impl Tried<'_> {
             Err(PlanFault::Memory) => return Err(AllocError)?,
         };
         let mut rows = Vec::new(alloc);
-        write_planned_rows(alloc, self.world, &plan, &mut rows)?;
+        let written = write_planned_rows(alloc, self.world, &plan, &mut rows);
+        drop(plan);
+        written?;
         self.plans = self.plans.saturating_add(1);
         Ok(rows.as_slice() == self.rows)
     }
@@ -164,9 +166,11 @@ fn plans_of(
 {
     world.keeps();
     let planned = plan_in(alloc, world, query.try_clone(alloc)?)?;
-    write_planned_rows(alloc, world, &planned, rows)?;
-    let mut steps = Vec::new(alloc);
-    steps.extend_from_slice(planned.steps())?;
+    let written = write_planned_rows(alloc, world, &planned, rows);
+    let copied = Vec::from_slice(alloc, planned.steps());
+    drop(planned);
+    written?;
+    let mut steps = copied?;
     let mut tried = Tried {
         world,
         query,
@@ -184,7 +188,9 @@ fn plans_of(
 fn plans_of_row(alloc: Global, world: &World, row: &WorkedRow) -> Result<usize, Fail> {
     let query = read_query(alloc, world, row.query)?;
     let mut rows = Vec::new(alloc);
-    let plans = plans_of(alloc, world, &query, &mut rows)?;
+    let plans = plans_of(alloc, world, &query, &mut rows);
+    drop(query);
+    let plans = plans?;
     if rows.as_slice() != row.answer.as_bytes() {
         return Ok(0);
     }

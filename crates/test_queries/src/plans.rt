@@ -50,10 +50,12 @@ const PARENTS: &str = "(ChildOf,$p), Planet($p)";
 /// Why steps are no plan of a text, if they are none.
 fn reason_of(alloc: Global, text: &str, steps: &[Step]) -> Result<Option<PlanRefusal>, Fail> {
     let query = ask(alloc, text)?;
-    match Plan::from_steps(alloc, &query, steps) {
-        Ok(_) => Ok(None),
-        Err(PlanFault::Refused(reason)) => Ok(Some(reason)),
-        Err(memory) => Err(memory)?,
+    let made = Plan::from_steps(alloc, &query, steps);
+    drop(query);
+    match made.err() {
+        None => Ok(None),
+        Some(PlanFault::Refused(reason)) => Ok(Some(reason)),
+        Some(memory) => Err(memory)?,
     }
 }
 
@@ -93,8 +95,12 @@ const PLANNED: [Planned; 9] = [
 /// Whether these are the steps of the planner's plan.
 fn is_planned(alloc: Global, text: &str, lists: &[usize], steps: &[Step]) -> Result<bool, Fail> {
     let query = ask(alloc, text)?;
-    let plan = Plan::of_lists(alloc, &query, lists)?;
-    Ok(plan.steps() == steps)
+    let made = Plan::of_lists(alloc, &query, lists);
+    drop(query);
+    let plan = made?;
+    let is_planned = plan.steps() == steps;
+    drop(plan);
+    Ok(is_planned)
 }
 
 #[test]

@@ -115,7 +115,9 @@ fn run_frames<F: Facts>(
     room.refuse_after(0);
     let mut run = RowRun::start(frames, facts);
     assert!(rt; row.fits(&run));
-    pull_past_end(rt, &mut run, row, most)
+    let came = pull_past_end(rt, &mut run, row, most);
+    drop(run);
+    came
 }
 
 fn run_plan<F: Facts>(
@@ -145,7 +147,9 @@ fn run_query(
 {
     world.keeps();
     let plan = plan_in(alloc, world, query)?;
-    run_plan(rt, alloc, &WorldFacts::new(world), &plan, most)
+    let came = run_plan(rt, alloc, &WorldFacts::new(world), &plan, most);
+    drop(plan);
+    came
 }
 
 /// The same of a text: how many rows came.

@@ -1,16 +1,18 @@
 //! Worked rows: a world, a query, and what it prints. Runs and all orders of a plan are tried with each.
 //!
 //! They are those of `tests/rows` on diamonds, parents, variables, groups and alternatives, and one more with sibling groups that find somebody.
-//! Tags stand in place of components, so no field shows a value.
+//! Of the components there `Position` is one here too, so its fields show values, and tags stand in place of the others.
 
 ghost use Rattle.std.specs.Prelude.{IfOk};
 ghost use Rattle.ecs_id.specs.Id.{IsIndex};
 
-use crate::chunks::compare_worked;
+use crate::chunks::compare_chunks;
 use crate::orders::try_orders;
+use crate::rows::compare_rows;
 use crate::runs::give_up_anywhere;
 use ecs_id::{EntityId, Id, LAST_INDEX};
 use ecs_model::faults::{CommandError, Refusal};
+use ecs_schema::{Kind, Schema};
 use ecs_world::World;
 use std::alloc::Global;
 use std::hash::RandomState;
@@ -23,8 +25,12 @@ type Fact = (u32, u32, Option<u32>);
 /// The entities of a world, by name, and the facts with which several rows begin.
 #[derive(Clone, Copy)]
 struct Base {
+    /// A component whose values are two numbers. It comes before the entities.
+    component: Option<&'static str>,
     names: &'static [&'static str],
     facts: &'static [Fact],
+    /// Who has a position other than that of the origin.
+    positions: &'static [(u32, [i128; 2])],
 }
 
 /// A query in a world, and what it prints there.
@@ -58,7 +64,8 @@ const MOON: u32 = 69;
 
 /// Earth is a child of Sun, and Moon of Earth; Sun and Earth have a position.
 const SKY: Base = Base {
-    names: &["Position", "Planet", "Likes", "Sun", "Earth", "Moon"],
+    component: Some("Position"),
+    names: &["Planet", "Likes", "Sun", "Earth", "Moon"],
     facts: &[
         (EARTH, CHILD_OF, Some(SUN)),
         (MOON, CHILD_OF, Some(EARTH)),
@@ -66,10 +73,12 @@ const SKY: Base = Base {
         (EARTH, POSITION, None),
         (EARTH, PLANET, None),
     ],
+    positions: &[(EARTH, [10, -3])],
 };
 
 /// B and C are A, and D is both.
 const DIAMOND: Base = Base {
+    component: None,
     names: &["A", "B", "C", "D"],
     facts: &[
         (65, IS_A, Some(64)),
@@ -77,6 +86,7 @@ const DIAMOND: Base = Base {
         (67, IS_A, Some(65)),
         (67, IS_A, Some(66)),
     ],
+    positions: &[],
 };
 
 /// Whom a query finds by two groups that each have a variable of their own.
@@ -143,7 +153,7 @@ const ROWS: [WorkedRow; 24] = [
         base: SKY,
         more: &[(EARTH, LIKES, Some(MOON)), (SUN, LIKES, Some(EARTH))],
         query: "Position, !{ (Likes,$x), Planet($x) }",
-        answer: "row $this=Earth [Position@Earth]\nrows 1\n",
+        answer: "row $this=Earth [Position@Earth=10,-3]\nrows 1\n",
         plans: 2,
     },
     WorkedRow {
@@ -157,14 +167,14 @@ const ROWS: [WorkedRow; 24] = [
         base: SKY,
         more: &[(EARTH, LIKES, Some(MOON))],
         query: SIBLINGS,
-        answer: "row $this=Sun [Position@Sun]\nrows 1\n",
+        answer: "row $this=Sun [Position@Sun=0,0]\nrows 1\n",
         plans: 8,
     },
     WorkedRow {
         base: SKY,
         more: &[(MOON, PLANET, None)],
         query: "Position || Planet",
-        answer: "row $this=Sun [Position@Sun]\nrow $this=Earth [Position@Earth]\nrow $this=Moon [Planet@Moon]\nrows 3\n",
+        answer: "row $this=Sun [Position@Sun=0,0]\nrow $this=Earth [Position@Earth=10,-3]\nrow $this=Moon [Planet@Moon]\nrows 3\n",
         plans: 1,
     },
     WorkedRow {
@@ -175,7 +185,7 @@ const ROWS: [WorkedRow; 24] = [
             (SUN, LIKES, Some(SUN)),
         ],
         query: "Position, (ChildOf,$x) || (Likes,$x)",
-        answer: "row $this=Sun $x=Sun [Position@Sun] [(Likes,Sun)@Sun]\nrow $this=Earth $x=Sun [Position@Earth] [(ChildOf,Sun)@Earth]\nrow $this=Earth $x=Moon [Position@Earth] [(Likes,Moon)@Earth]\nrows 3\n",
+        answer: "row $this=Sun $x=Sun [Position@Sun=0,0] [(Likes,Sun)@Sun]\nrow $this=Earth $x=Sun [Position@Earth=10,-3] [(ChildOf,Sun)@Earth]\nrow $this=Earth $x=Moon [Position@Earth=10,-3] [(Likes,Moon)@Earth]\nrows 3\n",
         plans: 2,
     },
     WorkedRow {
@@ -200,49 +210,49 @@ const ROWS: [WorkedRow; 24] = [
         base: SKY,
         more: &[],
         query: "Position, $this != Sun",
-        answer: "row $this=Earth [Position@Earth]\nrows 1\n",
+        answer: "row $this=Earth [Position@Earth=10,-3]\nrows 1\n",
         plans: 1,
     },
     WorkedRow {
         base: SKY,
         more: &[],
         query: "Position(Earth|up)",
-        answer: "row [Position@Sun]\nrows 1\n",
+        answer: "row [Position@Sun=0,0]\nrows 1\n",
         plans: 1,
     },
     WorkedRow {
         base: SKY,
         more: &[],
         query: "Position(self|up)",
-        answer: "row $this=Sun [Position@Sun]\nrow $this=Earth [Position@Earth]\nrow $this=Moon [Position@Earth]\nrows 3\n",
+        answer: "row $this=Sun [Position@Sun=0,0]\nrow $this=Earth [Position@Earth=10,-3]\nrow $this=Moon [Position@Earth=10,-3]\nrows 3\n",
         plans: 1,
     },
     WorkedRow {
         base: SKY,
         more: &[],
         query: "Position(self|up), !Planet",
-        answer: "row $this=Sun [Position@Sun]\nrow $this=Moon [Position@Earth]\nrows 2\n",
+        answer: "row $this=Sun [Position@Sun=0,0]\nrow $this=Moon [Position@Earth=10,-3]\nrows 2\n",
         plans: 2,
     },
     WorkedRow {
         base: SKY,
         more: &[],
         query: "Position($this|up(ChildOf))",
-        answer: "row $this=Earth [Position@Sun]\nrow $this=Moon [Position@Earth]\nrows 2\n",
+        answer: "row $this=Earth [Position@Sun=0,0]\nrow $this=Moon [Position@Earth=10,-3]\nrows 2\n",
         plans: 1,
     },
     WorkedRow {
         base: SKY,
         more: &[(EARTH, DISABLED, None)],
         query: "Position",
-        answer: "row $this=Sun [Position@Sun]\nrows 1\n",
+        answer: "row $this=Sun [Position@Sun=0,0]\nrows 1\n",
         plans: 1,
     },
     WorkedRow {
         base: SKY,
         more: &[(EARTH, DISABLED, None)],
         query: "Position, ?Disabled",
-        answer: "row $this=Sun [Position@Sun] [-]\nrow $this=Earth [Position@Earth] [Disabled@Earth]\nrows 2\n",
+        answer: "row $this=Sun [Position@Sun=0,0] [-]\nrow $this=Earth [Position@Earth=10,-3] [Disabled@Earth]\nrows 2\n",
         plans: 1,
     },
     WorkedRow {
@@ -296,24 +306,39 @@ fn add_all(world: &mut World, facts: &[Fact]) -> Result<(), CommandError> {
     Ok(())
 }
 
-/// Makes the world of a row.
+/// Makes the component of a row's world, if it has one.
+fn make_component(alloc: Global, world: &mut World, name: Option<&str>) -> Result<(), Fail> {
+    if let Some(name) = name {
+        let plane = Schema::new(alloc, &[("x", Kind::I32), ("y", Kind::I32)])?;
+        world.component(name, plane)?;
+    }
+    Ok(())
+}
+
+/// Makes the entities of a row's world, with their facts.
 fn fill(world: &mut World, row: &WorkedRow) -> Result<(), CommandError> {
     for name in row.base.names {
         world.entity(name)?;
     }
     add_all(world, row.base.facts)?;
-    add_all(world, row.more)
+    add_all(world, row.more)?;
+    for (entity, position) in row.base.positions {
+        world.set(first_at(*entity), Id::plain(POSITION), position)?;
+    }
+    Ok(())
 }
 
 fn try_row(rt: &impl Abort, alloc: Global, world: &mut World, row: &WorkedRow) -> Result<(), Fail> {
+    make_component(alloc, world, row.base.component)?;
     fill(world, row)?;
-    compare_worked(rt, alloc, world, row)?;
+    compare_chunks(rt, alloc, world, row.query, row.answer)?;
+    compare_rows(rt, alloc, world, row.query, row.answer)?;
     give_up_anywhere(rt, alloc, world, row)?;
     try_orders(rt, alloc, world, row)
 }
 
 #[test]
-fn worked_rows_come_by_any_plan_and_are_given_up_anywhere(rt: HostRuntime) -> Result<(), Fail> {
+fn worked_rows_come_in_each_way_and_are_given_up_anywhere(rt: HostRuntime) -> Result<(), Fail> {
     for row in &ROWS {
         let mut world = World::new(rt.alloc(), RandomState::new(&rt)?)?;
         let done = try_row(&rt, rt.alloc(), &mut world, row);

@@ -10,8 +10,8 @@ plan_in-requires c =
     let able = answerable c.args.world.now.state c.args.query.now c.keeps.ensures c.requires in
     record { sound = (as_answerable view view c.args.query.now c.in_ok-try_clone.field-0 refl c.in_ok-try_clone.ensures able).sound }
 
-pub write_planned_rows-requires : goal.write_planned_rows-requires
-write_planned_rows-requires c =
+pub write_planned_rows-written-requires : goal.write_planned_rows-written-requires
+write_planned_rows-written-requires c =
     let view = view_of c.args.world.now.state in
     let able = answerable c.args.world.now.state c.args.query.now c.keeps.ensures c.requires in
     record { answerable = as_answerable view view c.args.query.now c.in_ok-planned.planned.query refl (c.in_ok-planned.ensures.query ∙ c.in_ok-try_clone.ensures) able }

@@ -8,8 +8,8 @@ use Rattle.test_queries.proofs.runs.run_query.Goals as goal
 pub plan_in-requires : goal.plan_in-requires
 plan_in-requires g c = record { sound = (answerable c.args.world.now.state c.args.query c.keeps.ensures c.requires).sound }
 
-pub run_plan-requires : goal.run_plan-requires
-run_plan-requires g c =
+pub run_plan-came-requires : goal.run_plan-came-requires
+run_plan-came-requires g c =
     record {
       rises = (as_answerable (view_of c.args.world.now.state) (view_of c.new.result.world.state) c.args.query c.in_ok-plan.plan.query (ap (λ (x : Standing). view_of x.state) c.new.ensures) c.in_ok-plan.ensures.query
           (answerable c.args.world.now.state c.args.query c.keeps.ensures c.requires)).rises;

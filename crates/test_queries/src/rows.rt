@@ -1,0 +1,221 @@
+//! Rows one at a time, compared with the rows of a query as they print.
+
+use crate::diamond::{D, IS_A, make_diamond};
+use crate::kept::list_in;
+use crate::lines::{expect_rows, write_entity, write_field};
+use crate::worked::first_at;
+use ecs_id::Id;
+use ecs_model::faults::CommandError;
+use ecs_world::World;
+use query_check::Query;
+use std::alloc::{AllocError, Global};
+use std::hash::RandomState;
+use std::process::Abort;
+use std::test::Fail;
+use world_query::read_query;
+use world_rows::{Asked, Rows, WorldView};
+
+/// Writes the row that was given last.
+fn write_row(
+    alloc: Global,
+    world: &World,
+    query: &Query,
+    rows: &Rows<'_, Global>,
+    lines: &mut String,
+) -> Result<(), AllocError> {
+    lines.push_str("row")?;
+    for (variable, entity) in query.variables().iter().zip(rows.entities()) {
+        let variable = str::from_utf8(variable.as_slice()).unwrap_or("?");
+        write_entity(world, variable, *entity, lines)?;
+    }
+    for number in 0..rows.field_count() {
+        match rows.field(number) {
+            Some(field) => {
+                let value = match &field.value {
+                    Some(value) => Some((value.schema(), value.bytes())),
+                    None => None,
+                };
+                write_field(alloc, world, field.id, field.source, value, lines)?;
+            }
+            None => lines.push_str(" [-]")?,
+        }
+    }
+    lines.push_str("\n")
+}
+
+/// Writes the rows to come.
+fn write_rows(
+    alloc: Global,
+    world: &World,
+    query: &Query,
+    rows: &mut Rows<'_, Global>,
+    lines: &mut String,
+) -> Result<(), AllocError> {
+    for _ in 0..1000 {
+        if !rows.next() {
+            break;
+        }
+        write_row(alloc, world, query, rows, lines)?;
+    }
+    Ok(())
+}
+
+/// The rows are those that a query prints. Before the first and behind the last there is none.
+fn compare(
+    rt: &impl Abort,
+    alloc: Global,
+    world: &World,
+    query: &Query,
+    rows: &mut Rows<'_, Global>,
+    printed: &str,
+) -> Result<(), AllocError> {
+    assert!(rt; rows.entities().is_empty() && rows.field_count() == 0 && rows.field(0).is_none());
+    let mut lines = String::new(alloc);
+    write_rows(alloc, world, query, rows, &mut lines)?;
+    expect_rows(rt, lines.as_str(), printed);
+    assert!(rt; !rows.next());
+    assert!(rt; rows.field(rows.field_count()).is_none());
+    Ok(())
+}
+
+/// Asks a query for its rows, and gives it back.
+fn ask(
+    rt: &impl Abort,
+    alloc: Global,
+    view: &WorldView<'_, Global>,
+    query: &Query,
+    asked: Asked,
+    printed: &str,
+) -> Asked {
+    assert!(rt; asked.is_current(view) && asked.covers(view));
+    let mut rows = asked.rows(view);
+    let done = compare(rt, alloc, view.world(), query, &mut rows, printed);
+    assert!(rt; done.is_ok());
+    rows.into_asked()
+}
+
+/// The same from the tables that are kept for the query.
+fn ask_kept(
+    rt: &impl Abort,
+    alloc: Global,
+    view: &WorldView<'_, Global>,
+    query: &Query,
+    asked: Asked,
+    printed: &str,
+) -> Asked {
+    assert!(rt; asked.is_current(view) && asked.covers(view));
+    let kept = list_in(rt, alloc, view.world(), asked.query());
+    let mut rows = asked.rows_in(view, kept.tables());
+    let done = compare(rt, alloc, view.world(), query, &mut rows, printed);
+    assert!(rt; done.is_ok());
+    rows.into_asked()
+}
+
+fn compare_query(
+    rt: &impl Abort,
+    alloc: Global,
+    world: &World,
+    query: &Query,
+    text: &str,
+    printed: &str,
+) -> Result<(), Fail> {
+    let view = WorldView::new(world);
+    let asked = Asked::new(alloc, &view, text)?;
+    let asked = ask(rt, alloc, &view, query, asked, printed);
+    let asked = ask(rt, alloc, &view, query, asked, printed);
+    let asked = ask_kept(rt, alloc, &view, query, asked, printed);
+    drop(asked);
+    Ok(())
+}
+
+/// The rows of a query are those that it prints: also when it is asked again, and from the tables that are kept for it.
+pub(crate) fn compare_rows(
+    rt: &impl Abort,
+    alloc: Global,
+    world: &World,
+    text: &str,
+    printed: &str,
+) -> Result<(), Fail> {
+    let query = read_query(alloc, world, text)?;
+    let done = compare_query(rt, alloc, world, &query, text, printed);
+    drop(query);
+    done
+}
+
+const KINDS_OF_A: &str = "(IsA,A)";
+
+/// The rows of that query in the diamond, and in the world that it grows to.
+const KINDS: &str = "row $this=A [(IsA,A)@A]
+row $this=B [(IsA,A)@B]
+row $this=C [(IsA,A)@C]
+row $this=D [(IsA,A)@D]
+rows 4
+";
+
+const LATER_KINDS: &str = "row $this=A [(IsA,A)@A]
+row $this=B [(IsA,A)@B]
+row $this=C [(IsA,A)@C]
+row $this=D [(IsA,A)@D]
+row $this=Late [(IsA,A)@Late]
+rows 5
+";
+
+/// The index of the first entity after those of the diamond.
+const FIRST: u32 = 68;
+
+/// How many entities without names come.
+const MANY: u32 = 300;
+
+/// Many entities come to the diamond, and after them one more that is D.
+fn grow(world: &mut World) -> Result<(), CommandError> {
+    for _ in 0..MANY {
+        world.fresh()?;
+    }
+    world.entity("Late")?;
+    world.add(first_at(FIRST + MANY), Id::pair(IS_A, D))?;
+    Ok(())
+}
+
+/// Asks a query in a world that has outgrown its room: more is made first.
+fn ask_later(
+    rt: &impl Abort,
+    alloc: Global,
+    view: &WorldView<'_, Global>,
+    query: &Query,
+    asked: Asked,
+) -> Asked {
+    let mut asked = asked;
+    assert!(rt; !asked.covers(view));
+    assert!(rt; asked.reserve(alloc, view).is_ok());
+    ask(rt, alloc, view, query, asked, LATER_KINDS)
+}
+
+fn ask_before_and_later(
+    rt: &impl Abort,
+    alloc: Global,
+    world: &mut World,
+    query: &Query,
+) -> Result<(), Fail> {
+    let asked = Asked::new(alloc, &WorldView::new(world), KINDS_OF_A)?;
+    let asked = ask(rt, alloc, &WorldView::new(world), query, asked, KINDS);
+    let grown = grow(world);
+    let asked = ask_later(rt, alloc, &WorldView::new(world), query, asked);
+    drop(asked);
+    Ok(grown?)
+}
+
+fn outgrow(rt: &impl Abort, alloc: Global, world: &mut World) -> Result<(), Fail> {
+    make_diamond(world)?;
+    let query = read_query(alloc, world, KINDS_OF_A)?;
+    let done = ask_before_and_later(rt, alloc, world, &query);
+    drop(query);
+    done
+}
+
+#[test]
+fn rows_come_in_a_world_that_has_outgrown_their_room(rt: HostRuntime) -> Result<(), Fail> {
+    let mut world = World::new(rt.alloc(), RandomState::new(&rt)?)?;
+    let done = outgrow(&rt, rt.alloc(), &mut world);
+    drop(world);
+    done
+}
