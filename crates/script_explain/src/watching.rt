@@ -46,7 +46,8 @@ impl<R: Source, A: Allocator> Source for Watched<'_, R, A> {
 #[derive(Drop)]
 pub struct Explaining<'a, W, E, A: Allocator = Global> {
     writer: W,
-    explainer: Explainer<'a, E, A>,
+    /// None where nothing is explained.
+    explainer: Option<Explainer<'a, E, A>>,
 }
 
 /// What explains refusals.
@@ -81,7 +82,21 @@ impl<'a, W: Sink, E: Sink, A: Allocator + Copy> Explaining<'a, W, E, A> {
             line: Vec::new(alloc),
             text: Vec::new(alloc),
         };
-        Explaining { writer, explainer }
+        Explaining {
+            writer,
+            explainer: Some(explainer),
+        }
+    }
+
+    /// The writer, which takes what it would take without this, and nothing is explained.
+    pub fn nothing(writer: W) -> Self
+        ensures bytes { ⟦<Explaining<'a, W, E, A> as Sink>⟧.contents result ≡ W.contents writer }
+        ensures told { ⟦<Explaining<'a, W, E, A> as Sink>⟧.calls result ≡ W.calls writer }
+    {
+        Explaining {
+            writer,
+            explainer: None,
+        }
     }
 }
 
@@ -92,7 +107,9 @@ impl<W: Sink, E: Sink, A: Allocator> Sink for Explaining<'_, W, E, A> {
 
     fn write(&mut self, bytes: &[u8]) -> Result<usize, Stop> {
         let count = self.writer.write(bytes)?;
-        self.explainer.watch(&bytes[..count]);
+        if let Some(explainer) = &mut self.explainer {
+            explainer.watch(&bytes[..count]);
+        }
         Ok(count)
     }
 }
