@@ -1,5 +1,5 @@
 -- What is told of an answer, from what else is told of it.
-use Rattle.std.proofs.Common.{◌≡◌, ◌⊎◌, ◌==◌, ℕ, false, inl, inr, refl, sym, ◌∙◌, ap, subst}
+use Rattle.std.proofs.Common.{◌≡◌, ◌==◌, ℕ, false, refl, sym, ◌∙◌, ap, subst}
 use Rattle.std.proofs.lemmas.Bool.{eqb-false}
 use Rattle.std.specs.Prelude.{Result, Ok, Err, IsErrAnd, OnErr, OnOk}
 use Rattle.script_streams.specs.declared.streams.Calls.{Calls}
@@ -29,13 +29,13 @@ FaultyAt-ok error old new answer told calm =
 
 -- ---- faults that differ
 
-abbrev place : RunError → ℕ
+abbrev pub place : RunError → ℕ
 place run.Read = 0
 place run.Write = 1
 place run.Memory = 2
 place run.TooLong = 3
 
-apart : (a b : RunError) → (place a == place b) ≡ false → ¬ (a ≡ b)
+pub apart : (a b : RunError) → (place a == place b) ≡ false → ¬ (a ≡ b)
 apart a b differ e = eqb-false _ _ differ (ap place e)
 
 -- what holds of the error of an answer holds of this one

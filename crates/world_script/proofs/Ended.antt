@@ -1,5 +1,5 @@
 -- What a run has printed and counted at its end.
-use Rattle.std.proofs.Common.{◌≡◌, ℕ, ◌+◌, ◌≤◌, List, [], ◌++◌, length, Option, None, Some, IfSome, sym, ◌∙◌, ap, subst, arith, append-nil, length-append}
+use Rattle.std.proofs.Common.{◌≡◌, ℕ, ◌+◌, List, [], ◌++◌, length, Option, None, Some, IfSome, sym, ◌∙◌, ap, subst, arith, append-nil, length-append}
 use Rattle.std.specs.Io.KnownBytes.{Appends, Consumes, IsAtEnd}
 use Rattle.std.proofs.KnownBytes.{Appends-trans}
 use Rattle.ecs_model.specs.Output.{count_of, output_of}
@@ -8,8 +8,8 @@ use Rattle.script_streams.specs.Lines.{Held}
 use Rattle.world_script.specs.declared.lines.Summary.{Summary}
 use Rattle.world_script.specs.Run.{line_effect}
 use Rattle.world_script.specs.Running.{HasEnded, IsRunning, RunsLine}
-use Rattle.world_script.specs.Whole.{FitsScript, IsCount, IsOutput}
-use Rattle.world_script.proofs.Kept.{kept-empty, kept-some, kept_again}
+use Rattle.world_script.specs.Whole.{IsCount, IsOutput}
+use Rattle.world_script.proofs.Kept.{kept-some, kept_again}
 use Rattle.world_script.proofs.Running.{HasRun-line, RunsLine-kept, all_taken, last_line}
 
 -- the last line was run

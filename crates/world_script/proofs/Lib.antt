@@ -7,4 +7,5 @@ pub mod Kept
 pub mod Orders
 pub mod Read
 pub mod Running
+pub mod Sent
 pub mod Waiting

@@ -6,6 +6,8 @@ use Rattle.ecs_model.specs.stored.Session.{SessionState}
 use Rattle.script_streams.specs.Lines.{Held, HasNoEnd, kept, most_bytes}
 use Rattle.script_streams.specs.declared.lines.FillError.{FillError}
 use Rattle.script_streams.specs.declared.lines.FillError.TheVariants as fill
+use Rattle.world_query.specs.declared.sending.SendError.{SendError}
+use Rattle.world_query.specs.declared.sending.SendError.TheVariants as send
 use Rattle.world_script.specs.declared.errors.RunError.{RunError}
 use Rattle.world_script.specs.declared.errors.RunError.TheVariants as run
 use Rattle.world_script.specs.declared.lines.Summary.{Summary}
@@ -58,3 +60,8 @@ pub record HasEnded (told left old new : Option (List ℕ)) (summary : Summary) 
 abbrev pub run_error : FillError → RunError
 run_error fill.Read = run.Read
 run_error fill.TooLong = run.TooLong
+
+-- how it answers where rows were not sent
+abbrev pub send_error : SendError → RunError
+send_error send.Memory = run.Memory
+send_error send.Write = run.Write

@@ -2,6 +2,7 @@
 use script_streams::{Fault, FillError};
 use std::alloc::AllocError;
 use thiserror::Error;
+use world_query::SendError;
 
 /// Why a script was not run to its end.
 #[derive(Clone, Copy, Debug, PartialEq, Eq, Error)]
@@ -53,6 +54,20 @@ impl From<FillError> for RunError {
         match error {
             FillError::Read => RunError::Read,
             FillError::TooLong => RunError::TooLong,
+        }
+    }
+}
+
+impl From<SendError> for RunError {
+    ghost use Rattle.std.specs.Prelude.{◌≡◌};
+    ghost use Rattle.world_script.specs.Running.{send_error};
+
+    ghost from_gives = { λ error e. e ≡ send_error error };
+
+    fn from(error: SendError) -> RunError {
+        match error {
+            SendError::Memory => RunError::Memory,
+            SendError::Write => RunError::Write,
         }
     }
 }

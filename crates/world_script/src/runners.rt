@@ -5,6 +5,7 @@ ghost use Rattle.ecs_model.specs.stored.Session.{first_session};
 ghost use Rattle.ecs_observe.specs.Standing.{session_of};
 ghost use Rattle.script_streams.specs.Lines.{most_bytes};
 ghost use Rattle.script_streams.specs.Streams.{TakesFront};
+ghost use Rattle.world_query.specs.Sent.{FailsAtWrite};
 ghost use Rattle.world_script.specs.Running.{HasEnded, IsRunning};
 ghost use Rattle.world_script.specs.Whole.{FaultyAt, FitsScript, IsCount, IsOutput, WroteFront, WroteFull, WroteToEnd, WroteWhole};
 
@@ -14,6 +15,7 @@ use ecs_observe::Session;
 use script_streams::{Lines, Sink, Source, write_all};
 use std::alloc::{AllocError, Allocator};
 use std::hash::RandomState;
+use world_query::SendError;
 
 /// Output that is longer is written before the next line is run.
 const MOST_OUTPUT: usize = 65_536;
@@ -86,7 +88,7 @@ impl<A: Allocator + Copy> Runner<A> {
             self.run_ended(alloc, writer)?;
             has_more = self.lines.fill(reader)?;
         }
-        self.run_last(alloc)?;
+        self.run_last(alloc, writer)?;
         write_out(&mut self.output, writer)
     }
 
@@ -117,6 +119,8 @@ impl<A: Allocator + Copy> Runner<A> {
                 self.lines.line(),
                 &mut self.values,
                 &mut self.output,
+                MOST_OUTPUT,
+                writer,
             )?;
             if self.output.len() > MOST_OUTPUT {
                 write_out(&mut self.output, writer)?;
@@ -125,15 +129,17 @@ impl<A: Allocator + Copy> Runner<A> {
         write_out(&mut self.output, writer)
     }
 
-    /// Runs the line behind the last line feed, if it isn't empty.
-    fn run_last(&mut self, alloc: A) -> Result<(), AllocError>
+    /// Runs the line behind the last line feed, if it isn't empty. None of its output is written: where memory is refused, it is no line yet.
+    fn run_last<W: Sink>(&mut self, alloc: A, writer: &mut W) -> Result<(), SendError>
         requires none_wait { self.old.session.waiting ≡ None }
         requires room { self.old.summary.lines ≤ most_bytes }
         requires few { self.old.summary.refused ≤ self.old.summary.lines }
         requires taken { self.old.lines.unread ≡ [] }
-        ensures { (told left old new : Option (List ℕ))
-            → IsRunning told left old new self.old.lines (session_of self.old.session) self.old.summary self.old.output.items
-            → OnOk result (HasEnded told left old new self.new.summary self.new.output.items) }
+        ensures ended { (told left old : Option (List ℕ))
+            → IsRunning told left old (W.contents writer.old) self.old.lines (session_of self.old.session) self.old.summary self.old.output.items
+            → OnOk result (HasEnded told left old (W.contents writer.new) self.new.summary self.new.output.items) }
+        ensures kept { writer.new ≡ writer.old }
+        ensures writes { FailsAtWrite (W.calls writer.old) result (W.calls writer.new) }
     {
         if self.lines.front().is_empty() {
             return Ok(());
@@ -145,6 +151,8 @@ impl<A: Allocator + Copy> Runner<A> {
             self.lines.front(),
             &mut self.values,
             &mut self.output,
+            usize::MAX,
+            writer,
         )
     }
 

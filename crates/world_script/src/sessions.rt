@@ -7,7 +7,7 @@ ghost use Rattle.ecs_model.specs.Output.{effect_of};
 ghost use Rattle.ecs_model.specs.stored.Session.{Drop, InWorld, Store};
 ghost use Rattle.ecs_observe.specs.Standing.{session_of};
 ghost use Rattle.script_line.specs.Line.{form_opened, seen, seen_field, seen_id, seen_reference};
-ghost use Rattle.world_script.specs.Run.{IsDone, line_effect};
+ghost use Rattle.world_script.specs.Run.{DoesLine, IsDone, line_effect, unsent};
 ghost use Rattle.world_script.specs.Told.{FindsBoth};
 
 use crate::lookup::{find_both, find_entity};
@@ -26,63 +26,90 @@ use script_line::{
     IdReference, Line, Opening, Reference, bare_fact, line_opened, only_word, read_opened,
     valued_fact,
 };
+use script_streams::Sink;
 use std::alloc::{AllocError, Allocator};
-use world_query::{QUERY_ROOM, read_query, write_rows};
+use world_query::{QUERY_ROOM, SendError, read_query, send_rows};
 
 /// Does what a line says, adds what it prints to the output, and answers whether it was refused. What stands in `values` is lost.
-pub(crate) fn run_line<A: Allocator + Copy>(
+pub(crate) fn run_line<A: Allocator + Copy, W: Sink>(
     alloc: A,
     session: &mut Session<A>,
     number: usize,
     line: &[u8],
     values: &mut Vec<i128, A>,
     output: &mut Vec<u8, A>,
-) -> Result<bool, AllocError>
+    most: usize,
+    writer: &mut W,
+) -> Result<bool, SendError>
     requires none_wait { session.old.waiting ≡ None }
-    ensures done { IfOk result (IsDone (line_effect (session_of session.old) number line.now) (session_of session.new) output.old.items output.new.items) }
+    ensures does { DoesLine (line_effect (session_of session.old) number line.now) (session_of session.new) W.contents W.calls writer.old writer.new most output.old.items output.new.items result }
     ensures none_wait { OnOk result (session.new.waiting ≡ None) }
 {
-    run_opened(alloc, session, number, line_opened(line), values, output)
+    run_opened(
+        alloc,
+        session,
+        number,
+        line_opened(line),
+        values,
+        output,
+        most,
+        writer,
+    )
 }
 
 /// Does what a line says whose first word was read.
 // The forms of most lines are run where they are read: what was read needn't go through memory then.
 #[inline(always)]
-fn run_opened<A: Allocator + Copy>(
+fn run_opened<A: Allocator + Copy, W: Sink>(
     alloc: A,
     session: &mut Session<A>,
     number: usize,
     opening: Opening<'_>,
     values: &mut Vec<i128, A>,
     output: &mut Vec<u8, A>,
-) -> Result<bool, AllocError>
+    most: usize,
+    writer: &mut W,
+) -> Result<bool, SendError>
     requires none_wait { session.old.waiting ≡ None }
-    ensures { IfOk result (IsDone (effect_of (session_of session.old) number (form_opened opening.entry)) (session_of session.new) output.old.items output.new.items) }
+    ensures { DoesLine (effect_of (session_of session.old) number (form_opened opening.entry)) (session_of session.new) W.contents W.calls writer.old writer.new most output.old.items output.new.items result }
 {
     match opening {
-        Opening::Set { rest } => run_set_line(session, number, rest, values, output),
-        Opening::Add { rest } => run_add_line(session, number, rest, output),
-        Opening::Remove { rest } => run_remove_line(session, number, rest, output),
-        Opening::Entity { rest } => run_entity_line(session, number, rest, output),
-        _ => run_rarer(alloc, session, number, opening, values, output),
+        Opening::Set { rest } => unsent(run_set_line(session, number, rest, values, output)),
+        Opening::Add { rest } => unsent(run_add_line(session, number, rest, output)),
+        Opening::Remove { rest } => unsent(run_remove_line(session, number, rest, output)),
+        Opening::Entity { rest } => unsent(run_entity_line(session, number, rest, output)),
+        _ => run_rarer(
+            alloc, session, number, opening, values, output, most, writer,
+        ),
     }
 }
 
 /// Does what any line says whose first word was read.
 #[inline(never)]
-fn run_rarer<A: Allocator + Copy>(
+fn run_rarer<A: Allocator + Copy, W: Sink>(
     alloc: A,
     session: &mut Session<A>,
     number: usize,
     opening: Opening<'_>,
     values: &mut Vec<i128, A>,
     output: &mut Vec<u8, A>,
-) -> Result<bool, AllocError>
+    most: usize,
+    writer: &mut W,
+) -> Result<bool, SendError>
     requires none_wait { session.old.waiting ≡ None }
-    ensures { IfOk result (IsDone (effect_of (session_of session.old) number (form_opened opening.entry)) (session_of session.new) output.old.items output.new.items) }
+    ensures { DoesLine (effect_of (session_of session.old) number (form_opened opening.entry)) (session_of session.new) W.contents W.calls writer.old writer.new most output.old.items output.new.items result }
 {
     let form = read_opened(alloc, opening, values)?;
-    run_form(alloc, session, number, form, values.as_slice(), output)
+    run_form(
+        alloc,
+        session,
+        number,
+        form,
+        values.as_slice(),
+        output,
+        most,
+        writer,
+    )
 }
 
 /// A line behind its `set`.
@@ -165,35 +192,50 @@ fn run_entity_line<A: Allocator + Copy>(
 
 /// Does what a line that was read says, with the values of a `set`.
 #[inline(always)]
-fn run_form<A: Allocator + Copy>(
+fn run_form<A: Allocator + Copy, W: Sink>(
     alloc: A,
     session: &mut Session<A>,
     number: usize,
     line: Line<'_, A>,
     values: &[i128],
     output: &mut Vec<u8, A>,
-) -> Result<bool, AllocError>
+    most: usize,
+    writer: &mut W,
+) -> Result<bool, SendError>
     requires none_wait { session.old.waiting ≡ None }
-    ensures { IfOk result (IsDone (effect_of (session_of session.old) number (seen values.now line.entry)) (session_of session.new) output.old.items output.new.items) }
+    ensures { DoesLine (effect_of (session_of session.old) number (seen values.now line.entry)) (session_of session.new) W.contents W.calls writer.old writer.new most output.old.items output.new.items result }
 {
     match line {
         Line::Nothing => Ok(false),
-        Line::TooLong => refuse(number, "LineTooLong", output),
-        Line::Bad => refuse(number, "BadLine", output),
-        Line::New => run_new(session, number, output),
-        Line::Entity { name } => run_entity(session, number, name, output),
+        Line::TooLong => unsent(refuse(number, "LineTooLong", output)),
+        Line::Bad => unsent(refuse(number, "BadLine", output)),
+        Line::New => unsent(run_new(session, number, output)),
+        Line::Entity { name } => unsent(run_entity(session, number, name, output)),
         Line::Component { name, fields } => {
-            run_component(alloc, session, number, name, fields.as_slice(), output)
+            unsent(run_component(alloc, session, number, name, fields.as_slice(), output))
         }
-        Line::Add { entity, id } => run_add(session, number, entity, id, output),
-        Line::Set { entity, id } => run_set(session, number, entity, id, values, output),
-        Line::Remove { entity, id } => run_remove(session, number, entity, id, output),
-        Line::Delete { entity } => run_delete(session, number, entity, output),
-        Line::Show { entity } => run_show(session, number, entity, output),
-        Line::Query { text } => run_query(alloc, session, number, text, output),
-        Line::Store { kind, name, text } => run_store(session, number, kind, name, text, output),
-        Line::Rows { name } => run_rows(session, number, name, output),
-        Line::Drop { name } => run_drop(session, number, name, output),
+        Line::Add { entity, id } => unsent(run_add(session, number, entity, id, output)),
+        Line::Set { entity, id } => unsent(run_set(session, number, entity, id, values, output)),
+        Line::Remove { entity, id } => unsent(run_remove(session, number, entity, id, output)),
+        Line::Delete { entity } => unsent(run_delete(session, number, entity, output)),
+        Line::Show { entity } => unsent(run_show(session, number, entity, output)),
+        Line::Query { text } => run_query(alloc, session, number, text, output, most, writer),
+        Line::Store { kind, name, text } => unsent(run_store(
+            session, number, kind, name, text, output,
+        )),
+        Line::Rows { name } => unsent(run_rows(session, number, name, output)),
+        Line::Drop { name } => unsent(run_drop(session, number, name, output)),
+    }
+}
+
+/// The answer of a line that sends nothing.
+#[inline(always)]
+fn unsent(answer: Result<bool, AllocError>) -> Result<bool, SendError>
+    ensures { result ≡ unsent answer }
+{
+    match answer {
+        Ok(is_refused) => Ok(is_refused),
+        Err(_) => Err(SendError::Memory),
     }
 }
 
@@ -394,24 +436,25 @@ fn run_show<A: Allocator + Copy>(
 }
 
 /// `query TEXT`
-fn run_query<A: Allocator + Copy>(
+fn run_query<A: Allocator + Copy, W: Sink>(
     alloc: A,
     session: &Session<A>,
     number: usize,
     text: &str,
     output: &mut Vec<u8, A>,
-) -> Result<bool, AllocError>
-    ensures { IfOk result (IsDone (effect_of (session_of session.now) number (Ask text.now))
-        (session_of session.now) output.old.items output.new.items) }
+    most: usize,
+    writer: &mut W,
+) -> Result<bool, SendError>
+    ensures { DoesLine (effect_of (session_of session.now) number (Ask text.now)) (session_of session.now) W.contents W.calls writer.old writer.new most output.old.items output.new.items result }
 {
     let world = session.world();
     let room = Bump::try_with_capacity(alloc, QUERY_ROOM)?;
     let query = match read_query(&room, world, text) {
         Ok(query) => query,
-        Err(QueryFault::Fault(fault)) => return refuse_query(number, fault, output),
-        Err(QueryFault::Memory) => return Err(AllocError),
+        Err(QueryFault::Fault(fault)) => return unsent(refuse_query(number, fault, output)),
+        Err(QueryFault::Memory) => return Err(SendError::Memory),
     };
-    write_rows(&room, world, query, output)?;
+    send_rows(&room, world, query, output, most, writer)?;
     Ok(false)
 }
 

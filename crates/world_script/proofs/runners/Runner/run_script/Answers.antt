@@ -1,4 +1,4 @@
-use Rattle.std.proofs.Common.{◌≡◌, ap, inr}
+use Rattle.std.proofs.Common.{◌≡◌, ap, inl, inr}
 use Rattle.std.specs.Prelude.{Err, Ok}
 use Rattle.std.proofs.lemmas.Result.{on_ok_weaker}
 use Rattle.world_script.specs.Running.{run_error}
@@ -6,6 +6,8 @@ use Rattle.world_script.proofs.Answered.{FaultyAt-ok, err_is, fill_read, fill_to
 use Rattle.world_script.proofs.Ended.{IsCount-ended, IsOutput-ended}
 use Rattle.world_script.proofs.Faults.{TakesFront-none, WroteFront-at, WroteFull-at, WroteToEnd-at, WroteWhole-at}
 use Rattle.world_script.proofs.Running.{IsRunning-filled}
+use Rattle.world_script.proofs.Sent.{FaultyAt-send, send_not_read, send_not_too_long}
+use Rattle.world_query.proofs.Sent.{calm_still}
 use Rattle.world_script.proofs.runners.Runner.run_script.Goals as goal
 
 pub returns-in_err-has_more-clause-read : goal.returns-in_err-has_more-clause-read
@@ -40,22 +42,45 @@ loop-has_more-preserved g c =
 
 pub returns-in_err-run_last-clause-memory : goal.returns-in_err-run_last-clause-memory
 returns-in_err-run_last-clause-memory g c = λ _.
-    WroteFront-at _ _ _ _ _ c.loop-has_more.self.lines _ _ _ c.loop-has_more.invariant.running (TakesFront-none _ _)
+    rw c.run_last.ensures.kept (WroteFront-at _ _ _ _ _ c.loop-has_more.self.lines _ _ _ c.loop-has_more.invariant.running (TakesFront-none _ _))
+
+pub returns-in_err-run_last-clause-write : goal.returns-in_err-run_last-clause-write
+returns-in_err-run_last-clause-write g c = λ _.
+    inl (rw c.run_last.ensures.kept (WroteFront-at _ _ _ _ _ c.loop-has_more.self.lines _ _ _ c.loop-has_more.invariant.running (TakesFront-none _ _)))
+
+pub returns-in_err-run_last-clause-read : goal.returns-in_err-run_last-clause-read
+returns-in_err-run_last-clause-read g c = λ is. absurd (send_not_read c.in_err-run_last.field-0.0 _ c.from_residual-in_err-run_last.ensures.1 is)
+
+pub returns-in_err-run_last-clause-too_long : goal.returns-in_err-run_last-clause-too_long
+returns-in_err-run_last-clause-too_long g c = λ is. absurd (send_not_too_long c.in_err-run_last.field-0.0 _ c.from_residual-in_err-run_last.ensures.1 is)
+
+pub returns-in_err-run_last-clause-reads : goal.returns-in_err-run_last-clause-reads
+returns-in_err-run_last-clause-reads g c = λ calm. (
+  λ is. absurd (send_not_read c.in_err-run_last.field-0.0 _ c.from_residual-in_err-run_last.ensures.1 is),
+  λ _. c.loop-has_more.invariant.reads calm,
+)
+
+pub returns-in_err-run_last-clause-writes : goal.returns-in_err-run_last-clause-writes
+returns-in_err-run_last-clause-writes g c =
+    FaultyAt-send c.in_err-run_last.field-0.0 _ _ _ c.run_last.result _ c.loop-has_more.invariant.writes c.in_err-run_last.was c.from_residual-in_err-run_last.ensures.1 c.run_last.ensures.writes
 
 pub returns-clause-output : goal.returns-clause-output
 returns-clause-output g c =
     let end = c.loop-has_more.invariant.at_end c.loop-has_more-test.false in
-    let ended = c.in_ok-run_last.ensures _ _ _ _ c.loop-has_more.invariant.running in
+    let ended = c.in_ok-run_last.ensures.ended _ _ _ c.loop-has_more.invariant.running in
     on_ok_weaker c.write_out.result (λ wrote. IsOutput-ended _ _ _ _ _ c.run_last.new.self.summary _ end ended wrote) c.write_out.ensures.ok
 
 pub returns-clause-count : goal.returns-clause-count
 returns-clause-count g c =
     let end = c.loop-has_more.invariant.at_end c.loop-has_more-test.false in
-    let ended = c.in_ok-run_last.ensures _ _ _ _ c.loop-has_more.invariant.running in
+    let ended = c.in_ok-run_last.ensures.ended _ _ _ c.loop-has_more.invariant.running in
     on_ok_weaker c.write_out.result (λ _. IsCount-ended _ _ _ _ c.run_last.new.self.summary _ end ended) c.write_out.ensures.ok
 
 pub returns-clause-write : goal.returns-clause-write
 returns-clause-write g c = λ is.
     let end = c.loop-has_more.invariant.at_end c.loop-has_more-test.false in
-    let ended = c.in_ok-run_last.ensures _ _ _ _ c.loop-has_more.invariant.running in
+    let ended = c.in_ok-run_last.ensures.ended _ _ _ c.loop-has_more.invariant.running in
     inr (WroteToEnd-at _ _ _ _ _ c.run_last.new.self.summary _ end ended (on_err_at _ _ _ is c.write_out.ensures.front))
+
+pub returns-clause-writes : goal.returns-clause-writes
+returns-clause-writes g c = λ calm. c.write_out.ensures.writes (calm_still _ _ _ c.in_ok-run_last.ensures.writes (c.loop-has_more.invariant.writes calm))
