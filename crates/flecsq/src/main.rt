@@ -9,7 +9,7 @@ use std::cell::RefCell;
 use std::env;
 use std::fs::File;
 use std::hash::RandomState;
-use std::io::{self, Read};
+use std::io::{self, Read, Stderr};
 use std::process::ExitCode;
 use world_script::{FromRead, RunError, Summary, ToWrite, run};
 
@@ -115,7 +115,9 @@ fn command<'a>(alloc: Global) -> Result<Command<'a>, AllocError> {
 fn run_reader<R: Read + Drop>(rt: &HostRuntime, reader: R) -> Result<Summary, Fault> {
     let random = RandomState::new(rt).map_err(|_| Fault::Read)?;
     let mut reader = FromRead::new(reader);
-    let mut writer = ToWrite::new(io::writer(rt));
+    let output = ToWrite::new(io::writer(rt));
+    // The same type of writer as where refusals are explained: what is generic over it stands once in the program.
+    let mut writer: Explaining<_, ToWrite<Stderr>> = Explaining::nothing(output);
     let summary = run(rt.alloc(), random, &mut reader, &mut writer)?;
     Ok(summary)
 }
