@@ -1,5 +1,5 @@
 -- A store before and after one of its tables changes.
-use Rattle.std.proofs.Common.{◌≡◌, ◌↔◌, ℕ, ◌<◌, ◌==◌, ◌&&◌, Bool, true, false, cond, if◌then◌else◌, Option, Some, None, IsSome, IfSome, length, option_map, option_and_then, unwrap_or, refl, sym, ap, subst, ◌∙◌, true≢false, arith}
+use Rattle.std.proofs.Common.{◌≡◌, ℕ, ◌<◌, ◌==◌, ◌&&◌, Bool, true, false, cond, if◌then◌else◌, Option, Some, None, IsSome, IfSome, length, option_map, option_and_then, unwrap_or, refl, sym, ap, subst, ◌∙◌, true≢false, arith}
 use Rattle.std.proofs.lemmas.Bool.Decides.{Decides-eqb}
 use Rattle.std.specs.declared.vec.Vec.{Vec}
 use Rattle.slab.specs.Slab as slots
@@ -11,7 +11,8 @@ use Rattle.ecs_table.specs.Archetype.{Archetype, IsSound}
 use Rattle.table_store.specs.declared.store.Slot.{Slot}
 use Rattle.table_store.specs.Store.{Store, table_at, shape_at, shape_of, key_eq, changed_at, room_at}
 use Rattle.table_store.specs.Rows.{Row, row_at, row_of, rows_in, IsStored, with_row_at}
-use Rattle.table_store.specs.Kept.{ByIds, Held, store_of, standing, key_of, IsKept, IsSlot}
+use Rattle.table_store.specs.Kept.{ByIds, Held, store_of, standing, IsKept, IsSlot}
+use Rattle.table_store.specs.ByIds.{HasSlot, ids_hash}
 use Rattle.table_store.proofs.Slots.{table_at-slots, table_at-changed, same_key, key_eq_true, listed_in, none_is_some, one_some, same_seen}
 use Rattle.table_store.proofs.Counting.{still_as_many}
 use Rattle.table_store.proofs.StoreLemmas.{IsStore-shapes, IsSlot-shapes, IsOrder-shapes, same_ids, stored}
@@ -111,7 +112,7 @@ module _ {Y : Type 0} (tables new : Slab (Held Y)) (last : ℕ) (s : Store) (vie
     IsKept-changed = record {
       store = IsStore-shapes was n same_shapes refl (listed_in new last) kept.store;
       slots = λ m. slot_kept m (m == k.slot) refl;
-      index = λ ids q. subst (λ o. (key_of by_ids ids ≡ Some q) ↔ (o ≡ Some ids)) (sym (same_ids was n same_shapes q)) (kept.index ids q);
+      index = λ ids q. subst (λ o. o ≡ Some ids → HasSlot by_ids (ids_hash by_ids.hashing ids) q.slot) (sym (same_ids was n same_shapes q)) (kept.index ids q);
       order = IsOrder-shapes was n same_shapes refl (still_as_many tables new last last k.slot x y is u) by_serial.items kept.order;
     }
 

@@ -1,5 +1,5 @@
 -- How many tables stand, and how many keys are remembered.
-use Rattle.std.proofs.Common.{◌≡◌, ◌↔◌, ◌<◌, ℕ, zero, suc, ◌+◌, ◌*◌, ◌≤◌, ◌==◌, ◌&&◌, ◌||◌, Bool, true, false, cond, List, [], ◌∷◌, Option, Some, None, IsSome, count_by, is_some, length, map, option_map, slice_index_or, refl, sym, ap, subst, ◌∙◌, true≢false, arith}
+use Rattle.std.proofs.Common.{◌≡◌, ◌↔◌, ◌<◌, ℕ, zero, suc, ◌≤◌, ◌==◌, ◌||◌, Bool, true, false, cond, List, [], ◌∷◌, Option, Some, None, IsSome, count_by, is_some, length, map, option_map, slice_index_or, refl, sym, ap, subst, ◌∙◌, true≢false, arith}
 use Rattle.std.specs.Cmp.{IsEquivalence, eq_by_cmp_equiv, unsigned_tied}
 use Rattle.std.specs.List.{Contains, IsDistinct, filter, find, list_any}
 use Rattle.std.proofs.lemmas.Bool.Decides.{Decides-eqb}
@@ -14,9 +14,9 @@ use Rattle.slab.specs.Slab.{Slab, Updates, slab_len}
 use Rattle.ecs_id.specs.declared.TableKey.{TableKey}
 use Rattle.ecs_table.specs.Archetype.{Archetype}
 use Rattle.table_store.specs.Store.{Store, key_eq, table_at}
-use Rattle.table_store.specs.Kept.{Held, IsOrder, is_held, standing, store_of, tables_from}
+use Rattle.table_store.specs.Kept.{Held, IsOrder, is_held, store_of, tables_from}
 use Rattle.table_store.proofs.Order.{IsRising, passed, rising_filter, serials_of, to_filter}
-use Rattle.table_store.proofs.Slots.{both, none_is_some, table_at-slots}
+use Rattle.table_store.proofs.Slots.{both, table_at-slots}
 
 nothing_at : {X : Type 0} (j : ℕ) (none : X) → slice_index_or [] j none ≡ none
 nothing_at zero none = refl

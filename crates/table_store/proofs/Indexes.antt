@@ -1,47 +1,48 @@
--- The index from lists of ids to keys, before and after a change.
-use Rattle.std.proofs.Common.{◌≡◌, Bool, true, false, cond, List, Option, refl, ap, subst, ◌∙◌}
+-- The index from lists of ids to slots: what is found there is a table of these ids, and each table is found.
+use Rattle.std.proofs.Common.{◌≡◌, ◌==◌, ℕ, Bool, true, false, if◌then◌else◌, List, Option, Some, None, IfSome, is_some, option_map, refl, sym, ap, ◌∙◌, true≢false}
+use Rattle.std.proofs.lemmas.Bool.Decides.{Decides-eqb}
 use Rattle.std.proofs.lemmas.Slice.Eq.{slice_eq-Decides}
-use Rattle.std.specs.Cmp.Lexicographic.{lists_equiv}
-use Rattle.std.specs.Map.{lookup, KeepsOthers}
-use Rattle.indexmap.specs.IndexMap as hashed
-use Rattle.std.specs.declared.vec.Vec.{Vec}
-use Rattle.ecs_id.specs.Id.{Id, id_decides, id_eq_equiv}
+use Rattle.slab.specs.Slab as slots
+use Rattle.slab.specs.Slab.{Slab}
+use Rattle.ecs_id.specs.Id.{Id, id_decides}
 use Rattle.ecs_id.specs.declared.TableKey.{TableKey}
-use Rattle.table_store.specs.Kept.{ByIds, SetsIds, ids_eq, key_of}
+use Rattle.table_store.specs.Store.{ids_at}
+use Rattle.table_store.specs.ByIds.{Held, has_ids, holds_ids, ids_eq}
+use Rattle.table_store.specs.Kept.{standing, store_of}
+use Rattle.table_store.proofs.Slots.{none_is_some, one_some, table_at-slots}
 
-pub ids_same : (xs ys : List Id) → ids_eq xs ys ≡ true → xs ≡ ys
+ids_same : (xs ys : List Id) → ids_eq xs ys ≡ true → xs ≡ ys
 ids_same xs ys e = (slice_eq-Decides id_decides xs ys (ids_eq xs ys) refl).0 e
 
-pub ids_eq_true : (xs ys : List Id) → xs ≡ ys → ids_eq xs ys ≡ true
+ids_eq_true : (xs ys : List Id) → xs ≡ ys → ids_eq xs ys ≡ true
 ids_eq_true xs ys e = (slice_eq-Decides id_decides xs ys (ids_eq xs ys) refl).1 e
 
-turned : (xs ys : List Id) → ids_eq xs ys ≡ ids_eq ys xs
-turned xs ys = (lists_equiv id_eq_equiv).symm xs ys
+module _ {Y : Type 0} where
+  -- the ids of the table of a slot, if it has this serial
+  abbrev ids_held : Option (Held Y) → ℕ → Option (List Id)
+  ids_held o serial = option_map (λ t. t.ids) (standing o serial)
 
-congr : (xs ys zs : List Id) → ids_eq xs ys ≡ true → ids_eq xs zs ≡ ids_eq ys zs
-congr xs ys zs e = ap (λ l. ids_eq l zs) (ids_same xs ys e)
+  here : (o : Option (Held Y)) (ids : List Id) (serial : ℕ) → holds_ids ids o ≡ true → IfSome o (λ x. serial ≡ x.value.serial) → ids_held o serial ≡ Some ids
+  here None ids serial h e = absurd (true≢false (sym h))
+  here (Some x) ids serial h e = ap (λ b. option_map (λ t. t.ids) (if b then Some x.value.table else None)) ((Decides-eqb serial x.value.serial).1 e) ∙ ap Some (ids_same x.value.table.ids ids h)
 
-module _ {Y X : Type 0} where
-  others : (m n : List (Vec Id Y × X)) (xs ys : List Id) → KeepsOthers (λ a b. ids_eq a.items b.items) (λ k. ids_eq xs k.items) m n → ids_eq xs ys ≡ false → lookup (λ k. ids_eq ys k.items) n ≡ lookup (λ k. ids_eq ys k.items) m
-  unfolding KeepsOthers
-  others m n xs ys keeps differ = keeps (λ k. ids_eq ys k.items) (λ a b. congr ys a.items b.items) (λ k at. apart k.items at)
+  held : (o : Option (Held Y)) (ids : List Id) (serial : ℕ) → ids_held o serial ≡ Some ids → holds_ids ids o ≡ true
+  held None ids serial h = absurd (none_is_some ids h)
+  held (Some x) ids serial h = by (serial == x.value.serial) h
     where
-      apart : (l : List Id) → ids_eq xs l ≡ true → ids_eq ys l ≡ false
-      apart l at = subst (λ z. ids_eq ys z ≡ false) (ids_same xs l at) (turned ys xs ∙ differ)
+      by : (b : Bool) → option_map (λ t. t.ids) (if b then Some x.value.table else None) ≡ Some ids → ids_eq x.value.table.ids ids ≡ true
+      by true e = ids_eq_true x.value.table.ids ids (one_some x.value.table.ids ids e)
+      by false e = absurd (none_is_some ids e)
 
--- a look-up after the change of one list's key
-pub get_ids : {Y : Type 0} (m n : ByIds Y) (xs : List Id) (w : Option TableKey) → SetsIds xs w m n → (ys : List Id) → key_of n ys ≡ cond (ids_eq xs ys) w (key_of m ys)
-get_ids m n xs w u ys = by (ids_eq xs ys) refl
-  where
-    by : (b : Bool) → ids_eq xs ys ≡ b → key_of n ys ≡ cond b w (key_of m ys)
-    by true e = subst (λ z. key_of n z ≡ w) (ids_same xs ys e) u.1
-    by false e = others m.entries n.entries xs ys u.3 e
+  pub some_held : (o : Option (Held Y)) (ids : List Id) → holds_ids ids o ≡ true → is_some o ≡ true
+  some_held None ids h = h
+  some_held (Some x) ids h = refl
 
--- what is set in an index that has grown is set in the index before
-pub SetsIds-grown : {Y : Type 0} (old grown new : ByIds Y) (ids : List Id) (w : Option TableKey) → grown.entries ≡ old.entries → SetsIds ids w grown new → SetsIds ids w old new
-SetsIds-grown {Y} old grown new ids w same u = subst IsSetFrom same u
-  where
-    IsSetFrom : List (Vec Id Y × TableKey) → Type 0
-    IsSetFrom es = ((q : Vec Id Y) → hashed.get (λ v u. ids_eq v.items u.items) new q ≡ cond (ids_eq ids q.items) w (lookup (λ v. ids_eq q.items v.items) es)) × (key_of new ids ≡ w)
-        × ((q : Vec Id Y) → ids_eq ids q.items ≡ false → hashed.get (λ v u. ids_eq v.items u.items) new q ≡ lookup (λ v. ids_eq q.items v.items) es)
-        × KeepsOthers (λ v u. ids_eq v.items u.items) (λ v. ids_eq ids v.items) es new.entries
+  module _ (tables : Slab (Held Y)) (last : ℕ) where
+    -- the table of a slot that has these ids, under the key of the slot
+    pub ids_found : (k : TableKey) (ids : List Id) → has_ids tables ids k.slot ≡ true → IfSome (slots.get tables k.slot) (λ x. k.serial ≡ x.value.serial) → ids_at (store_of tables last) k ≡ Some ids
+    ids_found k ids h e = ap (option_map (λ t. t.ids)) (table_at-slots tables last k) ∙ here (slots.get tables k.slot) ids k.serial h e
+
+    -- the slot of a table has its ids
+    pub slot_has_ids : (k : TableKey) (ids : List Id) → ids_at (store_of tables last) k ≡ Some ids → has_ids tables ids k.slot ≡ true
+    slot_has_ids k ids e = held (slots.get tables k.slot) ids k.serial (sym (ap (option_map (λ t. t.ids)) (table_at-slots tables last k)) ∙ e)

@@ -1,13 +1,12 @@
 -- A store without tables.
 use Rattle.std.proofs.Common.{◌≡◌, ℕ, suc, zero, [], Option, Some, None, IsSome, IfSome, is_some, slice_index_or, slice_get, refl, sym, ap, subst, ◌∙◌, true≢false, arith}
-use Rattle.std.specs.Map.{lookup}
 use Rattle.std.specs.List.Sorted.{IsStrictlySortedBy}
 use Rattle.std.specs.declared.vec.Vec.{Vec}
 use Rattle.slab.specs.Slab as slots
 use Rattle.slab.specs.Slab.{Slab}
 use Rattle.ecs_id.specs.declared.TableKey.{TableKey}
 use Rattle.table_store.specs.Store.{Store, ids_at, shape_at, table_at}
-use Rattle.table_store.specs.Kept.{ByIds, Held, store_of, standing, tables_from, IsKept, IsOrder, IsSlot, ids_eq}
+use Rattle.table_store.specs.Kept.{ByIds, Held, store_of, standing, tables_from, IsKept, IsOrder, IsSlot}
 use Rattle.table_store.proofs.Slots.{none_is_some, table_at-slots}
 
 at_nil : {X : Type 0} (n : ℕ) (d : X) → slice_index_or [] n d ≡ d
@@ -23,7 +22,7 @@ if_none None P e = tt
 if_none (Some x) P e = absurd (none_is_some x (sym e))
 
 -- a store at its beginning
-module _ {Y : Type 0} (tables : Slab (Held Y)) (by_ids : ByIds Y) (by_serial : Vec TableKey Y) (no_slots : tables.slots ≡ []) (no_ids : by_ids.entries ≡ []) (no_serials : by_serial.items ≡ []) where
+module _ {Y : Type 0} (tables : Slab (Held Y)) (by_ids : ByIds Y) (by_serial : Vec TableKey Y) (no_slots : tables.slots ≡ []) (no_serials : by_serial.items ≡ []) where
   abbrev s : Store
   s = store_of tables 0
 
@@ -56,6 +55,6 @@ module _ {Y : Type 0} (tables : Slab (Held Y)) (by_ids : ByIds Y) (by_serial : V
       listed = λ j. if_none _ _ (ap (λ l. slice_get (tables_from 0 l) j) no_slots ∙ get_nil j);
     };
     slots = λ n. subst (λ o. IfSome o (λ z. IsSlot s z.value)) (sym (vacant n)) tt;
-    index = λ ids k. (λ h. absurd (none_is_some k (sym (ap (lookup (λ v. ids_eq ids v.items)) no_ids) ∙ h)), λ h. absurd (none_is_some ids (sym (ap (Rattle.std.specs.Prelude.option_map (λ t. t.ids)) (none_at k)) ∙ h)));
+    index = λ ids k h. absurd (none_is_some ids (sym (ap (Rattle.std.specs.Prelude.option_map (λ t. t.ids)) (none_at k)) ∙ h));
     order = subst (IsOrder s) (sym no_serials) no_keys;
   }

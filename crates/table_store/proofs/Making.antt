@@ -1,5 +1,5 @@
 -- A store before and after a table is made.
-use Rattle.std.proofs.Common.{◌≡◌, ◌≢◌, ◌↔◌, ◌⊎◌, ℕ, ◌+◌, ◌≤◌, ◌<◌, ◌==◌, Bool, true, false, cond, if◌then◌else◌, [], ◌∷◌, ◌++◌, ◌-◌, ◌^◌, Option, Some, None, IsSome, IfSome, IsTrue, is_some, nat_le, option_map, option_and_then, unwrap_or, slice_get, refl, sym, ap, subst, ◌∙◌, true≢false, arith, inl, inr}
+use Rattle.std.proofs.Common.{◌≡◌, ◌≢◌, ◌⊎◌, ℕ, ◌+◌, ◌≤◌, ◌<◌, ◌==◌, Bool, true, false, if◌then◌else◌, [], ◌∷◌, ◌++◌, ◌-◌, ◌^◌, Option, Some, None, IsSome, IfSome, IsTrue, is_some, nat_le, option_map, option_and_then, unwrap_or, slice_get, refl, sym, ap, subst, ◌∙◌, true≢false, arith, inl, inr}
 use Rattle.std.proofs.lemmas.Bool.Decides.{Decides-eqb}
 use Rattle.std.specs.List.{list_all}
 use Rattle.std.specs.FinMap.{is_sorted}
@@ -13,11 +13,11 @@ use Rattle.ecs_table.specs.Archetype.{Archetype, IsSound}
 use Rattle.table_store.specs.declared.store.Slot.{Slot}
 use Rattle.table_store.specs.Store.{Store, Shape, IsStore, table_at, ids_at, shape_at, shape_of, shaped, shaped_at, with_id, without_id, find_in, key_eq, made_at}
 use Rattle.table_store.specs.Rows.{row_at, row_of}
-use Rattle.table_store.specs.Kept.{ByIds, Held, HasNoEdge, store_of, key_of, SetsIds, IsKept, IsSlot, IsIndex, IsOrder, ids_eq}
+use Rattle.table_store.specs.Kept.{ByIds, Held, HasNoEdge, store_of, IsKept, IsSlot, IsIndex, IsOrder}
+use Rattle.table_store.specs.ByIds.{HasSlot, KeepsSlots, ids_hash}
 use Rattle.table_store.proofs.Slots.{table_at-made, same_key, key_eq_true, key_eq_false, listed_in, none_is_some, one_some}
 use Rattle.table_store.proofs.StoreLemmas.{ids_of, ids_in_shape}
 use Rattle.table_store.proofs.Shapes.{HaveSizes, size_found, shape_of_shaped, all_small}
-use Rattle.table_store.proofs.Indexes.{ids_same, ids_eq_true, get_ids}
 use Rattle.table_store.proofs.Counting.{as_many}
 use Rattle.table_store.proofs.Order.{order_pushed}
 
@@ -42,7 +42,7 @@ module _ (s : Store) where
 
 module _ {Y : Type 0} (tables new : Slab (Held Y)) (by_ids named : ByIds Y) (by_serial dated : Vec TableKey Y) (last : ℕ) (kept : IsKept tables by_ids by_serial last)
     (f : Shape) (k : TableKey) (y : Held Y) (sorted : IsTrue (is_sorted id_cmp f)) (small : (j : ℕ) → IfSome (slice_get f j) (λ c. c.1 ≤ 64)) (sizes : HaveSizes (store_of tables last) f)
-    (missing : key_of by_ids (ids_of f) ≡ None) (serial : k.serial ≡ last + 1) (free : slots.get tables k.slot ≡ None) (u : Updates tables new k.slot (Some y))
+    (missing : (q : TableKey) → ids_at (store_of tables last) q ≢ Some (ids_of f)) (serial : k.serial ≡ last + 1) (free : slots.get tables k.slot ≡ None) (u : Updates tables new k.slot (Some y))
     (ys : y.value.serial ≡ k.serial) (yt : y.value.table ≡ shaped f) (no_more : HasNoEdge y.value.more) (no_less : HasNoEdge y.value.less) (numbered : k.slot < 2 ^ 32 - 1) where
   abbrev s : Store
   s = store_of tables last
@@ -96,7 +96,7 @@ module _ {Y : Type 0} (tables new : Slab (Held Y)) (by_ids named : ByIds Y) (by_
   ]
 
   absent : (q : TableKey) → ids_at s q ≡ Some (ids_of f) → ⊥
-  absent q h = none_is_some q (sym missing ∙ (kept.index (ids_of f) q).1 h)
+  absent q h = missing q h
 
   is_there : (q : TableKey) → q ≢ k → IsSome (table_at n q) → IsSome (table_at s q)
   is_there q d h = elim (cases q) [ inl e ↦ absurd (d e.0) | inr e ↦ subst IsSome e.1 h ]
@@ -188,26 +188,17 @@ module _ {Y : Type 0} (tables new : Slab (Held Y)) (by_ids named : ByIds Y) (by_
       by true e = subst (λ o. IfSome o (λ z. IsSlot n z.value)) (sym (ap (slots.get new) ((Decides-eqb m k.slot).0 e) ∙ u.changed)) (slot_made sound)
       by false e = subst (λ o. IfSome o (λ z. IsSlot n z.value)) (sym (u.others m (λ h. true≢false (sym ((Decides-eqb m k.slot).1 h) ∙ e)))) (other_slot (slots.get tables m) (kept.slots m))
 
-  index_made : SetsIds (ids_of f) (Some k) by_ids named → IsIndex n named
-  index_made v ids q = by (ids_eq (ids_of f) ids) refl (get_ids by_ids named (ids_of f) (Some k) v ids)
-    where
-      by : (b : Bool) → ids_eq (ids_of f) ids ≡ b → key_of named ids ≡ cond b (Some k) (key_of by_ids ids) → (key_of named ids ≡ Some q) ↔ (ids_at n q ≡ Some ids)
-      by true e g =
-          let same = ids_same (ids_of f) ids e in (
-            λ h. elim (ids_cases q) [ inl a ↦ a.1 ∙ ap Some same | inr a ↦ absurd (a.0 (one_some q k (sym h ∙ g))) ],
-            λ h. elim (ids_cases q) [ inl a ↦ g ∙ ap Some (sym a.0) | inr a ↦ absurd (absent q (sym a.1 ∙ h ∙ ap Some (sym same))) ],
-          )
-      by false e g =
-          let apart : ids_of f ≢ ids = λ h. true≢false (sym (ids_eq_true (ids_of f) ids h) ∙ e) in (
-            λ h.
-                let old = (kept.index ids q).0 (sym g ∙ h) in
-                elim (ids_cases q) [ inl a ↦ absurd (none_is_some ids (sym (ap (option_map (λ t. t.ids)) (ap (table_at s) a.0 ∙ is_new)) ∙ old)) | inr a ↦ a.1 ∙ old ],
-            λ h. elim (ids_cases q) [ inl a ↦ absurd (apart (one_some (ids_of f) ids (sym a.1 ∙ h))) | inr a ↦ g ∙ (kept.index ids q).1 (sym a.1 ∙ h) ],
-          )
+  index_made : (hash : ℕ) → hash ≡ ids_hash by_ids.hashing (ids_of f) → HasSlot named hash k.slot → KeepsSlots by_ids named → IsIndex n named
+  index_made hash is at keeps ids q e = subst (λ z. HasSlot named (ids_hash z ids) q.slot) (sym keeps.hashing) (elim (ids_cases q) [
+    | inl a ↦
+        let same : ids_of f ≡ ids = one_some (ids_of f) ids (sym a.1 ∙ e) in
+        subst (λ h. HasSlot named h q.slot) (is ∙ ap (ids_hash by_ids.hashing) same) (subst (HasSlot named hash) (sym (ap (λ v. v.slot) a.0)) at)
+    | inr a ↦ keeps.slots (ids_hash by_ids.hashing ids) q.slot (kept.index ids q (sym a.1 ∙ e))
+  ])
 
   order_made : slab_len new ≡ slab_len tables + 1 → dated.items ≡ by_serial.items ++ k ∷ [] → IsOrder n dated.items
   order_made more = order_pushed s n by_serial.items dated.items k kept.order (λ q h. elim (cases q) [ inl a ↦ inl a.0 | inr a ↦ inr (subst IsSome a.1 h) ]) (omega (arith, serial)) refl
       (as_many new k.serial ∙ more ∙ ap (λ m. m + 1) (sym (as_many tables last)))
 
-  pub made_kept : IsSound (shaped f) → SetsIds (ids_of f) (Some k) by_ids named → slab_len new ≡ slab_len tables + 1 → dated.items ≡ by_serial.items ++ k ∷ [] → IsKept new named dated k.serial
-  made_kept sound v more o = record { store = made_store; slots = slots_made sound; index = index_made v; order = order_made more o }
+  pub made_kept : IsSound (shaped f) → (hash : ℕ) → hash ≡ ids_hash by_ids.hashing (ids_of f) → HasSlot named hash k.slot → KeepsSlots by_ids named → slab_len new ≡ slab_len tables + 1 → dated.items ≡ by_serial.items ++ k ∷ [] → IsKept new named dated k.serial
+  made_kept sound hash is at keeps more o = record { store = made_store; slots = slots_made sound; index = index_made hash is at keeps; order = order_made more o }

@@ -1,7 +1,6 @@
 -- A table is found or made.
-use Rattle.std.proofs.Common.{◌≡◌, ◌≢◌, ◌↔◌, ℕ, suc, ◌+◌, ◌-◌, ◌^◌, ◌<◌, ◌≤◌, Bool, true, false, if◌then◌else◌, List, ◌∷◌, ◌++◌, Option, Some, None, IsNone, IfSome, IfOk, IsTrue, Result, Ok, Err, map, max, option_map, unwrap_or, slice_index_or, slice_get, length, [], refl, sym, ap, subst, ◌∙◌, true≢false, arith, rules}
+use Rattle.std.proofs.Common.{◌≡◌, ◌≢◌, ℕ, suc, ◌+◌, ◌-◌, ◌^◌, ◌<◌, ◌≤◌, Bool, true, false, if◌then◌else◌, List, ◌∷◌, ◌++◌, Option, Some, None, IsNone, IfSome, IfOk, IsTrue, Result, Ok, Err, map, max, option_map, unwrap_or, slice_index_or, slice_get, length, [], refl, sym, ap, subst, ◌∙◌, true≢false, arith, rules}
 use Rattle.std.specs.FinMap.{is_sorted}
-use Rattle.std.specs.Map.{lookup}
 use Rattle.std.specs.declared.vec.Vec.{Vec}
 use Rattle.slab.specs.Slab as slots
 use Rattle.slab.specs.Slab.{Slab, Updates, slab_len}
@@ -12,8 +11,10 @@ use Rattle.ecs_table.specs.Archetype.{Archetype, IsSound}
 use Rattle.ecs_table.proofs.Soundness.{sound_empty}
 use Rattle.table_store.specs.Store.{Store, Shape, IsStore, table_at, ids_at, shape_at, shape_of, shaped, key_eq}
 use Rattle.table_store.specs.Rows.{row_at}
-use Rattle.table_store.specs.Kept.{ByIds, HasNoEdge, Held, SetsIds, key_of, tables_from, store_of, IsKept, IsOrder, IsSlot, IsMade, IsPut, ids_eq}
+use Rattle.table_store.specs.Kept.{ByIds, HasNoEdge, Held, tables_from, store_of, IsKept, IsOrder, IsSlot, IsMade, IsPut}
+use Rattle.table_store.specs.ByIds.{HasSlot, KeepsSlots, has_ids, ids_hash}
 use Rattle.table_store.proofs.Slots.{same_key, none_is_some, one_some}
+use Rattle.table_store.proofs.Indexes.{ids_found, slot_has_ids}
 use Rattle.table_store.proofs.StoreLemmas.{ids_of, ids_in_shape, stored}
 use Rattle.table_store.proofs.Shapes.{HaveSizes, same_shape, small_sizes}
 use Rattle.table_store.proofs.Changes.{there}
@@ -22,25 +23,19 @@ use Rattle.table_store.proofs.Making.{made, made_shapes, made_rows, made_kept, i
 pub same_store : {Y : Type 0} (tables grown : Slab (Held Y)) (last : ℕ) → grown ≡ record tables { capacity = grown.capacity } → store_of grown last ≡ store_of tables last
 same_store tables grown last e = ap (λ (t : Slab (Held _)). store_of t last) e
 
+pub keeps_same : {Y : Type 0} (by_ids : ByIds Y) → KeepsSlots by_ids by_ids
+keeps_same by_ids = record { slots = λ hash slot has. has; hashing = refl }
+
 -- the same fields, grown
 pub IsKept-grown : {Y : Type 0} (tables grown : Slab (Held Y)) (by_ids room_ids : ByIds Y) (by_serial same_serial : Vec TableKey Y) (last : ℕ)
-    → grown.slots ≡ tables.slots → room_ids.entries ≡ by_ids.entries → same_serial.items ≡ by_serial.items → IsKept tables by_ids by_serial last → IsKept grown room_ids same_serial last
-IsKept-grown tables grown by_ids room_ids by_serial same_serial last ts is ss kept = record {
+    → grown.slots ≡ tables.slots → KeepsSlots by_ids room_ids → same_serial.items ≡ by_serial.items → IsKept tables by_ids by_serial last → IsKept grown room_ids same_serial last
+IsKept-grown tables grown by_ids room_ids by_serial same_serial last ts keeps ss kept = record {
   store = subst (λ xs. IsStore (record { tables = tables_from 0 xs; last = last })) (sym ts) kept.store;
   slots = λ n. subst (λ xs. IfSome (slice_index_or xs n None) (λ x. IsSlot (record { tables = tables_from 0 xs; last = last }) x.value)) (sym ts) (kept.slots n);
-  index = λ ids q. subst (λ xs. (lookup (λ v. ids_eq ids v.items) room_ids.entries ≡ Some q) ↔ (ids_at (record { tables = tables_from 0 xs; last = last }) q ≡ Some ids)) (sym ts)
-      (subst (λ es. (lookup (λ v. ids_eq ids v.items) es ≡ Some q) ↔ (ids_at (store_of tables last) q ≡ Some ids)) (sym is) (kept.index ids q));
+  index = λ ids q e. subst (λ z. HasSlot room_ids (ids_hash z ids) q.slot) (sym keeps.hashing)
+      (keeps.slots (ids_hash by_ids.hashing ids) q.slot (kept.index ids q (subst (λ xs. ids_at (record { tables = tables_from 0 xs; last = last }) q ≡ Some ids) ts e)));
   order = subst (λ l. IsOrder (store_of grown last) l) (sym ss) (subst (λ xs. IsOrder (record { tables = tables_from 0 xs; last = last }) by_serial.items) (sym ts) kept.order);
 }
-
--- no list of ids that the index does not have is that of a table
-pub missing_from : {Y : Type 0} (tables : Slab (Held Y)) (by_ids : ByIds Y) (by_serial : Vec TableKey Y) (last : ℕ) (s : Store) → store_of tables last ≡ s → IsKept tables by_ids by_serial last
-    → (ids : List Id) → ((q : TableKey) → ids_at s q ≢ Some ids) → key_of by_ids ids ≡ None
-missing_from tables by_ids by_serial last s view kept ids h = by (key_of by_ids ids) refl
-  where
-    by : (o : Option TableKey) → key_of by_ids ids ≡ o → o ≡ None
-    by None e = refl
-    by (Some q) e = absurd (h q (subst (λ v. ids_at v q ≡ Some ids) view ((kept.index ids q).0 e)))
 
 same_length : (g : Shape) → length (ids_of g) ≡ length (map (λ c. c.1) g)
 same_length [] = refl
@@ -54,9 +49,9 @@ module _ {Y : Type 0} (tables grown new : Slab (Held Y)) (by_ids named : ByIds Y
     (f : Shape) (k : TableKey) (y : Held Y) (sorted : IsTrue (is_sorted id_cmp f)) (small : (j : ℕ) → IfSome (slice_get f j) (λ c. c.1 ≤ 64)) (sizes : HaveSizes s f)
     (missing : (q : TableKey) → ids_at s q ≢ Some (ids_of f)) (serial : k.serial ≡ last + 1) (slot : ℕ) (slot_is : slot ≡ k.slot) (free : slots.get tables k.slot ≡ None) (u : Updates grown new slot (Some y))
     (ys : y.value.serial ≡ k.serial) (yt : y.value.table ≡ shaped f) (no_more : HasNoEdge y.value.more) (no_less : HasNoEdge y.value.less) (numbered : k.slot < 2 ^ 32 - 1)
-    (v : SetsIds (ids_of f) (Some k) by_ids named) (o : dated.items ≡ by_serial.items ++ k ∷ []) (more : slab_len new ≡ slab_len grown + 1) where
+    (hash : ℕ) (hash_is : hash ≡ ids_hash by_ids.hashing (ids_of f)) (at : HasSlot named hash k.slot) (keeps : KeepsSlots by_ids named) (o : dated.items ≡ by_serial.items ++ k ∷ []) (more : slab_len new ≡ slab_len grown + 1) where
   kept_grown : IsKept grown by_ids by_serial last
-  kept_grown = IsKept-grown tables grown by_ids by_ids by_serial by_serial last (ap (λ t. t.slots) growth) refl refl kept
+  kept_grown = IsKept-grown tables grown by_ids by_ids by_serial by_serial last (ap (λ t. t.slots) growth) (keeps_same by_ids) refl kept
 
   seen : store_of grown last ≡ s
   seen = same_store tables grown last growth ∙ view
@@ -64,8 +59,8 @@ module _ {Y : Type 0} (tables grown new : Slab (Held Y)) (by_ids named : ByIds Y
   sizes_there : HaveSizes (store_of grown last) f
   sizes_there = subst (λ z. HaveSizes z f) (sym seen) sizes
 
-  none_there : key_of by_ids (ids_of f) ≡ None
-  none_there = missing_from grown by_ids by_serial last s seen kept_grown (ids_of f) missing
+  none_there : (q : TableKey) → ids_at (store_of grown last) q ≢ Some (ids_of f)
+  none_there q = subst (λ z. ids_at z q ≢ Some (ids_of f)) (sym seen) (missing q)
 
   free_there : slots.get grown k.slot ≡ None
   free_there = ap (λ t. slots.get t k.slot) growth ∙ free
@@ -74,7 +69,7 @@ module _ {Y : Type 0} (tables grown new : Slab (Held Y)) (by_ids named : ByIds Y
   updates = subst (λ z. Updates grown new z (Some y)) slot_is u
 
   pub put_kept : IsKept new named dated k.serial
-  put_kept = made_kept grown new by_ids named by_serial dated last kept_grown f k y sorted small sizes_there none_there serial free_there updates ys yt no_more no_less numbered (sound_shaped f small) v more o
+  put_kept = made_kept grown new by_ids named by_serial dated last kept_grown f k y sorted small sizes_there none_there serial free_there updates ys yt no_more no_less numbered (sound_shaped f small) hash hash_is at keeps more o
 
   is_made : IsMade (store_of grown last) f k (store_of new k.serial)
   is_made = record {
@@ -151,14 +146,25 @@ shape_found s f key is sizes e = by (table_at s key) refl
         ap Some (same_shape s key (shape_of t) f here (sized_shape s key (shape_of t) is here) sizes ids)
 
 pub is_found : {Y E : Type 0} (tables : Slab (Held Y)) (by_ids : ByIds Y) (by_serial : Vec TableKey Y) (last : ℕ) (s : Store) → store_of tables last ≡ s → IsKept tables by_ids by_serial last
-    → (f : Shape) (key : TableKey) → HaveSizes s f → key_of by_ids (ids_of f) ≡ Some key → IsPut {E = E} s f (Ok key) s
-is_found tables by_ids by_serial last s view kept f key sizes e =
+    → (f : Shape) (key : TableKey) → HaveSizes s f → has_ids tables (ids_of f) key.slot ≡ true → IfSome (slots.get tables key.slot) (λ x. key.serial ≡ x.value.serial) → IsPut {E = E} s f (Ok key) s
+is_found tables by_ids by_serial last s view kept f key sizes has serial =
     let whole = stored tables by_ids by_serial last kept s view in
-    record { ok = IsMade-found s f key whole.0 (shape_found s f key whole.0 sizes (subst (λ z. ids_at z key ≡ Some (ids_of f)) view ((kept.index (ids_of f) key).0 e))); err = tt; whole = whole }
+    record { ok = IsMade-found s f key whole.0 (shape_found s f key whole.0 sizes (subst (λ z. ids_at z key ≡ Some (ids_of f)) view (ids_found tables last key (ids_of f) has serial))); err = tt; whole = whole }
 
+-- a slot has these ids, and the key is that of its table
+pub found_known : {Y E : Type 0} (tables : Slab (Held Y)) (by_ids : ByIds Y) (by_serial : Vec TableKey Y) (last : ℕ) (s : Store) → store_of tables last ≡ s → IsKept tables by_ids by_serial last
+    → (f : Shape) (slot : ℕ) (ids : List Id) → ids ≡ ids_of f → has_ids tables ids slot ≡ true → (key : TableKey) → key.slot ≡ slot → IfSome (slots.get tables slot) (λ x. key.serial ≡ x.value.serial) → HaveSizes s f → IsPut {E = E} s f (Ok key) s
+found_known tables by_ids by_serial last s view kept f slot ids same has key at serial sizes =
+    is_found tables by_ids by_serial last s view kept f key sizes
+    (subst (λ l. has_ids tables l key.slot ≡ true) same (subst (λ n. has_ids tables ids n ≡ true) (sym at) has))
+    (subst (λ n. IfSome (slots.get tables n) (λ x. key.serial ≡ x.value.serial)) (sym at) serial)
+
+-- no table has ids that no slot of their hash has
 pub not_there : {Y : Type 0} (tables : Slab (Held Y)) (by_ids : ByIds Y) (by_serial : Vec TableKey Y) (last : ℕ) (s : Store) → store_of tables last ≡ s → IsKept tables by_ids by_serial last
-    → (ids : List Id) → key_of by_ids ids ≡ None → (q : TableKey) → ids_at s q ≢ Some ids
-not_there tables by_ids by_serial last s view kept ids none q h = none_is_some q (sym none ∙ (kept.index ids q).1 (subst (λ z. ids_at z q ≡ Some ids) (sym view) h))
+    → (ids : List Id) (hash : ℕ) → hash ≡ ids_hash by_ids.hashing ids → ((slot : ℕ) → HasSlot by_ids hash slot → has_ids tables ids slot ≡ false) → (q : TableKey) → ids_at s q ≢ Some ids
+not_there tables by_ids by_serial last s view kept ids hash is none q h =
+    let seen : ids_at (store_of tables last) q ≡ Some ids = subst (λ z. ids_at z q ≡ Some ids) (sym view) h in
+    true≢false (sym (slot_has_ids tables last q ids seen) ∙ none q.slot (subst (λ m. HasSlot by_ids m q.slot) (sym is) (kept.index ids q seen)))
 
 pub if_ok : {T E : Type 0} (P Q : T → Type 0) (r : Result T E) → ((x : T) → P x → Q x) → IfOk r P → IfOk r Q
 if_ok P Q (Ok x) f h = f x h

@@ -1,5 +1,5 @@
 -- A store before and after a table without rows is released.
-use Rattle.std.proofs.Common.{◌≡◌, ◌≢◌, ◌↔◌, ◌⊎◌, ℕ, ◌+◌, ◌*◌, ◌≤◌, ◌==◌, Bool, true, false, cond, if◌then◌else◌, List, Option, Some, None, IsSome, IfSome, IsTrue, is_some, length, nat_le, option_map, option_and_then, refl, sym, ap, subst, ◌∙◌, true≢false, arith, inl, inr}
+use Rattle.std.proofs.Common.{◌≡◌, ◌≢◌, ◌⊎◌, ℕ, ◌+◌, ◌*◌, ◌≤◌, ◌==◌, Bool, true, false, if◌then◌else◌, List, Option, Some, None, IsSome, IfSome, IsTrue, is_some, length, nat_le, option_map, option_and_then, refl, sym, ap, subst, ◌∙◌, true≢false, arith, inl, inr}
 use Rattle.std.proofs.lemmas.Bool.Decides.{Decides-eqb}
 use Rattle.std.specs.List.{filter, list_all}
 use Rattle.std.specs.FinMap.{is_sorted}
@@ -14,11 +14,11 @@ use Rattle.ecs_table.proofs.Rows.{row_past}
 use Rattle.table_store.specs.declared.store.Slot.{Slot}
 use Rattle.table_store.specs.Store.{Store, Shape, IsStore, table_at, ids_at, shape_at, shape_of, with_id, without_id, key_eq, released_at}
 use Rattle.table_store.specs.Rows.{row_at, row_of, rows_in, IsStored}
-use Rattle.table_store.specs.Kept.{ByIds, Held, SetsIds, key_of, store_of, is_held, standing, IsKept, IsSlot, IsIndex, IsOrder, ids_eq}
-use Rattle.table_store.proofs.Slots.{table_at-released, table_at-slots, same_key, key_eq_true, listed_in, none_is_some, one_some}
+use Rattle.table_store.specs.Kept.{ByIds, Held, store_of, is_held, standing, IsKept, IsSlot, IsIndex, IsOrder}
+use Rattle.table_store.specs.ByIds.{HasSlot, ids_hash}
+use Rattle.table_store.proofs.Slots.{table_at-released, table_at-slots, same_key, key_eq_true, listed_in, none_is_some}
 use Rattle.table_store.proofs.StoreLemmas.{stored}
 use Rattle.table_store.proofs.Changes.{rows_here}
-use Rattle.table_store.proofs.Indexes.{ids_same, ids_eq_true, get_ids}
 use Rattle.table_store.proofs.Counting.{as_many}
 use Rattle.table_store.proofs.Order.{order_forgotten}
 
@@ -136,24 +136,20 @@ module _ {Y : Type 0} (tables new : Slab (Held Y)) (by_ids named : ByIds Y) (by_
       by true e = subst (λ o. IfSome o (λ z. IsSlot n z.value)) (sym (ap (slots.get new) ((Decides-eqb m k.slot).0 e) ∙ u.changed)) tt
       by false e = subst (λ o. IfSome o (λ z. IsSlot n z.value)) (sym (u.others m (λ h. true≢false (sym ((Decides-eqb m k.slot).1 h) ∙ e)))) (other_slot (slots.get tables m) (kept.slots m))
 
-  index_left : (l : List Id) → l ≡ x.value.table.ids → SetsIds l None by_ids named → IsIndex n named
-  index_left l its v ids q = by (ids_eq l ids) refl (get_ids by_ids named l None v ids)
-    where
-      by : (b : Bool) → ids_eq l ids ≡ b → key_of named ids ≡ cond b None (key_of by_ids ids) → (key_of named ids ≡ Some q) ↔ (ids_at n q ≡ Some ids)
-      by true e g =
-          let same = ids_same l ids e in (
-            λ h. absurd (none_is_some q (sym g ∙ h)),
-            λ h.
-                let was = ids_stood q ids h in
-                absurd (was.0 (kept.store.one_each q k (ids_some (table_at s q) ids was.1) (was.1 ∙ ap Some (sym same ∙ its) ∙ sym ids_there))),
-          )
-      by false e g = (
-        λ h.
-            let was = (kept.index ids q).0 (sym g ∙ h) in
-            let apart : q ≢ k = λ same. true≢false (sym (ids_eq_true l ids (its ∙ one_some x.value.table.ids ids (sym ids_there ∙ ap (ids_at s) (sym same) ∙ was))) ∙ e) in
-            ap (option_map (λ t. t.ids)) (seen q apart) ∙ was,
-        λ h. g ∙ (kept.index ids q).1 (ids_stood q ids h).1,
-      )
+  -- the index finds what it found, but for the slot of the table that went
+  abbrev KeepsOtherSlots : Type 0
+  KeepsOtherSlots = (hash other : ℕ) → other ≢ k.slot → HasSlot by_ids hash other → HasSlot named hash other
+
+  slots_apart : (q : TableKey) → q ≢ k → IsSome (table_at s q) → q.slot ≢ k.slot
+  slots_apart q apart there same =
+      let held : is_some (standing (Some x) q.serial) ≡ true = subst (λ o. is_some (standing o q.serial) ≡ true) (ap (slots.get tables) same ∙ is) (subst (λ o. is_some o ≡ true) (table_at-slots tables last q) there) in
+      let serials : q.serial ≡ k.serial = sym (serial_of x q.serial held) ∙ serial in
+      apart (λ i. record { slot = same i; serial = serials i })
+
+  index_left : KeepsOtherSlots → named.hashing ≡ by_ids.hashing → IsIndex n named
+  index_left keeps same ids q e =
+      let was = ids_stood q ids e in
+      subst (λ z. HasSlot named (ids_hash z ids) q.slot) (sym same) (keeps (ids_hash by_ids.hashing ids) q.slot (slots_apart q was.0 (ids_some (table_at s q) ids was.1)) (kept.index ids q was.1))
 
   order_left : length dated.items ≤ 2 * slab_len new + 1 → (dated.items ≡ by_serial.items) ⊎ (dated.items ≡ filter (is_held new) by_serial.items) → IsOrder n dated.items
   order_left few = order_forgotten s n by_serial.items dated.items (is_held new) kept.order (λ q h. ((stood q h).1, subst (λ o. is_some o ≡ true) (table_at-slots new last q) h)) refl
@@ -166,11 +162,11 @@ module _ {Y : Type 0} (tables new : Slab (Held Y)) (by_ids named : ByIds Y) (by_
     | inr h ↦ ap (option_and_then (λ t. row_of t p.row)) h.1
   ]
 
-  pub released_kept : (l : List Id) → l ≡ x.value.table.ids → SetsIds l None by_ids named → length dated.items ≤ 2 * slab_len new + 1 → (dated.items ≡ by_serial.items) ⊎ (dated.items ≡ filter (is_held new) by_serial.items) → IsKept new named dated last
-  released_kept l its v few o = record { store = store_left; slots = slots_left; index = index_left l its v; order = order_left few o }
+  pub released_kept : KeepsOtherSlots → named.hashing ≡ by_ids.hashing → length dated.items ≤ 2 * slab_len new + 1 → (dated.items ≡ by_serial.items) ⊎ (dated.items ≡ filter (is_held new) by_serial.items) → IsKept new named dated last
+  released_kept keeps same few o = record { store = store_left; slots = slots_left; index = index_left keeps same; order = order_left few o }
 
-  pub released_stored : (l : List Id) → l ≡ x.value.table.ids → SetsIds l None by_ids named → length dated.items ≤ 2 * slab_len new + 1 → (dated.items ≡ by_serial.items) ⊎ (dated.items ≡ filter (is_held new) by_serial.items) → IsStored (store_of new last)
-  released_stored l its v few o = stored new named dated last (released_kept l its v few o) (store_of new last) refl
+  pub released_stored : KeepsOtherSlots → named.hashing ≡ by_ids.hashing → length dated.items ≤ 2 * slab_len new + 1 → (dated.items ≡ by_serial.items) ⊎ (dated.items ≡ filter (is_held new) by_serial.items) → IsStored (store_of new last)
+  released_stored keeps same few o = stored new named dated last (released_kept keeps same few o) (store_of new last) refl
 
   module _ (z : Store) (view : store_of tables last ≡ z) where
     pub released : (q : TableKey) → table_at (store_of new last) q ≡ released_at z k q

@@ -8,13 +8,14 @@ use Rattle.std.specs.declared.vec.Vec.{Vec}
 use Rattle.slab.specs.Slab as slots
 use Rattle.slab.specs.Slab.{Slab, Updates, with_value}
 use Rattle.slab.proofs.SlabLemmas.{Updates-with_value}
-use Rattle.std.proofs.Common.{T, ◌↔◌}
+use Rattle.std.proofs.Common.{T}
 use Rattle.ecs_id.specs.Id.{Id, id_eq, id_cmp, id_cmp_total, id_eq_itself}
 use Rattle.ecs_id.specs.declared.TableKey.{TableKey}
 use Rattle.ecs_table.specs.Archetype.{Archetype, IsSound}
 use Rattle.table_store.specs.declared.store.Slot.{Slot}
 use Rattle.table_store.specs.Store.{Store, Shape, IsStore, HasSize, table_at, ids_at, shape_at, shape_of, shaped, key_eq, find_in, with_id, without_id}
-use Rattle.table_store.specs.Kept.{IsOrder, ByIds, Held, store_of, standing, stepped, edge_of, edges_of, key_of, IsKept, IsSlot, IsMore, IsLess, IsPut, IsMade, IsWritten}
+use Rattle.table_store.specs.Kept.{IsOrder, ByIds, Held, store_of, standing, stepped, edge_of, edges_of, IsKept, IsSlot, IsMore, IsLess, IsPut, IsMade, IsWritten}
+use Rattle.table_store.specs.ByIds.{HasSlot, ids_hash}
 use Rattle.table_store.proofs.Slots.{key_eq_true, table_at-slots, same_seen, one_some}
 use Rattle.table_store.proofs.Shapes.{HaveSizes, get_put, get_filtered, small_at, size_of_stored}
 use Rattle.table_store.proofs.Changes.{there, table_here}
@@ -42,7 +43,7 @@ if_each None h = tt
 if_each (Some x) h = h x refl
 
 abbrev IndexAt : {Y : Type 0} → Store → ByIds Y → List Id → TableKey → Type 0
-IndexAt s by_ids ids q = (key_of by_ids ids ≡ Some q) ↔ (ids_at s q ≡ Some ids)
+IndexAt s by_ids ids q = ids_at s q ≡ Some ids → HasSlot by_ids (ids_hash by_ids.hashing ids) q.slot
 
 -- the shape in the slot of a key
 module _ {Y : Type 0} (tables : Slab (Held Y)) (by_ids : ByIds Y) (by_serial : Vec TableKey Y) (last : ℕ) (s : Store) (view : store_of tables last ≡ s) (kept : IsKept tables by_ids by_serial last)

@@ -1,11 +1,10 @@
--- The fields of a store: slots of tables, the key of the table of each list of ids, and the keys by serial.
+-- The fields of a store: slots of tables, the slot of the table of each list of ids, and the keys by serial.
 use Rattle.std.specs.Prelude.{◌≡◌, Bool, ◌↔◌, ℕ, suc, ◌+◌, ◌*◌, ◌≤◌, ◌==◌, cond, if◌then◌else◌, List, [], ◌∷◌, Option, Some, None, IsSome, IsNone, IfSome, is_some, length, map, ◌⊎◌, IfOk, OnErr, Result, max, ◌<◌}
 use Rattle.std.specs.List.{Contains}
 use Rattle.std.specs.List.Sorted.{IsStrictlySortedBy}
 use Rattle.std.specs.Ordering.{nat_cmp}
 use Rattle.std.specs.declared.vec.Vec.{Vec}
 use Rattle.std.specs.declared.boxed.Box.{Box}
-use Rattle.std.specs.Cmp.Lexicographic.{pointwise}
 use Rattle.indexmap.specs.IndexMap as hashed
 use Rattle.indexmap.specs.IndexMap.{IndexMap}
 use Rattle.secret_hashing.specs.declared.Hashing.{Hashing}
@@ -16,13 +15,12 @@ use Rattle.ecs_id.specs.declared.TableKey.{TableKey}
 use Rattle.ecs_table.specs.Archetype.{Archetype, IsSound}
 use Rattle.table_store.specs.declared.edges.Edges.{Edges}
 use Rattle.table_store.specs.declared.store.Slot.{Slot}
+pub use Rattle.table_store.specs.ByIds.{Held}
+use Rattle.table_store.specs.ByIds.{HasSlot, ids_hash}
+pub use Rattle.table_store.specs.declared.by_ids.ByIds.{ByIds}
 use Rattle.table_store.specs.Store.{Store, Shape, IsStore, ids_at, table_at, shape_at, shape_of, shaped, shaped_at, made_at, with_id, without_id}
 use Rattle.table_store.specs.Rows.{IsStored, row_at}
 use Rattle.ecs_id.specs.declared.Place.{Place}
-
--- a slot in its box
-abbrev pub Held : Type 0 → Type 0
-Held Y = Box (Slot Y) Y
 
 -- the tables of slots, the first of which has this number
 abbrev pub tables_from : {Y : Type 0} → ℕ → List (Option (Held Y)) → List (TableKey × Archetype)
@@ -73,21 +71,9 @@ pub record IsSlot {Y : Type 0} (s : Store) (x : Slot Y) : Type 0 where
   pub more : (i : Id) (k : TableKey) → edge_of x.more i ≡ Some k → IsMore s (shape_of x.table) i k
   pub less : (i : Id) (k : TableKey) → edge_of x.less i ≡ Some k → IsLess s (shape_of x.table) i k
 
--- whether two lists of ids are the same
-abbrev pub ids_eq : List Id → List Id → Bool
-ids_eq = pointwise id_eq
-
--- the keys of tables by their lists of ids
-abbrev pub ByIds : Type 0 → Type 0
-ByIds Y = IndexMap (Vec Id Y) TableKey Hashing
-
--- the key that the index has for a list of ids
-abbrev pub key_of : {Y : Type 0} → ByIds Y → List Id → Option TableKey
-key_of by_ids ids = hashed.get_by (λ v. ids_eq ids v.items) by_ids
-
--- the index has a key for a list of ids exactly where the table under the key has these ids
+-- the slot of each table is found by the hash of its ids
 abbrev pub IsIndex : {Y : Type 0} → Store → ByIds Y → Type 0
-IsIndex s by_ids = (ids : List Id) (k : TableKey) → (key_of by_ids ids ≡ Some k) ↔ (ids_at s k ≡ Some ids)
+IsIndex s by_ids = (ids : List Id) (k : TableKey) → ids_at s k ≡ Some ids → HasSlot by_ids (ids_hash by_ids.hashing ids) k.slot
 
 -- the keys have those of all tables that stand, by rising serial
 pub record IsOrder (s : Store) (keys : List TableKey) : Type 0 where
@@ -102,10 +88,6 @@ pub record IsKept {Y : Type 0} (tables : Slab (Held Y)) (by_ids : ByIds Y) (by_s
   pub slots : (n : ℕ) → IfSome (slots.get tables n) (λ x. IsSlot (store_of tables last) x.value)
   pub index : IsIndex (store_of tables last) by_ids
   pub order : IsOrder (store_of tables last) by_serial.items
-
--- the index has another key for a list of ids, or none
-abbrev pub SetsIds : {Y : Type 0} → List Id → Option TableKey → ByIds Y → ByIds Y → Type 0
-SetsIds ids key old new = hashed.UpdatesBy (λ v w. ids_eq v.items w.items) (λ v. ids_eq ids v.items) old new key
 
 -- a table of this shape is found or made under the key
 pub record IsMade (s : Store) (f : Shape) (key : TableKey) (n : Store) : Type 0 where

@@ -1,4 +1,5 @@
 pub mod Store
+pub mod ByIds
 pub mod Rows
 pub mod Kept
 pub mod Going

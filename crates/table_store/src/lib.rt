@@ -26,6 +26,7 @@
 //! `with`, `without` and `reserve` take memory. Where it is refused they answer `Memory`, and the store is as it was.
 #![tactic(auto, using(ecs_id::specs::Id::id_tests))]
 
+mod by_ids;
 mod edges;
 mod shape;
 mod since;

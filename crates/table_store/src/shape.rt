@@ -89,11 +89,15 @@ pub fn are_tags(shape: &[SizedId]) -> bool
     shape.iter().all(|cell| cell.size() == 0)
 }
 
-/// The ids of a shape.
-pub fn ids_of<A: Allocator>(alloc: A, shape: &[SizedId]) -> Result<Vec<Id, A>, AllocError>
-    ensures { IfOk result (λ ids. ids.items ≡ map (λ c. c.0) shape.now) }
+/// Makes the list the ids of a shape.
+pub fn set_ids<A: Allocator>(ids: &mut Vec<Id, A>, shape: &[SizedId]) -> Result<(), AllocError>
+    ensures { OnOk result (ids.new.items ≡ map (λ c. c.0) shape.now) }
 {
-    shape.iter().map(|cell| cell.id()).collect(alloc)
+    ids.clear();
+    for cell in shape {
+        ids.push(cell.id())?;
+    }
+    Ok(())
 }
 
 // So many sizes take no block of memory.

@@ -5,22 +5,22 @@ ghost use Rattle.std.specs.Ordering.{nat_cmp};
 ghost use Rattle.std.specs.List.{Contains, filter};
 ghost use Rattle.std.specs.List.Sorted.{IsStrictlySortedBy};
 ghost use Rattle.slab.specs.Slab.{HasRoomFor, get as slot_at, slab_len};
-ghost use Rattle.indexmap.specs.IndexMap as hashed;
 ghost use Rattle.ecs_id.specs.Id.{Id, id_cmp, id_eq};
 ghost use Rattle.ecs_id.specs.declared.Place.{Place};
 ghost use Rattle.ecs_id.specs.declared.TableKey.{TableKey};
 ghost use Rattle.ecs_table.specs.Archetype.{Archetype, with_column, with_row, with_value, without_row};
 ghost use Rattle.table_store.specs.Store.{HasSize, Shape, changed_at, find_in, ids_at, made_at, moved_at, released_at, room_at, shape_at, shaped, shaped_at, size_in, table_at, with_id, without_id};
-ghost use Rattle.table_store.specs.Kept.{HasNoEdge, SetsIds, IsMade, IsPut, IsWritten, edge_of, edges_of, is_held, standing, stepped};
+ghost use Rattle.table_store.specs.ByIds.{HasSlot, KeepsSlots};
+ghost use Rattle.table_store.specs.Kept.{HasNoEdge, IsMade, IsPut, IsWritten, edge_of, edges_of, is_held, standing, stepped};
 ghost use Rattle.table_store.specs.Rows.{AreValues, IsStored, Row, filler, moved_rows, removed_rows, row_at, rows_in, with_cell, with_column_at, with_row_at, zero_cells};
 
+use crate::by_ids::{ByIds, has_ids, key_in};
 use crate::edges::Edges;
-use crate::shape::{Sizes, are_tags, ids_of, next_shape, push_sizes};
+use crate::shape::{Sizes, are_tags, next_shape, push_sizes, set_ids};
 use crate::since::Since;
 use crate::sized::SizedId;
 use ecs_id::{EntityId, Id, TableKey};
 use ecs_table::Table;
-use indexmap::IndexMap;
 use raw_column::Memory;
 use secret_hashing::Hashing;
 use slab::Slab;
@@ -32,8 +32,8 @@ use std::mem;
 /// A table with its serial, and the edges that lead from it.
 #[derive(Drop)]
 pub(crate) struct Slot<A: Allocator> {
-    serial: u128,
-    table: Table<A>,
+    pub(crate) serial: u128,
+    pub(crate) table: Table<A>,
     // for an id, the table that has it more
     more: Edges<A>,
     // for an id, the table that has it less
@@ -42,8 +42,6 @@ pub(crate) struct Slot<A: Allocator> {
 
 // In boxes, so that one can be taken out for a moment: two slots of one slab can't be borrowed at once.
 pub(crate) type Slots<A> = Slab<Box<Slot<A>, A>, A>;
-
-type ByIds<A> = IndexMap<Vec<Id, A>, TableKey, Hashing, A>;
 
 // Serials only rise, so each new key stands at the end. Keys of released tables may be among them: at most one more than tables stand.
 type BySerial<A> = Vec<TableKey, A>;
@@ -57,8 +55,11 @@ pub struct TableStore<A: Allocator = Global> {
     // the greatest serial that was given
     last: u128,
     hashing: Hashing,
-    // where the shape of a table to be found or made stands for a moment
+    // where the shape of a table to be found or made stands for a moment, and its ids
     cells: Vec<SizedId, A>,
+    ids: Vec<Id, A>,
+    // the slot of the table that was found or made last, which is mostly the one that is asked for next
+    recent: u32,
     alloc: A,
 }
 
@@ -83,11 +84,13 @@ impl<A: Allocator + Copy> TableStore<A> {
         let hashing = Hashing::new(random);
         TableStore {
             tables: Slab::new(alloc),
-            by_ids: IndexMap::with_hasher(alloc, hashing),
+            by_ids: ByIds::new(alloc, hashing),
             by_serial: Vec::new(alloc),
             last: 0,
             hashing,
             cells: Vec::new(alloc),
+            ids: Vec::new(alloc),
+            recent: 0,
             alloc,
         }
     }
@@ -110,33 +113,41 @@ impl<A: Allocator + Copy> TableStore<A> {
         self.find_or_put(cells)
     }
 
-    // `find_or_make`, whose clauses stand in `IsMade`.
-    #[tactic(none)]
+    // `find_or_make`, whose clauses stand in `IsMade`. Its list of ids is lent by the store, so that not every call takes one.
     fn find_or_put(&mut self, cells: &[SizedId]) -> Result<TableKey, Memory>
         requires ascend { IsTrue (is_sorted id_cmp cells.now) }
         requires small { (j : ℕ) → IfSome (slice_get cells.now j) (λ c. c.1 ≤ 64) }
         requires sizes { (j : ℕ) → IfSome (slice_get cells.now j) (λ c. HasSize self.old c.0 c.1) }
         ensures { IsPut self.old cells.now result self.new }
     {
-        let Ok(ids) = ids_of(self.alloc, cells) else {
-            return Err(Memory);
-        };
-        if let Some(key) = self.by_ids.get(ids.as_slice()) {
-            return Ok(*key);
-        }
-        self.make(ids, cells)
+        let mut ids = mem::replace(&mut self.ids, Vec::new(self.alloc));
+        let put = self.put_by(&mut ids, cells);
+        self.ids = ids;
+        self.recent = slot_or(&put, self.recent);
+        put
     }
 
-    // The table of ids that no table has.
-    #[tactic(none)]
-    fn make(&mut self, ids: Vec<Id, A>, cells: &[SizedId]) -> Result<TableKey, Memory>
+    // `find_or_put`, with a list for the ids of the table: the table that has them, or a new one.
+    fn put_by(&mut self, ids: &mut Vec<Id, A>, cells: &[SizedId]) -> Result<TableKey, Memory>
         requires ascend { IsTrue (is_sorted id_cmp cells.now) }
         requires small { (j : ℕ) → IfSome (slice_get cells.now j) (λ c. c.1 ≤ 64) }
         requires sizes { (j : ℕ) → IfSome (slice_get cells.now j) (λ c. HasSize self.old c.0 c.1) }
-        requires ids { ids.items ≡ map (λ c. c.0) cells.now }
-        requires missing { (q : TableKey) → ids_at self.old q ≢ Some (map (λ c. c.0) cells.now) }
         ensures { IsPut self.old cells.now result self.new }
     {
+        let recent = self.recent;
+        let Ok(()) = set_ids(ids, cells) else {
+            return Err(Memory);
+        };
+        let ids = ids.as_slice();
+        if has_ids(&self.tables, recent, ids) {
+            let known = key_in(&self.tables, recent);
+            return Ok(known);
+        }
+        let hash = self.by_ids.hash_of(ids);
+        if let Some(slot) = self.by_ids.find(&self.tables, hash, ids) {
+            let found = key_in(&self.tables, slot);
+            return Ok(found);
+        }
         let Ok(key) = next_key(&self.tables, self.last) else {
             return Err(Memory);
         };
@@ -146,6 +157,7 @@ impl<A: Allocator + Copy> TableStore<A> {
             &mut self.by_ids,
             &mut self.by_serial,
             key,
+            hash,
             ids,
             cells,
         ) else {
@@ -294,6 +306,14 @@ impl<A: Allocator + Copy> TableStore<A> {
     }
 }
 
+// The slot of the table that was found or made, or this one.
+fn slot_or(put: &Result<TableKey, Memory>, other: u32) -> u32 {
+    match put {
+        Ok(key) => key.slot,
+        Err(_) => other,
+    }
+}
+
 // The key that the next table gets, if there is a serial and a slot for one more.
 fn next_key<A: Allocator>(tables: &Slots<A>, last: u128) -> Result<TableKey, Memory>
     ensures serial { IfOk result (λ key. key.serial ≡ last + 1) }
@@ -314,20 +334,22 @@ fn next_key<A: Allocator>(tables: &Slots<A>, last: u128) -> Result<TableKey, Mem
     })
 }
 
-// All that is to grow for a new table, and its slot. Its key stands in both indexes then.
+// All that is to grow for a new table, and its slot, whose number stands under the hash of its ids then, and its key last among those by serial.
 fn prepare<A: Allocator + Copy>(
     alloc: A,
     tables: &mut Slots<A>,
     by_ids: &mut ByIds<A>,
     by_serial: &mut BySerial<A>,
     key: TableKey,
-    ids: Vec<Id, A>,
+    hash: u64,
+    ids: &[Id],
     cells: &[SizedId],
 ) -> Result<Box<Slot<A>, A>, Memory>
-    requires ids { ids.items ≡ map (λ c. c.0) cells.now }
+    requires ids { ids.now ≡ map (λ c. c.0) cells.now }
     requires small { (j : ℕ) → IfSome (slice_get cells.now j) (λ c. c.1 ≤ 64) }
     ensures tables { tables.new ≡ record tables.old { capacity = tables.new.capacity } }
-    ensures by_ids { MatchResult result (λ _. SetsIds ids.items (Some key) by_ids.old by_ids.new) (λ _. hashed.IsUnchanged by_ids.old by_ids.new) }
+    ensures by_ids { KeepsSlots by_ids.old by_ids.new }
+    ensures entered { OnOk result (HasSlot by_ids.new hash key.slot) }
     ensures by_serial { MatchResult result (λ _. by_serial.new.items ≡ by_serial.old.items ++ key ∷ []) (λ _. by_serial.new.items ≡ by_serial.old.items) }
     ensures slot { OnOk result (HasRoomFor tables.new 1) }
     ensures serial { IfOk result (λ slot. slot.value.serial ≡ key.serial) }
@@ -335,9 +357,9 @@ fn prepare<A: Allocator + Copy>(
     ensures more { IfOk result (λ slot. HasNoEdge slot.value.more) }
     ensures less { IfOk result (λ slot. HasNoEdge slot.value.less) }
 {
-    let slot = new_slot(alloc, key.serial, ids.as_slice(), cells)?;
+    let slot = new_slot(alloc, key.serial, ids, cells)?;
     tables.reserve(1)?;
-    enter(by_ids, by_serial, ids, key)?;
+    enter(by_ids, by_serial, hash, key)?;
     Ok(slot)
 }
 
@@ -386,20 +408,19 @@ fn new_table<A: Allocator + Copy>(
 }
 
 // Enters a key into both indexes, or into neither.
-fn enter<A: Allocator + Copy>(
+fn enter<A: Allocator>(
     by_ids: &mut ByIds<A>,
     by_serial: &mut BySerial<A>,
-    ids: Vec<Id, A>,
+    hash: u64,
     key: TableKey,
 ) -> Result<(), Memory>
-    ensures by_ids { MatchResult result (λ _. SetsIds ids.items (Some key) by_ids.old by_ids.new) (λ _. hashed.IsUnchanged by_ids.old by_ids.new) }
+    ensures by_ids { KeepsSlots by_ids.old by_ids.new }
+    ensures entered { OnOk result (HasSlot by_ids.new hash key.slot) }
     ensures by_serial { MatchResult result (λ _. by_serial.new.items ≡ by_serial.old.items ++ key ∷ []) (λ _. by_serial.new.items ≡ by_serial.old.items) }
 {
-    by_ids.reserve(1)?;
-    if by_serial.push(key).is_err() {
-        return Err(Memory);
-    }
-    by_ids.insert(ids, key).unwrap();
+    by_serial.reserve(1)?;
+    by_ids.insert(hash, key.slot)?;
+    by_serial.push(key).unwrap();
     Ok(())
 }
 
@@ -615,7 +636,7 @@ impl<A: Allocator> TableStore<A> {
             return;
         }
         let slot = self.tables.remove(key.slot as usize);
-        self.by_ids.swap_remove(slot.table.ids());
+        self.by_ids.remove(slot.table.ids(), key.slot);
         forget_released(&mut self.by_serial, &self.tables);
     }
 }

@@ -1,5 +1,4 @@
 use Rattle.std.proofs.Common.{◌+◌, ◌*◌, ◌≤◌, inr, length, rules, subst, sym, arith}
-use Rattle.std.specs.List.{filter}
 use Rattle.std.proofs.lemmas.Fn.{filter_same}
 use Rattle.slab.specs.Slab.{slab_len}
 use Rattle.table_store.specs.Kept.{is_held}

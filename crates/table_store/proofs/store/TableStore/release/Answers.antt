@@ -1,5 +1,4 @@
-use Rattle.std.proofs.Common.{ap, sym, ◌∙◌}
-use Rattle.table_store.specs.declared.store.Slot.{Slot}
+use Rattle.std.proofs.Common.{sym, ◌∙◌}
 use Rattle.table_store.proofs.StoreLemmas.{stored}
 use Rattle.table_store.proofs.Releasing.{not_standing, released, released_rows, released_kept, released_stored}
 use Rattle.table_store.proofs.store.TableStore.release.Goals as goal
@@ -14,17 +13,17 @@ pub forget_released-requires : goal.forget_released-requires
 forget_released-requires g c = c.self.invariant.order.rising
 
 pub invariant_of-self : goal.invariant_of-self
-invariant_of-self g c = released_kept c.self.inside.tables c.remove-slot.new.self c.self.inside.by_ids c.swap_remove.new.self c.self.inside.by_serial c.forget_released.new.by_serial c.self.inside.last c.self.invariant c.args.key c.remove-slot.result c.remove-slot.ensures.value (sym c.stands.ensures ∙ c.if-not-stands.false) c.remove-slot.ensures.updates
-    c.ids.result.now (c.ids.ensures.value ∙ ap (λ (d : Slot _). d.table.ids) c.deref.ensures) c.swap_remove.ensures.updates c.forget_released.ensures.few c.forget_released.ensures.kept
+invariant_of-self g c = released_kept c.self.inside.tables c.remove-slot.new.self c.self.inside.by_ids c.remove.new.self c.self.inside.by_serial c.forget_released.new.by_serial c.self.inside.last c.self.invariant c.args.key c.remove-slot.result c.remove-slot.ensures.value (sym c.stands.ensures ∙ c.if-not-stands.false) c.remove-slot.ensures.updates
+    c.remove.ensures.others c.remove.ensures.hashing c.forget_released.ensures.few c.forget_released.ensures.kept
 
 pub returns-clause-tables : goal.returns-clause-tables
-returns-clause-tables g c = released c.self.inside.tables c.remove-slot.new.self c.self.inside.by_ids c.swap_remove.new.self c.self.inside.by_serial c.forget_released.new.by_serial c.self.inside.last c.self.invariant c.args.key c.remove-slot.result c.remove-slot.ensures.value (sym c.stands.ensures ∙ c.if-not-stands.false) c.remove-slot.ensures.updates
+returns-clause-tables g c = released c.self.inside.tables c.remove-slot.new.self c.self.inside.by_ids c.remove.new.self c.self.inside.by_serial c.forget_released.new.by_serial c.self.inside.last c.self.invariant c.args.key c.remove-slot.result c.remove-slot.ensures.value (sym c.stands.ensures ∙ c.if-not-stands.false) c.remove-slot.ensures.updates
     c.args.self.now c.self.view_is
 
 pub returns-clause-rows : goal.returns-clause-rows
-returns-clause-rows g c = released_rows c.self.inside.tables c.remove-slot.new.self c.self.inside.by_ids c.swap_remove.new.self c.self.inside.by_serial c.forget_released.new.by_serial c.self.inside.last c.self.invariant c.args.key c.remove-slot.result c.remove-slot.ensures.value (sym c.stands.ensures ∙ c.if-not-stands.false) c.remove-slot.ensures.updates
+returns-clause-rows g c = released_rows c.self.inside.tables c.remove-slot.new.self c.self.inside.by_ids c.remove.new.self c.self.inside.by_serial c.forget_released.new.by_serial c.self.inside.last c.self.invariant c.args.key c.remove-slot.result c.remove-slot.ensures.value (sym c.stands.ensures ∙ c.if-not-stands.false) c.remove-slot.ensures.updates
     c.args.self.now c.self.view_is c.requires.empty
 
 pub returns-clause-whole : goal.returns-clause-whole
-returns-clause-whole g c = released_stored c.self.inside.tables c.remove-slot.new.self c.self.inside.by_ids c.swap_remove.new.self c.self.inside.by_serial c.forget_released.new.by_serial c.self.inside.last c.self.invariant c.args.key c.remove-slot.result c.remove-slot.ensures.value (sym c.stands.ensures ∙ c.if-not-stands.false) c.remove-slot.ensures.updates
-    c.ids.result.now (c.ids.ensures.value ∙ ap (λ (d : Slot _). d.table.ids) c.deref.ensures) c.swap_remove.ensures.updates c.forget_released.ensures.few c.forget_released.ensures.kept
+returns-clause-whole g c = released_stored c.self.inside.tables c.remove-slot.new.self c.self.inside.by_ids c.remove.new.self c.self.inside.by_serial c.forget_released.new.by_serial c.self.inside.last c.self.invariant c.args.key c.remove-slot.result c.remove-slot.ensures.value (sym c.stands.ensures ∙ c.if-not-stands.false) c.remove-slot.ensures.updates
+    c.remove.ensures.others c.remove.ensures.hashing c.forget_released.ensures.few c.forget_released.ensures.kept

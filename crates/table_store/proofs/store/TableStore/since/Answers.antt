@@ -1,5 +1,4 @@
-use Rattle.std.proofs.Common.{ap, sym, subst, ◌∙◌}
-use Rattle.std.specs.List.{filter}
+use Rattle.std.proofs.Common.{sym, subst}
 use Rattle.table_store.specs.Kept.{is_held, IsOrder}
 use Rattle.table_store.proofs.Counting.{exactly_held}
 use Rattle.table_store.proofs.Order.{IsRising, rising_filter}
