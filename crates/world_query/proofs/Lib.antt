@@ -4,10 +4,11 @@ mod Kept
 mod Printed
 pub mod Asked
 mod Answered
+pub mod RowLines
 mod Matched
 mod Probes
 mod Planned
 mod Chains
 mod Sheets
-mod Fronts
+pub mod Fronts
 pub mod Sent

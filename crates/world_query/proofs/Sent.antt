@@ -1,6 +1,6 @@
 -- A text more behind what was sent and what is still to be.
-use Rattle.std.proofs.Common.{◌≡◌, ℕ, List, [], ◌∷◌, ◌++◌, length, take, drop, refl, sym, ap, ◌∙◌, subst, append_assoc, append-nil, arith}
-use Rattle.std.specs.Prelude.{Option, Some, Result, Ok, Err, IsErrAnd, OnErr, ⊤}
+use Rattle.std.proofs.Common.{◌≡◌, ◌≤◌, ℕ, List, [], ◌∷◌, ◌++◌, length, take, drop, refl, sym, ap, ◌∙◌, subst, append_assoc, append-nil, arith}
+use Rattle.std.specs.Prelude.{Contains, Option, Some, Result, Ok, Err, IsErrAnd, OnErr, ⊤}
 use Rattle.std.specs.Io.{StartsWith}
 use Rattle.std.specs.Io.KnownBytes.{Appends}
 use Rattle.std.proofs.KnownBytes.{Appends-nil, Appends-trans}
@@ -9,7 +9,7 @@ use Rattle.script_streams.specs.declared.streams.Calls.{Calls}
 use Rattle.script_streams.specs.Streams.{IsCalm, TakesFront}
 use Rattle.world_query.specs.declared.sending.SendError.{SendError}
 use Rattle.world_query.specs.declared.sending.SendError.TheVariants.{Memory, Write}
-use Rattle.world_query.specs.Sent.{FailsAtWrite, IsSent, StopsSending}
+use Rattle.world_query.specs.Sent.{FailsAtWrite, HoldsAtFault, HoldsOneLine, IsSent, StopsSending}
 use Rattle.world_query.proofs.Fronts.{starts_before}
 
 -- what begins with a list is that and more
@@ -136,6 +136,10 @@ fails_same e old mid new given (Err d) before was passed told = λ calm. (
   λ other. (told (before calm)).1 (λ is. other (ap (λ x. Err x) (passed ∙ err_of e Write given was is))),
 )
 
+-- so does an answer that is given back as it is
+pub fails_after : {T : Type 0} (old mid new : Calls) (r : Result T SendError) → (IsCalm old → IsCalm mid) → FailsAtWrite mid r new → FailsAtWrite old r new
+fails_after old mid new r before told = λ calm. told (before calm)
+
 -- and where nothing was written, or all of it
 abbrev IsMemory : SendError → Type 0
 IsMemory Memory = ⊤
@@ -153,3 +157,42 @@ calm_ok old new x calm = λ was. (
   λ write. let P : Result _ SendError → Type 0 = λ r. OnErr r ⊥ in absurd (subst P write tt),
   λ _. calm was,
 )
+
+-- ---- what a list holds where a write failed
+
+-- nothing is asked of it where memory was refused
+pub fault_memory : {T : Type 0} (most : ℕ) (lines : List (List ℕ)) (r : Result T SendError) (after : List ℕ) → IsErrAnd r (λ x. x ≡ Memory) → HoldsAtFault most lines r after
+fault_memory most lines (Ok x) after is = absurd is
+fault_memory most lines (Err Memory) after is = tt
+fault_memory most lines (Err Write) after is = absurd (subst IsMemory (sym is) tt)
+
+pub fault_anyway : {T : Type 0} (most : ℕ) (lines : List (List ℕ)) (r : Result T SendError) (after : List ℕ) → HoldsOneLine most lines after → HoldsAtFault most lines r after
+fault_anyway most lines (Ok x) after holds = tt
+fault_anyway most lines (Err Memory) after holds = tt
+fault_anyway most lines (Err Write) after holds = holds
+
+pub fault_if : {T : Type 0} (most : ℕ) (lines : List (List ℕ)) (r : Result T SendError) (after : List ℕ) → OnErr r (HoldsOneLine most lines after) → HoldsAtFault most lines r after
+fault_if most lines (Ok x) after holds = tt
+fault_if most lines (Err Memory) after holds = tt
+fault_if most lines (Err Write) after holds = holds
+
+-- the same of more bytes and of more lines
+pub holds_among : (most more : ℕ) (lines all : List (List ℕ)) (after now : List ℕ) → now ≡ after → most ≤ more → ((line : List ℕ) → Contains lines line → Contains all line)
+    → HoldsOneLine most lines after → HoldsOneLine more all now
+holds_among most more lines all after now same less among so =
+    record { held = so.held; line = so.line; is = same ∙ so.is; few = omega (arith, so.few, less); one = among so.line so.one }
+
+pub fault_among : {T : Type 0} (most more : ℕ) (lines all : List (List ℕ)) (r : Result T SendError) (after now : List ℕ) → now ≡ after → most ≤ more
+    → ((line : List ℕ) → Contains lines line → Contains all line) → HoldsAtFault most lines r after → HoldsAtFault more all r now
+fault_among most more lines all (Ok x) after now same less among so = tt
+fault_among most more lines all (Err Memory) after now same less among so = tt
+fault_among most more lines all (Err Write) after now same less among so = holds_among most more lines all after now same less among so
+
+-- an error that is passed on
+pub fault_same : {T U : Type 0} (e : SendError) (most : ℕ) (lines : List (List ℕ)) (given : Result T SendError) (r : Result U SendError) (after : List ℕ) → given ≡ Err e → IsErrAnd r (λ x. x ≡ e)
+    → HoldsAtFault most lines given after → HoldsAtFault most lines r after
+fault_same {T} e most lines given (Ok x) after was passed so = absurd passed
+fault_same {T} e most lines given (Err Memory) after was passed so = tt
+fault_same {T} e most lines given (Err Write) after was passed so =
+    let P : Result T SendError → Type 0 = λ g. HoldsAtFault most lines g after in
+    subst P (was ∙ ap (λ x. Err x) (sym passed)) so

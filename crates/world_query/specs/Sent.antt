@@ -1,10 +1,10 @@
 -- What has become of a text where a writer takes what stands in a list before it is whole.
-use Rattle.std.specs.Prelude.{◌≡◌, ℕ, List, ◌++◌, Option, Result, Err}
+use Rattle.std.specs.Prelude.{◌≡◌, ◌≤◌, ⊤, ℕ, List, ◌++◌, length, Contains, Option, Result, Ok, Err}
 use Rattle.std.specs.Io.KnownBytes.{Appends}
 use Rattle.script_streams.specs.declared.streams.Calls.{Calls}
 use Rattle.script_streams.specs.Streams.{IsCalm, IsFaulty}
 use Rattle.world_query.specs.declared.sending.SendError.{SendError}
-use Rattle.world_query.specs.declared.sending.SendError.TheVariants.{Write}
+use Rattle.world_query.specs.declared.sending.SendError.TheVariants.{Memory, Write}
 
 -- the text was put behind what the list held, and the writer has taken a front of that
 pub record IsSent (old new : Option (List ℕ)) (before after text : List ℕ) : Type 0 where
@@ -25,6 +25,20 @@ pub record StopsSending (old new : Option (List ℕ)) (before after text : List 
 -- where the calls of a writer were calm, they are faulty after a fault of a write, and calm after any other answer
 abbrev pub FailsAtWrite : {T : Type 0} → Calls → Result T SendError → Calls → Type 0
 FailsAtWrite old answer new = IsCalm old → (answer ≡ Err Write → IsFaulty new) × (¬ (answer ≡ Err Write) → IsCalm new)
+
+-- a list holds one of these lines, and before it at most so many bytes
+pub record HoldsOneLine (most : ℕ) (lines : List (List ℕ)) (after : List ℕ) : Type 0 where
+  pub held : List ℕ
+  pub line : List ℕ
+  pub is : after ≡ held ++ line
+  pub few : length held ≤ most
+  pub one : Contains lines line
+
+-- where a write failed, it does: so no more than that is kept from the writer at any time
+abbrev pub HoldsAtFault : {T : Type 0} → ℕ → List (List ℕ) → Result T SendError → List ℕ → Type 0
+HoldsAtFault most lines (Ok _) after = ⊤
+HoldsAtFault most lines (Err Memory) after = ⊤
+HoldsAtFault most lines (Err Write) after = HoldsOneLine most lines after
 
 -- where so many bytes may stand, none are sent
 abbrev pub most_usize : ℕ

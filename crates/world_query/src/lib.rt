@@ -22,4 +22,4 @@ pub use rows::{
     QUERY_ROOM, asking_in, matching, matching_among, matching_by_asking, plan_for_kept, plan_in,
     send_planned_rows, send_rows, send_rows_in, write_planned_rows, write_rows, write_rows_in,
 };
-pub use sending::{Nowhere, SendError};
+pub use sending::{Nowhere, SendError, send_list};

@@ -1,6 +1,6 @@
 //! Rows that go to a writer as soon as many bytes of them have come together.
 
-ghost use Rattle.std.specs.Prelude.{◌≡◌, ℕ, List, [], OnErr, OnOk};
+ghost use Rattle.std.specs.Prelude.{◌≡◌, ◌≤◌, ℕ, List, [], OnErr, OnOk, length};
 ghost use Rattle.world_query.specs.Lines.{written};
 ghost use Rattle.world_query.specs.Sent.{FailsAtWrite, IsSent, StopsSending, most_usize};
 
@@ -57,6 +57,29 @@ impl Sink for Nowhere {
     }
 }
 
+/// Sends what a list holds to a writer where that is more than so many bytes. Then it holds nothing.
+///
+/// Fails where a write fails, and then a front of it may be sent; the list stays as it was.
+pub fn send_list<A: Allocator, W: Sink>(
+    most: usize,
+    writer: &mut W,
+    out: &mut Vec<u8, A>,
+) -> Result<(), SendError>
+    ensures sent { OnOk result (IsSent (W.contents writer.old) (W.contents writer.new) out.old.items out.new.items []) }
+    ensures unsent { OnOk result (length out.new.items ≤ most) }
+    ensures front { (text : List ℕ) → OnErr result (StopsSending (W.contents writer.old) (W.contents writer.new) out.old.items out.new.items text) }
+    ensures same { OnErr result (out.new.items ≡ out.old.items) }
+    ensures writes { FailsAtWrite (W.calls writer.old) result (W.calls writer.new) }
+    ensures kept { most ≡ most_usize → writer.new ≡ writer.old }
+{
+    if out.len() <= most {
+        return Ok(());
+    }
+    write_all(writer, out.as_slice())?;
+    out.clear();
+    Ok(())
+}
+
 /// Sends what is written on a sheet where that is more than so many bytes. Then nothing is written there.
 #[inline(always)]
 pub(crate) fn send_beyond<A: Allocator, W: Sink>(
@@ -66,7 +89,9 @@ pub(crate) fn send_beyond<A: Allocator, W: Sink>(
     sheet: &Vec<u8, A>,
 ) -> Result<(), SendError>
     ensures sent { OnOk result (IsSent (W.contents writer.old) (W.contents writer.new) (written sheet.now end.old) (written sheet.now end.new) []) }
+    ensures unsent { OnOk result (length (written sheet.now end.new) ≤ most) }
     ensures front { (text : List ℕ) → OnErr result (StopsSending (W.contents writer.old) (W.contents writer.new) (written sheet.now end.old) (written sheet.now end.new) text) }
+    ensures same { OnErr result (end.new ≡ end.old) }
     ensures writes { FailsAtWrite (W.calls writer.old) result (W.calls writer.new) }
     ensures kept { most ≡ most_usize → writer.new ≡ writer.old }
 {
@@ -84,7 +109,9 @@ fn send<A: Allocator, W: Sink>(
     sheet: &Vec<u8, A>,
 ) -> Result<(), SendError>
     ensures sent { OnOk result (IsSent (W.contents writer.old) (W.contents writer.new) (written sheet.now end.old) (written sheet.now end.new) []) }
+    ensures none { OnOk result (end.new ≡ 0) }
     ensures front { (text : List ℕ) → OnErr result (StopsSending (W.contents writer.old) (W.contents writer.new) (written sheet.now end.old) (written sheet.now end.new) text) }
+    ensures same { OnErr result (end.new ≡ end.old) }
     ensures writes { FailsAtWrite (W.calls writer.old) result (W.calls writer.new) }
 {
     write_all(writer, written_on(sheet, *end))?;

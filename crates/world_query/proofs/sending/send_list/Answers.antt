@@ -1,0 +1,13 @@
+-- What the list holds is what the writer is given.
+use Rattle.std.proofs.Common.{refl, subst}
+use Rattle.std.specs.Io.KnownBytes.{Appends}
+use Rattle.script_streams.specs.Streams.{TakesFront}
+use Rattle.world_query.proofs.Fronts.{on_err_anyway}
+use Rattle.world_query.proofs.Sent.{sent_off, stops_off}
+use Rattle.world_query.proofs.sending.send_list.Goals as goal
+
+pub returns-clause-sent : goal.returns-clause-sent
+returns-clause-sent g c = sent_off _ _ _ _ (subst (Appends _ _) c.as_slice.ensures.value c.in_ok-write_all.ensures.ok) c.clear.ensures.items
+
+pub returns-in_err-write_all-clause-front : goal.returns-in_err-write_all-clause-front
+returns-in_err-write_all-clause-front g c = λ text. on_err_anyway _ (stops_off _ _ _ _ text (subst (TakesFront _ _) c.as_slice.ensures.value c.in_err-write_all.ensures.front) refl)
