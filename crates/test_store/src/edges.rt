@@ -7,8 +7,8 @@ use std::hash::RandomState;
 use std::process::Abort;
 use std::test::Fail;
 
-/// Makes edges between four tables, and follows them once there is no memory.
-fn follow_edges(
+/// Makes four tables, and goes from one to another once there is no memory.
+fn find_again(
     rt: &impl Abort,
     heap: &Refusing<Global>,
     tables: &mut Sized<&Refusing<Global>>,
@@ -22,23 +22,24 @@ fn follow_edges(
     assert!(rt; tables.without(pair, position) == Ok(first));
     assert!(rt; tables.without(pair, tag) == Ok(second));
     heap.refuse_after(0);
-    assert!(rt; tables.pair() == Err(Memory));
+    assert!(rt; tables.pair() == Ok(pair));
     assert!(rt; tables.with(root, tag) == Ok(first));
     assert!(rt; tables.with(root, position) == Ok(second));
     assert!(rt; tables.with(first, position) == Ok(pair));
     assert!(rt; tables.without(pair, position) == Ok(first));
     assert!(rt; tables.without(pair, tag) == Ok(second));
-    assert!(rt; tables.with(second, tag) == Err(Memory));
+    assert!(rt; tables.with(second, tag) == Ok(pair));
+    assert!(rt; tables.with(pair, Id::plain(101)) == Err(Memory));
     heap.refuse_none();
     Ok(())
 }
 
-/// An edge is followed without memory. A table that is looked for by its ids takes some, so it shows that they were followed.
+/// A table that stands is found without memory, along an edge or by its ids. A new one takes some.
 #[test]
-fn edges_need_no_memory(rt: HostRuntime) -> Result<(), Fail> {
+fn tables_are_found_without_memory(rt: HostRuntime) -> Result<(), Fail> {
     let heap = Refusing::new(rt.alloc());
     let mut tables = Sized::new(&heap, RandomState::new(&rt)?);
-    let done = follow_edges(&rt, &heap, &mut tables);
+    let done = find_again(&rt, &heap, &mut tables);
     drop(tables);
     drop(heap);
     Ok(done?)

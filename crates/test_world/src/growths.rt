@@ -136,9 +136,9 @@ fn carry_out<A: Allocator + Copy>(
 ) -> Result<(), CommandError> {
     match call {
         Call::Fresh => world.fresh()?,
-        // (a short name may take no memory)
+        // (short names may take no memory)
         Call::Entity => world.entity("MoonOfTheThirdPlanet")?,
-        Call::Component => world.component("Mass", mass)?,
+        Call::Component => world.component("MassOfTheThirdPlanet", mass)?,
         Call::New => return Ok(()),
         _ => change(world, call)?,
     };
@@ -168,7 +168,7 @@ fn are_same<A: Allocator, B: Allocator>(one: &World<A>, other: &World<B>) -> boo
             return false;
         }
     }
-    for name in ["MoonOfTheThirdPlanet", "Mass", "Ann", "Kid"] {
+    for name in ["MoonOfTheThirdPlanet", "MassOfTheThirdPlanet", "Ann", "Kid"] {
         if one.find(name) != other.find(name) {
             return false;
         }
