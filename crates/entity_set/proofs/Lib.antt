@@ -1,2 +1,3 @@
 pub mod Words
 pub mod Listed
+pub mod Exchanged

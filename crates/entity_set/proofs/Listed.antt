@@ -15,18 +15,18 @@ use Rattle.ecs_model.proofs.Members.{alike, any_passes, eq_itself, eq_same, filt
 use Rattle.entity_set.specs.Members.{has, has_else, indexes_of, members}
 use Rattle.entity_set.proofs.Words.{has_none, nothing_else}
 
-range_rises : (a n : ℕ) → IsStrictlyIncreasing (range_with_len a n)
+pub range_rises : (a n : ℕ) → IsStrictlyIncreasing (range_with_len a n)
 range_rises a n = λ k lt.
     let long = length-range_with_len a n in
     let here = get_or-range_with_len a n k 0 (omega arith) in
     let next = get_or-range_with_len a n (k + 1) 0 (omega arith) in
     omega (arith, here, next)
 
-in_range : (n e : ℕ) → e < n → Contains (range_with_len 0 n) e
+pub in_range : (n e : ℕ) → e < n → Contains (range_with_len 0 n) e
 in_range n e lt = (e, omega (arith, length-range_with_len 0 n), get_or-range_with_len 0 n e e lt ∙ omega arith)
 
 -- who has a bit has a word
-has_word : (words : List ℕ) (e : ℕ) → has words e ≡ true → e < 64 * length words
+pub has_word : (words : List ℕ) (e : ℕ) → has words e ≡ true → e < 64 * length words
 has_word words e h =
     elim (cases_lt (e / 64) (length words)) [
       | inl within ↦ omega (arith, within)

@@ -1,7 +1,7 @@
 -- The numbers whose bits are set in words.
-use Rattle.std.specs.Prelude.{ℕ, ◌*◌, ◌/◌, ◌%◌, ◌==◌, ◌&&◌, Bool, not, List, filter, length, slice_index}
+use Rattle.std.specs.Prelude.{ℕ, ◌*◌, ◌/◌, ◌%◌, ◌==◌, ◌&&◌, ◌||◌, Bool, not, List, filter, length, slice_index}
 use Rattle.std.specs.Int.{bit_at}
-use Rattle.std.specs.List.{range_with_len}
+use Rattle.std.specs.List.{list_any, range_with_len}
 
 -- whether the bit of a number is set
 unfoldable pub has : List ℕ → ℕ → Bool
@@ -19,6 +19,15 @@ indexes_of place = range_with_len (64 * place) 64
 unfoldable pub members : List ℕ → List ℕ
 members words = filter (has words) (range_with_len 0 (64 * length words))
 
--- what is seen of a set
+-- what is seen of a set: who is in it, and below which number there is room in it
 pub record Entities : Type 0 where
   pub items : List ℕ
+  pub room : ℕ
+
+-- that is, of one with these words
+abbrev pub entities_in : List ℕ → Entities
+entities_in words = record { items = members words; room = 64 * length words }
+
+-- a set that some have left, and that others have then entered, of those for whom there is room
+unfoldable pub exchanged : List ℕ → List ℕ → Entities → Entities
+exchanged left entered these = record these { items = filter (λ e. (list_any (λ x. x == e) these.items && not (list_any (λ x. x == e) left)) || list_any (λ x. x == e) entered) (range_with_len 0 these.room) }

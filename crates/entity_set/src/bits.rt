@@ -1,6 +1,7 @@
 //! Bits in words: that of a number `e` is bit `e % 64` of the word `e / 64`.
 
-ghost use Rattle.std.specs.Prelude.{◌≡◌, ◌<◌, ◌≤◌, ◌*◌, ◌==◌, ◌&&◌, ◌||◌, ◌++◌, [], ◌∷◌, ℕ, OnOk, filter, if◌then◌else◌, length, not, slice_index};
+ghost use Rattle.std.specs.Prelude.{◌≡◌, ◌↔◌, ◌<◌, ◌≤◌, ◌*◌, ◌==◌, ◌&&◌, ◌||◌, ◌++◌, [], ◌∷◌, ℕ, All, IsTrue, OnOk, filter, if◌then◌else◌, length, not, slice_index};
+ghost use Rattle.std.specs.List.{list_any};
 ghost use Rattle.entity_set.specs.Members.{has, has_else, indexes_of};
 
 use std::alloc::{AllocError, Allocator};
@@ -68,6 +69,51 @@ fn clear(words: &mut [u64], number: u32)
     let place = (number / 64) as usize;
     if place < words.len() {
         words[place] &= !(1u64 << (number % 64));
+    }
+}
+
+/// Whether all of these have words.
+pub(crate) fn have_words(words: &[u64], numbers: &[u32]) -> bool
+    ensures { IsTrue result ↔ All (λ e. e < 64 * length words.now) numbers.now }
+{
+    for number in numbers {
+        if (*number / 64) as usize >= words.len() {
+            return false;
+        }
+    }
+    true
+}
+
+/// Clears the bits of some, and then sets those of others, as far as these have words.
+pub(crate) fn exchange<A: Allocator>(words: &mut Vec<u64, A>, left: &[u32], entered: &[u32])
+    ensures length { length words.new.items ≡ length words.old.items }
+    ensures has { (e : ℕ) → e < 64 * length words.old.items
+        → has words.new.items e ≡ ((has words.old.items e && not (list_any (λ x. x == e) left.now)) || list_any (λ x. x == e) entered.now) }
+{
+    exchange_in(words.as_mut_slice(), left, entered);
+}
+
+fn exchange_in(words: &mut [u64], left: &[u32], entered: &[u32])
+    ensures length { length words.new ≡ length words.old }
+    ensures has { (e : ℕ) → e < 64 * length words.old
+        → has words.new e ≡ ((has words.old e && not (list_any (λ x. x == e) left.now)) || list_any (λ x. x == e) entered.now) }
+{
+    for number in left {
+        clear(words, *number);
+    }
+    for number in entered {
+        set_if_within(words, *number);
+    }
+}
+
+/// Sets the bit of a number, if it has a word.
+fn set_if_within(words: &mut [u64], number: u32)
+    ensures length { length words.new ≡ length words.old }
+    ensures has { (e : ℕ) → e < 64 * length words.old → has words.new e ≡ (e == number || has words.old e) }
+{
+    let place = (number / 64) as usize;
+    if place < words.len() {
+        set(words, number);
     }
 }
 

@@ -1,14 +1,16 @@
 //! The set.
 
-ghost use Rattle.std.specs.Prelude.{◌≡◌, ◌==◌, ◌&&◌, ◌||◌, [], ℕ, IfOk, filter, not};
+ghost use Rattle.std.specs.Prelude.{◌≡◌, ◌↔◌, ◌<◌, ◌==◌, ◌&&◌, ◌||◌, [], ℕ, All, IfOk, IsTrue, filter, not};
 ghost use Rattle.std.specs.List.{list_any};
 ghost use Rattle.std.specs.List.Sorted.{IsStrictlyIncreasing};
+ghost use Rattle.entity_set.specs.Members.{exchanged};
 
-use crate::bits::{has, push_others, put, take_out};
+use crate::bits::{exchange, has, have_words, push_others, put, take_out};
 use std::alloc::{AllocError, Allocator, Global};
 use std::marker::Model;
 
-/// A set of entities. Its items are their indexes, in ascending order. It takes an eighth of a byte for each index up to the greatest that it had.
+/// A set of entities. Its items are their indexes, in ascending order. It takes an eighth of a byte for each index up to the greatest that it had,
+/// and has room for all below the next multiple of 64.
 #[derive(Drop)]
 pub struct EntitySet<A: Allocator = Global> {
     /// The bit of an index `e` is bit `e % 64` of the word `e / 64`.
@@ -17,11 +19,11 @@ pub struct EntitySet<A: Allocator = Global> {
 
 impl<A: Allocator> Model for EntitySet<A> {
     ghost use Rattle.std.specs.Prelude.{◌≤◌, length};
-    ghost use Rattle.entity_set.specs.Members.{Entities, members};
+    ghost use Rattle.entity_set.specs.Members.{Entities, entities_in};
 
     ghost Value = { Entities };
 
-    ghost view = { λ set. record { items = members set.words.items } };
+    ghost view = { λ set. entities_in set.words.items };
 
     ghost invariant = { λ set. length set.words.items ≤ 67108864 };
 }
@@ -41,6 +43,21 @@ impl<A: Allocator> EntitySet<A> {
         ensures { result ≡ list_any (λ x. x == entity) self.now.items }
     {
         has(self.words.as_slice(), entity)
+    }
+
+    /// Whether there is room in the set for all of these, as there is for its own.
+    pub fn has_room(&self, entities: &[u32]) -> bool
+        ensures all { IsTrue result ↔ All (λ e. e < self.now.room) entities.now }
+        ensures own { All (λ e. e < self.now.room) self.now.items }
+    {
+        have_words(self.words.as_slice(), entities)
+    }
+
+    /// Takes out some and then puts in others, of those for whom there is room. It takes no memory, and a few steps for each of these.
+    pub fn exchange(&mut self, left: &[u32], entered: &[u32])
+        ensures { self.new ≡ exchanged left.now entered.now self.old }
+    {
+        exchange(&mut self.words, left, entered);
     }
 }
 
