@@ -17,9 +17,9 @@ use Rattle.table_store.specs.Store.{Store}
 use Rattle.watch_order.specs.Watched.{Boxed}
 use Rattle.watch_order.specs.declared.watching.Watcher.{Watcher}
 use Rattle.ecs_observe.specs.Lists.{HasList, HaveLists}
-use Rattle.ecs_observe.specs.Parts.{held_of}
-use Rattle.ecs_observe.specs.Standing.{with_these_at}
+use Rattle.ecs_observe.specs.Parts.{held_of, with_kept, with_kept_at}
 use Rattle.ecs_observe.specs.Stored.{entries_in}
+use Rattle.ecs_observe.specs.declared.moves.RowsAfter.{RowsAfter}
 use Rattle.ecs_observe.specs.declared.stored.StoredQuery.{StoredQuery}
 use Rattle.ecs_observe.proofs.Found.{is_key}
 
@@ -103,18 +103,18 @@ module _ {A X : Type 0} (name : X → String A) (value : X → StoredQuery A) wh
   abbrev named : List X → List (String A × StoredQuery A)
   named xs = map (λ x. (name x, value x)) xs
 
-  pub held_written : (xs : List X) (i : ℕ) (y : X) (these : List ℕ) → i < length xs
-      → ((d : X) → held_of (name y, value y) ≡ record (held_of (name (get_or xs i d), value (get_or xs i d))) { these = these })
-      → map held_of (named (slice_set xs i y)) ≡ with_these_at i these (map held_of (named xs))
-  held_written [] i y these within one = absurd (omega (arith, within))
-  held_written (x ∷ xs) zero y these within one = ap (λ h. h ∷ map held_of (named xs)) (one x)
-  held_written (x ∷ xs) (suc i) y these within one = ap (λ hs. held_of (name x, value x) ∷ hs) (held_written xs i y these (omega (arith, within)) (λ d. one d))
+  pub entry_written : (xs : List X) (i : ℕ) (y : X) (rows : RowsAfter A) → i < length xs
+      → ((d : X) → name y ≡ name (get_or xs i d)) → ((d : X) → value y ≡ with_kept rows (value (get_or xs i d)))
+      → named (slice_set xs i y) ≡ with_kept_at i rows (named xs)
+  entry_written [] i y rows within names values = absurd (omega (arith, within))
+  entry_written (x ∷ xs) zero y rows within names values = λ j. (names x j, values x j) ∷ named xs
+  entry_written (x ∷ xs) (suc i) y rows within names values = ap (λ es. (name x, value x) ∷ es) (entry_written xs i y rows (omega (arith, within)) (λ d. names d) (λ d. values d))
 
   -- what isn't there can't be written
-  pub held_past : (xs : List X) (i : ℕ) (these : List ℕ) → length xs ≤ i → map held_of (named xs) ≡ with_these_at i these (map held_of (named xs))
-  held_past [] i these past = refl
-  held_past (x ∷ xs) zero these past = absurd (omega (arith, past))
-  held_past (x ∷ xs) (suc i) these past = ap (λ hs. held_of (name x, value x) ∷ hs) (held_past xs i these (omega (arith, past)))
+  pub entry_past : (xs : List X) (i : ℕ) (rows : RowsAfter A) → length xs ≤ i → named xs ≡ with_kept_at i rows (named xs)
+  entry_past [] i rows past = refl
+  entry_past (x ∷ xs) zero rows past = absurd (omega (arith, past))
+  entry_past (x ∷ xs) (suc i) rows past = ap (λ es. (name x, value x) ∷ es) (entry_past xs i rows (omega (arith, past)))
 
   -- of one that holds the same all hold the same
   pub held_same : (xs : List X) (i : ℕ) (y : X) → ((d : X) → held_of (name y, value y) ≡ held_of (name (get_or xs i d), value (get_or xs i d))) → map held_of (named (slice_set xs i y)) ≡ map held_of (named xs)

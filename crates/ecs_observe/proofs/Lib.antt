@@ -27,3 +27,4 @@ pub mod Rewritten
 pub mod Watches
 pub mod WholeColumns
 pub mod NoRows
+pub mod KeptRows

@@ -1,16 +1,15 @@
 -- What telling events leaves of a session.
-use Rattle.std.specs.Prelude.{◌≡◌, ℕ, ◌+◌, Bool, true, false, not, ◌&&◌, List, [], ◌∷◌, ◌++◌, All, AllPairs, map, flat_map, length, slice_get, take, Option, None, Some, option_map, IfSome, if◌then◌else◌}
+use Rattle.std.specs.Prelude.{◌≡◌, ℕ, ◌+◌, ◌≤◌, Bool, true, false, not, ◌&&◌, List, [], ◌∷◌, ◌++◌, All, AllPairs, map, flat_map, length, slice_get, take, Option, None, Some, option_map, IfSome, if◌then◌else◌}
 use Rattle.std.specs.declared.string.String.{String}
 use Rattle.std.specs.Option.{option_map_or}
 use Rattle.std.specs.List.{list_any}
 use Rattle.std.specs.List.Sorted.{IsStrictlyIncreasing}
 use Rattle.std.specs.String.{string_bytes}
 use Rattle.std.proofs.Common.{refl, ap, get_or, sym, subst, ◌∙◌, ◌≢◌, suc, zero, arith, add-one, append_assoc, append-nil}
-use Rattle.std.proofs.lemmas.List.{map-append, length-map}
+use Rattle.std.proofs.lemmas.List.{length-map, take_all}
 use Rattle.std.proofs.lemmas.List.Elements.{All-map}
 use Rattle.std.proofs.lemmas.List.Kept.{AllPairs-cons}
 use Rattle.std.proofs.lemmas.Option.{get_or_from_slice_get, slice_get-map, slice_get_within}
-use Rattle.entity_set.specs.Members.{Entities}
 use Rattle.query_cache.specs.Kept.{Kept as Lists}
 use Rattle.query_model.specs.Local.{is_local}
 use Rattle.query_model.specs.Query.{Query}
@@ -26,8 +25,9 @@ use Rattle.ecs_model.specs.traits.Keeps.{IsWellFormed}
 use Rattle.watch_meaning.specs.Mentions.{times}
 use Rattle.watch_meaning.specs.Since.{IsAfter}
 use Rattle.ecs_observe.specs.Following.{lists_of}
-use Rattle.ecs_observe.specs.Parts.{held_as, held_of, placed_in}
-use Rattle.ecs_observe.specs.Standing.{ArePlaced, Held, IsHeld, IsNow, IsSession, Standing, WasNow, has_searched, is_compared, is_monitor, is_searched, rows_of, rows_put, session_of, stored_of, told_to, with_placed, with_rows, with_these, with_these_at}
+use Rattle.ecs_observe.specs.Parts.{ArePlaced, held_as, held_of, kept_rows, with_all_kept, with_kept_at}
+use Rattle.ecs_observe.specs.Standing.{Held, IsHeld, IsNow, IsSession, Standing, WasNow, has_searched, is_compared, is_monitor, is_searched, rows_of, rows_put, session_of, stored_of, told_to, with_rows, with_these}
+use Rattle.ecs_observe.specs.declared.moves.RowsAfter.{RowsAfter}
 use Rattle.ecs_observe.specs.declared.stored.StoredQuery.{StoredQuery}
 use Rattle.ecs_observe.proofs.Answering.{matching_ascends}
 use Rattle.ecs_observe.proofs.Staying.{told_now, with_rows_told}
@@ -65,9 +65,53 @@ module _ {A : Type 0} where
       subst P (get_or_from_slice_get (map held_of es) i one one there) (all i one (slice_get_within (map held_of es) i one there))
 
 -- ---- the rows that were told are kept
-placed_more : (ps : List (ℕ × List ℕ)) (n : ℕ) (these : List ℕ) (hs : List Held) → with_placed (ps ++ (n, these) ∷ []) hs ≡ with_placed ps (with_these_at n these hs)
-placed_more [] n these hs = refl
-placed_more (p ∷ ps) n these hs = ap (with_these_at p.0 p.1) (placed_more ps n these hs)
+module _ {A : Type 0} where
+  pub placed_more : (ps : List (ℕ × RowsAfter A)) (n : ℕ) (rows : RowsAfter A) (es : List (String A × StoredQuery A)) → with_all_kept (ps ++ (n, rows) ∷ []) es ≡ with_all_kept ps (with_kept_at n rows es)
+  placed_more [] n rows es = refl
+  placed_more (p ∷ ps) n rows es = ap (with_kept_at p.0 p.1) (placed_more ps n rows es)
+
+  -- those before the place stay
+  before_stay : (n : ℕ) (rows : RowsAfter A) (es : List (String A × StoredQuery A)) → take n (with_kept_at n rows es) ≡ take n es
+  before_stay zero rows [] = refl
+  before_stay zero rows (e ∷ es) = refl
+  before_stay (suc n) rows [] = refl
+  before_stay (suc n) rows (e ∷ es) = ap (λ xs. e ∷ xs) (before_stay n rows es)
+
+  -- stored queries that agree with others on one more, agree with them there and before
+  agree_there : (i : ℕ) (gs es : List (String A × StoredQuery A)) (e : String A × StoredQuery A) → take (suc i) gs ≡ take (suc i) es → slice_get es i ≡ Some e → slice_get gs i ≡ Some e
+  agree_there zero [] [] e same there = there
+  agree_there zero [] (x ∷ es) e same there = cc
+  agree_there zero (g ∷ gs) [] e same there = cc
+  agree_there zero (g ∷ gs) (x ∷ es) e same there = cc
+  agree_there (suc i) [] [] e same there = there
+  agree_there (suc i) [] (x ∷ es) e same there = cc
+  agree_there (suc i) (g ∷ gs) [] e same there = cc
+  agree_there (suc i) (g ∷ gs) (x ∷ es) e same there = let rest : take (suc i) gs ≡ take (suc i) es = cc in agree_there i gs es e rest there
+
+  agree_before : (i : ℕ) (gs es : List (String A × StoredQuery A)) → take (suc i) gs ≡ take (suc i) es → take i gs ≡ take i es
+  agree_before zero gs es same = refl
+  agree_before (suc i) [] [] same = refl
+  agree_before (suc i) [] (x ∷ es) same = cc
+  agree_before (suc i) (g ∷ gs) [] same = cc
+  agree_before (suc i) (g ∷ gs) (x ∷ es) same =
+      let first : g ≡ x = cc in
+      let rest : take (suc i) gs ≡ take (suc i) es = cc in
+      (λ j. first j ∷ agree_before i gs es rest j)
+
+-- these as the entities of the rows of the one at a place, if there is one
+abbrev with_these_at : ℕ → List ℕ → List Held → List Held
+with_these_at n these [] = []
+with_these_at zero these (h ∷ hs) = record h { these = these } ∷ hs
+with_these_at (suc n) these (h ∷ hs) = h ∷ with_these_at n these hs
+
+module _ {A : Type 0} where
+  kept_there : (n : ℕ) (rows : RowsAfter A) (es : List (String A × StoredQuery A)) (e : String A × StoredQuery A) → slice_get es n ≡ Some e
+      → map held_of (with_kept_at n rows es) ≡ with_these_at n (kept_rows rows (e.1).these).items (map held_of es)
+  kept_there n rows [] e there = refl
+  kept_there zero rows (x ∷ es) e there =
+      let same : x ≡ e = cc in
+      ap (λ (y : String A × StoredQuery A). record (held_of x) { these = (kept_rows rows (y.1).these).items } ∷ map held_of es) same
+  kept_there (suc n) rows (x ∷ es) e there = ap (λ hs. held_of x ∷ hs) (kept_there n rows es e there)
 
 rows_more : (rs : List (Option (List ℕ))) (these : List ℕ) (hs : List Held) → with_rows (rs ++ Some these ∷ []) hs ≡ with_rows rs (with_these_at (length rs) these hs)
 rows_more [] these [] = refl
@@ -81,41 +125,57 @@ rows_none [] (h ∷ hs) = refl
 rows_none (r ∷ rs) [] = refl
 rows_none (r ∷ rs) (h ∷ hs) = ap (λ xs. with_these r h ∷ xs) (rows_none rs hs)
 
+taken_length : (f : Held → Option (List ℕ)) (hs : List Held) (i : ℕ) (h : Held) → slice_get hs i ≡ Some h → i ≡ length (map f (take i hs))
+taken_length f [] i h there = cc
+taken_length f (x ∷ hs) zero h there = refl
+taken_length f (x ∷ hs) (suc i) h there = ap suc (taken_length f hs i h there)
+
 -- one stored query more, at whose place something is put or not
-module _ (f : Held → Option (List ℕ)) where
-  taken_length : (hs : List Held) (i : ℕ) (h : Held) → slice_get hs i ≡ Some h → i ≡ length (map f (take i hs))
-  taken_length [] i h there = cc
-  taken_length (x ∷ hs) zero h there = refl
-  taken_length (x ∷ hs) (suc i) h there = ap suc (taken_length hs i h there)
+module _ {A : Type 0} (f : Held → Option (List ℕ)) (es : List (String A × StoredQuery A)) where
+  abbrev hs : List Held
+  hs = map held_of es
 
-  module _ (hs : List Held) (i : ℕ) (h : Held) (there : slice_get hs i ≡ Some h) (placed more : List (ℕ × List ℕ)) (so : ArePlaced (map f (take i hs)) placed) where
-    rows_next : (o : Option (List ℕ)) → f h ≡ o → map f (take (i + 1) hs) ≡ map f (take i hs) ++ o ∷ []
-    rows_next o is =
-        let step : map f (take (i + 1) hs) ≡ map f (take i hs) ++ f h ∷ [] = rw add-one (map_more f hs i h there) in
-        step ∙ ap (λ r. map f (take i hs) ++ r ∷ []) is
+  -- what is put of the first m is what is to be put of these, whatever stands behind them
+  abbrev pub ArePlacedUpTo : ℕ → List (ℕ × RowsAfter A) → Type 0
+  ArePlacedUpTo m placed = (gs : List (String A × StoredQuery A)) → take m gs ≡ take m es → map held_of (with_all_kept placed gs) ≡ with_rows (map f (take m hs)) (map held_of gs)
 
-    pub one_placed : (these : List ℕ) → f h ≡ Some these → more ≡ placed ++ (i, these) ∷ [] → ArePlaced (map f (take (i + 1) hs)) more
-    one_placed these is e = λ gs.
-        ap (λ ps. with_placed ps gs) e
-        ∙ (placed_more placed i these gs
-        ∙ (so (with_these_at i these gs)
-        ∙ (ap (λ n. with_rows (map f (take i hs)) (with_these_at n these gs)) (taken_length hs i h there)
-        ∙ (sym (rows_more (map f (take i hs)) these gs) ∙ ap (λ rs. with_rows rs gs) (sym (rows_next (Some these) is))))))
+  pub none_yet : (placed : List (ℕ × RowsAfter A)) → placed ≡ [] → ArePlacedUpTo 0 placed
+  none_yet placed none = λ gs same. ap (λ ps. map held_of (with_all_kept ps gs)) none
 
-    pub none_placed : f h ≡ None → more ≡ placed → ArePlaced (map f (take (i + 1) hs)) more
-    none_placed is e = λ gs.
-        ap (λ ps. with_placed ps gs) e ∙ (so gs ∙ (sym (rows_none (map f (take i hs)) gs) ∙ ap (λ rs. with_rows rs gs) (sym (rows_next None is))))
+  pub all_placed : (m : ℕ) (placed : List (ℕ × RowsAfter A)) → length hs ≤ m → ArePlacedUpTo m placed → ArePlaced f placed es
+  all_placed m placed all so = so es refl ∙ ap (λ xs. with_rows (map f xs) hs) (take_all m hs all)
 
--- the entities of one more query's rows
-pub placed_pushed : (rows all : List (ℕ × Entities)) (n : ℕ) (these : Entities) → all ≡ rows ++ (n, these) ∷ [] → placed_in all ≡ placed_in rows ++ (n, these.items) ∷ []
-placed_pushed rows all n these e = ap placed_in e ∙ map-append (λ (p : ℕ × Entities). (p.0, (p.1).items)) rows ((n, these) ∷ [])
+  module _ (i : ℕ) (placed more : List (ℕ × RowsAfter A)) (so : ArePlacedUpTo i placed) where
+    rows_next : (h : Held) (o : Option (List ℕ)) → slice_get hs i ≡ Some h → f h ≡ o → map f (take (suc i) hs) ≡ map f (take i hs) ++ o ∷ []
+    rows_next h o there is = map_more f hs i h there ∙ ap (λ r. map f (take i hs) ++ r ∷ []) is
 
-module _ {A : Type 0} where
-  -- one of those that were told is put in its place
-  module _ (rows old : List (ℕ × Entities)) (n : ℕ) (these : Entities) (es : List (String A × StoredQuery A)) (goal : List Held)
-      (popped : old ≡ rows ++ (n, these) ∷ []) (so : with_placed (placed_in old) (map held_of es) ≡ goal) where
-    pub put_step : with_placed (placed_in rows) (with_these_at n these.items (map held_of es)) ≡ goal
-    put_step = sym (placed_more (placed_in rows) n these.items (map held_of es)) ∙ (ap (λ ps. with_placed ps (map held_of es)) (sym (placed_pushed rows old n these popped)) ∙ so)
+    next : ArePlacedUpTo (suc i) more → ArePlacedUpTo (i + 1) more
+    next one = subst (λ n. ArePlacedUpTo n more) (one_more i) one
+      where
+        one_more : (i : ℕ) → suc i ≡ i + 1
+        one_more i = omega arith
+
+    pub one_placed : (e : String A × StoredQuery A) (rows : RowsAfter A) → slice_get es i ≡ Some e → f (held_of e) ≡ Some (kept_rows rows (e.1).these).items → more ≡ placed ++ (i, rows) ∷ [] → ArePlacedUpTo (i + 1) more
+    one_placed e rows there is put = next (λ gs same.
+        let these : List ℕ = (kept_rows rows (e.1).these).items in
+        let held : slice_get hs i ≡ Some (held_of e) = slice_get-map held_of es i ∙ ap (option_map held_of) there in
+        ap (λ ps. map held_of (with_all_kept ps gs)) put
+        ∙ ap (map held_of) (placed_more placed i rows gs)
+        ∙ so (with_kept_at i rows gs) (before_stay i rows gs ∙ agree_before i gs es same)
+        ∙ ap (with_rows (map f (take i hs))) (kept_there i rows gs e (agree_there i gs es e same there))
+        ∙ ap (λ n. with_rows (map f (take i hs)) (with_these_at n these (map held_of gs))) (taken_length f hs i (held_of e) held)
+        ∙ sym (rows_more (map f (take i hs)) these (map held_of gs))
+        ∙ ap (λ rs. with_rows rs (map held_of gs)) (sym (rows_next (held_of e) (Some these) held is)))
+
+    none_placed : (h : Held) → slice_get hs i ≡ Some h → f h ≡ None → more ≡ placed → ArePlacedUpTo (i + 1) more
+    none_placed h there is put = next (λ gs same.
+        ap (λ ps. map held_of (with_all_kept ps gs)) put
+        ∙ so gs (agree_before i gs es same)
+        ∙ sym (rows_none (map f (take i hs)) (map held_of gs))
+        ∙ ap (λ rs. with_rows rs (map held_of gs)) (sym (rows_next h None there is)))
+
+  pub none_put_there : (i : ℕ) (placed : List (ℕ × RowsAfter A)) (h : Held) → ArePlacedUpTo i placed → slice_get hs i ≡ Some h → f h ≡ None → ArePlacedUpTo (i + 1) placed
+  none_put_there i placed h so there none = none_placed i placed placed so h there none refl
 
 -- ---- the session
 same_stored : (w : WorldState) (hs : List Held) → map stored_of (map (told_now w) hs) ≡ map stored_of hs
@@ -211,13 +271,13 @@ none_after s e =
 
 -- ---- the same of a session as a call takes it
 -- what is held after the rows were put in their places
-pub put_told : (s : Standing) → IsSession s → IsWellFormed (s.world).state → (changed : Changed) → s.waiting ≡ Some changed → (placed : List (ℕ × List ℕ)) (left : List Held)
-    → ArePlaced (map (rows_put (s.world).state changed) s.stored) placed → left ≡ with_placed placed s.stored → left ≡ map (told_now (s.world).state) s.stored
-put_told s session kept changed waiting placed left are put =
+pub put_told : (s : Standing) → IsSession s → IsWellFormed (s.world).state → (changed : Changed) → s.waiting ≡ Some changed → (left : List Held)
+    → left ≡ with_rows (map (rows_put (s.world).state changed) s.stored) s.stored → left ≡ map (told_now (s.world).state) s.stored
+put_told s session kept changed waiting left put =
     let w = (s.world).state in
     let after : IsAfter w changed = subst (λ o. IfSome o (IsAfter w)) waiting session.after in
     let was : All (WasNow w changed) s.stored = subst (λ o. IfSome o (λ done. All (WasNow w done) s.stored)) waiting session.before in
-    put ∙ (are s.stored ∙ with_rows_told w changed kept after s.stored was)
+    put ∙ with_rows_told w changed kept after s.stored was
 
 module _ (s now : Standing) (view_is : s ≡ now) where
   module _ (left : List Held) (put : left ≡ map (told_now (s.world).state) s.stored) (n : ℕ) where

@@ -20,14 +20,15 @@ use Rattle.query_plan.specs.Plans.{Plan}
 use Rattle.plan_steps.specs.Nobody.{begins_with_this}
 use Rattle.ecs_observe.specs.Following.{Follows, FollowsAt, FollowsIfSome, IsPlannedNow, IsUpToDate, IsUpToDateAt, PlansAt, ReadsList, RefusesKept, StaysOrIsPlanned, SyncsList, begins_in_list, list_at, plan_at, plan_of, with_list, with_list_at}
 use Rattle.ecs_observe.specs.Lists.{HasList, HaveLists}
-use Rattle.ecs_observe.specs.Parts.{held_of}
-use Rattle.ecs_observe.specs.Standing.{Held, IsSession, Standing, session_of, with_these_at}
+use Rattle.ecs_observe.specs.Parts.{held_of, with_kept, with_kept_at}
+use Rattle.ecs_observe.specs.Standing.{Held, IsSession, Standing, session_of}
 use Rattle.ecs_observe.specs.Stored.{entries_in, entries_of, made_of}
 use Rattle.ecs_observe.specs.declared.errors.SessionError.{SessionError}
 use Rattle.ecs_observe.specs.declared.errors.SessionError.TheVariants.{Refused, Memory}
+use Rattle.ecs_observe.specs.declared.moves.RowsAfter.{RowsAfter}
 use Rattle.ecs_observe.specs.declared.queries.StoredQueries.{StoredQueries}
 use Rattle.ecs_observe.specs.declared.stored.StoredQuery.{StoredQuery}
-use Rattle.ecs_observe.proofs.Entries.{as_many, held_written, lists_written, look_stored, stored_in}
+use Rattle.ecs_observe.proofs.Entries.{as_many, entry_written, lists_written, look_stored, stored_in}
 use Rattle.ecs_observe.proofs.Found.{is_key, named, seen}
 use Rattle.ecs_observe.proofs.KeptFound.{kept_found, other_kind}
 use Rattle.ecs_observe.proofs.Listed.{kept_kind}
@@ -53,15 +54,10 @@ module _ {A : Type 0} (bs : List (Boxed (StoredQuery A) A)) (i : ℕ) (x : Boxed
       (get_or-map (λ (b : Boxed (StoredQuery A) A). (b.value.name, query_in b)) bs i x (name_in x, query_in x) low ∙ ap (λ (b : Boxed (StoredQuery A) A). (b.value.name, query_in b)) (here x))
       (all i (name_in x, query_in x) (omega (arith, low, as_many bs)))
 
-  module _ (y : Boxed (StoredQuery A) A) (these : List ℕ) (name : name_in y ≡ name_in x) (kind : (query_in y).kind ≡ (query_in x).kind) (query : ((query_in y).plan).query ≡ ((query_in x).plan).query)
-      (same : ((query_in y).these).items ≡ these) (list : (query_in y).list ≡ (query_in x).list) (steps : ((query_in y).plan).steps ≡ ((query_in x).plan).steps) where
-    with_those : (d : Boxed (StoredQuery A) A) → held_of (name_in y, query_in y) ≡ record (held_of (name_in (get_or bs i d), query_in (get_or bs i d))) { these = these }
-    with_those d =
-        (λ j. record { name = string_bytes (name j); kind = kind j; query = query j; these = same j; list = list j; steps = steps j })
-        ∙ ap (λ (b : Boxed (StoredQuery A) A). record (held_of (name_in b, query_in b)) { these = these }) (sym (here d))
-
-    pub kept_held : map held_of (entries_in (slice_set bs i y)) ≡ with_these_at i these (map held_of (entries_in bs))
-    kept_held = held_written name_in query_in bs i y these low with_those
+  pub kept_entries : (y : Boxed (StoredQuery A) A) (rows : RowsAfter A) → name_in y ≡ name_in x → query_in y ≡ with_kept rows (query_in x) → entries_in (slice_set bs i y) ≡ with_kept_at i rows (entries_in bs)
+  kept_entries y rows name query =
+      entry_written name_in query_in bs i y rows low (λ d. name ∙ ap (λ (b : Boxed (StoredQuery A) A). name_in b) (sym (here d)))
+      (λ d. query ∙ ap (λ (b : Boxed (StoredQuery A) A). with_kept rows (query_in b)) (sym (here d)))
 
 -- y is written over x, which is the one of a name
 module _ {A : Type 0} (n : List ℕ) (w : world.Standing) (s t : StoredQueries A) (waiting : Option Changed) (compared : ℕ) (i : ℕ) (x y : Boxed (StoredQuery A) A)

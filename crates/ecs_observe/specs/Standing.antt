@@ -1,5 +1,5 @@
 -- What is seen of a session, and the session of the definitions that it is.
-use Rattle.std.specs.Prelude.{◌≡◌, ◌≢◌, ℕ, zero, suc, ◌≤◌, Bool, true, false, not, ◌&&◌, List, [], ◌∷◌, All, AllPairs, map, flat_map, length, Option, Some, None, option_map, IfSome, Ok, if◌then◌else◌}
+use Rattle.std.specs.Prelude.{◌≡◌, ◌≢◌, ℕ, ◌≤◌, Bool, true, false, not, ◌&&◌, List, [], ◌∷◌, All, AllPairs, map, flat_map, length, Option, Some, None, option_map, IfSome, Ok, if◌then◌else◌}
 use Rattle.std.specs.List.{list_any}
 use Rattle.std.specs.List.Sorted.{IsStrictlyIncreasing}
 use Rattle.std.specs.Option.{option_map_or}
@@ -96,21 +96,6 @@ abbrev pub with_rows : List (Option (List ℕ)) → List Held → List Held
 with_rows [] hs = hs
 with_rows (these ∷ rows) [] = []
 with_rows (these ∷ rows) (h ∷ hs) = with_these these h ∷ with_rows rows hs
-
--- stored queries with these as the entities of the rows of the one at a place, if there is one
-abbrev pub with_these_at : ℕ → List ℕ → List Held → List Held
-with_these_at n these [] = []
-with_these_at zero these (h ∷ hs) = record h { these = these } ∷ hs
-with_these_at (suc n) these (h ∷ hs) = h ∷ with_these_at n these hs
-
--- the same of one place after another, the last first
-abbrev pub with_placed : List (ℕ × List ℕ) → List Held → List Held
-with_placed [] hs = hs
-with_placed (p ∷ placed) hs = with_these_at p.0 p.1 (with_placed placed hs)
-
--- the rows that are put are those at these places, and no others
-abbrev pub ArePlaced : List (Option (List ℕ)) → List (ℕ × List ℕ) → Type 0
-ArePlaced rows placed = (hs : List Held) → with_placed placed hs ≡ with_rows rows hs
 
 -- a stored query that is current, and one of its kind
 pub record IsHeld (w : WorldState) (h : Held) : Type 0 where

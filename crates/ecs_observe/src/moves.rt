@@ -1,10 +1,11 @@
 //! Who leaves and who enters the rows of a monitor whose query isn't local.
 
-ghost use Rattle.std.specs.Prelude.{◌≡◌, ◌&&◌, ◌||◌, ◌++◌, ◌∷◌, [], IfOk, OnOk, filter, not, if◌then◌else◌};
+ghost use Rattle.std.specs.Prelude.{◌≡◌, ℕ, ◌&&◌, ◌||◌, ◌++◌, ◌∷◌, [], IfOk, OnOk, filter, not, if◌then◌else◌};
 ghost use Rattle.std.specs.List.Sorted.{IsStrictlyIncreasing};
 ghost use Rattle.ecs_model.specs.rows.View.{view_of};
 ghost use Rattle.ecs_model.specs.stored.Watches.{matching, missing_from};
 ghost use Rattle.ecs_observe.specs.Moves.{IsTold, is_among};
+ghost use Rattle.ecs_observe.specs.Parts.{kept_rows, kept_set};
 ghost use Rattle.query_meaning.specs.Standing.{IsCurrentIn};
 ghost use Rattle.touched_entities.specs.Before.{view_before};
 ghost use Rattle.watch_meaning.specs.Since.{IsAfter};
@@ -19,12 +20,13 @@ use entity_set::EntitySet;
 use std::alloc::{AllocError, Allocator};
 use touched_entities::{Moved, who_may_have_moved};
 
-/// The entities of a monitor's rows after a command, with those who left the rows by it and those who entered them. Both ascend.
+/// The entities of a monitor's rows after a command, by those who left the rows by it and those who entered them. Both ascend.
 #[derive(Drop)]
 pub(crate) struct RowsAfter<A: Allocator> {
     pub(crate) left: Indexes<A>,
     pub(crate) entered: Indexes<A>,
-    pub(crate) these: EntitySet<A>,
+    /// All of them, unless the moves can be made in the set of those before the command.
+    pub(crate) these: Option<EntitySet<A>>,
 }
 
 /// The rows of a monitor whose query isn't local, after a command. Where all who may have moved are found, their ids or a search tell who of them is in
@@ -44,7 +46,7 @@ pub(crate) fn rows_after<A: Allocator + Copy>(
     requires was { query.now.these.items ≡ matching (view_before world.now.state changes.now) (query.now.plan).query }
     ensures left { IfOk result (λ rows. rows.left.items ≡ missing_from query.now.these.items (matching (view_of world.now.state) (query.now.plan).query)) }
     ensures entered { IfOk result (λ rows. rows.entered.items ≡ missing_from (matching (view_of world.now.state) (query.now.plan).query) query.now.these.items) }
-    ensures these { IfOk result (λ rows. rows.these.items ≡ matching (view_of world.now.state) (query.now.plan).query) }
+    ensures these { IfOk result (λ rows. (kept_rows rows query.now.these).items ≡ matching (view_of world.now.state) (query.now.plan).query) }
 {
     let bonds = query.plan.bonds();
     match who_may_have_moved(alloc, world, changes, query.plan.query(), bonds)? {
@@ -66,19 +68,42 @@ fn rows_by_asking<A: Allocator + Copy>(
     requires told { IsTold (query.now.plan).query world.now.state query.now.these.items moved.now.all.items moved.now.sure.items moved.now.asked.items }
     ensures left { IfOk result (λ rows. rows.left.items ≡ missing_from query.now.these.items (matching (view_of world.now.state) (query.now.plan).query)) }
     ensures entered { IfOk result (λ rows. rows.entered.items ≡ missing_from (matching (view_of world.now.state) (query.now.plan).query) query.now.these.items) }
-    ensures these { IfOk result (λ rows. rows.these.items ≡ matching (view_of world.now.state) (query.now.plan).query) }
+    ensures these { IfOk result (λ rows. (kept_rows rows query.now.these).items ≡ matching (view_of world.now.state) (query.now.plan).query) }
 {
     world.keeps();
     let found = found_among(alloc, world, &query.plan, room, moved.asked.as_slice())?;
     let told = told_of(alloc, &query.these, moved, found.as_slice())?;
-    let these = query
-        .these
-        .moved(alloc, told.left.as_slice(), told.entered.as_slice())?;
+    let these = set_if_full(
+        alloc,
+        &query.these,
+        told.left.as_slice(),
+        told.entered.as_slice(),
+    )?;
     Ok(RowsAfter {
         left: told.left,
         entered: told.entered,
         these,
     })
+}
+
+/// The set after some have left it and some have entered it, if it has no room for all of these: else they can be exchanged in it.
+///
+/// Fails where memory is refused.
+fn set_if_full<A: Allocator + Copy>(
+    alloc: A,
+    these: &EntitySet<A>,
+    left: &[u32],
+    entered: &[u32],
+) -> Result<Option<EntitySet<A>>, AllocError>
+    ensures ascends { IfOk result (λ set. IsStrictlyIncreasing (kept_set set left.now entered.now these.now).items) }
+    ensures members { IfOk result (λ set. (e : ℕ) → is_among (kept_set set left.now entered.now these.now).items e
+        ≡ ((is_among these.now.items e && not (is_among left.now e)) || is_among entered.now e)) }
+{
+    if these.has_room(entered) {
+        return Ok(None);
+    }
+    let moved = these.moved(alloc, left, entered)?;
+    Ok(Some(moved))
 }
 
 /// The rows where all are taken.
@@ -91,7 +116,7 @@ fn rows_by_all<A: Allocator + Copy>(
     requires current { IsCurrentIn world.now.state (query.now.plan).query }
     ensures left { IfOk result (λ rows. rows.left.items ≡ missing_from query.now.these.items (matching (view_of world.now.state) (query.now.plan).query)) }
     ensures entered { IfOk result (λ rows. rows.entered.items ≡ missing_from (matching (view_of world.now.state) (query.now.plan).query) query.now.these.items) }
-    ensures these { IfOk result (λ rows. rows.these.items ≡ matching (view_of world.now.state) (query.now.plan).query) }
+    ensures these { IfOk result (λ rows. (kept_rows rows query.now.these).items ≡ matching (view_of world.now.state) (query.now.plan).query) }
 {
     let these = whole_rows(alloc, world, &query.plan, compared)?;
     let left = query.these.without(alloc, &these)?;
@@ -99,7 +124,7 @@ fn rows_by_all<A: Allocator + Copy>(
     Ok(RowsAfter {
         left: Indexes::from_vec(left),
         entered: Indexes::from_vec(entered),
-        these,
+        these: Some(these),
     })
 }
 

@@ -8,16 +8,15 @@ ghost use Rattle.std.specs.Option.{option_copied};
 ghost use Rattle.std.specs.String.{string_bytes};
 ghost use Rattle.ecs_model.specs.stored.Watches.{is_told};
 ghost use Rattle.ecs_observe.specs.Lists.{KeepLists};
-ghost use Rattle.ecs_observe.specs.Parts.{held_of};
-ghost use Rattle.ecs_observe.specs.Standing.{with_these_at};
+ghost use Rattle.ecs_observe.specs.Parts.{with_kept_at};
 ghost use Rattle.ecs_observe.specs.Stored.{AreLedTo, IsOpened, IsStored, entries_of, made_of};
 ghost use Rattle.ecs_observe.specs.Telling.{is_locally_at};
 ghost use Rattle.name_order.specs.Order.{IsPlaceOf, is_key};
 ghost use Rattle.touched_entities.specs.Concerned.{has_births_or_deaths};
 
+use crate::moves::RowsAfter;
 use crate::stored::{StoredQuery, is_told};
 use ecs_world::Changes;
-use entity_set::EntitySet;
 use std::alloc::{AllocError, Allocator};
 use std::hash::RandomState;
 use watch_index::laws::whom_changes_concern_they_lead_to;
@@ -177,15 +176,15 @@ impl<A: Allocator> StoredQueries<A> {
         Some(made)
     }
 
-    /// Keeps these as the entities of the rows of the one at a place, if there is one.
-    pub(crate) fn keep(&mut self, place: usize, these: EntitySet<A>)
+    /// Keeps the entities of the rows of the one at a place as they are after a command, if there is one.
+    pub(crate) fn keep(&mut self, place: usize, rows: RowsAfter<A>)
         requires stored { IsStored self.old }
-        ensures held { map held_of (entries_of self.new) ≡ with_these_at place these.items (map held_of (entries_of self.old)) }
+        ensures held { entries_of self.new ≡ with_kept_at place rows (entries_of self.old) }
         ensures lists { KeepLists (entries_of self.old) (entries_of self.new) }
         ensures stored { IsStored self.new }
     {
         if place < self.all.order.made.len() {
-            self.all.order.made[place].value.value.keep(these);
+            self.all.order.made[place].value.value.keep(rows);
         }
     }
 }

@@ -7,10 +7,10 @@ ghost use Rattle.ecs_observe.specs.Standing.{IsSession, session_of};
 ghost use Rattle.query_meaning.specs.Standing.{IsCurrentIn};
 ghost use Rattle.query_model.specs.Query.{Query};
 
+use crate::moves::RowsAfter;
 use crate::queries::StoredQueries;
 use asking_room::AskingRoom;
 use ecs_world::{Changes, World};
-use entity_set::EntitySet;
 use std::alloc::{AllocError, Allocator, Global};
 use std::hash::RandomState;
 use std::marker::Model;
@@ -27,7 +27,7 @@ pub struct Session<A: Allocator = Global> {
     /// Room for the searches of monitors, of one after another.
     pub(crate) room: AskingRoom<A>,
     /// Room for the rows of monitors that a command moves.
-    pub(crate) rows: Vec<(usize, EntitySet<A>), A>,
+    pub(crate) rows: Vec<(usize, RowsAfter<A>), A>,
     pub(crate) alloc: A,
 }
 

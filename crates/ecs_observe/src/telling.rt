@@ -7,8 +7,8 @@ ghost use Rattle.std.specs.String.{string_bytes};
 ghost use Rattle.ecs_model.specs.stored.Session.{after_events, events};
 ghost use Rattle.ecs_observe.specs.Following.{lists_of};
 ghost use Rattle.ecs_observe.specs.Lists.{KeepLists};
-ghost use Rattle.ecs_observe.specs.Parts.{held_as, held_of, placed_in, put_in};
-ghost use Rattle.ecs_observe.specs.Standing.{ArePlaced, IsHeld, WasNow, has_searched, is_compared, is_monitor, is_searched, is_told_locally, rows_put, session_of, told_to, with_placed};
+ghost use Rattle.ecs_observe.specs.Parts.{ArePlaced, held_as, held_of, put_in, with_all_kept};
+ghost use Rattle.ecs_observe.specs.Standing.{IsHeld, WasNow, has_searched, is_compared, is_monitor, is_searched, is_told_locally, rows_put, session_of, told_to};
 ghost use Rattle.ecs_observe.specs.Stored.{AreLedTo, IsStored, entries_of};
 ghost use Rattle.ecs_observe.specs.Telling.{AreTouchedBy, any_locally_at};
 ghost use Rattle.query_model.specs.Local.{is_local};
@@ -16,12 +16,11 @@ ghost use Rattle.touched_entities.specs.Concerned.{is_concerned};
 ghost use Rattle.watch_meaning.specs.Since.{IsAfter};
 
 use crate::Session;
-use crate::moves::rows_after;
+use crate::moves::{RowsAfter, rows_after};
 use crate::queries::StoredQueries;
 use crate::stored::StoredQuery;
 use asking_room::AskingRoom;
 use ecs_world::{Changes, World};
-use entity_set::EntitySet;
 use local_queries::{Touched, local_told};
 use std::alloc::{AllocError, Allocator};
 use touched_entities::{is_concerned, touched};
@@ -67,7 +66,7 @@ impl<A: Allocator + Copy> Session<A> {
     }
 }
 
-/// Puts what all stored queries are told behind other events, by those that the command leads to. Gives the entities of their rows now, each with the
+/// Puts what all stored queries are told behind other events, by those that the command leads to. Gives the moves of their rows, each with the
 /// place of its query, unless they stay. Counts the whole rows taken.
 fn tell_led<A: Allocator + Copy>(
     alloc: A,
@@ -75,7 +74,7 @@ fn tell_led<A: Allocator + Copy>(
     changes: &Changes<A>,
     stored: &StoredQueries<A>,
     room: &mut AskingRoom<A>,
-    rows: &mut Vec<(usize, EntitySet<A>), A>,
+    rows: &mut Vec<(usize, RowsAfter<A>), A>,
     compared: &mut u64,
     events: &mut Vec<Event<A>, A>,
 ) -> Result<(), AllocError>
@@ -84,7 +83,7 @@ fn tell_led<A: Allocator + Copy>(
     requires held { All (IsHeld world.now.state) (map held_of (entries_of stored.now)) }
     requires was { All (WasNow world.now.state changes.now) (map held_of (entries_of stored.now)) }
     requires none { rows.old.items ≡ [] }
-    ensures rows { OnOk result (ArePlaced (map (rows_put world.now.state changes.now) (map held_of (entries_of stored.now))) (placed_in rows.new.items)) }
+    ensures rows { OnOk result (ArePlaced (rows_put world.now.state changes.now) rows.new.items (entries_of stored.now)) }
     ensures told { OnOk result (events.new.items ≡ events.old.items ++ flat_map (told_to world.now.state changes.now) (map held_of (entries_of stored.now))) }
     ensures compared { list_any (is_searched changes.now) (map held_of (entries_of stored.now)) ≡ false → compared.new ≡ compared.old }
 {
@@ -122,8 +121,8 @@ fn is_told_locally_at<A: Allocator>(stored: &StoredQueries<A>, places: &[usize])
     places.iter().any(|place| stored.is_told_locally_at(*place))
 }
 
-/// Puts what all stored queries are told behind other events, by those at these places: no other is told anything. Gives the entities of their
-/// rows now, each with the place of its query, unless they stay. Counts the whole rows taken.
+/// Puts what all stored queries are told behind other events, by those at these places: no other is told anything. Gives the moves of their
+/// rows, each with the place of its query, unless they stay. Counts the whole rows taken.
 fn tell_all<A: Allocator + Copy>(
     alloc: A,
     world: &World<A>,
@@ -132,7 +131,7 @@ fn tell_all<A: Allocator + Copy>(
     stored: &StoredQueries<A>,
     places: &[usize],
     room: &mut AskingRoom<A>,
-    rows: &mut Vec<(usize, EntitySet<A>), A>,
+    rows: &mut Vec<(usize, RowsAfter<A>), A>,
     compared: &mut u64,
     events: &mut Vec<Event<A>, A>,
 ) -> Result<(), AllocError>
@@ -144,7 +143,7 @@ fn tell_all<A: Allocator + Copy>(
     requires within { All (λ i. i < length (entries_of stored.now)) places.now }
     requires led { AreLedTo changes.now (entries_of stored.now) places.now }
     requires none { rows.old.items ≡ [] }
-    ensures rows { OnOk result (ArePlaced (map (rows_put world.now.state changes.now) (map held_of (entries_of stored.now))) (placed_in rows.new.items)) }
+    ensures rows { OnOk result (ArePlaced (rows_put world.now.state changes.now) rows.new.items (entries_of stored.now)) }
     ensures told { OnOk result (events.new.items ≡ events.old.items ++ flat_map (told_to world.now.state changes.now) (map held_of (entries_of stored.now))) }
     ensures compared { list_any (is_searched changes.now) (map held_of (entries_of stored.now)) ≡ false → compared.new ≡ compared.old }
 {
@@ -154,15 +153,15 @@ fn tell_all<A: Allocator + Copy>(
             let now = tell_one(
                 alloc, world, changes, touched, name, query, room, compared, events,
             )?;
-            if let Some(these) = now {
-                rows.push((*place, these))?;
+            if let Some(after) = now {
+                rows.push((*place, after))?;
             }
         }
     }
     Ok(())
 }
 
-/// Puts what a stored query is told behind other events, and answers the entities of its rows now, unless those that are held stay. Most observers
+/// Puts what a stored query is told behind other events, and answers the moves of its rows, unless those that are held stay. Most observers
 /// are told nothing, which is asked first.
 fn tell_one<A: Allocator + Copy>(
     alloc: A,
@@ -174,12 +173,12 @@ fn tell_one<A: Allocator + Copy>(
     room: &mut AskingRoom<A>,
     compared: &mut u64,
     events: &mut Vec<Event<A>, A>,
-) -> Result<Option<EntitySet<A>>, AllocError>
+) -> Result<Option<RowsAfter<A>>, AllocError>
     requires after { IsAfter world.now.state changes.now }
     requires held { IsHeld world.now.state (held_as (string_bytes name.now) query.now) }
     requires was { WasNow world.now.state changes.now (held_as (string_bytes name.now) query.now) }
     requires touched { is_told_locally (held_as (string_bytes name.now) query.now) ≡ true → AreTouchedBy world.now.state changes.now touched.now }
-    ensures rows { IfOk result (λ rows. put_in rows ≡ rows_put world.now.state changes.now (held_as (string_bytes name.now) query.now)) }
+    ensures rows { IfOk result (λ rows. put_in rows query.now.these ≡ rows_put world.now.state changes.now (held_as (string_bytes name.now) query.now)) }
     ensures told { OnOk result (events.new.items ≡ events.old.items ++ told_to world.now.state changes.now (held_as (string_bytes name.now) query.now)) }
     ensures compared { is_searched changes.now (held_as (string_bytes name.now) query.now) ≡ false → compared.new ≡ compared.old }
 {
@@ -197,7 +196,7 @@ fn tell_one<A: Allocator + Copy>(
     Ok(None)
 }
 
-/// Puts what a monitor whose query isn't local is told behind other events, and answers the entities of its rows now, unless the command doesn't
+/// Puts what a monitor whose query isn't local is told behind other events, and answers the moves of its rows, unless the command doesn't
 /// concern its query. Counts the whole rows taken.
 fn tell_compared<A: Allocator + Copy>(
     alloc: A,
@@ -208,12 +207,12 @@ fn tell_compared<A: Allocator + Copy>(
     room: &mut AskingRoom<A>,
     compared: &mut u64,
     events: &mut Vec<Event<A>, A>,
-) -> Result<Option<EntitySet<A>>, AllocError>
+) -> Result<Option<RowsAfter<A>>, AllocError>
     requires after { IsAfter world.now.state changes.now }
     requires held { IsHeld world.now.state (held_as (string_bytes name.now) query.now) }
     requires was { WasNow world.now.state changes.now (held_as (string_bytes name.now) query.now) }
     requires compared { is_compared (held_as (string_bytes name.now) query.now) ≡ true }
-    ensures rows { IfOk result (λ rows. put_in rows ≡ rows_put world.now.state changes.now (held_as (string_bytes name.now) query.now)) }
+    ensures rows { IfOk result (λ rows. put_in rows query.now.these ≡ rows_put world.now.state changes.now (held_as (string_bytes name.now) query.now)) }
     ensures told { OnOk result (events.new.items ≡ events.old.items ++ told_to world.now.state changes.now (held_as (string_bytes name.now) query.now)) }
     ensures compared { is_searched changes.now (held_as (string_bytes name.now) query.now) ≡ false → compared.new ≡ compared.old }
 {
@@ -228,7 +227,7 @@ fn tell_compared<A: Allocator + Copy>(
         entered: rows.entered.as_slice(),
     };
     tell_moves(alloc, world, changes, name.as_bytes(), moves, events)?;
-    Ok(Some(rows.these))
+    Ok(Some(rows))
 }
 
 /// Puts what an event observer is told behind other events.
@@ -277,13 +276,13 @@ fn tell_locally<A: Allocator + Copy>(
 }
 
 /// Keeps the entities of the rows that stored queries were told, where they don't stay.
-fn put_rows<A: Allocator>(stored: &mut StoredQueries<A>, rows: &mut Vec<(usize, EntitySet<A>), A>)
+fn put_rows<A: Allocator>(stored: &mut StoredQueries<A>, rows: &mut Vec<(usize, RowsAfter<A>), A>)
     requires stored { IsStored stored.old }
-    ensures held { map held_of (entries_of stored.new) ≡ with_placed (placed_in rows.old.items) (map held_of (entries_of stored.old)) }
+    ensures held { entries_of stored.new ≡ with_all_kept rows.old.items (entries_of stored.old) }
     ensures lists { KeepLists (entries_of stored.old) (entries_of stored.new) }
     ensures stored { IsStored stored.new }
 {
-    while let Some((place, these)) = rows.pop() {
-        stored.keep(place, these);
+    while let Some((place, after)) = rows.pop() {
+        stored.keep(place, after);
     }
 }

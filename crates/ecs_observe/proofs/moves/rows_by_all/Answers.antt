@@ -1,6 +1,7 @@
 use Rattle.std.proofs.Common.{ap, ◌∙◌}
 use Rattle.std.proofs.lemmas.Result.{IfOk-from_err}
 use Rattle.ecs_model.specs.stored.Watches.{missing_from}
+use Rattle.ecs_observe.specs.Parts.{kept_set}
 use Rattle.ecs_observe.proofs.moves.rows_by_all.Goals as goal
 
 pub returns-clause-left : goal.returns-clause-left
@@ -17,3 +18,7 @@ returns-in_err-entered-clause-entered g c = IfOk-from_err c.from_residual-in_err
 
 pub returns-in_err-entered-clause-these : goal.returns-in_err-entered-clause-these
 returns-in_err-entered-clause-these g c = IfOk-from_err c.from_residual-in_err-entered.result _ c.from_residual-in_err-entered.ensures.0
+
+pub returns-clause-these : goal.returns-clause-these
+unfolding kept_set
+returns-clause-these g c = c.in_ok-these.ensures.rows

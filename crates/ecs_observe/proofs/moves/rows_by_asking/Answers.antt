@@ -7,6 +7,7 @@ use Rattle.ecs_model.specs.World.{entities}
 use Rattle.ecs_model.specs.rows.View.{view_of}
 use Rattle.ecs_model.specs.stored.Watches.{matching}
 use Rattle.ecs_observe.specs.Moves.{is_among}
+use Rattle.ecs_observe.specs.Parts.{kept_set}
 use Rattle.ecs_observe.proofs.Answering.{matching_ascends}
 use Rattle.ecs_observe.proofs.Moving.{entered_are, left_are, moved_are}
 use Rattle.ecs_observe.proofs.moves.rows_by_asking.Goals as goal
@@ -53,5 +54,7 @@ returns-clause-these g c =
     let are = c.as_slice-2.ensures.value ∙ (c.in_ok-found.ensures ∙ ap (filter (is_among now)) c.as_slice.ensures.value) in
     let left = c.in_ok-told.ensures.left ∙ left_are w q before _ _ _ c.as_slice-2.result.now c.requires.told c.requires.ascends now refl up are in
     let entered = c.in_ok-told.ensures.entered ∙ entered_are w q before _ _ _ c.as_slice-2.result.now c.requires.told c.requires.ascends now refl up are in
-    moved_are before now c.as_slice-3.result.now c.as_slice-4.result.now c.in_ok-these.these.items (c.as_slice-3.ensures ∙ left) (c.as_slice-4.ensures ∙ entered)
-    c.in_ok-these.ensures.ascends up c.in_ok-these.ensures.members
+    let set = c.in_ok-these.these in
+    (λ i. (kept_set set (sym c.as_slice-3.ensures i) (sym c.as_slice-4.ensures i) c.args.query.now.these).items)
+    ∙ moved_are before now c.as_slice-3.result.now c.as_slice-4.result.now (kept_set set c.as_slice-3.result.now c.as_slice-4.result.now c.args.query.now.these).items
+    (c.as_slice-3.ensures ∙ left) (c.as_slice-4.ensures ∙ entered) c.in_ok-these.ensures.ascends up c.in_ok-these.ensures.members

@@ -1,14 +1,14 @@
 -- Those at the places are told one after another, and between them all are silent.
 use Rattle.std.specs.Prelude.{flat_map, is_some}
 use Rattle.std.specs.String.{string_bytes}
-use Rattle.std.proofs.Common.{◌<◌, ◌∙◌, ◌++◌, ap, arith, get_or, length, map, refl, subst, sym, true≢false}
+use Rattle.std.proofs.Common.{◌+◌, ◌<◌, ◌∙◌, ◌++◌, ap, arith, get_or, length, map, refl, subst, sym, true≢false}
 use Rattle.std.proofs.lemmas.List.{length-map, take_all}
-use Rattle.ecs_observe.specs.Parts.{held_as, held_of, placed_in, put_in}
-use Rattle.ecs_observe.specs.Standing.{ArePlaced, IsHeld, WasNow, is_searched, rows_put, told_to}
+use Rattle.ecs_observe.specs.Parts.{held_as, held_of, put_in}
+use Rattle.ecs_observe.specs.Standing.{IsHeld, WasNow, is_searched, rows_put, told_to}
 use Rattle.ecs_observe.specs.Stored.{entries_of}
 use Rattle.ecs_observe.proofs.Locally.{none_at, one_told_locally}
-use Rattle.ecs_observe.proofs.Retold.{all_at, held_at, placed_pushed}
-use Rattle.ecs_observe.proofs.Skipped.{begin, none_here, put_here, told_all, told_none}
+use Rattle.ecs_observe.proofs.Retold.{ArePlacedUpTo, all_at, all_placed, held_at, none_put_there, none_yet, one_placed}
+use Rattle.ecs_observe.proofs.Skipped.{begin, put_here, told_all, told_none}
 use Rattle.ecs_observe.proofs.Untold.{others_silent}
 use Rattle.ecs_observe.proofs.telling.tell_all.Goals as goal
 use Rattle.ecs_observe.proofs.telling.tell_all.Goals.{in-Some+in_ok-now+in-Some-now+in_ok-push, in-Some+in_ok-now+in_default-now, in_default}
@@ -17,10 +17,12 @@ pub loop-place-init : goal.loop-place-init
 loop-place-init g c =
     let g_told = told_to c.args.world.now.state c.args.changes.now in
     let g_put = rows_put c.args.world.now.state c.args.changes.now in
-    let hs = map held_of (entries_of c.args.stored.now) in
+    let es = entries_of c.args.stored.now in
+    let hs = map held_of es in
     let start = c.args.events.now.items in
+    let placed = c.args.rows.now.items in
     record {
-      told = begin g_told g_put hs start c.args.places.now start (placed_in c.args.rows.now.items) (told_none g_told g_put hs start start (placed_in c.args.rows.now.items) refl (ap placed_in c.requires.none));
+      told = begin g_told g_put hs start (ArePlacedUpTo g_put es) c.args.places.now start placed (told_none g_told g_put hs start (ArePlacedUpTo g_put es) start placed refl (none_yet g_put es placed c.requires.none));
       compared = λ none. refl;
     }
 
@@ -60,27 +62,32 @@ loop-place-preserved g c =
     let low : p < length es = c.requires.within j 0 inside in
     let held_low : p < length hs = omega (arith, low, length-map es held_of) in
     let silent = others_silent w changed es places c.keeps.ensures c.requires.after c.requires.was c.requires.led in
+    let told = told_to w changed in
+    let put = rows_put w changed in
+    let here = put_here told put hs start (ArePlacedUpTo put es) (none_put_there put es) places c.requires.ascend silent j p 0 refl inside in
     elim c.match-get_index.branch [
       | in-Some+in_ok-now+in-Some-now+in_ok-push b ↦
-          let one = held_as (string_bytes b.in-Some.name.now) b.in-Some.query.now in
-          let there = held_at es p b.in-Some.name.now b.in-Some.query.now b.in-Some.ensures.entry in
+          let q = b.in-Some.query.now in
+          let there = held_at es p b.in-Some.name.now q b.in-Some.ensures.entry in
           record {
-            told = put_here (told_to w changed) (rows_put w changed) hs start places c.requires.ascend silent j p 0 refl inside one there held_low c.loop-place.events.items (placed_in c.loop-place.rows.items)
-                c.loop-place.invariant.told (b.in-Some-now.these).items c.match-get_index.events.items (placed_in c.match-get_index.rows.items) (sym b.in_ok-now.ensures.rows ∙ ap put_in b.in-Some-now.is)
+            told = here (held_as (string_bytes b.in-Some.name.now) q) there held_low c.loop-place.events.items c.loop-place.rows.items c.loop-place.invariant.told c.match-get_index.events.items c.match-get_index.rows.items
                 (ap (λ v. v.items) b.events-is ∙ b.in_ok-now.ensures.told)
-                (placed_pushed c.loop-place.rows.items c.match-get_index.rows.items p b.in-Some-now.these (ap (λ v. v.items) b.rows-is ∙ b.in_ok-push.ensures.items));
+                (λ so. one_placed put es p c.loop-place.rows.items c.match-get_index.rows.items so (b.in-Some.name.now, q) b.in-Some-now.after b.in-Some.ensures.entry
+                (sym b.in_ok-now.ensures.rows ∙ ap (λ o. put_in o q.these) b.in-Some-now.is) (ap (λ v. v.items) b.rows-is ∙ b.in_ok-push.ensures.items));
             compared = λ none. b.compared-is
-                ∙ (b.in_ok-now.ensures.compared (none_at es p b.in-Some.name.now b.in-Some.query.now b.in-Some.ensures.entry (is_searched changed) none) ∙ c.loop-place.invariant.compared none);
+                ∙ (b.in_ok-now.ensures.compared (none_at es p b.in-Some.name.now q b.in-Some.ensures.entry (is_searched changed) none) ∙ c.loop-place.invariant.compared none);
           }
       | in-Some+in_ok-now+in_default-now b ↦
-          let one = held_as (string_bytes b.in-Some.name.now) b.in-Some.query.now in
-          let there = held_at es p b.in-Some.name.now b.in-Some.query.now b.in-Some.ensures.entry in
+          let q = b.in-Some.query.now in
+          let one = held_as (string_bytes b.in-Some.name.now) q in
+          let there = held_at es p b.in-Some.name.now q b.in-Some.ensures.entry in
           record {
-            told = none_here (told_to w changed) (rows_put w changed) hs start places c.requires.ascend silent j p 0 refl inside one there held_low c.loop-place.events.items (placed_in c.loop-place.rows.items)
-                c.loop-place.invariant.told c.match-get_index.events.items (placed_in c.match-get_index.rows.items) (sym b.in_ok-now.ensures.rows ∙ ap put_in b.in_default-now.is)
-                (ap (λ v. v.items) b.events-is ∙ b.in_ok-now.ensures.told) (ap (λ v. placed_in v.items) b.rows-is);
+            told = here one there held_low c.loop-place.events.items c.loop-place.rows.items c.loop-place.invariant.told c.match-get_index.events.items c.match-get_index.rows.items
+                (ap (λ v. v.items) b.events-is ∙ b.in_ok-now.ensures.told)
+                (λ so. subst (ArePlacedUpTo put es (p + 1)) (sym (ap (λ v. v.items) b.rows-is))
+                (none_put_there put es p c.loop-place.rows.items one so there (sym b.in_ok-now.ensures.rows ∙ ap (λ o. put_in o q.these) b.in_default-now.is)));
             compared = λ none. b.compared-is
-                ∙ (b.in_ok-now.ensures.compared (none_at es p b.in-Some.name.now b.in-Some.query.now b.in-Some.ensures.entry (is_searched changed) none) ∙ c.loop-place.invariant.compared none);
+                ∙ (b.in_ok-now.ensures.compared (none_at es p b.in-Some.name.now q b.in-Some.ensures.entry (is_searched changed) none) ∙ c.loop-place.invariant.compared none);
           }
       | in_default b ↦ absurd (true≢false (sym (c.get_index.ensures.found.1 low) ∙ ap is_some b.in_default.is))
     ]
@@ -92,8 +99,9 @@ returns-clause-rows g c =
     let es = entries_of c.args.stored.now in
     let hs = map held_of es in
     let silent = others_silent w changed es c.args.places.now c.keeps.ensures c.requires.after c.requires.was c.requires.led in
-    let all = told_all (told_to w changed) (rows_put w changed) hs c.args.events.now.items c.args.places.now c.requires.ascend silent c.loop-place.place-index c.loop-place.events.items (placed_in c.loop-place.rows.items) (omega arith) c.loop-place.invariant.told in
-    subst (λ hs. ArePlaced (map (rows_put w changed) hs) (placed_in c.loop-place.rows.items)) (take_all (length hs) hs (omega arith)) all.rows
+    let put = rows_put w changed in
+    let all = told_all (told_to w changed) put hs c.args.events.now.items (ArePlacedUpTo put es) (none_put_there put es) c.args.places.now c.requires.ascend silent c.loop-place.place-index c.loop-place.events.items c.loop-place.rows.items (omega arith) c.loop-place.invariant.told in
+    all_placed put es (length hs) c.loop-place.rows.items (omega arith) all.rows
 
 pub returns-clause-told : goal.returns-clause-told
 returns-clause-told g c =
@@ -102,5 +110,6 @@ returns-clause-told g c =
     let es = entries_of c.args.stored.now in
     let hs = map held_of es in
     let silent = others_silent w changed es c.args.places.now c.keeps.ensures c.requires.after c.requires.was c.requires.led in
-    let all = told_all (told_to w changed) (rows_put w changed) hs c.args.events.now.items c.args.places.now c.requires.ascend silent c.loop-place.place-index c.loop-place.events.items (placed_in c.loop-place.rows.items) (omega arith) c.loop-place.invariant.told in
+    let put = rows_put w changed in
+    let all = told_all (told_to w changed) put hs c.args.events.now.items (ArePlacedUpTo put es) (none_put_there put es) c.args.places.now c.requires.ascend silent c.loop-place.place-index c.loop-place.events.items c.loop-place.rows.items (omega arith) c.loop-place.invariant.told in
     all.told ∙ ap (λ hs. c.args.events.now.items ++ flat_map (told_to w changed) hs) (take_all (length hs) hs (omega arith))

@@ -5,11 +5,12 @@ use Rattle.name_order.specs.declared.order.Named.{Named}
 use Rattle.name_order.specs.Order.{name_in}
 use Rattle.watch_order.specs.Watched.{Boxed}
 use Rattle.watch_order.specs.declared.watching.Watcher.{Watcher}
+use Rattle.ecs_observe.specs.Parts.{with_kept}
 use Rattle.ecs_observe.specs.Stored.{made_of}
 use Rattle.ecs_observe.specs.declared.stored.StoredQuery.{StoredQuery}
-use Rattle.ecs_observe.proofs.Entries.{held_past, lists_written}
+use Rattle.ecs_observe.proofs.Entries.{entry_past, lists_written}
 use Rattle.ecs_observe.proofs.Listed.{list_kept}
-use Rattle.ecs_observe.proofs.Rewritten.{here_as, kept_held, list_there, query_in}
+use Rattle.ecs_observe.proofs.Rewritten.{here_as, kept_entries, list_there, query_in}
 use Rattle.ecs_observe.proofs.Watches.{still_stored}
 use Rattle.ecs_observe.proofs.queries.StoredQueries.keep.Goals as goal
 
@@ -22,10 +23,7 @@ returns-then-place-len-clause-held g c =
     let is = c.deref_mut.ensures.value in
     let low : i < length bs = omega arith in
     let here = here_as bs i x low c.index_mut.ensures.value in
-    let kind = c.keep.ensures.kind ∙ ap (λ (m : Named (Watcher (StoredQuery g.row.A.Denot) g.row.A.Denot) g.row.A.Denot). (m.value.value).kind) is in
-    let query = ap (λ p. p.query) c.keep.ensures.plan ∙ ap (λ (m : Named (Watcher (StoredQuery g.row.A.Denot) g.row.A.Denot) g.row.A.Denot). ((m.value.value).plan).query) is in
-    kept_held bs i x low here y c.args.these.items (ap (λ (m : Named (Watcher (StoredQuery g.row.A.Denot) g.row.A.Denot) g.row.A.Denot). m.name) is) kind query c.keep.ensures.these (c.keep.ensures.list ∙ ap (λ (m : Named (Watcher (StoredQuery g.row.A.Denot) g.row.A.Denot) g.row.A.Denot). (m.value.value).list) is)
-    (ap (λ p. p.steps) c.keep.ensures.plan ∙ ap (λ (m : Named (Watcher (StoredQuery g.row.A.Denot) g.row.A.Denot) g.row.A.Denot). ((m.value.value).plan).steps) is)
+    kept_entries bs i x low here y c.args.rows (ap (λ (m : Named (Watcher (StoredQuery g.row.A.Denot) g.row.A.Denot) g.row.A.Denot). m.name) is) (c.keep.ensures ∙ ap (λ (m : Named (Watcher (StoredQuery g.row.A.Denot) g.row.A.Denot) g.row.A.Denot). with_kept c.args.rows m.value.value) is)
 
 pub returns-then-place-len-clause-lists : goal.returns-then-place-len-clause-lists
 returns-then-place-len-clause-lists g c =
@@ -36,10 +34,10 @@ returns-then-place-len-clause-lists g c =
     let is = c.deref_mut.ensures.value in
     let low : i < length bs = omega arith in
     let here = here_as bs i x low c.index_mut.ensures.value in
-    let kind = c.keep.ensures.kind ∙ ap (λ (m : Named (Watcher (StoredQuery g.row.A.Denot) g.row.A.Denot) g.row.A.Denot). (m.value.value).kind) is in
+    let kind = ap (λ (q : StoredQuery g.row.A.Denot). q.kind) c.keep.ensures ∙ ap (λ (m : Named (Watcher (StoredQuery g.row.A.Denot) g.row.A.Denot) g.row.A.Denot). (m.value.value).kind) is in
     λ s was.
     lists_written name_in query_in s bs i y
-    (list_kept s (query_in x) c.keep.new.self kind (c.keep.ensures.plan ∙ ap (λ (m : Named (Watcher (StoredQuery g.row.A.Denot) g.row.A.Denot) g.row.A.Denot). (m.value.value).plan) is) (c.keep.ensures.list ∙ ap (λ (m : Named (Watcher (StoredQuery g.row.A.Denot) g.row.A.Denot) g.row.A.Denot). (m.value.value).list) is) (list_there bs i x low here s was)) was
+    (list_kept s (query_in x) c.keep.new.self kind (ap (λ (q : StoredQuery g.row.A.Denot). q.plan) c.keep.ensures ∙ ap (λ (m : Named (Watcher (StoredQuery g.row.A.Denot) g.row.A.Denot) g.row.A.Denot). (m.value.value).plan) is) (ap (λ (q : StoredQuery g.row.A.Denot). q.list) c.keep.ensures ∙ ap (λ (m : Named (Watcher (StoredQuery g.row.A.Denot) g.row.A.Denot) g.row.A.Denot). (m.value.value).list) is) (list_there bs i x low here s was)) was
 
 pub returns-then-place-len-clause-stored : goal.returns-then-place-len-clause-stored
 returns-then-place-len-clause-stored g c =
@@ -50,9 +48,9 @@ returns-then-place-len-clause-stored g c =
     let is = c.deref_mut.ensures.value in
     let low : i < length bs = omega arith in
     let here = here_as bs i x low c.index_mut.ensures.value in
-    let kind = c.keep.ensures.kind ∙ ap (λ (m : Named (Watcher (StoredQuery g.row.A.Denot) g.row.A.Denot) g.row.A.Denot). (m.value.value).kind) is in
-    let query = ap (λ p. p.query) c.keep.ensures.plan ∙ ap (λ (m : Named (Watcher (StoredQuery g.row.A.Denot) g.row.A.Denot) g.row.A.Denot). ((m.value.value).plan).query) is in
+    let kind = ap (λ (q : StoredQuery g.row.A.Denot). q.kind) c.keep.ensures ∙ ap (λ (m : Named (Watcher (StoredQuery g.row.A.Denot) g.row.A.Denot) g.row.A.Denot). (m.value.value).kind) is in
+    let query = ap (λ (q : StoredQuery g.row.A.Denot). (q.plan).query) c.keep.ensures ∙ ap (λ (m : Named (Watcher (StoredQuery g.row.A.Denot) g.row.A.Denot) g.row.A.Denot). ((m.value.value).plan).query) is in
     still_stored c.args.self.now _ i x y low here (ap (λ (m : Named (Watcher (StoredQuery g.row.A.Denot) g.row.A.Denot) g.row.A.Denot). m.name) is) (ap (λ (m : Named (Watcher (StoredQuery g.row.A.Denot) g.row.A.Denot) g.row.A.Denot). m.number) is) (ap (λ (m : Named (Watcher (StoredQuery g.row.A.Denot) g.row.A.Denot) g.row.A.Denot). (m.value).occasions.items) is) kind query refl refl refl refl c.requires.stored
 
 pub returns-else-place-len-clause-held : goal.returns-else-place-len-clause-held
-returns-else-place-len-clause-held g c = held_past name_in query_in (made_of c.args.self.now) c.args.place c.args.these.items (omega arith)
+returns-else-place-len-clause-held g c = entry_past name_in query_in (made_of c.args.self.now) c.args.place c.args.rows (omega arith)

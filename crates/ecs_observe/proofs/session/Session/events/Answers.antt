@@ -1,7 +1,7 @@
 use Rattle.std.proofs.Common.{All, map, ap, subst, ◌∙◌}
 use Rattle.std.specs.List.{list_any}
 use Rattle.std.specs.Prelude.{IfSome}
-use Rattle.ecs_observe.specs.Parts.{held_of, placed_in}
+use Rattle.ecs_observe.specs.Parts.{held_of}
 use Rattle.ecs_observe.specs.Standing.{Standing, WasNow, is_compared}
 use Rattle.ecs_observe.proofs.Retold.{none_for, none_waits_after, none_waits_told, put_told, retold_after, retold_lists, retold_session, told_waits}
 use Rattle.ecs_observe.proofs.Staying.{none_searched}
@@ -21,7 +21,7 @@ tell_led-requires-clause-was g c =
 pub invariant_of-self-2 : goal.invariant_of-self-2
 invariant_of-self-2 g c = (
   retold_session _ c.args.self.now c.self.view_is _
-      (put_told _ c.self.invariant.0 c.keeps.ensures c.in-Some.changes c.in-Some.is (placed_in c.tell_led.new.rows.items) _ c.in_ok-tell_led.ensures.rows c.put_rows.ensures.held)
+      (put_told _ c.self.invariant.0 c.keeps.ensures c.in-Some.changes c.in-Some.is _ (ap (map held_of) c.put_rows.ensures.held ∙ c.in_ok-tell_led.ensures.rows))
       c.tell_led.new.compared c.self.invariant.0 c.keeps.ensures,
   c.put_rows.ensures.lists c.self.inside.world.tables c.self.invariant.1,
   c.put_rows.ensures.stored,
@@ -34,7 +34,7 @@ returns-clause-told g c =
 pub returns-clause-after : goal.returns-clause-after
 returns-clause-after g c =
     retold_after _ c.args.self.now c.self.view_is _
-    (put_told _ c.self.invariant.0 c.keeps.ensures c.in-Some.changes c.in-Some.is (placed_in c.tell_led.new.rows.items) _ c.in_ok-tell_led.ensures.rows c.put_rows.ensures.held)
+    (put_told _ c.self.invariant.0 c.keeps.ensures c.in-Some.changes c.in-Some.is _ (ap (map held_of) c.put_rows.ensures.held ∙ c.in_ok-tell_led.ensures.rows))
     c.tell_led.new.compared
 
 pub returns-clause-compared : goal.returns-clause-compared
@@ -49,5 +49,5 @@ returns-clause-spared g c = λ none.
 pub returns-clause-lists : goal.returns-clause-lists
 returns-clause-lists g c =
     retold_lists _ c.args.self.now c.self.view_is _
-    (put_told _ c.self.invariant.0 c.keeps.ensures c.in-Some.changes c.in-Some.is (placed_in c.tell_led.new.rows.items) _ c.in_ok-tell_led.ensures.rows c.put_rows.ensures.held)
+    (put_told _ c.self.invariant.0 c.keeps.ensures c.in-Some.changes c.in-Some.is _ (ap (map held_of) c.put_rows.ensures.held ∙ c.in_ok-tell_led.ensures.rows))
     c.tell_led.new.compared

@@ -1,5 +1,5 @@
 -- One more stored query is held, or nothing has changed.
-use Rattle.std.proofs.Common.{◌≡◌, ◌≢◌, ◌<◌, ◌++◌, [], ◌∷◌, All, None, length, sym, ap, subst, ◌∙◌}
+use Rattle.std.proofs.Common.{List, ◌≡◌, ◌≢◌, ◌<◌, ◌++◌, [], ◌∷◌, All, None, length, sym, ap, subst, ◌∙◌}
 use Rattle.std.specs.Map.{lookup}
 use Rattle.std.specs.declared.string.String.{String}
 use Rattle.std.specs.String.{string_bytes}
@@ -11,11 +11,12 @@ use Rattle.query_model.specs.Query.{Query}
 use Rattle.watch_meaning.proofs.Pinning.{AreAlive, current_alive}
 use Rattle.ecs_observe.specs.Lists.{HaveLists}
 use Rattle.ecs_observe.specs.Parts.{held_of}
-use Rattle.ecs_observe.specs.Standing.{IsHeld, IsNow, Standing}
+use Rattle.ecs_observe.specs.Standing.{IsHeld, IsNow, IsSession, Standing}
 use Rattle.ecs_observe.specs.Stored.{entries_of}
 use Rattle.ecs_observe.specs.Storing.{with_held}
 use Rattle.ecs_observe.specs.declared.stored.StoredQuery.{StoredQuery}
 use Rattle.ecs_observe.proofs.Entries.{none_of_name}
+use Rattle.ecs_observe.proofs.Found.{seen}
 use Rattle.ecs_observe.proofs.Listed.{lists_more}
 use Rattle.ecs_observe.proofs.OneMore.{one_more_seen, with_held_seen}
 use Rattle.ecs_observe.proofs.Watches.{opened_as}
@@ -30,6 +31,14 @@ pin_all-requires g c =
     let h = subst (λ (s : Standing). IsHeld (s.world).state (held_of (c.args.name, c.args.stored))) (sym c.self.view_is) c.requires.held in
     let same = c.query.ensures ∙ ap queried c.deref.ensures ∙ ap (λ (x : StoredQuery g.row.A.Denot). (x.plan).query) c.in_ok-key.ensures.opened.query in
     subst (AreAlive c.self.inside.world.state) (sym (c.mentions.ensures ∙ ap (λ (q : Query). q.mentions) same)) (current_alive c.self.inside.world.state ((c.args.stored).plan).query h.current)
+
+pub invariant_of-self : goal.invariant_of-self
+invariant_of-self g c =
+    let same = sym c.prepare.ensures.same in (
+      subst (λ (es : List (String g.row.A.Denot × StoredQuery g.row.A.Denot)). IsSession (seen c.self.inside.world es c.self.inside.waiting c.self.inside.compared)) same c.self.invariant.0,
+      subst (HaveLists c.self.inside.world.tables) same c.self.invariant.1,
+      c.in_err-key.ensures.refused,
+    )
 
 pub put-requires : goal.put-requires
 put-requires g c = record {
