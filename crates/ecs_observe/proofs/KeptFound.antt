@@ -1,5 +1,5 @@
 -- The kept query of a name, as a session holds it.
-use Rattle.std.specs.Prelude.{◌≡◌, ◌≢◌, ℕ, All, Bool, true, false, cond, List, [], ◌∷◌, ◌++◌, map, bytes_eq, Option, None, Some, Result, Ok, Err}
+use Rattle.std.specs.Prelude.{◌≡◌, ◌≢◌, ℕ, All, Bool, true, false, cond, List, [], ◌∷◌, length, map, max, bytes_eq, Option, None, Some, Result, Ok, Err}
 use Rattle.std.specs.List.{find}
 use Rattle.std.specs.Option.{option_map_or}
 use Rattle.std.specs.Map.{lookup}
@@ -17,9 +17,12 @@ use Rattle.ecs_model.specs.stored.Watches.{Stored}
 use Rattle.ecs_model.specs.World.{WorldState}
 use Rattle.ecs_model.specs.rows.Text.{rows_text}
 use Rattle.ecs_world.specs.Standing as world
-use Rattle.ecs_observe.specs.Answers.{AnswersRows, WritesRows}
-use Rattle.ecs_observe.specs.declared.errors.SessionError.{SessionError}
-use Rattle.ecs_observe.specs.declared.errors.SessionError.TheVariants.{Refused, Memory}
+use Rattle.world_query.specs.Lines.{lines_of_rows}
+use Rattle.world_query.specs.Sent.{HoldsOneLine, IsSent, StopsSending}
+use Rattle.world_query.specs.declared.sending.SendError.TheVariants as send
+use Rattle.ecs_observe.specs.Answers.{SendsKept, SendsRows}
+use Rattle.ecs_observe.specs.declared.errors.SendRowsError.{SendRowsError}
+use Rattle.ecs_observe.specs.declared.errors.SendRowsError.TheVariants as rows
 use Rattle.ecs_observe.specs.declared.stored.StoredQuery.{StoredQuery}
 use Rattle.ecs_observe.specs.Parts.{held_of}
 use Rattle.ecs_observe.specs.Standing.{Held, IsHeld, IsSession, Standing, session_of, stored_of}
@@ -81,9 +84,19 @@ module _ {A : Type 0} (self : Standing) (w : world.Standing) (es : List (String 
     pub current_found : IsSession (seen w es waiting compared) → IsCurrentIn (self.world).state (s.plan).query
     current_found h = subst (λ (t : Standing). IsCurrentIn (t.world).state (s.plan).query) (sym view) (holds_of_found n (IsHeld w.state) es s h.held there).current
 
+    seen_world : w.state ≡ (session_of self).world
+    seen_world = sym (ap (λ (t : Standing). (t.world).state) view) ∙ sym (world_is self)
+
     -- and it is asked for its rows
-    pub rows_answered : {T : Type 0} (r : Result T SessionError) (before after : List ℕ) → WritesRows r s w.state before after → AnswersRows r (session_of self) n before after
-    rows_answered (Ok x) before after done =
-        ((s.plan).query, kept_found done.0, done.1 ∙ ap (λ (v : WorldState). before ++ rows_text v (s.plan).query) (sym (ap (λ (t : Standing). (t.world).state) view) ∙ sym (world_is self)))
-    rows_answered (Err (Refused reason)) before after refused = (other_kind refused.0 ∙ ap Err (sym refused.1), refused.2)
-    rows_answered (Err Memory) before after memory = tt
+    pub sends_answered : {T : Type 0} (most : ℕ) (r : Result T SendRowsError) (o p : Option (List ℕ)) (before after : List ℕ) → SendsRows most r s w.state o p before after
+        → SendsKept most r (session_of self) n o p before after
+    sends_answered most (Ok x) o p before after done = ((s.plan).query, kept_found done.0, subst (λ v. IsSent o p before after (rows_text v (s.plan).query)) seen_world done.1)
+    sends_answered most (Err (rows.Refused reason)) o p before after refused = (other_kind refused.0 ∙ ap Err (sym refused.1), refused.2, refused.3)
+    sends_answered most (Err (rows.Unsent send.Memory)) o p before after stopped =
+        ((s.plan).query, kept_found stopped.0, subst (λ v. StopsSending o p before after (rows_text v (s.plan).query)) seen_world stopped.1)
+    sends_answered most (Err (rows.Unsent send.Write)) o p before after stopped = (
+      (s.plan).query,
+      kept_found stopped.0,
+      subst (λ v. StopsSending o p before after (rows_text v (s.plan).query)) seen_world stopped.1,
+      subst (λ v. HoldsOneLine (max most (length before)) (lines_of_rows v (s.plan).query) after) seen_world stopped.2,
+    )

@@ -5,7 +5,6 @@ pub mod Counted
 pub mod Entries
 pub mod First
 pub mod Found
-pub mod Fronts
 pub mod KeptFound
 pub mod Obeyed
 pub mod OneLess
@@ -28,3 +27,4 @@ pub mod Watches
 pub mod WholeColumns
 pub mod NoRows
 pub mod KeptRows
+pub mod Sending

@@ -1,6 +1,6 @@
 -- A query that nobody answers prints its count alone.
 use Rattle.std.proofs.Common.{◌≡◌, ℕ, ◌+◌, List, [], ◌∷◌, ◌++◌, refl, sym, ap, ◌∙◌, append_assoc, arith}
-use Rattle.std.specs.Prelude.{OnOk, Result, Ok, Err, codes, decimal, is_ok, if◌then◌else◌}
+use Rattle.std.specs.Prelude.{codes, decimal}
 use Rattle.std.proofs.lemmas.Fmt.{decimal_digit}
 use Rattle.std.proofs.lemmas.List.{append-nil}
 use Rattle.ecs_model.specs.World.{WorldState}
@@ -11,16 +11,10 @@ use Rattle.query_model.specs.Query.{Query}
 use Rattle.query_answers.proofs.Shown.{none_in_order}
 use Rattle.query_answers.proofs.Whole.{text_is}
 
-no_lines : (w : WorldState) (q : Query) → answers (view_of w) q ≡ [] → (start new : List ℕ) → new ≡ start ++ codes "rows 0\n" → new ≡ start ++ rows_text w q
+pub no_lines : (w : WorldState) (q : Query) → answers (view_of w) q ≡ [] → (start new : List ℕ) → new ≡ start ++ codes "rows 0\n" → new ≡ start ++ rows_text w q
 no_lines w q none start new now =
     let plain : 48 + 0 ≡ 48 = omega arith in
     let zero : decimal 0 ≡ 48 ∷ [] = decimal_digit 0 (omega arith) ∙ ap (λ n. n ∷ []) plain in
     let pieces : ((start ++ codes "rows ") ++ (48 ∷ [])) ++ codes "\n" ≡ start ++ codes "rows 0\n" =
     ap (λ t. t ++ codes "\n") (append_assoc start (codes "rows ") (48 ∷ [])) ∙ append_assoc start (codes "rows " ++ (48 ∷ [])) (codes "\n") in
     text_is w q [] (none_in_order (view_of w) q none) start start new 0 (sym (append-nil start)) refl (now ∙ sym pieces ∙ ap (λ t. ((start ++ codes "rows ") ++ t) ++ codes "\n") (sym zero))
-
--- where it could be written
-pub count_alone : {X E : Type 0} (r : Result X E) (w : WorldState) (q : Query) → answers (view_of w) q ≡ [] → (start new : List ℕ)
-    → new ≡ (if is_ok r then start ++ codes "rows 0\n" else start) → OnOk r (new ≡ start ++ rows_text w q)
-count_alone (Ok x) w q none start new now = no_lines w q none start new now
-count_alone (Err e) w q none start new now = tt

@@ -148,7 +148,7 @@ module _ {A : Type 0} (n : List ℕ) (w : world.Standing) (s t : StoredQueries A
         inr (subst (λ o. IfSome o (IsPlannedNow now.world)) (sym plan_is) (subst (λ (u : Standing). IsPlannedNow u.world (query_in y).plan) view h))
 
     -- one that was asked for its rows
-    pub reads_then : {T : Type 0} (r : Result T SessionError) → HasList w.tables (query_in y) → OnOk r (ReadsList w.tables (query_in y))
+    pub reads_then : {T E : Type 0} (r : Result T E) → HasList w.tables (query_in y) → OnOk r (ReadsList w.tables (query_in y))
         → OnOk r (begins_in_list (seen w (entries_of t) waiting compared) n ≡ true → IsUpToDateAt (seen w (entries_of t) waiting compared) n)
     reads_then (Ok r) has h = λ begins.
         let up = h (sym (ap (λ o. option_map_or (λ (p : Plan). begins_with_this p.query p.steps) o false) plan_is) ∙ begins) in record {

@@ -1,5 +1,5 @@
 -- How commands of a session answer.
-use Rattle.std.specs.Prelude.{◌≡◌, ◌≢◌, ⊤, ℕ, List, ◌++◌, Option, Some, None, is_some, Result, Ok, Err, if◌then◌else◌}
+use Rattle.std.specs.Prelude.{◌≡◌, ◌≢◌, ⊤, ℕ, List, length, max, ◌++◌, Option, Some, None, is_some, Result, Ok, Err, if◌then◌else◌}
 use Rattle.std.specs.List.{list_any}
 use Rattle.ecs_id.specs.declared.EntityId.{EntityId}
 use Rattle.ecs_model.specs.Command.{Changed}
@@ -13,6 +13,13 @@ use Rattle.ecs_model.specs.stored.Watches.{is_told}
 use Rattle.ecs_model.specs.World.{WorldState}
 use Rattle.ecs_model.specs.traits.Command.{Command}
 use Rattle.ecs_observe.specs.Standing.{Held, Standing, session_of}
+use Rattle.script_streams.specs.declared.streams.Calls.{Calls}
+use Rattle.script_streams.specs.Streams.{IsCalm, IsFaulty}
+use Rattle.world_query.specs.Lines.{lines_of_rows}
+use Rattle.world_query.specs.Sent.{HoldsOneLine, IsSent, StopsSending}
+use Rattle.world_query.specs.declared.sending.SendError.TheVariants as send
+use Rattle.ecs_observe.specs.declared.errors.SendRowsError.{SendRowsError}
+use Rattle.ecs_observe.specs.declared.errors.SendRowsError.TheVariants as rows
 use Rattle.ecs_observe.specs.declared.errors.SessionError.{SessionError}
 use Rattle.ecs_observe.specs.declared.errors.SessionError.TheVariants.{Refused, Memory}
 use Rattle.ecs_observe.specs.declared.stored.StoredQuery.{StoredQuery}
@@ -47,8 +54,22 @@ AnswersRows (Ok _) s name before after = (q : _) × (kept_query s name ≡ Ok q)
 AnswersRows (Err (Refused reason)) s name before after = (kept_query s name ≡ Err reason) × (after ≡ before)
 AnswersRows (Err Memory) s name before after = ⊤
 
--- the same of a stored query that was found: its rows were written, or it is no kept query and nothing was
-abbrev pub WritesRows : {A T : Type 0} → Result T SessionError → StoredQuery A → WorldState → List ℕ → List ℕ → Type 0
-WritesRows (Ok _) q w before after = (q.kind ≡ Kept) × (after ≡ before ++ rows_text w (q.plan).query)
-WritesRows (Err (Refused reason)) q w before after = (q.kind ≢ Kept) × (reason ≡ UnknownQuery) × (after ≡ before)
-WritesRows (Err Memory) q w before after = ⊤
+-- the rows of a kept query were put behind what was there, and a front of all that may be sent; or there is none of the name, and nothing was
+abbrev pub SendsKept : {T : Type 0} → ℕ → Result T SendRowsError → SessionState → List ℕ → Option (List ℕ) → Option (List ℕ) → List ℕ → List ℕ → Type 0
+SendsKept most (Ok _) s name old new before after = (q : _) × (kept_query s name ≡ Ok q) × IsSent old new before after (rows_text s.world q)
+SendsKept most (Err (rows.Refused reason)) s name old new before after = (kept_query s name ≡ Err reason) × (after ≡ before) × (new ≡ old)
+SendsKept most (Err (rows.Unsent send.Memory)) s name old new before after = (q : _) × (kept_query s name ≡ Ok q) × StopsSending old new before after (rows_text s.world q)
+SendsKept most (Err (rows.Unsent send.Write)) s name old new before after =
+    (q : _) × (kept_query s name ≡ Ok q) × StopsSending old new before after (rows_text s.world q) × HoldsOneLine (max most (length before)) (lines_of_rows s.world q) after
+
+-- the same of a stored query that was found: it is a kept query, or nothing was written
+abbrev pub SendsRows : {A T : Type 0} → ℕ → Result T SendRowsError → StoredQuery A → WorldState → Option (List ℕ) → Option (List ℕ) → List ℕ → List ℕ → Type 0
+SendsRows most (Ok _) q w old new before after = (q.kind ≡ Kept) × IsSent old new before after (rows_text w (q.plan).query)
+SendsRows most (Err (rows.Refused reason)) q w old new before after = (q.kind ≢ Kept) × (reason ≡ UnknownQuery) × (after ≡ before) × (new ≡ old)
+SendsRows most (Err (rows.Unsent send.Memory)) q w old new before after = (q.kind ≡ Kept) × StopsSending old new before after (rows_text w (q.plan).query)
+SendsRows most (Err (rows.Unsent send.Write)) q w old new before after =
+    (q.kind ≡ Kept) × StopsSending old new before after (rows_text w (q.plan).query) × HoldsOneLine (max most (length before)) (lines_of_rows w (q.plan).query) after
+
+-- where the calls of a writer were calm, they are faulty after a fault of a write, and calm after any other answer
+abbrev pub FailsAtSend : {T : Type 0} → Calls → Result T SendRowsError → Calls → Type 0
+FailsAtSend old answer new = IsCalm old → (answer ≡ Err (rows.Unsent send.Write) → IsFaulty new) × (¬ (answer ≡ Err (rows.Unsent send.Write)) → IsCalm new)

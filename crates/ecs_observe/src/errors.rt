@@ -4,6 +4,7 @@ use ecs_model::faults::{CommandError, SessionRefusal};
 use ecs_world::ColumnFault;
 use std::alloc::AllocError;
 use thiserror::Error;
+use world_query::SendError;
 
 /// Why a command of a session was not carried out: a refusal by the rules, or memory that was refused.
 #[derive(Clone, Copy, Debug, PartialEq, Eq, Error)]
@@ -75,5 +76,25 @@ impl From<CommandError> for SessionError {
             }
             CommandError::Memory => SessionError::Memory,
         }
+    }
+}
+
+/// Why the rows of a kept query were not sent: there is none of the name, or memory was refused, or a write failed.
+#[derive(Clone, Copy, Debug, PartialEq, Eq, Error)]
+pub enum SendRowsError {
+    #[error("refused: {0}")]
+    Refused(SessionRefusal),
+    #[error("{0}")]
+    Unsent(SendError),
+}
+
+impl From<SendError> for SendRowsError {
+    ghost use Rattle.std.specs.Prelude.{◌≡◌};
+    ghost use Rattle.ecs_observe.specs.declared.errors.SendRowsError.TheVariants.{Unsent};
+
+    ghost from_gives = { λ error e. e ≡ Unsent error };
+
+    fn from(error: SendError) -> SendRowsError {
+        SendRowsError::Unsent(error)
     }
 }

@@ -22,7 +22,7 @@ mod telling;
 mod watched;
 
 pub use applying::{Answer, Command};
-pub use errors::{SessionError, SetColumnError};
+pub use errors::{SendRowsError, SessionError, SetColumnError};
 pub use references::{EntityRef, IdRef};
 pub use session::Session;
 pub use world_events::{Event, write_event};

@@ -1,5 +1,5 @@
 -- The tables are kept in what is read of the world, and what nobody answers there nobody answers in the world.
-use Rattle.std.proofs.Common.{◌≡◌, [], ap, subst, sym, ◌∙◌}
+use Rattle.std.proofs.Common.{◌≡◌, [], subst, sym}
 use Rattle.ecs_model.specs.rows.Rows.{answers}
 use Rattle.ecs_model.specs.rows.View.{view_of}
 use Rattle.ecs_world.specs.Standing.{Standing}

@@ -1,193 +1,27 @@
--- The stored query of the name is asked for its rows, and its list may be another; or there is none of the name.
-use Rattle.std.specs.Prelude.{option_map}
-use Rattle.std.specs.Box.{with_value}
-use Rattle.std.specs.Vec.{with_item}
-use Rattle.std.proofs.Common.{Some, ap, inl, refl, subst, sym, ◌∙◌}
-use Rattle.name_order.specs.declared.order.Named.{Named}
-use Rattle.watch_order.specs.Watched.{Boxed}
-use Rattle.watch_order.specs.declared.watching.Watcher.{Watcher}
-use Rattle.std.proofs.Math.Seq.{take-length}
-use Rattle.ecs_observe.specs.Following.{FollowsIfSome, StaysOrIsPlanned}
-use Rattle.ecs_observe.specs.Lists.{HasList}
-use Rattle.ecs_observe.specs.Standing.{IsHeld}
-use Rattle.ecs_observe.specs.Stored.{entries_of, made_of}
-use Rattle.ecs_observe.specs.declared.queries.StoredQueries.{StoredQueries}
-use Rattle.ecs_observe.specs.declared.stored.StoredQuery.{StoredQuery}
-use Rattle.ecs_observe.proofs.Entries.{look_stored, stored_in}
-use Rattle.ecs_observe.proofs.Found.{holds_of_found}
-use Rattle.ecs_observe.proofs.KeptFound.{none_kept, rows_answered}
-use Rattle.ecs_observe.proofs.Rewritten.{follows_then, here_as, list_there, planned_then, query_in, reads_then, rewritten_session, same_then, still_lists}
-use Rattle.ecs_observe.proofs.Watches.{still_stored}
+-- All is written where nothing can be sent.
+use Rattle.std.proofs.Common.{subst}
+use Rattle.std.specs.Prelude.{OnErr, Result}
+use Rattle.std.specs.Io.{StartsWith}
+use Rattle.world_query.specs.Sent.{most_usize}
+use Rattle.world_query.proofs.Sent.{sent_nowhere}
+use Rattle.ecs_observe.specs.Standing.{session_of}
+use Rattle.ecs_observe.specs.declared.errors.SendRowsError.{SendRowsError}
+use Rattle.ecs_observe.proofs.Sending.{front_nowhere, refused_nowhere}
 use Rattle.ecs_observe.proofs.session.Session.write_kept_rows.Goals as goal
 
-abbrev Entry : Type 0 → Type 0
-Entry A = Named (Watcher (StoredQuery A) A) A
+pub returns-in-Ok-clause-rows : goal.returns-in-Ok-clause-rows
+returns-in-Ok-clause-rows g c = let rows = c.in-Ok.ensures.rows in (rows.0, rows.1, sent_nowhere _ _ _ rows.2)
 
-abbrev Box : Type 0 → Type 0
-Box A = Boxed (StoredQuery A) A
+pub returns-in-Err-Refused-clause-rows : goal.returns-in-Err-Refused-clause-rows
+returns-in-Err-Refused-clause-rows g c =
+    refused_nowhere most_usize (session_of c.args.self.now) c.args.name.now c.args.out.now.items c.send_kept_rows.new.out.items c.in-Err-Refused.reason (rw c.in-Err-Refused.field-0-is at c.in-Err-Refused.ensures.rows)
 
-pub returns-in_default-clause-rows : goal.returns-in_default-clause-rows
-returns-in_default-clause-rows g c = (
-  none_kept c.args.self.now c.self.inside.world (entries_of c.self.inside.stored) c.self.inside.waiting c.self.inside.compared c.args.name.now (sym c.self.view_is)
-      (look_stored c.args.name.now (made_of c.self.inside.stored) ∙ ap (option_map stored_in) c.in_default.ensures),
-  refl,
-)
+pub returns-in-Err-Refused-clause-front : goal.returns-in-Err-Refused-clause-front
+returns-in-Err-Refused-clause-front g c =
+    let P : Result _ SendRowsError → Type 0 = λ r. OnErr r (StartsWith c.send_kept_rows.new.out.items c.args.out.now.items) in
+    subst P c.in-Err-Refused.is (front_nowhere most_usize (session_of c.args.self.now) c.args.name.now c.args.out.now.items c.send_kept_rows.new.out.items c.send_kept_rows.result c.send_kept_rows.ensures.rows)
 
-pub returns-in_default-clause-lists : goal.returns-in_default-clause-lists
-returns-in_default-clause-lists g c = inl refl
-
-pub write_rows_of-requires-clause-current : goal.write_rows_of-requires-clause-current
-write_rows_of-requires-clause-current g c =
-    let bs = made_of c.self.inside.stored in
-    let i = c.in-Some.place in
-    let x = c.index_mut-made.result.now in
-    let is = c.deref_mut.ensures.value in
-    let low = c.in-Some.ensures.0 in
-    let here = here_as bs i x low c.index_mut-made.ensures.value in
-    let there = look_stored c.args.name.now bs ∙ ap (option_map stored_in) (c.in-Some.ensures.1 x) ∙ ap (λ (b : Box g.row.A.Denot). Some (query_in b)) (here x)
-    ∙ sym (ap (λ (m : Entry g.row.A.Denot). Some (m.value.value)) is) in
-    (holds_of_found c.args.name.now (IsHeld c.self.inside.world.state) (entries_of c.self.inside.stored) c.deref_mut.result.now.value.value (c.self.invariant.0).held there).current
-
-pub write_rows_of-requires-clause-list : goal.write_rows_of-requires-clause-list
-write_rows_of-requires-clause-list g c =
-    let bs = made_of c.self.inside.stored in
-    let i = c.in-Some.place in
-    let x = c.index_mut-made.result.now in
-    let is = c.deref_mut.ensures.value in
-    let low = c.in-Some.ensures.0 in
-    let here = here_as bs i x low c.index_mut-made.ensures.value in
-    subst (λ (m : Entry g.row.A.Denot). HasList c.self.inside.world.tables (m.value.value)) (sym is) (list_there bs i x low here c.self.inside.world.tables c.self.invariant.1)
-
-pub invariant_of-self : goal.invariant_of-self
-invariant_of-self g c =
-    let bs = made_of c.self.inside.stored in
-    let i = c.in-Some.place in
-    let x = c.index_mut-made.result.now in
-    let is = c.deref_mut.ensures.value in
-    let low = c.in-Some.ensures.0 in
-    let here = here_as bs i x low c.index_mut-made.ensures.value in
-    let m = c.deref_mut.result.now in
-    let y : Box g.row.A.Denot = with_value x (record { number = m.number; name = m.name; value = record { occasions = m.value.occasions; value = c.write_rows_of.new.query } }) in
-    let kind = c.write_rows_of.ensures.kind ∙ ap (λ (m : Entry g.row.A.Denot). (m.value.value).kind) is in
-    let query = c.write_rows_of.ensures.query ∙ ap (λ (m : Entry g.row.A.Denot). ((m.value.value).plan).query) is in
-    let these = c.write_rows_of.ensures.these ∙ ap (λ (m : Entry g.row.A.Denot). (m.value.value).these) is in
-    let name = ap (λ (m : Entry g.row.A.Denot). m.name) is in
-    let s = c.self.inside.stored in
-    let t : StoredQueries g.row.A.Denot = record {
-      all = record { order = record { made = with_item s.all.order.made i y; numbers = s.all.order.numbers }; index = s.all.index };
-      watches = s.watches;
-    } in (
-      rewritten_session c.args.name.now c.self.inside.world s t c.self.inside.waiting c.self.inside.compared i x y c.in-Some.ensures here refl name kind query these c.self.invariant.0,
-      still_lists c.args.name.now c.self.inside.world s t c.self.inside.waiting c.self.inside.compared i x y c.in-Some.ensures here refl name kind query these c.self.invariant.0 c.write_rows_of.ensures.list c.self.invariant.1,
-      still_stored s t i x y low here name (ap (λ (m : Entry g.row.A.Denot). m.number) is) (ap (λ (m : Entry g.row.A.Denot). (m.value).occasions.items) is) kind query refl refl refl refl c.self.invariant.2,
-    )
-
-pub returns-clause-rows : goal.returns-clause-rows
-returns-clause-rows g c =
-    let bs = made_of c.self.inside.stored in
-    let i = c.in-Some.place in
-    let x = c.index_mut-made.result.now in
-    let is = c.deref_mut.ensures.value in
-    let low = c.in-Some.ensures.0 in
-    let here = here_as bs i x low c.index_mut-made.ensures.value in
-    let there = look_stored c.args.name.now bs ∙ ap (option_map stored_in) (c.in-Some.ensures.1 x) ∙ ap (λ (b : Box g.row.A.Denot). Some (query_in b)) (here x)
-    ∙ sym (ap (λ (m : Entry g.row.A.Denot). Some (m.value.value)) is) in
-    rows_answered c.args.self.now c.self.inside.world (entries_of c.self.inside.stored) c.self.inside.waiting c.self.inside.compared c.args.name.now (sym c.self.view_is)
-    c.deref_mut.result.now.value.value there c.write_rows_of.result c.args.out.now.items c.write_rows_of.new.out.items c.write_rows_of.ensures.rows
-
-pub returns-clause-same : goal.returns-clause-same
-returns-clause-same g c =
-    let bs = made_of c.self.inside.stored in
-    let i = c.in-Some.place in
-    let x = c.index_mut-made.result.now in
-    let is = c.deref_mut.ensures.value in
-    let low = c.in-Some.ensures.0 in
-    let here = here_as bs i x low c.index_mut-made.ensures.value in
-    let m = c.deref_mut.result.now in
-    let y : Box g.row.A.Denot = with_value x (record { number = m.number; name = m.name; value = record { occasions = m.value.occasions; value = c.write_rows_of.new.query } }) in
-    let kind = c.write_rows_of.ensures.kind ∙ ap (λ (m : Entry g.row.A.Denot). (m.value.value).kind) is in
-    let query = c.write_rows_of.ensures.query ∙ ap (λ (m : Entry g.row.A.Denot). ((m.value.value).plan).query) is in
-    let these = c.write_rows_of.ensures.these ∙ ap (λ (m : Entry g.row.A.Denot). (m.value.value).these) is in
-    let name = ap (λ (m : Entry g.row.A.Denot). m.name) is in
-    let s = c.self.inside.stored in
-    let t : StoredQueries g.row.A.Denot = record {
-      all = record { order = record { made = with_item s.all.order.made i y; numbers = s.all.order.numbers }; index = s.all.index };
-      watches = s.watches;
-    } in
-    same_then c.args.name.now c.self.inside.world s t c.self.inside.waiting c.self.inside.compared i x y
-    c.in-Some.ensures here refl name kind query these c.self.invariant.0 c.args.self.now c.self.view_is
-
-pub returns-clause-lists : goal.returns-clause-lists
-returns-clause-lists g c =
-    let bs = made_of c.self.inside.stored in
-    let i = c.in-Some.place in
-    let x = c.index_mut-made.result.now in
-    let is = c.deref_mut.ensures.value in
-    let low = c.in-Some.ensures.0 in
-    let here = here_as bs i x low c.index_mut-made.ensures.value in
-    let m = c.deref_mut.result.now in
-    let y : Box g.row.A.Denot = with_value x (record { number = m.number; name = m.name; value = record { occasions = m.value.occasions; value = c.write_rows_of.new.query } }) in
-    let kind = c.write_rows_of.ensures.kind ∙ ap (λ (m : Entry g.row.A.Denot). (m.value.value).kind) is in
-    let query = c.write_rows_of.ensures.query ∙ ap (λ (m : Entry g.row.A.Denot). ((m.value.value).plan).query) is in
-    let these = c.write_rows_of.ensures.these ∙ ap (λ (m : Entry g.row.A.Denot). (m.value.value).these) is in
-    let name = ap (λ (m : Entry g.row.A.Denot). m.name) is in
-    let s = c.self.inside.stored in
-    let t : StoredQueries g.row.A.Denot = record {
-      all = record { order = record { made = with_item s.all.order.made i y; numbers = s.all.order.numbers }; index = s.all.index };
-      watches = s.watches;
-    } in
-    follows_then c.args.name.now c.self.inside.world s t c.self.inside.waiting c.self.inside.compared i x y
-    c.in-Some.ensures here refl name kind query these c.self.invariant.0 c.args.self.now c.self.view_is
-    (subst (λ (m : Entry g.row.A.Denot). FollowsIfSome c.self.inside.world.tables (m.value.value) c.write_rows_of.new.query) is c.write_rows_of.ensures.follows)
-
-pub returns-in_default-clause-planned : goal.returns-in_default-clause-planned
-returns-in_default-clause-planned g c = inl refl
-
-pub returns-clause-planned : goal.returns-clause-planned
-returns-clause-planned g c =
-    let bs = made_of c.self.inside.stored in
-    let i = c.in-Some.place in
-    let x = c.index_mut-made.result.now in
-    let is = c.deref_mut.ensures.value in
-    let low = c.in-Some.ensures.0 in
-    let here = here_as bs i x low c.index_mut-made.ensures.value in
-    let m = c.deref_mut.result.now in
-    let y : Box g.row.A.Denot = with_value x (record { number = m.number; name = m.name; value = record { occasions = m.value.occasions; value = c.write_rows_of.new.query } }) in
-    let kind = c.write_rows_of.ensures.kind ∙ ap (λ (m : Entry g.row.A.Denot). (m.value.value).kind) is in
-    let query = c.write_rows_of.ensures.query ∙ ap (λ (m : Entry g.row.A.Denot). ((m.value.value).plan).query) is in
-    let these = c.write_rows_of.ensures.these ∙ ap (λ (m : Entry g.row.A.Denot). (m.value.value).these) is in
-    let name = ap (λ (m : Entry g.row.A.Denot). m.name) is in
-    let s = c.self.inside.stored in
-    let t : StoredQueries g.row.A.Denot = record {
-      all = record { order = record { made = with_item s.all.order.made i y; numbers = s.all.order.numbers }; index = s.all.index };
-      watches = s.watches;
-    } in
-    planned_then c.args.name.now c.self.inside.world s t c.self.inside.waiting c.self.inside.compared i x y
-    c.in-Some.ensures here refl name kind query these c.self.invariant.0 c.args.self.now c.self.view_is
-    (subst (λ (m : Entry g.row.A.Denot). StaysOrIsPlanned c.self.inside.world (m.value.value).plan (c.write_rows_of.new.query).plan) is c.write_rows_of.ensures.planned)
-
-pub returns-clause-reads : goal.returns-clause-reads
-returns-clause-reads g c =
-    let bs = made_of c.self.inside.stored in
-    let i = c.in-Some.place in
-    let x = c.index_mut-made.result.now in
-    let is = c.deref_mut.ensures.value in
-    let low = c.in-Some.ensures.0 in
-    let here = here_as bs i x low c.index_mut-made.ensures.value in
-    let m = c.deref_mut.result.now in
-    let y : Box g.row.A.Denot = with_value x (record { number = m.number; name = m.name; value = record { occasions = m.value.occasions; value = c.write_rows_of.new.query } }) in
-    let kind = c.write_rows_of.ensures.kind ∙ ap (λ (m : Entry g.row.A.Denot). (m.value.value).kind) is in
-    let query = c.write_rows_of.ensures.query ∙ ap (λ (m : Entry g.row.A.Denot). ((m.value.value).plan).query) is in
-    let these = c.write_rows_of.ensures.these ∙ ap (λ (m : Entry g.row.A.Denot). (m.value.value).these) is in
-    let name = ap (λ (m : Entry g.row.A.Denot). m.name) is in
-    let s = c.self.inside.stored in
-    let t : StoredQueries g.row.A.Denot = record {
-      all = record { order = record { made = with_item s.all.order.made i y; numbers = s.all.order.numbers }; index = s.all.index };
-      watches = s.watches;
-    } in
-    reads_then c.args.name.now c.self.inside.world s t c.self.inside.waiting c.self.inside.compared i x y
-    c.in-Some.ensures here refl name kind query these c.self.invariant.0 c.args.self.now c.self.view_is
-    c.write_rows_of.result c.write_rows_of.ensures.list c.write_rows_of.ensures.reads
-
-pub returns-in_default-clause-front : goal.returns-in_default-clause-front
-returns-in_default-clause-front g c = take-length c.args.out.now.items
+pub returns-in-Err-Unsent-clause-front : goal.returns-in-Err-Unsent-clause-front
+returns-in-Err-Unsent-clause-front g c =
+    let P : Result _ SendRowsError → Type 0 = λ r. OnErr r (StartsWith c.send_kept_rows.new.out.items c.args.out.now.items) in
+    subst P c.in-Err-Unsent.is (front_nowhere most_usize (session_of c.args.self.now) c.args.name.now c.args.out.now.items c.send_kept_rows.new.out.items c.send_kept_rows.result c.send_kept_rows.ensures.rows)

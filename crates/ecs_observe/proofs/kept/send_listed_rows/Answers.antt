@@ -5,17 +5,18 @@ use Rattle.query_model.specs.Query.{Query}
 use Rattle.query_plan.specs.Plans.{Plan}
 use Rattle.world_facts.specs.Kept.{AreTablesOf}
 use Rattle.world_query.specs.Answerable.{IsAnswerable}
-use Rattle.ecs_observe.proofs.Fronts.{stays_in_front}
+use Rattle.world_query.proofs.Fronts.{all_starts, on_err_anyway}
+use Rattle.world_query.proofs.Sent.{fault_memory, stops_here}
 use Rattle.ecs_observe.proofs.Answering.{asked_is_sound, current_answerable}
 use Rattle.ecs_observe.specs.Following.{IsUpToDate}
 use Rattle.ecs_observe.proofs.Synced.{follows_again, of_any}
-use Rattle.ecs_observe.proofs.kept.write_listed_rows.Goals as goal
+use Rattle.ecs_observe.proofs.kept.send_listed_rows.Goals as goal
 
 pub plan_if_outgrown-requires-clause-sound : goal.plan_if_outgrown-requires-clause-sound
 plan_if_outgrown-requires-clause-sound g c = asked_is_sound (c.args.plan.now).query c.requires.current.asked
 
-pub write_planned_rows-requires : goal.write_planned_rows-requires
-write_planned_rows-requires g c = record {
+pub send_planned_rows-requires : goal.send_planned_rows-requires
+send_planned_rows-requires g c = record {
   answerable = subst (λ (q : Query). IsAnswerable (view_of c.args.world.now.state) q) (sym (ap (λ (p : Plan). p.query) c.plan.ensures ∙ c.plan_if_outgrown.ensures.query))
       (current_answerable c.args.world.now.state (c.args.plan.now).query c.keeps.ensures c.requires.current);
 }
@@ -23,13 +24,13 @@ write_planned_rows-requires g c = record {
 pub sync-requires : goal.sync-requires
 sync-requires g c = c.plan_if_outgrown.ensures.list.fits
 
-pub write_rows_from-requires-clause-answerable : goal.write_rows_from-requires-clause-answerable
-write_rows_from-requires-clause-answerable g c =
+pub send_rows_from-requires-clause-answerable : goal.send_rows_from-requires-clause-answerable
+send_rows_from-requires-clause-answerable g c =
     subst (λ (q : Query). IsAnswerable (view_of c.args.world.now.state) q) (sym (ap (λ (p : Plan). p.query) c.plan-2.ensures ∙ c.plan_if_outgrown.ensures.query))
     (current_answerable c.args.world.now.state (c.args.plan.now).query c.keeps.ensures c.requires.current)
 
-pub write_rows_from-requires-clause-tables : goal.write_rows_from-requires-clause-tables
-write_rows_from-requires-clause-tables g c =
+pub send_rows_from-requires-clause-tables : goal.send_rows_from-requires-clause-tables
+send_rows_from-requires-clause-tables g c =
     let q = (c.args.plan.now).query in
     subst (λ (x : Query). AreTablesOf x (c.args.world.now).tables c.tables.result.now) (sym (ap (λ (p : Plan). p.query) c.plan-2.ensures ∙ c.plan_if_outgrown.ensures.query))
     (subst (AreTablesOf q (c.args.world.now).tables) (sym c.tables.ensures)
@@ -45,20 +46,30 @@ returns-clause-follows g c =
 
 pub returns-then-not-begins_in_tables-clause-reads : goal.returns-then-not-begins_in_tables-clause-reads
 returns-then-not-begins_in_tables-clause-reads g c =
-    of_any c.write_planned_rows.result (λ begins. absurd (true≢false (sym begins ∙ (sym c.begins_in_tables.ensures ∙ c.if-not-begins_in_tables.true))))
+    of_any c.send_planned_rows.result (λ begins. absurd (true≢false (sym begins ∙ (sym c.begins_in_tables.ensures ∙ c.if-not-begins_in_tables.true))))
 
 pub returns-clause-reads : goal.returns-clause-reads
 returns-clause-reads g c =
     let q = (c.args.plan.now).query in
-    of_any c.write_rows_from.result (λ begins.
+    of_any c.send_rows_from.result (λ begins.
     subst (λ (x : Query). IsUpToDate x (c.args.world.now).tables c.sync.new.self) (sym c.plan_if_outgrown.ensures.query)
     (record { synced = c.in_ok-sync.ensures.synced; tables = record { listed = c.in_ok-sync.ensures.listed q c.plan_if_outgrown.ensures.list.patterns; rising = c.sync.ensures.once } }))
 
+-- where memory is refused before a row is written
 pub returns-in_err-plan_if_outgrown-clause-front : goal.returns-in_err-plan_if_outgrown-clause-front
-returns-in_err-plan_if_outgrown-clause-front g c = stays_in_front _ c.args.out.now.items
+returns-in_err-plan_if_outgrown-clause-front g c = on_err_anyway _ (stops_here _ _ _ _ (all_starts _))
 
 pub returns-in_err-room-clause-front : goal.returns-in_err-room-clause-front
-returns-in_err-room-clause-front g c = stays_in_front _ c.args.out.now.items
+returns-in_err-room-clause-front g c = on_err_anyway _ (stops_here _ _ _ _ (all_starts _))
 
 pub returns-in_err-sync-clause-front : goal.returns-in_err-sync-clause-front
-returns-in_err-sync-clause-front g c = stays_in_front _ c.args.out.now.items
+returns-in_err-sync-clause-front g c = on_err_anyway _ (stops_here _ _ _ _ (all_starts _))
+
+pub returns-in_err-plan_if_outgrown-clause-held : goal.returns-in_err-plan_if_outgrown-clause-held
+returns-in_err-plan_if_outgrown-clause-held g c = fault_memory _ _ _ _ c.from_residual.ensures.1
+
+pub returns-in_err-room-clause-held : goal.returns-in_err-room-clause-held
+returns-in_err-room-clause-held g c = fault_memory _ _ _ _ c.from_residual-in_err-room.ensures.1
+
+pub returns-in_err-sync-clause-held : goal.returns-in_err-sync-clause-held
+returns-in_err-sync-clause-held g c = fault_memory _ _ _ _ c.from_residual-in_err-sync.ensures.1
