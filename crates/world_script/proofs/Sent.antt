@@ -8,17 +8,21 @@ use Rattle.std.specs.declared.alloc.AllocError.{AllocError}
 use Rattle.query_model.specs.Query.{Query}
 use Rattle.ecs_model.specs.Output.{Effect, effect_of}
 use Rattle.ecs_model.specs.Query.{query_of}
-use Rattle.ecs_model.specs.Script.{Ask}
+use Rattle.ecs_model.specs.Script.{Ask, AskKept}
 use Rattle.ecs_model.specs.rows.Text.{rows_text}
 use Rattle.ecs_world.specs.Standing.{Standing as World}
+use Rattle.ecs_observe.specs.Answers.{FailsAtSend, SendsKept}
 use Rattle.ecs_observe.specs.Standing.{Standing, session_of}
-use Rattle.ecs_model.specs.stored.Session.{SessionState}
+use Rattle.ecs_observe.specs.declared.errors.SendRowsError.{SendRowsError}
+use Rattle.ecs_observe.specs.declared.errors.SendRowsError.TheVariants as rows
+use Rattle.ecs_model.specs.declared.faults.SessionRefusal.{SessionRefusal}
+use Rattle.ecs_model.specs.stored.Session.{SessionState, kept_query}
 use Rattle.script_streams.specs.declared.streams.Calls.{Calls}
 use Rattle.script_streams.specs.Lines.{Held, TakesLine}
 use Rattle.script_streams.specs.Streams.{IsCalm, TakesFront}
 use Rattle.world_query.specs.declared.sending.SendError.{SendError}
 use Rattle.world_query.specs.declared.sending.SendError.TheVariants as send
-use Rattle.world_query.specs.Sent.{FailsAtWrite, StopsSending}
+use Rattle.world_query.specs.Sent.{FailsAtWrite, StopsSending, most_usize}
 use Rattle.world_query.proofs.Sent.{calm_memory}
 use Rattle.world_script.specs.declared.errors.RunError.{RunError}
 use Rattle.world_script.specs.declared.errors.RunError.TheVariants as run
@@ -28,7 +32,7 @@ use Rattle.world_script.specs.Running.{HasEnded, HasRun, IsRunning, RunsLine, se
 use Rattle.world_script.specs.Whole.{FaultyAt, WroteFront}
 use Rattle.world_script.proofs.Answered.{apart, err_is}
 use Rattle.world_script.proofs.Faults.{TakesFront-none, WroteFront-at}
-use Rattle.world_script.proofs.Orders.{IsDone-rows}
+use Rattle.world_script.proofs.Orders.{IsDone-kept, IsDone-rows}
 use Rattle.world_script.proofs.Running.{IsRunning-line}
 use Rattle.world_script.proofs.Waiting.{none_waits-line}
 
@@ -46,23 +50,29 @@ memory_apart r memory write = let P : Result _ SendError → Type 0 = λ q. IsEr
 
 -- ---- one line
 
--- nothing is sent
-module _ {W : Type 0} (contents : W → Option (List ℕ)) (calls : W → Calls) (writer : W) (most : ℕ) (e : Effect) (s : SessionState) (before after : List ℕ) where
-  does_unsent : (r : Result Bool AllocError) → IfOk r (IsDone e s before after) → DoesLine e s contents calls writer writer most before after (unsent r)
+-- the writer has taken nothing
+module _ {W : Type 0} (contents : W → Option (List ℕ)) (calls : W → Calls) (old new : W) (most : ℕ) (e : Effect) (s : SessionState) (before after : List ℕ)
+    (same : contents new ≡ contents old) (calms : IsCalm (calls old) → IsCalm (calls new)) (kept : most ≡ most_usize → new ≡ old) where
+  does_unsent : (r : Result Bool AllocError) → IfOk r (IsDone e s before after) → DoesLine e s contents calls old new most before after (unsent r)
   does_unsent (Ok refused) done = record {
-    does = ([], Appends-nil (contents writer), done);
-    writes = λ calm. (λ is. absurd (ok_apart refused is), λ _. calm);
-    kept = λ _. refl;
+    does = ([], subst (λ bytes. Appends (contents old) bytes []) (sym same) (Appends-nil (contents old)), done);
+    writes = λ calm. (λ is. absurd (ok_apart refused is), λ _. calms calm);
+    kept = kept;
   }
   does_unsent (Err error) done = record {
-    does = TakesFront-none (contents writer) (before ++ e.printed);
-    writes = λ calm. (λ is. absurd (memory_apart (Err send.Memory) refl is), λ _. calm);
-    kept = λ _. refl;
+    does = subst (λ bytes. TakesFront (contents old) bytes (before ++ e.printed)) (sym same) (TakesFront-none (contents old) (before ++ e.printed));
+    writes = λ calm. (λ is. absurd (memory_apart (Err send.Memory) refl is), λ _. calms calm);
+    kept = kept;
   }
 
   -- so it is answered
-  pub does_as : (r : Result Bool AllocError) (a : Result Bool SendError) → a ≡ unsent r → IfOk r (IsDone e s before after) → DoesLine e s contents calls writer writer most before after a
-  does_as r a is done = subst (DoesLine e s contents calls writer writer most before after) (sym is) (does_unsent r done)
+  pub does_nothing_as : (r : Result Bool AllocError) (a : Result Bool SendError) → a ≡ unsent r → IfOk r (IsDone e s before after) → DoesLine e s contents calls old new most before after a
+  does_nothing_as r a is done = subst (DoesLine e s contents calls old new most before after) (sym is) (does_unsent r done)
+
+-- where nothing is sent it is the same
+pub does_as : {W : Type 0} (contents : W → Option (List ℕ)) (calls : W → Calls) (writer : W) (most : ℕ) (e : Effect) (s : SessionState) (before after : List ℕ)
+    → (r : Result Bool AllocError) (a : Result Bool SendError) → a ≡ unsent r → IfOk r (IsDone e s before after) → DoesLine e s contents calls writer writer most before after a
+does_as contents calls writer most e s before after r a is done = does_nothing_as contents calls writer writer most e s before after refl (λ calm. calm) (λ _. refl) r a is done
 
 -- memory was refused, and nothing is sent
 pub does_memory : {W : Type 0} (contents : W → Option (List ℕ)) (calls : W → Calls) (writer : W) (most : ℕ) (e : Effect) (s : SessionState) (before after : List ℕ) (r : Result Bool SendError)
@@ -95,6 +105,41 @@ pub asked_stops : (s : Standing) (n : ℕ) (a b : Option (List ℕ)) (before aft
 asked_stops s n a b before after w text q same asked stops =
     let done = IsDone-rows s n before (before ++ rows_text w.state q) w text q same asked refl in
     subst (TakesFront a b) done.printed (takes_stopped a b before after (rows_text w.state q) stops)
+
+-- and those of a kept query
+pub kept_stops : (s : Standing) (n : ℕ) (a b : Option (List ℕ)) (before after name : List ℕ) (q : Query) → kept_query (session_of s) name ≡ Ok q
+    → StopsSending a b before after (rows_text (session_of s).world q) → TakesFront a b (before ++ (effect_of (session_of s) n (AskKept name)).printed)
+kept_stops s n a b before after name q asked stops =
+    let done = IsDone-kept s n before (before ++ rows_text (session_of s).world q) name q asked refl in
+    subst (TakesFront a b) done.printed (takes_stopped a b before after (rows_text (session_of s).world q) stops)
+
+pub rows_stop : (error : SendError) (most : ℕ) (s : Standing) (n : ℕ) (a b : Option (List ℕ)) (before after name : List ℕ) → SendsKept {T = ⊤} most (Err (rows.Unsent error)) (session_of s) name a b before after
+    → TakesFront a b (before ++ (effect_of (session_of s) n (AskKept name)).printed)
+rows_stop send.Memory most s n a b before after name so = kept_stops s n a b before after name so.0 so.1 so.2
+rows_stop send.Write most s n a b before after name so = kept_stops s n a b before after name so.0 so.1 so.2
+
+-- ---- calls of the writer behind the rows of a kept query
+
+abbrev IsUnsent : SendRowsError → Type 0
+IsUnsent (rows.Refused reason) = ⊥
+IsUnsent (rows.Unsent send.Memory) = ⊥
+IsUnsent (rows.Unsent send.Write) = ⊤
+
+other : {T : Type 0} (r : Result T SendRowsError) → ¬ IsErrAnd r IsUnsent → ¬ (r ≡ Err (rows.Unsent send.Write))
+other r none is = let P : Result _ SendRowsError → Type 0 = λ g. IsErrAnd g IsUnsent in none (subst P (sym is) tt)
+
+pub rows_calm : {T : Type 0} (old new : Calls) (x : T) → FailsAtSend old (Ok x) new → IsCalm old → IsCalm new
+rows_calm old new x told calm = (told calm).1 (other (Ok x) (λ none. none))
+
+pub refused_calm : (T : Type 0) (old new : Calls) (reason : SessionRefusal) → FailsAtSend {T = T} old (Err (rows.Refused reason)) new → IsCalm old → IsCalm new
+refused_calm T old new reason told calm = (told calm).1 (other {T = T} (Err (rows.Refused reason)) (λ none. none))
+
+pub rows_fail : (T U : Type 0) (error : SendError) (old new : Calls) → FailsAtSend {T = T} old (Err (rows.Unsent error)) new → FailsAtWrite {T = U} old (Err error) new
+rows_fail T U send.Memory old new told = λ calm. (
+  λ is. absurd (memory_apart {T = U} (Err send.Memory) refl is),
+  λ _. (told calm).1 (other {T = T} (Err (rows.Unsent send.Memory)) (λ none. none)),
+)
+rows_fail T U send.Write old new told = λ calm. (λ _. (told calm).0 refl, λ none. absurd (none refl))
 
 -- no events wait behind a line
 pub none_waits-sent : (r : Result Bool SendError) (a b : Option (List ℕ)) (old new : Standing) (n : ℕ) (line before after : List ℕ) → old.waiting ≡ None

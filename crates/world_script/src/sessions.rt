@@ -19,7 +19,7 @@ use bumpalo::Bump;
 use ecs_id::{EntityId, Id};
 use ecs_model::Kind;
 use ecs_model::watches::StoredKind;
-use ecs_observe::Session;
+use ecs_observe::{SendRowsError, Session, SessionError};
 use ecs_schema::{Schema, SchemaError};
 use query_model::faults::QueryFault;
 use script_line::{
@@ -223,7 +223,7 @@ fn run_form<A: Allocator + Copy, W: Sink>(
         Line::Store { kind, name, text } => unsent(run_store(
             session, number, kind, name, text, output,
         )),
-        Line::Rows { name } => unsent(run_rows(session, number, name, output)),
+        Line::Rows { name } => run_rows(session, number, name, output, most, writer),
         Line::Drop { name } => unsent(run_drop(session, number, name, output)),
     }
 }
@@ -475,18 +475,22 @@ fn run_store<A: Allocator + Copy>(
 }
 
 /// `rows N`
-fn run_rows<A: Allocator + Copy>(
+fn run_rows<A: Allocator + Copy, W: Sink>(
     session: &mut Session<A>,
     number: usize,
     name: &str,
     output: &mut Vec<u8, A>,
-) -> Result<bool, AllocError>
-    ensures { IfOk result (IsDone (effect_of (session_of session.old) number (AskKept name.now))
-        (session_of session.new) output.old.items output.new.items) }
+    most: usize,
+    writer: &mut W,
+) -> Result<bool, SendError>
+    ensures { DoesLine (effect_of (session_of session.old) number (AskKept name.now)) (session_of session.new) W.contents W.calls writer.old writer.new most output.old.items output.new.items result }
 {
-    match session.write_kept_rows(name, output) {
+    match session.send_kept_rows(name, output, most, writer) {
         Ok(()) => Ok(false),
-        Err(error) => tell_error(number, error, output),
+        Err(SendRowsError::Refused(reason)) => {
+            unsent(tell_error(number, SessionError::Refused(reason), output))
+        }
+        Err(SendRowsError::Unsent(error)) => Err(error),
     }
 }
 

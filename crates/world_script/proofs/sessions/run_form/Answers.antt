@@ -50,6 +50,3 @@ returns-in-Store g c = rw c.in-Store.is (does_as _ _ _ _ _ _ _ _ c.run_store.res
 
 pub returns-in-Drop : goal.returns-in-Drop
 returns-in-Drop g c = rw c.in-Drop.is (does_as _ _ _ _ _ _ _ _ c.run_drop.result _ c.unsent-in-Drop.ensures c.run_drop.ensures)
-
-pub returns-in-Rows : goal.returns-in-Rows
-returns-in-Rows g c = rw c.in-Rows.is (does_as _ _ _ _ _ _ _ _ c.run_rows.result _ c.unsent-in-Rows.ensures c.run_rows.ensures)
