@@ -48,6 +48,18 @@ def peak_of(program, script, room):
     return int(subprocess.run(words, stdout=subprocess.PIPE, timeout=120, check=True).stdout)
 
 
+def peak_and_output(program, script):
+    """The peak of resident memory of a run, in KB, and its output. It is read while standard input stays open: at the end of a process the kernel counts what its parent held too."""
+    with subprocess.Popen([program], stdin=subprocess.PIPE, stdout=subprocess.PIPE) as running:
+        running.stdin.write(script + b"fly\n")
+        running.stdin.flush()
+        output = []
+        while not (output and output[-1].startswith(b"error ")):
+            output.append(running.stdout.readline())
+        with open(f"/proc/{running.pid}/status", encoding="ascii") as status:
+            return int(next(line for line in status if line.startswith("VmHWM:")).split()[1]), output[:-1]
+
+
 def answers(ran, status, output=None, complaint=None):
     return ran.returncode == status and output in (None, ran.stdout) and complaint in (None, ran.stderr)
 
@@ -217,6 +229,27 @@ def memory_holds_neither_script_nor_output(program, room):
     return peak_of(program, many, room) - peak_of(program, few, room) <= 10_000
 
 
+def rows_of_one_line_are_written_as_they_come(program, room):
+    """A query and a kept one print 390,625 rows, 13 MB, by one line each: the same, in 2 MB more than the lines before take. A reader who goes away is a write fault."""
+    few = [f"entity {name}" for name in ["A", *(f"T{number}" for number in range(25))]] + [f"add A T{number}" for number in range(25)]
+    query = "*(A), *(A), *(A), *(A)"
+    outputs = []
+    for asked in (f"query {query}", f"keep k {query}\nrows k"):
+        script = "\n".join([*few, asked, ""]).encode()
+        peak, output = peak_and_output(program, script)
+        outputs.append(output)
+        if peak > peak_and_output(program, "\n".join([*few, ""]).encode())[0] + 2_000:
+            return False
+        with subprocess.Popen([program], stdin=subprocess.PIPE, stdout=subprocess.PIPE, stderr=subprocess.PIPE) as running:
+            running.stdin.write(script)
+            running.stdin.close()
+            begun = running.stdout.read(100_000)
+            running.stdout.close()
+            if running.wait(20) != 3 or running.stderr.read() != b"flecsq: write fault\n" or not b"".join(output).startswith(begun):
+                return False
+    return outputs[0] == outputs[1] and len(set(outputs[0])) == 390_626 and outputs[0][-1] == b"rows 390625\n"
+
+
 def two_thousand_lines_take_less_than_two_seconds(program, room):
     names = [f"E{n}" for n in range(500)]
     lines = ["component Position x:i32 y:i32", "entity Planet"]
@@ -367,6 +400,7 @@ CASES = [
     pieces_do_not_matter,
     each_line_is_answered_before_the_next_is_sent,
     memory_holds_neither_script_nor_output,
+    rows_of_one_line_are_written_as_they_come,
     two_thousand_lines_take_less_than_two_seconds,
     colliding_names_take_at_most_twice_as_long,
     walk_through_tables_gives_memory_back,
