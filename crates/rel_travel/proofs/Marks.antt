@@ -1,11 +1,11 @@
 -- Marks and the order of what was found, as one more is found.
-use Rattle.std.proofs.Common.{◌≡◌, subst, ℕ, ◌-◌, ◌*◌, ◌/◌, ◌%◌, ◌^◌, ◌<◌, ◌≤◌, ◌==◌, Bool, true, false, ◌||◌, List, [], ◌∷◌, ◌++◌, length, length-append, get_or, set, take, replicate, max, not, bit_and, bit_or, ◌≢◌, refl, sym, ap, ◌∙◌, inl, inr, arith}
+use Rattle.std.proofs.Common.{◌≡◌, subst, ℕ, ◌+◌, ◌-◌, ◌*◌, ◌/◌, ◌%◌, ◌^◌, ◌<◌, ◌≤◌, ◌==◌, Bool, true, false, ◌||◌, List, [], ◌∷◌, ◌++◌, append-nil, append_assoc, length, length-append, get_or, set, replicate, max, not, bit_and, bit_or, ◌≢◌, refl, sym, ap, ◌∙◌, inl, inr, arith}
 use Rattle.std.specs.Int.{bit_at, div_ceil}
 use Rattle.std.specs.List.{IsDistinct}
 use Rattle.std.specs.Cmp.{nat_eq_equiv}
 use Rattle.std.proofs.lemmas.Bool.{cases_Bool, cases_lt, eq-eqb, eqb-true, true≢false}
 use Rattle.std.proofs.lemmas.List.Folds.{list_any-append}
-use Rattle.std.proofs.lemmas.List.{get_or-append_right, get_or-replicate, get_or-set_other, get_or-set_same, get_or_append_left, get_or_past, length-replicate, length-set, take_all}
+use Rattle.std.proofs.lemmas.List.{get_or-append_right, get_or-replicate, get_or-set_other, get_or-set_same, get_or_append_left, get_or_past, length-replicate, length-set, replicate-append-replicate}
 use Rattle.std.proofs.lemmas.Grind.{get_or-set_at}
 use Rattle.std.proofs.lemmas.Map.Keys.{IsDistinct-push}
 use Rattle.std.proofs.lemmas.Map.Steps.{length-le_from_distinct_below}
@@ -137,16 +137,29 @@ read_wider words n i = elim (cases_lt i (length words)) [
   | inr past ↦ get_or-append_right words (replicate n 0) (length words) i 0 refl past ∙ blank n (i - length words) ∙ sym (get_or_past words i 0 past)
 ]
 
-pub AreMarked-wider : (size : ℕ) (words found : List ℕ) (n : ℕ) → AreMarked size words found → size ≤ n
-    → AreMarked n (take (div_ceil n 64) words ++ replicate (div_ceil n 64 - length words) 0) found
+pub AreMarked-wider : (size : ℕ) (words found : List ℕ) (n : ℕ) → AreMarked size words found → size ≤ n → AreMarked n (words ++ replicate (div_ceil n 64 - length words) 0) found
 AreMarked-wider size words found n m more =
     let long : length words ≤ div_ceil n 64 = omega (arith, m.long, more) in
-    rw (take_all (div_ceil n 64) words long) (record {
+    record {
       long = omega (arith, length-append words (replicate (div_ceil n 64 - length words) 0), length-replicate {A = ℕ} (div_ceil n 64 - length words) 0, long);
       below = λ z a. let l = m.below z a in omega (arith, l, more);
       marked = λ z. ap (λ w. bit_at w (z % 64) == 1) (read_wider words (div_ceil n 64 - length words) (z / 64)) ∙ m.marked z;
       distinct = m.distinct;
-    })
+    }
+
+-- there are no more words than a larger size has
+pub words_within : (size : ℕ) (words found : List ℕ) (n : ℕ) → AreMarked size words found → size ≤ n → length words ≤ div_ceil n 64
+words_within size words found n m more = omega (arith, m.long, more)
+
+-- blank words behind others, before the first and after some more
+pub blank_none : (words : List ℕ) (n : ℕ) → words ≡ words ++ replicate (n - n) 0
+blank_none words n =
+    let none : n - n ≡ 0 = omega arith in
+    sym (ap (λ k. words ++ replicate k 0) none ∙ append-nil words)
+
+pub blank_more : (old now new block : List ℕ) (k more n : ℕ) → now ≡ old ++ replicate k 0 → block ≡ replicate more 0 → new ≡ now ++ block → k + more ≡ n → new ≡ old ++ replicate n 0
+blank_more old now new block k more n was blank is sum =
+    is ∙ (λ i. was i ++ blank i) ∙ append_assoc old (replicate k 0) (replicate more 0) ∙ ap (λ b. old ++ b) (replicate-append-replicate k more 0) ∙ ap (λ s. old ++ replicate s 0) sum
 
 -- nothing is found where there is room for nothing
 pub AreMarked-none : AreMarked 0 [] []

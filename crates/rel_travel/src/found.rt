@@ -1,5 +1,5 @@
 //! What a search has found.
-ghost use Rattle.std.specs.Prelude.{◌≡◌, ◌==◌, ◌≤◌, ◌<◌, ◌/◌, ◌%◌, ◌^◌, [], length, max, slice_index, OnOk, OnErr};
+ghost use Rattle.std.specs.Prelude.{◌≡◌, ◌==◌, ◌-◌, ◌≤◌, ◌<◌, ◌/◌, ◌%◌, ◌^◌, ◌++◌, [], length, max, replicate, slice_index, vec_capacity, vec_len, OnOk, OnErr};
 ghost use Rattle.std.specs.List.{IsDistinct};
 ghost use Rattle.rel_travel.specs.Finds.{is_among, is_marked, none_found, with_find};
 
@@ -8,6 +8,11 @@ use std::marker::Model;
 
 /// How many indexes have their marks in one word.
 const MARKS: u32 = 64;
+
+/// So many words are made at a time.
+const BLOCK: usize = 256;
+
+static BLANK: [u64; BLOCK] = [0; BLOCK];
 
 /// The entities that a search has found, by index: each once, in the order in which they were found.
 ///
@@ -56,6 +61,28 @@ fn is_marked(words: &[u64], index: u32) -> bool
     words[word_of(index)] & bit_of(index) != 0
 }
 
+/// So many words without marks.
+fn blank_block() -> &'static [u64]
+    ensures { result.now ≡ replicate 256 0 }
+{
+    &BLANK
+}
+
+/// Adds words without marks, up to so many. There is room for them.
+///
+/// It copies blocks, where `resize` writes word by word.
+fn add_blank<A: Allocator>(words: &mut Vec<u64, A>, count: usize)
+    requires longer { vec_len words.old ≤ count }
+    requires room { count ≤ vec_capacity words.old }
+    ensures { words.new.items ≡ words.old.items ++ replicate (count - vec_len words.old) 0 }
+{
+    let blank = blank_block();
+    while words.len() < count {
+        let more = (count - words.len()).min(BLOCK);
+        words.extend_from_slice(&blank[..more]).unwrap();
+    }
+}
+
 impl<A: Allocator + Copy> Found<A> {
     /// Nothing found, and room for nothing.
     pub fn new(alloc: A) -> Self
@@ -76,8 +103,10 @@ impl<A: Allocator + Copy> Found<A> {
     {
         let size = size as usize;
         if self.size < size {
+            let words = size.div_ceil(MARKS as usize);
             self.order.reserve(size - self.order.len())?;
-            self.words.resize(size.div_ceil(MARKS as usize), 0)?;
+            self.words.reserve(words - self.words.len())?;
+            add_blank(&mut self.words, words);
             self.size = size;
         }
         Ok(())
