@@ -1,5 +1,5 @@
 -- Which slot has the table of which ids: slots by the hash of ids.
-use Rattle.std.specs.Prelude.{◌≡◌, ◌⊎◌, ℕ, ◌==◌, Bool, false, List, Option, Some, None, nat_eq}
+use Rattle.std.specs.Prelude.{◌≡◌, ◌⊎◌, ℕ, ◌==◌, Bool, IsTrue, false, List, Option, Some, None, nat_eq}
 use Rattle.std.specs.List.{Contains, fold}
 use Rattle.std.specs.Cmp.Lexicographic.{pointwise}
 use Rattle.std.specs.Hash as fed
@@ -45,6 +45,10 @@ is_slot slot (Some first) = first == slot
 
 abbrev pub is_first_of : {Y : Type 0} → ByIds Y → ℕ → ℕ → Bool
 is_first_of by_ids hash slot = is_slot slot (hashed.get nat_eq by_ids.first hash)
+
+-- the slot is no longer found by the hash, unless it stood there twice
+abbrev pub IsTakenOut : {Y : Type 0} → ByIds Y → ByIds Y → ℕ → ℕ → Type 0
+IsTakenOut old new hash slot = HasSlot new hash slot → IsTrue (is_first_of old hash slot) × Contains old.others.items slot
 
 -- each slot that was found is still found
 pub record KeepsSlots {Y : Type 0} (old new : ByIds Y) : Type 0 where

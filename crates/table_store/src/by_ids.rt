@@ -2,7 +2,7 @@
 ghost use Rattle.std.specs.Prelude.{◌≡◌, ◌≢◌, ℕ, false, true, IsSome, IfSome, MatchOption, OnOk};
 ghost use Rattle.std.specs.List.{Contains};
 ghost use Rattle.slab.specs.Slab.{get as slot_at};
-ghost use Rattle.table_store.specs.ByIds.{HasSlot, KeepsSlots, has_ids, ids_hash, is_first_of};
+ghost use Rattle.table_store.specs.ByIds.{HasSlot, IsTakenOut, KeepsSlots, has_ids, ids_hash, is_first_of};
 
 use crate::store::Slots;
 use ecs_id::{Id, TableKey};
@@ -69,6 +69,7 @@ impl<A: Allocator> ByIds<A> {
 
     /// Takes out the slot of a table with these ids.
     pub fn remove(&mut self, ids: &[Id], slot: u32)
+        ensures gone { IsTakenOut self.old self.new (ids_hash self.old.hashing ids.now) slot }
         ensures others { (hash other : ℕ) → other ≢ slot → HasSlot self.old hash other → HasSlot self.new hash other }
         ensures hashing { self.new.hashing ≡ self.old.hashing }
     {
