@@ -101,4 +101,5 @@ form_opened (opening.Set rest) = fact_line set_line rest.now
 form_opened (opening.Add rest) = fact_line (λ r i. nothing_more (Obey (InWorld (AddTo r i)))) rest.now
 form_opened (opening.Remove rest) = fact_line (λ r i. nothing_more (Obey (InWorld (RemoveFrom r i)))) rest.now
 form_opened (opening.Entity rest) = one_word (λ n. Obey (InWorld (MakeEntity n))) (words rest.now)
+form_opened (opening.Rows rest) = one_word AskKept (words rest.now)
 form_opened (opening.Other text) = by_first_word text.now

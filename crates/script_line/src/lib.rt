@@ -105,6 +105,8 @@ pub enum Opening<'a> {
     Remove { rest: &'a str },
     /// `entity ..`
     Entity { rest: &'a str },
+    /// `rows ..`
+    Rows { rest: &'a str },
     /// Any other line, from its start.
     Other { text: &'a str },
 }
@@ -170,6 +172,7 @@ pub fn read_opened<'a, A: Allocator + Copy>(
         Opening::Add { rest } => Ok(line_forms::add_line(rest)),
         Opening::Remove { rest } => Ok(line_forms::remove_line(rest)),
         Opening::Entity { rest } => Ok(line_forms::entity_line(rest)),
+        Opening::Rows { rest } => Ok(line_forms::rows_line(rest)),
         Opening::Other { text } => line_forms::read_form(alloc, text, values),
     }
 }

@@ -32,6 +32,7 @@ pub(crate) fn text_opened(text: &str) -> Opening<'_>
         "add" => Opening::Add { rest },
         "entity" => Opening::Entity { rest },
         "remove" => Opening::Remove { rest },
+        "rows" => Opening::Rows { rest },
         _ => Opening::Other { text },
     }
 }
@@ -112,13 +113,12 @@ pub(crate) fn read_form<'a, A: Allocator + Copy>(
 }
 
 /// Reads a line by its first word, which is none of those that most lines begin with.
-// The words are compared one after another. A `remove` comes here only where there are other blanks around it than one space.
+// The words are compared one after another. `rows` and `remove` come last: a line that was opened comes here with neither.
 #[tactic(auto, unfolding(ecs_model::specs::Script::forms))]
 fn rarer_line<'a, A: Allocator>(word: &str, rest: &'a str) -> Line<'a, A>
     ensures { (values : List ℤ) → seen values result ≡ by_rarer_word word.now rest.now }
 {
     match word {
-        "rows" => rows_line(rest),
         "delete" => delete_line(rest),
         "new" => new_line(rest),
         "show" => show_line(rest),
@@ -129,6 +129,7 @@ fn rarer_line<'a, A: Allocator>(word: &str, rest: &'a str) -> Line<'a, A>
         "monitor" => store_line(StoredKind::Monitor, rest),
         "on" => on_line(rest),
         "drop" => drop_line(rest),
+        "rows" => rows_line(rest),
         "remove" => remove_line(rest),
         _ => Line::Bad,
     }
@@ -175,7 +176,7 @@ fn show_line<'a, A: Allocator>(rest: &'a str) -> Line<'a, A>
 }
 
 /// Reads what stands behind `rows`: one word.
-fn rows_line<'a, A: Allocator>(rest: &'a str) -> Line<'a, A>
+pub(crate) fn rows_line<'a, A: Allocator>(rest: &'a str) -> Line<'a, A>
     ensures { (values : List ℤ) → seen values result ≡ one_word AskKept (words rest.now) }
 {
     match only_word(rest) {

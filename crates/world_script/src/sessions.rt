@@ -78,6 +78,7 @@ fn run_opened<A: Allocator + Copy, W: Sink>(
         Opening::Add { rest } => unsent(run_add_line(session, number, rest, output)),
         Opening::Remove { rest } => unsent(run_remove_line(session, number, rest, output)),
         Opening::Entity { rest } => unsent(run_entity_line(session, number, rest, output)),
+        Opening::Rows { rest } => run_rows_line(session, number, rest, output, most, writer),
         _ => run_rarer(
             alloc, session, number, opening, values, output, most, writer,
         ),
@@ -187,6 +188,24 @@ fn run_entity_line<A: Allocator + Copy>(
     match only_word(rest) {
         Some(name) => run_entity(session, number, name, output),
         None => refuse(number, "BadLine", output),
+    }
+}
+
+/// A line behind its `rows`.
+#[inline(never)]
+fn run_rows_line<A: Allocator + Copy, W: Sink>(
+    session: &mut Session<A>,
+    number: usize,
+    rest: &str,
+    output: &mut Vec<u8, A>,
+    most: usize,
+    writer: &mut W,
+) -> Result<bool, SendError>
+    ensures { DoesLine (effect_of (session_of session.old) number (one_word AskKept (words rest.now))) (session_of session.new) W.contents W.calls writer.old writer.new most output.old.items output.new.items result }
+{
+    match only_word(rest) {
+        Some(name) => run_rows(session, number, name, output, most, writer),
+        None => unsent(refuse(number, "BadLine", output)),
     }
 }
 
