@@ -1,7 +1,8 @@
 #!/usr/bin/env python3
 """untied.py NAME SIZE: queries whose parts nothing ties to one another, of which one has no answer, as a script on standard output.
 
-What is multiplied before that part is asked grows with each part, so the order in which a query's items are dealt with tells.
+What is multiplied before that part is asked grows with each part, so the order in which a query's items are dealt with tells. In `dead` no order
+can know which part that is, and it tells how far a search goes back from a dead end.
 """
 import argparse
 import sys
@@ -44,7 +45,23 @@ def cut(size):
     yield "query A, T($a), T($b), T($c), T($d)"
 
 
-WORKLOADS = {"untied": (untied, [10, 20]), "either": (either, [400, 1600]), "cut": (cut, [20, 40])}
+def dead(size):
+    """Behind one of several branches a search ends dead, whatever the others are."""
+    yield from (f"entity {word}" for word in ["T", "A", "R", "S", "U"])
+    yield from (f"entity {kind}{number}" for kind in "OHXW" for number in range(size))
+    for number in range(size):
+        yield from (f"add O{number} {tag}" for tag in ["U", f"(U,O{number})"])
+        yield from (f"add H{number} {tag}" for tag in ["T", "A"])
+        yield from (f"add H{number} (R,X{target})" for target in range(size))
+        yield f"add X{number} (S,W{number})"
+    branches = ", ".join([f"R($a,${letter})" for letter in "bcdefgh"] + [f"S(${letter},$x{letter})" for letter in "bcdefgh"])
+    yield f"query T($a), {branches}, U($xh)"
+    yield f"query T($a), {branches}, U($xh|up)"
+    yield f"query A, !{{ {branches.replace('$a', '$this')}, U($xh) }}"
+    yield f"query {', '.join(f'R($p{letter},$q{letter}), S($q{letter},$r{letter})' for letter in 'abc')}, S($y,$z), R($z,$u)"
+
+
+WORKLOADS = {"untied": (untied, [10, 20]), "either": (either, [400, 1600]), "cut": (cut, [20, 40]), "dead": (dead, [4, 8])}
 
 
 def script(name, size):

@@ -1,5 +1,6 @@
 #!/usr/bin/env python3
-"""hostile.py names|others COUNT, hostile.py walk STEPS ENTITIES: scripts on standard output that try to wear the program out.
+"""hostile.py names|others COUNT, hostile.py walk STEPS ENTITIES, hostile.py dead BRANCHES TARGETS: scripts on standard output that try to
+wear the program out.
 
 The names are those of an enemy who knows the hash function of std's maps and the state that they begin with where nobody gives
 another: a number is multiplied by another, and the two halves of the product are folded into one by exclusive or. The text is
@@ -83,10 +84,29 @@ def walk_through_tables(steps, entities):
     return ("\n".join(lines) + "\n").encode()
 
 
+def dead_branches(branches, targets):
+    """Two entities with a branch of two steps to each of some targets, as often as is said. Behind the last branch a search ends dead, whatever the
+    others are: by a tag, by `up`, and in a group. In the last query a part ends dead that nothing ties to the others."""
+    lines = [f"entity {word}" for word in ("T", "R", "S", "U", "H0", "H1")]
+    lines += [f"entity {kind}{number}" for kind in "XW" for number in range(targets)] + [f"entity O{number}" for number in range(4)]
+    lines += ["add H0 T", "add H1 T"] + [f"add O{number} {tag}" for number in range(4) for tag in ("U", f"(U,O{number})")]
+    for number in range(targets):
+        lines += [f"add H0 (R,X{number})", f"add H1 (R,X{number})", f"add X{number} (S,W{number})"]
+    several = ", ".join([f"R($a,$b{it})" for it in range(branches)] + [f"S($b{it},$c{it})" for it in range(branches)])
+    last = f"$c{branches - 1}"
+    lines.append(f"query T($a), {several}, U({last})")
+    lines.append(f"query T($a), {several}, U({last}|up)")
+    lines.append(f"query T, !{{ {several.replace('$a', '$this')}, U({last}) }}")
+    lines.append("query " + ", ".join(f"R($a{it},$b{it}), S($b{it},$c{it})" for it in range(branches)) + ", S($y,$x), R($x,$z)")
+    return ("\n".join(lines) + "\n").encode()
+
+
 def main():
     kind, numbers = sys.argv[1], [int(it) for it in sys.argv[2:]]
     if kind == "walk":
         script = walk_through_tables(*numbers)
+    elif kind == "dead":
+        script = dead_branches(*numbers)
     else:
         script = script_of_names({"names": colliding_names, "others": other_names}[kind](*numbers))
     sys.stdout.buffer.write(script)

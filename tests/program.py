@@ -278,6 +278,13 @@ def walk_through_tables_gives_memory_back(program, room):
     return grown <= 10 * 4_032 + 2 * (len(steps) - len(short)) // 1024
 
 
+def dead_ends_lead_back_to_what_they_hang_on(program, room):
+    """Queries of eight branches, each to twenty entities, that fail behind the last: in less than a second."""
+    begun = time.monotonic()
+    ran = run_words(program, [], hostile.dead_branches(8, 20))
+    return time.monotonic() - begun < 1 and answers(ran, 0, b"rows 0\nrows 0\nrow $this=H0 [T@H0]\nrow $this=H1 [T@H1]\nrows 2\nrows 0\n")
+
+
 def local_monitors_cost_what_changed(program, room):
     """100,000 entities, ten monitors of local queries and 10,000 commands in less than a second."""
     script = monitors.many_entities(100_000, 10_000)
@@ -403,6 +410,7 @@ CASES = [
     two_thousand_lines_take_less_than_two_seconds,
     colliding_names_take_at_most_twice_as_long,
     walk_through_tables_gives_memory_back,
+    dead_ends_lead_back_to_what_they_hang_on,
     local_monitors_cost_what_changed,
     local_monitors_are_told_as_whole_rows_tell,
     other_monitors_are_told_as_whole_rows_tell,
