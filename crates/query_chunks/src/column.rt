@@ -14,9 +14,3 @@ pub enum Column<'r, A: Allocator = Global> {
     /// Each row has this id with a value of these fields. The bytes of the values stand one row after another.
     Values(Id, &'r Schema<A>, &'r [u8]),
 }
-
-impl<'r, A: Allocator> Default for Column<'r, A> {
-    fn default() -> Self {
-        Column::Unset
-    }
-}
