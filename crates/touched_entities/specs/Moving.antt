@@ -24,6 +24,10 @@ entities_by p ks = map (λ k. k.0) (filter (λ k. p k.1) ks)
 abbrev pub entities_of : (Id → Bool) → Changed → List ℕ
 entities_of p changed = entities_by p changed.came ++ entities_by p changed.went
 
+-- whether one of some facts passes a test by its id
+abbrev pub any_by : (Id → Bool) → List Key → Bool
+any_by p ks = list_any (λ k. p k.1) ks
+
 -- whether one of these facts concerns a query for others than its own entity and those below that
 abbrev pub any_concerns_others : Query → List Key → Bool
 any_concerns_others q ks = list_any (λ k. concerns_others q k.1) ks

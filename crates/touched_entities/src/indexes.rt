@@ -6,13 +6,14 @@ ghost use Rattle.touched_entities.specs.Indexes.{indexes_of};
 
 use ecs_model::FactKey;
 use ecs_world::Changes;
+use short_list::ShortList;
 use std::alloc::{AllocError, Allocator};
 
 /// The indexes of all entities that a command touched, in ascending order.
-pub(crate) fn touched_indexes<A: Allocator>(
+pub(crate) fn touched_indexes<A: Allocator + Copy>(
     alloc: A,
     changes: &Changes<A>,
-) -> Result<Vec<u32, A>, AllocError>
+) -> Result<ShortList<A>, AllocError>
     ensures ascend { IfOk result (λ indexes. IsStrictlyIncreasing indexes.items) }
     ensures all { IfOk result (λ indexes. (i : ℕ) → Contains indexes.items i ↔ Contains (indexes_of changes.now) i) }
 {
@@ -22,39 +23,39 @@ pub(crate) fn touched_indexes<A: Allocator>(
 }
 
 /// The indexes of all that has changed.
-fn gathered<A: Allocator>(alloc: A, changes: &Changes<A>) -> Result<Vec<u32, A>, AllocError>
+fn gathered<A: Allocator + Copy>(alloc: A, changes: &Changes<A>) -> Result<ShortList<A>, AllocError>
     ensures { IfOk result (λ indexes. indexes.items ≡ indexes_of changes.now) }
 {
-    let mut indexes = Vec::new(alloc);
+    let mut indexes = ShortList::new();
     if let Some(entity) = changes.born() {
-        indexes.push(entity.index)?;
+        indexes.push(alloc, entity.index)?;
     }
     for death in changes.died() {
-        indexes.push(death.entity().index)?;
+        indexes.push(alloc, death.entity().index)?;
     }
-    push_entities(changes.came(), &mut indexes)?;
-    push_entities(changes.went(), &mut indexes)?;
+    push_entities(alloc, changes.came(), &mut indexes)?;
+    push_entities(alloc, changes.went(), &mut indexes)?;
     Ok(indexes)
 }
 
 /// Adds the indexes of facts' entities.
-fn push_entities<A: Allocator>(
+fn push_entities<A: Allocator + Copy>(
+    alloc: A,
     facts: &[FactKey],
-    indexes: &mut Vec<u32, A>,
+    indexes: &mut ShortList<A>,
 ) -> Result<(), AllocError>
     ensures { OnOk result (indexes.new.items ≡ indexes.old.items ++ map (λ k. k.0) facts.now) }
 {
     for fact in facts {
-        indexes.push(fact.entity())?;
+        indexes.push(alloc, fact.entity())?;
     }
     Ok(())
 }
 
 /// Puts indexes in order, each once.
-pub(crate) fn put_in_order<A: Allocator>(indexes: &mut Vec<u32, A>)
+pub(crate) fn put_in_order<A: Allocator>(indexes: &mut ShortList<A>)
     ensures ascend { IsStrictlyIncreasing indexes.new.items }
     ensures same { (i : ℕ) → Contains indexes.new.items i ↔ Contains indexes.old.items i }
 {
-    indexes.sort_unstable();
-    indexes.dedup();
+    indexes.put_in_order();
 }

@@ -12,6 +12,7 @@ use ecs_id::{EntityId, Id, TableKey};
 use ecs_world::World;
 use query_check::Query;
 use rel_travel::Holders;
+use short_list::ShortList;
 use std::alloc::{AllocError, Allocator};
 
 /// How many entities are found at most, and how many are looked at for one of them: if there are more, all rows are found in less time.
@@ -21,12 +22,13 @@ pub(crate) const MOST: usize = 64;
 const MOST_TABLES: usize = 256;
 
 /// Adds those who lean on one of these entities by a pair that concerns a query so. False, where these may be too many: then not all are added.
-pub(crate) fn push_leaning_on_all<A: Allocator, B: Allocator>(
+pub(crate) fn push_leaning_on_all<A: Allocator + Copy, B: Allocator>(
+    alloc: A,
     query: &Query<B>,
     whom: Whom,
     world: &World<A>,
     targets: &[u32],
-    found: &mut Vec<u32, A>,
+    found: &mut ShortList<A>,
 ) -> Result<bool, AllocError>
     ensures { IfOk result (λ done. done ≡ true → Adds (flat_map (leaning (concerns_for whom query.now) world.now.state) targets.now) found.old.items found.new.items) }
 {
@@ -34,7 +36,7 @@ pub(crate) fn push_leaning_on_all<A: Allocator, B: Allocator>(
         return Ok(false);
     }
     for target in targets {
-        if !push_leaning(query, whom, world, *target, found)? {
+        if !push_leaning(alloc, query, whom, world, *target, found)? {
             return Ok(false);
         }
     }
@@ -42,11 +44,12 @@ pub(crate) fn push_leaning_on_all<A: Allocator, B: Allocator>(
 }
 
 /// Adds those who lean on one of these, those who lean on one of those, and so on. False, where these may be too many.
-pub(crate) fn push_all_below<A: Allocator, B: Allocator>(
+pub(crate) fn push_all_below<A: Allocator + Copy, B: Allocator>(
+    alloc: A,
     query: &Query<B>,
     whom: Whom,
     world: &World<A>,
-    found: &mut Vec<u32, A>,
+    found: &mut ShortList<A>,
 ) -> Result<bool, AllocError>
     ensures { IfOk result (λ done. done ≡ true → HasAllBelow (concerns_for whom query.now) world.now.state found.old.items found.new.items) }
 {
@@ -54,8 +57,8 @@ pub(crate) fn push_all_below<A: Allocator, B: Allocator>(
         if next >= found.len() {
             return Ok(true);
         }
-        let target = found[next];
-        if !push_leaning(query, whom, world, target, found)? {
+        let target = found.as_slice()[next];
+        if !push_leaning(alloc, query, whom, world, target, found)? {
             return Ok(false);
         }
     }
@@ -63,12 +66,13 @@ pub(crate) fn push_all_below<A: Allocator, B: Allocator>(
 }
 
 /// Adds those who lean on this entity. False, where these may be too many.
-fn push_leaning<A: Allocator, B: Allocator>(
+fn push_leaning<A: Allocator + Copy, B: Allocator>(
+    alloc: A,
     query: &Query<B>,
     whom: Whom,
     world: &World<A>,
     target: u32,
-    found: &mut Vec<u32, A>,
+    found: &mut ShortList<A>,
 ) -> Result<bool, AllocError>
     ensures { IfOk result (λ done. done ≡ true → Adds (leaning (concerns_for whom query.now) world.now.state target) found.old.items found.new.items) }
 {
@@ -81,7 +85,7 @@ fn push_leaning<A: Allocator, B: Allocator>(
     if !are_few(&links, tables) {
         return Ok(false);
     }
-    push_from_tables(query, whom, world, &links, tables, target, found)?;
+    push_from_tables(alloc, query, whom, world, &links, tables, target, found)?;
     Ok(found.len() <= MOST)
 }
 
@@ -102,48 +106,54 @@ fn are_few<G: Holders>(graph: &G, tables: &[TableKey]) -> bool {
 }
 
 /// Adds those in these tables who lean on an entity.
-fn push_from_tables<G: Holders, A: Allocator, B: Allocator>(
+fn push_from_tables<G: Holders, A: Allocator + Copy, B: Allocator>(
+    alloc: A,
     query: &Query<B>,
     whom: Whom,
     world: &World<A>,
     graph: &G,
     tables: &[TableKey],
     target: u32,
-    found: &mut Vec<u32, A>,
+    found: &mut ShortList<A>,
 ) -> Result<(), AllocError>
     ensures { OnOk result (Adds (filter (leans (concerns_for whom query.now) world.now.state target) (flat_map (G.rows graph.now) tables.now)) found.old.items found.new.items) }
 {
     for table in tables {
-        push_from(query, whom, world, graph.rows(*table), target, found)?;
+        push_from(alloc, query, whom, world, graph.rows(*table), target, found)?;
     }
     Ok(())
 }
 
 /// Adds those of these entities who lean on another one.
-fn push_from<A: Allocator, B: Allocator>(
+fn push_from<A: Allocator + Copy, B: Allocator>(
+    alloc: A,
     query: &Query<B>,
     whom: Whom,
     world: &World<A>,
     entities: &[EntityId],
     target: u32,
-    found: &mut Vec<u32, A>,
+    found: &mut ShortList<A>,
 ) -> Result<(), AllocError>
     ensures { OnOk result (Adds (filter (leans (concerns_for whom query.now) world.now.state target) (map (λ e. e.index) entities.now)) found.old.items found.new.items) }
 {
     for entity in entities {
         if leans(query, whom, world, target, entity.index) {
-            push_new(entity.index, found)?;
+            push_new(alloc, entity.index, found)?;
         }
     }
     Ok(())
 }
 
 /// Adds an entity that isn't there yet.
-fn push_new<A: Allocator>(entity: u32, found: &mut Vec<u32, A>) -> Result<(), AllocError>
+fn push_new<A: Allocator + Copy>(
+    alloc: A,
+    entity: u32,
+    found: &mut ShortList<A>,
+) -> Result<(), AllocError>
     ensures { OnOk result (Adds (entity ∷ []) found.old.items found.new.items) }
 {
     if !is_among(found.as_slice(), entity) {
-        found.push(entity)?;
+        found.push(alloc, entity)?;
     }
     Ok(())
 }

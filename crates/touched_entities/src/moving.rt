@@ -1,12 +1,12 @@
 //! Who may have moved in or out of a query's rows, where few may.
 
-ghost use Rattle.std.specs.Prelude.{◌≡◌, ◌++◌, filter, IfOk, IfSome, OnOk};
+ghost use Rattle.std.specs.Prelude.{◌≡◌, ◌||◌, ◌++◌, filter, IfOk, IfSome, OnOk};
 ghost use Rattle.std.specs.List.Sorted.{IsStrictlyIncreasing};
 ghost use Rattle.ecs_model.specs.World.{is_live};
 ghost use Rattle.query_meaning.specs.Sound.{IsSound};
 ghost use Rattle.touched_entities.specs.Bonds.{bonds_of};
 ghost use Rattle.touched_entities.specs.Leaning.{concerns_for};
-ghost use Rattle.touched_entities.specs.Moving.{AreMoving, AreTargets, TellsMoved, any_concerns_others, entities_by, entities_of, is_followed, is_open, is_sure};
+ghost use Rattle.touched_entities.specs.Moving.{AreMoving, AreTargets, TellsMoved, any_by, any_concerns_others, entities_by, entities_of, is_followed, is_open, is_sure};
 ghost use Rattle.watch_meaning.specs.Since.{IsAfter};
 
 use crate::Bonds;
@@ -18,15 +18,16 @@ use ecs_model::FactKey;
 use ecs_world::{Changes, World};
 use query_check::Query;
 use query_concerns::{concerns_others, lacks, meets};
+use short_list::ShortList;
 use std::alloc::{AllocError, Allocator};
 
 /// Who may have moved in or out of a query's rows by a command; those of them whose ids tell that they are `$this` of a row now; and those of whom a search
 /// has to tell. All ascend.
 #[derive(Drop)]
 pub struct Moved<A: Allocator> {
-    pub all: Vec<u32, A>,
-    pub sure: Vec<u32, A>,
-    pub asked: Vec<u32, A>,
+    pub all: ShortList<A>,
+    pub sure: ShortList<A>,
+    pub asked: ShortList<A>,
 }
 
 /// Who may have moved in or out of a query's rows by a command. All others are in them or out of them as before.
@@ -55,19 +56,20 @@ pub fn who_may_have_moved<A: Allocator + Copy, B: Allocator>(
     if all.len() > MOST {
         return Ok(None);
     }
-    let mut sure = Vec::new(alloc);
-    let mut asked = Vec::new(alloc);
-    push_by_ids(query, world, all.as_slice(), &mut sure, &mut asked)?;
+    let mut sure = ShortList::new();
+    let mut asked = ShortList::new();
+    push_by_ids(alloc, query, world, all.as_slice(), &mut sure, &mut asked)?;
     Ok(Some(Moved { all, sure, asked }))
 }
 
 /// Of some entities, adds those to the sure whose ids tell that they are `$this` of a row, and those to the asked whose ids don't tell.
-fn push_by_ids<A: Allocator, B: Allocator>(
+fn push_by_ids<A: Allocator + Copy, B: Allocator>(
+    alloc: A,
     query: &Query<B>,
     world: &World<A>,
     entities: &[u32],
-    sure: &mut Vec<u32, A>,
-    asked: &mut Vec<u32, A>,
+    sure: &mut ShortList<A>,
+    asked: &mut ShortList<A>,
 ) -> Result<(), AllocError>
     ensures sure { OnOk result (sure.new.items ≡ sure.old.items ++ filter (is_sure query.now world.now.state) entities.now) }
     ensures asked { OnOk result (asked.new.items ≡ asked.old.items ++ filter (is_open query.now world.now.state) entities.now) }
@@ -76,9 +78,9 @@ fn push_by_ids<A: Allocator, B: Allocator>(
         let ids = ids_at(world, *entity);
         if lives(world, *entity) && !lacks(query, ids) {
             if meets(query, ids) {
-                sure.push(*entity)?;
+                sure.push(alloc, *entity)?;
             } else {
-                asked.push(*entity)?;
+                asked.push(alloc, *entity)?;
             }
         }
     }
@@ -125,17 +127,24 @@ fn moving<A: Allocator + Copy, B: Allocator>(
     query: &Query<B>,
     world: &World<A>,
     changes: &Changes<A>,
-) -> Result<Option<Vec<u32, A>>, AllocError>
+) -> Result<Option<ShortList<A>>, AllocError>
     ensures ascend { IfOk result (λ found. IfSome found (λ moving. IsStrictlyIncreasing moving.items)) }
     ensures all { IfOk result (λ found. IfSome found (λ moving. AreMoving query.now world.now.state changes.now moving.items)) }
 {
     let Some(targets) = targets(alloc, query, world, changes)? else {
         return Ok(None);
     };
-    let mut moving = Vec::new(alloc);
-    push_entities(query, Whom::Anyone, changes, &mut moving)?;
+    let mut moving = ShortList::new();
+    push_entities(alloc, query, Whom::Anyone, changes, &mut moving)?;
     put_in_order(&mut moving);
-    if !push_leaning_on_all(query, Whom::Anyone, world, targets.as_slice(), &mut moving)? {
+    if !push_leaning_on_all(
+        alloc,
+        query,
+        Whom::Anyone,
+        world,
+        targets.as_slice(),
+        &mut moving,
+    )? {
         return Ok(None);
     }
     put_in_order(&mut moving);
@@ -149,46 +158,73 @@ fn targets<A: Allocator + Copy, B: Allocator>(
     query: &Query<B>,
     world: &World<A>,
     changes: &Changes<A>,
-) -> Result<Option<Vec<u32, A>>, AllocError>
+) -> Result<Option<ShortList<A>>, AllocError>
     ensures { IfOk result (λ found. IfSome found (λ targets. AreTargets query.now world.now.state changes.now targets.items)) }
 {
-    let mut targets = Vec::new(alloc);
-    push_entities(query, Whom::Below, changes, &mut targets)?;
+    if !any_concerns_for(query, Whom::Beyond, changes) {
+        return Ok(Some(ShortList::new()));
+    }
+    let mut targets = ShortList::new();
+    push_entities(alloc, query, Whom::Below, changes, &mut targets)?;
     put_in_order(&mut targets);
-    if !push_all_below(query, Whom::Beyond, world, &mut targets)? {
+    if !push_all_below(alloc, query, Whom::Beyond, world, &mut targets)? {
         return Ok(None);
     }
-    push_entities(query, Whom::Others, changes, &mut targets)?;
+    push_entities(alloc, query, Whom::Others, changes, &mut targets)?;
     put_in_order(&mut targets);
     Ok(Some(targets))
 }
 
 /// Adds those of whom a fact that concerns a query so came or went.
-fn push_entities<A: Allocator, B: Allocator>(
+fn push_entities<A: Allocator + Copy, B: Allocator>(
+    alloc: A,
     query: &Query<B>,
     whom: Whom,
     changes: &Changes<A>,
-    found: &mut Vec<u32, A>,
+    found: &mut ShortList<A>,
 ) -> Result<(), AllocError>
     ensures { OnOk result (found.new.items ≡ found.old.items ++ entities_of (concerns_for whom query.now) changes.now) }
 {
-    push_entities_by(query, whom, changes.came(), found)?;
-    push_entities_by(query, whom, changes.went(), found)
+    push_entities_by(alloc, query, whom, changes.came(), found)?;
+    push_entities_by(alloc, query, whom, changes.went(), found)
 }
 
 /// Adds the entities of those facts that concern a query so.
-fn push_entities_by<A: Allocator, B: Allocator>(
+fn push_entities_by<A: Allocator + Copy, B: Allocator>(
+    alloc: A,
     query: &Query<B>,
     whom: Whom,
     facts: &[FactKey],
-    found: &mut Vec<u32, A>,
+    found: &mut ShortList<A>,
 ) -> Result<(), AllocError>
     ensures { OnOk result (found.new.items ≡ found.old.items ++ entities_by (concerns_for whom query.now) facts.now) }
 {
     for fact in facts {
         if concerns_for(query, whom, fact.id()) {
-            found.push(fact.entity())?;
+            found.push(alloc, fact.entity())?;
         }
     }
     Ok(())
+}
+
+/// Whether a fact that came or went concerns a query so.
+fn any_concerns_for<A: Allocator, B: Allocator>(
+    query: &Query<B>,
+    whom: Whom,
+    changes: &Changes<A>,
+) -> bool
+    ensures { result ≡ (any_by (concerns_for whom query.now) changes.now.came || any_by (concerns_for whom query.now) changes.now.went) }
+{
+    any_by(query, whom, changes.came()) || any_by(query, whom, changes.went())
+}
+
+fn any_by<B: Allocator>(query: &Query<B>, whom: Whom, facts: &[FactKey]) -> bool
+    ensures { result ≡ any_by (concerns_for whom query.now) facts.now }
+{
+    for fact in facts {
+        if concerns_for(query, whom, fact.id()) {
+            return true;
+        }
+    }
+    false
 }

@@ -31,8 +31,9 @@ pub fn touched<'w, A: Allocator + Copy>(
 {
     world.keeps();
     let indexes = touched_indexes(alloc, changes)?;
+    let items = indexes.as_slice();
     let mut touched = Vec::with_capacity(alloc, indexes.len())?;
-    for index in &indexes {
+    for index in items {
         touched.push(touch(alloc, world, changes, *index)?)?;
     }
     Ok(touched)

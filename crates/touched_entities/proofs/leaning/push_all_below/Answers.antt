@@ -1,7 +1,6 @@
 use Rattle.std.specs.Prelude.{◌<◌, ◌≤◌, length}
-use Rattle.std.proofs.Common.{arith, subst}
+use Rattle.std.proofs.Common.{ap, arith, get_or, subst}
 use Rattle.std.proofs.lemmas.Bool.Decides.{nat_tests}
-use Rattle.std.proofs.lemmas.List.{get_or_read}
 use Rattle.touched_entities.specs.Leaning.{Adds, concerns_for, leaning}
 use Rattle.touched_entities.proofs.Below.{begun, walked, walked_on}
 use Rattle.touched_entities.proofs.leaning.push_all_below.Goals as goal
@@ -17,7 +16,7 @@ loop-next-preserved g c =
     let after = c.push_leaning.new.found.items in
     let n = c.loop-next.next in
     let inside : n < length found = omega (arith, c.if-next-len.false, c.len.ensures) in
-    let target = get_or_read found n c.index-target.result.now inside c.index-target.ensures 0 in
+    let target = ap (λ es. get_or es n 0) c.as_slice.ensures in
     walked_on p w c.args.found.now.items found after n 0 c.loop-next.invariant inside
     (subst (λ x. Adds (leaning p w x) found after) target (c.in_ok-push_leaning.ensures c.if-not-branch.false))
 

@@ -1,6 +1,7 @@
-use Rattle.std.specs.Prelude.{◌≡◌, ◌++◌, ℕ, IfSome, Option, filter}
+use Rattle.std.specs.Prelude.{◌≡◌, ◌++◌, IfSome, Option, filter}
 use Rattle.std.specs.List.Sorted.{IsStrictlyIncreasing}
-use Rattle.std.proofs.Common.{Vec, subst, sym, ◌∙◌}
+use Rattle.std.proofs.Common.{subst, sym, ◌∙◌}
+use Rattle.short_list.specs.Items.{Items}
 use Rattle.touched_entities.specs.Moving.{AreMoving, is_open, is_sure}
 use Rattle.touched_entities.proofs.ButForAsked.{told_moved}
 use Rattle.touched_entities.proofs.Followed.{stay_put}
@@ -13,11 +14,11 @@ returns g c =
     let changed = c.args.changes.now in
     let followed = sym c.is_followed.ensures ∙ c.if-not-is_followed.false in
     let es = c.as_slice.result.now in
-    let same : c.in-Some.all.items ≡ es = sym c.as_slice.ensures.value in
-    let ascend = subst (λ (o : Option (Vec ℕ g.row.A.Denot)). IfSome o (λ moving. IsStrictlyIncreasing moving.items)) c.in-Some.is c.in_ok-all.ensures.ascend in
-    let all = subst (λ (o : Option (Vec ℕ g.row.A.Denot)). IfSome o (λ moving. AreMoving q w changed moving.items)) c.in-Some.is c.in_ok-all.ensures.all in
+    let same : c.in-Some.all.items ≡ es = sym c.as_slice.ensures in
+    let ascend = subst (λ (o : Option Items). IfSome o (λ moving. IsStrictlyIncreasing moving.items)) c.in-Some.is c.in_ok-all.ensures.ascend in
+    let all = subst (λ (o : Option Items). IfSome o (λ moving. AreMoving q w changed moving.items)) c.in-Some.is c.in_ok-all.ensures.all in
     let stay = stay_put w changed c.keeps.ensures c.requires.after q c.requires.sound followed es (subst (AreMoving q w changed) same all) in
     told_moved w changed q c.requires.sound es (subst IsStrictlyIncreasing same ascend) stay
     c.in-Some.all.items c.push_by_ids.new.sure.items c.push_by_ids.new.asked.items same
-    (c.in_ok-push_by_ids.ensures.sure ∙ (λ i. c.new-sure.ensures.items i ++ filter (is_sure q w) es))
-    (c.in_ok-push_by_ids.ensures.asked ∙ (λ i. c.new-asked.ensures.items i ++ filter (is_open q w) es))
+    (c.in_ok-push_by_ids.ensures.sure ∙ (λ i. c.new-sure.ensures i ++ filter (is_sure q w) es))
+    (c.in_ok-push_by_ids.ensures.asked ∙ (λ i. c.new-asked.ensures i ++ filter (is_open q w) es))

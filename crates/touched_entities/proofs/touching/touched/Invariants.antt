@@ -6,4 +6,4 @@ use Rattle.touched_entities.specs.Indexes.{touch_at}
 use Rattle.touched_entities.proofs.touching.touched.Given as goal
 
 abbrev pub invariant-loop-index : goal.invariant-loop-index
-invariant-loop-index g l = map touch_of l.touched.items ≡ map (touch_at (view_before l.world.state l.changes) (view_of l.world.state)) (take l.index-index l.index-items)
+invariant-loop-index g l = map touch_of l.touched.items ≡ map (touch_at (view_before l.world.state l.changes) (view_of l.world.state)) (take l.index-index l.items)
