@@ -2,6 +2,7 @@ pub mod Answering
 pub mod Moving
 pub mod Nobody
 pub mod Counted
+pub mod Counting
 pub mod Entries
 pub mod First
 pub mod Found

@@ -2,7 +2,7 @@
 use Rattle.std.specs.Prelude.{◌≡◌, ℕ, ◌+◌, ◌≤◌, Bool, true, false, not, ◌&&◌, List, [], ◌∷◌, ◌++◌, All, AllPairs, map, flat_map, length, slice_get, take, Option, None, Some, option_map, IfSome, if◌then◌else◌}
 use Rattle.std.specs.declared.string.String.{String}
 use Rattle.std.specs.Option.{option_map_or}
-use Rattle.std.specs.List.{list_any}
+use Rattle.std.specs.List.{count_by, list_any}
 use Rattle.std.specs.List.Sorted.{IsStrictlyIncreasing}
 use Rattle.std.specs.String.{string_bytes}
 use Rattle.std.proofs.Common.{refl, ap, get_or, sym, subst, ◌∙◌, ◌≢◌, suc, zero, arith, add-one, append_assoc, append-nil}
@@ -26,7 +26,7 @@ use Rattle.watch_meaning.specs.Mentions.{times}
 use Rattle.watch_meaning.specs.Since.{IsAfter}
 use Rattle.ecs_observe.specs.Following.{lists_of}
 use Rattle.ecs_observe.specs.Parts.{ArePlaced, held_as, held_of, kept_rows, with_all_kept, with_kept_at}
-use Rattle.ecs_observe.specs.Standing.{Held, IsHeld, IsNow, IsSession, Standing, WasNow, has_searched, is_compared, is_monitor, is_searched, rows_of, rows_put, session_of, stored_of, told_to, with_rows, with_these}
+use Rattle.ecs_observe.specs.Standing.{Held, IsHeld, IsNow, IsSession, Standing, WasNow, has_searched, is_compared, is_monitor, is_searched, rows_of, rows_put, searched_in, session_of, stored_of, told_to, with_rows, with_these}
 use Rattle.ecs_observe.specs.declared.moves.RowsAfter.{RowsAfter}
 use Rattle.ecs_observe.specs.declared.stored.StoredQuery.{StoredQuery}
 use Rattle.ecs_observe.proofs.Answering.{matching_ascends}
@@ -311,3 +311,7 @@ module _ (s now : Standing) (view_is : s ≡ now) where
   pub none_for : (changed : Changed) → s.waiting ≡ Some changed → has_searched now ≡ false → list_any (is_searched changed) s.stored ≡ false
   none_for changed waiting none =
       sym (ap (λ o. option_map_or (λ done. list_any (is_searched done) s.stored) o false) waiting) ∙ (ap has_searched view_is ∙ none)
+
+  -- so many are
+  pub searched_for : (changed : Changed) → s.waiting ≡ Some changed → count_by (is_searched changed) s.stored ≡ searched_in now
+  searched_for changed waiting = sym (ap (λ o. option_map_or (λ done. count_by (is_searched done) s.stored) o 0) waiting) ∙ ap searched_in view_is

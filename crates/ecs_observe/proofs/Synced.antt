@@ -1,32 +1,56 @@
 -- How the list of a kept query has followed the tables, by one sync or by two.
-use Rattle.std.specs.Prelude.{◌≡◌, ◌⊎◌, OnOk, Result, Ok, Err}
+use Rattle.std.specs.Prelude.{◌≡◌, ◌↔◌, ◌⊎◌, ◌≤◌, Contains, IsTrue, OnErr, OnOk, Result, Ok, Err}
 use Rattle.std.proofs.Common.{inl, inr, refl, subst, sym, ◌∙◌}
-use Rattle.query_cache.specs.Kept.{Counts, IsSynced, Judges, Kept}
+use Rattle.ecs_id.specs.declared.TableKey.{TableKey}
+use Rattle.query_cache.specs.Kept.{Counts, Fits, IsSynced, Judges, Kept, is_kept, stands}
 use Rattle.table_store.specs.Store.{Store}
 use Rattle.ecs_observe.specs.Following.{Follows, JudgesNew}
 
 pub follows_itself : (s : Store) (list : Kept) → Follows s list list
-follows_itself s list = record { patterns = refl; judged = inl refl }
+follows_itself s list = record { patterns = refl; kept = λ k listed here. listed; passed = λ k here low. low; judged = inl refl }
 
-module _ {X E : Type 0} (s : Store) (before after : Kept) (r : Result X E) (patterns : after.patterns ≡ before.patterns) (judges : Judges s before.last r before.judged after.judged) where
-  pub follows_sync : Follows s before after
-  follows_sync = record {
-    patterns = patterns;
-    judged = inr (record { above = judges.above; are_above = judges.are_above; count = judges.count; at_most = judges.at_most; counted = judges.counted });
-  }
+-- what a call of `sync` says of the list that it is given
+pub record IsSync {X E : Type 0} (s : Store) (before after : Kept) (r : Result X E) : Type 0 where
+  pub fits : Fits before s
+  pub patterns : after.patterns ≡ before.patterns
+  pub exact : OnOk r ((k : TableKey) → Contains after.keys k ↔ IsTrue (is_kept after.patterns s k))
+  pub synced : OnOk r (IsSynced after s)
+  pub refused : OnErr r (after ≡ record before { judged = after.judged })
+  pub judges : Judges s before.last r before.judged after.judged
+  pub again : IsSynced before s → after.judged ≡ before.judged
+
+module _ {X E : Type 0} (s : Store) (before after : Kept) where
+  still_listed : (r : Result X E) → IsSync s before after r → (k : TableKey) → Contains before.keys k → IsTrue (stands s k) → Contains after.keys k
+  still_listed (Ok x) call k listed here = (call.exact k).1 (subst (λ ps. IsTrue (is_kept ps s k)) (sym call.patterns) (call.fits.only k listed here))
+  still_listed (Err e) call k listed here = subst (λ (list : Kept). Contains list.keys k) (sym call.refused) listed
+
+  still_passed : (r : Result X E) → IsSync s before after r → (k : TableKey) → IsTrue (stands s k) → k.serial ≤ before.last → k.serial ≤ after.last
+  still_passed (Ok x) call k here low = call.synced k here
+  still_passed (Err e) call k here low = subst (λ (list : Kept). k.serial ≤ list.last) (sym call.refused) low
+
+  pub follows_sync : (r : Result X E) → IsSync s before after r → Follows s before after
+  follows_sync r call =
+      let judges = call.judges in
+      record {
+        patterns = call.patterns;
+        kept = still_listed r call;
+        passed = still_passed r call;
+        judged = inr (record { above = judges.above; are_above = judges.are_above; count = judges.count; at_most = judges.at_most; counted = judges.counted });
+      }
 
 -- a list that was left as it was or synced, and then is synced
-module _ {X E : Type 0} (s : Store) (first before after : Kept) (r : Result X E) (patterns : after.patterns ≡ before.patterns) (judges : Judges s before.last r before.judged after.judged)
-    (again : IsSynced before s → after.judged ≡ before.judged) where
+module _ {X E : Type 0} (s : Store) (first before after : Kept) (r : Result X E) (call : IsSync s before after r) where
   pub follows_again : Follows s first before → (before ≡ first) ⊎ IsSynced before s → Follows s first after
-  follows_again was (inl same) = subst (λ list. Follows s list after) same (follows_sync s before after r patterns judges)
+  follows_again was (inl same) = subst (λ list. Follows s list after) same (follows_sync s before after r call)
   follows_again was (inr synced) = by was.judged
     where
       by : (before ≡ first) ⊎ JudgesNew s first before → Follows s first after
-      by (inl same) = subst (λ list. Follows s list after) same (follows_sync s before after r patterns judges)
+      by (inl same) = subst (λ list. Follows s list after) same (follows_sync s before after r call)
       by (inr new) = record {
-        patterns = patterns ∙ was.patterns;
-        judged = inr (record { above = new.above; are_above = new.are_above; count = new.count; at_most = new.at_most; counted = subst (Counts first.judged new.count) (sym (again synced)) new.counted });
+        patterns = call.patterns ∙ was.patterns;
+        kept = λ k listed here. (follows_sync s before after r call).kept k (was.kept k listed here) here;
+        passed = λ k here low. (follows_sync s before after r call).passed k here (was.passed k here low);
+        judged = inr (record { above = new.above; are_above = new.are_above; count = new.count; at_most = new.at_most; counted = subst (Counts first.judged new.count) (sym (call.again synced)) new.counted });
       }
 
 -- what holds of any answer holds of Ok

@@ -13,6 +13,7 @@ use Rattle.ecs_model.specs.traits.Command as world
 use Rattle.ecs_observe.specs.Answers.{obeyed}
 use Rattle.ecs_observe.specs.Following.{ListsOneLess, ListsOneMore}
 use Rattle.ecs_observe.specs.Standing.{Standing}
+use Rattle.ecs_observe.specs.Storing.{CountsStored}
 use Rattle.ecs_observe.specs.declared.errors.SessionError.{SessionError}
 use Rattle.ecs_observe.specs.declared.applying.Answer.{Answer}
 use Rattle.ecs_observe.specs.declared.applying.Answer.TheVariants.{Born, Done}
@@ -72,3 +73,9 @@ abbrev pub ListsApply : {T E : Type 0} → SessionOrder → Result T E → Stand
 ListsApply (InWorld order) r old new = new.stored ≡ old.stored
 ListsApply (session.Store kind n text) r old new = ListsOneMore r n old new
 ListsApply (session.Drop n) r old new = ListsOneLess r n old new
+
+-- how often whole rows were taken
+abbrev pub CountsApply : {T E : Type 0} → SessionOrder → Result T E → Standing → Standing → Type 0
+CountsApply (InWorld order) r old new = new.compared ≡ old.compared
+CountsApply (session.Store kind n text) r old new = CountsStored r kind text old new
+CountsApply (session.Drop n) r old new = new.compared ≡ old.compared

@@ -1,5 +1,5 @@
 -- What becomes of the lists of kept queries, and of their plans.
-use Rattle.std.specs.Prelude.{◌≡◌, ◌≢◌, ◌⊎◌, ℕ, ◌≤◌, Bool, true, false, not, List, [], ◌∷◌, ◌++◌, filter, length, map, bytes_eq, Option, Some, IfSome, option_and_then, option_map, Result, Ok, Err, if◌then◌else◌}
+use Rattle.std.specs.Prelude.{◌≡◌, ◌≢◌, ◌⊎◌, ℕ, ◌≤◌, Bool, true, false, not, List, [], ◌∷◌, ◌++◌, Contains, IsTrue, filter, length, map, bytes_eq, Option, Some, IfSome, option_and_then, option_map, Result, Ok, Err, if◌then◌else◌}
 use Rattle.std.specs.List.{find}
 use Rattle.std.specs.Option.{option_map_or}
 use Rattle.ecs_id.specs.declared.TableKey.{TableKey}
@@ -9,7 +9,7 @@ use Rattle.ecs_model.specs.declared.watches.StoredKind.TheVariants as kind
 use Rattle.ecs_model.specs.stored.Session.{SessionState, kept_query}
 use Rattle.ecs_world.specs.Standing as world
 use Rattle.plan_steps.specs.Nobody.{begins_with_this}
-use Rattle.query_cache.specs.Kept.{AreAbove, Counts, IsSynced, Kept}
+use Rattle.query_cache.specs.Kept.{AreAbove, Counts, IsSynced, Kept, stands}
 use Rattle.query_meaning.specs.declared.steps.Step.{Step}
 use Rattle.query_model.specs.Query.{Query}
 use Rattle.query_plan.specs.Plans.{Plan}
@@ -34,6 +34,10 @@ pub record JudgesNew (s : Store) (before after : Kept) : Type 0 where
 -- a list has followed the tables: it is still that of its query, and it was left as it was, or no table was judged but those that came since the last sync
 pub record Follows (s : Store) (before after : Kept) : Type 0 where
   pub patterns : after.patterns ≡ before.patterns
+  -- a table that was listed and stands is listed still
+  pub kept : (k : TableKey) → Contains before.keys k → IsTrue (stands s k) → Contains after.keys k
+  -- and one that didn't come since the last sync is not new again
+  pub passed : (k : TableKey) → IsTrue (stands s k) → k.serial ≤ before.last → k.serial ≤ after.last
   pub judged : (after ≡ before) ⊎ JudgesNew s before after
 
 -- the same of a stored query, where it has a list; else it was left as it was
@@ -131,12 +135,12 @@ PlansAt n old new = (plan_at new n ≡ plan_at old n) ⊎ IfSome (plan_at new n)
 abbrev pub lists_of : Standing → List (List ℕ × Option Kept × List Step)
 lists_of s = map (λ h. (h.name, h.list, h.steps)) s.stored
 
--- a new stored query has a blank list, if it has one, and the planner's steps by the world of then; all others stay. A refusal leaves their lists and steps
+-- a new stored query has a blank list, if it has one, and the planner's steps by the world of then; all others stay. A refusal leaves all that is seen
 abbrev pub ListsOneMore : {T E : Type 0} → Result T E → List ℕ → Standing → Standing → Type 0
 ListsOneMore (Ok _) n old new = (h : Held) × (new.stored ≡ old.stored ++ h ∷ []) × (h.name ≡ n) × IfSome h.list IsBlank × IsPlannedIn old.world h.query (plan_of h)
-ListsOneMore (Err _) n old new = lists_of new ≡ lists_of old
+ListsOneMore (Err _) n old new = new ≡ old
 
 -- the end of a stored query is that of its list, and those of the others stay with their steps; a refusal leaves all
 abbrev pub ListsOneLess : {T E : Type 0} → Result T E → List ℕ → Standing → Standing → Type 0
 ListsOneLess (Ok _) n old new = lists_of new ≡ filter (λ p. not (bytes_eq n p.0)) (lists_of old)
-ListsOneLess (Err _) n old new = lists_of new ≡ lists_of old
+ListsOneLess (Err _) n old new = new ≡ old

@@ -1,6 +1,6 @@
 -- What is seen of a session, and the session of the definitions that it is.
-use Rattle.std.specs.Prelude.{◌≡◌, ◌≢◌, ℕ, ◌≤◌, Bool, true, false, not, ◌&&◌, List, [], ◌∷◌, All, AllPairs, map, flat_map, length, Option, Some, None, option_map, IfSome, Ok, if◌then◌else◌}
-use Rattle.std.specs.List.{list_any}
+use Rattle.std.specs.Prelude.{◌≡◌, ◌≢◌, ℕ, ◌+◌, ◌≤◌, min, Bool, true, false, not, ◌&&◌, List, [], ◌∷◌, All, AllPairs, map, flat_map, length, Option, Some, None, option_map, IfSome, Ok, if◌then◌else◌}
+use Rattle.std.specs.List.{count_by, list_any}
 use Rattle.std.specs.List.Sorted.{IsStrictlyIncreasing}
 use Rattle.std.specs.Option.{option_map_or}
 use Rattle.query_cache.specs.Kept as cache
@@ -61,6 +61,10 @@ is_searched changed h = is_compared h && is_concerned h.query changed
 abbrev pub has_searched : Standing → Bool
 has_searched s = option_map_or (λ changed. list_any (is_searched changed) s.stored) s.waiting false
 
+-- of how many stored queries the whole rows may be taken for what waits
+abbrev pub searched_in : Standing → ℕ
+searched_in s = option_map_or (λ changed. count_by (is_searched changed) s.stored) s.waiting 0
+
 -- of a monitor the entities of its rows before a command: of a local query they follow from what has changed, of another they are held
 abbrev pub rows_before : WorldState → Changed → Held → List ℕ
 rows_before w changed h = if is_local h.query then matching (view_before w changed) h.query else h.these
@@ -81,6 +85,10 @@ session_of s = record {
 abbrev pub rows_of : WorldState → StoredKind → Query → List ℕ
 rows_of w Monitor q = if is_local q then [] else matching (view_of w) q
 rows_of w kind q = []
+
+-- how often whole rows were taken, once what is held of them is found: for a monitor whose query isn't local once more. It stays at its greatest number
+abbrev pub counted_for : StoredKind → Query → ℕ → ℕ
+counted_for kind q n = if is_monitor kind && not (is_local q) then min (n + 1) 18446744073709551615 else n
 
 -- what is put in their place after a command: where the whole rows are taken, their entities
 abbrev pub rows_put : WorldState → Changed → Held → Option (List ℕ)

@@ -14,7 +14,7 @@ use Rattle.ecs_model.specs.stored.Refusal.{first_session_reason}
 use Rattle.ecs_model.specs.stored.Session.{SessionState, pinned_by, store_reasons, unpinned_by, watched_if_read}
 use Rattle.ecs_model.specs.stored.Watches.{matching, watched}
 use Rattle.ecs_world.specs.Standing as world
-use Rattle.ecs_observe.specs.Standing.{Held, Standing}
+use Rattle.ecs_observe.specs.Standing.{Held, Standing, counted_for}
 use Rattle.ecs_observe.specs.declared.errors.SessionError.{SessionError}
 use Rattle.ecs_observe.specs.declared.errors.SessionError.TheVariants.{Refused, Memory}
 
@@ -31,6 +31,11 @@ abbrev pub AnswersWatched : WorldState → StoredKind → List ℕ → Result Qu
 AnswersWatched w kind text (Ok q) = (query_of w text ≡ Ok q) × (watched kind q ≡ Ok q)
 AnswersWatched w kind text (Err (Refused reason)) = (f : Fault) × (reason ≡ Faulty f) × (watched_if_read kind (query_of w text) ≡ Err f)
 AnswersWatched w kind text (Err Memory) = ⊤
+
+-- the whole rows that were taken for a new stored query of a kind, which this text asks, are counted; none were taken for one that was refused
+abbrev pub CountsStored : {T E : Type 0} → Result T E → StoredKind → List ℕ → Standing → Standing → Type 0
+CountsStored (Ok _) kind text old new = (q : Query) → query_of (old.world).state text ≡ Ok q → new.compared ≡ counted_for kind q old.compared
+CountsStored (Err _) kind text old new = new.compared ≡ old.compared
 
 -- a world whose counts are those with one stored query more
 abbrev pub with_pinned : world.Standing → Query → world.Standing

@@ -1,11 +1,11 @@
 //! The commands of a session as values, with entities by name or by handle.
 
-ghost use Rattle.std.specs.Prelude.{◌≡◌, false};
+ghost use Rattle.std.specs.Prelude.{◌≡◌, ◌≤◌, false};
 ghost use Rattle.std.specs.List.{list_any};
 ghost use Rattle.ecs_model.specs.Orders.{AddTo, DeleteOne, RemoveFrom, SetIn};
 ghost use Rattle.ecs_model.specs.stored.Session.{InWorld, apply};
 ghost use Rattle.ecs_observe.specs.Answers.{AnswersApply};
-ghost use Rattle.ecs_observe.specs.Commands.{FindsIn, FindsOne, ListsApply, answered, order_of, seen_entity, seen_id};
+ghost use Rattle.ecs_observe.specs.Commands.{CountsApply, FindsIn, FindsOne, ListsApply, answered, order_of, seen_entity, seen_id};
 ghost use Rattle.ecs_observe.specs.Standing.{is_compared, session_of};
 ghost use Rattle.ecs_world.specs.Releases.{NoneGo, OnlyForgottenGo};
 ghost use Rattle.table_store.specs.Going.{TablesGoOn};
@@ -81,6 +81,8 @@ impl<A: Allocator + Copy> Session<A> {
         ensures goes_on { TablesGoOn (self.old).world.tables (self.new).world.tables }
         ensures stay { OnlyForgottenGo (self.old).world (self.new).world }
         ensures compared { list_any is_compared (self.new).stored ≡ false → (self.new).compared ≡ (self.old).compared }
+        ensures counted { CountsApply (order_of command.entry) result self.old self.new }
+        ensures grows { (self.old).compared ≤ (self.new).compared }
     {
         match self.obey(command) {
             Ok(Some(entity)) => Ok(Answer::Born(entity)),
@@ -95,6 +97,8 @@ impl<A: Allocator + Copy> Session<A> {
         ensures goes_on { TablesGoOn (self.old).world.tables (self.new).world.tables }
         ensures stay { OnlyForgottenGo (self.old).world (self.new).world }
         ensures compared { list_any is_compared (self.new).stored ≡ false → (self.new).compared ≡ (self.old).compared }
+        ensures counted { CountsApply (order_of command.entry) result self.old self.new }
+        ensures grows { (self.old).compared ≤ (self.new).compared }
     {
         match command {
             Command::New => self.fresh(),

@@ -1,6 +1,6 @@
 //! Who leaves and who enters the rows of a monitor whose query isn't local.
 
-ghost use Rattle.std.specs.Prelude.{◌≡◌, ℕ, ◌&&◌, ◌||◌, ◌++◌, ◌∷◌, [], IfOk, OnOk, filter, not, if◌then◌else◌};
+ghost use Rattle.std.specs.Prelude.{◌≡◌, ℕ, ◌+◌, ◌≤◌, ◌&&◌, ◌||◌, ◌++◌, ◌∷◌, [], IfOk, OnOk, filter, not, if◌then◌else◌};
 ghost use Rattle.std.specs.List.Sorted.{IsStrictlyIncreasing};
 ghost use Rattle.ecs_model.specs.rows.View.{view_of};
 ghost use Rattle.ecs_model.specs.stored.Watches.{matching, missing_from};
@@ -47,6 +47,8 @@ pub(crate) fn rows_after<A: Allocator + Copy>(
     ensures left { IfOk result (λ rows. rows.left.items ≡ missing_from query.now.these.items (matching (view_of world.now.state) (query.now.plan).query)) }
     ensures entered { IfOk result (λ rows. rows.entered.items ≡ missing_from (matching (view_of world.now.state) (query.now.plan).query) query.now.these.items) }
     ensures these { IfOk result (λ rows. (kept_rows rows query.now.these).items ≡ matching (view_of world.now.state) (query.now.plan).query) }
+    ensures grows { compared.old ≤ compared.new }
+    ensures few { compared.new ≤ compared.old + 1 }
 {
     let bonds = query.plan.bonds();
     match who_may_have_moved(alloc, world, changes, query.plan.query(), bonds)? {
@@ -117,6 +119,8 @@ fn rows_by_all<A: Allocator + Copy>(
     ensures left { IfOk result (λ rows. rows.left.items ≡ missing_from query.now.these.items (matching (view_of world.now.state) (query.now.plan).query)) }
     ensures entered { IfOk result (λ rows. rows.entered.items ≡ missing_from (matching (view_of world.now.state) (query.now.plan).query) query.now.these.items) }
     ensures these { IfOk result (λ rows. (kept_rows rows query.now.these).items ≡ matching (view_of world.now.state) (query.now.plan).query) }
+    ensures grows { compared.old ≤ compared.new }
+    ensures few { compared.new ≤ compared.old + 1 }
 {
     let these = whole_rows(alloc, world, &query.plan, compared)?;
     let left = query.these.without(alloc, &these)?;

@@ -86,7 +86,8 @@ impl<A: Allocator> Session<A> {
         &self.world
     }
 
-    /// How often the whole rows of a monitor were taken so far, to be compared with those before. It stays at its greatest number.
+    /// How often the whole rows of a monitor were taken so far, to be compared with those before. It never falls, and stays at its
+    /// greatest number.
     ///
     /// Those of a monitor are taken when it is stored, and after commands that concern its query alone, unless the facts that came and went tell
     /// its rows but for few entities, who are asked. Monitors of local queries never have theirs taken: they are told by the entities that a

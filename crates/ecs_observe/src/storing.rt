@@ -1,6 +1,6 @@
 //! Storing queries, and dropping them.
 
-ghost use Rattle.std.specs.Prelude.{◌≡◌, ◌≢◌, ◌<◌, All, length, false, None, OnErr, OnOk};
+ghost use Rattle.std.specs.Prelude.{◌≡◌, ◌≢◌, ◌<◌, ◌≤◌, All, length, false, None, OnErr, OnOk};
 ghost use Rattle.std.specs.List.{list_any};
 ghost use Rattle.std.specs.String.{string_bytes};
 ghost use Rattle.ecs_model.specs.stored.Session.{Drop, Store, apply, most_stored};
@@ -9,7 +9,7 @@ ghost use Rattle.ecs_observe.specs.Following.{ListsOneLess, ListsOneMore};
 ghost use Rattle.ecs_observe.specs.Lists.{HasNewList};
 ghost use Rattle.ecs_observe.specs.Parts.{held_of};
 ghost use Rattle.ecs_observe.specs.Standing.{IsHeld, IsNow, is_compared, session_of};
-ghost use Rattle.ecs_observe.specs.Storing.{store_refusal, with_held};
+ghost use Rattle.ecs_observe.specs.Storing.{CountsStored, store_refusal, with_held};
 
 use crate::pinning::{pin_all, unpin_all};
 use crate::stored::StoredQuery;
@@ -38,6 +38,8 @@ impl<A: Allocator + Copy> Session<A> {
     ) -> Result<Option<EntityId>, SessionError>
         ensures answers { AnswersApply result (apply (session_of self.old) (Store kind name.now text.now)) self.old self.new }
         ensures compared { list_any is_compared (self.new).stored ≡ false → (self.new).compared ≡ (self.old).compared }
+        ensures counted { CountsStored result kind text.now self.old self.new }
+        ensures grows { (self.old).compared ≤ (self.new).compared }
         ensures lists { ListsOneMore result name.now self.old self.new }
         ensures tables { (self.new).world.tables ≡ (self.old).world.tables }
     {

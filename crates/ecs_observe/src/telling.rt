@@ -1,14 +1,14 @@
 //! Telling the events of a command.
 
-ghost use Rattle.std.specs.Prelude.{◌≡◌, ◌<◌, [], ◌++◌, ◌&&◌, IfOk, OnErr, OnOk, All, length, map, flat_map, false, not, true};
-ghost use Rattle.std.specs.List.{list_any};
+ghost use Rattle.std.specs.Prelude.{◌≡◌, ◌+◌, ◌<◌, ◌≤◌, [], ◌++◌, ◌&&◌, IfOk, OnErr, OnOk, All, length, map, flat_map, false, not, true};
+ghost use Rattle.std.specs.List.{count_by, list_any};
 ghost use Rattle.std.specs.List.Sorted.{IsStrictlyIncreasing};
 ghost use Rattle.std.specs.String.{string_bytes};
 ghost use Rattle.ecs_model.specs.stored.Session.{after_events, events};
 ghost use Rattle.ecs_observe.specs.Following.{lists_of};
 ghost use Rattle.ecs_observe.specs.Lists.{KeepLists};
 ghost use Rattle.ecs_observe.specs.Parts.{ArePlaced, held_as, held_of, put_in, with_all_kept};
-ghost use Rattle.ecs_observe.specs.Standing.{IsHeld, WasNow, has_searched, is_compared, is_monitor, is_searched, is_told_locally, rows_put, session_of, told_to};
+ghost use Rattle.ecs_observe.specs.Standing.{IsHeld, WasNow, has_searched, is_compared, is_monitor, is_searched, is_told_locally, rows_put, searched_in, session_of, told_to};
 ghost use Rattle.ecs_observe.specs.Stored.{AreLedTo, IsStored, entries_of};
 ghost use Rattle.ecs_observe.specs.Telling.{AreTouchedBy, any_locally_at};
 ghost use Rattle.query_model.specs.Local.{is_local};
@@ -38,6 +38,8 @@ impl<A: Allocator + Copy> Session<A> {
         ensures after { OnOk result (session_of self.new ≡ after_events (session_of self.old)) }
         ensures refused { OnErr result (self.new ≡ self.old) }
         ensures compared { list_any is_compared (self.old).stored ≡ false → (self.new).compared ≡ (self.old).compared }
+        ensures grows { (self.old).compared ≤ (self.new).compared }
+        ensures few { (self.new).compared ≤ (self.old).compared + searched_in self.old }
         ensures spared { has_searched self.old ≡ false → (self.new).compared ≡ (self.old).compared }
         ensures lists { lists_of self.new ≡ lists_of self.old }
         ensures world { (self.new).world ≡ (self.old).world }
@@ -86,6 +88,8 @@ fn tell_led<A: Allocator + Copy>(
     ensures rows { OnOk result (ArePlaced (rows_put world.now.state changes.now) rows.new.items (entries_of stored.now)) }
     ensures told { OnOk result (events.new.items ≡ events.old.items ++ flat_map (told_to world.now.state changes.now) (map held_of (entries_of stored.now))) }
     ensures compared { list_any (is_searched changes.now) (map held_of (entries_of stored.now)) ≡ false → compared.new ≡ compared.old }
+    ensures grows { compared.old ≤ compared.new }
+    ensures few { OnOk result (compared.new ≤ compared.old + count_by (is_searched changes.now) (map held_of (entries_of stored.now))) }
 {
     let places = stored.led(alloc, changes)?;
     let places = places.as_slice();
@@ -146,6 +150,8 @@ fn tell_all<A: Allocator + Copy>(
     ensures rows { OnOk result (ArePlaced (rows_put world.now.state changes.now) rows.new.items (entries_of stored.now)) }
     ensures told { OnOk result (events.new.items ≡ events.old.items ++ flat_map (told_to world.now.state changes.now) (map held_of (entries_of stored.now))) }
     ensures compared { list_any (is_searched changes.now) (map held_of (entries_of stored.now)) ≡ false → compared.new ≡ compared.old }
+    ensures grows { compared.old ≤ compared.new }
+    ensures few { OnOk result (compared.new ≤ compared.old + count_by (is_searched changes.now) (map held_of (entries_of stored.now))) }
 {
     world.keeps();
     for place in places {
@@ -181,6 +187,8 @@ fn tell_one<A: Allocator + Copy>(
     ensures rows { IfOk result (λ rows. put_in rows query.now.these ≡ rows_put world.now.state changes.now (held_as (string_bytes name.now) query.now)) }
     ensures told { OnOk result (events.new.items ≡ events.old.items ++ told_to world.now.state changes.now (held_as (string_bytes name.now) query.now)) }
     ensures compared { is_searched changes.now (held_as (string_bytes name.now) query.now) ≡ false → compared.new ≡ compared.old }
+    ensures grows { compared.old ≤ compared.new }
+    ensures few { compared.new ≤ compared.old + 1 }
 {
     if !may_tell(query.kind, query.plan.query(), changes) {
         return Ok(None);
@@ -215,6 +223,8 @@ fn tell_compared<A: Allocator + Copy>(
     ensures rows { IfOk result (λ rows. put_in rows query.now.these ≡ rows_put world.now.state changes.now (held_as (string_bytes name.now) query.now)) }
     ensures told { OnOk result (events.new.items ≡ events.old.items ++ told_to world.now.state changes.now (held_as (string_bytes name.now) query.now)) }
     ensures compared { is_searched changes.now (held_as (string_bytes name.now) query.now) ≡ false → compared.new ≡ compared.old }
+    ensures grows { compared.old ≤ compared.new }
+    ensures few { compared.new ≤ compared.old + 1 }
 {
     world.keeps();
     let bonds = query.plan.bonds();

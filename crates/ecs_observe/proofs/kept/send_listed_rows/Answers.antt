@@ -38,11 +38,13 @@ send_rows_from-requires-clause-tables g c =
 
 pub returns-in_err-sync-clause-follows : goal.returns-in_err-sync-clause-follows
 returns-in_err-sync-clause-follows g c =
-    follows_again c.args.world.now.tables c.args.list.now c.plan_if_outgrown.new.list c.sync.new.self c.sync.result c.sync.ensures.patterns c.sync.ensures.judged c.sync.ensures.again c.plan_if_outgrown.ensures.follows c.in_ok-plan_if_outgrown.ensures.synced
+    follows_again c.args.world.now.tables c.args.list.now c.plan_if_outgrown.new.list c.sync.new.self c.sync.result
+    (record { fits = c.plan_if_outgrown.ensures.list.fits; patterns = c.sync.ensures.patterns; exact = c.sync.ensures.exact; synced = c.sync.ensures.synced; refused = c.sync.ensures.refused; judges = c.sync.ensures.judged; again = c.sync.ensures.again }) c.plan_if_outgrown.ensures.follows c.in_ok-plan_if_outgrown.ensures.synced
 
 pub returns-clause-follows : goal.returns-clause-follows
 returns-clause-follows g c =
-    follows_again c.args.world.now.tables c.args.list.now c.plan_if_outgrown.new.list c.sync.new.self c.sync.result c.sync.ensures.patterns c.sync.ensures.judged c.sync.ensures.again c.plan_if_outgrown.ensures.follows c.in_ok-plan_if_outgrown.ensures.synced
+    follows_again c.args.world.now.tables c.args.list.now c.plan_if_outgrown.new.list c.sync.new.self c.sync.result
+    (record { fits = c.plan_if_outgrown.ensures.list.fits; patterns = c.sync.ensures.patterns; exact = c.sync.ensures.exact; synced = c.sync.ensures.synced; refused = c.sync.ensures.refused; judges = c.sync.ensures.judged; again = c.sync.ensures.again }) c.plan_if_outgrown.ensures.follows c.in_ok-plan_if_outgrown.ensures.synced
 
 pub returns-then-not-begins_in_tables-clause-reads : goal.returns-then-not-begins_in_tables-clause-reads
 returns-then-not-begins_in_tables-clause-reads g c =

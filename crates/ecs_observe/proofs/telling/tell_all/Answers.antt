@@ -1,11 +1,12 @@
 -- Those at the places are told one after another, and between them all are silent.
 use Rattle.std.specs.Prelude.{flat_map, is_some}
 use Rattle.std.specs.String.{string_bytes}
-use Rattle.std.proofs.Common.{◌+◌, ◌<◌, ◌∙◌, ◌++◌, ap, arith, get_or, length, map, refl, subst, sym, true≢false}
+use Rattle.std.proofs.Common.{◌+◌, ◌<◌, ◌≤◌, ◌∙◌, ◌++◌, ap, arith, get_or, length, map, refl, subst, sym, true≢false}
 use Rattle.std.proofs.lemmas.List.{length-map, take_all}
 use Rattle.ecs_observe.specs.Parts.{held_as, held_of, put_in}
 use Rattle.ecs_observe.specs.Standing.{IsHeld, WasNow, is_searched, rows_put, told_to}
 use Rattle.ecs_observe.specs.Stored.{entries_of}
+use Rattle.ecs_observe.proofs.Counting.{AreDoneUpTo, all_counted, none_done, one_more}
 use Rattle.ecs_observe.proofs.Locally.{none_at, one_told_locally}
 use Rattle.ecs_observe.proofs.Retold.{ArePlacedUpTo, all_at, all_placed, held_at, none_put_there, none_yet, one_placed}
 use Rattle.ecs_observe.proofs.Skipped.{begin, put_here, told_all, told_none}
@@ -21,9 +22,12 @@ loop-place-init g c =
     let hs = map held_of es in
     let start = c.args.events.now.items in
     let placed = c.args.rows.now.items in
+    let counted = c.args.compared.now in
+    let R = AreDoneUpTo g_put (is_searched c.args.changes.now) es counted in
     record {
-      told = begin g_told g_put hs start (ArePlacedUpTo g_put es) c.args.places.now start placed (told_none g_told g_put hs start (ArePlacedUpTo g_put es) start placed refl (none_yet g_put es placed c.requires.none));
+      told = begin g_told g_put hs start R c.args.places.now start (placed, counted) (told_none g_told g_put hs start R start (placed, counted) refl (none_yet g_put es placed c.requires.none, omega arith));
       compared = λ none. refl;
+      grows = omega arith;
     }
 
 pub tell_one-requires-clause-held : goal.tell_one-requires-clause-held
@@ -64,30 +68,45 @@ loop-place-preserved g c =
     let silent = others_silent w changed es places c.keeps.ensures c.requires.after c.requires.was c.requires.led in
     let told = told_to w changed in
     let put = rows_put w changed in
-    let here = put_here told put hs start (ArePlacedUpTo put es) (none_put_there put es) places c.requires.ascend silent j p 0 refl inside in
+    let searched = is_searched changed in
+    let counted = c.args.compared.now in
+    let here = put_here told put hs start (AreDoneUpTo put searched es counted) (none_done put searched es counted) places c.requires.ascend silent j p 0 refl inside in
+    let before = c.loop-place.compared in
+    let after = c.match-get_index.compared in
     elim c.match-get_index.branch [
       | in-Some+in_ok-now+in-Some-now+in_ok-push b ↦
           let q = b.in-Some.query.now in
+          let one = held_as (string_bytes b.in-Some.name.now) q in
           let there = held_at es p b.in-Some.name.now q b.in-Some.ensures.entry in
+          let few : after ≤ before + 1 = omega (arith, b.compared-is, b.in_ok-now.ensures.few) in
           record {
-            told = here (held_as (string_bytes b.in-Some.name.now) q) there held_low c.loop-place.events.items c.loop-place.rows.items c.loop-place.invariant.told c.match-get_index.events.items c.match-get_index.rows.items
+            told = here one there held_low c.loop-place.events.items (c.loop-place.rows.items, before) c.loop-place.invariant.told c.match-get_index.events.items (c.match-get_index.rows.items, after)
                 (ap (λ v. v.items) b.events-is ∙ b.in_ok-now.ensures.told)
-                (λ so. one_placed put es p c.loop-place.rows.items c.match-get_index.rows.items so (b.in-Some.name.now, q) b.in-Some-now.after b.in-Some.ensures.entry
-                (sym b.in_ok-now.ensures.rows ∙ ap (λ o. put_in o q.these) b.in-Some-now.is) (ap (λ v. v.items) b.rows-is ∙ b.in_ok-push.ensures.items));
+                (λ so. (
+                  one_placed put es p c.loop-place.rows.items c.match-get_index.rows.items so.0 (b.in-Some.name.now, q) b.in-Some-now.after b.in-Some.ensures.entry
+                      (sym b.in_ok-now.ensures.rows ∙ ap (λ o. put_in o q.these) b.in-Some-now.is) (ap (λ v. v.items) b.rows-is ∙ b.in_ok-push.ensures.items),
+                  one_more searched hs counted p before after one there few (λ spared. b.compared-is ∙ b.in_ok-now.ensures.compared spared) so.1,
+                ));
             compared = λ none. b.compared-is
                 ∙ (b.in_ok-now.ensures.compared (none_at es p b.in-Some.name.now q b.in-Some.ensures.entry (is_searched changed) none) ∙ c.loop-place.invariant.compared none);
+            grows = omega (arith, b.compared-is, b.in_ok-now.ensures.grows, c.loop-place.invariant.grows);
           }
       | in-Some+in_ok-now+in_default-now b ↦
           let q = b.in-Some.query.now in
           let one = held_as (string_bytes b.in-Some.name.now) q in
           let there = held_at es p b.in-Some.name.now q b.in-Some.ensures.entry in
+          let few : after ≤ before + 1 = omega (arith, b.compared-is, b.in_ok-now.ensures.few) in
           record {
-            told = here one there held_low c.loop-place.events.items c.loop-place.rows.items c.loop-place.invariant.told c.match-get_index.events.items c.match-get_index.rows.items
+            told = here one there held_low c.loop-place.events.items (c.loop-place.rows.items, before) c.loop-place.invariant.told c.match-get_index.events.items (c.match-get_index.rows.items, after)
                 (ap (λ v. v.items) b.events-is ∙ b.in_ok-now.ensures.told)
-                (λ so. subst (ArePlacedUpTo put es (p + 1)) (sym (ap (λ v. v.items) b.rows-is))
-                (none_put_there put es p c.loop-place.rows.items one so there (sym b.in_ok-now.ensures.rows ∙ ap (λ o. put_in o q.these) b.in_default-now.is)));
+                (λ so. (
+                  subst (ArePlacedUpTo put es (p + 1)) (sym (ap (λ v. v.items) b.rows-is))
+                      (none_put_there put es p c.loop-place.rows.items one so.0 there (sym b.in_ok-now.ensures.rows ∙ ap (λ o. put_in o q.these) b.in_default-now.is)),
+                  one_more searched hs counted p before after one there few (λ spared. b.compared-is ∙ b.in_ok-now.ensures.compared spared) so.1,
+                ));
             compared = λ none. b.compared-is
                 ∙ (b.in_ok-now.ensures.compared (none_at es p b.in-Some.name.now q b.in-Some.ensures.entry (is_searched changed) none) ∙ c.loop-place.invariant.compared none);
+            grows = omega (arith, b.compared-is, b.in_ok-now.ensures.grows, c.loop-place.invariant.grows);
           }
       | in_default b ↦ absurd (true≢false (sym (c.get_index.ensures.found.1 low) ∙ ap is_some b.in_default.is))
     ]
@@ -100,8 +119,11 @@ returns-clause-rows g c =
     let hs = map held_of es in
     let silent = others_silent w changed es c.args.places.now c.keeps.ensures c.requires.after c.requires.was c.requires.led in
     let put = rows_put w changed in
-    let all = told_all (told_to w changed) put hs c.args.events.now.items (ArePlacedUpTo put es) (none_put_there put es) c.args.places.now c.requires.ascend silent c.loop-place.place-index c.loop-place.events.items c.loop-place.rows.items (omega arith) c.loop-place.invariant.told in
-    all_placed put es (length hs) c.loop-place.rows.items (omega arith) all.rows
+    let searched = is_searched changed in
+    let counted = c.args.compared.now in
+    let all = told_all (told_to w changed) put hs c.args.events.now.items (AreDoneUpTo put searched es counted) (none_done put searched es counted) c.args.places.now c.requires.ascend silent c.loop-place.place-index c.loop-place.events.items
+    (c.loop-place.rows.items, c.loop-place.compared) (omega arith) c.loop-place.invariant.told in
+    all_placed put es (length hs) c.loop-place.rows.items (omega arith) all.rows.0
 
 pub returns-clause-told : goal.returns-clause-told
 returns-clause-told g c =
@@ -111,5 +133,22 @@ returns-clause-told g c =
     let hs = map held_of es in
     let silent = others_silent w changed es c.args.places.now c.keeps.ensures c.requires.after c.requires.was c.requires.led in
     let put = rows_put w changed in
-    let all = told_all (told_to w changed) put hs c.args.events.now.items (ArePlacedUpTo put es) (none_put_there put es) c.args.places.now c.requires.ascend silent c.loop-place.place-index c.loop-place.events.items c.loop-place.rows.items (omega arith) c.loop-place.invariant.told in
+    let searched = is_searched changed in
+    let counted = c.args.compared.now in
+    let all = told_all (told_to w changed) put hs c.args.events.now.items (AreDoneUpTo put searched es counted) (none_done put searched es counted) c.args.places.now c.requires.ascend silent c.loop-place.place-index c.loop-place.events.items
+    (c.loop-place.rows.items, c.loop-place.compared) (omega arith) c.loop-place.invariant.told in
     all.told ∙ ap (λ hs. c.args.events.now.items ++ flat_map (told_to w changed) hs) (take_all (length hs) hs (omega arith))
+
+pub returns-clause-few : goal.returns-clause-few
+returns-clause-few g c =
+    let w = c.args.world.now.state in
+    let changed = c.args.changes.now in
+    let es = entries_of c.args.stored.now in
+    let hs = map held_of es in
+    let silent = others_silent w changed es c.args.places.now c.keeps.ensures c.requires.after c.requires.was c.requires.led in
+    let put = rows_put w changed in
+    let searched = is_searched changed in
+    let counted = c.args.compared.now in
+    let all = told_all (told_to w changed) put hs c.args.events.now.items (AreDoneUpTo put searched es counted) (none_done put searched es counted) c.args.places.now c.requires.ascend silent c.loop-place.place-index c.loop-place.events.items
+    (c.loop-place.rows.items, c.loop-place.compared) (omega arith) c.loop-place.invariant.told in
+    all_counted searched hs counted (length hs) c.loop-place.compared (omega arith) all.rows.1

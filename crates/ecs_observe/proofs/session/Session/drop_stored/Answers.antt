@@ -66,8 +66,7 @@ returns-clause-answers g c =
 
 pub returns-in_default-clause-lists : goal.returns-in_default-clause-lists
 returns-in_default-clause-lists g c =
-    ap lists_of
-    (same_seen c.self.inside.world c.self.inside.world (entries_of c.self.inside.stored) (entries_of c.remove.new.self) c.self.inside.waiting c.self.inside.compared refl refl (ap entries_of c.in_default.ensures.none) ∙ c.self.view_is)
+    same_seen c.self.inside.world c.self.inside.world (entries_of c.self.inside.stored) (entries_of c.remove.new.self) c.self.inside.waiting c.self.inside.compared refl refl (ap entries_of c.in_default.ensures.none) ∙ c.self.view_is
 
 pub returns-clause-lists : goal.returns-clause-lists
 returns-clause-lists g c =

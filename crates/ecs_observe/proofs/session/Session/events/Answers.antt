@@ -1,9 +1,9 @@
-use Rattle.std.proofs.Common.{All, map, ap, subst, ◌∙◌}
+use Rattle.std.proofs.Common.{All, map, ap, arith, subst, ◌∙◌}
 use Rattle.std.specs.List.{list_any}
 use Rattle.std.specs.Prelude.{IfSome}
 use Rattle.ecs_observe.specs.Parts.{held_of}
 use Rattle.ecs_observe.specs.Standing.{Standing, WasNow, is_compared}
-use Rattle.ecs_observe.proofs.Retold.{none_for, none_waits_after, none_waits_told, put_told, retold_after, retold_lists, retold_session, told_waits}
+use Rattle.ecs_observe.proofs.Retold.{none_for, none_waits_after, none_waits_told, put_told, retold_after, retold_lists, retold_session, searched_for, told_waits}
 use Rattle.ecs_observe.proofs.Staying.{none_searched}
 use Rattle.ecs_observe.specs.Stored.{entries_of}
 use Rattle.ecs_observe.proofs.session.Session.events.Goals as goal
@@ -41,6 +41,17 @@ pub returns-clause-compared : goal.returns-clause-compared
 returns-clause-compared g c = λ none.
     c.in_ok-tell_led.ensures.compared (none_searched c.in-Some.changes (map held_of (entries_of c.self.inside.stored)) (ap (λ (s : Standing). list_any is_compared s.stored) c.self.view_is ∙ none))
     ∙ ap (λ (s : Standing). s.compared) c.self.view_is
+
+pub returns-clause-grows : goal.returns-clause-grows
+returns-clause-grows g c =
+    let before = ap (λ (s : Standing). s.compared) c.self.view_is in
+    omega (arith, before, c.tell_led.ensures.grows)
+
+pub returns-clause-few : goal.returns-clause-few
+returns-clause-few g c =
+    let before = ap (λ (s : Standing). s.compared) c.self.view_is in
+    let searched = searched_for _ c.args.self.now c.self.view_is c.in-Some.changes c.in-Some.is in
+    omega (arith, before, searched, c.in_ok-tell_led.ensures.few)
 
 pub returns-clause-spared : goal.returns-clause-spared
 returns-clause-spared g c = λ none.

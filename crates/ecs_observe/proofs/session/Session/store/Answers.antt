@@ -1,5 +1,5 @@
 -- What is against a new stored query is told, and else it is held.
-use Rattle.std.proofs.Common.{◌≡◌, ◌≢◌, All, None, Ok, Err, refl, sym, ap, subst, ◌∙◌}
+use Rattle.std.proofs.Common.{◌≡◌, ◌≢◌, All, None, Ok, Err, arith, refl, sym, ap, subst, ◌∙◌}
 use Rattle.std.proofs.lemmas.Result.{err_from_is_err_and}
 use Rattle.std.specs.Prelude.{◌&&◌, not}
 use Rattle.std.specs.List.{list_any}
@@ -9,7 +9,7 @@ use Rattle.query_model.specs.Query.{Query}
 use Rattle.world_query.specs.Planned.{IsPlannedIn}
 use Rattle.ecs_observe.specs.Following.{plan_of}
 use Rattle.ecs_observe.specs.Parts.{held_of}
-use Rattle.ecs_observe.specs.Standing.{Held, IsHeld, IsNow, Standing, is_compared, is_monitor, session_of}
+use Rattle.ecs_observe.specs.Standing.{Held, IsHeld, IsNow, Standing, counted_for, is_compared, is_monitor, session_of}
 use Rattle.ecs_observe.specs.Storing.{AnswersWatched}
 use Rattle.ecs_observe.proofs.Found.{same_but_compared}
 use Rattle.ecs_observe.specs.Storing.{with_held}
@@ -72,6 +72,21 @@ returns-clause-compared g c = λ none.
     let last = last_isnt (c.args.self.now).stored h (ap (λ (s : Standing). list_any is_compared s.stored) (sym c.in_ok-hold.ensures.held) ∙ none) in
     let one = sym (λ i. is_monitor (c.in_ok-stored.ensures.kind i) && not (is_local (c.in_ok-stored.ensures.query i))) ∙ last in
     ap (λ (s : Standing). s.compared) c.in_ok-hold.ensures.held ∙ (c.stored_query.ensures.compared one ∙ ap (λ (s : Standing). s.compared) c.self.view_is)
+
+-- the text asks no other query
+pub returns-clause-counted : goal.returns-clause-counted
+returns-clause-counted g c = λ q asked.
+    let is : Ok c.in_ok-query.query ≡ Ok q = sym c.in_ok-query.ensures.0 ∙ (ap (λ (s : Standing). query_of (s.world).state c.args.text.now) c.self.view_is ∙ asked) in
+    let one : c.in_ok-query.query ≡ q = cc in
+    ap (λ (s : Standing). s.compared) c.in_ok-hold.ensures.held
+    ∙ (c.in_ok-stored.ensures.counted
+    ∙ (λ i. counted_for c.args.kind (one i) ((c.self.view_is i).compared)))
+
+pub returns-clause-grows : goal.returns-clause-grows
+returns-clause-grows g c =
+    let before = ap (λ (s : Standing). s.compared) c.self.view_is in
+    let after = ap (λ (s : Standing). s.compared) c.in_ok-hold.ensures.held in
+    omega (arith, before, after, c.stored_query.ensures.grows)
 
 pub returns-clause-lists : goal.returns-clause-lists
 returns-clause-lists g c =
