@@ -3,7 +3,6 @@ pub mod Parts
 pub mod Answers
 pub mod Storing
 pub mod Telling
-pub mod Indexes
 pub mod Lists
 pub mod Following
 pub mod Commands

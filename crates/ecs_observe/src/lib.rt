@@ -9,7 +9,6 @@ mod asking;
 mod columns;
 mod commands;
 mod errors;
-mod indexes;
 mod kept;
 mod moves;
 mod pinning;

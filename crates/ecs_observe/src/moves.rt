@@ -11,20 +11,20 @@ ghost use Rattle.touched_entities.specs.Before.{view_before};
 ghost use Rattle.watch_meaning.specs.Since.{IsAfter};
 
 use crate::asking::found_among;
-use crate::indexes::Indexes;
 use crate::stored::StoredQuery;
 use crate::watched::whole_rows;
 use asking_room::AskingRoom;
 use ecs_world::{Changes, World};
 use entity_set::EntitySet;
+use short_list::ShortList;
 use std::alloc::{AllocError, Allocator};
 use touched_entities::{Moved, who_may_have_moved};
 
 /// The entities of a monitor's rows after a command, by those who left the rows by it and those who entered them. Both ascend.
 #[derive(Drop)]
 pub(crate) struct RowsAfter<A: Allocator> {
-    pub(crate) left: Indexes<A>,
-    pub(crate) entered: Indexes<A>,
+    pub(crate) left: ShortList<A>,
+    pub(crate) entered: ShortList<A>,
     /// All of them, unless the moves can be made in the set of those before the command.
     pub(crate) these: Option<EntitySet<A>>,
 }
@@ -126,8 +126,8 @@ fn rows_by_all<A: Allocator + Copy>(
     let left = query.these.without(alloc, &these)?;
     let entered = these.without(alloc, &query.these)?;
     Ok(RowsAfter {
-        left: Indexes::from_vec(left),
-        entered: Indexes::from_vec(entered),
+        left: ShortList::from_vec(left),
+        entered: ShortList::from_vec(entered),
         these: Some(these),
     })
 }
@@ -135,8 +135,8 @@ fn rows_by_all<A: Allocator + Copy>(
 /// Who left and who entered.
 #[derive(Drop)]
 struct Told<A: Allocator> {
-    left: Indexes<A>,
-    entered: Indexes<A>,
+    left: ShortList<A>,
+    entered: ShortList<A>,
 }
 
 /// Of those who may have moved, who was in the rows and isn't any more, and who is in them and wasn't. In them are those whose ids tell it, and those whom
@@ -152,8 +152,8 @@ fn told_of<A: Allocator + Copy>(
     ensures left { IfOk result (λ told. told.left.items ≡ filter (λ e. is_among before.now.items e && not (is_among moved.now.sure.items e || is_among found.now e)) moved.now.all.items) }
     ensures entered { IfOk result (λ told. told.entered.items ≡ filter (λ e. (is_among moved.now.sure.items e || is_among found.now e) && not (is_among before.now.items e)) moved.now.all.items) }
 {
-    let mut left = Indexes::new();
-    let mut entered = Indexes::new();
+    let mut left = ShortList::new();
+    let mut entered = ShortList::new();
     let all = moved.all.as_slice();
     let sure = moved.sure.as_slice();
     for entity in all {
@@ -169,7 +169,7 @@ fn push_if<A: Allocator>(
     alloc: A,
     wanted: bool,
     entity: u32,
-    entities: &mut Indexes<A>,
+    entities: &mut ShortList<A>,
 ) -> Result<(), AllocError>
     ensures { OnOk result (entities.new.items ≡ entities.old.items ++ (if wanted then entity ∷ [] else [])) }
 {

@@ -14,7 +14,7 @@ use Rattle.ecs_observe.proofs.moves.rows_by_asking.Goals as goal
 
 pub found_among-requires-clause-live : goal.found_among-requires-clause-live
 found_among-requires-clause-live g c =
-    subst (λ (es : List ℕ). All (Contains (entities c.args.world.now.state)) es) (sym c.as_slice.ensures.value)
+    subst (λ (es : List ℕ). All (Contains (entities c.args.world.now.state)) es) (sym c.as_slice.ensures)
     (λ k d low. ((c.requires.told).2).asked_live _ (Contains-get_or _ k d low))
 
 pub told_of-requires-clause-sure : goal.told_of-requires-clause-sure
@@ -23,15 +23,15 @@ told_of-requires-clause-sure g c = ((c.requires.told).2).sure_ascend
 pub told_of-requires-clause-found : goal.told_of-requires-clause-found
 told_of-requires-clause-found g c =
     let now = matching (view_of c.args.world.now.state) (c.args.query.now.plan).query in
-    let asked = subst IsStrictlyIncreasing (sym c.as_slice.ensures.value) ((c.requires.told).2).asked_ascend in
-    subst IsStrictlyIncreasing (sym (c.as_slice-2.ensures.value ∙ c.in_ok-found.ensures)) (IsStrictlyIncreasing-filter (is_among now) c.as_slice.result.now asked)
+    let asked = subst IsStrictlyIncreasing (sym c.as_slice.ensures) ((c.requires.told).2).asked_ascend in
+    subst IsStrictlyIncreasing (sym (c.as_slice-2.ensures ∙ c.in_ok-found.ensures)) (IsStrictlyIncreasing-filter (is_among now) c.as_slice.result.now asked)
 
 pub returns-clause-left : goal.returns-clause-left
 returns-clause-left g c =
     let w = c.args.world.now.state in
     let q = (c.args.query.now.plan).query in
     let now = matching (view_of w) q in
-    let are = c.as_slice-2.ensures.value ∙ (c.in_ok-found.ensures ∙ ap (filter (is_among now)) c.as_slice.ensures.value) in
+    let are = c.as_slice-2.ensures ∙ (c.in_ok-found.ensures ∙ ap (filter (is_among now)) c.as_slice.ensures) in
     c.in_ok-told.ensures.left
     ∙ left_are w q c.args.query.now.these.items _ _ _ c.as_slice-2.result.now c.requires.told c.requires.ascends now refl (matching_ascends w q c.keeps.ensures) are
 
@@ -40,7 +40,7 @@ returns-clause-entered g c =
     let w = c.args.world.now.state in
     let q = (c.args.query.now.plan).query in
     let now = matching (view_of w) q in
-    let are = c.as_slice-2.ensures.value ∙ (c.in_ok-found.ensures ∙ ap (filter (is_among now)) c.as_slice.ensures.value) in
+    let are = c.as_slice-2.ensures ∙ (c.in_ok-found.ensures ∙ ap (filter (is_among now)) c.as_slice.ensures) in
     c.in_ok-told.ensures.entered
     ∙ entered_are w q c.args.query.now.these.items _ _ _ c.as_slice-2.result.now c.requires.told c.requires.ascends now refl (matching_ascends w q c.keeps.ensures) are
 
@@ -51,7 +51,7 @@ returns-clause-these g c =
     let before = c.args.query.now.these.items in
     let now = matching (view_of w) q in
     let up = matching_ascends w q c.keeps.ensures in
-    let are = c.as_slice-2.ensures.value ∙ (c.in_ok-found.ensures ∙ ap (filter (is_among now)) c.as_slice.ensures.value) in
+    let are = c.as_slice-2.ensures ∙ (c.in_ok-found.ensures ∙ ap (filter (is_among now)) c.as_slice.ensures) in
     let left = c.in_ok-told.ensures.left ∙ left_are w q before _ _ _ c.as_slice-2.result.now c.requires.told c.requires.ascends now refl up are in
     let entered = c.in_ok-told.ensures.entered ∙ entered_are w q before _ _ _ c.as_slice-2.result.now c.requires.told c.requires.ascends now refl up are in
     let set = c.in_ok-these.these in

@@ -29,7 +29,7 @@ returns-clause-left g c =
     let found = c.args.found.now in
     c.loop-entity.invariant.left
     ∙ ap (filter (λ e. is_among before e && not (is_among c.as_slice-sure.result.now e || is_among found e))) (take_all c.loop-entity.entity-index c.as_slice-all.result.now c.loop-entity-test.false)
-    ∙ (λ i. filter (λ e. is_among before e && not (is_among (c.as_slice-sure.ensures.value i) e || is_among found e)) (c.as_slice-all.ensures.value i))
+    ∙ (λ i. filter (λ e. is_among before e && not (is_among (c.as_slice-sure.ensures i) e || is_among found e)) (c.as_slice-all.ensures i))
 
 pub returns-clause-entered : goal.returns-clause-entered
 returns-clause-entered g c =
@@ -37,4 +37,4 @@ returns-clause-entered g c =
     let found = c.args.found.now in
     c.loop-entity.invariant.entered
     ∙ ap (filter (λ e. (is_among c.as_slice-sure.result.now e || is_among found e) && not (is_among before e))) (take_all c.loop-entity.entity-index c.as_slice-all.result.now c.loop-entity-test.false)
-    ∙ (λ i. filter (λ e. (is_among (c.as_slice-sure.ensures.value i) e || is_among found e) && not (is_among before e)) (c.as_slice-all.ensures.value i))
+    ∙ (λ i. filter (λ e. (is_among (c.as_slice-sure.ensures i) e || is_among found e) && not (is_among before e)) (c.as_slice-all.ensures i))
