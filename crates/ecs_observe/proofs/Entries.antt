@@ -16,11 +16,13 @@ use Rattle.name_order.specs.Order as order
 use Rattle.table_store.specs.Store.{Store}
 use Rattle.watch_order.specs.Watched.{Boxed}
 use Rattle.watch_order.specs.declared.watching.Watcher.{Watcher}
-use Rattle.ecs_observe.specs.Lists.{HasList, HaveLists}
-use Rattle.ecs_observe.specs.Parts.{held_of, with_kept, with_kept_at}
+use Rattle.stored_queries.specs.Lists.{HasList}
+use Rattle.ecs_observe.specs.Lists.{HaveLists}
+use Rattle.ecs_observe.specs.Parts.{held_of, with_kept_at}
+use Rattle.stored_queries.specs.Parts.{with_kept}
 use Rattle.ecs_observe.specs.Stored.{entries_in}
-use Rattle.ecs_observe.specs.declared.moves.RowsAfter.{RowsAfter}
-use Rattle.ecs_observe.specs.declared.stored.StoredQuery.{StoredQuery}
+use Rattle.stored_queries.specs.declared.moves.RowsAfter.{RowsAfter}
+use Rattle.stored_queries.specs.declared.stored.StoredQuery.{StoredQuery}
 use Rattle.ecs_observe.proofs.Found.{is_key}
 
 -- ---- values that hold others

@@ -7,7 +7,8 @@ use Rattle.ecs_model.specs.World.{WorldState, first_world}
 use Rattle.ecs_model.specs.stored.Session.{first_session}
 use Rattle.watch_meaning.specs.Mentions.{times}
 use Rattle.watch_meaning.specs.Since.{IsAfter}
-use Rattle.ecs_observe.specs.Standing.{Held, IsHeld, IsNow, IsSession, Standing, WasNow, session_of, stored_of, told_to}
+use Rattle.stored_queries.specs.Held.{Held, IsHeld, IsNow, WasNow, told_to}
+use Rattle.ecs_observe.specs.Standing.{IsSession, Standing, session_of, stored_of}
 
 none_pinned : (i : ℕ) → count_at first_world.pins i ≡ 0
 unfolding first_world

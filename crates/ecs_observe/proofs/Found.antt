@@ -16,9 +16,10 @@ use Rattle.ecs_model.specs.Text.{is_name}
 use Rattle.ecs_model.specs.stored.Refusal.{first_session_reason}
 use Rattle.ecs_model.specs.stored.Session.{SessionState, most_stored, stored_at}
 use Rattle.ecs_world.specs.Standing as world
-use Rattle.ecs_observe.specs.declared.stored.StoredQuery.{StoredQuery}
+use Rattle.stored_queries.specs.declared.stored.StoredQuery.{StoredQuery}
 use Rattle.ecs_observe.specs.Parts.{held_of}
-use Rattle.ecs_observe.specs.Standing.{Held, Standing, session_of, stored_of, told_to}
+use Rattle.stored_queries.specs.Held.{Held, told_to}
+use Rattle.ecs_observe.specs.Standing.{Standing, session_of, stored_of}
 use Rattle.ecs_observe.specs.Storing.{store_refusal}
 
 -- a session by its parts

@@ -23,9 +23,10 @@ use Rattle.world_query.specs.declared.sending.SendError.TheVariants as send
 use Rattle.ecs_observe.specs.Answers.{SendsKept, SendsRows}
 use Rattle.ecs_observe.specs.declared.errors.SendRowsError.{SendRowsError}
 use Rattle.ecs_observe.specs.declared.errors.SendRowsError.TheVariants as rows
-use Rattle.ecs_observe.specs.declared.stored.StoredQuery.{StoredQuery}
+use Rattle.stored_queries.specs.declared.stored.StoredQuery.{StoredQuery}
 use Rattle.ecs_observe.specs.Parts.{held_of}
-use Rattle.ecs_observe.specs.Standing.{Held, IsHeld, IsSession, Standing, session_of, stored_of}
+use Rattle.stored_queries.specs.Held.{Held, IsHeld}
+use Rattle.ecs_observe.specs.Standing.{IsSession, Standing, session_of, stored_of}
 use Rattle.ecs_observe.proofs.Found.{holds_of_found, is_key, named, none_found, seen, some_found, stored_is, world_is}
 
 module _ (w : WorldState) (n : List ℕ) (q : Query) where

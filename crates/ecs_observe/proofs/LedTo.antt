@@ -11,7 +11,7 @@ use Rattle.watch_index.specs.Laws.{WhomChangesConcernTheyLeadTo, may_concern, me
 use Rattle.watch_index.specs.Occasions.{happening, occasions_of}
 use Rattle.watch_order.specs.Watched.{AreLed, Boxed}
 use Rattle.ecs_observe.specs.Stored.{AreLedTo, IsFit, entries_in}
-use Rattle.ecs_observe.specs.declared.stored.StoredQuery.{StoredQuery}
+use Rattle.stored_queries.specs.declared.stored.StoredQuery.{StoredQuery}
 use Rattle.ecs_observe.proofs.Entries.{as_many}
 
 module _ {A : Type 0} (law : WhomChangesConcernTheyLeadTo) (changed : Changed) (bs : List (Boxed (StoredQuery A) A)) (fit : All IsFit bs) (places : List ℕ) (lives : Bool) (came went written : List Key)

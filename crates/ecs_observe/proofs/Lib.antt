@@ -1,6 +1,3 @@
-pub mod Answering
-pub mod Moving
-pub mod Nobody
 pub mod Counted
 pub mod Counting
 pub mod Entries
@@ -27,5 +24,4 @@ pub mod Rewritten
 pub mod Watches
 pub mod WholeColumns
 pub mod NoRows
-pub mod KeptRows
 pub mod Sending

@@ -11,9 +11,10 @@ use Rattle.query_cache.specs.Kept as cache
 use Rattle.query_cache.proofs.Fitting.{fits_later}
 use Rattle.table_store.specs.Going.{TablesGoOn}
 use Rattle.table_store.specs.Store.{Store}
-use Rattle.ecs_observe.specs.Lists.{HasItsList, HasList, HaveLists, IsListOf}
+use Rattle.ecs_observe.specs.Lists.{HasItsList, HaveLists}
+use Rattle.stored_queries.specs.Lists.{HasList, IsListOf}
 use Rattle.ecs_observe.specs.Parts.{held_of}
-use Rattle.ecs_observe.specs.declared.stored.StoredQuery.{StoredQuery}
+use Rattle.stored_queries.specs.declared.stored.StoredQuery.{StoredQuery}
 use Rattle.ecs_observe.proofs.Found.{is_key}
 
 abbrev QueryTables : Type 0

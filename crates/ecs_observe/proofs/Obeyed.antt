@@ -18,7 +18,8 @@ use Rattle.query_meaning.proofs.Standing.{steps_keep_pins, steps_keep_queries_cu
 use Rattle.touched_entities.proofs.Unconcerned.{queries_matched_before}
 use Rattle.watch_meaning.specs.Since.{IsAfter}
 use Rattle.ecs_observe.specs.Answers.{AnswersApply, AnswersCommand, awaited, obeyed}
-use Rattle.ecs_observe.specs.Standing.{IsHeld, IsNow, IsSession, Standing, WasNow, session_of, stored_of, told_to}
+use Rattle.stored_queries.specs.Held.{IsHeld, IsNow, WasNow, told_to}
+use Rattle.ecs_observe.specs.Standing.{IsSession, Standing, session_of, stored_of}
 use Rattle.ecs_observe.specs.declared.errors.SessionError.{SessionError}
 use Rattle.ecs_observe.specs.declared.errors.SessionError.TheVariants.{Refused}
 use Rattle.ecs_observe.proofs.Pinned.{all_pinned}

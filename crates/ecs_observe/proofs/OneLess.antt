@@ -24,10 +24,11 @@ use Rattle.watch_meaning.specs.Mentions.{mentions_index, times, times_in}
 use Rattle.watch_meaning.specs.Since.{IsAfter}
 use Rattle.watch_meaning.proofs.MentionedOnce.{count_by-cons, queries_mention_once}
 use Rattle.watch_meaning.proofs.Pinning.{current_alive, unpinned_counts, unpinned_current, unpinned_once, unpinned_view}
-use Rattle.ecs_observe.specs.declared.stored.StoredQuery.{StoredQuery}
+use Rattle.stored_queries.specs.declared.stored.StoredQuery.{StoredQuery}
 use Rattle.ecs_observe.specs.Following.{lists_of}
 use Rattle.ecs_observe.specs.Parts.{held_of}
-use Rattle.ecs_observe.specs.Standing.{Held, IsHeld, IsNow, IsSession, WasNow, session_of, stored_of, told_to}
+use Rattle.stored_queries.specs.Held.{Held, IsHeld, IsNow, WasNow, told_to}
+use Rattle.ecs_observe.specs.Standing.{IsSession, session_of, stored_of}
 use Rattle.ecs_observe.proofs.Found.{holds_of_found, is_key, named, seen}
 use Rattle.ecs_observe.proofs.OneMore.{far_from_most, none_waits, queries, still_held, still_now}
 

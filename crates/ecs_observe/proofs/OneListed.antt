@@ -19,9 +19,10 @@ use Rattle.query_meaning.specs.declared.steps.Step.{Step}
 use Rattle.watch_meaning.specs.Mentions.{times}
 use Rattle.ecs_observe.specs.Following.{with_list, with_list_at}
 use Rattle.ecs_observe.specs.Parts.{held_of}
-use Rattle.ecs_observe.specs.Standing.{Held, IsHeld, IsNow, IsSession, Standing, WasNow, session_of, stored_of, told_to}
+use Rattle.stored_queries.specs.Held.{Held, IsHeld, IsNow, WasNow, told_to}
+use Rattle.ecs_observe.specs.Standing.{IsSession, Standing, session_of, stored_of}
 use Rattle.ecs_observe.specs.Stored.{entries_in}
-use Rattle.ecs_observe.specs.declared.stored.StoredQuery.{StoredQuery}
+use Rattle.stored_queries.specs.declared.stored.StoredQuery.{StoredQuery}
 use Rattle.ecs_observe.proofs.Found.{is_key}
 use Rattle.ecs_observe.proofs.OneLess.{AreApart, differs, first_apart, rest_apart}
 

@@ -21,9 +21,10 @@ use Rattle.watch_meaning.specs.Mentions.{mentions_index, times, times_in}
 use Rattle.watch_meaning.specs.Since.{IsAfter}
 use Rattle.watch_meaning.proofs.MentionedOnce.{queries_mention_once}
 use Rattle.watch_meaning.proofs.Pinning.{pinned_counts, pinned_current, pinned_view}
-use Rattle.ecs_observe.specs.declared.stored.StoredQuery.{StoredQuery}
+use Rattle.stored_queries.specs.declared.stored.StoredQuery.{StoredQuery}
 use Rattle.ecs_observe.specs.Parts.{held_of}
-use Rattle.ecs_observe.specs.Standing.{Held, IsHeld, IsNow, IsSession, WasNow}
+use Rattle.stored_queries.specs.Held.{Held, IsHeld, IsNow, WasNow}
+use Rattle.ecs_observe.specs.Standing.{IsSession}
 use Rattle.ecs_observe.specs.Storing.{with_held}
 use Rattle.ecs_observe.proofs.Found.{seen}
 

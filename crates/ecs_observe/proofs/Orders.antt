@@ -26,8 +26,9 @@ use Rattle.ecs_model.specs.Query.{query_of}
 use Rattle.ecs_model.specs.stored.Refusal.{first_session_reason}
 use Rattle.ecs_model.specs.stored.Session.{SessionState, Answer, Drop, Store, apply, free_order, most_stored, pinned_by, store_reasons, stored_at, watched_if_read, with_stored, without_stored}
 use Rattle.ecs_model.specs.stored.Watches.{Stored, matching, watched}
-use Rattle.ecs_observe.specs.Standing.{Held, IsHeld, IsNow, Standing, session_of, stored_of, told_to}
-use Rattle.ecs_observe.specs.Storing.{AnswersWatched, AreThese, store_refusal, with_held}
+use Rattle.stored_queries.specs.Held.{AreThese, Held, IsHeld, IsNow, told_to}
+use Rattle.ecs_observe.specs.Standing.{Standing, session_of, stored_of}
+use Rattle.ecs_observe.specs.Storing.{AnswersWatched, store_refusal, with_held}
 use Rattle.ecs_observe.proofs.Found.{as_many, first_of, refusal_is, stored_is, waits, world_is}
 use Rattle.ecs_observe.proofs.OneMore.{none_waits}
 

@@ -10,7 +10,7 @@ use Rattle.ecs_model.proofs.Members.{eq_itself}
 use Rattle.query_model.specs.Query.{Query}
 use Rattle.query_meaning.specs.Standing.{IsPinnedIn}
 use Rattle.watch_meaning.specs.Mentions.{mentions_index, times}
-use Rattle.ecs_observe.specs.Standing.{Held}
+use Rattle.stored_queries.specs.Held.{Held}
 
 -- how many queries mention an entity, with one more in front
 pub times-cons : (i : ℕ) (q : Query) (qs : List Query) → times i (q ∷ qs) ≡ cond (mentions_index q.mentions i) 1 0 + times i qs

@@ -12,10 +12,8 @@ use Rattle.std.proofs.lemmas.List.Kept.{AllPairs-cons}
 use Rattle.std.proofs.lemmas.Option.{get_or_from_slice_get, slice_get-map, slice_get_within}
 use Rattle.query_cache.specs.Kept.{Kept as Lists}
 use Rattle.query_model.specs.Local.{is_local}
-use Rattle.query_model.specs.Query.{Query}
 use Rattle.query_meaning.specs.declared.steps.Step.{Step}
-use Rattle.ecs_model.specs.declared.watches.StoredKind.{StoredKind}
-use Rattle.ecs_model.specs.declared.watches.StoredKind.TheVariants.{Kept, Monitor, OnAdd, OnRemove, OnSet}
+use Rattle.ecs_model.specs.declared.watches.StoredKind.TheVariants.{Monitor}
 use Rattle.ecs_model.specs.Command.{Changed}
 use Rattle.ecs_model.specs.World.{WorldState}
 use Rattle.ecs_model.specs.rows.View.{view_of}
@@ -25,11 +23,13 @@ use Rattle.ecs_model.specs.traits.Keeps.{IsWellFormed}
 use Rattle.watch_meaning.specs.Mentions.{times}
 use Rattle.watch_meaning.specs.Since.{IsAfter}
 use Rattle.ecs_observe.specs.Following.{lists_of}
-use Rattle.ecs_observe.specs.Parts.{ArePlaced, held_as, held_of, kept_rows, with_all_kept, with_kept_at}
-use Rattle.ecs_observe.specs.Standing.{Held, IsHeld, IsNow, IsSession, Standing, WasNow, has_searched, is_compared, is_monitor, is_searched, rows_of, rows_put, searched_in, session_of, stored_of, told_to, with_rows, with_these}
-use Rattle.ecs_observe.specs.declared.moves.RowsAfter.{RowsAfter}
-use Rattle.ecs_observe.specs.declared.stored.StoredQuery.{StoredQuery}
-use Rattle.ecs_observe.proofs.Answering.{matching_ascends}
+use Rattle.ecs_observe.specs.Parts.{ArePlaced, held_of, with_all_kept, with_kept_at}
+use Rattle.stored_queries.specs.Parts.{held_as, kept_rows}
+use Rattle.stored_queries.specs.Held.{Held, IsHeld, IsNow, WasNow, is_compared, is_monitor, is_searched, rows_put, told_to}
+use Rattle.ecs_observe.specs.Standing.{IsSession, Standing, has_searched, searched_in, session_of, stored_of, with_rows, with_these}
+use Rattle.stored_queries.specs.declared.moves.RowsAfter.{RowsAfter}
+use Rattle.stored_queries.specs.declared.stored.StoredQuery.{StoredQuery}
+use Rattle.stored_queries.proofs.Answering.{matching_ascends}
 use Rattle.ecs_observe.proofs.Staying.{told_now, with_rows_told}
 
 -- ---- one stored query more
@@ -200,20 +200,6 @@ apart_now w (h ∷ hs) apart =
     AllPairs-cons (λ (a b : Held). a.name ≢ b.name) (told_now w h) (map (told_now w) hs)
     (All-map (λ (b : Held). h.name ≢ b.name) (told_now w) hs (λ k d l. apart 0 (suc k) d (omega arith) (omega arith)))
     (apart_now w hs (λ i j d low high. apart (suc i) (suc j) d (omega arith) (omega arith)))
-
-none_ascend : IsStrictlyIncreasing []
-none_ascend = λ k low. absurd (omega (arith, low))
-
-pub ascending : (w : WorldState) → IsWellFormed w → (kind : StoredKind) (q : Query) → kind ≡ Monitor → IsStrictlyIncreasing (rows_of w kind q)
-ascending w kept Monitor q e = by (is_local q)
-  where
-    by : (b : Bool) → IsStrictlyIncreasing (if b then [] else matching (view_of w) q)
-    by true = none_ascend
-    by false = matching_ascends w q kept
-ascending w kept Kept q e = cc
-ascending w kept OnAdd q e = cc
-ascending w kept OnRemove q e = cc
-ascending w kept OnSet q e = cc
 
 abbrev pub told_session : Standing → ℕ → Standing
 told_session s n = record { world = s.world; stored = map (told_now (s.world).state) s.stored; waiting = None; compared = n }

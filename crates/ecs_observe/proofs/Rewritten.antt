@@ -19,15 +19,18 @@ use Rattle.ecs_world.specs.Standing as world
 use Rattle.query_plan.specs.Plans.{Plan}
 use Rattle.plan_steps.specs.Nobody.{begins_with_this}
 use Rattle.ecs_observe.specs.Following.{Follows, FollowsAt, FollowsIfSome, IsPlannedNow, IsUpToDate, IsUpToDateAt, PlansAt, ReadsList, RefusesKept, StaysOrIsPlanned, SyncsList, begins_in_list, list_at, plan_at, plan_of, with_list, with_list_at}
-use Rattle.ecs_observe.specs.Lists.{HasList, HaveLists}
-use Rattle.ecs_observe.specs.Parts.{held_of, with_kept, with_kept_at}
-use Rattle.ecs_observe.specs.Standing.{Held, IsSession, Standing, session_of}
+use Rattle.stored_queries.specs.Lists.{HasList}
+use Rattle.ecs_observe.specs.Lists.{HaveLists}
+use Rattle.ecs_observe.specs.Parts.{held_of, with_kept_at}
+use Rattle.stored_queries.specs.Parts.{with_kept}
+use Rattle.stored_queries.specs.Held.{Held}
+use Rattle.ecs_observe.specs.Standing.{IsSession, Standing, session_of}
 use Rattle.ecs_observe.specs.Stored.{entries_in, entries_of, made_of}
 use Rattle.ecs_observe.specs.declared.errors.SessionError.{SessionError}
 use Rattle.ecs_observe.specs.declared.errors.SessionError.TheVariants.{Refused, Memory}
-use Rattle.ecs_observe.specs.declared.moves.RowsAfter.{RowsAfter}
+use Rattle.stored_queries.specs.declared.moves.RowsAfter.{RowsAfter}
 use Rattle.ecs_observe.specs.declared.queries.StoredQueries.{StoredQueries}
-use Rattle.ecs_observe.specs.declared.stored.StoredQuery.{StoredQuery}
+use Rattle.stored_queries.specs.declared.stored.StoredQuery.{StoredQuery}
 use Rattle.ecs_observe.proofs.Entries.{as_many, entry_written, lists_written, look_stored, stored_in}
 use Rattle.ecs_observe.proofs.Found.{is_key, named, seen}
 use Rattle.ecs_observe.proofs.KeptFound.{kept_found, other_kind}

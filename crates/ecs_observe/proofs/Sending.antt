@@ -18,7 +18,7 @@ use Rattle.ecs_observe.specs.Answers.{AnswersRows, FailsAtSend, SendsKept, Sends
 use Rattle.ecs_observe.specs.declared.errors.SendRowsError.{SendRowsError}
 use Rattle.ecs_observe.specs.declared.errors.SendRowsError.TheVariants as rows
 use Rattle.ecs_observe.specs.declared.errors.SessionError.TheVariants.{Refused}
-use Rattle.ecs_observe.specs.declared.stored.StoredQuery.{StoredQuery}
+use Rattle.stored_queries.specs.declared.stored.StoredQuery.{StoredQuery}
 
 -- ---- answers that differ
 

@@ -18,8 +18,9 @@ use Rattle.ecs_model.proofs.Reasons.{neither}
 use Rattle.watch_meaning.specs.Since.{told_since}
 use Rattle.ecs_observe.specs.Answers.{AnswersCommand}
 use Rattle.ecs_observe.specs.Parts.{held_of}
-use Rattle.ecs_observe.specs.declared.stored.StoredQuery.{StoredQuery}
-use Rattle.ecs_observe.specs.Standing.{Held, IsNow, rows_before, stored_of, told_to}
+use Rattle.stored_queries.specs.declared.stored.StoredQuery.{StoredQuery}
+use Rattle.stored_queries.specs.Held.{Held, IsNow, rows_before, told_to}
+use Rattle.ecs_observe.specs.Standing.{stored_of}
 use Rattle.query_model.specs.Local.{is_local}
 use Rattle.touched_entities.specs.Before.{view_before}
 use Rattle.touched_entities.proofs.Unconcerned.{queries_matched_before}

@@ -16,7 +16,7 @@ use Rattle.watch_order.proofs.Written.{mapped, still_watched}
 use Rattle.ecs_model.specs.stored.Watches.{is_told}
 use Rattle.ecs_observe.specs.Stored.{IsFit, IsOpened, IsStored, entries_in, is_watch_in, made_of}
 use Rattle.ecs_observe.specs.declared.queries.StoredQueries.{StoredQueries}
-use Rattle.ecs_observe.specs.declared.stored.StoredQuery.{StoredQuery}
+use Rattle.stored_queries.specs.declared.stored.StoredQuery.{StoredQuery}
 
 -- ---- the count
 pub byte_is : (b : Bool) → bool_byte b ≡ cond b 1 0

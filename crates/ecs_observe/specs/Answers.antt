@@ -12,7 +12,8 @@ use Rattle.ecs_model.specs.stored.Session.{SessionState, Answer, in_world, kept_
 use Rattle.ecs_model.specs.stored.Watches.{is_told}
 use Rattle.ecs_model.specs.World.{WorldState}
 use Rattle.ecs_model.specs.traits.Command.{Command}
-use Rattle.ecs_observe.specs.Standing.{Held, Standing, session_of}
+use Rattle.stored_queries.specs.Held.{Held}
+use Rattle.ecs_observe.specs.Standing.{Standing, session_of}
 use Rattle.script_streams.specs.declared.streams.Calls.{Calls}
 use Rattle.script_streams.specs.Streams.{IsCalm, IsFaulty}
 use Rattle.world_query.specs.Lines.{lines_of_rows}
@@ -22,7 +23,7 @@ use Rattle.ecs_observe.specs.declared.errors.SendRowsError.{SendRowsError}
 use Rattle.ecs_observe.specs.declared.errors.SendRowsError.TheVariants as rows
 use Rattle.ecs_observe.specs.declared.errors.SessionError.{SessionError}
 use Rattle.ecs_observe.specs.declared.errors.SessionError.TheVariants.{Refused, Memory}
-use Rattle.ecs_observe.specs.declared.stored.StoredQuery.{StoredQuery}
+use Rattle.stored_queries.specs.declared.stored.StoredQuery.{StoredQuery}
 
 -- the answer to a command of the world: none is carried out while events wait
 abbrev pub obeyed : SessionState → Command → Answer

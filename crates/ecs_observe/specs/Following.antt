@@ -16,10 +16,12 @@ use Rattle.query_plan.specs.Plans.{Plan}
 use Rattle.table_store.specs.Store.{Store}
 use Rattle.world_facts.specs.Kept.{AreTablesOf}
 use Rattle.world_query.specs.Planned.{IsPlannedForKept, IsPlannedIn}
-use Rattle.ecs_observe.specs.Standing.{Held, Standing, session_of}
+use Rattle.stored_queries.specs.Held.{Held}
+use Rattle.ecs_observe.specs.Standing.{Standing, session_of}
 use Rattle.ecs_observe.specs.declared.errors.SessionError.{SessionError}
 use Rattle.ecs_observe.specs.declared.errors.SessionError.TheVariants.{Refused, Memory}
-use Rattle.ecs_observe.specs.declared.stored.StoredQuery.{StoredQuery}
+use Rattle.stored_queries.specs.declared.stored.StoredQuery.{StoredQuery}
+use Rattle.stored_queries.specs.Lists.{IsBlank}
 
 -- ---- one list
 
@@ -68,12 +70,6 @@ pub record IsPlannedNow (w : world.Standing) (p : Plan) : Type 0 where
 -- a plan was left as it was, or it is the planner's by this world
 abbrev pub StaysOrIsPlanned : world.Standing → Plan → Plan → Type 0
 StaysOrIsPlanned w before after = (after ≡ before) ⊎ IsPlannedNow w after
-
--- a list of no table yet, which never judged any
-pub record IsBlank (list : Kept) : Type 0 where
-  pub keys : list.keys ≡ []
-  pub last : list.last ≡ 0
-  pub judged : list.judged ≡ 0
 
 -- ---- those of a session
 

@@ -6,6 +6,5 @@ pub mod Telling
 pub mod Lists
 pub mod Following
 pub mod Commands
-pub mod Moves
 pub mod Stored
 pub mod Columns

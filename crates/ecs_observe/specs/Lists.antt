@@ -1,38 +1,14 @@
 -- The tables that kept queries list.
-use Rattle.std.specs.Prelude.{◌≡◌, List, All, Option, IfSome, is_some, not}
+use Rattle.std.specs.Prelude.{List, All}
 use Rattle.std.specs.declared.string.String.{String}
-use Rattle.ecs_model.specs.declared.watches.StoredKind.{StoredKind}
-use Rattle.ecs_model.specs.stored.Watches.{is_told}
-use Rattle.query_cache.specs.Kept.{Fits, Kept}
-use Rattle.query_cache.specs.Patterns.{patterns_of}
-use Rattle.query_model.specs.Query.{Query}
 use Rattle.table_store.specs.Store.{Store}
-use Rattle.ecs_observe.specs.Standing.{Held}
-use Rattle.ecs_observe.specs.declared.stored.StoredQuery.{StoredQuery}
+use Rattle.stored_queries.specs.Held.{Held}
+use Rattle.stored_queries.specs.declared.stored.StoredQuery.{StoredQuery}
+use Rattle.stored_queries.specs.Lists.{HasList, ListsTables}
 
--- a list of tables is that of a query, and fits a store
-pub record IsListOf (q : Query) (s : Store) (list : Kept) : Type 0 where
-  pub patterns : list.patterns ≡ patterns_of q
-  pub fits : Fits list s
-
--- a kept query, and no other, has a list: its own, which fits a store
-pub record ListsTables (s : Store) (kind : StoredKind) (q : Query) (held : Option Kept) : Type 0 where
-  pub kept : is_some held ≡ not (is_told kind)
-  pub list : IfSome held (IsListOf q s)
-
-abbrev pub HasList : {A : Type 0} → Store → StoredQuery A → Type 0
-HasList s q = ListsTables s q.kind (q.plan).query q.list
-
--- the same as it is seen
+-- a kept query, and no other, has a list: its own, which fits a store; as it is seen
 abbrev pub HasItsList : Store → Held → Type 0
 HasItsList s h = ListsTables s h.kind h.query h.list
-
--- it fits every store, as a new one does
-abbrev pub HasNewList : {A : Type 0} → StoredQuery A → Type 0
-HasNewList q = (s : Store) → HasList s q
-
-abbrev pub IsNewList : Query → Option Kept → Type 0
-IsNewList q list = (s : Store) → IfSome list (IsListOf q s)
 
 abbrev pub HaveLists : {A : Type 0} → Store → List (String A × StoredQuery A) → Type 0
 HaveLists s es = All (λ e. HasList s e.1) es

@@ -9,7 +9,7 @@ use Rattle.watch_index.specs.Laws.{may_concern}
 use Rattle.watch_index.specs.Occasions.{occasions_of}
 use Rattle.watch_order.specs.Watched.{Boxed, IsOpen, IsWatched, occasions_in}
 use Rattle.ecs_observe.specs.declared.queries.StoredQueries.{StoredQueries}
-use Rattle.ecs_observe.specs.declared.stored.StoredQuery.{StoredQuery}
+use Rattle.stored_queries.specs.declared.stored.StoredQuery.{StoredQuery}
 
 -- the boxes of stored queries, in order
 abbrev pub made_of : {A : Type 0} → StoredQueries A → List (Boxed (StoredQuery A) A)

@@ -1,30 +1,24 @@
 -- How a new stored query is judged, and what is held of it.
-use Rattle.std.specs.Prelude.{◌≡◌, ⊤, ℕ, false, List, [], ◌∷◌, ◌++◌, Option, Some, is_some, Result, Ok, Err, if◌then◌else◌}
-use Rattle.query_model.specs.Local.{is_local}
+use Rattle.std.specs.Prelude.{◌≡◌, ⊤, ℕ, List, [], ◌∷◌, ◌++◌, Option, Some, is_some, Result, Ok, Err, if◌then◌else◌}
 use Rattle.query_model.specs.Query.{Query}
 use Rattle.query_model.specs.declared.faults.Fault.{Fault}
 use Rattle.ecs_model.specs.declared.faults.SessionRefusal.{SessionRefusal}
 use Rattle.ecs_model.specs.declared.faults.SessionRefusal.TheVariants.{EventsPending, Faulty}
 use Rattle.ecs_model.specs.declared.watches.StoredKind.{StoredKind}
-use Rattle.ecs_model.specs.declared.watches.StoredKind.TheVariants.{Monitor}
 use Rattle.ecs_model.specs.Query.{query_of}
 use Rattle.ecs_model.specs.World.{WorldState}
-use Rattle.ecs_model.specs.rows.View.{view_of}
 use Rattle.ecs_model.specs.stored.Refusal.{first_session_reason}
 use Rattle.ecs_model.specs.stored.Session.{SessionState, pinned_by, store_reasons, unpinned_by, watched_if_read}
-use Rattle.ecs_model.specs.stored.Watches.{matching, watched}
+use Rattle.ecs_model.specs.stored.Watches.{watched}
 use Rattle.ecs_world.specs.Standing as world
-use Rattle.ecs_observe.specs.Standing.{Held, Standing, counted_for}
+use Rattle.stored_queries.specs.Held.{Held, counted_for}
+use Rattle.ecs_observe.specs.Standing.{Standing}
 use Rattle.ecs_observe.specs.declared.errors.SessionError.{SessionError}
 use Rattle.ecs_observe.specs.declared.errors.SessionError.TheVariants.{Refused, Memory}
 
 -- the first reason against a new stored query but for its text
 abbrev pub store_refusal : SessionState → List ℕ → Option SessionRefusal
 store_refusal s n = if is_some s.waiting then Some EventsPending else first_session_reason (store_reasons s n)
-
--- of a monitor whose query isn't local these are the entities of its rows now
-abbrev pub AreThese : WorldState → StoredKind → Query → List ℕ → Type 0
-AreThese w kind q these = kind ≡ Monitor → is_local q ≡ false → these ≡ matching (view_of w) q
 
 -- a query as one of a kind: that which the text asks, or the first fault of the text or of its query for this kind; where memory is refused, it may say so in place of either
 abbrev pub AnswersWatched : WorldState → StoredKind → List ℕ → Result Query SessionError → Type 0

@@ -5,17 +5,14 @@
 #![tactic(auto)]
 
 mod applying;
-mod asking;
 mod columns;
 mod commands;
 mod errors;
 mod kept;
-mod moves;
 mod pinning;
 mod queries;
 mod references;
 mod session;
-mod stored;
 mod storing;
 mod telling;
 mod watched;

@@ -14,11 +14,10 @@ ghost use Rattle.ecs_observe.specs.Telling.{is_locally_at};
 ghost use Rattle.name_order.specs.Order.{IsPlaceOf, is_key};
 ghost use Rattle.touched_entities.specs.Concerned.{has_births_or_deaths};
 
-use crate::moves::RowsAfter;
-use crate::stored::{StoredQuery, is_told};
 use ecs_world::Changes;
 use std::alloc::{AllocError, Allocator};
 use std::hash::RandomState;
+use stored_queries::{RowsAfter, StoredQuery, is_told};
 use watch_index::laws::whom_changes_concern_they_lead_to;
 use watch_index::{Happened, occasions_of};
 use watch_order::{Boxed, WatchOrder, Watcher};

@@ -7,13 +7,13 @@ ghost use Rattle.ecs_observe.specs.Standing.{IsSession, session_of};
 ghost use Rattle.query_meaning.specs.Standing.{IsCurrentIn};
 ghost use Rattle.query_model.specs.Query.{Query};
 
-use crate::moves::RowsAfter;
 use crate::queries::StoredQueries;
 use asking_room::AskingRoom;
 use ecs_world::{Changes, World};
 use std::alloc::{AllocError, Allocator, Global};
 use std::hash::RandomState;
 use std::marker::Model;
+use stored_queries::RowsAfter;
 
 /// A world, the queries that are stored in it, and what waits to be told to them.
 #[derive(Drop)]

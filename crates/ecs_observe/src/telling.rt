@@ -1,30 +1,28 @@
 //! Telling the events of a command.
 
-ghost use Rattle.std.specs.Prelude.{◌≡◌, ◌+◌, ◌<◌, ◌≤◌, [], ◌++◌, ◌&&◌, IfOk, OnErr, OnOk, All, length, map, flat_map, false, not, true};
+ghost use Rattle.std.specs.Prelude.{◌≡◌, ◌+◌, ◌<◌, ◌≤◌, [], ◌++◌, IfOk, OnErr, OnOk, All, length, map, flat_map, false, true};
 ghost use Rattle.std.specs.List.{count_by, list_any};
 ghost use Rattle.std.specs.List.Sorted.{IsStrictlyIncreasing};
-ghost use Rattle.std.specs.String.{string_bytes};
 ghost use Rattle.ecs_model.specs.stored.Session.{after_events, events};
 ghost use Rattle.ecs_observe.specs.Following.{lists_of};
 ghost use Rattle.ecs_observe.specs.Lists.{KeepLists};
-ghost use Rattle.ecs_observe.specs.Parts.{ArePlaced, held_as, held_of, put_in, with_all_kept};
-ghost use Rattle.ecs_observe.specs.Standing.{IsHeld, WasNow, has_searched, is_compared, is_monitor, is_searched, is_told_locally, rows_put, searched_in, session_of, told_to};
+ghost use Rattle.ecs_observe.specs.Parts.{ArePlaced, held_of, with_all_kept};
+ghost use Rattle.stored_queries.specs.Held.{IsHeld, WasNow, is_compared, is_searched, rows_put, told_to};
+ghost use Rattle.ecs_observe.specs.Standing.{has_searched, searched_in, session_of};
 ghost use Rattle.ecs_observe.specs.Stored.{AreLedTo, IsStored, entries_of};
-ghost use Rattle.ecs_observe.specs.Telling.{AreTouchedBy, any_locally_at};
-ghost use Rattle.query_model.specs.Local.{is_local};
-ghost use Rattle.touched_entities.specs.Concerned.{is_concerned};
+ghost use Rattle.stored_queries.specs.Telling.{AreTouchedBy};
+ghost use Rattle.ecs_observe.specs.Telling.{any_locally_at};
 ghost use Rattle.watch_meaning.specs.Since.{IsAfter};
 
 use crate::Session;
-use crate::moves::{RowsAfter, rows_after};
 use crate::queries::StoredQueries;
-use crate::stored::StoredQuery;
 use asking_room::AskingRoom;
 use ecs_world::{Changes, World};
-use local_queries::{Touched, local_told};
+use local_queries::Touched;
 use std::alloc::{AllocError, Allocator};
-use touched_entities::{is_concerned, touched};
-use world_events::{Audience, Event, Moves, may_tell, tell, tell_moves};
+use stored_queries::{RowsAfter, tell_one};
+use touched_entities::touched;
+use world_events::Event;
 
 impl<A: Allocator + Copy> Session<A> {
     /// The events that wait, of one stored query after another in the order of making. After that none wait.
@@ -165,124 +163,6 @@ fn tell_all<A: Allocator + Copy>(
         }
     }
     Ok(())
-}
-
-/// Puts what a stored query is told behind other events, and answers the moves of its rows, unless those that are held stay. Most observers
-/// are told nothing, which is asked first.
-fn tell_one<A: Allocator + Copy>(
-    alloc: A,
-    world: &World<A>,
-    changes: &Changes<A>,
-    touched: &[Touched<'_, A>],
-    name: &String<A>,
-    query: &StoredQuery<A>,
-    room: &mut AskingRoom<A>,
-    compared: &mut u64,
-    events: &mut Vec<Event<A>, A>,
-) -> Result<Option<RowsAfter<A>>, AllocError>
-    requires after { IsAfter world.now.state changes.now }
-    requires held { IsHeld world.now.state (held_as (string_bytes name.now) query.now) }
-    requires was { WasNow world.now.state changes.now (held_as (string_bytes name.now) query.now) }
-    requires touched { is_told_locally (held_as (string_bytes name.now) query.now) ≡ true → AreTouchedBy world.now.state changes.now touched.now }
-    ensures rows { IfOk result (λ rows. put_in rows query.now.these ≡ rows_put world.now.state changes.now (held_as (string_bytes name.now) query.now)) }
-    ensures told { OnOk result (events.new.items ≡ events.old.items ++ told_to world.now.state changes.now (held_as (string_bytes name.now) query.now)) }
-    ensures compared { is_searched changes.now (held_as (string_bytes name.now) query.now) ≡ false → compared.new ≡ compared.old }
-    ensures grows { compared.old ≤ compared.new }
-    ensures few { compared.new ≤ compared.old + 1 }
-{
-    if !may_tell(query.kind, query.plan.query(), changes) {
-        return Ok(None);
-    }
-    if query.is_compared() {
-        return tell_compared(alloc, world, changes, name, query, room, compared, events);
-    }
-    if query.is_told_locally() {
-        tell_locally(alloc, world, changes, touched, name, query, events)?;
-    } else {
-        tell_observer(alloc, world, changes, name, query, events)?;
-    }
-    Ok(None)
-}
-
-/// Puts what a monitor whose query isn't local is told behind other events, and answers the moves of its rows, unless the command doesn't
-/// concern its query. Counts the whole rows taken.
-fn tell_compared<A: Allocator + Copy>(
-    alloc: A,
-    world: &World<A>,
-    changes: &Changes<A>,
-    name: &String<A>,
-    query: &StoredQuery<A>,
-    room: &mut AskingRoom<A>,
-    compared: &mut u64,
-    events: &mut Vec<Event<A>, A>,
-) -> Result<Option<RowsAfter<A>>, AllocError>
-    requires after { IsAfter world.now.state changes.now }
-    requires held { IsHeld world.now.state (held_as (string_bytes name.now) query.now) }
-    requires was { WasNow world.now.state changes.now (held_as (string_bytes name.now) query.now) }
-    requires compared { is_compared (held_as (string_bytes name.now) query.now) ≡ true }
-    ensures rows { IfOk result (λ rows. put_in rows query.now.these ≡ rows_put world.now.state changes.now (held_as (string_bytes name.now) query.now)) }
-    ensures told { OnOk result (events.new.items ≡ events.old.items ++ told_to world.now.state changes.now (held_as (string_bytes name.now) query.now)) }
-    ensures compared { is_searched changes.now (held_as (string_bytes name.now) query.now) ≡ false → compared.new ≡ compared.old }
-    ensures grows { compared.old ≤ compared.new }
-    ensures few { compared.new ≤ compared.old + 1 }
-{
-    world.keeps();
-    let bonds = query.plan.bonds();
-    if !is_concerned(query.plan.query(), bonds, changes) {
-        return Ok(None);
-    }
-    let rows = rows_after(alloc, world, changes, query, room, compared)?;
-    let moves = Moves {
-        left: rows.left.as_slice(),
-        entered: rows.entered.as_slice(),
-    };
-    tell_moves(alloc, world, changes, name.as_bytes(), moves, events)?;
-    Ok(Some(rows))
-}
-
-/// Puts what an event observer is told behind other events.
-fn tell_observer<A: Allocator + Copy>(
-    alloc: A,
-    world: &World<A>,
-    changes: &Changes<A>,
-    name: &String<A>,
-    query: &StoredQuery<A>,
-    events: &mut Vec<Event<A>, A>,
-) -> Result<(), AllocError>
-    requires after { IsAfter world.now.state changes.now }
-    requires observes { is_monitor query.now.kind ≡ false }
-    ensures told { OnOk result (events.new.items ≡ events.old.items ++ told_to world.now.state changes.now (held_as (string_bytes name.now) query.now)) }
-{
-    let audience = Audience {
-        name: name.as_bytes(),
-        kind: query.kind,
-        query: query.plan.query(),
-    };
-    tell(alloc, world, changes, audience, events)
-}
-
-/// Puts what a monitor of a local query is told behind other events, by the entities that the command touched.
-fn tell_locally<A: Allocator + Copy>(
-    alloc: A,
-    world: &World<A>,
-    changes: &Changes<A>,
-    touched: &[Touched<'_, A>],
-    name: &String<A>,
-    query: &StoredQuery<A>,
-    events: &mut Vec<Event<A>, A>,
-) -> Result<(), AllocError>
-    requires after { IsAfter world.now.state changes.now }
-    requires local { is_told_locally (held_as (string_bytes name.now) query.now) ≡ true }
-    requires touched { AreTouchedBy world.now.state changes.now touched.now }
-    ensures told { OnOk result (events.new.items ≡ events.old.items ++ told_to world.now.state changes.now (held_as (string_bytes name.now) query.now)) }
-{
-    world.keeps();
-    let told = local_told(alloc, query.plan.query(), touched)?;
-    let moves = Moves {
-        left: told.left.as_slice(),
-        entered: told.entered.as_slice(),
-    };
-    tell_moves(alloc, world, changes, name.as_bytes(), moves, events)
 }
 
 /// Keeps the entities of the rows that stored queries were told, where they don't stay.

@@ -7,7 +7,7 @@ use Rattle.world_facts.specs.Kept.{AreTablesOf}
 use Rattle.world_query.specs.Answerable.{IsAnswerable}
 use Rattle.world_query.proofs.Fronts.{all_starts, on_err_anyway}
 use Rattle.world_query.proofs.Sent.{fault_memory, stops_here}
-use Rattle.ecs_observe.proofs.Answering.{asked_is_sound, current_answerable}
+use Rattle.stored_queries.proofs.Answering.{asked_is_sound, current_answerable}
 use Rattle.ecs_observe.specs.Following.{IsUpToDate}
 use Rattle.ecs_observe.proofs.Synced.{follows_again, of_any}
 use Rattle.ecs_observe.proofs.kept.send_listed_rows.Goals as goal

@@ -1,7 +1,7 @@
 use Rattle.std.specs.Prelude.{is_some}
 use Rattle.std.proofs.Common.{ap, inl, inr, refl, subst, sym, ◌∙◌}
 use Rattle.query_model.specs.Query.{Query}
-use Rattle.ecs_observe.specs.Lists.{IsListOf}
+use Rattle.stored_queries.specs.Lists.{IsListOf}
 use Rattle.ecs_observe.proofs.Listed.{its_list, kept_kind, not_kept}
 use Rattle.ecs_observe.proofs.Sending.{fails_unsent, refused_calm, sends_stopped, sent_calm}
 use Rattle.ecs_observe.proofs.kept.send_rows_of.Goals as goal

@@ -3,8 +3,9 @@ use Rattle.std.specs.Prelude.{flat_map, is_some}
 use Rattle.std.specs.String.{string_bytes}
 use Rattle.std.proofs.Common.{◌+◌, ◌<◌, ◌≤◌, ◌∙◌, ◌++◌, ap, arith, get_or, length, map, refl, subst, sym, true≢false}
 use Rattle.std.proofs.lemmas.List.{length-map, take_all}
-use Rattle.ecs_observe.specs.Parts.{held_as, held_of, put_in}
-use Rattle.ecs_observe.specs.Standing.{IsHeld, WasNow, is_searched, rows_put, told_to}
+use Rattle.stored_queries.specs.Parts.{held_as, put_in}
+use Rattle.ecs_observe.specs.Parts.{held_of}
+use Rattle.stored_queries.specs.Held.{IsHeld, WasNow, is_searched, rows_put, told_to}
 use Rattle.ecs_observe.specs.Stored.{entries_of}
 use Rattle.ecs_observe.proofs.Counting.{AreDoneUpTo, all_counted, none_done, one_more}
 use Rattle.ecs_observe.proofs.Locally.{none_at, one_told_locally}

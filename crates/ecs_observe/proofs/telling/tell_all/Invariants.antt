@@ -1,7 +1,7 @@
 use Rattle.std.proofs.Common.{◌≡◌, ◌≤◌, false, map}
 use Rattle.std.specs.List.{list_any}
 use Rattle.ecs_observe.specs.Parts.{held_of}
-use Rattle.ecs_observe.specs.Standing.{is_searched, rows_put, told_to}
+use Rattle.stored_queries.specs.Held.{is_searched, rows_put, told_to}
 use Rattle.ecs_observe.specs.Stored.{entries_of}
 use Rattle.ecs_observe.proofs.Counting.{AreDoneUpTo}
 use Rattle.ecs_observe.proofs.Skipped.{AreToldTo}

@@ -5,9 +5,9 @@ use Rattle.name_order.specs.declared.order.Named.{Named}
 use Rattle.name_order.specs.Order.{name_in}
 use Rattle.watch_order.specs.Watched.{Boxed}
 use Rattle.watch_order.specs.declared.watching.Watcher.{Watcher}
-use Rattle.ecs_observe.specs.Parts.{with_kept}
+use Rattle.stored_queries.specs.Parts.{with_kept}
 use Rattle.ecs_observe.specs.Stored.{made_of}
-use Rattle.ecs_observe.specs.declared.stored.StoredQuery.{StoredQuery}
+use Rattle.stored_queries.specs.declared.stored.StoredQuery.{StoredQuery}
 use Rattle.ecs_observe.proofs.Entries.{entry_past, lists_written}
 use Rattle.ecs_observe.proofs.Listed.{list_kept}
 use Rattle.ecs_observe.proofs.Rewritten.{here_as, kept_entries, list_there, query_in}

@@ -7,7 +7,7 @@ use Rattle.watch_index.specs.Occasions.{occasions_of}
 use Rattle.watch_order.specs.Watched.{IsOpen}
 use Rattle.watch_order.specs.declared.watching.Watcher.{Watcher}
 use Rattle.ecs_observe.specs.Stored.{IsFit, entries_in, is_watch_in}
-use Rattle.ecs_observe.specs.declared.stored.StoredQuery.{StoredQuery}
+use Rattle.stored_queries.specs.declared.stored.StoredQuery.{StoredQuery}
 use Rattle.ecs_observe.proofs.Watches.{fits_as}
 use Rattle.ecs_observe.proofs.queries.StoredQueries.prepare.Goals as goal
 

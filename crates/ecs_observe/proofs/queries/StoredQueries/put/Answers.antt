@@ -10,7 +10,7 @@ use Rattle.watch_order.specs.Watched.{Boxed}
 use Rattle.watch_order.specs.declared.watching.Watcher.{Watcher}
 use Rattle.ecs_model.specs.stored.Watches.{is_told}
 use Rattle.ecs_observe.specs.Stored.{IsFit, entries_in, is_watch_in, made_of}
-use Rattle.ecs_observe.specs.declared.stored.StoredQuery.{StoredQuery}
+use Rattle.stored_queries.specs.declared.stored.StoredQuery.{StoredQuery}
 use Rattle.ecs_observe.proofs.Entries.{none_stored}
 use Rattle.ecs_observe.proofs.Watches.{byte_is, counted_behind}
 use Rattle.ecs_observe.proofs.queries.StoredQueries.put.Goals as goal

@@ -11,10 +11,11 @@ use Rattle.query_model.specs.Query.{Query}
 use Rattle.watch_meaning.proofs.Pinning.{AreAlive, current_alive}
 use Rattle.ecs_observe.specs.Lists.{HaveLists}
 use Rattle.ecs_observe.specs.Parts.{held_of}
-use Rattle.ecs_observe.specs.Standing.{IsHeld, IsNow, IsSession, Standing}
+use Rattle.stored_queries.specs.Held.{IsHeld, IsNow}
+use Rattle.ecs_observe.specs.Standing.{IsSession, Standing}
 use Rattle.ecs_observe.specs.Stored.{entries_of}
 use Rattle.ecs_observe.specs.Storing.{with_held}
-use Rattle.ecs_observe.specs.declared.stored.StoredQuery.{StoredQuery}
+use Rattle.stored_queries.specs.declared.stored.StoredQuery.{StoredQuery}
 use Rattle.ecs_observe.proofs.Entries.{none_of_name}
 use Rattle.ecs_observe.proofs.Found.{seen}
 use Rattle.ecs_observe.proofs.Listed.{lists_more}

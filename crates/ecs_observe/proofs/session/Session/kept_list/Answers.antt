@@ -2,7 +2,8 @@
 use Rattle.std.specs.Prelude.{option_and_then}
 use Rattle.std.proofs.Common.{ap, sym, ◌∙◌}
 use Rattle.ecs_observe.specs.Following.{list_at}
-use Rattle.ecs_observe.specs.Standing.{Held, Standing}
+use Rattle.stored_queries.specs.Held.{Held}
+use Rattle.ecs_observe.specs.Standing.{Standing}
 use Rattle.ecs_observe.specs.Stored.{entries_of}
 use Rattle.ecs_observe.proofs.KeptFound.{none_kept, other_kind}
 use Rattle.ecs_observe.proofs.Listed.{list_found, not_kept}

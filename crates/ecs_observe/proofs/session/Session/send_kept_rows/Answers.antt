@@ -7,11 +7,11 @@ use Rattle.name_order.specs.declared.order.Named.{Named}
 use Rattle.watch_order.specs.Watched.{Boxed}
 use Rattle.watch_order.specs.declared.watching.Watcher.{Watcher}
 use Rattle.ecs_observe.specs.Following.{FollowsIfSome, StaysOrIsPlanned}
-use Rattle.ecs_observe.specs.Lists.{HasList}
-use Rattle.ecs_observe.specs.Standing.{IsHeld}
+use Rattle.stored_queries.specs.Lists.{HasList}
+use Rattle.stored_queries.specs.Held.{IsHeld}
 use Rattle.ecs_observe.specs.Stored.{entries_of, made_of}
 use Rattle.ecs_observe.specs.declared.queries.StoredQueries.{StoredQueries}
-use Rattle.ecs_observe.specs.declared.stored.StoredQuery.{StoredQuery}
+use Rattle.stored_queries.specs.declared.stored.StoredQuery.{StoredQuery}
 use Rattle.ecs_observe.proofs.Entries.{look_stored, stored_in}
 use Rattle.ecs_observe.proofs.Found.{holds_of_found}
 use Rattle.ecs_observe.proofs.KeptFound.{none_kept, sends_answered}

@@ -1,0 +1,29 @@
+use Rattle.std.specs.String.{string_bytes}
+use Rattle.std.proofs.Common.{◌++◌, append-nil, ap, sym, ◌∙◌}
+use Rattle.watch_meaning.specs.Since.{told_since}
+use Rattle.world_events.specs.Hits.{may_tell}
+use Rattle.stored_queries.specs.Parts.{held_as}
+use Rattle.stored_queries.specs.Held.{rows_before}
+use Rattle.stored_queries.proofs.Staying.{isnt_searched, neither_monitors, none_put, untold_isnt}
+use Rattle.stored_queries.proofs.telling.tell_one.Goals as goal
+
+pub returns-then-not-may_tell-clause-rows : goal.returns-then-not-may_tell-clause-rows
+returns-then-not-may_tell-clause-rows g c =
+    let changed = c.args.changes.now in
+    let h = held_as (string_bytes c.args.name.now) c.args.query.now in
+    let untold = ap (may_tell changed h.kind) (sym c.query.ensures) ∙ (sym c.may_tell.ensures.may ∙ c.if-not-may_tell.true) in
+    none_put c.args.world.now.state changed h (isnt_searched changed h (untold_isnt changed h untold))
+
+pub returns-then-not-may_tell-clause-told : goal.returns-then-not-may_tell-clause-told
+returns-then-not-may_tell-clause-told g c =
+    let w = c.args.world.now.state in
+    let changed = c.args.changes.now in
+    let h = held_as (string_bytes c.args.name.now) c.args.query.now in
+    let old = rows_before w changed h in
+    let none = ap (λ q. told_since w changed h.name h.kind q old) (sym c.query.ensures) ∙ c.may_tell.ensures.nothing c.if-not-may_tell.true w h.name old in
+    sym (ap (λ es. c.args.events.now.items ++ es) none ∙ append-nil c.args.events.now.items)
+
+pub tell_observer-requires-clause-observes : goal.tell_observer-requires-clause-observes
+tell_observer-requires-clause-observes g c =
+    let h = held_as (string_bytes c.args.name.now) c.args.query.now in
+    neither_monitors h (sym c.is_compared.ensures ∙ c.if-is_compared.false) (sym c.is_told_locally.ensures ∙ c.if-is_told_locally.false)

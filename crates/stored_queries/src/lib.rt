@@ -1,0 +1,24 @@
+//! A stored query: what a session holds of it, and what it is told of a command.
+//!
+//! ```text
+//! // what is held of a query that was read, as one of a kind
+//! let mut stored = stored_query(alloc, &world, kind, query, &mut compared)?;
+//!
+//! // after a command: its events, and the moves of its rows if they don't stay
+//! let moves = tell_one(alloc, &world, &changes, &touched, &name, &stored, &mut room, &mut compared, &mut events)?;
+//! if let Some(rows) = moves {
+//!     stored.keep(rows);
+//! }
+//! ```
+#![tactic(auto)]
+
+mod asking;
+mod moves;
+mod stored;
+mod telling;
+mod watched;
+
+pub use moves::RowsAfter;
+pub use stored::{JudgedPlan, StoredQuery, is_told};
+pub use telling::tell_one;
+pub use watched::{newest_table, stored_query};
