@@ -6,4 +6,5 @@ mod Running
 mod Shortest
 mod Starting
 mod Tabled
+mod Typed
 mod Values

@@ -1,12 +1,13 @@
 //! The fields of a row, with their values.
 
-ghost use Rattle.std.specs.Prelude.{◌≡◌, ◌≤◌, ◌+◌, ◌*◌, Some, length, option_map, slice_get, if◌then◌else◌, None};
+ghost use Rattle.std.specs.Prelude.{◌≡◌, ◌≤◌, ◌+◌, ◌*◌, Some, IfSome, length, option_map, slice_get, if◌then◌else◌, None};
 ghost use Rattle.ecs_model.specs.Bytes.{size_of};
+ghost use Rattle.ecs_model.specs.World.{WorldState, type_of_id};
 ghost use Rattle.ecs_model.specs.rows.View.{view_of};
 ghost use Rattle.query_chunks.specs.Chunk.{field_at as column_field, seen_column, value_at as column_value};
 ghost use Rattle.row_fields.specs.Fields.{shown_field};
-ghost use Rattle.world_rows.specs.Fields.{as_field};
-ghost use Rattle.world_rows.specs.Tabled.{HasRow};
+ghost use Rattle.world_rows.specs.Fields.{HasItsFields, as_field};
+ghost use Rattle.world_rows.specs.Tabled.{HasRow, IsTyped};
 ghost use Rattle.world_rows.specs.Values.{numbers_of};
 
 use ecs_id::Id;
@@ -75,7 +76,8 @@ impl<'w, W: Allocator> FactValue<'w, W> {
 
 /// The field that shows a fact of a world.
 pub(crate) fn field_of<'w, W: Allocator>(world: &'w World<W>, fact: ShownFact) -> Field<'w, W>
-    ensures { as_field (Some result) ≡ shown_field (view_of world.now.state) (Some fact) }
+    ensures field { as_field (Some result) ≡ shown_field (view_of world.now.state) (Some fact) }
+    ensures fields { HasItsFields world.now.state (Some result) }
 {
     let (source, id) = (fact.source, fact.id);
     let value = shown_value(world, source, id, fact.valued);
@@ -89,7 +91,8 @@ pub(crate) fn field_at<'w, W: Allocator>(
     source: u32,
 ) -> Option<Field<'w, W>>
     requires { HasRow row (seen_column column.now) }
-    ensures { as_field result ≡ column_field source row (seen_column column.now) }
+    ensures field { as_field result ≡ column_field source row (seen_column column.now) }
+    ensures fields { (w : WorldState) → IsTyped w (seen_column column.now) → HasItsFields w result }
 {
     match column {
         Column::Unset => None,
@@ -113,7 +116,8 @@ fn value_at<'w, W: Allocator>(
     row: usize,
 ) -> FactValue<'w, W>
     requires { (row + 1) * size_of schema.now ≤ length bytes.now }
-    ensures { numbers_of result ≡ column_value row (schema.now, bytes.now) }
+    ensures numbers { numbers_of result ≡ column_value row (schema.now, bytes.now) }
+    ensures schema { result.schema ≡ schema.now }
 {
     let size = schema.size();
     let from = &bytes[row * size..];
@@ -130,7 +134,8 @@ fn shown_value<'w, W: Allocator>(
     id: Id,
     valued: bool,
 ) -> Option<FactValue<'w, W>>
-    ensures { option_map numbers_of result ≡ (if valued then (view_of world.now.state).value source id else None) }
+    ensures numbers { option_map numbers_of result ≡ (if valued then (view_of world.now.state).value source id else None) }
+    ensures schema { IfSome result (λ v. type_of_id world.now.state id ≡ Some v.schema) }
 {
     if !valued {
         return None;
@@ -140,7 +145,8 @@ fn shown_value<'w, W: Allocator>(
 
 /// The value of a fact of a world: none where there is no such fact, or its id has no fields.
 fn value_of<'w, W: Allocator>(world: &'w World<W>, source: u32, id: Id) -> Option<FactValue<'w, W>>
-    ensures { option_map numbers_of result ≡ (view_of world.now.state).value source id }
+    ensures numbers { option_map numbers_of result ≡ (view_of world.now.state).value source id }
+    ensures schema { IfSome result (λ v. type_of_id world.now.state id ≡ Some v.schema) }
 {
     let schema = world.type_of(id)?;
     let bytes = world.bytes(source, id)?;
