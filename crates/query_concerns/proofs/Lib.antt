@@ -13,3 +13,4 @@ pub mod Lacking
 pub mod Meeting
 pub mod OwnFacts
 pub mod Tied
+pub mod Linked

@@ -29,7 +29,7 @@ not_not false = refl
 pub has-some : {X : Type 0} (xs : List X) → has_some xs ≡ some xs
 has-some xs = ap not (none_counted xs) ∙ not_not (some xs)
 
-first_there : {X : Type 0} (xs : List X) → some xs ≡ true → (x : X) × Contains xs x
+pub first_there : {X : Type 0} (xs : List X) → some xs ≡ true → (x : X) × Contains xs x
 first_there [] h = absurd (false≢true h)
 first_there (x ∷ xs) h = (x, (0, omega arith, refl))
 

@@ -123,7 +123,7 @@ sound_keeps_this scope (unless from_term own inner rest) there h =
 
 -- ---- a term that asks the first variable itself
 
-first_variable : (r : Ref) → is_first r ≡ true → r ≡ Var 0
+pub first_variable : (r : Ref) → is_first r ≡ true → r ≡ Var 0
 first_variable (Is e) h = absurd (false≢true h)
 first_variable (Var v) h = ap Var (eqb-true v 0 h)
 first_variable Any h = absurd (false≢true h)

@@ -34,7 +34,7 @@ use Rattle.query_concerns.proofs.OwnFacts.{IsCovered, carried_over, hits_alike, 
 use Rattle.query_concerns.proofs.This.{KeepsThis, sound_keeps_this}
 use Rattle.query_concerns.proofs.WhoeverLives.{all_at, lives_too}
 
-none_above : (o : Option ℕ) → is_none o ≡ true → o ≡ None
+pub none_above : (o : Option ℕ) → is_none o ≡ true → o ≡ None
 none_above None h = refl
 none_above (Some r) h = absurd (false≢true h)
 
@@ -45,10 +45,17 @@ variable_of Any h = absurd (false≢true h)
 variable_of One h = absurd (false≢true h)
 
 -- an id that a pattern matches whose target is a variable is a pair with its entity as the target
-to_variable : (a : Assignment) (u x : ℕ) (first : Ref) (target : Option Ref) (i : Id) → may_be_variable u target ≡ true → at a u ≡ Some x → matches a first target i ≡ true → (r : ℕ) × (i ≡ pair r x)
+pub to_variable : (a : Assignment) (u x : ℕ) (first : Ref) (target : Option Ref) (i : Id) → may_be_variable u target ≡ true → at a u ≡ Some x → matches a first target i ≡ true → (r : ℕ) × (i ≡ pair r x)
 to_variable a u x first None i h is m = absurd (false≢true h)
 to_variable a u x first (Some target) (plain c) h is m = absurd (false≢true m)
 to_variable a u x first (Some target) (pair r t) h is m = (r, ap (pair r) (sym (fits_only a u x t target h is (and_parts _ _ m).1)))
+
+pub all_left : (p : ℕ → Bool) (xs ys : List ℕ) → list_all p (xs ++ ys) ≡ true → (list_all p xs ≡ true) × (list_all p ys ≡ true)
+all_left p [] ys h = (refl, h)
+all_left p (x ∷ xs) ys h =
+    let both = and_parts _ _ h in
+    let rest = all_left p xs ys both.1 in
+    (and_from _ _ both.0 rest.0, rest.1)
 
 module _ (q : Query) {m n : ℕ} (w v : View) (links : AreLinks m w.entities w.ids) (links' : AreLinks n v.entities v.ids) (e : ℕ)
     (own : filter (concerns q) (w.ids e) ≡ filter (concerns q) (v.ids e))
@@ -149,7 +156,7 @@ module _ (q : Query) {m n : ℕ} (w v : View) (links : AreLinks m w.entities w.i
       held r.0 x (subst (Contains (v.ids e)) r.1 there) (sym (ap (concerns q) r.1) ∙ concerned)
 
   -- what is asked by an item, and by whom
-  record IsNear (x : Item) : Type 0 where
+  pub record IsNear (x : Item) : Type 0 where
     concerned : (i : Id) → item_concerns i x ≡ true → concerns q i ≡ true
     others : (i : Id) → item_concerns_others i x ≡ true → concerns_others q i ≡ true
     below : (i : Id) → item_concerns_below i x ≡ true → concerns_below q i ≡ true
@@ -239,13 +246,6 @@ module _ (q : Query) {m n : ℕ} (w v : View) (links : AreLinks m w.entities w.i
       in_source Any h = absurd (false≢true h)
       in_source One h = absurd (false≢true h)
 
-  all_left : (p : ℕ → Bool) (xs ys : List ℕ) → list_all p (xs ++ ys) ≡ true → (list_all p xs ≡ true) × (list_all p ys ≡ true)
-  all_left p [] ys h = (refl, h)
-  all_left p (x ∷ xs) ys h =
-      let both = and_parts _ _ h in
-      let rest = all_left p xs ys both.1 in
-      (and_from _ _ both.0 rest.0, rest.1)
-
   some_alike : (scope : List ℕ) (a : Assignment) → at a 0 ≡ Some e → KnowsAll scope a → (ts : List Term) → AreNear ts → list_all (contains scope) (flat_map term_variables ts) ≡ true
       → list_any some (map (shown_fields w a) ts) ≡ list_any some (map (shown_fields v a) ts)
   some_alike scope a this knows [] near scoped = refl
@@ -255,7 +255,7 @@ module _ (q : Query) {m n : ℕ} (w v : View) (links : AreLinks m w.entities w.i
       let rest = some_alike scope a this knows ts (rest_near t ts near) parts.1 in
       λ j. first j || rest j
 
-  item_alike : (scope : List ℕ) (a : Assignment) → at a 0 ≡ Some e → KnowsAll scope a → (x : Item) → IsNear x → list_all (contains scope) (item_variables x) ≡ true → some (fields_of_item w a x) ≡ some (fields_of_item v a x)
+  pub item_alike : (scope : List ℕ) (a : Assignment) → at a 0 ≡ Some e → KnowsAll scope a → (x : Item) → IsNear x → list_all (contains scope) (item_variables x) ≡ true → some (fields_of_item w a x) ≡ some (fields_of_item v a x)
   unfolding fields_of_item
   item_alike scope a this knows (must t) near scoped = term_alike a this t (of_term (must t) t near (λ i. refl) (λ i. refl) (λ i. refl)) near.near (known_source scope a knows t scoped near.asked)
   item_alike scope a this knows (may t) near scoped =
@@ -345,7 +345,7 @@ module _ (q : Query) {m n : ℕ} (w v : View) (links : AreLinks m w.entities w.i
   pieces_near (opening from_term us ∷ ps) c o b near asked = pieces_near ps c o b near asked
   pieces_near (closing ∷ ps) c o b near asked = pieces_near ps c o b near asked
 
-  top_near : list_all piece_asks_near q.pieces ≡ true → OfEach IsNear (top q)
+  pub top_near : list_all piece_asks_near q.pieces ≡ true → OfEach IsNear (top q)
   unfolding concerns concerns_others concerns_below
   top_near near = of_top IsNear q (pieces_near q.pieces
       (λ i t. or_right (is_asked_by_all i) (list_any (piece_concerns i) q.pieces) t)

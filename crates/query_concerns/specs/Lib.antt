@@ -4,5 +4,6 @@ pub mod Anchored
 pub mod Others
 pub mod OwnIds
 pub mod Tied
+pub mod Linked
 pub mod FromLeft
 pub mod Laws

@@ -5,12 +5,14 @@ mod anchoring;
 mod bonds;
 mod concerning;
 pub mod laws;
+mod linking;
 mod others;
 mod own_ids;
 mod ties;
 
 pub use anchoring::is_anchored;
 pub use concerning::concerns;
+pub use linking::{is_linked, links_others};
 pub use others::{concerns_below, concerns_others};
 pub use own_ids::{lacks, meets};
 pub use ties::is_tied;

@@ -73,7 +73,7 @@ fn any_concerns_others(terms: &[Term], id: Id) -> bool
 }
 
 /// Whether an id concerns a term that asks somebody else than `$this` and its ancestors.
-fn term_concerns_others(term: &Term, id: Id) -> bool
+pub(crate) fn term_concerns_others(term: &Term, id: Id) -> bool
     ensures { result ≡ term_concerns_others id term.now }
 {
     !asks_this(term) && term_concerns(term, id)

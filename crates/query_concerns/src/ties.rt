@@ -25,7 +25,7 @@ pub fn is_tied<A: Allocator>(query: &Query<A>) -> bool
     pieces_ask_near(query.pieces()) && are_all_bound(query, Bond::Tie)
 }
 
-fn pieces_ask_near<A: Allocator>(pieces: &[Piece<A>]) -> bool
+pub(crate) fn pieces_ask_near<A: Allocator>(pieces: &[Piece<A>]) -> bool
     ensures { result ≡ list_all piece_asks_near (map seen_piece pieces.now) }
 {
     for piece in pieces {

@@ -1,0 +1,368 @@
+-- Of a linked query, what others hold matters for an entity only where they are near: linked with it, from pair to pair.
+use Rattle.std.proofs.Common.{◌≡◌, ℕ, zero, suc, ◌<◌, Bool, true, false, inl, inr, List, [], ◌∷◌, ◌++◌, refl, sym, ap, ◌∙◌, subst, arith}
+use Rattle.std.specs.Prelude.{◌==◌, ◌&&◌, ◌||◌, filter, flat_map, is_none, map, not, Option, Some, None, if◌then◌else◌}
+use Rattle.std.specs.List.{Contains, list_any, list_all}
+use Rattle.std.specs.Option.{option_eq, option_map_or}
+use Rattle.std.proofs.lemmas.Bool.{and_from, and_parts, cases_Bool, eq-eqb, eqb-true, false≢true, ltb-true, not-true, or_cases, or_left, or_right, true≢false}
+use Rattle.std.proofs.lemmas.List.Elements.{Contains-append_cases}
+use Rattle.std.proofs.lemmas.Option.{same_Some}
+use Rattle.ecs_id.specs.Id.{Id, plain, pair}
+use Rattle.ecs_model.specs.Links.{AreLinks, line}
+use Rattle.ecs_model.specs.rows.Level.{Level, done, also, unless, top}
+use Rattle.ecs_model.specs.rows.Rows.{Assignment, asked, closed_fields, fields_at, fields_of_item, fields_of_term, first_nonempty, hits, keeps_one, matches, meant, shown, shown_fields, visible}
+use Rattle.ecs_model.specs.rows.View.{View}
+use Rattle.ecs_model.proofs.Members.{filtered, head_or_tail, passing}
+use Rattle.query_model.specs.declared.query.Ref.{Ref}
+use Rattle.query_model.specs.declared.query.Ref.TheVariants.{Is, Var, Any, One}
+use Rattle.query_model.specs.declared.query.Term.{Term}
+use Rattle.query_model.specs.Query.{Item, must, may, either, equal, differ, Piece, item, opening, closing, Query}
+use Rattle.query_meaning.specs.Sound.{is_sound, is_sound_level}
+use Rattle.query_meaning.specs.Variables.{contains, item_variables, pattern_variables, term_variables, variable_in}
+use Rattle.query_meaning.proofs.Assignments.{Extends, at}
+use Rattle.query_meaning.proofs.Holding.{Holds, contains-cases, contains-left, contains-right}
+use Rattle.query_concerns.specs.Anchored.{anchors, is_anchored, is_variable, may_be_variable}
+use Rattle.query_concerns.specs.Bonds.{groups_are_bound, has_directly}
+use Rattle.query_concerns.specs.Concerns.{concerns, term_concerns}
+use Rattle.query_concerns.specs.Laws.{MatchByLinks}
+use Rattle.query_concerns.specs.Linked.{HasLinked, is_before, is_linked, is_linked_in, is_some_variable, item_links, item_links_by, links_others, may_be_before, piece_links_by, term_links, term_links_by}
+use Rattle.query_concerns.specs.Others.{asks_this, concerns_below, concerns_others}
+use Rattle.query_concerns.proofs.Covered.{Covers, CoversLevel, OfEach, OfEachPiece, of_top, top_covered}
+use Rattle.query_concerns.proofs.Holding.{any-map, at_each, by_match, matches_may, some, some-first, some-map}
+use Rattle.query_concerns.proofs.Living.{first_there, has-some, some-taken}
+use Rattle.query_concerns.proofs.OwnFacts.{carried_over, passed_alike}
+use Rattle.query_concerns.proofs.This.{KeepsThis, first_variable, sound_keeps_this}
+use Rattle.query_concerns.proofs.Tied.{IsNear, all_left, item_alike, none_above, to_variable, top_near}
+use Rattle.query_concerns.proofs.WhoeverLives.{all_at, lives_too}
+
+-- ---- what a term matches that asks an entity itself
+
+module _ (z : View) (a : Assignment) (t : Term) where
+  hit : (m : ℕ) → some (hits z a t m) ≡ true → (i : Id) × Contains (z.ids m) i × (matches a t.first t.target i ≡ true)
+  unfolding hits
+  hit m h =
+      let all = filter (matches a t.first t.target) (z.ids m) in
+      let found = first_there all (sym (some-taken (keeps_one t) all) ∙ h) in
+      let f = (filtered (matches a t.first t.target) (z.ids m) found.0).0 found.1 in
+      (found.0, f.0, f.1)
+
+  asked_alone : (y m : ℕ) → t.up ≡ None → Contains (asked z t y) m → m ≡ y
+  asked_alone y m up h =
+      elim (Contains-append_cases (if t.on_source then y ∷ [] else []) (option_map_or (λ r. line z.ids z.entities r y) t.up []) m h) [
+        | inl own ↦ itself t.on_source own
+        | inr risen ↦ absurd (nobody t.up up risen)
+      ]
+    where
+      itself : (b : Bool) → Contains (if b then y ∷ [] else []) m → m ≡ y
+      itself true c = elim (head_or_tail y m [] c) [ inl q ↦ sym q | inr none ↦ absurd (omega (arith, none.1)) ]
+      itself false c = absurd (omega (arith, c.1))
+
+      nobody : (o : Option ℕ) → o ≡ None → Contains (option_map_or (λ r. line z.ids z.entities r y) o []) m → ⊥
+      nobody None is c = absurd (omega (arith, c.1))
+      nobody (Some r) is c = absurd cc
+
+  -- the entity of the term's source holds an id that the pattern matches
+  record IsHit : Type 0 where
+    holder : ℕ
+    source : meant a t.source ≡ Some holder
+    id : Id
+    held : Contains (z.ids holder) id
+    fits : matches a t.first t.target id ≡ true
+
+  found_hit : t.up ≡ None → t.closed ≡ false → some (fields_of_term z a t) ≡ true → IsHit
+  unfolding fields_of_term
+  found_hit up stored h = by (meant a t.source) refl h
+    where
+      by : (o : Option ℕ) → meant a t.source ≡ o → some (option_map_or (fields_at z a t) o []) ≡ true → IsHit
+      by None source g = absurd (false≢true g)
+      by (Some y) source g =
+          let found = passing (λ m. some (at_each m (hits z a t m))) (asked z t y)
+          (sym (some-first (map (λ m. at_each m (hits z a t m)) (asked z t y)) ∙ any-map (λ m. at_each m (hits z a t m)) (asked z t y))
+          ∙ sym (ap (λ b. some (if b then closed_fields z (meant a t.first) y (option_map_or (meant a) t.target None) else first_nonempty (map (λ m. at_each m (hits z a t m)) (asked z t y)))) stored)
+          ∙ g) in
+          let m : ℕ = found.0 in
+          let i = hit m (sym (some-map (λ i. (m, i)) (hits z a t m)) ∙ found.2) in
+          let same = asked_alone y m up found.1 in
+          record { holder = y; source = source; id = i.0; held = subst (λ x. Contains (z.ids x) i.0) same i.1; fits = i.2 }
+
+-- ---- references to variables
+
+the_variable : (u : ℕ) (r : Ref) → is_variable u r ≡ true → r ≡ Var u
+the_variable u (Is d) h = absurd (false≢true h)
+the_variable u (Var s) h = ap Var (eqb-true s u h)
+the_variable u Any h = absurd (false≢true h)
+the_variable u One h = absurd (false≢true h)
+
+-- a variable before another one, among these
+record IsBefore (u : ℕ) (r : Ref) : Type 0 where
+  number : ℕ
+  is : r ≡ Var number
+  below : number < u
+  among : contains (variable_in r) number ≡ true
+
+one_before : (u : ℕ) (r : Ref) → is_before u r ≡ true → IsBefore u r
+one_before u (Is d) h = absurd (false≢true h)
+one_before u (Var s) h = record { number = s; is = refl; below = ltb-true s u h; among = or_left (s == s) false (eq-eqb s s refl) }
+one_before u Any h = absurd (false≢true h)
+one_before u One h = absurd (false≢true h)
+
+given : (o : Option ℕ) (x : ℕ) → option_eq ◌==◌ o (Some x) ≡ true → o ≡ Some x
+given None x h = absurd (false≢true h)
+given (Some y) x h = ap Some (eqb-true y x h)
+
+-- an id that a pattern matches whose target is a variable before another one
+record IsPairBefore (a : Assignment) (u : ℕ) (target : Option Ref) (i : Id) : Type 0 where
+  number : ℕ
+  below : number < u
+  among : contains (option_map_or variable_in target []) number ≡ true
+  first : ℕ
+  second : ℕ
+  stands : at a number ≡ Some second
+  is : i ≡ pair first second
+  variable : is_some_variable target ≡ true
+
+pair_before : (a : Assignment) (u : ℕ) (first : Ref) (target : Option Ref) (i : Id) → may_be_before u target ≡ true → matches a first target i ≡ true → IsPairBefore a u target i
+pair_before a u first None i h m = absurd (false≢true h)
+pair_before a u first (Some target) (plain c) h m = absurd (false≢true m)
+pair_before a u first (Some (Is d)) (pair r x) h m = absurd (false≢true h)
+pair_before a u first (Some Any) (pair r x) h m = absurd (false≢true h)
+pair_before a u first (Some One) (pair r x) h m = absurd (false≢true h)
+pair_before a u first (Some (Var s)) (pair r x) h m =
+    record {
+      number = s;
+      below = ltb-true s u h;
+      among = or_left (s == s) false (eq-eqb s s refl);
+      first = r;
+      second = x;
+      stands = given (at a s) x (and_parts _ _ m).1;
+      is = refl;
+      variable = refl;
+    }
+
+some_variable : (u : ℕ) (target : Option Ref) → may_be_variable u target ≡ true → is_some_variable target ≡ true
+some_variable u None h = absurd (false≢true h)
+some_variable u (Some (Is d)) h = absurd (false≢true h)
+some_variable u (Some (Var s)) h = refl
+some_variable u (Some Any) h = absurd (false≢true h)
+some_variable u (Some One) h = absurd (false≢true h)
+
+module _ (q : Query) {m n : ℕ} (w v : View) (links : AreLinks m w.entities w.ids) (links' : AreLinks n v.entities v.ids) (e : ℕ)
+    (own : filter (concerns q) (w.ids e) ≡ filter (concerns q) (v.ids e))
+    (above : (r x : ℕ) → Contains (line v.ids v.entities r e) x → filter (concerns_below q) (w.ids x) ≡ filter (concerns_below q) (v.ids x))
+    (near : ℕ → Bool) (here : near e ≡ true) (there : HasLinked q v e near)
+    (known : (x : ℕ) → near x ≡ true → filter (concerns_others q) (w.ids x) ≡ filter (concerns_others q) (v.ids x)) where
+  -- whoever a variable stands for is near
+  abbrev IsNearBy : Assignment → ℕ → Type 0
+  IsNearBy a u = (x : ℕ) → at a u ≡ Some x → near x ≡ true
+
+  -- whatever links by an item links others of the query
+  abbrev LinksBy : Item → Type 0
+  LinksBy x = (i : Id) → item_links_by i x ≡ true → links_others q i ≡ true
+
+  -- ---- in one view, a variable is linked with those before it
+
+  module _ (z : View) (closed : HasLinked q z e near) (a : Assignment) (this : at a 0 ≡ Some e) (scope : List ℕ) (u x : ℕ) (is : at a u ≡ Some x)
+      (before : (s : ℕ) → s < u → contains scope s ≡ true → IsNearBy a s) where
+    term_linked : (t : Term) → ((i : Id) → term_concerns i t ≡ true → concerns q i ≡ true) → ((i : Id) → term_links_by i t ≡ true → links_others q i ≡ true)
+        → list_all (contains scope) (term_variables t) ≡ true → term_links u t ≡ true → some (shown_fields z a t) ≡ true → near x ≡ true
+    term_linked t covers links_by scoped tie holds =
+        elim (or_cases _ _ outer.1) [
+          | inl from_here ↦ elim (cases_Bool (asks_this t)) [
+            | inl asks ↦ absurd (not_this (and_parts _ _ from_here) asks)
+            | inr other ↦ forward (and_parts _ _ from_here) other
+          ]
+          | inr to_here ↦ elim (cases_Bool (asks_this t)) [
+            | inl asks ↦ own_pair (and_parts _ _ to_here) asks
+            | inr other ↦ backward (and_parts _ _ to_here) other
+          ]
+        ]
+      where
+        outer : ((is_none t.up && not t.closed) ≡ true) × ((is_variable u t.source && may_be_before u t.target || is_before u t.source && may_be_variable u t.target) ≡ true)
+        outer = and_parts _ _ tie
+
+        found : IsHit z a t
+        found =
+            let inner = and_parts _ _ outer.0 in
+            found_hit z a t (none_above t.up inner.0) (not-true t.closed inner.1) (sym (some-map (λ f. shown z t f ∷ []) (fields_of_term z a t)) ∙ holds)
+
+        concerned : term_concerns found.id t ≡ true
+        concerned = by_match found.id t (matches_may a t.first t.target found.id found.fits)
+
+        in_scope : (s : ℕ) → contains (term_variables t) s ≡ true → contains scope s ≡ true
+        in_scope s h = all_at (contains scope) (term_variables t) s scoped h
+
+        linking : is_some_variable t.target ≡ true → asks_this t ≡ false → links_others q found.id ≡ true
+        linking variable other = links_by found.id (and_from _ _ variable (and_from _ _ (ap not other) concerned))
+
+        not_this : (is_variable u t.source ≡ true) × (may_be_before u t.target ≡ true) → asks_this t ≡ true → ⊥
+        not_this both asks =
+            let same : Var u ≡ Var 0 = sym (the_variable u t.source both.0) ∙ first_variable t.source (and_parts _ _ asks).0 in
+            let first : u ≡ 0 = cc in
+            let p = pair_before a u t.first t.target found.id both.1 found.fits in
+            let low : p.number < u = p.below in
+            omega (arith, first, low)
+
+        forward : (is_variable u t.source ≡ true) × (may_be_before u t.target ≡ true) → asks_this t ≡ false → near x ≡ true
+        forward both other =
+            let p = pair_before a u t.first t.target found.id both.1 found.fits in
+            let holder : found.holder ≡ x = same_Some found.holder x (sym found.source ∙ ap (meant a) (the_variable u t.source both.0) ∙ is) in
+            let target = before p.number p.below
+            (in_scope p.number (contains-right (variable_in t.source) (pattern_variables t) p.number (contains-right (variable_in t.first) (option_map_or variable_in t.target []) p.number p.among))) p.second p.stands in
+            let held = subst (Contains (z.ids found.holder)) p.is found.held in
+            ap near (sym holder) ∙ closed.linked p.first found.holder p.second held (sym (ap (links_others q) p.is) ∙ linking p.variable other) ∙ target
+
+        own_pair : (is_before u t.source ≡ true) × (may_be_variable u t.target ≡ true) → asks_this t ≡ true → near x ≡ true
+        own_pair both asks =
+            let holder : found.holder ≡ e = same_Some found.holder e (sym found.source ∙ ap (meant a) (first_variable t.source (and_parts _ _ asks).0) ∙ this) in
+            let r = to_variable a u x t.first t.target found.id both.1 is found.fits in
+            let held = subst (λ y. Contains (z.ids y) (pair r.0 x)) holder (subst (Contains (z.ids found.holder)) r.1 found.held) in
+            closed.held r.0 x held (sym (ap (concerns q) r.1) ∙ covers found.id concerned)
+
+        backward : (is_before u t.source ≡ true) × (may_be_variable u t.target ≡ true) → asks_this t ≡ false → near x ≡ true
+        backward both other =
+            let s = one_before u t.source both.0 in
+            let source = before s.number s.below (in_scope s.number (contains-left (variable_in t.source) (pattern_variables t) s.number s.among)) found.holder (sym (ap (meant a) s.is) ∙ found.source) in
+            let r = to_variable a u x t.first t.target found.id both.1 is found.fits in
+            let held = subst (Contains (z.ids found.holder)) r.1 found.held in
+            sym (closed.linked r.0 found.holder x held (sym (ap (links_others q) r.1) ∙ linking (some_variable u t.target both.1) other)) ∙ source
+
+    some_linked : (ts : List Term) → ((i : Id) → list_any (term_concerns i) ts ≡ true → concerns q i ≡ true) → ((i : Id) → list_any (term_links_by i) ts ≡ true → links_others q i ≡ true)
+        → list_all (contains scope) (flat_map term_variables ts) ≡ true → list_all (term_links u) ts ≡ true → list_any some (map (shown_fields z a) ts) ≡ true → near x ≡ true
+    some_linked [] covers links_by scoped tie holds = absurd (false≢true holds)
+    some_linked (t ∷ ts) covers links_by scoped tie holds =
+        let each = and_parts _ _ tie in
+        let parts = all_left (contains scope) (term_variables t) (flat_map term_variables ts) scoped in
+        elim (or_cases _ _ holds) [
+          | inl first ↦ term_linked t
+              (λ i h. covers i (or_left (term_concerns i t) (list_any (term_concerns i) ts) h))
+              (λ i h. links_by i (or_left (term_links_by i t) (list_any (term_links_by i) ts) h))
+              parts.0 each.0 first
+          | inr later ↦ some_linked ts
+              (λ i h. covers i (or_right (term_concerns i t) (list_any (term_concerns i) ts) h))
+              (λ i h. links_by i (or_right (term_links_by i t) (list_any (term_links_by i) ts) h))
+              parts.1 each.1 later
+        ]
+
+    item_linked : (y : Item) → Covers (concerns q) y → LinksBy y → list_all (contains scope) (item_variables y) ≡ true → item_links u y ≡ true → some (fields_of_item z a y) ≡ true → near x ≡ true
+    unfolding fields_of_item
+    item_linked (must t) covers links_by scoped tie holds = term_linked t covers links_by scoped tie holds
+    item_linked (may t) covers links_by scoped tie holds = absurd (false≢true tie)
+    item_linked (either ts) covers links_by scoped tie holds = some_linked ts covers links_by scoped tie (sym (some-first (map (shown_fields z a) ts)) ∙ holds)
+    item_linked (equal s r) covers links_by scoped tie holds = absurd (false≢true tie)
+    item_linked (differ s r) covers links_by scoped tie holds = absurd (false≢true tie)
+
+    level_linked : (l : Level) → CoversLevel (concerns q) l → OfEach LinksBy l → is_sound_level scope l ≡ true → has_directly (item_links u) l ≡ true → Holds z l a → near x ≡ true
+    level_linked done covers links_by sound tie holds = absurd (false≢true tie)
+    level_linked (also y rest) covers links_by sound tie holds =
+        let parts = and_parts _ _ sound in
+        let checked = and_parts _ _ parts.0 in
+        elim (or_cases _ _ tie) [
+          | inl first ↦ item_linked y covers.0 links_by.0 checked.1 first (sym (has-some (fields_of_item z a y)) ∙ holds.0)
+          | inr later ↦ level_linked rest covers.1 links_by.1 parts.1 later holds.1
+        ]
+    level_linked (unless from_term us inner rest) covers links_by sound tie holds = level_linked rest covers.1 links_by.1 (and_parts _ _ sound).1 tie holds.1
+
+  -- ---- all variables in scope are near
+
+  abbrev AreNearBy : List ℕ → Assignment → Type 0
+  AreNearBy scope a = (u : ℕ) → contains scope u ≡ true → IsNearBy a u
+
+  -- where the level holds in one of the views, and all others in scope are
+  all_near : (z : View) → HasLinked q z e near → (a : Assignment) → at a 0 ≡ Some e → (scope us : List ℕ) (l : Level) → CoversLevel (concerns q) l → OfEach LinksBy l → is_sound_level scope l ≡ true
+      → list_all (λ u. is_linked_in u l) us ≡ true → Holds z l a → ((u : ℕ) → contains us u ≡ false → contains scope u ≡ true → IsNearBy a u) → AreNearBy scope a
+  all_near z closed a this scope us l covers links_by sound tied holds others u c = up_to (suc u) u (omega arith) c
+    where
+      up_to : (n u : ℕ) → u < n → contains scope u ≡ true → IsNearBy a u
+      up_to zero u low c x is = absurd (omega (arith, low))
+      up_to (suc n) u low c x is = elim (cases_Bool (contains us u)) [
+        | inl mine ↦ elim (or_cases _ _ (all_at (λ u. is_linked_in u l) us u tied mine)) [
+          | inl first ↦ ap near (same_Some x e (sym is ∙ ap (at a) (eqb-true u 0 first) ∙ this)) ∙ here
+          | inr tie ↦ level_linked z closed a this scope u x is (λ s below k. up_to n s (omega (arith, low, below)) k) l covers links_by sound tie holds
+        ]
+        | inr other ↦ others u other c x is
+      ]
+
+  -- those of a group besides
+  near_within : (scope us es : List ℕ) (a b : Assignment) → Extends us es a b → AreNearBy scope a → (u : ℕ) → contains us u ≡ false → contains (scope ++ us) u ≡ true → IsNearBy b u
+  near_within scope us es a b ext around u other c x is = elim (contains-cases scope us u c) [
+    | inl outer ↦ around u outer x (sym (ext.rest u other) ∙ is)
+    | inr mine ↦ absurd (true≢false (sym mine ∙ other))
+  ]
+
+  -- ---- a level
+
+  held : (r x : ℕ) → Contains (v.ids e) (pair r x) → concerns q (pair r x) ≡ true → filter (concerns_others q) (w.ids x) ≡ filter (concerns_others q) (v.ids x)
+  held r x h concerned = known x (there.held r x h concerned)
+
+  abbrev AsksNear : Item → Type 0
+  AsksNear = IsNear q w v links links' e own above held
+
+  module _ (back : HasLinked q w e near) where
+    level_alike : (scope : List ℕ) (l : Level) → OfEach AsksNear l → CoversLevel (concerns q) l → OfEach LinksBy l → is_sound_level scope l ≡ true → KeepsThis l → groups_are_bound anchors l ≡ true
+        → groups_are_bound is_linked_in l ≡ true → (a : Assignment) → at a 0 ≡ Some e → AreNearBy scope a → (Holds w l a → Holds v l a) × (Holds v l a → Holds w l a)
+    level_alike scope done asks covers links_by sound keeps anchored tied a this around = (λ x. tt, λ x. tt)
+    level_alike scope (also x rest) asks covers links_by sound keeps anchored tied a this around =
+        let parts = and_parts _ _ sound in
+        let checked = and_parts _ _ parts.0 in
+        let items = item_alike q w v links links' e own above held scope a this (λ u c needs x is. known x (around u c x is)) x asks.0 checked.1 in
+        let same = has-some (fields_of_item w a x) ∙ items ∙ sym (has-some (fields_of_item v a x)) in
+        let others = level_alike scope rest asks.1 covers.1 links_by.1 parts.1 keeps anchored tied a this around in
+        (λ y. (sym same ∙ y.0, others.0 y.1), λ y. (same ∙ y.0, others.1 y.1))
+    level_alike scope (unless from_term us inner rest) asks covers links_by sound keeps anchored tied a this around =
+        let s = and_parts _ _ sound in
+        let s' = and_parts _ _ s.0 in
+        let p = and_parts _ _ anchored in
+        let p' = and_parts _ _ p.0 in
+        let r = and_parts _ _ tied in
+        let r' = and_parts _ _ r.0 in
+        let within = level_alike (scope ++ us) inner asks.0 covers.0 links_by.0 s'.1 keeps.1 p'.1 r'.1 in
+        let others = level_alike scope rest asks.1 covers.1 links_by.1 s.1 keeps.2 p.1 r.1 a this around in (
+          λ y. (
+            λ b ext holds.
+                let first = ext.rest 0 keeps.0 ∙ this in
+                let nearby = all_near v there b first (scope ++ us) us inner covers.0 links_by.0 s'.1 r'.0 holds (near_within scope us v.entities a b ext around) in
+                let back = (within b first nearby).1 holds in
+                y.0 b (lives_too v w links us inner p'.0 a b ext back) back,
+            others.0 y.1,
+          ),
+          λ y. (
+            λ b ext holds.
+                let first = ext.rest 0 keeps.0 ∙ this in
+                let nearby = all_near w back b first (scope ++ us) us inner covers.0 links_by.0 s'.1 r'.0 holds (near_within scope us w.entities a b ext around) in
+                let after = (within b first nearby).0 holds in
+                y.0 b (lives_too w v links' us inner p'.0 a b ext after) after,
+            others.1 y.1,
+          ),
+        )
+
+  pieces_link : (ps : List Piece) → ((i : Id) → list_any (piece_links_by i) ps ≡ true → links_others q i ≡ true) → OfEachPiece LinksBy ps
+  pieces_link [] h = tt
+  pieces_link (item x ∷ ps) h = (
+    λ i t. h i (or_left (item_links_by i x) (list_any (piece_links_by i) ps) t),
+    pieces_link ps (λ i t. h i (or_right (item_links_by i x) (list_any (piece_links_by i) ps) t)),
+  )
+  pieces_link (opening from_term us ∷ ps) h = pieces_link ps h
+  pieces_link (closing ∷ ps) h = pieces_link ps h
+
+  top_links : OfEach LinksBy (top q)
+  unfolding links_others
+  top_links = of_top LinksBy q (pieces_link q.pieces (λ i t. t))
+
+pub match_by_links : MatchByLinks
+unfolding is_anchored is_sound is_linked
+match_by_links m n w v q links links' sound anchored linked e own above near here back there known =
+    let both = and_parts _ _ anchored in
+    let asking = and_parts _ _ linked in
+    let bound = and_parts _ _ asking.1 in
+    let checked = (and_parts _ _ sound).0 in
+    let asks = top_near q w v links links' e own above (held q w v links links' e own above near here there known) asking.0 in
+    let covers = top_covered q in
+    let links_by = top_links q w v links links' e own above near here there known in
+    let keeps = λ (shown : contains (visible q) 0 ≡ true). sound_keeps_this (visible q) (top q) shown checked in
+    let passed = passed_alike q w v e own in
+    let nearby = λ (z : View) (closed : HasLinked q z e near) (a : Assignment) (this : at a 0 ≡ Some e) (holds : Holds z (top q) a).
+    all_near q w v links links' e own above near here there known z closed a this (visible q) (visible q) (top q) covers links_by checked bound.0 holds (λ u other c. absurd (true≢false (sym c ∙ other))) in
+    let levels = λ (a : Assignment) (this : at a 0 ≡ Some e) (shown : contains (visible q) 0 ≡ true).
+    level_alike q w v links links' e own above near here there known back (visible q) (top q) asks covers links_by checked (keeps shown) both.1 bound.1 a this in (
+      carried_over w v q e links' both.0 passed (λ a this shown holds. (levels a this shown (nearby w back a this holds)).0 holds),
+      carried_over v w q e links both.0 (λ a this. sym (passed a this)) (λ a this shown holds. (levels a this shown (nearby v there a this holds)).1 holds),
+    )
