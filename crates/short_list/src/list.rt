@@ -5,6 +5,7 @@ ghost use Rattle.std.specs.Ordering.{nat_cmp};
 ghost use Rattle.short_list.specs.Items.{IsInOrder};
 
 use crate::few::{FEW, put_few_in_order};
+use crate::many::{put_many_in_order, with_one_more};
 use arrayvec::ArrayVec;
 use std::alloc::{AllocError, Allocator};
 use std::marker::Model;
@@ -18,6 +19,7 @@ pub(crate) enum Kept<A: Allocator> {
 /// A list of numbers of which up to four stand in the value, and take no block of memory.
 ///
 /// It isn't made for any type of items: a value that holds some of a type parameter has no known size, which each caller would have to answer for.
+/// So `ShortNumbers` is a second one.
 #[derive(Drop)]
 pub struct ShortList<A: Allocator> {
     pub(crate) kept: Kept<A>,
@@ -92,9 +94,7 @@ impl<A: Allocator> ShortList<A> {
     fn spill(&mut self, alloc: A, item: u32) -> Result<(), AllocError>
         ensures { OnOk result (self.new.items ≡ self.old.items ++ item ∷ []) }
     {
-        let mut many = Vec::from_slice(alloc, self.as_slice())?;
-        many.push(item)?;
-        self.kept = Kept::Many(many);
+        self.kept = Kept::Many(with_one_more(alloc, self.as_slice(), item)?);
         Ok(())
     }
 
@@ -107,11 +107,4 @@ impl<A: Allocator> ShortList<A> {
             Kept::Many(many) => put_many_in_order(many),
         }
     }
-}
-
-fn put_many_in_order<T: Ord + Drop, A: Allocator>(items: &mut Vec<T, A>)
-    ensures { IsInOrder T.cmp T.eq items.old.items items.new.items }
-{
-    items.sort_unstable();
-    items.dedup();
 }

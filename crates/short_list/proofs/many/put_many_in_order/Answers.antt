@@ -1,5 +1,5 @@
 use Rattle.std.proofs.lemmas.List.Filters.{dedup_is}
-use Rattle.short_list.proofs.list.put_many_in_order.Goals as goal
+use Rattle.short_list.proofs.many.put_many_in_order.Goals as goal
 
 pub returns : goal.returns
 returns g c = record {
