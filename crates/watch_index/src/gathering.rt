@@ -14,6 +14,7 @@ use component_index::{Part, Pattern};
 use ecs_id::Id;
 use ecs_model::FactKey;
 use ecs_model::built_ins::{DISABLED, PREFAB, REFLEXIVE, TRANSITIVE};
+use short_list::ShortNumbers;
 use std::alloc::{AllocError, Allocator};
 
 /// What a command has changed.
@@ -31,14 +32,13 @@ pub struct Happened<'c> {
 
 /// The numbers that are listed for all that has happened, in the order in which they are met.
 #[inline(always)]
-pub(crate) fn gathered<A: Allocator>(
-    alloc: A,
+pub(crate) fn gathered<A: Allocator + Copy>(
     index: &WatchIndex<A>,
     happened: Happened<'_>,
-) -> Result<Vec<u64, A>, AllocError>
+) -> Result<ShortNumbers<A>, AllocError>
     ensures { IfOk result (λ numbers. numbers.items ≡ flat_map (listed index.now) (happening happened.entry.lives (happened.entry.came).now (happened.entry.went).now (happened.entry.written).now)) }
 {
-    let mut numbers = Vec::new(alloc);
+    let mut numbers = ShortNumbers::new();
     push_lives(index, happened.lives, &mut numbers)?;
     push_moved(index, happened.came, &mut numbers)?;
     push_moved(index, happened.went, &mut numbers)?;
@@ -48,10 +48,10 @@ pub(crate) fn gathered<A: Allocator>(
 
 /// Adds the numbers that are listed for births and deaths, where there are any.
 #[inline(always)]
-fn push_lives<A: Allocator>(
+fn push_lives<A: Allocator + Copy>(
     index: &WatchIndex<A>,
     lives: bool,
-    numbers: &mut Vec<u64, A>,
+    numbers: &mut ShortNumbers<A>,
 ) -> Result<(), AllocError>
     ensures { OnOk result (numbers.new.items ≡ numbers.old.items ++ flat_map (listed index.now) (if lives then Life ∷ [] else [])) }
 {
@@ -63,10 +63,10 @@ fn push_lives<A: Allocator>(
 
 /// Adds the numbers that are listed for facts that came or went.
 #[inline(always)]
-fn push_moved<A: Allocator>(
+fn push_moved<A: Allocator + Copy>(
     index: &WatchIndex<A>,
     facts: &[FactKey],
-    numbers: &mut Vec<u64, A>,
+    numbers: &mut ShortNumbers<A>,
 ) -> Result<(), AllocError>
     ensures { OnOk result (numbers.new.items ≡ numbers.old.items ++ flat_map (λ k. flat_map (listed index.now) (moved k.1)) facts.now) }
 {
@@ -79,10 +79,10 @@ fn push_moved<A: Allocator>(
 
 /// Adds the numbers that are listed for facts whose values were set.
 #[inline(always)]
-fn push_written<A: Allocator>(
+fn push_written<A: Allocator + Copy>(
     index: &WatchIndex<A>,
     facts: &[FactKey],
-    numbers: &mut Vec<u64, A>,
+    numbers: &mut ShortNumbers<A>,
 ) -> Result<(), AllocError>
     ensures { OnOk result (numbers.new.items ≡ numbers.old.items ++ flat_map (λ k. flat_map (listed index.now) (facts_of IsWritten k.1)) facts.now) }
 {
@@ -94,10 +94,10 @@ fn push_written<A: Allocator>(
 
 /// Adds the numbers that are listed for facts that concern every query, where an id is of one.
 #[inline(always)]
-fn push_of_all<A: Allocator>(
+fn push_of_all<A: Allocator + Copy>(
     index: &WatchIndex<A>,
     id: Id,
-    numbers: &mut Vec<u64, A>,
+    numbers: &mut ShortNumbers<A>,
 ) -> Result<(), AllocError>
     ensures { OnOk result (numbers.new.items ≡ numbers.old.items ++ flat_map (listed index.now) (of_all id)) }
 {
@@ -109,11 +109,11 @@ fn push_of_all<A: Allocator>(
 
 /// Adds the numbers that are listed for what happens to a fact of an id.
 #[inline(always)]
-fn push_fact<A: Allocator>(
+fn push_fact<A: Allocator + Copy>(
     index: &WatchIndex<A>,
     way: Way,
     id: Id,
-    numbers: &mut Vec<u64, A>,
+    numbers: &mut ShortNumbers<A>,
 ) -> Result<(), AllocError>
     ensures { OnOk result (numbers.new.items ≡ numbers.old.items ++ flat_map (listed index.now) (facts_of way id)) }
 {
@@ -125,11 +125,11 @@ fn push_fact<A: Allocator>(
 
 /// Adds the numbers that are listed for what happens to a fact of a plain id.
 #[inline(always)]
-fn push_plain<A: Allocator>(
+fn push_plain<A: Allocator + Copy>(
     index: &WatchIndex<A>,
     way: Way,
     first: u32,
-    numbers: &mut Vec<u64, A>,
+    numbers: &mut ShortNumbers<A>,
 ) -> Result<(), AllocError>
     ensures { OnOk result (numbers.new.items ≡ numbers.old.items ++ flat_map (listed index.now) (facts_of way (plain first))) }
 {
@@ -139,12 +139,12 @@ fn push_plain<A: Allocator>(
 
 /// Adds the numbers that are listed for what happens to a fact of a pair.
 #[inline(always)]
-fn push_pair<A: Allocator>(
+fn push_pair<A: Allocator + Copy>(
     index: &WatchIndex<A>,
     way: Way,
     relationship: u32,
     target: u32,
-    numbers: &mut Vec<u64, A>,
+    numbers: &mut ShortNumbers<A>,
 ) -> Result<(), AllocError>
     ensures { OnOk result (numbers.new.items ≡ numbers.old.items ++ flat_map (listed index.now) (facts_of way (pair relationship target))) }
 {
@@ -159,12 +159,12 @@ fn push_pair<A: Allocator>(
 
 /// Adds the numbers that are listed for what happens to facts whose ids a pattern matches.
 #[inline(always)]
-fn push_pattern<A: Allocator>(
+fn push_pattern<A: Allocator + Copy>(
     index: &WatchIndex<A>,
     way: Way,
     first: Part,
     second: Option<Part>,
-    numbers: &mut Vec<u64, A>,
+    numbers: &mut ShortNumbers<A>,
 ) -> Result<(), AllocError>
     ensures { OnOk result (numbers.new.items ≡ numbers.old.items ++ listed index.now (Fact way (record { first = first; second = second }))) }
 {
@@ -172,14 +172,11 @@ fn push_pattern<A: Allocator>(
 }
 
 /// Puts numbers in order, each once.
-pub(crate) fn put_in_order<A: Allocator>(numbers: &mut Vec<u64, A>)
+pub(crate) fn put_in_order<A: Allocator>(numbers: &mut ShortNumbers<A>)
     ensures ascend { IsStrictlyIncreasing numbers.new.items }
     ensures same { (n : ℕ) → Contains numbers.new.items n ↔ Contains numbers.old.items n }
 {
-    if numbers.len() > 1 {
-        numbers.sort_unstable();
-        numbers.dedup();
-    }
+    numbers.put_in_order();
 }
 
 /// Whether an id is a tag that concerns every query.

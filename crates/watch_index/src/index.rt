@@ -11,6 +11,7 @@ use crate::marks::Marks;
 use crate::occasion::Occasion;
 use indexmap::IndexMap;
 use secret_hashing::Hashing;
+use short_list::ShortNumbers;
 use std::alloc::{AllocError, Allocator, Global};
 use std::hash::RandomState;
 use std::marker::Model;
@@ -64,13 +65,28 @@ impl<A: Allocator + Copy> WatchIndex<A> {
     }
 
     /// The numbers of the stored queries that look out for something that has happened, in ascending order.
-    pub fn led(&self, alloc: A, happened: Happened<'_>) -> Result<Vec<u64, A>, AllocError>
+    pub fn led(&self, happened: Happened<'_>) -> Result<ShortNumbers<A>, AllocError>
         ensures ascend { IfOk result (λ numbers. IsStrictlyIncreasing numbers.items) }
         ensures exact { IfOk result (λ numbers. (n : ℕ) → Contains numbers.items n ↔ Contains (flat_map (listed self.now) (happening happened.entry.lives (happened.entry.came).now (happened.entry.went).now (happened.entry.written).now)) n) }
     {
-        let mut numbers = gathered(alloc, self, happened)?;
+        let mut numbers = gathered(self, happened)?;
         put_in_order(&mut numbers);
         Ok(numbers)
+    }
+
+    /// Adds the numbers that are listed for an occasion. What has no mark isn't looked up.
+    #[inline(always)]
+    pub(crate) fn push_listed(
+        &self,
+        occasion: &Occasion,
+        numbers: &mut ShortNumbers<A>,
+    ) -> Result<(), AllocError>
+        ensures { OnOk result (numbers.new.items ≡ numbers.old.items ++ listed self.now occasion.now) }
+    {
+        if self.marks.has(occasion) {
+            return push_list(&self.lists, occasion, numbers);
+        }
+        Ok(())
     }
 }
 
@@ -83,20 +99,5 @@ impl<A: Allocator> WatchIndex<A> {
         if !occasions.is_empty() && self.lists.is_empty() {
             self.marks = Marks::none();
         }
-    }
-
-    /// Adds the numbers that are listed for an occasion. What has no mark isn't looked up.
-    #[inline(always)]
-    pub(crate) fn push_listed(
-        &self,
-        occasion: &Occasion,
-        numbers: &mut Vec<u64, A>,
-    ) -> Result<(), AllocError>
-        ensures { OnOk result (numbers.new.items ≡ numbers.old.items ++ listed self.now occasion.now) }
-    {
-        if self.marks.has(occasion) {
-            return push_list(&self.lists, occasion, numbers);
-        }
-        Ok(())
     }
 }

@@ -8,7 +8,7 @@
 //! index.enter(7, occasions.as_slice())?;
 //!
 //! // the numbers of those that look out for something that a command did
-//! for number in index.led(rt.alloc(), happened)?.as_slice() { .. }
+//! for number in index.led(happened)?.as_slice() { .. }
 //! index.leave(7, occasions.as_slice());
 //! ```
 #![tactic(auto)]

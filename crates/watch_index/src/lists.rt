@@ -7,6 +7,7 @@ use crate::numbers::Numbers;
 use crate::occasion::Occasion;
 use indexmap::IndexMap;
 use secret_hashing::Hashing;
+use short_list::ShortNumbers;
 use std::alloc::{AllocError, Allocator};
 
 // No list is empty: the entry of an occasion goes with the last number of its list.
@@ -68,17 +69,18 @@ pub fn unlist_all<A: Allocator>(lists: &mut Lists<A>, occasions: &[Occasion], nu
 }
 
 /// Adds the numbers of the list of an occasion, if it has one.
-pub fn push_list<A: Allocator>(
+pub fn push_list<A: Allocator + Copy>(
     lists: &Lists<A>,
     occasion: &Occasion,
-    numbers: &mut Vec<u64, A>,
+    numbers: &mut ShortNumbers<A>,
 ) -> Result<(), AllocError>
     ensures { OnOk result (numbers.new.items ≡ numbers.old.items ++ listed lists.now.entries occasion.now) }
 {
     if let Some(list) = lists.get(occasion) {
+        let alloc = *lists.allocator();
         let (front, rest) = list.as_slices();
-        numbers.extend_from_slice(front)?;
-        numbers.extend_from_slice(rest)?;
+        numbers.extend_from_slice(alloc, front)?;
+        numbers.extend_from_slice(alloc, rest)?;
     }
     Ok(())
 }
