@@ -1,16 +1,17 @@
 -- The places of those that look out for something.
-use Rattle.std.specs.Prelude.{◌≡◌, ℕ, zero, suc, ◌+◌, ◌<◌, ◌==◌, ◌&&◌, ◌||◌, Bool, true, false, List, [], ◌∷◌, ◌++◌, All, flat_map, length, take, slice_index_or, Option, Some, None, unwrap_or}
-use Rattle.std.specs.List.{AllPairs, Contains, dedup}
-use Rattle.std.specs.List.Sorted.{IsPermutation}
+use Rattle.std.specs.Prelude.{◌≡◌, ℕ, zero, suc, ◌+◌, ◌<◌, ◌≤◌, ◌==◌, ◌&&◌, ◌||◌, Bool, true, false, List, [], ◌∷◌, ◌++◌, All, flat_map, length, take, slice_index_or, Option, Some, None, unwrap_or}
+use Rattle.std.specs.List.{AllPairs, Contains}
+use Rattle.std.specs.List.Sorted.{IsStrictlyIncreasing}
 use Rattle.std.specs.Map.{lookup}
 use Rattle.std.specs.Option.{option_map_or}
-use Rattle.std.proofs.Common.{refl, sym, ap, subst, ◌∙◌, arith, eqb, get_or, inl, inr, true≢false, add-one}
+use Rattle.std.proofs.Common.{refl, sym, ap, subst, ◌∙◌, arith, get_or, inl, inr, true≢false, add-one}
 use Rattle.std.proofs.lemmas.Bool.{cases_lt}
 use Rattle.std.proofs.lemmas.Bool.Decides.{Decides-eqb}
-use Rattle.std.proofs.lemmas.List.Elements.{All-contains, All-contains_itself, Contains-append_left, Contains-append_right, Contains-push, Contains-push_cases}
+use Rattle.std.proofs.lemmas.List.{get_or_default}
+use Rattle.std.proofs.lemmas.List.Elements.{All-push, Contains-append_left, Contains-append_right, Contains-push, Contains-push_cases}
 use Rattle.std.proofs.lemmas.List.Folds.{list_any_at}
-use Rattle.std.proofs.lemmas.List.Kept.{Contains-dedup_nat, Contains-from_dedup}
-use Rattle.std.proofs.lemmas.List.Sorted.{Contains-permutation, IsPermutation-sym}
+use Rattle.std.proofs.lemmas.List.Kept.{AllPairs-from_increasing}
+use Rattle.std.proofs.lemmas.List.Quantifiers.{all_pairs_push}
 use Rattle.watch_index.specs.declared.occasion.Occasion.{Occasion}
 use Rattle.watch_index.specs.Laws.{meets}
 use Rattle.watch_index.specs.Listed.{Listings, has, is_among, is_listed, listed}
@@ -71,15 +72,6 @@ module _ {X : Type 0} (number : X → ℕ) (occasions : X → List Occasion) (xs
       have i d l (all (number x) (led_at ls (number x) (occasions x) happened
       (λ o e. indexed o (number x) ∙ list_any_at (looks number occasions (number x) o) xs i d l (ap (λ b. b && is_among (occasions x) o) ((Decides-eqb (number x) (number x)).1 refl) ∙ e)) h))
 
-  -- where nobody is listed, nobody is led to
-  pub nobody_led : (ls : Listings) → AreIndexed number occasions ls xs → (happened : List Occasion) (ns places : List ℕ) → length ns ≡ 0
-      → ((n : ℕ) → Contains (flat_map (listed ls) happened) n → Contains ns n) → (i : ℕ) (d : X) → i < length xs → meets (occasions (slice_index_or xs i d)) happened ≡ true → Contains places i
-  nobody_led ls indexed happened ns places none all i d l h =
-      let x = slice_index_or xs i d in
-      let found : Contains ns (number x) = all (number x) (led_at ls (number x) (occasions x) happened
-      (λ o e. indexed o (number x) ∙ list_any_at (looks number occasions (number x) o) xs i d l (ap (λ b. b && is_among (occasions x) o) ((Decides-eqb (number x) (number x)).1 refl) ∙ e)) h) in
-      absurd (omega (arith, found.1, none))
-
   pub none_placed : HavePlaces [] []
   none_placed i d l c = absurd (omega (arith, c.1))
 
@@ -101,13 +93,50 @@ module _ {X : Type 0} (number : X → ℕ) (occasions : X → List Occasion) (xs
       | inr same ↦ absurd (nowhere i d l (sym same))
     ]
 
--- ---- places that are put in order, each once
-module _ (old mid new : List ℕ) (moved : IsPermutation old mid) (once : new ≡ dedup eqb mid) where
-  pub still_there : (i : ℕ) → Contains old i → Contains new i
-  still_there i h = subst (λ is. Contains is i) (sym once) (Contains-dedup_nat mid i (Contains-permutation old mid i moved h))
+-- ---- the places of ascending numbers
+one_of : {X : Type 0} (xs : List X) (i : ℕ) → i < length xs → X
+one_of [] i l = absurd (omega (arith, l))
+one_of (x ∷ xs) i l = x
 
-  was_there : (i : ℕ) → Contains new i → Contains old i
-  was_there i h = Contains-permutation mid old i (IsPermutation-sym old mid moved) (Contains-from_dedup eqb mid i (subst (λ is. Contains is i) once h))
+pub ascending : (ns : List ℕ) → AllPairs (λ a b. a < b) ns → IsStrictlyIncreasing ns
+ascending ns pairs k l = pairs k (k + 1) 0 (omega arith) l
 
-  pub all_there : (P : ℕ → Type 0) → All P old → All P new
-  all_there P all = λ k d l. All-contains P old (get_or new k d) all (was_there (get_or new k d) (All-contains_itself new k d l))
+module _ {X : Type 0} (number : X → ℕ) (xs : List X) (ns : List ℕ) where
+  -- at this place stands a number below the j-th and those behind it
+  abbrev pub IsBelow : ℕ → ℕ → Type 0
+  IsBelow j place = (m e : ℕ) (d : X) → j ≤ m → m < length ns → number (get_or xs place d) < get_or ns m e
+
+  abbrev pub AreBelow : ℕ → List ℕ → Type 0
+  AreBelow j places = All (IsBelow j) places
+
+  pub none_below : AreBelow 0 []
+  none_below k e l = absurd (omega (arith, l))
+
+  pub still_below : (j : ℕ) (places : List ℕ) → AreBelow j places → AreBelow (j + 1) places
+  still_below j places below k e l m f d low high = below k e l m f d (omega (arith, low)) high
+
+  module _ (rise : AllPairs (λ a b. number a < number b) xs) (up : IsStrictlyIncreasing ns) (places : List ℕ) (j n f : ℕ) (is : n ≡ slice_index_or ns j f) (inside : j < length ns)
+      (place : ℕ) (low : place < length xs) (at : (d : X) → number (get_or xs place d) ≡ n) where
+    here : (e : ℕ) (d : X) → number (get_or xs place d) ≡ get_or ns j e
+    here e d = at d ∙ is ∙ get_or_default ns j f e inside
+
+    pub more_below : AreBelow j places → AreBelow (j + 1) (places ++ place ∷ [])
+    more_below below = All-push (IsBelow (j + 1)) places place (still_below j places below)
+        (λ m e d above high. subst (λ k. k < get_or ns m e) (sym (here e d)) (AllPairs-from_increasing ns up j m e (omega (arith, above)) high))
+
+    higher : (p : ℕ) → p < length xs → IsBelow j p → p < place
+    higher p within less = elim (cases_lt p place) [
+      | inl lower ↦ lower
+      | inr not_lower ↦ elim (cases_lt place p) [
+        | inl above ↦
+            let d = one_of xs place low in
+            absurd (omega (arith, rise place p d above within, here 0 d, less j 0 d (omega arith) inside))
+        | inr not_above ↦
+            let d = one_of xs place low in
+            let same : place ≡ p = omega (arith, not_lower, not_above) in
+            absurd (omega (arith, ap (λ q. number (get_or xs q d)) same, here 0 d, less j 0 d (omega arith) inside))
+      ]
+    ]
+
+    pub one_higher : All (λ p. p < length xs) places → AreBelow j places → AllPairs (λ a b. a < b) places → AllPairs (λ a b. a < b) (places ++ place ∷ [])
+    one_higher within below pairs = all_pairs_push (λ a b. a < b) places place pairs (λ k e l. higher (get_or places k e) (within k e l) (below k e l))

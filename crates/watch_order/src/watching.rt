@@ -9,6 +9,7 @@ ghost use Rattle.watch_index.specs.Occasions.{happening};
 ghost use Rattle.watch_order.specs.Watched.{AreLed, HasPlaces, IsOpen, IsWatched};
 
 use name_order::{NameOrder, Named};
+use short_list::ShortNumbers;
 use std::alloc::{AllocError, Allocator};
 use std::hash::RandomState;
 use watch_index::{Happened, Occasion, WatchIndex};
@@ -68,32 +69,28 @@ impl<V, A: Allocator + Copy> WatchOrder<V, A> {
     /// The places of the values that look out for something that has happened, in order.
     ///
     /// Takes time in what has happened and in the values that are led to, whatever else is stored. Fails where memory is refused.
-    pub fn led(&self, alloc: A, happened: Happened<'_>) -> Result<Vec<usize, A>, AllocError>
+    pub fn led(&self, alloc: A, happened: Happened<'_>) -> Result<ShortNumbers<A>, AllocError>
         requires watched { IsWatched self.now }
         ensures ascend { IfOk result (λ places. IsStrictlyIncreasing places.items) }
         ensures within { IfOk result (λ places. All (λ i. i < length self.now.order.made.items) places.items) }
         ensures led { IfOk result (λ places. AreLed self.now.order.made.items (happening happened.entry.lives (happened.entry.came).now (happened.entry.went).now (happened.entry.written).now) places.items) }
     {
-        let numbers = self.index.led(alloc, happened)?;
-        if numbers.is_empty() {
-            return Ok(Vec::new(alloc));
-        }
-        let mut places = self.places(alloc, numbers.as_slice())?;
-        places.sort_unstable();
-        places.dedup();
-        Ok(places)
+        let numbers = self.index.led(happened)?;
+        self.places(alloc, numbers.as_slice())
     }
 
-    /// Where values with these numbers stand.
-    fn places(&self, alloc: A, numbers: &[u64]) -> Result<Vec<usize, A>, AllocError>
+    /// Where values with these numbers stand. Numbers rise with places, so the places of ascending numbers ascend.
+    fn places(&self, alloc: A, numbers: &[u64]) -> Result<ShortNumbers<A>, AllocError>
         requires watched { IsWatched self.now }
+        requires ascend { IsStrictlyIncreasing numbers.now }
+        ensures ascend { IfOk result (λ places. IsStrictlyIncreasing places.items) }
         ensures within { IfOk result (λ places. All (λ i. i < length self.now.order.made.items) places.items) }
         ensures all { IfOk result (λ places. HasPlaces self.now.order.made.items numbers.now places.items) }
     {
-        let mut places = Vec::new(alloc);
+        let mut places = ShortNumbers::new();
         for number in numbers {
             if let Some(place) = self.order.place_of_number(*number) {
-                places.push(place)?;
+                places.push(alloc, place as u64)?;
             }
         }
         Ok(places)
