@@ -1,5 +1,5 @@
 -- What becomes of the lists of kept queries, and of their plans.
-use Rattle.std.specs.Prelude.{◌≡◌, ◌≢◌, ◌⊎◌, ℕ, ◌≤◌, Bool, true, false, not, List, [], ◌∷◌, ◌++◌, Contains, IsTrue, filter, length, map, bytes_eq, Option, Some, IfSome, option_and_then, option_map, Result, Ok, Err, if◌then◌else◌}
+use Rattle.std.specs.Prelude.{◌≡◌, ◌≢◌, ◌⊎◌, ℕ, ◌≤◌, Bool, true, false, not, List, [], ◌∷◌, ◌++◌, Contains, IsTrue, filter, length, map, bytes_eq, Option, Some, IfSome, IsSome, option_and_then, option_map, Result, Ok, Err, if◌then◌else◌}
 use Rattle.std.specs.List.{find}
 use Rattle.std.specs.Option.{option_map_or}
 use Rattle.ecs_id.specs.declared.TableKey.{TableKey}
@@ -111,6 +111,12 @@ abbrev pub RefusesKept : {T : Type 0} → Result T SessionError → SessionState
 RefusesKept (Ok _) s n = (q : Query) × (kept_query s n ≡ Ok q)
 RefusesKept (Err (Refused reason)) s n = kept_query s n ≡ Err reason
 RefusesKept (Err Memory) s n = (q : Query) × (kept_query s n ≡ Ok q)
+
+-- these are the tables of the kept query of a name, as they are listed; or there is none of the name
+abbrev pub GivesTables : {T : Type 0} → Result T SessionError → Standing → List ℕ → List TableKey → Type 0
+GivesTables (Ok _) s n tables = option_map (λ list. list.keys) (list_at s n) ≡ Some tables
+GivesTables (Err (Refused reason)) s n tables = kept_query (session_of s) n ≡ Err reason
+GivesTables (Err Memory) s n tables = IsSome (list_at s n)
 
 -- the plan by which the rows of a stored query are found, and that of the stored query of a name
 abbrev pub plan_of : Held → Plan

@@ -1,16 +1,15 @@
 -- What is taken in from the tables above a serial.
-use Rattle.std.proofs.Common.{◌≡◌, inl, inr, ℕ, zero, suc, ◌+◌, ◌<◌, ◌≤◌, Bool, true, false, cond, List, [], ◌∷◌, ◌++◌, Ok, Err, IsSome, length, map, max, min, slice_index_or, take, refl, sym, ap, subst, ◌∙◌, arith}
+use Rattle.std.proofs.Common.{◌≡◌, inl, inr, ℕ, zero, suc, ◌+◌, ◌<◌, ◌≤◌, Bool, true, false, append-nil, append_assoc, cond, le-leb, List, [], ◌∷◌, ◌++◌, Ok, Err, OnErr, OnOk, Result, is_err, length, map, max, min, nat_le, slice_index_or, refl, sym, ap, subst, ◌∙◌, arith, true≢false}
 use Rattle.std.specs.declared.cmp.Ordering.TheVariants.{Less}
 use Rattle.std.specs.List.{AllByRecursion, Contains, filter}
 use Rattle.std.specs.Ordering.{nat_cmp}
 use Rattle.std.proofs.lemmas.Bool.Decides.{nat_tests}
-use Rattle.std.proofs.lemmas.List.{length_push, take_more, take_all}
-use Rattle.std.proofs.lemmas.List.Elements.{Contains-get_or, filter-append, recursion_from_All}
+use Rattle.std.proofs.lemmas.List.Elements.{Contains-append_cases, Contains-get_or, filter-append, recursion_from_All}
 use Rattle.component_index.specs.declared.pattern.Pattern.{Pattern}
 use Rattle.ecs_id.specs.declared.TableKey.{TableKey}
-use Rattle.table_store.specs.Store.{Store, IsStore, table_at}
-use Rattle.query_cache.specs.Kept.{AreAbove, Counts, IsRising, IsTakenIn, is_kept, stands}
-use Rattle.query_cache.proofs.Filters.{from_filter, rising_filter, to_filter}
+use Rattle.table_store.specs.Store.{Store, IsStore}
+use Rattle.query_cache.specs.Kept.{AreAbove, Counts, IsTakenIn, is_kept}
+use Rattle.query_cache.proofs.Filters.{from_filter}
 
 abbrev pub serials_of : List TableKey → List ℕ
 serials_of keys = map (λ k. k.serial) keys
@@ -59,14 +58,55 @@ module _ (s : Store) (store : IsStore s) (patterns : List Pattern) (last : ℕ) 
       store = store;
     }
 
-pub otherwise : {X : Type 0} (b : Bool) (x y z : X) → b ≡ false → z ≡ cond b x y → z ≡ y
-otherwise true x y z h e = absurd (cc)
-otherwise false x y z h e = e
+-- ---- a refused call leaves those that were there
+keeps_all : (p : TableKey → Bool) (keys : List TableKey) → ((k : TableKey) → Contains keys k → p k ≡ true) → filter p keys ≡ keys
+keeps_all p [] all = refl
+keeps_all p (x ∷ keys) all =
+    ap (λ b. cond b (x ∷ filter p keys) (filter p keys)) (all x (zero, omega arith, refl))
+    ∙ ap (λ ks. x ∷ ks) (keeps_all p keys (λ k c. all k (suc c.0, omega (arith, c.1), c.2)))
 
--- cut back to what there was
-pub cut_back : (old more pushed now : List TableKey) (n : ℕ) → n ≡ length old → pushed ≡ old ++ more → now ≡ take n pushed → now ≡ old
-cut_back old more pushed now n long is cut = cut ∙ (λ i. take (long i) (is i)) ∙ take_all old
+keeps_none : (p : TableKey → Bool) (keys : List TableKey) → ((k : TableKey) → Contains keys k → p k ≡ false) → filter p keys ≡ []
+keeps_none p [] none = refl
+keeps_none p (x ∷ keys) none =
+    ap (λ b. cond b (x ∷ filter p keys) (filter p keys)) (none x (zero, omega arith, refl))
+    ∙ keeps_none p keys (λ k c. none k (suc c.0, omega (arith, c.1), c.2))
+
+pub only_before : (last : ℕ) (p : TableKey → Bool) (old taken : List TableKey) → ((k : TableKey) → Contains old k → k.serial ≤ last) → ((k : TableKey) → Contains taken k → last < k.serial)
+    → filter (λ k. nat_le k.serial last) (old ++ filter p taken) ≡ old
+only_before last p old taken low high =
+    let q : TableKey → Bool = λ k. nat_le k.serial last in
+    filter-append q old (filter p taken)
+    ∙ (λ i. keeps_all q old (λ k c. le-leb k.serial last (low k c)) i
+    ++ keeps_none q (filter p taken) (λ k c. past k.serial last (high k (from_filter p taken k c.0 c.1 c.2).0)) i)
+    ∙ append-nil old
   where
-    take_all : (l : List TableKey) → take (length l) (l ++ more) ≡ l
-    take_all [] = refl
-    take_all (x ∷ l) = ap (λ m. x ∷ m) (take_all l)
+    past : (n last : ℕ) → last < n → nat_le n last ≡ false
+    past n last h = grind (arith, nat_tests)
+
+pub later_one : (last : ℕ) (taken : List TableKey) (x : TableKey) → ((k : TableKey) → Contains taken k → last < k.serial) → last < x.serial → (k : TableKey) → Contains (taken ++ x ∷ []) k → last < k.serial
+later_one last taken x before above k c =
+    elim (Contains-append_cases taken (x ∷ []) k c) [
+      | inl there ↦ before k there
+      | inr here ↦ only x k here above
+    ]
+  where
+    only : (x k : TableKey) → Contains (x ∷ []) k → last < x.serial → last < k.serial
+    only x k (zero, lt, same) above = subst (λ y. last < y.serial) same above
+    only x k (suc n, lt, same) above = absurd (omega (arith, lt))
+
+pub on_err : {T E : Type 0} (P : Type 0) (r : Result T E) → is_err r ≡ true → OnErr r P → P
+on_err P (Ok x) is h = absurd (true≢false (sym is))
+on_err P (Err x) is h = h
+
+pub on_ok : {T E : Type 0} (P : Type 0) (r : Result T E) → is_err r ≡ false → OnOk r P → P
+on_ok P (Ok x) is h = h
+on_ok P (Err x) is h = absurd (true≢false is)
+
+-- one more is judged, and taken in where it suits
+pub one_taken : (p : TableKey → Bool) (keys yielded had now : List TableKey) (x : TableKey) (kept : Bool) → kept ≡ p x → had ≡ keys ++ filter p yielded → now ≡ had ++ cond kept (x ∷ []) []
+    → now ≡ keys ++ filter p (yielded ++ x ∷ [])
+one_taken p keys yielded had now x kept judged so is =
+    is
+    ∙ (λ i. so i ++ cond (judged i) (x ∷ []) [])
+    ∙ append_assoc keys (filter p yielded) (cond (p x) (x ∷ []) [])
+    ∙ ap (λ ks. keys ++ ks) (sym (filter-append p yielded (x ∷ [])))

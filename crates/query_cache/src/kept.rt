@@ -1,6 +1,6 @@
 //! The list of the tables that a kept query is about.
 
-ghost use Rattle.std.specs.Prelude.{◌≡◌, ◌↔◌, ◌+◌, [], min, IfOk, IsTrue, OnErr, OnOk};
+ghost use Rattle.std.specs.Prelude.{◌≡◌, ◌↔◌, ◌+◌, ◌++◌, ◌≤◌, [], min, IfOk, IsTrue, OnErr, OnOk};
 ghost use Rattle.std.specs.List.{Contains, filter};
 ghost use Rattle.ecs_id.specs.declared.TableKey.{TableKey};
 ghost use Rattle.query_cache.specs.Kept.{is_kept, Fits, IsRising, IsSynced, IsTakenIn, Judges, stands};
@@ -16,6 +16,7 @@ use ecs_world::World;
 use query_check::Query;
 use std::alloc::{AllocError, Allocator, Global};
 use std::marker::Model;
+use table_list::{Keep, TableList};
 use table_store::TableStore;
 
 /// The tables whose ids have a hit for each cacheable item of a query, emptied tables among them, as of the last `sync`.
@@ -25,7 +26,7 @@ use table_store::TableStore;
 pub struct Kept<A: Allocator = Global> {
     patterns: Vec<Pattern, A>,
     // by rising serial
-    keys: Vec<TableKey, A>,
+    keys: TableList<A>,
     // the greatest serial of a table that was taken in or passed over
     last: u128,
     judged: u64,
@@ -55,7 +56,7 @@ impl<A: Allocator + Copy> Kept<A> {
     {
         Ok(Kept {
             patterns: patterns_of(alloc, query)?,
-            keys: Vec::new(alloc),
+            keys: TableList::new(alloc),
             last: 0,
             judged: 0,
         })
@@ -63,11 +64,13 @@ impl<A: Allocator + Copy> Kept<A> {
 }
 
 impl<A: Allocator> Kept<A> {
-    /// The tables, by rising serial.
-    pub fn tables(&self) -> &[TableKey]
-        ensures { result.now ≡ self.now.keys }
+    /// Puts the tables behind those of a list, by rising serial.
+    ///
+    /// Fails where memory is refused.
+    pub fn push_tables<B: Allocator>(&self, tables: &mut Vec<TableKey, B>) -> Result<(), AllocError>
+        ensures { OnOk result (tables.new.items ≡ tables.old.items ++ self.now.keys) }
     {
-        self.keys.as_slice()
+        self.keys.push_onto(tables)
     }
 
     /// How many tables were judged so far. It stays at its greatest number.
@@ -127,18 +130,18 @@ fn is_kept<B: Allocator>(
 
 /// Puts those tables above a serial that are of the query behind the keys. Answers the greatest serial that was given.
 fn take_in<A: Allocator, B: Allocator>(
-    keys: &mut Vec<TableKey, A>,
+    keys: &mut TableList<A>,
     judged: &mut u64,
     patterns: &[Pattern],
     tables: &TableStore<B>,
     last: u128,
 ) -> Result<u128, AllocError>
+    requires { (k : TableKey) → Contains keys.old.items k → k.serial ≤ last }
     ensures { IsTakenIn tables.now patterns.now last result keys.old.items keys.new.items judged.old judged.new }
 {
-    let before = keys.len();
     for key in tables.since(last) {
         if is_kept(patterns, tables, key, judged) && keys.push(key).is_err() {
-            keys.truncate(before);
+            keys.retain(&Keep::<B>::UpTo(last));
             return Err(AllocError);
         }
     }
@@ -146,15 +149,8 @@ fn take_in<A: Allocator, B: Allocator>(
 }
 
 /// Keeps the keys of the tables that stand.
-fn drop_released<A: Allocator, B: Allocator>(keys: &mut Vec<TableKey, A>, tables: &TableStore<B>)
+fn drop_released<A: Allocator, B: Allocator>(keys: &mut TableList<A>, tables: &TableStore<B>)
     ensures { keys.new.items ≡ filter (stands tables.now) keys.old.items }
 {
-    keys.retain(|key| has(tables, *key));
-}
-
-/// Whether a table stands under the key.
-fn has<A: Allocator>(tables: &TableStore<A>, key: TableKey) -> bool
-    ensures { result ≡ stands tables.now key }
-{
-    tables.get(key).is_some()
+    keys.retain(&Keep::Standing(tables));
 }

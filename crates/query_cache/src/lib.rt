@@ -5,7 +5,7 @@
 //!
 //! // each table is judged once, when it is new
 //! kept.sync(&world)?;
-//! for key in kept.tables() { .. }
+//! kept.push_tables(&mut tables)?;
 //!
 //! // later, whatever commands the world has taken: those that came, without those that were released
 //! kept.sync(&world)?;

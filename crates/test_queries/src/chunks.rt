@@ -3,7 +3,7 @@
 ghost use Rattle.std.specs.Prelude.{IsTrue};
 ghost use Rattle.query_chunks.specs.Asked.{has_chunks};
 
-use crate::kept::list_in;
+use crate::kept::tables_in;
 use crate::lines::{expect_rows, write_entity, write_field};
 use crate::rows::compare_rows;
 use crate::worked::first_at;
@@ -183,8 +183,8 @@ fn compare_kept(
 ) -> Result<(), AllocError>
     requires { IsTrue (has_chunks query.now) }
 {
-    let kept = list_in(rt, alloc, world, query);
-    let mut chunks = Chunks::start_in(world, query, kept.tables());
+    let tables = tables_in(rt, alloc, world, query);
+    let mut chunks = Chunks::start_in(world, query, tables.as_slice());
     compare(rt, alloc, world, &mut chunks, printed)
 }
 

@@ -2,17 +2,25 @@
 
 ghost use Rattle.world_facts.specs.Kept.{AreTablesOf};
 
+use ecs_id::TableKey;
 use ecs_world::World;
 use query_cache::Kept;
 use query_check::Query;
 use std::alloc::Global;
 use std::process::Abort;
 
-/// A list of a query's tables, brought up to date with a world.
-pub(crate) fn list_in(rt: &impl Abort, alloc: Global, world: &World, query: &Query) -> Kept
-    ensures { AreTablesOf query.now world.now.tables result.keys }
+/// The tables of a query, of a list that is brought up to date with a world.
+pub(crate) fn tables_in(
+    rt: &impl Abort,
+    alloc: Global,
+    world: &World,
+    query: &Query,
+) -> Vec<TableKey>
+    ensures { AreTablesOf query.now world.now.tables result.items }
 {
     let mut kept = Kept::new(alloc, query).expect(rt, "out of memory");
     kept.sync(world).expect(rt, "out of memory");
-    kept
+    let mut tables = Vec::new(alloc);
+    kept.push_tables(&mut tables).expect(rt, "out of memory");
+    tables
 }

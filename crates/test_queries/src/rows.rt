@@ -1,7 +1,7 @@
 //! Rows one at a time, compared with the rows of a query as they print.
 
 use crate::diamond::{D, IS_A, make_diamond};
-use crate::kept::list_in;
+use crate::kept::tables_in;
 use crate::lines::{expect_rows, write_entity, write_field};
 use crate::worked::first_at;
 use ecs_id::Id;
@@ -104,8 +104,8 @@ fn ask_kept(
     printed: &str,
 ) -> Asked {
     assert!(rt; asked.is_current(view) && asked.covers(view));
-    let kept = list_in(rt, alloc, view.world(), asked.query());
-    let mut rows = asked.rows_in(view, kept.tables());
+    let tables = tables_in(rt, alloc, view.world(), asked.query());
+    let mut rows = asked.rows_in(view, tables.as_slice());
     let done = compare(rt, alloc, view.world(), query, &mut rows, printed);
     assert!(rt; done.is_ok());
     rows.into_asked()

@@ -34,9 +34,10 @@ fn fill<A: Allocator + Copy>(
 }
 
 /// The table of the two entities.
-fn their_table<A: Allocator>(session: &Session<A>) -> Option<TableKey> {
-    match session.kept_tables("k") {
-        Ok(tables) => tables.first().copied(),
+fn their_table<A: Allocator + Copy>(alloc: A, session: &Session<A>) -> Option<TableKey> {
+    let mut tables = Vec::new(alloc);
+    match session.kept_tables("k", &mut tables) {
+        Ok(()) => tables.first().copied(),
         Err(_) => None,
     }
 }
@@ -47,7 +48,7 @@ fn has_position<A: Allocator>(session: &Session<A>, index: u32, x: i128) -> bool
 
 /// Two values are set where memory is refused, and no event waits.
 fn set_two(rt: &impl Abort, session: &mut Session<&Refusing<Global>>, heap: &Refusing<Global>) {
-    let key = their_table(session).expect(rt, "no table has a position");
+    let key = their_table(heap, session).expect(rt, "no table has a position");
     let bytes = [1, 0, 0, 0, 255, 255, 255, 255];
     heap.refuse_after(0);
     let set = session.set_column(key, Id::plain(POSITION), &bytes);
@@ -63,7 +64,7 @@ fn refuse_each(
     rt: &impl Abort,
     session: &mut Session<&Refusing<Global>>,
 ) -> Result<(), SessionError> {
-    let key = their_table(session).expect(rt, "no table has a position");
+    let key = their_table(heap, session).expect(rt, "no table has a position");
     let position = Id::plain(POSITION);
     let size = Err(SetColumnError::OfWorld(ColumnFault::Size));
     assert!(rt; session.set_column(key, position, &[0; 4]) == size);

@@ -83,10 +83,12 @@ fn each_table_is_judged_once(rt: HostRuntime) -> Result<(), Fail> {
 }
 
 /// There is no list of a name that nothing has, nor of a monitor's.
-fn expect_no_list(rt: &impl Abort, session: &mut Session, name: &str) {
+fn expect_no_list(rt: &impl Abort, alloc: Global, session: &mut Session, name: &str) {
     let refusal = SessionRefusal::UnknownQuery;
     assert!(rt; session.judged(name) == Err(refusal));
-    assert!(rt; session.kept_tables(name).is_err());
+    let mut tables = Vec::new(alloc);
+    let told = session.kept_tables(name, &mut tables);
+    assert!(rt; told == Err(SessionError::Refused(refusal)));
     assert!(rt; session.sync_kept(name) == Err(SessionError::Refused(refusal)));
 }
 
@@ -106,12 +108,13 @@ fn lent_rows(alloc: Global, session: &Session, name: &str, found: &mut Vec<u32>)
     requires { IsUpToDateAt session.now name.now }
 {
     session.keeps();
-    let tables = session.kept_tables(name)?;
+    let mut tables = Vec::new(alloc);
+    session.kept_tables(name, &mut tables)?;
     let kept = session.kept_query(name)?;
     let query = kept.try_clone(alloc)?;
     let view = WorldView::new(session.world());
     let asked = Asked::of(alloc, &view, query)?;
-    let mut rows = asked.rows_in(&view, tables);
+    let mut rows = asked.rows_in(&view, tables.as_slice());
     let taken = take_entities(&mut rows, found);
     drop(rows);
     Ok(taken?)
@@ -136,8 +139,8 @@ fn expect_rows(
 fn expect_lent(rt: &impl Abort, alloc: Global, session: &mut Session) -> Result<(), Fail> {
     run(alloc, session, KEPT_QUERY.base)?;
     run(alloc, session, &STORED)?;
-    expect_no_list(rt, session, "nobody");
-    expect_no_list(rt, session, "m");
+    expect_no_list(rt, alloc, session, "nobody");
+    expect_no_list(rt, alloc, session, "m");
     expect_rows(rt, alloc, session, &[EARTH])?;
     run(alloc, session, &HEATED)?;
     expect_rows(rt, alloc, session, &[EARTH])?;

@@ -201,10 +201,22 @@ fn expect_anew(
     listed: &[TableKey],
 ) -> Result<(), AllocError> {
     let mut anew = new_list(alloc, world, query)?;
-    let done = anew.sync(world);
-    assert!(rt; listed == anew.tables());
+    let mut tables = Vec::new(alloc);
+    let done = fill_anew(world, &mut anew, &mut tables);
+    assert!(rt; listed == tables.as_slice());
     drop(anew);
     done
+}
+
+fn fill_anew(
+    world: &World,
+    anew: &mut Kept,
+    tables: &mut Vec<TableKey>,
+) -> Result<(), AllocError>
+    requires { Fits anew.old world.now.tables }
+{
+    anew.sync(world)?;
+    anew.push_tables(tables)
 }
 
 /// Brings a list up to date after a line, and does so once more. Each table that was made is judged once, and no other.
@@ -224,8 +236,10 @@ fn expect_exact(
     assert!(rt; kept.judged() == judged);
     kept.sync(world)?;
     assert!(rt; kept.judged() == judged);
-    assert!(rt; kept.tables().len() == line.listed);
-    expect_anew(rt, alloc, world, query, kept.tables())
+    let mut tables = Vec::new(alloc);
+    kept.push_tables(&mut tables)?;
+    assert!(rt; tables.len() == line.listed);
+    expect_anew(rt, alloc, world, query, tables.as_slice())
 }
 
 /// Follows a line, after which the list is still one of the world.
@@ -257,7 +271,9 @@ fn follow_lines(
     requires { Fits kept.old world.old.tables }
 {
     kept.sync(world)?;
-    assert!(rt; kept.tables().is_empty());
+    let mut tables = Vec::new(alloc);
+    kept.push_tables(&mut tables)?;
+    assert!(rt; tables.is_empty());
     for line in &SCRIPT {
         follow(rt, alloc, world, kept, query, line)?;
     }

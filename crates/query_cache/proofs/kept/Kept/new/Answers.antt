@@ -3,4 +3,4 @@ use Rattle.query_cache.proofs.Fitting.{new_fits}
 use Rattle.query_cache.proofs.kept.Kept.new.Goals as goal
 
 pub returns-clause-fits : goal.returns-clause-fits
-returns-clause-fits g c = λ s. new_fits _ s c.new.ensures.items refl
+returns-clause-fits g c = λ s. new_fits _ s c.new.ensures refl

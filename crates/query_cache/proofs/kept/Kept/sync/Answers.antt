@@ -21,6 +21,9 @@ returns-clause-again g c = λ synced.
     unjudged c.store-tables.result.now c.args.world.now.tables same c.self.inside.last _ _ _ c.in_ok-last.ensures.judges
     (subst (λ v. IsSynced v c.args.world.now.tables) (sym c.self.view_is) synced) ∙ ap (λ v. v.judged) c.self.view_is
 
+pub take_in-requires : goal.take_in-requires
+take_in-requires g c = (subst (λ v. Fits v c.args.world.now.tables) (sym c.self.view_is) c.requires).given
+
 -- what the call leaves
 left : (g : Over) (c : goal.After-self-1 g)
     → Leaves c.args.world.now.tables (record { patterns = c.self.inside.patterns.items; keys = c.self.inside.keys.items; last = c.self.inside.last; judged = c.self.inside.judged }) c.drop_released.new.keys.items c.in_ok-last.last
