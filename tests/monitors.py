@@ -39,13 +39,24 @@ OTHERS = [
     "(Likes,$x), Hot(up), !Planet(up)",
 ]
 
-# of others with whom `$this` holds no pair: any of them may matter for it
+# of others with whom `$this` has pairs in common, over one or more entities
+LINKED = [
+    "Hot, (Likes,$x), !{ Likes($y,$x), Planet($y), Position($y) }",
+    "Position, Likes($x,$this), Hot($x)",
+    "(Likes,$x), Likes($x,$y), Planet($y), !Hot",
+    "Planet, !{ (Likes,$a), Likes($a,$b), Hot($b), !{ Likes($c,$b), Position($c) } }",
+    "(ChildOf,$p), ChildOf($c,$p), Hot($c), $c != $this",
+    "(Likes,$x) || Likes($x,$this), Planet($x), Hot(up)",
+    "(Likes,$x), (ChildOf,$p), Likes($p,$y), Hot($y)",
+    "Position, (Likes,$x), (ChildOf,$p), Likes($p,$y), !Hot($y)",
+]
+
+# of others with whom `$this` has nothing in common: any of them may matter for it
 UNTIED = [
     "Hot, Planet($x), Position($x)",
     "_, Likes($a,$b), Hot($a), Planet($b)",
     "Position, !{ Hot($x), Planet($x), Disabled($x) }",
     "Planet, Hot($x), Position($y), $x != $y",
-    "(Likes,$x), (ChildOf,$p), Likes($p,$y), Hot($y)",
     "Planet, !{ Likes($a,$b), Likes($b,$a) }",
 ]
 

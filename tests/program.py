@@ -307,7 +307,7 @@ def local_monitors_are_told_as_whole_rows_tell(program, room):
 
 def other_monitors_are_told_as_whole_rows_tell(program, room):
     """A twin asks Sun for any id that it may have, so each fact concerns it for somebody who isn't told by its own."""
-    return are_told_as_twins(program, monitors.OTHERS + monitors.UNTIED, "?*(Sun)")
+    return are_told_as_twins(program, monitors.OTHERS + monitors.LINKED + monitors.UNTIED, "?*(Sun)")
 
 
 def monitors_of_few_bytes_take_little_memory(program, room):

@@ -1,38 +1,60 @@
--- All who may have moved are found in steps: whoever's facts matter for others, and those below; and then those whose own facts came or went, and those who hold a pair with one of these.
-use Rattle.std.specs.Prelude.{◌≡◌, ◌↔◌, ◌||◌, ℕ, Bool, true, false, cond, List, [], ◌∷◌, ◌++◌, filter, flat_map, map}
+-- All who may have moved are found in steps: whoever's facts matter for others, and whoever is linked with these; whoever's facts matter for those below, and those below;
+-- and then those whose own facts came or went, and those who hold a pair with one of these.
+use Rattle.std.specs.Prelude.{◌≡◌, ◌↔◌, ◌||◌, ℕ, Bool, true, false, cond, List, [], ◌∷◌, ◌++◌, filter, flat_map, map, if◌then◌else◌}
 use Rattle.std.specs.List.{Contains}
-use Rattle.std.proofs.Common.{refl, sym, ap, subst, ◌∙◌, arith, true≢false}
-use Rattle.std.proofs.lemmas.Bool.{or_left, or_right}
+use Rattle.std.proofs.Common.{refl, sym, ap, subst, ◌∙◌, arith}
+use Rattle.std.proofs.lemmas.Bool.{or_left, or_right, true≢false}
 use Rattle.std.proofs.lemmas.List.Elements.{Contains-append_left, Contains-append_right}
+use Rattle.ecs_id.specs.Id.{Id, plain, pair}
 use Rattle.ecs_model.specs.Command.{Changed}
-use Rattle.ecs_id.specs.Id.{Id}
 use Rattle.ecs_model.specs.World.{WorldState, Key}
 use Rattle.ecs_model.proofs.Members.{in_flat_map}
 use Rattle.query_model.specs.Query.{Query}
 use Rattle.query_concerns.specs.Concerns.{concerns}
+use Rattle.query_concerns.specs.Linked.{links_others}
 use Rattle.query_concerns.specs.Others.{concerns_below, concerns_others}
-use Rattle.touched_entities.specs.Leaning.{Adds, HasAllBelow, concerns_beyond, leaning}
-use Rattle.touched_entities.specs.Moving.{AreMoving, AreTargets, any_by, entities_by, entities_of}
+use Rattle.query_concerns.specs.Tied.{is_tied}
+use Rattle.touched_entities.specs.Leaning.{Adds, HasAllBelow, IsClosed, concerns_beyond, leaning, linked_with, target_of}
+use Rattle.touched_entities.specs.Moving.{AreLinked, AreMoving, AreTargets, any_by, entities_by, entities_of, targets_by}
+use Rattle.touched_entities.proofs.Covered.{links_concern_others}
 use Rattle.touched_entities.proofs.Grown.{still}
 
 module _ (q : Query) (w : WorldState) (changed : Changed) where
-  pub all_targets : (roots below gathered targets : List ℕ) → ((e : ℕ) → Contains roots e ↔ Contains (entities_of (concerns_below q) changed) e) → HasAllBelow (concerns_beyond q) w roots below
-      → gathered ≡ below ++ entities_of (concerns_others q) changed → ((e : ℕ) → Contains targets e ↔ Contains gathered e) → AreTargets q w changed targets
-  all_targets roots below gathered targets are_roots all_below are same =
-      let others = entities_of (concerns_others q) changed in
-      let put = λ (e : ℕ) (h : Contains (below ++ others) e). (same e).1 (subst (λ (es : List ℕ). Contains es e) (sym are) h) in record {
-        others = λ x h. put x (Contains-append_right below others x h);
-        below = λ x e h reached. put e (Contains-append_left below others e (all_below x e ((are_roots x).1 h) reached));
+  pub linked_if_tied : (linked : List ℕ) → linked ≡ entities_of (concerns_others q) changed → is_tied q ≡ true → AreLinked q w changed linked
+  linked_if_tied linked are tied = record {
+    others = λ x h. subst (λ (es : List ℕ). Contains es x) (sym are) h;
+    lost = λ loose x h. absurd (true≢false (sym tied ∙ loose));
+    closed = λ loose x y h leads. absurd (true≢false (sym tied ∙ loose));
+  }
+
+  pub all_linked : (gathered more start linked : List ℕ) → gathered ≡ entities_of (concerns_others q) changed → Adds (targets_by (links_others q) changed.went) gathered more
+      → ((e : ℕ) → Contains start e ↔ Contains more e) → IsClosed (linked_with (links_others q) w) start linked → AreLinked q w changed linked
+  all_linked gathered more start linked are adds same closed = record {
+    others = λ x h. closed.begun x ((same x).1 (still (targets_by (links_others q) changed.went) gathered more adds x (subst (λ (es : List ℕ). Contains es x) (sym are) h)));
+    lost = λ loose x h. closed.begun x ((same x).1 (adds.all x h));
+    closed = λ loose x y h leads. closed.stepped x y h leads;
+  }
+
+  pub all_targets : (linked below gathered targets : List ℕ) → AreLinked q w changed linked → HasAllBelow (concerns_beyond q) w (entities_of (concerns_below q) changed) below
+      → gathered ≡ linked ++ below → ((e : ℕ) → Contains targets e ↔ Contains gathered e) → AreTargets q w changed targets
+  all_targets linked below gathered targets are_linked all_below are same =
+      let put = λ (e : ℕ) (h : Contains (linked ++ below) e). (same e).1 (subst (λ (es : List ℕ). Contains es e) (sym are) h) in record {
+        linked = linked;
+        are_linked = are_linked;
+        among = λ x h. put x (Contains-append_left linked below x h);
+        below = λ x e h reached. put e (Contains-append_right linked below e (all_below x e h reached));
       }
 
-  pub all_moving : (own targets gathered moving : List ℕ) → ((e : ℕ) → Contains own e ↔ Contains (entities_of (concerns q) changed) e) → AreTargets q w changed targets
-      → Adds (flat_map (leaning (concerns q) w) targets) own gathered → ((e : ℕ) → Contains moving e ↔ Contains gathered e) → AreMoving q w changed moving
-  all_moving own targets gathered moving are_own are_targets adds same = record {
-    own = λ e h. (same e).1 (still (flat_map (leaning (concerns q) w) targets) own gathered adds e ((are_own e).1 h));
-    targets = targets;
-    are_targets = are_targets;
-    held = λ x e h on. (same e).1 (adds.all e (in_flat_map (leaning (concerns q) w) targets x e h on));
-  }
+  pub all_moving : (own targets holders gathered moving : List ℕ) → ((e : ℕ) → Contains own e ↔ Contains (entities_of (concerns q) changed) e) → AreTargets q w changed targets
+      → Adds (flat_map (leaning (concerns q) w) targets) own holders → gathered ≡ holders ++ targets → ((e : ℕ) → Contains moving e ↔ Contains gathered e) → AreMoving q w changed moving
+  all_moving own targets holders gathered moving are_own are_targets adds are same =
+      let put = λ (e : ℕ) (h : Contains (holders ++ targets) e). (same e).1 (subst (λ (es : List ℕ). Contains es e) (sym are) h) in record {
+        own = λ e h. put e (Contains-append_left holders targets e (still (flat_map (leaning (concerns q) w) targets) own holders adds e ((are_own e).1 h)));
+        targets = targets;
+        are_targets = are_targets;
+        themselves = λ x h. put x (Contains-append_right holders targets x h);
+        held = λ x e h on. put e (Contains-append_left holders targets e (adds.all e (in_flat_map (leaning (concerns q) w) targets x e h on)));
+      }
 
 -- ---- where no fact concerns others or those below
 both_false : (a b : Bool) → (a || b) ≡ false → (a ≡ false) × (b ≡ false)
@@ -55,9 +77,28 @@ none_of p r wider changed e =
     let parts = both_false (any_by r changed.came) (any_by r changed.went) e in
     (λ i. none_by p r wider changed.came parts.0 i ++ none_by p r wider changed.went parts.1 i)
 
+-- nor is any target among them that links others
+none_to : (p r : Id → Bool) → ((i : Id) → p i ≡ true → r i ≡ true) → (ks : List Key) → any_by r ks ≡ false → targets_by p ks ≡ []
+none_to p r wider [] e = refl
+none_to p r wider (k ∷ ks) e =
+    let parts = both_false (r k.1) (any_by r ks) e in
+    (λ i. no_pair p k.1 (fails (p k.1) (r k.1) (wider k.1) parts.0) i ++ none_to p r wider ks parts.1 i)
+  where
+    no_pair : (p : Id → Bool) (i : Id) → p i ≡ false → target_of p i ≡ []
+    no_pair p (plain c) h = refl
+    no_pair p (pair r x) h = ap (λ b. if b then x ∷ [] else []) h
+
 pub no_targets : (q : Query) (w : WorldState) (changed : Changed) → (any_by (concerns_beyond q) changed.came || any_by (concerns_beyond q) changed.went) ≡ false → AreTargets q w changed []
 no_targets q w changed none = record {
-  others = λ x h. subst (λ (es : List ℕ). Contains es x) (none_of (concerns_others q) (concerns_beyond q) (λ i t. or_right (concerns_below q i) (concerns_others q i) t) changed none) h;
+  linked = [];
+  are_linked = record {
+    others = λ x h. subst (λ (es : List ℕ). Contains es x) (none_of (concerns_others q) (concerns_beyond q) (λ i t. or_right (concerns_below q i) (concerns_others q i) t) changed none) h;
+    lost = λ loose x h. subst (λ (es : List ℕ). Contains es x)
+        (none_to (links_others q) (concerns_beyond q) (λ i t. or_right (concerns_below q i) (concerns_others q i) (links_concern_others q i t)) changed.went
+        (both_false (any_by (concerns_beyond q) changed.came) (any_by (concerns_beyond q) changed.went) none).1) h;
+    closed = λ loose x y h leads. absurd (omega (arith, h.1));
+  };
+  among = λ x h. h;
   below = λ x e h reached.
       let nobody : Contains [] x = subst (λ (es : List ℕ). Contains es x) (none_of (concerns_below q) (concerns_beyond q) (λ i t. or_left (concerns_below q i) (concerns_others q i) t) changed none) h in
       absurd (omega (arith, nobody.1));

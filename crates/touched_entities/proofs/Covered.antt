@@ -8,6 +8,7 @@ use Rattle.ecs_model.specs.BuiltIns.{transitive, reflexive}
 use Rattle.ecs_model.proofs.Members.{any_passes, from_or, passing}
 use Rattle.query_model.specs.Query.{Item, must, may, either, equal, differ, Piece, item, opening, closing, Query}
 use Rattle.query_concerns.specs.Concerns.{concerns, is_asked_by_all, item_concerns, piece_concerns, term_concerns}
+use Rattle.query_concerns.specs.Linked.{item_links_by, links_others, piece_links_by, term_links_by}
 use Rattle.query_concerns.specs.Others.{concerns_below, concerns_others, item_concerns_below, item_concerns_others, piece_concerns_below, piece_concerns_others, says_how_far, term_concerns_below, term_concerns_others}
 
 any_wider : {X : Type 0} (p r : X → Bool) → ((x : X) → p x ≡ true → r x ≡ true) → (xs : List X) → list_any p xs ≡ true → list_any r xs ≡ true
@@ -55,3 +56,20 @@ others_concern q i h = elim (from_or (says_how_far i) _ h) [
 pub below_concern : (q : Query) (i : Id) → concerns_below q i ≡ true → concerns q i ≡ true
 unfolding concerns concerns_below
 below_concern q i h = or_right (is_asked_by_all i) (list_any (piece_concerns i) q.pieces) (any_wider (piece_concerns_below i) (piece_concerns i) (piece_of_below i) q.pieces h)
+
+-- what links others concerns them
+links_item : (i : Id) (x : Item) → item_links_by i x ≡ true → item_concerns_others i x ≡ true
+links_item i (must t) h = (and_parts _ _ h).1
+links_item i (may t) h = absurd (false≢true h)
+links_item i (either ts) h = any_wider (term_links_by i) (term_concerns_others i) (λ t k. (and_parts _ _ k).1) ts h
+links_item i (equal v r) h = absurd (false≢true h)
+links_item i (differ v r) h = absurd (false≢true h)
+
+links_piece : (i : Id) (p : Piece) → piece_links_by i p ≡ true → piece_concerns_others i p ≡ true
+links_piece i (item x) h = links_item i x h
+links_piece i (opening from_term own) h = absurd (false≢true h)
+links_piece i closing h = absurd (false≢true h)
+
+pub links_concern_others : (q : Query) (i : Id) → links_others q i ≡ true → concerns_others q i ≡ true
+unfolding concerns_others links_others
+links_concern_others q i h = or_right (says_how_far i) (list_any (piece_concerns_others i) q.pieces) (any_wider (piece_links_by i) (piece_concerns_others i) (links_piece i) q.pieces h)

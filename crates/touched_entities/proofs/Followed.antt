@@ -1,8 +1,8 @@
 -- Who isn't among those that may have moved stays as before: no fact that concerns the query came or went of its own, nor one that concerns others of somebody with whom it holds a pair,
--- nor one that concerns those below of somebody above it.
-use Rattle.std.specs.Prelude.{◌≡◌, ◌↔◌, ℕ, suc, ◌==◌, Bool, true, false, ◌&&◌, List, [], ◌∷◌, filter, length, Some, None, is_some, if◌then◌else◌}
+-- nor one that concerns those below of somebody above it. Of a linked query no fact that concerns others came or went of any with whom it is linked, before or after.
+use Rattle.std.specs.Prelude.{◌≡◌, ◌↔◌, ℕ, suc, ◌==◌, Bool, true, false, not, ◌&&◌, ◌||◌, List, [], ◌∷◌, filter, length, Some, None, is_some, if◌then◌else◌}
 use Rattle.std.specs.List.{Contains, list_any}
-use Rattle.std.proofs.Common.{refl, sym, ap, subst, ◌∙◌, inl, inr, cond, true≢false}
+use Rattle.std.proofs.Common.{refl, sym, ap, subst, ◌∙◌, inl, inr, arith, cond, true≢false}
 use Rattle.std.proofs.lemmas.Option.{same_Some}
 use Rattle.std.proofs.lemmas.Bool.{and_from, and_parts, cases_Bool, false≢true, not-true, or_left, or_right}
 use Rattle.std.proofs.lemmas.List.Kept.{IsStrictlySortedBy-filter}
@@ -15,7 +15,7 @@ use Rattle.ecs_model.specs.World.{WorldState, Key, entities, holds, ids_of, key_
 use Rattle.ecs_model.specs.rows.View.{View, view_of}
 use Rattle.ecs_model.specs.stored.Watches.{matching}
 use Rattle.ecs_model.specs.traits.Keeps.{IsWellFormed}
-use Rattle.ecs_model.proofs.Members.{any_passes, eq_itself, eq_same, filtered, from_filter_map, from_or}
+use Rattle.ecs_model.proofs.Members.{alike, any_passes, eq_itself, eq_same, filtered, from_filter_map, from_or, in_flat_map, passing}
 use Rattle.ecs_model.proofs.Reaching.{chain_reached}
 use Rattle.ecs_model.proofs.traits.Adding.{in_map}
 use Rattle.ecs_model.proofs.traits.Facts.{held_listed, listed_held}
@@ -24,17 +24,19 @@ use Rattle.component_index.specs.Patterns.{matches}
 use Rattle.query_model.specs.Query.{Query}
 use Rattle.query_meaning.specs.Sound.{IsSound}
 use Rattle.query_concerns.specs.Concerns.{concerns}
+use Rattle.query_concerns.specs.Linked.{HasLinked, is_linked, links_others}
 use Rattle.query_concerns.specs.Others.{concerns_below, concerns_others}
 use Rattle.query_concerns.specs.Tied.{is_tied}
 use Rattle.query_concerns.proofs.Ancestors.{line_chain}
+use Rattle.query_concerns.proofs.Linked.{match_by_links}
 use Rattle.query_concerns.proofs.OwnFacts.{match_by_own_facts}
 use Rattle.query_concerns.proofs.Tied.{match_by_ties}
 use Rattle.watch_meaning.specs.Since.{IsAfter}
 use Rattle.touched_entities.specs.Before.{view_before}
 use Rattle.touched_entities.specs.Laws.{OthersThanMovingStay}
-use Rattle.touched_entities.specs.Leaning.{concerns_beyond, leaning, leans, pairs_to}
+use Rattle.touched_entities.specs.Leaning.{concerns_beyond, leaning, leans, pairs_to, target_of, targets_at}
 use Rattle.touched_entities.specs.Moving.{AreMoving, any_concerns_others, entities_by, entities_of, is_followed}
-use Rattle.touched_entities.proofs.Covered.{below_concern, others_concern}
+use Rattle.touched_entities.proofs.Covered.{below_concern, links_concern_others, others_concern}
 use Rattle.touched_entities.proofs.IdsBefore.{is_among, same_held}
 use Rattle.touched_entities.proofs.Rising.{ids_rise, keys_rise, one_list}
 use Rattle.touched_entities.proofs.Unconcerned.{queries_matched_before}
@@ -75,6 +77,15 @@ unlisted : (p : Id → Bool) (ks : List Key) (x : ℕ) → (Contains (entities_b
 unlisted p ks x none i h =
     refuted (list_any (key_eq (x, i)) ks)
     (λ t. none (in_map (λ (k : Key). k.0) (filter (λ k. p k.1) ks) (x, i) ((filtered (λ k. p k.1) ks (x, i)).1 (is_among ks (x, i) t, h))))
+
+-- whoever holds something that hasn't gone holds it still
+lasting : (now before : Bool) → before ≡ true → (not now && before) ≡ false → now ≡ true
+lasting true before h l = refl
+lasting false before h l = absurd (true≢false (sym h ∙ l))
+
+-- the target of a pair that passes
+its_target : (p : Id → Bool) (r x : ℕ) → p (pair r x) ≡ true → Contains (target_of p (pair r x)) x
+its_target p r x h = subst (λ b. Contains (if b then x ∷ [] else []) x) (sym h) (0, omega arith, refl)
 
 -- where none of these facts concerns a query for others, no fact whose id does is among them
 others_not_among : (q : Query) (ks : List Key) → any_concerns_others q ks ≡ false → (e : ℕ) (i : Id) → concerns_others q i ≡ true → list_any (key_eq (e, i)) ks ≡ false
@@ -148,24 +159,38 @@ module _ (v : WorldState) (changed : Changed) (kept_now : IsWellFormed v) (after
 
     -- ---- two views
 
-    -- the entity holds the same of what concerns the query; whoever is above it, of what does so for those below; and with whom it holds a pair, of what does so for others,
+    -- the entity holds the same of what concerns the query; whoever is above it, of what does so for those below; and with whom it holds a pair, or who is near, of what does so for others,
     -- as all do where no such fact came or went
     record AreAlike (w u : View) : Type 0 where
       own : filter (concerns q) (w.ids e) ≡ filter (concerns q) (u.ids e)
       above : (r x : ℕ) → Contains (line u.ids u.entities r e) x → filter (concerns_below q) (w.ids x) ≡ filter (concerns_below q) (u.ids x)
       held : (r x : ℕ) → Contains (u.ids e) (pair r x) → concerns q (pair r x) ≡ true → filter (concerns_others q) (w.ids x) ≡ filter (concerns_others q) (u.ids x)
+      near : ℕ → Bool
+      here : near e ≡ true
+      known : (x : ℕ) → near x ≡ true → filter (concerns_others q) (w.ids x) ≡ filter (concerns_others q) (u.ids x)
+      linked : is_tied q ≡ false → HasLinked q w e near × HasLinked q u e near
       others : any_concerns_others q changed.came ≡ false → any_concerns_others q changed.went ≡ false → (x : ℕ) → filter (concerns_others q) (w.ids x) ≡ filter (concerns_others q) (u.ids x)
 
     match_alike : (w u : View) → AreLinks (suc last_index) w.entities w.ids → AreLinks (suc last_index) u.entities u.ids → AreAlike w u → Contains (matching w q) e ↔ Contains (matching u q) e
-    match_alike w u links links' alike =
+    match_alike w u links links' same =
         let parts = and_parts _ _ followed in
-        elim (from_or (is_tied q) _ parts.1) [
-          | inl tied ↦ match_by_ties (suc last_index) (suc last_index) w u q links links' sound parts.0 tied e alike.own alike.above alike.held
-          | inr none ↦
-              let both = and_parts _ _ none in
-              match_by_own_facts (suc last_index) (suc last_index) w u q links links' sound parts.0
-              (alike.others (not-true (any_concerns_others q changed.came) both.0) (not-true (any_concerns_others q changed.went) both.1)) e alike.own alike.above
+        elim (cases_Bool (is_tied q)) [
+          | inl tied ↦ match_by_ties (suc last_index) (suc last_index) w u q links links' sound parts.0 tied e same.own same.above same.held
+          | inr loose ↦ elim (from_or (is_tied q || is_linked q) _ parts.1) [
+            | inl bound ↦
+                let near = same.linked loose in
+                match_by_links (suc last_index) (suc last_index) w u q links links' sound parts.0 (ap (λ b. b || is_linked q) (sym loose) ∙ bound) e same.own same.above
+                same.near same.here near.0 near.1 same.known
+            | inr none ↦
+                let both = and_parts _ _ none in
+                match_by_own_facts (suc last_index) (suc last_index) w u q links links' sound parts.0
+                (same.others (not-true (any_concerns_others q changed.came) both.0) (not-true (any_concerns_others q changed.went) both.1)) e same.own same.above
+          ]
         ]
+
+    -- all may be near
+    all_near : (u : View) → HasLinked q u e (λ x. true)
+    all_near u = record { held = λ r x h concerned. refl; linked = λ r x y h by. refl }
 
     -- what doesn't matter makes no difference
     match_seen : (w : WorldState) → IsWellFormed w → Contains (matching (view_of w) q) e ↔ Contains (matching (seen w) q) e
@@ -173,6 +198,10 @@ module _ (v : WorldState) (changed : Changed) (kept_now : IsWellFormed v) (after
       own = filter_within (concerns q) (matters e) (λ i h. matters_itself i ∙ h) (ids_of w e);
       above = λ r x there. filter_within (concerns_below q) (matters x) (below_matters x) (ids_of w x);
       held = λ r x there concerned. filter_within (concerns_others q) (matters x) (others_matter x) (ids_of w x);
+      near = λ x. true;
+      here = refl;
+      known = λ x near. filter_within (concerns_others q) (matters x) (others_matter x) (ids_of w x);
+      linked = λ loose. (all_near (view_of w), all_near (seen w));
       others = λ came went x. filter_within (concerns_others q) (matters x) (others_matter x) (ids_of w x);
     })
 
@@ -225,9 +254,80 @@ module _ (v : WorldState) (changed : Changed) (kept_now : IsWellFormed v) (after
         (λ i h. others_not_among q changed.went went x i (and_parts _ _ h).1)
         ∙ sym (filter_twice (concerns_others q) (matters x) (ids_of v x))
 
+    own_stay : filter (concerns q) (filter (matters e) (ids_of after.before e)) ≡ filter (concerns q) (filter (matters e) (ids_of v e))
+    own_stay = unlisted_stay (matters e) (concerns q) e (λ h. apart (all.own e h))
+
+    -- ---- whoever isn't among the linked ones is near
+
+    abbrev others_linked : List ℕ
+    others_linked = (all.are_targets).linked
+
+    abbrev is_near : ℕ → Bool
+    is_near x = not (list_any (λ y. y == x) others_linked)
+
+    is_far : (x : ℕ) → Contains others_linked x → is_near x ≡ false
+    is_far x h = ap not (any_passes (λ y. y == x) others_linked x h (eq_itself x))
+
+    stays_out : (x : ℕ) → is_near x ≡ true → Contains others_linked x → ⊥
+    stays_out x near h = true≢false (sym near ∙ is_far x h)
+
+    near_unless : (x : ℕ) → (Contains others_linked x → ⊥) → is_near x ≡ true
+    near_unless x none = ap not (refuted (list_any (λ y. y == x) others_linked) (λ t.
+        let found = passing (λ y. y == x) others_linked t in
+        none (subst (Contains others_linked) (eq_same found.0 x found.2) found.1)))
+
+    itself_near : is_near e ≡ true
+    itself_near = near_unless e (λ h. apart (all.themselves e ((all.are_targets).among e h)))
+
+    held_near : (r x : ℕ) → Contains (ids_of v e) (pair r x) → concerns q (pair r x) ≡ true → is_near x ≡ true
+    held_near r x h concerned = near_unless x (λ l.
+        apart (all.held x e ((all.are_targets).among x l) (holder_leans (concerns q) e r x ((filtered (concerns q) (ids_of v e) (pair r x)).1 (h, concerned)))))
+
+    module _ (loose : is_tied q ≡ false) (r x y : ℕ) (by : links_others q (pair r y) ≡ true) where
+      linked_now : Contains (ids_of v x) (pair r y) → is_near x ≡ is_near y
+      linked_now h =
+          let p = links_others q in
+          let closed = ((all.are_targets).are_linked).closed loose in
+          let holder = holder_leans p x r y ((filtered p (ids_of v x) (pair r y)).1 (h, by)) in
+          let target = in_flat_map (target_of p) (ids_of v x) (pair r y) y h (its_target p r y by) in
+          alike (is_near x) (is_near y)
+          (λ near. near_unless y (λ l. stays_out x near (closed y x l (Contains-append_left (leaning p v y) (targets_at p v y) x holder))))
+          (λ near. near_unless x (λ l. stays_out y near (closed x y l (Contains-append_right (leaning p v x) (targets_at p v x) y target))))
+
+      linked_before : Contains (ids_of after.before x) (pair r y) → is_near x ≡ is_near y
+      linked_before h = elim (cases_Bool (list_any (key_eq (x, pair r y)) changed.went)) [
+        | inl gone ↦
+            let are = (all.are_targets).are_linked in
+            let fact = is_among changed.went (x, pair r y) gone in
+            let test = λ (k : Key). concerns_others q k.1 in
+            let listed = in_map (λ (k : Key). k.0) (filter test changed.went) (x, pair r y) ((filtered test changed.went (x, pair r y)).1 (fact, links_concern_others q (pair r y) by)) in
+            let holder = are.others x (Contains-append_right (entities_by (concerns_others q) changed.came) (entities_by (concerns_others q) changed.went) x listed) in
+            let target = are.lost loose y (in_flat_map (λ (k : Key). target_of (links_others q) k.1) changed.went (x, pair r y) y fact (its_target (links_others q) r y by)) in
+            is_far x holder ∙ sym (is_far y target)
+        | inr lasts ↦
+            let was = listed_held after.before x (pair r y) h in
+            let gone = has_gone after.before v after.command changed after.kept after.stepped (x, pair r y) in
+            linked_now (held_listed v x (pair r y) (lasting (holds v x (pair r y)) (holds after.before x (pair r y)) was (sym gone ∙ lasts)))
+      ]
+
+    near_before : is_tied q ≡ false → HasLinked q (seen after.before) e is_near
+    near_before loose = record {
+      held = λ r x h concerned.
+          let here = (filtered (concerns q) (filter (matters e) (ids_of after.before e)) (pair r x)).1 (h, concerned) in
+          let there = (filtered (concerns q) (filter (matters e) (ids_of v e)) (pair r x)).0 (subst (λ is. Contains is (pair r x)) own_stay here) in
+          held_near r x ((filtered (matters e) (ids_of v e) (pair r x)).0 there.0).0 concerned;
+      linked = λ r x y h by. linked_before loose r x y by ((filtered (matters x) (ids_of after.before x) (pair r y)).0 h).0;
+    }
+
+    near_now : is_tied q ≡ false → HasLinked q (seen v) e is_near
+    near_now loose = record {
+      held = λ r x h concerned. held_near r x ((filtered (matters e) (ids_of v e) (pair r x)).0 h).0 concerned;
+      linked = λ r x y h by. linked_now loose r x y by ((filtered (matters x) (ids_of v x) (pair r y)).0 h).0;
+    }
+
     seen_alike : AreAlike (seen after.before) (seen v)
     seen_alike = record {
-      own = unlisted_stay (matters e) (concerns q) e (λ h. apart (all.own e h));
+      own = own_stay;
       above = λ r x there. unlisted_stay (matters x) (concerns_below q) x
           (λ h.
           let low = leans_below r x (line_chain (up r) (length (entities v)) e x there) in
@@ -236,7 +336,11 @@ module _ (v : WorldState) (changed : Changed) (kept_now : IsWellFormed v) (after
           (λ h.
           let f = (filtered (matters e) (ids_of v e) (pair r x)).0 there in
           let held = (filtered (concerns q) (ids_of v e) (pair r x)).1 (f.0, concerned) in
-          apart (all.held x e ((all.are_targets).others x h) (holder_leans (concerns q) e r x held)));
+          apart (all.held x e ((all.are_targets).among x (((all.are_targets).are_linked).others x h)) (holder_leans (concerns q) e r x held)));
+      near = is_near;
+      here = itself_near;
+      known = λ x near. unlisted_stay (matters x) (concerns_others q) x (λ h. stays_out x near (((all.are_targets).are_linked).others x h));
+      linked = λ loose. (near_before loose, near_now loose);
       others = all_others_stay;
     }
 

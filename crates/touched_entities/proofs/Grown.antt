@@ -1,16 +1,17 @@
 -- Lists that have grown, and have all that were wanted.
-use Rattle.std.specs.Prelude.{◌≡◌, ℕ, ◌+◌, ◌<◌, ◌==◌, ◌&&◌, Bool, true, false, List, [], ◌∷◌, ◌++◌, filter, flat_map, length, map, take}
+use Rattle.std.specs.Prelude.{◌≡◌, ℕ, ◌+◌, ◌<◌, ◌==◌, ◌&&◌, Bool, true, false, List, [], ◌∷◌, ◌++◌, Some, None, filter, flat_map, length, map, take, if◌then◌else◌}
 use Rattle.std.specs.List.{Contains, list_any}
 use Rattle.std.proofs.Common.{refl, sym, ap, subst, ◌∙◌, inl, inr, append_assoc, arith, cond, get_or}
 use Rattle.std.proofs.lemmas.Bool.{and_parts}
 use Rattle.std.proofs.lemmas.Grind.{flat_map-append}
 use Rattle.std.proofs.lemmas.List.{map-append, take_more}
 use Rattle.std.proofs.lemmas.List.Elements.{Contains-append_cases, Contains-append_left, filter-append}
+use Rattle.std.proofs.lemmas.Option.{same_Some}
 use Rattle.component_index.specs.Patterns.{matches}
-use Rattle.ecs_id.specs.Id.{Id}
+use Rattle.ecs_id.specs.Id.{Id, plain, pair, second_of}
 use Rattle.ecs_model.specs.World.{WorldState, entities, ids_of}
 use Rattle.ecs_model.proofs.Members.{any_passes, eq_same, filtered, head_or_tail, passing}
-use Rattle.touched_entities.specs.Leaning.{Adds, leaning, leans, pairs_to}
+use Rattle.touched_entities.specs.Leaning.{Adds, leaning, leans, pairs_to, target_of}
 
 -- whoever was there still is
 pub still : (a x y : List ℕ) → Adds a x y → (e : ℕ) → Contains x e → Contains y e
@@ -89,3 +90,19 @@ given_within p next xs i inside d x y z h k =
     subst (λ a. Adds a x z)
     (sym (ap (λ ys. filter p (flat_map next ys)) (take_more xs i d inside) ∙ ap (filter p) (more_of next (take i xs) (get_or xs i d)) ∙ filter-append p (flat_map next (take i xs)) (next (get_or xs i d))))
     (and_then (filter p (flat_map next (take i xs))) (filter p (next (get_or xs i d))) x y z h k)
+
+-- ---- the target of a pair
+
+module _ (p : Id → Bool) where
+  pub no_target : (i : Id) (found : List ℕ) → second_of i ≡ None → Adds (target_of p i) found found
+  no_target (plain c) found h = already [] found (λ e m. absurd (omega (arith, m.1)))
+  no_target (pair r x) found h = absurd cc
+
+  pub fails_as_pair : (i : Id) (found : List ℕ) → p i ≡ false → Adds (target_of p i) found found
+  fails_as_pair (plain c) found h = already [] found (λ e m. absurd (omega (arith, m.1)))
+  fails_as_pair (pair r x) found h = subst (λ a. Adds a found found) (ap (λ b. if b then x ∷ [] else []) (sym h)) (already [] found (λ e m. absurd (omega (arith, m.1))))
+
+  pub its_target : (i : Id) (x : ℕ) (found after : List ℕ) → second_of i ≡ Some x → p i ≡ true → Adds (x ∷ []) found after → Adds (target_of p i) found after
+  its_target (plain c) x found after is passes adds = absurd cc
+  its_target (pair r y) x found after is passes adds =
+      subst (λ a. Adds a found after) (ap (λ z. z ∷ []) (sym (same_Some y x is)) ∙ ap (λ b. if b then y ∷ [] else []) (sym passes)) adds

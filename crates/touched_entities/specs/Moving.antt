@@ -1,5 +1,5 @@
 -- Who may move in or out of a query's rows by a command, and what is told of them but for those who have to be asked.
-use Rattle.std.specs.Prelude.{◌⊎◌, ◌↔◌, ℕ, Bool, not, ◌&&◌, ◌||◌, List, ◌++◌, filter, map}
+use Rattle.std.specs.Prelude.{◌≡◌, ◌⊎◌, ◌↔◌, ℕ, Bool, false, not, ◌&&◌, ◌||◌, List, ◌++◌, filter, flat_map, map}
 use Rattle.std.specs.List.{Contains, list_any}
 use Rattle.std.specs.List.Sorted.{IsStrictlyIncreasing}
 use Rattle.ecs_id.specs.Id.{Id}
@@ -9,12 +9,13 @@ use Rattle.ecs_model.specs.rows.View.{view_of}
 use Rattle.ecs_model.specs.stored.Watches.{matching}
 use Rattle.query_concerns.specs.Anchored.{is_anchored}
 use Rattle.query_concerns.specs.Concerns.{concerns}
+use Rattle.query_concerns.specs.Linked.{is_linked, links_others}
 use Rattle.query_concerns.specs.Others.{concerns_below, concerns_others}
 use Rattle.query_concerns.specs.OwnIds.{lacks, meets}
 use Rattle.query_concerns.specs.Tied.{is_tied}
 use Rattle.query_model.specs.Query.{Query}
 use Rattle.touched_entities.specs.Before.{view_before}
-use Rattle.touched_entities.specs.Leaning.{HasAllBelow, concerns_beyond, leaning}
+use Rattle.touched_entities.specs.Leaning.{HasAllBelow, concerns_beyond, leaning, linked_with, target_of}
 
 -- the entities of those facts that pass a test by their ids
 abbrev pub entities_by : (Id → Bool) → List Key → List ℕ
@@ -28,27 +29,41 @@ entities_of p changed = entities_by p changed.came ++ entities_by p changed.went
 abbrev pub any_by : (Id → Bool) → List Key → Bool
 any_by p ks = list_any (λ k. p k.1) ks
 
+-- the targets of those facts that are pairs and pass a test by their ids
+abbrev pub targets_by : (Id → Bool) → List Key → List ℕ
+targets_by p ks = flat_map (λ k. target_of p k.1) ks
+
 -- whether one of these facts concerns a query for others than its own entity and those below that
 abbrev pub any_concerns_others : Query → List Key → Bool
 any_concerns_others q ks = list_any (λ k. concerns_others q k.1) ks
 
--- whether all who may move can be found: births and deaths don't matter, and what came and went concerns the query for no others, or it is tied
+-- whether all who may move can be found: births and deaths don't matter, and what came and went concerns the query for no others, or it is tied, or linked
 abbrev pub is_followed : Query → Changed → Bool
-is_followed q changed = is_anchored q && (is_tied q || (not (any_concerns_others q changed.came) && not (any_concerns_others q changed.went)))
+is_followed q changed = is_anchored q && (is_tied q || is_linked q || (not (any_concerns_others q changed.came) && not (any_concerns_others q changed.went)))
 
 module _ (q : Query) (w : WorldState) where
-  -- among these are all with whom somebody holds a pair who may move by another one's fact: those of whom a fact that concerns others came or went,
-  -- those of whom one did that concerns those below, and all below these
-  pub record AreTargets (changed : Changed) (xs : List ℕ) : Type 0 where
+  -- among these are those of whom a fact that concerns others came or went. Of a query that isn't tied the targets of what went and linked others are too,
+  -- and with each of them all who are linked with it now
+  pub record AreLinked (changed : Changed) (xs : List ℕ) : Type 0 where
     pub others : (x : ℕ) → Contains (entities_of (concerns_others q) changed) x → Contains xs x
+    pub lost : is_tied q ≡ false → (x : ℕ) → Contains (targets_by (links_others q) changed.went) x → Contains xs x
+    pub closed : is_tied q ≡ false → (x y : ℕ) → Contains xs x → Contains (linked_with (links_others q) w x) y → Contains xs y
+
+  -- among these are all with whom somebody holds a pair who may move by another one's fact: such linked ones,
+  -- those of whom a fact came or went that concerns those below, and all below these
+  pub record AreTargets (changed : Changed) (xs : List ℕ) : Type 0 where
+    pub linked : List ℕ
+    pub are_linked : AreLinked changed linked
+    pub among : (x : ℕ) → Contains linked x → Contains xs x
     pub below : HasAllBelow (concerns_beyond q) w (entities_of (concerns_below q) changed) xs
 
-  -- among these are all who may move: those whose own facts came or went, and those who hold a pair that concerns the query with one of such targets.
+  -- among these are all who may move: those whose own facts came or went, such targets, and those who hold a pair that concerns the query with one of these.
   -- They hold it now: who held one before alone has lost it by a fact of its own
   pub record AreMoving (changed : Changed) (es : List ℕ) : Type 0 where
     pub own : (e : ℕ) → Contains (entities_of (concerns q) changed) e → Contains es e
     pub targets : List ℕ
     pub are_targets : AreTargets changed targets
+    pub themselves : (x : ℕ) → Contains targets x → Contains es x
     pub held : (x e : ℕ) → Contains targets x → Contains (leaning (concerns q) w x) e → Contains es e
 
   -- whether an entity's ids tell that it is `$this` of a row

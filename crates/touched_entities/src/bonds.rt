@@ -4,7 +4,7 @@ ghost use Rattle.std.specs.Prelude.{◌≡◌};
 ghost use Rattle.touched_entities.specs.Bonds.{bonds_of};
 
 use query_check::Query;
-use query_concerns::{is_anchored, is_tied};
+use query_concerns::{is_anchored, is_linked, is_tied};
 use std::alloc::Allocator;
 
 /// What is asked of a query's bonds at each command, and told once: they depend on the query alone.
@@ -14,6 +14,8 @@ pub struct Bonds {
     pub anchored: bool,
     /// Whether it is tied: a fact of somebody else moves only those who hold a pair with that, and those below it.
     pub tied: bool,
+    /// Whether it is linked: a fact of somebody else moves only those who are linked with that, from pair to pair, and those below it.
+    pub linked: bool,
 }
 
 impl Bonds {
@@ -26,6 +28,7 @@ impl Bonds {
         Bonds {
             anchored: is_anchored(query),
             tied: is_tied(query),
+            linked: is_linked(query),
         }
     }
 }

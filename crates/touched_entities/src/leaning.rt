@@ -66,7 +66,7 @@ pub(crate) fn push_all_below<A: Allocator + Copy, B: Allocator>(
 }
 
 /// Adds those who lean on this entity. False, where these may be too many.
-fn push_leaning<A: Allocator + Copy, B: Allocator>(
+pub(crate) fn push_leaning<A: Allocator + Copy, B: Allocator>(
     alloc: A,
     query: &Query<B>,
     whom: Whom,
@@ -145,7 +145,7 @@ fn push_from<A: Allocator + Copy, B: Allocator>(
 }
 
 /// Adds an entity that isn't there yet.
-fn push_new<A: Allocator + Copy>(
+pub(crate) fn push_new<A: Allocator + Copy>(
     alloc: A,
     entity: u32,
     found: &mut ShortList<A>,

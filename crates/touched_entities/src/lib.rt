@@ -7,6 +7,7 @@ mod facts;
 mod indexes;
 pub mod laws;
 mod leaning;
+mod linked;
 mod moving;
 mod touching;
 mod whom;

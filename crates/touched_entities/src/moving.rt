@@ -5,13 +5,15 @@ ghost use Rattle.std.specs.List.Sorted.{IsStrictlyIncreasing};
 ghost use Rattle.ecs_model.specs.World.{is_live};
 ghost use Rattle.query_meaning.specs.Sound.{IsSound};
 ghost use Rattle.touched_entities.specs.Bonds.{bonds_of};
-ghost use Rattle.touched_entities.specs.Leaning.{concerns_for};
-ghost use Rattle.touched_entities.specs.Moving.{AreMoving, AreTargets, TellsMoved, any_by, any_concerns_others, entities_by, entities_of, is_followed, is_open, is_sure};
+ghost use Rattle.query_concerns.specs.Others.{concerns_below};
+ghost use Rattle.touched_entities.specs.Leaning.{HasAllBelow, concerns_beyond, concerns_for};
+ghost use Rattle.touched_entities.specs.Moving.{AreLinked, AreMoving, AreTargets, TellsMoved, any_by, any_concerns_others, entities_by, entities_of, is_followed, is_open, is_sure};
 ghost use Rattle.watch_meaning.specs.Since.{IsAfter};
 
 use crate::Bonds;
 use crate::indexes::put_in_order;
 use crate::leaning::{MOST, push_all_below, push_leaning_on_all};
+use crate::linked::{push_all, push_all_linked, push_targets};
 use crate::touching::ids_at;
 use crate::whom::{Whom, concerns_for};
 use ecs_model::FactKey;
@@ -32,7 +34,7 @@ pub struct Moved<A: Allocator> {
 
 /// Who may have moved in or out of a query's rows by a command. All others are in them or out of them as before.
 ///
-/// None, where that can't be told: of a query that isn't anchored, where a fact concerns others than its entity and the query isn't tied, or where
+/// None, where that can't be told: of a query that isn't anchored, where a fact concerns others than its entity and the query is neither tied nor linked, or where
 /// too many may have moved. Takes time in what has changed, and for each that may have moved. Fails where memory is refused.
 pub fn who_may_have_moved<A: Allocator + Copy, B: Allocator>(
     alloc: A,
@@ -50,7 +52,7 @@ pub fn who_may_have_moved<A: Allocator + Copy, B: Allocator>(
     if !is_followed(query, bonds, changes) {
         return Ok(None);
     }
-    let Some(all) = moving(alloc, query, world, changes)? else {
+    let Some(all) = moving(alloc, query, bonds, world, changes)? else {
         return Ok(None);
     };
     if all.len() > MOST {
@@ -94,7 +96,7 @@ fn lives<A: Allocator>(world: &World<A>, entity: u32) -> bool
 }
 
 /// Whether all who may have moved can be found: births and deaths don't matter, and what came and went concerns a query for no others than the
-/// entities whose facts these are and those below, or for those alone who hold a pair with one of these.
+/// entities whose facts these are and those below, or for those alone who hold a pair with one of these, or are linked with one from pair to pair.
 fn is_followed<A: Allocator, B: Allocator>(
     query: &Query<B>,
     bonds: Bonds,
@@ -105,6 +107,7 @@ fn is_followed<A: Allocator, B: Allocator>(
 {
     bonds.anchored
         && (bonds.tied
+            || bonds.linked
             || (!any_concerns_others(query, changes.came())
                 && !any_concerns_others(query, changes.went())))
 }
@@ -125,13 +128,15 @@ fn any_concerns_others<B: Allocator>(query: &Query<B>, facts: &[FactKey]) -> boo
 fn moving<A: Allocator + Copy, B: Allocator>(
     alloc: A,
     query: &Query<B>,
+    bonds: Bonds,
     world: &World<A>,
     changes: &Changes<A>,
 ) -> Result<Option<ShortList<A>>, AllocError>
+    requires bonds { bonds ≡ bonds_of query.now }
     ensures ascend { IfOk result (λ found. IfSome found (λ moving. IsStrictlyIncreasing moving.items)) }
     ensures all { IfOk result (λ found. IfSome found (λ moving. AreMoving query.now world.now.state changes.now moving.items)) }
 {
-    let Some(targets) = targets(alloc, query, world, changes)? else {
+    let Some(targets) = targets(alloc, query, bonds, world, changes)? else {
         return Ok(None);
     };
     let mut moving = ShortList::new();
@@ -147,32 +152,78 @@ fn moving<A: Allocator + Copy, B: Allocator>(
     )? {
         return Ok(None);
     }
+    push_all(alloc, targets.as_slice(), &mut moving)?;
     put_in_order(&mut moving);
     Ok(Some(moving))
 }
 
-/// All with whom somebody holds a pair who may have moved by another one's fact, in order, unless they may be too many: those of whom a fact that
-/// concerns others came or went, those of whom one did that concerns those below, and all below these.
+/// All with whom somebody holds a pair who may have moved by another one's fact, in order, unless they may be too many: those linked with one of whom
+/// a fact came or went, those of whom one did that concerns those below, and all below these.
 fn targets<A: Allocator + Copy, B: Allocator>(
     alloc: A,
     query: &Query<B>,
+    bonds: Bonds,
     world: &World<A>,
     changes: &Changes<A>,
 ) -> Result<Option<ShortList<A>>, AllocError>
+    requires bonds { bonds ≡ bonds_of query.now }
     ensures { IfOk result (λ found. IfSome found (λ targets. AreTargets query.now world.now.state changes.now targets.items)) }
 {
     if !any_concerns_for(query, Whom::Beyond, changes) {
         return Ok(Some(ShortList::new()));
     }
-    let mut targets = ShortList::new();
-    push_entities(alloc, query, Whom::Below, changes, &mut targets)?;
-    put_in_order(&mut targets);
-    if !push_all_below(alloc, query, Whom::Beyond, world, &mut targets)? {
+    let Some(below) = below(alloc, query, world, changes)? else {
         return Ok(None);
-    }
-    push_entities(alloc, query, Whom::Others, changes, &mut targets)?;
+    };
+    let Some(mut targets) = linked(alloc, query, bonds, world, changes)? else {
+        return Ok(None);
+    };
+    push_all(alloc, below.as_slice(), &mut targets)?;
     put_in_order(&mut targets);
     Ok(Some(targets))
+}
+
+/// All of whom a fact that concerns those below came or went, and all below these, unless they may be too many.
+fn below<A: Allocator + Copy, B: Allocator>(
+    alloc: A,
+    query: &Query<B>,
+    world: &World<A>,
+    changes: &Changes<A>,
+) -> Result<Option<ShortList<A>>, AllocError>
+    ensures { IfOk result (λ found. IfSome found (λ below. HasAllBelow (concerns_beyond query.now) world.now.state (entities_of (concerns_below query.now) changes.now) below.items)) }
+{
+    let mut below = ShortList::new();
+    push_entities(alloc, query, Whom::Below, changes, &mut below)?;
+    put_in_order(&mut below);
+    if !push_all_below(alloc, query, Whom::Beyond, world, &mut below)? {
+        return Ok(None);
+    }
+    Ok(Some(below))
+}
+
+/// All of whom a fact that concerns others came or went. Of a query that isn't tied, those with whom they had a pair in common that went too, and all
+/// who are linked with one of these, from pair to pair, unless they may be too many.
+fn linked<A: Allocator + Copy, B: Allocator>(
+    alloc: A,
+    query: &Query<B>,
+    bonds: Bonds,
+    world: &World<A>,
+    changes: &Changes<A>,
+) -> Result<Option<ShortList<A>>, AllocError>
+    requires bonds { bonds ≡ bonds_of query.now }
+    ensures { IfOk result (λ found. IfSome found (λ linked. AreLinked query.now world.now.state changes.now linked.items)) }
+{
+    let mut linked = ShortList::new();
+    push_entities(alloc, query, Whom::Others, changes, &mut linked)?;
+    if bonds.tied {
+        return Ok(Some(linked));
+    }
+    push_targets(alloc, query, changes.went(), &mut linked)?;
+    put_in_order(&mut linked);
+    if !push_all_linked(alloc, query, world, &mut linked)? {
+        return Ok(None);
+    }
+    Ok(Some(linked))
 }
 
 /// Adds those of whom a fact that concerns a query so came or went.

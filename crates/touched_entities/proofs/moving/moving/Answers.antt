@@ -16,5 +16,7 @@ returns-clause-all g c =
     let gathered = c.in_ok-push_entities.ensures ∙ (λ i. c.new-moving.ensures i ++ entities_of (concerns q) changed) in
     let are_own = subst (λ (es : List ℕ). (e : ℕ) → Contains own e ↔ Contains es e) gathered c.put_in_order.ensures.same in
     let found = subst (λ (o : Option Items). IfSome o (λ targets. AreTargets q w changed targets.items)) c.in-Some.is c.in_ok-targets.ensures in
-    all_moving q w changed own c.as_slice.result.now c.push_leaning_on_all.new.found.items c.put_in_order-2.new.indexes.items
-    are_own (subst (AreTargets q w changed) (sym c.as_slice.ensures) found) (c.in_ok-push_leaning_on_all.ensures c.if-not-branch.false) c.put_in_order-2.ensures.same
+    let holders : List ℕ = c.push_leaning_on_all.new.found.items in
+    all_moving q w changed own c.as_slice.result.now holders _ c.put_in_order-2.new.indexes.items
+    are_own (subst (AreTargets q w changed) (sym c.as_slice.ensures) found) (c.in_ok-push_leaning_on_all.ensures c.if-not-branch.false)
+    (c.in_ok-push_all.ensures ∙ (λ i. holders ++ (c.as_slice-2.ensures ∙ sym c.as_slice.ensures) i)) c.put_in_order-2.ensures.same
