@@ -15,6 +15,7 @@ ghost use Rattle.name_order.specs.Order.{IsPlaceOf, is_key};
 ghost use Rattle.touched_entities.specs.Concerned.{has_births_or_deaths};
 
 use ecs_world::Changes;
+use short_list::ShortNumbers;
 use std::alloc::{AllocError, Allocator};
 use std::hash::RandomState;
 use stored_queries::{RowsAfter, StoredQuery, is_told};
@@ -68,7 +69,7 @@ impl<A: Allocator + Copy> StoredQueries<A> {
     /// The places of the stored queries that look out for something that a command did, in order: no other is told anything.
     ///
     /// Fails where memory is refused.
-    pub(crate) fn led(&self, alloc: A, changes: &Changes<A>) -> Result<Vec<usize, A>, AllocError>
+    pub(crate) fn led(&self, alloc: A, changes: &Changes<A>) -> Result<ShortNumbers<A>, AllocError>
         requires stored { IsStored self.now }
         ensures ascend { IfOk result (λ places. IsStrictlyIncreasing places.items) }
         ensures within { IfOk result (λ places. All (λ i. i < length (entries_of self.now)) places.items) }

@@ -104,7 +104,7 @@ fn touched_if_asked<'w, A: Allocator + Copy>(
     world: &'w World<A>,
     changes: &Changes<A>,
     stored: &StoredQueries<A>,
-    places: &[usize],
+    places: &[u64],
 ) -> Result<Vec<Touched<'w, A>, A>, AllocError>
     requires after { IsAfter world.now.state changes.now }
     ensures touched { any_locally_at (entries_of stored.now) places.now ≡ true → IfOk result (λ touched. AreTouchedBy world.now.state changes.now touched.items) }
@@ -117,10 +117,12 @@ fn touched_if_asked<'w, A: Allocator + Copy>(
 }
 
 /// Whether a stored query at one of these places is told by the entities that a command touched.
-fn is_told_locally_at<A: Allocator>(stored: &StoredQueries<A>, places: &[usize]) -> bool
+fn is_told_locally_at<A: Allocator>(stored: &StoredQueries<A>, places: &[u64]) -> bool
     ensures { result ≡ any_locally_at (entries_of stored.now) places.now }
 {
-    places.iter().any(|place| stored.is_told_locally_at(*place))
+    places
+        .iter()
+        .any(|place| stored.is_told_locally_at(*place as usize))
 }
 
 /// Puts what all stored queries are told behind other events, by those at these places: no other is told anything. Gives the moves of their
@@ -131,7 +133,7 @@ fn tell_all<A: Allocator + Copy>(
     changes: &Changes<A>,
     touched: &[Touched<'_, A>],
     stored: &StoredQueries<A>,
-    places: &[usize],
+    places: &[u64],
     room: &mut AskingRoom<A>,
     rows: &mut Vec<(usize, RowsAfter<A>), A>,
     compared: &mut u64,
@@ -153,12 +155,13 @@ fn tell_all<A: Allocator + Copy>(
 {
     world.keeps();
     for place in places {
-        if let Some((name, query)) = stored.get_index(*place) {
+        let place = *place as usize;
+        if let Some((name, query)) = stored.get_index(place) {
             let now = tell_one(
                 alloc, world, changes, touched, name, query, room, compared, events,
             )?;
             if let Some(after) = now {
-                rows.push((*place, after))?;
+                rows.push((place, after))?;
             }
         }
     }
