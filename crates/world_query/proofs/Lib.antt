@@ -1,6 +1,7 @@
 mod Named
 mod Texts
 mod Kept
+mod KeptRows
 mod Printed
 pub mod Asked
 mod Answered

@@ -1,6 +1,6 @@
 //! What is proved of runs of planned queries: each function's contract is a law, and its body does nothing.
 
-ghost use Rattle.world_query.specs.Probes.{AskedQueriesHaveTerms, FactsCountAlike, KeptQueriesStayWithin, PlannedQueriesStayWithin, SimpleQueriesStayWithin};
+ghost use Rattle.world_query.specs.Probes.{AskedQueriesHaveTerms, FactsCountAlike, KeptQueriesStayWithin, KeptRowsStayWithin, PlannedQueriesStayWithin, SimpleQueriesStayWithin};
 
 /// Law: a run of a simple query, planned in the world in which it runs, makes at most as many probes as the query has items times the tables
 /// of the shortest list among its items that must match.
@@ -12,6 +12,12 @@ pub fn simple_queries_stay_within_their_probes()
 /// whatever world it was planned.
 pub fn kept_queries_stay_within_their_tables()
     ensures { KeptQueriesStayWithin }
+{}
+
+/// Law: the probes that `write_rows_in` answers are of a simple query at most as many as it has items times the tables that were given, in whatever
+/// world it was planned.
+pub fn kept_rows_stay_within_their_tables()
+    ensures { KeptRowsStayWithin }
 {}
 
 /// Law: no chain of alternatives is empty in a query that some text asked.
