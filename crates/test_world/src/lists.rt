@@ -208,11 +208,7 @@ fn expect_anew(
     done
 }
 
-fn fill_anew(
-    world: &World,
-    anew: &mut Kept,
-    tables: &mut Vec<TableKey>,
-) -> Result<(), AllocError>
+fn fill_anew(world: &World, anew: &mut Kept, tables: &mut Vec<TableKey>) -> Result<(), AllocError>
     requires { Fits anew.old world.now.tables }
 {
     anew.sync(world)?;
