@@ -1,8 +1,8 @@
 -- A current query can be answered, and the entities that it matches ascend; so does what is held of the rows of a stored query.
-use Rattle.std.specs.Prelude.{◌≡◌, Bool, true, false, [], if◌then◌else◌}
+use Rattle.std.specs.Prelude.{◌≡◌, Bool, true, false, not, ◌&&◌, [], if◌then◌else◌}
 use Rattle.std.specs.List.Sorted.{IsStrictlyIncreasing}
 use Rattle.std.specs.List.{list_any}
-use Rattle.std.proofs.Common.{arith}
+use Rattle.std.proofs.Common.{arith, refl}
 use Rattle.std.proofs.lemmas.List.Kept.{IsStrictlyIncreasing-filter}
 use Rattle.ecs_model.specs.Query.{known_of}
 use Rattle.ecs_model.specs.World.{WorldState}
@@ -21,7 +21,7 @@ use Rattle.query_meaning.proofs.NamedLive.{current_queries_name_the_living}
 use Rattle.query_meaning.proofs.Rising.{current_queries_go_up_without_cycles, current_queries_order_without_cycles}
 use Rattle.query_answers.proofs.Worlds.{worlds_ascend}
 use Rattle.world_query.specs.Answerable.{IsAnswerable}
-use Rattle.stored_queries.specs.Held.{rows_of}
+use Rattle.stored_queries.specs.Held.{is_monitor, rows_of}
 
 pub asked_is_sound : (q : Query) → WasAsked q → IsSound q
 asked_is_sound q (w, text, e) = checked_queries_are_sound (known_of w) text q e
@@ -51,3 +51,14 @@ ascending w kept Kept q e = cc
 ascending w kept OnAdd q e = cc
 ascending w kept OnRemove q e = cc
 ascending w kept OnSet q e = cc
+
+pub nobody_held : (w : WorldState) (kind : StoredKind) (q : Query) → (is_monitor kind && not (is_local q)) ≡ false → rows_of w kind q ≡ []
+nobody_held w Monitor q e = by (is_local q) e
+  where
+    by : (b : Bool) → not b ≡ false → (if b then [] else matching (view_of w) q) ≡ []
+    by true h = refl
+    by false h = cc
+nobody_held w Kept q e = refl
+nobody_held w OnAdd q e = refl
+nobody_held w OnRemove q e = refl
+nobody_held w OnSet q e = refl
