@@ -103,6 +103,7 @@ fn push_target<A: Allocator + Copy, B: Allocator>(
 }
 
 /// Adds these entities.
+#[inline(always)]
 pub(crate) fn push_all<A: Allocator + Copy>(
     alloc: A,
     entities: &[u32],

@@ -172,6 +172,7 @@ fn targets<A: Allocator + Copy, B: Allocator>(
     if !any_concerns_for(query, Whom::Beyond, changes) {
         return Ok(Some(ShortList::new()));
     }
+    // (what follows stands in functions of its own: the facts of most commands concern their own entities alone)
     let Some(below) = below(alloc, query, world, changes)? else {
         return Ok(None);
     };
@@ -184,6 +185,7 @@ fn targets<A: Allocator + Copy, B: Allocator>(
 }
 
 /// All of whom a fact that concerns those below came or went, and all below these, unless they may be too many.
+#[inline(never)]
 fn below<A: Allocator + Copy, B: Allocator>(
     alloc: A,
     query: &Query<B>,
@@ -203,6 +205,7 @@ fn below<A: Allocator + Copy, B: Allocator>(
 
 /// All of whom a fact that concerns others came or went. Of a query that isn't tied, those with whom they had a pair in common that went too, and all
 /// who are linked with one of these, from pair to pair, unless they may be too many.
+#[inline(never)]
 fn linked<A: Allocator + Copy, B: Allocator>(
     alloc: A,
     query: &Query<B>,

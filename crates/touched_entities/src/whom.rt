@@ -23,6 +23,7 @@ pub(crate) enum Whom {
     Linked,
 }
 
+#[inline(always)]
 pub(crate) fn concerns_for<B: Allocator>(query: &Query<B>, whom: Whom, id: Id) -> bool
     ensures { result ≡ concerns_for whom query.now id }
 {
