@@ -1,5 +1,5 @@
 //! The numbers of the stored queries that look out for what has happened.
-ghost use Rattle.std.specs.Prelude.{◌≡◌, ◌↔◌, ◌∷◌, ◌++◌, [], ℕ, Contains, IfOk, OnOk, flat_map, if◌then◌else◌};
+ghost use Rattle.std.specs.Prelude.{◌≡◌, ◌↔◌, ◌∷◌, ◌++◌, [], ℕ, Contains, OnOk, flat_map, if◌then◌else◌};
 ghost use Rattle.std.specs.List.Sorted.{IsStrictlyIncreasing};
 ghost use Rattle.ecs_id.specs.Id.{IsIndex, pair, plain};
 ghost use Rattle.query_concerns.specs.Concerns.{is_asked_by_all};
@@ -30,20 +30,21 @@ pub struct Happened<'c> {
     pub written: &'c [FactKey],
 }
 
-/// The numbers that are listed for all that has happened, in the order in which they are met.
+/// Puts the numbers that are listed for all that has happened into an empty list, in the order in which they are met.
 #[inline(always)]
-pub(crate) fn gathered<A: Allocator + Copy>(
+pub(crate) fn gather<A: Allocator + Copy>(
     index: &WatchIndex<A>,
     happened: Happened<'_>,
-) -> Result<ShortNumbers<A>, AllocError>
-    ensures { IfOk result (λ numbers. numbers.items ≡ flat_map (listed index.now) (happening happened.entry.lives (happened.entry.came).now (happened.entry.went).now (happened.entry.written).now)) }
+    numbers: &mut ShortNumbers<A>,
+) -> Result<(), AllocError>
+    requires empty { numbers.old.items ≡ [] }
+    ensures { OnOk result (numbers.new.items ≡ flat_map (listed index.now) (happening happened.entry.lives (happened.entry.came).now (happened.entry.went).now (happened.entry.written).now)) }
 {
-    let mut numbers = ShortNumbers::new();
-    push_lives(index, happened.lives, &mut numbers)?;
-    push_moved(index, happened.came, &mut numbers)?;
-    push_moved(index, happened.went, &mut numbers)?;
-    push_written(index, happened.written, &mut numbers)?;
-    Ok(numbers)
+    push_lives(index, happened.lives, numbers)?;
+    push_moved(index, happened.came, numbers)?;
+    push_moved(index, happened.went, numbers)?;
+    push_written(index, happened.written, numbers)?;
+    Ok(())
 }
 
 /// Adds the numbers that are listed for births and deaths, where there are any.

@@ -1,11 +1,11 @@
 //! For each thing that may happen, the stored queries that look out for it.
-ghost use Rattle.std.specs.Prelude.{◌≡◌, ◌↔◌, ◌++◌, [], ℕ, Contains, IfOk, OnErr, OnOk, false, flat_map};
+ghost use Rattle.std.specs.Prelude.{◌≡◌, ◌↔◌, ◌++◌, [], ℕ, Contains, OnErr, OnOk, false, flat_map};
 ghost use Rattle.std.specs.List.Sorted.{IsStrictlyIncreasing};
 ghost use Rattle.watch_index.specs.Listed.{Adds, AreSame, Drops, is_among, is_listed, listed};
 ghost use Rattle.watch_index.specs.Occasions.{happening};
 ghost use Rattle.watch_index.specs.declared.occasion.Occasion.{Occasion as Awaited};
 
-use crate::gathering::{Happened, gathered, put_in_order};
+use crate::gathering::{Happened, gather, put_in_order};
 use crate::lists::{Lists, list_all, push_list, unlist_all};
 use crate::marks::Marks;
 use crate::occasion::Occasion;
@@ -64,14 +64,22 @@ impl<A: Allocator + Copy> WatchIndex<A> {
         Ok(())
     }
 
-    /// The numbers of the stored queries that look out for something that has happened, in ascending order.
-    pub fn led(&self, happened: Happened<'_>) -> Result<ShortNumbers<A>, AllocError>
-        ensures ascend { IfOk result (λ numbers. IsStrictlyIncreasing numbers.items) }
-        ensures exact { IfOk result (λ numbers. (n : ℕ) → Contains numbers.items n ↔ Contains (flat_map (listed self.now) (happening happened.entry.lives (happened.entry.came).now (happened.entry.went).now (happened.entry.written).now)) n) }
+    /// Makes this the list of the numbers of the stored queries that look out for something that has happened, in ascending order.
+    ///
+    /// The list stays where it is, as a move of it would take more than all else where nobody is led to.
+    #[inline(always)]
+    pub fn led(
+        &self,
+        happened: Happened<'_>,
+        numbers: &mut ShortNumbers<A>,
+    ) -> Result<(), AllocError>
+        ensures ascend { OnOk result (IsStrictlyIncreasing numbers.new.items) }
+        ensures exact { OnOk result ((n : ℕ) → Contains numbers.new.items n ↔ Contains (flat_map (listed self.now) (happening happened.entry.lives (happened.entry.came).now (happened.entry.went).now (happened.entry.written).now)) n) }
     {
-        let mut numbers = gathered(self, happened)?;
-        put_in_order(&mut numbers);
-        Ok(numbers)
+        *numbers = ShortNumbers::new();
+        gather(self, happened, numbers)?;
+        put_in_order(numbers);
+        Ok(())
     }
 
     /// Adds the numbers that are listed for an occasion. What has no mark isn't looked up.

@@ -8,7 +8,9 @@
 //! index.enter(7, occasions.as_slice())?;
 //!
 //! // the numbers of those that look out for something that a command did
-//! for number in index.led(happened)?.as_slice() { .. }
+//! let mut numbers = ShortNumbers::new();
+//! index.led(happened, &mut numbers)?;
+//! for number in numbers.as_slice() { .. }
 //! index.leave(7, occasions.as_slice());
 //! ```
 #![tactic(auto)]

@@ -6,5 +6,5 @@ use Rattle.watch_index.proofs.index.WatchIndex.led.Goals as goal
 pub returns-clause-exact : goal.returns-clause-exact
 returns-clause-exact g c =
     subst (λ (ns : List ℕ). (n : ℕ) → Contains c.put_in_order.new.numbers.items n ↔ Contains ns n)
-    c.in_ok-numbers.ensures
+    c.in_ok-gather.ensures
     c.put_in_order.ensures.same
