@@ -75,7 +75,8 @@ impl<V, A: Allocator + Copy> WatchOrder<V, A> {
         ensures within { IfOk result (λ places. All (λ i. i < length self.now.order.made.items) places.items) }
         ensures led { IfOk result (λ places. AreLed self.now.order.made.items (happening happened.entry.lives (happened.entry.came).now (happened.entry.went).now (happened.entry.written).now) places.items) }
     {
-        let numbers = self.index.led(happened)?;
+        let mut numbers = ShortNumbers::new();
+        self.index.led(happened, &mut numbers)?;
         self.places(alloc, numbers.as_slice())
     }
 

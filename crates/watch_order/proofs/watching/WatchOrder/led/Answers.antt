@@ -14,5 +14,5 @@ returns-clause-led g c =
     (λ places have.
     led_here number_in occasions_in bs c.args.self.now.index c.requires.watched.index
     (happening c.args.happened.lives c.args.happened.came.now c.args.happened.went.now c.args.happened.written.now) c.as_slice.result.now places.items
-    (λ n h. subst (λ ns. Contains ns n) (sym c.as_slice.ensures) ((c.in_ok-numbers.ensures.exact n).1 h)) have)
+    (λ n h. subst (λ ns. Contains ns n) (sym c.as_slice.ensures) ((c.in_ok-led.ensures.exact n).1 h)) have)
     c.places.ensures.all
