@@ -1,6 +1,6 @@
 //! The stored queries of a session, in the order of making.
 
-ghost use Rattle.std.specs.Prelude.{◌≡◌, ◌↔◌, ◌<◌, ◌++◌, ◌∷◌, [], All, IfNone, IfOk, IfSome, IsSome, None, OnErr, Some, is_some, length, map, option_map, slice_get};
+ghost use Rattle.std.specs.Prelude.{◌≡◌, ◌↔◌, ◌<◌, ◌++◌, ◌∷◌, [], All, IfNone, IfOk, IfSome, IsSome, None, OnErr, OnOk, Some, is_some, length, map, option_map, slice_get};
 ghost use Rattle.std.specs.List.{list_any};
 ghost use Rattle.std.specs.List.Sorted.{IsStrictlyIncreasing};
 ghost use Rattle.std.specs.Map.{lookup, remove_entry};
@@ -66,14 +66,19 @@ impl<A: Allocator + Copy> StoredQueries<A> {
         self.all.prepare(alloc, name, watcher)
     }
 
-    /// The places of the stored queries that look out for something that a command did, in order: no other is told anything.
+    /// Makes this the list of the places of the stored queries that look out for something that a command did, in order: no other is told anything.
     ///
     /// Fails where memory is refused.
-    pub(crate) fn led(&self, alloc: A, changes: &Changes<A>) -> Result<ShortNumbers<A>, AllocError>
+    pub(crate) fn led(
+        &self,
+        alloc: A,
+        changes: &Changes<A>,
+        places: &mut ShortNumbers<A>,
+    ) -> Result<(), AllocError>
         requires stored { IsStored self.now }
-        ensures ascend { IfOk result (λ places. IsStrictlyIncreasing places.items) }
-        ensures within { IfOk result (λ places. All (λ i. i < length (entries_of self.now)) places.items) }
-        ensures led { IfOk result (λ places. AreLedTo changes.now (entries_of self.now) places.items) }
+        ensures ascend { OnOk result (IsStrictlyIncreasing places.new.items) }
+        ensures within { OnOk result (All (λ i. i < length (entries_of self.now)) places.new.items) }
+        ensures led { OnOk result (AreLedTo changes.now (entries_of self.now) places.new.items) }
     {
         let happened = Happened {
             lives: has_births_or_deaths(changes),
@@ -82,7 +87,8 @@ impl<A: Allocator + Copy> StoredQueries<A> {
             written: changes.written(),
         };
         whom_changes_concern_they_lead_to();
-        self.all.led(alloc, happened)
+        self.all.led(alloc, happened, places)?;
+        Ok(())
     }
 }
 

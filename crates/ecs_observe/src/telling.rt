@@ -19,6 +19,7 @@ use crate::queries::StoredQueries;
 use asking_room::AskingRoom;
 use ecs_world::{Changes, World};
 use local_queries::Touched;
+use short_list::ShortNumbers;
 use std::alloc::{AllocError, Allocator};
 use stored_queries::{RowsAfter, tell_one};
 use touched_entities::touched;
@@ -89,7 +90,8 @@ fn tell_led<A: Allocator + Copy>(
     ensures grows { compared.old ≤ compared.new }
     ensures few { OnOk result (compared.new ≤ compared.old + count_by (is_searched changes.now) (map held_of (entries_of stored.now))) }
 {
-    let places = stored.led(alloc, changes)?;
+    let mut places = ShortNumbers::new();
+    stored.led(alloc, changes, &mut places)?;
     let places = places.as_slice();
     let touched = touched_if_asked(alloc, world, changes, stored, places)?;
     let touched = touched.as_slice();

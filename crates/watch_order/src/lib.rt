@@ -8,7 +8,9 @@
 //! stored.put(key, made);
 //!
 //! // the places of those that look out for something that a command did
-//! for place in stored.led(rt.alloc(), happened)?.as_slice() { .. }
+//! let mut places = ShortNumbers::new();
+//! stored.led(rt.alloc(), happened, &mut places)?;
+//! for place in places.as_slice() { .. }
 //! ```
 #![tactic(auto)]
 

@@ -66,35 +66,47 @@ impl<V, A: Allocator + Copy> WatchOrder<V, A> {
         Ok((key, made))
     }
 
-    /// The places of the values that look out for something that has happened, in order.
+    /// Makes this the list of the places of the values that look out for something that has happened, in order.
     ///
     /// Takes time in what has happened and in the values that are led to, whatever else is stored. Fails where memory is refused.
-    pub fn led(&self, alloc: A, happened: Happened<'_>) -> Result<ShortNumbers<A>, AllocError>
+    pub fn led(
+        &self,
+        alloc: A,
+        happened: Happened<'_>,
+        places: &mut ShortNumbers<A>,
+    ) -> Result<(), AllocError>
         requires watched { IsWatched self.now }
-        ensures ascend { IfOk result (λ places. IsStrictlyIncreasing places.items) }
-        ensures within { IfOk result (λ places. All (λ i. i < length self.now.order.made.items) places.items) }
-        ensures led { IfOk result (λ places. AreLed self.now.order.made.items (happening happened.entry.lives (happened.entry.came).now (happened.entry.went).now (happened.entry.written).now) places.items) }
+        ensures ascend { OnOk result (IsStrictlyIncreasing places.new.items) }
+        ensures within { OnOk result (All (λ i. i < length self.now.order.made.items) places.new.items) }
+        ensures led { OnOk result (AreLed self.now.order.made.items (happening happened.entry.lives (happened.entry.came).now (happened.entry.went).now (happened.entry.written).now) places.new.items) }
     {
+        *places = ShortNumbers::new();
         let mut numbers = ShortNumbers::new();
         self.index.led(happened, &mut numbers)?;
-        self.places(alloc, numbers.as_slice())
+        self.push_places(alloc, numbers.as_slice(), places)?;
+        Ok(())
     }
 
-    /// Where values with these numbers stand. Numbers rise with places, so the places of ascending numbers ascend.
-    fn places(&self, alloc: A, numbers: &[u64]) -> Result<ShortNumbers<A>, AllocError>
+    /// Puts into an empty list where values with these numbers stand. Numbers rise with places, so the places of ascending numbers ascend.
+    fn push_places(
+        &self,
+        alloc: A,
+        numbers: &[u64],
+        places: &mut ShortNumbers<A>,
+    ) -> Result<(), AllocError>
         requires watched { IsWatched self.now }
         requires ascend { IsStrictlyIncreasing numbers.now }
-        ensures ascend { IfOk result (λ places. IsStrictlyIncreasing places.items) }
-        ensures within { IfOk result (λ places. All (λ i. i < length self.now.order.made.items) places.items) }
-        ensures all { IfOk result (λ places. HasPlaces self.now.order.made.items numbers.now places.items) }
+        requires empty { places.old.items ≡ [] }
+        ensures ascend { OnOk result (IsStrictlyIncreasing places.new.items) }
+        ensures within { OnOk result (All (λ i. i < length self.now.order.made.items) places.new.items) }
+        ensures all { OnOk result (HasPlaces self.now.order.made.items numbers.now places.new.items) }
     {
-        let mut places = ShortNumbers::new();
         for number in numbers {
             if let Some(place) = self.order.place_of_number(*number) {
                 places.push(alloc, place as u64)?;
             }
         }
-        Ok(places)
+        Ok(())
     }
 }
 

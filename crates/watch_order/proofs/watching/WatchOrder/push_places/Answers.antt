@@ -7,17 +7,17 @@ use Rattle.std.proofs.lemmas.List.Elements.{All-nil, All-push}
 use Rattle.name_order.specs.Order.{number_in}
 use Rattle.watch_order.specs.Watched.{Boxed, HasPlaces, occasions_in}
 use Rattle.watch_order.proofs.Places.{AreBelow, ascending, found_more, more_below, none_below, none_more, none_placed, one_higher, still_below}
-use Rattle.watch_order.proofs.watching.WatchOrder.places.Goals as goal
-use Rattle.watch_order.proofs.watching.WatchOrder.places.Goals.{in-Some+in_ok-push, in_default}
+use Rattle.watch_order.proofs.watching.WatchOrder.push_places.Goals as goal
+use Rattle.watch_order.proofs.watching.WatchOrder.push_places.Goals.{in-Some+in_ok-push, in_default}
 
 pub loop-number-init : goal.loop-number-init
 loop-number-init g c =
     let bs : List (Boxed g.row.V.Denot g.row.A.Denot) = c.args.self.now.order.made.items in
     record {
-      ascend = subst (AllPairs (λ a b. a < b)) (sym c.new-places.ensures) (λ i j d low high. absurd (omega (arith, high)));
-      below = subst (AreBelow number_in bs c.args.numbers.now 0) (sym c.new-places.ensures) (none_below number_in bs c.args.numbers.now);
-      within = subst (All (λ i. i < length bs)) (sym c.new-places.ensures) (All-nil (λ i. i < length bs));
-      all = subst (HasPlaces bs []) (sym c.new-places.ensures) (none_placed number_in occasions_in bs);
+      ascend = subst (AllPairs (λ a b. a < b)) (sym c.requires.empty) (λ i j d low high. absurd (omega (arith, high)));
+      below = subst (AreBelow number_in bs c.args.numbers.now 0) (sym c.requires.empty) (none_below number_in bs c.args.numbers.now);
+      within = subst (All (λ i. i < length bs)) (sym c.requires.empty) (All-nil (λ i. i < length bs));
+      all = subst (HasPlaces bs []) (sym c.requires.empty) (none_placed number_in occasions_in bs);
     }
 
 pub loop-number-preserved : goal.loop-number-preserved

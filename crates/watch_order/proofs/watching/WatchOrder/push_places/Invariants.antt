@@ -4,7 +4,7 @@ use Rattle.std.proofs.Common.{◌<◌, length, take}
 use Rattle.name_order.specs.Order.{number_in}
 use Rattle.watch_order.specs.Watched.{HasPlaces}
 use Rattle.watch_order.proofs.Places.{AreBelow}
-use Rattle.watch_order.proofs.watching.WatchOrder.places.Given as goal
+use Rattle.watch_order.proofs.watching.WatchOrder.push_places.Given as goal
 
 abbrev pub invariant-loop-number : goal.invariant-loop-number
 invariant-loop-number g l = record {
