@@ -1,5 +1,5 @@
 -- A session of which one stored query is written: the entities of its rows, or the list of its tables.
-use Rattle.std.specs.Prelude.{◌≡◌, ℕ, zero, suc, ◌<◌, List, [], ◌∷◌, length, map, bytes_eq, slice_index_or, slice_set, true, false, Option, Some, IfSome, option_and_then, option_map, Result, Ok, Err, OnOk}
+use Rattle.std.specs.Prelude.{◌≡◌, ℕ, zero, suc, ◌<◌, List, [], ◌∷◌, length, map, bytes_eq, slice_index_or, slice_set, true, false, Option, Some, IfOk, IfSome, option_and_then, option_map, Result, Ok, Err, OnOk}
 use Rattle.std.specs.List.{find}
 use Rattle.std.specs.Option.{option_map_or}
 use Rattle.std.specs.Cmp.Lexicographic.{bytes_decides}
@@ -18,7 +18,7 @@ use Rattle.ecs_model.specs.stored.Session.{kept_query}
 use Rattle.ecs_world.specs.Standing as world
 use Rattle.query_plan.specs.Plans.{Plan}
 use Rattle.plan_steps.specs.Nobody.{begins_with_this}
-use Rattle.ecs_observe.specs.Following.{Follows, FollowsAt, FollowsIfSome, IsPlannedNow, IsUpToDate, IsUpToDateAt, PlansAt, ReadsList, RefusesKept, StaysOrIsPlanned, SyncsList, begins_in_list, list_at, plan_at, plan_of, with_list, with_list_at}
+use Rattle.ecs_observe.specs.Following.{FindsInList, FindsInListAt, Follows, FollowsAt, FollowsIfSome, IsPlannedNow, IsUpToDate, IsUpToDateAt, PlansAt, ReadsList, RefusesKept, StaysOrIsPlanned, SyncsList, begins_in_list, list_at, plan_at, plan_of, with_list, with_list_at}
 use Rattle.stored_queries.specs.Lists.{HasList}
 use Rattle.ecs_observe.specs.Lists.{HaveLists}
 use Rattle.ecs_observe.specs.Parts.{held_of, with_kept_at}
@@ -163,6 +163,13 @@ module _ {A : Type 0} (n : List ℕ) (w : world.Standing) (s t : StoredQueries A
           current = subst (λ q. IsUpToDate q w.tables up.0) query up.2;
         }
     reads_then (Err e) has h = tt
+
+    -- and how these were found
+    pub finds_then : {E : Type 0} (r : Result (Option ℕ) E) → IfOk r (FindsInList w (query_in y).plan list) → IfOk r (FindsInListAt n (seen w (entries_of t) waiting compared))
+    finds_then (Ok probes) h =
+        subst (λ o. IfSome o (λ p. FindsInList w p (list_at (seen w (entries_of t) waiting compared) n) probes)) (sym plan_is)
+        (subst (λ l. FindsInList w (query_in y).plan l probes) (sym (ap (option_and_then (λ (h : Held). h.list)) found_now)) h)
+    finds_then (Err e) h = tt
 
     -- one that was brought up to date
     pub synced_then : {T : Type 0} (r : Result T SessionError) → SyncsList r (query_in x).kind ((query_in x).plan).query w.tables list → OnOk r (IsUpToDateAt (seen w (entries_of t) waiting compared) n)

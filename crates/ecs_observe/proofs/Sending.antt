@@ -79,7 +79,7 @@ module _ {A : Type 0} (most : ℕ) where
 
 -- where nothing can be sent: a name that no kept query has, and what stays in front
 module _ (most : ℕ) (s : SessionState) (name before after : List ℕ) where
-  pub refused_nowhere : (reason : SessionRefusal) → SendsKept {T = ⊤} most (Err (rows.Refused reason)) s name (Some []) (Some []) before after → AnswersRows {T = ⊤} (Err (Refused reason)) s name before after
+  pub refused_nowhere : (reason : SessionRefusal) → SendsKept {T = Option ℕ} most (Err (rows.Refused reason)) s name (Some []) (Some []) before after → AnswersRows {T = Option ℕ} (Err (Refused reason)) s name before after
   refused_nowhere reason so = (so.0, so.1)
 
   pub front_nowhere : {T : Type 0} (r : Result T SendRowsError) → SendsKept most r s name (Some []) (Some []) before after → OnErr r (StartsWith after before)

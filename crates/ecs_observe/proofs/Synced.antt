@@ -52,8 +52,3 @@ module _ {X E : Type 0} (s : Store) (first before after : Kept) (r : Result X E)
         passed = λ k here low. (follows_sync s before after r call).passed k here (was.passed k here low);
         judged = inr (record { above = new.above; are_above = new.are_above; count = new.count; at_most = new.at_most; counted = subst (Counts first.judged new.count) (sym (call.again synced)) new.counted });
       }
-
--- what holds of any answer holds of Ok
-pub of_any : {T E P : Type 0} (r : Result T E) → P → OnOk r P
-of_any (Ok x) h = h
-of_any (Err e) h = tt

@@ -1,5 +1,5 @@
 -- What becomes of the lists of kept queries, and of their plans.
-use Rattle.std.specs.Prelude.{◌≡◌, ◌≢◌, ◌⊎◌, ℕ, ◌≤◌, Bool, true, false, not, List, [], ◌∷◌, ◌++◌, Contains, IsTrue, filter, length, map, bytes_eq, Option, Some, IfSome, IsSome, option_and_then, option_map, Result, Ok, Err, if◌then◌else◌}
+use Rattle.std.specs.Prelude.{◌≡◌, ◌≢◌, ◌⊎◌, ℕ, ◌≤◌, Bool, true, false, not, List, [], ◌∷◌, ◌++◌, Contains, IsTrue, filter, length, map, bytes_eq, Option, Some, None, IfSome, IsSome, option_and_then, option_map, Result, Ok, Err, if◌then◌else◌}
 use Rattle.std.specs.List.{find}
 use Rattle.std.specs.Option.{option_map_or}
 use Rattle.ecs_id.specs.declared.TableKey.{TableKey}
@@ -16,6 +16,7 @@ use Rattle.query_plan.specs.Plans.{Plan}
 use Rattle.table_store.specs.Store.{Store}
 use Rattle.world_facts.specs.Kept.{AreTablesOf}
 use Rattle.world_query.specs.Planned.{IsPlannedForKept, IsPlannedIn}
+use Rattle.world_query.specs.Probes.{StaysInTables}
 use Rattle.stored_queries.specs.Held.{Held}
 use Rattle.ecs_observe.specs.Standing.{Standing, session_of}
 use Rattle.ecs_observe.specs.declared.errors.SessionError.{SessionError}
@@ -60,6 +61,11 @@ SyncsList (Err Memory) k q s list = k ≡ kind.Kept
 -- where the rows of a stored query are found from its list, it has one, which is up to date
 abbrev pub ReadsList : {A : Type 0} → Store → StoredQuery A → Type 0
 ReadsList s q = begins_with_this (q.plan).query (q.plan).steps ≡ true → (l : Kept) × (q.list ≡ Some l) × IsUpToDate (q.plan).query s l
+
+-- a run of a plan that begins in these tables found the rows, with no more probes than the tables of this list allow; where no number is told, the plan begins elsewhere
+abbrev pub FindsInList : world.Standing → Plan → Option Kept → Option ℕ → Type 0
+FindsInList w p list None = begins_with_this p.query p.steps ≡ false
+FindsInList w p list (Some probes) = (begins_with_this p.query p.steps ≡ true) × ((l : Kept) × (list ≡ Some l) × StaysInTables w p l.keys probes)
 
 -- the steps are the planner's by this world, given how many tables the query has in it
 pub record IsPlannedNow (w : world.Standing) (p : Plan) : Type 0 where
@@ -132,6 +138,10 @@ begins_in_list s n = option_map_or (λ p. begins_with_this p.query p.steps) (pla
 -- it was left as it was, or it is the planner's by the world of then
 abbrev pub PlansAt : List ℕ → Standing → Standing → Type 0
 PlansAt n old new = (plan_at new n ≡ plan_at old n) ⊎ IfSome (plan_at new n) (IsPlannedNow old.world)
+
+-- the rows of the stored query of a name were found so
+abbrev pub FindsInListAt : List ℕ → Standing → Option ℕ → Type 0
+FindsInListAt n s probes = IfSome (plan_at s n) (λ p. FindsInList s.world p (list_at s n) probes)
 
 -- each stored query by its name, with its list if it is a kept one, and with the steps by which its rows are found
 abbrev pub lists_of : Standing → List (List ℕ × Option Kept × List Step)

@@ -85,8 +85,8 @@ fn put_to_sea(
     Ok(())
 }
 
-/// Prints the ships that are docked: exactly the rows of the kept query, or why there are none.
-fn show_docked(session: &mut Session, out: &mut Vec<u8>) -> Result<(), SessionError>
+/// Prints the ships that are docked: exactly the rows of the kept query, or why there are none. It answers how many probes that took.
+fn show_docked(session: &mut Session, out: &mut Vec<u8>) -> Result<Option<u64>, SessionError>
     ensures { AnswersRows result (session_of session.old) (codes "docked") out.old.items out.new.items }
 {
     session.write_kept_rows("docked", out)

@@ -505,7 +505,7 @@ fn run_rows<A: Allocator + Copy, W: Sink>(
     ensures { DoesLine (effect_of (session_of session.old) number (AskKept name.now)) (session_of session.new) W.contents W.calls writer.old writer.new most output.old.items output.new.items result }
 {
     match session.send_kept_rows(name, output, most, writer) {
-        Ok(()) => Ok(false),
+        Ok(_) => Ok(false),
         Err(SendRowsError::Refused(reason)) => {
             unsent(tell_error(number, SessionError::Refused(reason), output))
         }

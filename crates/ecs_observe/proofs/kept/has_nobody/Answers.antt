@@ -14,19 +14,19 @@ finds_nobody-requires-clause-sound g c = subst IsSound (sym c.query.ensures) c.r
 
 pub finds_nobody-requires-clause-live : goal.finds_nobody-requires-clause-live
 finds_nobody-requires-clause-live g c =
-    subst (λ (x : Standing). AreNamesLive (view_of x.state) c.query.result.now) (sym c.new-facts.ensures)
+    subst (λ (x : Standing). AreNamesLive (view_of x.state) c.query.result.now) (sym c.requires.world)
     (subst (λ (q : Query). AreNamesLive (view_of c.args.world.now.state) q) (sym c.query.ensures) c.requires.answerable.names)
 
 pub finds_nobody-requires-clause-kept : goal.finds_nobody-requires-clause-kept
 finds_nobody-requires-clause-kept g c =
     let tables = c.args.tables.now in
     c.keeps_tables.ensures c.query.result.now tables
-    (subst (λ (x : Standing). AreTablesOf c.query.result.now x.tables tables) (sym c.new-facts.ensures)
+    (subst (λ (x : Standing). AreTablesOf c.query.result.now x.tables tables) (sym c.requires.world)
     (subst (λ (q : Query). AreTablesOf q (c.args.world.now).tables tables) (sym c.query.ensures) c.requires.tables))
 
 pub returns : goal.returns
 returns g c = record {
   none = λ e.
       subst (λ (q : Query). answers (view_of c.args.world.now.state) q ≡ []) c.query.ensures
-      (subst (λ (x : Standing). answers (view_of x.state) c.query.result.now ≡ []) c.new-facts.ensures (c.finds_nobody.ensures.none e));
+      (subst (λ (x : Standing). answers (view_of x.state) c.query.result.now ≡ []) c.requires.world (c.finds_nobody.ensures.none e));
 }

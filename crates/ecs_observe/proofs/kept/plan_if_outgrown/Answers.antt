@@ -1,6 +1,6 @@
 -- A list stays that of its query when it is brought up to date.
 use Rattle.std.specs.Prelude.{length}
-use Rattle.std.proofs.Common.{◌≡◌, ◌∙◌, inl, inr, refl, subst, sym}
+use Rattle.std.proofs.Common.{◌≡◌, ◌∙◌, inl, inr, refl, rules, subst, sym, vec_len}
 use Rattle.query_model.specs.Query.{Query}
 use Rattle.query_plan.specs.Plans.{Plan}
 use Rattle.world_facts.specs.Kept.{AreTablesOf}
@@ -21,6 +21,9 @@ returns-then-not-is_outgrown-clause-synced g c = inl refl
 pub returns-in_err-sync-clause-follows : goal.returns-in_err-sync-clause-follows
 returns-in_err-sync-clause-follows g c = follows_sync c.args.world.now.tables c.args.list.now c.sync.new.self c.sync.result (record { fits = c.requires.list.fits; patterns = c.sync.ensures.patterns; exact = c.sync.ensures.exact; synced = c.sync.ensures.synced; refused = c.sync.ensures.refused; judges = c.sync.ensures.judged; again = c.sync.ensures.again })
 
+pub returns-in_err-put_tables-clause-follows : goal.returns-in_err-put_tables-clause-follows
+returns-in_err-put_tables-clause-follows g c = follows_sync c.args.world.now.tables c.args.list.now c.sync.new.self c.sync.result (record { fits = c.requires.list.fits; patterns = c.sync.ensures.patterns; exact = c.sync.ensures.exact; synced = c.sync.ensures.synced; refused = c.sync.ensures.refused; judges = c.sync.ensures.judged; again = c.sync.ensures.again })
+
 pub returns-in_err-planned-clause-follows : goal.returns-in_err-planned-clause-follows
 returns-in_err-planned-clause-follows g c = follows_sync c.args.world.now.tables c.args.list.now c.sync.new.self c.sync.result (record { fits = c.requires.list.fits; patterns = c.sync.ensures.patterns; exact = c.sync.ensures.exact; synced = c.sync.ensures.synced; refused = c.sync.ensures.refused; judges = c.sync.ensures.judged; again = c.sync.ensures.again })
 
@@ -36,6 +39,9 @@ returns-then-not-is_outgrown-clause-planned g c = inl refl
 pub returns-in_err-sync-clause-planned : goal.returns-in_err-sync-clause-planned
 returns-in_err-sync-clause-planned g c = inl refl
 
+pub returns-in_err-put_tables-clause-planned : goal.returns-in_err-put_tables-clause-planned
+returns-in_err-put_tables-clause-planned g c = inl refl
+
 pub returns-in_err-planned-clause-planned : goal.returns-in_err-planned-clause-planned
 returns-in_err-planned-clause-planned g c = inl refl
 
@@ -46,9 +52,10 @@ returns-clause-planned g c =
     let p : Plan = c.in_ok-planned.planned in
     let asked : p.query ≡ c.query.result.now = c.in_ok-planned.ensures.query in
     let same : p.query ≡ q = asked ∙ c.query.ensures in
+    let long : vec_len c.put_tables.new.tables ≡ length c.put_tables.new.tables.items = search rules in
     inr (subst (IsPlannedNow w) (sym c.replace.ensures) (record {
-      tables = c.tables.result.now;
-      are_tables = subst (λ (x : Query). AreTablesOf x w.tables c.tables.result.now) (sym same)
-          (subst (AreTablesOf q w.tables) (sym c.tables.ensures) (record { listed = c.in_ok-sync.ensures.listed q c.requires.list.patterns; rising = c.sync.ensures.once }));
-      planned = subst (λ (x : Query). IsPlannedForKept w x (length c.tables.result.now) p) (sym asked) c.in_ok-planned.ensures.planned;
+      tables = c.put_tables.new.tables.items;
+      are_tables = subst (λ (x : Query). AreTablesOf x w.tables c.put_tables.new.tables.items) (sym same)
+          (subst (AreTablesOf q w.tables) (sym c.in_ok-put_tables.ensures) (record { listed = c.in_ok-sync.ensures.listed q c.requires.list.patterns; rising = c.sync.ensures.once }));
+      planned = subst (λ (x : Query). IsPlannedForKept w x (length c.put_tables.new.tables.items) p) (sym asked) (subst (λ n. IsPlannedForKept w c.query.result.now n p) (c.len.ensures ∙ long) c.in_ok-planned.ensures.planned);
     }))

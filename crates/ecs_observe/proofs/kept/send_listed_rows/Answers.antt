@@ -1,15 +1,21 @@
 -- The query of the plan stays, whether it is planned anew or not.
-use Rattle.std.proofs.Common.{ap, sym, subst, ◌∙◌, true≢false}
+use Rattle.std.proofs.Common.{List, ap, length, refl, sym, subst, ◌∙◌, true≢false}
+use Rattle.std.specs.Prelude.{max}
+use Rattle.ecs_id.specs.declared.TableKey.{TableKey}
+use Rattle.ecs_model.specs.rows.Text.{rows_text}
 use Rattle.ecs_model.specs.rows.View.{view_of}
 use Rattle.query_model.specs.Query.{Query}
 use Rattle.query_plan.specs.Plans.{Plan}
 use Rattle.world_facts.specs.Kept.{AreTablesOf}
 use Rattle.world_query.specs.Answerable.{IsAnswerable}
+use Rattle.world_query.specs.Lines.{lines_of_rows}
+use Rattle.world_query.specs.Probes.{StaysInTables}
+use Rattle.world_query.specs.Sent.{HoldsAtFault, StopsSending}
 use Rattle.world_query.proofs.Fronts.{all_starts, on_err_anyway}
-use Rattle.world_query.proofs.Sent.{fault_memory, stops_here}
+use Rattle.world_query.proofs.Sent.{calm_ok, calm_still, fails_same, fault_memory, fault_same, stops_here}
 use Rattle.stored_queries.proofs.Answering.{asked_is_sound, current_answerable}
 use Rattle.ecs_observe.specs.Following.{IsUpToDate}
-use Rattle.ecs_observe.proofs.Synced.{follows_again, of_any}
+use Rattle.ecs_observe.proofs.Synced.{follows_again}
 use Rattle.ecs_observe.proofs.kept.send_listed_rows.Goals as goal
 
 pub plan_if_outgrown-requires-clause-sound : goal.plan_if_outgrown-requires-clause-sound
@@ -32,8 +38,8 @@ send_rows_from-requires-clause-answerable g c =
 pub send_rows_from-requires-clause-tables : goal.send_rows_from-requires-clause-tables
 send_rows_from-requires-clause-tables g c =
     let q = (c.args.plan.now).query in
-    subst (λ (x : Query). AreTablesOf x (c.args.world.now).tables c.tables.result.now) (sym (ap (λ (p : Plan). p.query) c.plan-2.ensures ∙ c.plan_if_outgrown.ensures.query))
-    (subst (AreTablesOf q (c.args.world.now).tables) (sym c.tables.ensures)
+    subst (λ (x : Query). AreTablesOf x (c.args.world.now).tables c.as_slice.result.now) (sym (ap (λ (p : Plan). p.query) c.plan-2.ensures ∙ c.plan_if_outgrown.ensures.query))
+    (subst (AreTablesOf q (c.args.world.now).tables) (sym (c.as_slice.ensures.value ∙ c.in_ok-put_tables.ensures))
     (record { listed = c.in_ok-sync.ensures.listed q c.plan_if_outgrown.ensures.list.patterns; rising = c.sync.ensures.once }))
 
 pub returns-in_err-sync-clause-follows : goal.returns-in_err-sync-clause-follows
@@ -48,14 +54,14 @@ returns-clause-follows g c =
 
 pub returns-then-not-begins_in_tables-clause-reads : goal.returns-then-not-begins_in_tables-clause-reads
 returns-then-not-begins_in_tables-clause-reads g c =
-    of_any c.send_planned_rows.result (λ begins. absurd (true≢false (sym begins ∙ (sym c.begins_in_tables.ensures ∙ c.if-not-begins_in_tables.true))))
+    λ begins. absurd (true≢false (sym begins ∙ (sym c.begins_in_tables.ensures ∙ c.if-not-begins_in_tables.true)))
 
 pub returns-clause-reads : goal.returns-clause-reads
 returns-clause-reads g c =
     let q = (c.args.plan.now).query in
-    of_any c.send_rows_from.result (λ begins.
+    λ begins.
     subst (λ (x : Query). IsUpToDate x (c.args.world.now).tables c.sync.new.self) (sym c.plan_if_outgrown.ensures.query)
-    (record { synced = c.in_ok-sync.ensures.synced; tables = record { listed = c.in_ok-sync.ensures.listed q c.plan_if_outgrown.ensures.list.patterns; rising = c.sync.ensures.once } }))
+    (record { synced = c.in_ok-sync.ensures.synced; tables = record { listed = c.in_ok-sync.ensures.listed q c.plan_if_outgrown.ensures.list.patterns; rising = c.sync.ensures.once } })
 
 -- where memory is refused before a row is written
 pub returns-in_err-plan_if_outgrown-clause-front : goal.returns-in_err-plan_if_outgrown-clause-front
@@ -75,3 +81,76 @@ returns-in_err-room-clause-held g c = fault_memory _ _ _ _ c.from_residual-in_er
 
 pub returns-in_err-sync-clause-held : goal.returns-in_err-sync-clause-held
 returns-in_err-sync-clause-held g c = fault_memory _ _ _ _ c.from_residual-in_err-sync.ensures.1
+
+pub returns-in_err-put_tables-clause-follows : goal.returns-in_err-put_tables-clause-follows
+returns-in_err-put_tables-clause-follows g c =
+    follows_again c.args.world.now.tables c.args.list.now c.plan_if_outgrown.new.list c.sync.new.self c.sync.result
+    (record { fits = c.plan_if_outgrown.ensures.list.fits; patterns = c.sync.ensures.patterns; exact = c.sync.ensures.exact; synced = c.sync.ensures.synced; refused = c.sync.ensures.refused; judges = c.sync.ensures.judged; again = c.sync.ensures.again }) c.plan_if_outgrown.ensures.follows c.in_ok-plan_if_outgrown.ensures.synced
+
+pub returns-in_err-put_tables-clause-front : goal.returns-in_err-put_tables-clause-front
+returns-in_err-put_tables-clause-front g c = on_err_anyway _ (stops_here _ _ _ _ (all_starts _))
+
+pub returns-in_err-put_tables-clause-held : goal.returns-in_err-put_tables-clause-held
+returns-in_err-put_tables-clause-held g c = fault_memory _ _ _ _ c.from_residual-in_err-put_tables.ensures.1
+
+-- an exit more behind each of the two calls that send rows
+pub returns-in_err-send_planned_rows-clause-follows : goal.returns-in_err-send_planned_rows-clause-follows
+returns-in_err-send_planned_rows-clause-follows g c = c.plan_if_outgrown.ensures.follows
+
+pub returns-in_err-send_rows_from-clause-follows : goal.returns-in_err-send_rows_from-clause-follows
+returns-in_err-send_rows_from-clause-follows g c =
+    follows_again c.args.world.now.tables c.args.list.now c.plan_if_outgrown.new.list c.sync.new.self c.sync.result
+    (record { fits = c.plan_if_outgrown.ensures.list.fits; patterns = c.sync.ensures.patterns; exact = c.sync.ensures.exact; synced = c.sync.ensures.synced; refused = c.sync.ensures.refused; judges = c.sync.ensures.judged; again = c.sync.ensures.again }) c.plan_if_outgrown.ensures.follows c.in_ok-plan_if_outgrown.ensures.synced
+
+pub returns-in_err-send_planned_rows-clause-front : goal.returns-in_err-send_planned_rows-clause-front
+returns-in_err-send_planned_rows-clause-front g c =
+    let same = ap (λ (p : Plan). p.query) c.plan.ensures ∙ c.plan_if_outgrown.ensures.query in
+    on_err_anyway _ (subst (StopsSending _ _ _ _) (ap (rows_text c.args.world.now.state) same) c.in_err-send_planned_rows.ensures.front)
+
+pub returns-in_err-send_planned_rows-clause-held : goal.returns-in_err-send_planned_rows-clause-held
+returns-in_err-send_planned_rows-clause-held g c =
+    let same = ap (λ (p : Plan). p.query) c.plan.ensures ∙ c.plan_if_outgrown.ensures.query in
+    let most = max c.args.most (length c.args.out.now.items) in
+    fault_same c.in_err-send_planned_rows.field-0.0 _ _ c.send_planned_rows.result _ _ c.in_err-send_planned_rows.was c.from_residual-in_err-send_planned_rows.ensures.1
+    (subst (λ (q : Query). HoldsAtFault most (lines_of_rows c.args.world.now.state q) c.send_planned_rows.result c.send_planned_rows.new.out.items) same c.send_planned_rows.ensures.held)
+
+pub returns-in_err-send_planned_rows-clause-writes : goal.returns-in_err-send_planned_rows-clause-writes
+returns-in_err-send_planned_rows-clause-writes g c =
+    fails_same c.in_err-send_planned_rows.field-0.0 _ _ _ c.send_planned_rows.result _ (λ calm. calm) c.in_err-send_planned_rows.was c.from_residual-in_err-send_planned_rows.ensures.1 c.send_planned_rows.ensures.writes
+
+pub returns-in_err-send_rows_from-clause-front : goal.returns-in_err-send_rows_from-clause-front
+returns-in_err-send_rows_from-clause-front g c =
+    let same = ap (λ (p : Plan). p.query) c.plan-2.ensures ∙ c.plan_if_outgrown.ensures.query in
+    on_err_anyway _ (subst (StopsSending _ _ _ _) (ap (rows_text c.args.world.now.state) same) c.in_err-send_rows_from.ensures.front)
+
+pub returns-in_err-send_rows_from-clause-held : goal.returns-in_err-send_rows_from-clause-held
+returns-in_err-send_rows_from-clause-held g c =
+    let same = ap (λ (p : Plan). p.query) c.plan-2.ensures ∙ c.plan_if_outgrown.ensures.query in
+    let most = max c.args.most (length c.args.out.now.items) in
+    fault_same c.in_err-send_rows_from.field-0.0 _ _ c.send_rows_from.result _ _ c.in_err-send_rows_from.was c.from_residual-in_err-send_rows_from.ensures.1
+    (subst (λ (q : Query). HoldsAtFault most (lines_of_rows c.args.world.now.state q) c.send_rows_from.result c.send_rows_from.new.out.items) same c.send_rows_from.ensures.held)
+
+pub returns-in_err-send_rows_from-clause-writes : goal.returns-in_err-send_rows_from-clause-writes
+returns-in_err-send_rows_from-clause-writes g c =
+    fails_same c.in_err-send_rows_from.field-0.0 _ _ _ c.send_rows_from.result _ (λ calm. calm) c.in_err-send_rows_from.was c.from_residual-in_err-send_rows_from.ensures.1 c.send_rows_from.ensures.writes
+
+pub returns-then-not-begins_in_tables-clause-writes : goal.returns-then-not-begins_in_tables-clause-writes
+returns-then-not-begins_in_tables-clause-writes g c = calm_ok _ _ _ (calm_still _ _ _ c.in_ok-send_planned_rows.ensures.writes)
+
+pub returns-clause-writes : goal.returns-clause-writes
+returns-clause-writes g c = calm_ok _ _ _ (calm_still _ _ _ c.in_ok-send_rows_from.ensures.writes)
+
+-- how the rows were found
+pub returns-then-not-begins_in_tables-clause-found : goal.returns-then-not-begins_in_tables-clause-found
+returns-then-not-begins_in_tables-clause-found g c = sym c.begins_in_tables.ensures ∙ c.if-not-begins_in_tables.true
+
+pub returns-clause-found : goal.returns-clause-found
+returns-clause-found g c = (
+  sym c.begins_in_tables.ensures ∙ c.if-not-begins_in_tables.false,
+  (
+    c.sync.new.self,
+    refl,
+    subst (λ (keys : List TableKey). StaysInTables c.args.world.now c.plan_if_outgrown.new.plan keys c.in_ok-send_rows_from.field-0) (c.as_slice.ensures.value ∙ c.in_ok-put_tables.ensures)
+        (subst (λ (p : Plan). StaysInTables c.args.world.now p c.as_slice.result.now c.in_ok-send_rows_from.field-0) c.plan-2.ensures c.in_ok-send_rows_from.ensures.probes),
+  ),
+)

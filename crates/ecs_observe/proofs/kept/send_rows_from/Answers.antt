@@ -1,14 +1,13 @@
 -- A query that nobody answers prints its count alone.
 use Rattle.std.proofs.Common.{[], ◌≤◌, append-nil, arith, length, refl, subst, sym, ◌∙◌}
 use Rattle.std.specs.Prelude.{codes, max}
-use Rattle.std.proofs.lemmas.Result.{on_err_weaker, on_ok_weaker}
 use Rattle.ecs_model.specs.rows.Text.{rows_text}
 use Rattle.ecs_model.specs.rows.View.{view_of}
 use Rattle.query_answers.proofs.Shown.{none_in_order}
 use Rattle.world_query.specs.Sent.{IsSent, StopsSending}
 use Rattle.world_query.proofs.Fronts.{all_starts, on_err_anyway, starts_before}
 use Rattle.world_query.proofs.RowLines.{none_among}
-use Rattle.world_query.proofs.Sent.{fault_if, fault_memory, sent_here, sent_then, stops_here, stops_then}
+use Rattle.world_query.proofs.Sent.{calm_ok, calm_still, fails_same, fault_anyway, fault_memory, sent_here, sent_then, stops_here, stops_then}
 use Rattle.ecs_observe.proofs.NoRows.{no_lines}
 use Rattle.ecs_observe.proofs.kept.send_rows_from.Goals as goal
 
@@ -24,33 +23,42 @@ pub returns-then-has_nobody-clause-rows : goal.returns-then-has_nobody-clause-ro
 returns-then-has_nobody-clause-rows g c =
     let text = rows_text c.args.world.now.state (c.args.plan.now).query in
     let is = no_lines c.args.world.now.state (c.args.plan.now).query (c.has_nobody.ensures.none c.if-has_nobody.true) c.args.out.now.items c.extend_from_slice.new.self.items c.in_ok-extend_from_slice.ensures.items in
-    on_ok_weaker c.send_list.result (λ sent. subst (IsSent _ _ _ _) (append-nil text) (sent_then _ _ _ _ _ _ text [] (sent_here _ _ _ _ is) sent)) c.send_list.ensures.sent
+    subst (IsSent _ _ _ _) (append-nil text) (sent_then _ _ _ _ _ _ text [] (sent_here _ _ _ _ is) c.in_ok-send_list.ensures.sent)
 
-pub returns-then-has_nobody-clause-front : goal.returns-then-has_nobody-clause-front
-returns-then-has_nobody-clause-front g c =
+pub returns-in_err-send_list-clause-front : goal.returns-in_err-send_list-clause-front
+returns-in_err-send_list-clause-front g c =
     let text = rows_text c.args.world.now.state (c.args.plan.now).query in
     let is = no_lines c.args.world.now.state (c.args.plan.now).query (c.has_nobody.ensures.none c.if-has_nobody.true) c.args.out.now.items c.extend_from_slice.new.self.items c.in_ok-extend_from_slice.ensures.items in
-    on_err_weaker c.send_list.result (λ stops. subst (StopsSending _ _ _ _) (append-nil text) (stops_then _ _ _ _ _ _ text [] (sent_here _ _ _ _ is) stops)) (c.send_list.ensures.front [])
+    on_err_anyway _ (subst (StopsSending _ _ _ _) (append-nil text) (stops_then _ _ _ _ _ _ text [] (sent_here _ _ _ _ is) (c.in_err-send_list.ensures.front [])))
 
-pub returns-then-has_nobody-clause-held : goal.returns-then-has_nobody-clause-held
-returns-then-has_nobody-clause-held g c =
+pub returns-in_err-send_list-clause-held : goal.returns-in_err-send_list-clause-held
+returns-in_err-send_list-clause-held g c =
     let w = c.args.world.now.state in
     let q = (c.args.plan.now).query in
     let old = c.args.out.now.items in
     let few : length old ≤ max c.args.most (length old) = omega arith in
-    fault_if _ _ _ _
-    (on_err_weaker c.send_list.result
-    (λ same. record {
+    fault_anyway _ _ _ _
+    (record {
       held = old;
       line = codes "rows 0\n";
-      is = same ∙ c.in_ok-extend_from_slice.ensures.items;
+      is = c.in_err-send_list.ensures.same ∙ c.in_ok-extend_from_slice.ensures.items;
       few = few;
       one = none_among w q [] (none_in_order (view_of w) q (c.has_nobody.ensures.none c.if-has_nobody.true)) refl;
     })
-    c.send_list.ensures.same)
 
 pub returns-in_err-room-clause-front : goal.returns-in_err-room-clause-front
 returns-in_err-room-clause-front g c = on_err_anyway _ (stops_here _ _ _ _ (all_starts _))
 
 pub returns-in_err-room-clause-held : goal.returns-in_err-room-clause-held
 returns-in_err-room-clause-held g c = fault_memory _ _ _ _ c.from_residual-in_err-room.ensures.1
+
+pub returns-in_err-send_list-clause-writes : goal.returns-in_err-send_list-clause-writes
+returns-in_err-send_list-clause-writes g c =
+    fails_same c.in_err-send_list.field-0.0 _ _ _ c.send_list.result _ (λ calm. calm) c.in_err-send_list.was c.from_residual-in_err-send_list.ensures.1 c.send_list.ensures.writes
+
+pub returns-then-has_nobody-clause-writes : goal.returns-then-has_nobody-clause-writes
+returns-then-has_nobody-clause-writes g c = calm_ok _ _ _ (calm_still _ _ _ c.in_ok-send_list.ensures.writes)
+
+-- no probe was made where nobody stands there
+pub returns-then-has_nobody-clause-probes : goal.returns-then-has_nobody-clause-probes
+returns-then-has_nobody-clause-probes g c = record { shown = c.new-facts.result; world = c.new-facts.ensures; within = omega arith }

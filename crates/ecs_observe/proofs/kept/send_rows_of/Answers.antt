@@ -57,3 +57,6 @@ returns-in_err-send_listed_rows-clause-writes g c =
 
 pub returns-clause-writes : goal.returns-clause-writes
 returns-clause-writes g c = sent_calm _ _ _ _ c.in_ok-send_listed_rows.ensures.writes
+
+pub returns-clause-found : goal.returns-clause-found
+returns-clause-found g c = c.in_ok-send_listed_rows.ensures.found

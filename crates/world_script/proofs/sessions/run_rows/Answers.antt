@@ -1,5 +1,5 @@
 -- The rows of a kept query are sent, or there is none of the name.
-use Rattle.std.specs.Prelude.{⊤, Err}
+use Rattle.std.specs.Prelude.{ℕ, Err, Option}
 use Rattle.ecs_observe.specs.Answers.{SendsKept}
 use Rattle.ecs_observe.specs.Standing.{session_of}
 use Rattle.ecs_observe.specs.declared.errors.SendRowsError.TheVariants as rows
@@ -21,7 +21,7 @@ returns-in-Ok g c =
 
 pub returns-in-Err-Refused : goal.returns-in-Err-Refused
 returns-in-Err-Refused g c =
-    let sends : SendsKept {T = ⊤} c.args.most (Err (rows.Refused c.in-Err-Refused.reason)) (session_of c.args.session.now) c.args.name.now (g.W.Sink.contents c.args.writer.now) (g.W.Sink.contents c.send_kept_rows.new.writer)
+    let sends : SendsKept {T = Option ℕ} c.args.most (Err (rows.Refused c.in-Err-Refused.reason)) (session_of c.args.session.now) c.args.name.now (g.W.Sink.contents c.args.writer.now) (g.W.Sink.contents c.send_kept_rows.new.writer)
     c.args.output.now.items c.send_kept_rows.new.out.items = rw c.in-Err-Refused.field-0-is at c.in-Err-Refused.ensures.rows in
     rw c.send_kept_rows.ensures.same
     (does_nothing_as _ _ _ _ _ _ _ _ _ sends.2 (refused_calm _ _ _ _ (rw c.in-Err-Refused.field-0-is at c.in-Err-Refused.ensures.writes)) c.send_kept_rows.ensures.kept c.tell_error.result _ c.unsent.ensures
