@@ -88,7 +88,7 @@ none_to p r wider (k ∷ ks) e =
     no_pair p (plain c) h = refl
     no_pair p (pair r x) h = ap (λ b. if b then x ∷ [] else []) h
 
-pub no_targets : (q : Query) (w : WorldState) (changed : Changed) → (any_by (concerns_beyond q) changed.came || any_by (concerns_beyond q) changed.went) ≡ false → AreTargets q w changed []
+no_targets : (q : Query) (w : WorldState) (changed : Changed) → (any_by (concerns_beyond q) changed.came || any_by (concerns_beyond q) changed.went) ≡ false → AreTargets q w changed []
 no_targets q w changed none = record {
   linked = [];
   are_linked = record {
@@ -102,4 +102,15 @@ no_targets q w changed none = record {
   below = λ x e h reached.
       let nobody : Contains [] x = subst (λ (es : List ℕ). Contains es x) (none_of (concerns_below q) (concerns_beyond q) (λ i t. or_left (concerns_below q i) (concerns_others q i) t) changed none) h in
       absurd (omega (arith, nobody.1));
+}
+
+-- so those whose own facts came or went are all who may have moved
+pub own_move : (q : Query) (w : WorldState) (changed : Changed) (own : List ℕ) → ((e : ℕ) → Contains own e ↔ Contains (entities_of (concerns q) changed) e)
+    → (any_by (concerns_beyond q) changed.came || any_by (concerns_beyond q) changed.went) ≡ false → AreMoving q w changed own
+own_move q w changed own are_own none = record {
+  own = λ e h. (are_own e).1 h;
+  targets = [];
+  are_targets = no_targets q w changed none;
+  themselves = λ x h. absurd (omega (arith, h.1));
+  held = λ x e h on. absurd (omega (arith, h.1));
 }

@@ -1,10 +1,11 @@
 //! Who may have moved in or out of a query's rows, where few may.
 
-ghost use Rattle.std.specs.Prelude.{◌≡◌, ◌||◌, ◌++◌, filter, IfOk, IfSome, OnOk};
+ghost use Rattle.std.specs.Prelude.{◌≡◌, ◌↔◌, ◌||◌, ◌++◌, ℕ, Contains, true, filter, IfOk, IfSome, OnOk};
 ghost use Rattle.std.specs.List.Sorted.{IsStrictlyIncreasing};
 ghost use Rattle.ecs_model.specs.World.{is_live};
 ghost use Rattle.query_meaning.specs.Sound.{IsSound};
 ghost use Rattle.touched_entities.specs.Bonds.{bonds_of};
+ghost use Rattle.query_concerns.specs.Concerns.{concerns};
 ghost use Rattle.query_concerns.specs.Others.{concerns_below};
 ghost use Rattle.touched_entities.specs.Leaning.{HasAllBelow, concerns_beyond, concerns_for};
 ghost use Rattle.touched_entities.specs.Moving.{AreLinked, AreMoving, AreTargets, TellsMoved, any_by, any_concerns_others, entities_by, entities_of, is_followed, is_open, is_sure};
@@ -136,25 +137,51 @@ fn moving<A: Allocator + Copy, B: Allocator>(
     ensures ascend { IfOk result (λ found. IfSome found (λ moving. IsStrictlyIncreasing moving.items)) }
     ensures all { IfOk result (λ found. IfSome found (λ moving. AreMoving query.now world.now.state changes.now moving.items)) }
 {
-    let Some(targets) = targets(alloc, query, bonds, world, changes)? else {
-        return Ok(None);
-    };
     let mut moving = ShortList::new();
     push_entities(alloc, query, Whom::Anyone, changes, &mut moving)?;
     put_in_order(&mut moving);
+    if !any_concerns_for(query, Whom::Beyond, changes) {
+        return Ok(Some(moving));
+    }
+    if !push_moved_by_others(alloc, query, bonds, world, changes, &mut moving)? {
+        return Ok(None);
+    }
+    Ok(Some(moving))
+}
+
+/// Adds all who may have moved by another one's fact to those of whom one that concerns the query came or went, and puts all in order. False, where they may
+/// be too many.
+// (the facts of most commands concern their own entities alone)
+#[inline(never)]
+fn push_moved_by_others<A: Allocator + Copy, B: Allocator>(
+    alloc: A,
+    query: &Query<B>,
+    bonds: Bonds,
+    world: &World<A>,
+    changes: &Changes<A>,
+    moving: &mut ShortList<A>,
+) -> Result<bool, AllocError>
+    requires bonds { bonds ≡ bonds_of query.now }
+    requires own { (e : ℕ) → Contains moving.old.items e ↔ Contains (entities_of (concerns query.now) changes.now) e }
+    ensures ascend { IfOk result (λ done. done ≡ true → IsStrictlyIncreasing moving.new.items) }
+    ensures all { IfOk result (λ done. done ≡ true → AreMoving query.now world.now.state changes.now moving.new.items) }
+{
+    let Some(targets) = targets(alloc, query, bonds, world, changes)? else {
+        return Ok(false);
+    };
     if !push_leaning_on_all(
         alloc,
         query,
         Whom::Anyone,
         world,
         targets.as_slice(),
-        &mut moving,
+        moving,
     )? {
-        return Ok(None);
+        return Ok(false);
     }
-    push_all(alloc, targets.as_slice(), &mut moving)?;
-    put_in_order(&mut moving);
-    Ok(Some(moving))
+    push_all(alloc, targets.as_slice(), moving)?;
+    put_in_order(moving);
+    Ok(true)
 }
 
 /// All with whom somebody holds a pair who may have moved by another one's fact, in order, unless they may be too many: those linked with one of whom
@@ -169,10 +196,6 @@ fn targets<A: Allocator + Copy, B: Allocator>(
     requires bonds { bonds ≡ bonds_of query.now }
     ensures { IfOk result (λ found. IfSome found (λ targets. AreTargets query.now world.now.state changes.now targets.items)) }
 {
-    if !any_concerns_for(query, Whom::Beyond, changes) {
-        return Ok(Some(ShortList::new()));
-    }
-    // (what follows stands in functions of its own: the facts of most commands concern their own entities alone)
     let Some(below) = below(alloc, query, world, changes)? else {
         return Ok(None);
     };
@@ -185,7 +208,6 @@ fn targets<A: Allocator + Copy, B: Allocator>(
 }
 
 /// All of whom a fact that concerns those below came or went, and all below these, unless they may be too many.
-#[inline(never)]
 fn below<A: Allocator + Copy, B: Allocator>(
     alloc: A,
     query: &Query<B>,
@@ -205,7 +227,6 @@ fn below<A: Allocator + Copy, B: Allocator>(
 
 /// All of whom a fact that concerns others came or went. Of a query that isn't tied, those with whom they had a pair in common that went too, and all
 /// who are linked with one of these, from pair to pair, unless they may be too many.
-#[inline(never)]
 fn linked<A: Allocator + Copy, B: Allocator>(
     alloc: A,
     query: &Query<B>,

@@ -1,10 +1,10 @@
 use Rattle.std.specs.Prelude.{ℕ, List, ◌++◌, IfSome, Option}
-use Rattle.std.proofs.Common.{subst, sym, ◌∙◌}
+use Rattle.std.proofs.Common.{subst, ◌∙◌}
 use Rattle.query_concerns.specs.Others.{concerns_below}
 use Rattle.short_list.specs.Items.{Items}
 use Rattle.touched_entities.specs.Leaning.{HasAllBelow, concerns_beyond}
 use Rattle.touched_entities.specs.Moving.{AreLinked, AreTargets, entities_of}
-use Rattle.touched_entities.proofs.AllMoving.{all_targets, no_targets}
+use Rattle.touched_entities.proofs.AllMoving.{all_targets}
 use Rattle.touched_entities.proofs.moving.targets.Goals as goal
 
 pub returns : goal.returns
@@ -17,10 +17,3 @@ returns g c =
     let start : List ℕ = c.in-Some-2.targets.items in
     all_targets q w changed start c.in-Some.below.items _ c.put_in_order.new.indexes.items
     linked below (c.in_ok-push_all.ensures ∙ (λ i. start ++ c.as_slice.ensures i)) c.put_in_order.ensures.same
-
-pub returns-then-not-any_concerns_for : goal.returns-then-not-any_concerns_for
-returns-then-not-any_concerns_for g c =
-    let q = c.args.query.now in
-    let w = c.args.world.now.state in
-    let changed = c.args.changes.now in
-    subst (AreTargets q w changed) (sym c.new.ensures) (no_targets q w changed (sym c.any_concerns_for.ensures ∙ c.if-not-any_concerns_for.true))
