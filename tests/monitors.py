@@ -127,6 +127,18 @@ def of_anybody(variables):
     return bytes_of(["monitor m _, " + ", ".join(f"_($v{number})" for number in range(variables))])
 
 
+def kept_over_tables(kept, tags, text):
+    """So many kept queries, each asked once, over a table for each set of so many tags, through all of which one entity passed."""
+    lines = making([f"T{tag}" for tag in range(tags)]) + ["entity E"]
+    held = 0
+    for step in range(1, 1 << tags):
+        bit = (step & -step).bit_length() - 1
+        lines.append(f"{'remove' if held >> bit & 1 else 'add'} E T{bit}")
+        held ^= 1 << bit
+    names = [f"k{number}" for number in range(kept)]
+    return bytes_of(lines + [f"keep {name} {text}" for name in names] + [f"rows {name}" for name in names])
+
+
 def of_three(entities):
     """A monitor with three variables that are anybody with a tag, and so many entities that have it."""
     lines = making(["A", "T"])

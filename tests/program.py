@@ -362,6 +362,15 @@ def a_drop_and_a_command_cost_what_they_touch(program, room):
     return True
 
 
+def kept_lists_take_little_memory(program, room):
+    """256 kept queries, each asked once, over 16,384 tables: they take at most 4 MB more than one does, where keys of tables would take 64 MB."""
+    for text in ("T13", "T0"):
+        one, many = (peak_and_output(program, monitors.kept_over_tables(kept, 14, text)) for kept in (1, 256))
+        if many[1] != 256 * one[1] or many[0] > one[0] + 4_000:
+            return False
+    return True
+
+
 def kept_queries_are_right_in_worlds_that_grow(program, room):
     """Kept queries are planned anew as the world grows: each time they print what the same query prints."""
     kept = {"d": "(ChildOf,$p), Tag, Hot($p)", "f": "(Likes,$x), Hot($x), Tag", "g": "Hot($x), Tag, !(ChildOf,$x)"}
@@ -419,6 +428,7 @@ CASES = [
     monitors_cost_who_moves,
     stored_queries_are_told_as_if_alone,
     a_drop_and_a_command_cost_what_they_touch,
+    kept_lists_take_little_memory,
     kept_queries_are_right_in_worlds_that_grow,
 ]
 
