@@ -34,7 +34,7 @@ fn fill<A: Allocator + Copy>(
 }
 
 /// The table of the two entities.
-fn their_table<A: Allocator + Copy>(alloc: A, session: &Session<A>) -> Option<TableKey> {
+fn their_table<A: Allocator, B: Allocator>(alloc: B, session: &Session<A>) -> Option<TableKey> {
     let mut tables = Vec::new(alloc);
     match session.kept_tables("k", &mut tables) {
         Ok(()) => tables.first().copied(),
@@ -63,6 +63,7 @@ fn set_two(rt: &impl Abort, session: &mut Session<&Refusing<Global>>, heap: &Ref
 fn refuse_each(
     rt: &impl Abort,
     session: &mut Session<&Refusing<Global>>,
+    heap: &Refusing<Global>,
 ) -> Result<(), SessionError> {
     let key = their_table(heap, session).expect(rt, "no table has a position");
     let position = Id::plain(POSITION);
@@ -85,7 +86,7 @@ fn expect_both(
 ) -> Result<(), SessionError> {
     set_two(rt, session, heap);
     session.set(first_at(BOB), Id::plain(POSITION), &[7])?;
-    refuse_each(rt, session)
+    refuse_each(rt, session, heap)
 }
 
 #[test]
