@@ -28,7 +28,10 @@ pub struct ByIds<A: Allocator> {
 
 impl<A: Allocator + Copy> ByIds<A> {
     /// No slots, which take no memory. Ids are hashed by these secret numbers.
-    pub fn new(alloc: A, hashing: Hashing) -> ByIds<A> {
+    pub fn new(alloc: A, hashing: Hashing) -> ByIds<A>
+        ensures none { (hash slot : ℕ) → HasSlot result hash slot → ⊥ }
+        ensures hashing { result.hashing ≡ hashing }
+    {
         ByIds {
             first: IndexMap::new(alloc),
             others: Vec::new(alloc),
