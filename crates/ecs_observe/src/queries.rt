@@ -66,7 +66,7 @@ impl<A: Allocator + Copy> StoredQueries<A> {
         self.all.prepare(alloc, name, watcher)
     }
 
-    /// Makes this the list of the places of the stored queries that look out for something that a command did, in order: no other is told anything.
+    /// Puts into an empty list the places of the stored queries that look out for something that a command did, in order: no other is told anything.
     ///
     /// Fails where memory is refused.
     pub(crate) fn led(
@@ -76,6 +76,7 @@ impl<A: Allocator + Copy> StoredQueries<A> {
         places: &mut ShortNumbers<A>,
     ) -> Result<(), AllocError>
         requires stored { IsStored self.now }
+        requires empty { places.old.items ≡ [] }
         ensures ascend { OnOk result (IsStrictlyIncreasing places.new.items) }
         ensures within { OnOk result (All (λ i. i < length (entries_of self.now)) places.new.items) }
         ensures led { OnOk result (AreLedTo changes.now (entries_of self.now) places.new.items) }

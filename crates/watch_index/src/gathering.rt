@@ -177,7 +177,9 @@ pub(crate) fn put_in_order<A: Allocator>(numbers: &mut ShortNumbers<A>)
     ensures ascend { IsStrictlyIncreasing numbers.new.items }
     ensures same { (n : ℕ) → Contains numbers.new.items n ↔ Contains numbers.old.items n }
 {
-    numbers.put_in_order();
+    if numbers.as_slice().len() > 1 {
+        numbers.put_in_order();
+    }
 }
 
 /// Whether an id is a tag that concerns every query.

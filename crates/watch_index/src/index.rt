@@ -64,7 +64,7 @@ impl<A: Allocator + Copy> WatchIndex<A> {
         Ok(())
     }
 
-    /// Makes this the list of the numbers of the stored queries that look out for something that has happened, in ascending order.
+    /// Puts into an empty list the numbers of the stored queries that look out for something that has happened, in ascending order.
     ///
     /// The list stays where it is, as a move of it would take more than all else where nobody is led to.
     #[inline(always)]
@@ -73,10 +73,10 @@ impl<A: Allocator + Copy> WatchIndex<A> {
         happened: Happened<'_>,
         numbers: &mut ShortNumbers<A>,
     ) -> Result<(), AllocError>
+        requires empty { numbers.old.items ≡ [] }
         ensures ascend { OnOk result (IsStrictlyIncreasing numbers.new.items) }
         ensures exact { OnOk result ((n : ℕ) → Contains numbers.new.items n ↔ Contains (flat_map (listed self.now) (happening happened.entry.lives (happened.entry.came).now (happened.entry.went).now (happened.entry.written).now)) n) }
     {
-        *numbers = ShortNumbers::new();
         gather(self, happened, numbers)?;
         put_in_order(numbers);
         Ok(())

@@ -66,7 +66,7 @@ impl<V, A: Allocator + Copy> WatchOrder<V, A> {
         Ok((key, made))
     }
 
-    /// Makes this the list of the places of the values that look out for something that has happened, in order.
+    /// Puts into an empty list the places of the values that look out for something that has happened, in order.
     ///
     /// Takes time in what has happened and in the values that are led to, whatever else is stored. Fails where memory is refused.
     pub fn led(
@@ -76,11 +76,11 @@ impl<V, A: Allocator + Copy> WatchOrder<V, A> {
         places: &mut ShortNumbers<A>,
     ) -> Result<(), AllocError>
         requires watched { IsWatched self.now }
+        requires empty { places.old.items ≡ [] }
         ensures ascend { OnOk result (IsStrictlyIncreasing places.new.items) }
         ensures within { OnOk result (All (λ i. i < length self.now.order.made.items) places.new.items) }
         ensures led { OnOk result (AreLed self.now.order.made.items (happening happened.entry.lives (happened.entry.came).now (happened.entry.went).now (happened.entry.written).now) places.new.items) }
     {
-        *places = ShortNumbers::new();
         let mut numbers = ShortNumbers::new();
         self.index.led(happened, &mut numbers)?;
         self.push_places(alloc, numbers.as_slice(), places)?;
