@@ -16,7 +16,6 @@ use std::marker::Model;
 use stored_queries::RowsAfter;
 
 /// A world, the queries that are stored in it, and what waits to be told to them.
-#[derive(Drop)]
 pub struct Session<A: Allocator = Global> {
     pub(crate) world: World<A>,
     pub(crate) stored: StoredQueries<A>,
@@ -29,6 +28,21 @@ pub struct Session<A: Allocator = Global> {
     /// Room for the rows of monitors that a command moves.
     pub(crate) rows: Vec<(usize, RowsAfter<A>), A>,
     pub(crate) alloc: A,
+}
+
+// By hand, so that the drops of its parts are proved here, and not again wherever one goes.
+impl<A: Allocator> Drop for Session<A> {
+    fn drop(self) {
+        let Self {
+            world: _,
+            stored: _,
+            waiting: _,
+            compared: _,
+            room: _,
+            rows: _,
+            alloc: _,
+        } = self;
+    }
 }
 
 impl<A: Allocator> Model for Session<A> {

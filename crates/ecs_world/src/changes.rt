@@ -131,9 +131,15 @@ enum Told<A: Allocator> {
 }
 
 /// What an accepted command has changed.
-#[derive(Drop)]
 pub struct Changes<A: Allocator = Global> {
     told: Told<A>,
+}
+
+// By hand, so that the drops of its parts are proved here, and not again wherever one goes.
+impl<A: Allocator> Drop for Changes<A> {
+    fn drop(self) {
+        let Self { told: _ } = self;
+    }
 }
 
 impl<A: Allocator> Model for Changes<A> {

@@ -60,7 +60,6 @@ use std::hash::RandomState;
 use std::marker::Model;
 
 /// A world: its live entities in their tables, their names, and the fields of its components.
-#[derive(Drop)]
 pub struct World<A: Allocator = Global> {
     archetypes: Archetypes<A>,
     names: NameIndex<A>,
@@ -75,6 +74,22 @@ pub struct World<A: Allocator = Global> {
     /// Room for the moves of one command.
     plan: FactPlan<A>,
     alloc: A,
+}
+
+// By hand, so that the drops of its parts are proved here, and not again wherever one goes.
+impl<A: Allocator> Drop for World<A> {
+    fn drop(self) {
+        let Self {
+            archetypes: _,
+            names: _,
+            schemas: _,
+            pins: _,
+            accepted: _,
+            scratch: _,
+            plan: _,
+            alloc: _,
+        } = self;
+    }
 }
 
 impl<A: Allocator> Model for World<A> {

@@ -68,7 +68,6 @@ pub enum Piece<A: Allocator = Global> {
 /// A checked query: names are entities, understood sources and flags are written out, and variables go by numbers.
 ///
 /// Items go by numbers too, in the order of the text, a group before the items inside it; a Not term is a group with one item.
-#[derive(Drop)]
 pub struct Query<A: Allocator = Global> {
     variables: Vec<Vec<u8, A>, A>,
     has_this: bool,
@@ -78,6 +77,22 @@ pub struct Query<A: Allocator = Global> {
     shown: Vec<usize, A>,
     mentions: Vec<Mention, A>,
     length: usize,
+}
+
+// By hand, so that the drops of its parts are proved here, and not again wherever one goes.
+impl<A: Allocator> Drop for Query<A> {
+    fn drop(self) {
+        let Self {
+            variables: _,
+            has_this: _,
+            pieces: _,
+            cascade: _,
+            numbered: _,
+            shown: _,
+            mentions: _,
+            length: _,
+        } = self;
+    }
 }
 
 impl<A: Allocator> Model for Query<A> {
