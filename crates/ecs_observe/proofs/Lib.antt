@@ -25,3 +25,4 @@ pub mod Watches
 pub mod WholeColumns
 pub mod NoRows
 pub mod Sending
+pub mod Nobody

@@ -90,9 +90,13 @@ fn tell_led<A: Allocator + Copy>(
     ensures grows { compared.old ≤ compared.new }
     ensures few { OnOk result (compared.new ≤ compared.old + count_by (is_searched changes.now) (map held_of (entries_of stored.now))) }
 {
-    let mut places = ShortNumbers::new();
-    stored.led(alloc, changes, &mut places)?;
-    let places = places.as_slice();
+    let mut found = ShortNumbers::new();
+    stored.led(alloc, changes, &mut found)?;
+    let places = found.as_slice();
+    if places.is_empty() {
+        world.keeps();
+        return Ok(());
+    }
     let touched = touched_if_asked(alloc, world, changes, stored, places)?;
     let touched = touched.as_slice();
     tell_all(
