@@ -26,12 +26,13 @@ use Rattle.stored_queries.specs.Lists.{IsBlank}
 
 -- ---- one list
 
--- of the tables that stand and came since the last sync some were judged, each once at most
+-- of the tables that stand and came since the last sync some were judged, each once at most; and each was, where none is new by now
 pub record JudgesNew (s : Store) (before after : Kept) : Type 0 where
   pub above : List TableKey
   pub are_above : AreAbove s before.last above
   pub count : ℕ
   pub at_most : count ≤ length above
+  pub all : IsSynced after s → count ≡ length above
   pub counted : Counts before.judged count after.judged
 
 -- a list has followed the tables: it is still that of its query, and it was left as it was, or no table was judged but those that came since the last sync
@@ -118,11 +119,11 @@ RefusesKept (Ok _) s n = (q : Query) × (kept_query s n ≡ Ok q)
 RefusesKept (Err (Refused reason)) s n = kept_query s n ≡ Err reason
 RefusesKept (Err Memory) s n = (q : Query) × (kept_query s n ≡ Ok q)
 
--- these are the tables of the kept query of a name, as they are listed; or there is none of the name
-abbrev pub GivesTables : {T : Type 0} → Result T SessionError → Standing → List ℕ → List TableKey → Type 0
-GivesTables (Ok _) s n tables = option_map (λ list. list.keys) (list_at s n) ≡ Some tables
-GivesTables (Err (Refused reason)) s n tables = kept_query (session_of s) n ≡ Err reason
-GivesTables (Err Memory) s n tables = IsSome (list_at s n)
+-- the tables of the kept query of a name, as they are listed, were put in the place of these; or there is none of the name, and these stay
+abbrev pub GivesTables : {T : Type 0} → Result T SessionError → Standing → List ℕ → (before after : List TableKey) → Type 0
+GivesTables (Ok _) s n before after = option_map (λ list. list.keys) (list_at s n) ≡ Some after
+GivesTables (Err (Refused reason)) s n before after = (kept_query (session_of s) n ≡ Err reason) × (after ≡ before)
+GivesTables (Err Memory) s n before after = IsSome (list_at s n)
 
 -- the plan by which the rows of a stored query are found, and that of the stored query of a name
 abbrev pub plan_of : Held → Plan
