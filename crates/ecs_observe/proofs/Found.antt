@@ -28,7 +28,7 @@ seen w es waiting compared = record { world = w; stored = map held_of es; waitin
 
 -- what is held of a query under a name
 abbrev pub named : {A : Type 0} → List ℕ → StoredQuery A → Held
-named n s = record { name = n; kind = s.kind; query = (s.plan).query; these = (s.these).items; list = s.list; steps = (s.plan).steps }
+named n s = record { name = n; kind = s.kind; query = (s.plan).query; these = (s.these).items; list = s.list; steps = (s.plan).steps; planned_at = s.planned_at }
 
 -- ---- in the map
 
@@ -64,7 +64,7 @@ module _ {A : Type 0} (n : List ℕ) where
           let same : Some e.1 ≡ Some s = h in
           let one : e.1 ≡ s = cc in
           ap (λ b. cond b (Some (stored_of (held_of e))) (find (λ x. bytes_eq n x.name) (map stored_of (map held_of es)))) t
-          ∙ (λ i. Some (stored_of (record { name = name_is e.0 t i; kind = (one i).kind; query = ((one i).plan).query; these = ((one i).these).items; list = (one i).list; steps = ((one i).plan).steps })))
+          ∙ (λ i. Some (stored_of (record { name = name_is e.0 t i; kind = (one i).kind; query = ((one i).plan).query; these = ((one i).these).items; list = (one i).list; steps = ((one i).plan).steps; planned_at = (one i).planned_at })))
       by false t h rest = ap (λ b. cond b (Some (stored_of (held_of e))) (find (λ x. bytes_eq n x.name) (map stored_of (map held_of es)))) t ∙ rest h
 
   -- and what holds of all that are held, holds of it
@@ -76,7 +76,7 @@ module _ {A : Type 0} (n : List ℕ) where
       by true t h rest =
           let same : Some e.1 ≡ Some s = h in
           let one : e.1 ≡ s = cc in
-          subst P (λ i. record { name = name_is e.0 t i; kind = (one i).kind; query = ((one i).plan).query; these = ((one i).these).items; list = (one i).list; steps = ((one i).plan).steps }) (All-head P (held_of e) (map held_of es) all)
+          subst P (λ i. record { name = name_is e.0 t i; kind = (one i).kind; query = ((one i).plan).query; these = ((one i).these).items; list = (one i).list; steps = ((one i).plan).steps; planned_at = (one i).planned_at }) (All-head P (held_of e) (map held_of es) all)
       by false t h rest = rest h
 
   -- whether one is found

@@ -32,10 +32,10 @@ use Rattle.ecs_observe.specs.Standing.{IsSession, session_of, stored_of}
 use Rattle.ecs_observe.proofs.Found.{holds_of_found, is_key, named, seen}
 use Rattle.ecs_observe.proofs.OneMore.{far_from_most, none_waits, queries, still_held, still_now}
 
-abbrev its_list : Held → List ℕ × Option Kept × List Step
-its_list h = (h.name, h.list, h.steps)
+abbrev its_list : Held → List ℕ × Option Kept × List Step × ℕ
+its_list h = (h.name, h.list, h.steps, h.planned_at)
 
-abbrev is_of_other : List ℕ → List ℕ × Option Kept × List Step → Bool
+abbrev is_of_other : List ℕ → List ℕ × Option Kept × List Step × ℕ → Bool
 is_of_other n p = not (bytes_eq n p.0)
 
 -- no two have one name
@@ -170,7 +170,7 @@ module _ {A : Type 0} (n : List ℕ) where
           let one : e.1 ≡ s = cc in
           let text = (bytes_decides n (string_bytes e.0)).0 t in
           ap (λ b. cond b (Some (held_of e)) (find (λ h. bytes_eq n h.name) (map held_of es))) t
-          ∙ (λ i. Some (record { name = sym text i; kind = (one i).kind; query = ((one i).plan).query; these = ((one i).these).items; list = (one i).list; steps = ((one i).plan).steps }))
+          ∙ (λ i. Some (record { name = sym text i; kind = (one i).kind; query = ((one i).plan).query; these = ((one i).these).items; list = (one i).list; steps = ((one i).plan).steps; planned_at = (one i).planned_at }))
       by false t h rest = ap (λ b. cond b (Some (held_of e)) (find (λ h. bytes_eq n h.name) (map held_of es))) t ∙ rest h
 
   -- and without it those of other names are left

@@ -26,33 +26,33 @@ use Rattle.stored_queries.specs.declared.stored.StoredQuery.{StoredQuery}
 use Rattle.ecs_observe.proofs.Found.{is_key}
 use Rattle.ecs_observe.proofs.OneLess.{AreApart, differs, first_apart, rest_apart}
 
-module _ (n : List ℕ) (l : Option Kept) (st : List Step) where
+module _ (n : List ℕ) (l : Option Kept) (st : List Step) (serial : ℕ) where
   -- ---- what doesn't hang on lists
-  same_stored : (hs : List Held) → map stored_of (map (with_list n l st) hs) ≡ map stored_of hs
+  same_stored : (hs : List Held) → map stored_of (map (with_list n l st serial) hs) ≡ map stored_of hs
   same_stored [] = refl
   same_stored (h ∷ hs) = ap (λ xs. stored_of h ∷ xs) (same_stored hs)
 
-  same_queries : (hs : List Held) → map (λ h. h.query) (map (with_list n l st) hs) ≡ map (λ h. h.query) hs
+  same_queries : (hs : List Held) → map (λ h. h.query) (map (with_list n l st serial) hs) ≡ map (λ h. h.query) hs
   same_queries [] = refl
   same_queries (h ∷ hs) = ap (λ xs. h.query ∷ xs) (same_queries hs)
 
-  same_told : (w : WorldState) (changed : Changed) (hs : List Held) → flat_map (told_to w changed) (map (with_list n l st) hs) ≡ flat_map (told_to w changed) hs
+  same_told : (w : WorldState) (changed : Changed) (hs : List Held) → flat_map (told_to w changed) (map (with_list n l st serial) hs) ≡ flat_map (told_to w changed) hs
   same_told w changed [] = refl
   same_told w changed (h ∷ hs) = ap (λ es. told_to w changed h ++ es) (same_told w changed hs)
 
   same_waiting : (w : WorldState) (hs : List Held) (o : Option Changed)
-      → option_map (λ changed. flat_map (told_to w changed) (map (with_list n l st) hs)) o ≡ option_map (λ changed. flat_map (told_to w changed) hs) o
+      → option_map (λ changed. flat_map (told_to w changed) (map (with_list n l st serial) hs)) o ≡ option_map (λ changed. flat_map (told_to w changed) hs) o
   same_waiting w hs None = refl
   same_waiting w hs (Some changed) = ap Some (same_told w changed hs)
 
-  still_apart : (hs : List Held) → AreApart hs → AreApart (map (with_list n l st) hs)
+  still_apart : (hs : List Held) → AreApart hs → AreApart (map (with_list n l st serial) hs)
   still_apart [] apart = λ i j d low high. absurd (omega arith)
   still_apart (h ∷ hs) apart =
-      AllPairs-cons (λ (a b : Held). a.name ≢ b.name) (with_list n l st h) (map (with_list n l st) hs)
-      (All-map (λ (b : Held). h.name ≢ b.name) (with_list n l st) hs (first_apart h hs apart))
+      AllPairs-cons (λ (a b : Held). a.name ≢ b.name) (with_list n l st serial h) (map (with_list n l st serial) hs)
+      (All-map (λ (b : Held). h.name ≢ b.name) (with_list n l st serial) hs (first_apart h hs apart))
       (still_apart hs (rest_apart h hs apart))
 
-  pub same_session : (s : Standing) → session_of (with_list_at n l st s) ≡ session_of s
+  pub same_session : (s : Standing) → session_of (with_list_at n l st serial s) ≡ session_of s
   unfolding session_of
   same_session s = λ j. record {
     world = (s.world).state;
@@ -62,22 +62,22 @@ module _ (n : List ℕ) (l : Option Kept) (st : List Step) where
 
   module _ (s : Standing) (session : IsSession s) where
     abbrev listed : List Held
-    listed = map (with_list n l st) s.stored
+    listed = map (with_list n l st serial) s.stored
 
     still_now : All (IsNow (s.world).state) s.stored → All (IsNow (s.world).state) listed
-    still_now all = All-map (IsNow (s.world).state) (with_list n l st) s.stored all
+    still_now all = All-map (IsNow (s.world).state) (with_list n l st serial) s.stored all
 
     was_still : (o : Option Changed) → IfSome o (λ changed. All (WasNow (s.world).state changed) s.stored) → IfSome o (λ changed. All (WasNow (s.world).state changed) listed)
     was_still None was = tt
-    was_still (Some changed) was = All-map (WasNow (s.world).state changed) (with_list n l st) s.stored was
+    was_still (Some changed) was = All-map (WasNow (s.world).state changed) (with_list n l st serial) s.stored was
 
-    pub still_session : IsSession (with_list_at n l st s)
+    pub still_session : IsSession (with_list_at n l st serial s)
     still_session = record {
-      held = All-map (IsHeld (s.world).state) (with_list n l st) s.stored (λ k d low.
+      held = All-map (IsHeld (s.world).state) (with_list n l st serial) s.stored (λ k d low.
           let held = session.held k d low in
           record { current = held.current; fit = held.fit; ascends = held.ascends });
       pinned = λ i. session.pinned i ∙ ap (times i) (sym (same_queries s.stored));
-      few = let same : length listed ≡ length s.stored = length-map s.stored (with_list n l st) in omega (arith, same, session.few);
+      few = let same : length listed ≡ length s.stored = length-map s.stored (with_list n l st serial) in omega (arith, same, session.few);
       once = still_apart s.stored session.once;
       now = λ e. still_now (session.now e);
       after = session.after;
@@ -85,38 +85,38 @@ module _ (n : List ℕ) (l : Option Kept) (st : List Step) where
     }
 
   -- ---- the list of the name
-  find_still : (hs : List Held) → find (λ h. bytes_eq n h.name) (map (with_list n l st) hs) ≡ option_map (with_list n l st) (find (λ h. bytes_eq n h.name) hs)
+  find_still : (hs : List Held) → find (λ h. bytes_eq n h.name) (map (with_list n l st serial) hs) ≡ option_map (with_list n l st serial) (find (λ h. bytes_eq n h.name) hs)
   find_still [] = refl
   find_still (h ∷ hs) = by (bytes_eq n h.name) (find_still hs)
     where
-      by : (b : Bool) → find (λ h. bytes_eq n h.name) (map (with_list n l st) hs) ≡ option_map (with_list n l st) (find (λ h. bytes_eq n h.name) hs)
-          → cond b (Some (with_list n l st h)) (find (λ h. bytes_eq n h.name) (map (with_list n l st) hs)) ≡ option_map (with_list n l st) (cond b (Some h) (find (λ h. bytes_eq n h.name) hs))
+      by : (b : Bool) → find (λ h. bytes_eq n h.name) (map (with_list n l st serial) hs) ≡ option_map (with_list n l st serial) (find (λ h. bytes_eq n h.name) hs)
+          → cond b (Some (with_list n l st serial h)) (find (λ h. bytes_eq n h.name) (map (with_list n l st serial) hs)) ≡ option_map (with_list n l st serial) (cond b (Some h) (find (λ h. bytes_eq n h.name) hs))
       by true rest = refl
       by false rest = rest
 
   -- where one has the name, it has this list then
-  pub found_then : (s : Standing) (h : Held) → find (λ h. bytes_eq n h.name) s.stored ≡ Some h → h.name ≡ n → find (λ h. bytes_eq n h.name) (map (with_list n l st) s.stored) ≡ Some (record h { list = l; steps = st })
+  pub found_then : (s : Standing) (h : Held) → find (λ h. bytes_eq n h.name) s.stored ≡ Some h → h.name ≡ n → find (λ h. bytes_eq n h.name) (map (with_list n l st serial) s.stored) ≡ Some (record h { list = l; steps = st; planned_at = serial })
   found_then s h found name =
-      find_still s.stored ∙ (ap (option_map (with_list n l st)) found
-      ∙ ap (λ b. Some (record h { list = cond b l h.list; steps = cond b st h.steps })) ((bytes_decides n h.name).1 (sym name)))
+      find_still s.stored ∙ (ap (option_map (with_list n l st serial)) found
+      ∙ ap (λ b. Some (record h { list = cond b l h.list; steps = cond b st h.steps; planned_at = cond b serial h.planned_at })) ((bytes_decides n h.name).1 (sym name)))
 
   -- ---- which of them has the name
-  others_stay : (hs : List Held) → All (λ h. n ≢ h.name) hs → map (with_list n l st) hs ≡ hs
+  others_stay : (hs : List Held) → All (λ h. n ≢ h.name) hs → map (with_list n l st serial) hs ≡ hs
   others_stay [] all = refl
   others_stay (h ∷ hs) all =
-      λ j. record h { list = cond (differs n h.name (All-head (λ x. n ≢ x.name) h hs all) j) l h.list; steps = cond (differs n h.name (All-head (λ x. n ≢ x.name) h hs all) j) st h.steps } ∷ others_stay hs (All-tail (λ x. n ≢ x.name) h hs all) j
+      λ j. record h { list = cond (differs n h.name (All-head (λ x. n ≢ x.name) h hs all) j) l h.list; steps = cond (differs n h.name (All-head (λ x. n ≢ x.name) h hs all) j) st h.steps; planned_at = cond (differs n h.name (All-head (λ x. n ≢ x.name) h hs all) j) serial h.planned_at } ∷ others_stay hs (All-tail (λ x. n ≢ x.name) h hs all) j
 
   module _ {X : Type 0} (held : X → Held) where
     -- one of them is written, which has the name
     pub one_listed : (xs : List X) (i : ℕ) (y : X) → i < length xs → AreApart (map held xs)
-        → ((d : X) → n ≡ (held (get_or xs i d)).name) → ((d : X) → held y ≡ record (held (get_or xs i d)) { list = l; steps = st })
-        → map held (slice_set xs i y) ≡ map (with_list n l st) (map held xs)
+        → ((d : X) → n ≡ (held (get_or xs i d)).name) → ((d : X) → held y ≡ record (held (get_or xs i d)) { list = l; steps = st; planned_at = serial })
+        → map held (slice_set xs i y) ≡ map (with_list n l st serial) (map held xs)
     one_listed [] i y low apart named one = absurd (omega (arith, low))
     one_listed (x ∷ xs) zero y low apart named one =
-        λ j. (one x ∙ ap (λ b. record (held x) { list = cond b l (held x).list; steps = cond b st (held x).steps }) (sym ((bytes_decides n (held x).name).1 (named x)))) j
+        λ j. (one x ∙ ap (λ b. record (held x) { list = cond b l (held x).list; steps = cond b st (held x).steps; planned_at = cond b serial (held x).planned_at }) (sym ((bytes_decides n (held x).name).1 (named x)))) j
         ∷ sym (others_stay (map held xs) (subst (λ m. All (λ (h : Held). m ≢ h.name) (map held xs)) (sym (named x)) (first_apart (held x) (map held xs) apart))) j
     one_listed (x ∷ xs) (suc i) y low apart named one =
-        let is : held x ≡ with_list n l st (held x) = ap (λ b. record (held x) { list = cond b l (held x).list; steps = cond b st (held x).steps }) (sym (differs n (held x).name unlike)) in
+        let is : held x ≡ with_list n l st serial (held x) = ap (λ b. record (held x) { list = cond b l (held x).list; steps = cond b st (held x).steps; planned_at = cond b serial (held x).planned_at }) (sym (differs n (held x).name unlike)) in
         λ j. is j ∷ one_listed xs i y (omega (arith, low)) (rest_apart (held x) (map held xs) apart) (λ d. named d) (λ d. one d) j
       where
         unlike : n ≢ (held x).name
@@ -126,23 +126,23 @@ module _ (n : List ℕ) (l : Option Kept) (st : List Step) where
 
 -- with the list that it has a session is as it was
 module _ (n : List ℕ) where
-  as_they_were : (hs : List Held) (h : Held) → find (λ x. bytes_eq n x.name) hs ≡ Some h → AreApart hs → hs ≡ map (with_list n h.list h.steps) hs
+  as_they_were : (hs : List Held) (h : Held) → find (λ x. bytes_eq n x.name) hs ≡ Some h → AreApart hs → hs ≡ map (with_list n h.list h.steps h.planned_at) hs
   as_they_were [] h found apart = refl
   as_they_were (x ∷ hs) h found apart = by (bytes_eq n x.name) refl found (λ there. as_they_were hs h there (rest_apart x hs apart))
     where
       by : (b : Bool) → bytes_eq n x.name ≡ b → cond b (Some x) (find (λ x. bytes_eq n x.name) hs) ≡ Some h
-          → (find (λ x. bytes_eq n x.name) hs ≡ Some h → hs ≡ map (with_list n h.list h.steps) hs) → x ∷ hs ≡ map (with_list n h.list h.steps) (x ∷ hs)
+          → (find (λ x. bytes_eq n x.name) hs ≡ Some h → hs ≡ map (with_list n h.list h.steps h.planned_at) hs) → x ∷ hs ≡ map (with_list n h.list h.steps h.planned_at) (x ∷ hs)
       by true is found rest =
           let same : Some x ≡ Some h = found in
           let one : x ≡ h = cc in
-          let first : x ≡ with_list n h.list h.steps x = ap (λ (y : Held). record x { list = y.list; steps = y.steps }) one ∙ ap (λ b. record x { list = cond b h.list x.list; steps = cond b h.steps x.steps }) (sym is) in
-          let others = others_stay n h.list h.steps hs (subst (λ m. All (λ (y : Held). m ≢ y.name) hs) (sym ((bytes_decides n x.name).0 is)) (first_apart x hs apart)) in
+          let first : x ≡ with_list n h.list h.steps h.planned_at x = ap (λ (y : Held). record x { list = y.list; steps = y.steps; planned_at = y.planned_at }) one ∙ ap (λ b. record x { list = cond b h.list x.list; steps = cond b h.steps x.steps; planned_at = cond b h.planned_at x.planned_at }) (sym is) in
+          let others = others_stay n h.list h.steps h.planned_at hs (subst (λ m. All (λ (y : Held). m ≢ y.name) hs) (sym ((bytes_decides n x.name).0 is)) (first_apart x hs apart)) in
           λ j. first j ∷ sym others j
       by false is found rest =
-          let first : x ≡ with_list n h.list h.steps x = ap (λ b. record x { list = cond b h.list x.list; steps = cond b h.steps x.steps }) (sym is) in
+          let first : x ≡ with_list n h.list h.steps h.planned_at x = ap (λ b. record x { list = cond b h.list x.list; steps = cond b h.steps x.steps; planned_at = cond b h.planned_at x.planned_at }) (sym is) in
           λ j. first j ∷ rest found j
 
-  pub as_it_was : (s : Standing) (h : Held) → find (λ x. bytes_eq n x.name) s.stored ≡ Some h → AreApart s.stored → s ≡ with_list_at n h.list h.steps s
+  pub as_it_was : (s : Standing) (h : Held) → find (λ x. bytes_eq n x.name) s.stored ≡ Some h → AreApart s.stored → s ≡ with_list_at n h.list h.steps h.planned_at s
   as_it_was s h found apart = ap (λ hs. record s { stored = hs }) (as_they_were s.stored h found apart)
 
 -- ---- where the stored query of a name stands

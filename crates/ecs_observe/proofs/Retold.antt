@@ -186,8 +186,8 @@ same_queries : (w : WorldState) (hs : List Held) → map (λ h. h.query) (map (t
 same_queries w [] = refl
 same_queries w (h ∷ hs) = ap (λ xs. h.query ∷ xs) (same_queries w hs)
 
-abbrev its_list : Held → List ℕ × Option Lists × List Step
-its_list h = (h.name, h.list, h.steps)
+abbrev its_list : Held → List ℕ × Option Lists × List Step × ℕ
+its_list h = (h.name, h.list, h.steps, h.planned_at)
 
 same_lists : (w : WorldState) (hs : List Held) → map its_list (map (told_now w) hs) ≡ map its_list hs
 same_lists w [] = refl

@@ -18,12 +18,12 @@ use Rattle.ecs_model.specs.stored.Session.{kept_query}
 use Rattle.ecs_world.specs.Standing as world
 use Rattle.query_plan.specs.Plans.{Plan}
 use Rattle.plan_steps.specs.Nobody.{begins_with_this}
-use Rattle.ecs_observe.specs.Following.{FindsInList, FindsInListAt, Follows, FollowsAt, FollowsIfSome, IsPlannedNow, IsUpToDate, IsUpToDateAt, PlansAt, ReadsList, RefusesKept, StaysOrIsPlanned, SyncsList, begins_in_list, list_at, plan_at, plan_of, with_list, with_list_at}
+use Rattle.ecs_observe.specs.Following.{FindsInList, FindsInListAt, Follows, FollowsAt, FollowsIfSome, IsFittingAt, IsMadeAnew, IsUpToDate, IsUpToDateAt, PlansAt, ReadsList, RefusesKept, StaysOrIsPlanned, SyncsList, begins_in_list, dated_plan_at, dated_plan_of, list_at, plan_at, plan_of, with_list, with_list_at}
 use Rattle.stored_queries.specs.Lists.{HasList}
 use Rattle.ecs_observe.specs.Lists.{HaveLists}
 use Rattle.ecs_observe.specs.Parts.{held_of, with_kept_at}
 use Rattle.stored_queries.specs.Parts.{with_kept}
-use Rattle.stored_queries.specs.Held.{Held}
+use Rattle.stored_queries.specs.Held.{Held, IsFitting}
 use Rattle.ecs_observe.specs.Standing.{IsSession, Standing, session_of}
 use Rattle.ecs_observe.specs.Stored.{entries_in, entries_of, made_of}
 use Rattle.ecs_observe.specs.declared.errors.SessionError.{SessionError}
@@ -76,31 +76,34 @@ module _ {A : Type 0} (n : List ℕ) (w : world.Standing) (s t : StoredQueries A
   abbrev steps : List Step
   steps = ((query_in y).plan).steps
 
+  abbrev serial : ℕ
+  serial = (query_in y).planned_at
+
   its_name : (d : Boxed (StoredQuery A) A) → n ≡ string_bytes (name_in (get_or (made_of s) i d))
   its_name d = (bytes_decides n _).0 (place_named n (made_of s) i place.0 session.once place.2 d)
 
-  one_held : (d : Boxed (StoredQuery A) A) → held_of (name_in y, query_in y) ≡ record (held_of (name_in (get_or (made_of s) i d), query_in (get_or (made_of s) i d))) { list = list; steps = steps }
+  one_held : (d : Boxed (StoredQuery A) A) → held_of (name_in y, query_in y) ≡ record (held_of (name_in (get_or (made_of s) i d), query_in (get_or (made_of s) i d))) { list = list; steps = steps; planned_at = serial }
   one_held d =
-      (λ j. record { name = string_bytes (name j); kind = kind j; query = query j; these = (these j).items; list = list; steps = steps })
-      ∙ ap (λ (b : Boxed (StoredQuery A) A). record (held_of (name_in b, query_in b)) { list = list; steps = steps }) (sym (here d))
+      (λ j. record { name = string_bytes (name j); kind = kind j; query = query j; these = (these j).items; list = list; steps = steps; planned_at = serial })
+      ∙ ap (λ (b : Boxed (StoredQuery A) A). record (held_of (name_in b, query_in b)) { list = list; steps = steps; planned_at = serial }) (sym (here d))
 
   in_boxes : (bs : List (Boxed (StoredQuery A) A)) → map held_of (entries_in bs) ≡ map (λ b. held_of (name_in b, query_in b)) bs
   in_boxes [] = refl
   in_boxes (b ∷ bs) = ap (λ hs. held_of (name_in b, query_in b) ∷ hs) (in_boxes bs)
 
-  held_then : map held_of (entries_of t) ≡ map (with_list n list steps) (map held_of (entries_of s))
+  held_then : map held_of (entries_of t) ≡ map (with_list n list steps serial) (map held_of (entries_of s))
   held_then =
       ap (λ bs. map held_of (map (λ (b : Boxed (StoredQuery A) A). (b.value.name, b.value.value.value)) bs)) made
       ∙ (in_boxes (slice_set (made_of s) i y)
-      ∙ (one_listed n list steps (λ b. held_of (name_in b, query_in b)) (made_of s) i y place.0 (subst AreApart (in_boxes (made_of s)) session.once) its_name one_held
-      ∙ ap (map (with_list n list steps)) (sym (in_boxes (made_of s)))))
+      ∙ (one_listed n list steps serial (λ b. held_of (name_in b, query_in b)) (made_of s) i y place.0 (subst AreApart (in_boxes (made_of s)) session.once) its_name one_held
+      ∙ ap (map (with_list n list steps serial)) (sym (in_boxes (made_of s)))))
 
   -- the session is seen with its list
-  pub seen_with_list : seen w (entries_of t) waiting compared ≡ with_list_at n list steps old
+  pub seen_with_list : seen w (entries_of t) waiting compared ≡ with_list_at n list steps serial old
   seen_with_list = ap (λ hs. record { world = w; stored = hs; waiting = waiting; compared = compared }) held_then
 
   pub rewritten_session : IsSession (seen w (entries_of t) waiting compared)
-  rewritten_session = subst IsSession (sym seen_with_list) (still_session n list steps old session)
+  rewritten_session = subst IsSession (sym seen_with_list) (still_session n list steps serial old session)
 
   pub still_lists : HasList w.tables (query_in y) → HaveLists w.tables (entries_of s) → HaveLists w.tables (entries_of t)
   still_lists one all =
@@ -113,27 +116,28 @@ module _ {A : Type 0} (n : List ℕ) (w : world.Standing) (s t : StoredQueries A
   module _ (now : Standing) (view : old ≡ now) where
     -- the session of the definitions stays
     pub same_then : session_of (seen w (entries_of t) waiting compared) ≡ session_of now
-    same_then = ap session_of seen_with_list ∙ (same_session n list steps old ∙ ap session_of view)
+    same_then = ap session_of seen_with_list ∙ (same_session n list steps serial old ∙ ap session_of view)
 
     list_was : list_at now n ≡ (query_in x).list
     list_was = ap (λ u. list_at u n) (sym view) ∙ ap (option_and_then (λ (h : Held). h.list)) (first_named n (entries_of s) (query_in x) there_was)
 
     pub follows_then : FollowsIfSome w.tables (query_in x) (query_in y) → FollowsAt n now (seen w (entries_of t) waiting compared)
-    follows_then (inl same) = inl (seen_with_list ∙ (ap (λ (q : StoredQuery A). with_list_at n q.list (q.plan).steps old) same ∙ (sym unlisted ∙ view)))
+    follows_then (inl same) = inl (seen_with_list ∙ (ap (λ (q : StoredQuery A). with_list_at n q.list (q.plan).steps q.planned_at old) same ∙ (sym unlisted ∙ view)))
       where
-        unlisted : old ≡ with_list_at n (query_in x).list ((query_in x).plan).steps old
+        unlisted : old ≡ with_list_at n (query_in x).list ((query_in x).plan).steps (query_in x).planned_at old
         unlisted = as_it_was n old (named n (query_in x)) (first_named n (entries_of s) (query_in x) there_was) session.once
     follows_then (inr h) = inr (record {
       before = h.0;
       list = h.1;
       steps = steps;
+      serial = serial;
       was = list_was ∙ h.2;
-      left = seen_with_list ∙ (λ j. with_list_at n (h.3 j) steps (view j));
+      left = seen_with_list ∙ (λ j. with_list_at n (h.3 j) steps serial (view j));
       follows = subst (λ (u : Standing). Follows (u.world).tables h.0 h.1) view h.4;
     })
 
-    found_now : find (λ h. bytes_eq n h.name) (map held_of (entries_of t)) ≡ Some (record (named n (query_in x)) { list = list; steps = steps })
-    found_now = ap (find (λ h. bytes_eq n h.name)) held_then ∙ found_then n list steps old (named n (query_in x)) (first_named n (entries_of s) (query_in x) there_was) refl
+    found_now : find (λ h. bytes_eq n h.name) (map held_of (entries_of t)) ≡ Some (record (named n (query_in x)) { list = list; steps = steps; planned_at = serial })
+    found_now = ap (find (λ h. bytes_eq n h.name)) held_then ∙ found_then n list steps serial old (named n (query_in x)) (first_named n (entries_of s) (query_in x) there_was) refl
 
     -- its plan, before and after
     plan_was : plan_at now n ≡ Some (query_in x).plan
@@ -142,13 +146,29 @@ module _ {A : Type 0} (n : List ℕ) (w : world.Standing) (s t : StoredQueries A
     plan_is : plan_at (seen w (entries_of t) waiting compared) n ≡ Some (query_in y).plan
     plan_is = ap (option_map plan_of) found_now ∙ (λ j. Some (record { query = sym query j; steps = steps }))
 
-    pub same_plan : (query_in y).plan ≡ (query_in x).plan → plan_at (seen w (entries_of t) waiting compared) n ≡ plan_at now n
-    same_plan same = plan_is ∙ (ap Some same ∙ sym plan_was)
+    abbrev plan_before : Plan × ℕ
+    plan_before = ((query_in x).plan, (query_in x).planned_at)
 
-    pub planned_then : StaysOrIsPlanned w (query_in x).plan (query_in y).plan → PlansAt n now (seen w (entries_of t) waiting compared)
+    abbrev plan_after : Plan × ℕ
+    plan_after = ((query_in y).plan, (query_in y).planned_at)
+
+    dated_was : dated_plan_at now n ≡ Some plan_before
+    dated_was = ap (λ u. dated_plan_at u n) (sym view) ∙ ap (option_map dated_plan_of) (first_named n (entries_of s) (query_in x) there_was)
+
+    dated_is : dated_plan_at (seen w (entries_of t) waiting compared) n ≡ Some plan_after
+    dated_is = ap (option_map dated_plan_of) found_now ∙ (λ j. Some (record { query = sym query j; steps = steps }, serial))
+
+    pub same_plan : plan_after ≡ plan_before → dated_plan_at (seen w (entries_of t) waiting compared) n ≡ dated_plan_at now n
+    same_plan same = dated_is ∙ (ap Some same ∙ sym dated_was)
+
+    pub planned_then : StaysOrIsPlanned w plan_before plan_after → PlansAt n now (seen w (entries_of t) waiting compared)
     planned_then (inl same) = inl (same_plan same)
     planned_then (inr h) =
-        inr (subst (λ o. IfSome o (IsPlannedNow now.world)) (sym plan_is) (subst (λ (u : Standing). IsPlannedNow u.world (query_in y).plan) view h))
+        inr (plan_before, plan_after, dated_was, dated_is, subst (λ (u : Standing). IsMadeAnew u.world plan_before plan_after) view h)
+
+    pub fitting_then : {T E : Type 0} (r : Result T E) → OnOk r (IsFitting serial w.tables.last) → OnOk r (IsFittingAt n (seen w (entries_of t) waiting compared))
+    fitting_then (Ok r) h = (plan_after, dated_is, h)
+    fitting_then (Err e) h = tt
 
     -- one that was asked for its rows
     pub reads_then : {T E : Type 0} (r : Result T E) → HasList w.tables (query_in y) → OnOk r (ReadsList w.tables (query_in y))

@@ -17,7 +17,7 @@ use Rattle.table_store.specs.Store.{Store}
 use Rattle.world_facts.specs.Kept.{AreTablesOf}
 use Rattle.world_query.specs.Planned.{IsPlannedForKept, IsPlannedIn}
 use Rattle.world_query.specs.Probes.{StaysInTables}
-use Rattle.stored_queries.specs.Held.{Held}
+use Rattle.stored_queries.specs.Held.{Held, IsFitting, IsOutgrown}
 use Rattle.ecs_observe.specs.Standing.{Standing, session_of}
 use Rattle.ecs_observe.specs.declared.errors.SessionError.{SessionError}
 use Rattle.ecs_observe.specs.declared.errors.SessionError.TheVariants.{Refused, Memory}
@@ -74,9 +74,13 @@ pub record IsPlannedNow (w : world.Standing) (p : Plan) : Type 0 where
   pub are_tables : AreTablesOf p.query w.tables tables
   pub planned : IsPlannedForKept w p.query (length tables) p
 
--- a plan was left as it was, or it is the planner's by this world
-abbrev pub StaysOrIsPlanned : world.Standing → Plan → Plan → Type 0
-StaysOrIsPlanned w before after = (after ≡ before) ⊎ IsPlannedNow w after
+-- a plan, with the serial of the newest table when it was made, was outgrown in this world, by which another was made
+abbrev pub IsMadeAnew : world.Standing → Plan × ℕ → Plan × ℕ → Type 0
+IsMadeAnew w before after = IsOutgrown before.1 (w.tables).last × IsPlannedNow w after.0 × (after.1 ≡ (w.tables).last)
+
+-- a plan was left as it was, or it was outgrown in this world, and is the planner's by it
+abbrev pub StaysOrIsPlanned : world.Standing → Plan × ℕ → Plan × ℕ → Type 0
+StaysOrIsPlanned w before after = (after ≡ before) ⊎ IsMadeAnew w before after
 
 -- ---- those of a session
 
@@ -84,21 +88,26 @@ StaysOrIsPlanned w before after = (after ≡ before) ⊎ IsPlannedNow w after
 abbrev pub list_at : Standing → List ℕ → Option Kept
 list_at s n = option_and_then (λ h. h.list) (find (λ h. bytes_eq n h.name) s.stored)
 
--- a stored query, with this list and these steps if it has the name
-abbrev pub with_list : List ℕ → Option Kept → List Step → Held → Held
-with_list n list steps h = record h { list = if bytes_eq n h.name then list else h.list; steps = if bytes_eq n h.name then steps else h.steps }
+-- a stored query, with this list, and these steps of when the newest table had this serial, if it has the name
+abbrev pub with_list : List ℕ → Option Kept → List Step → ℕ → Held → Held
+with_list n list steps serial h = record h {
+  list = if bytes_eq n h.name then list else h.list;
+  steps = if bytes_eq n h.name then steps else h.steps;
+  planned_at = if bytes_eq n h.name then serial else h.planned_at;
+}
 
 -- a session whose stored query of a name has them
-abbrev pub with_list_at : List ℕ → Option Kept → List Step → Standing → Standing
-with_list_at n list steps s = record s { stored = map (with_list n list steps) s.stored }
+abbrev pub with_list_at : List ℕ → Option Kept → List Step → ℕ → Standing → Standing
+with_list_at n list steps serial s = record s { stored = map (with_list n list steps serial) s.stored }
 
--- nothing of a session is another but of one stored query, of this name: the steps by which its rows are found, and the list, which has followed the tables
+-- nothing of a session is another but of one stored query, of this name: the steps by which its rows are found, when they were planned, and the list, which has followed the tables
 pub record FollowsOne (n : List ℕ) (old new : Standing) : Type 0 where
   pub before : Kept
   pub list : Kept
   pub steps : List Step
+  pub serial : ℕ
   pub was : list_at old n ≡ Some before
-  pub left : new ≡ with_list_at n (Some list) steps old
+  pub left : new ≡ with_list_at n (Some list) steps serial old
   pub follows : Follows (old.world).tables before list
 
 -- and maybe not even that
@@ -132,25 +141,38 @@ plan_of h = record { query = h.query; steps = h.steps }
 abbrev pub plan_at : Standing → List ℕ → Option Plan
 plan_at s n = option_map plan_of (find (λ h. bytes_eq n h.name) s.stored)
 
+-- the same, with the serial of the newest table when it was planned
+abbrev pub dated_plan_of : Held → Plan × ℕ
+dated_plan_of h = (plan_of h, h.planned_at)
+
+abbrev pub dated_plan_at : Standing → List ℕ → Option (Plan × ℕ)
+dated_plan_at s n = option_map dated_plan_of (find (λ h. bytes_eq n h.name) s.stored)
+
 -- whether its rows are found from its list
 abbrev pub begins_in_list : Standing → List ℕ → Bool
 begins_in_list s n = option_map_or (λ p. begins_with_this p.query p.steps) (plan_at s n) false
 
--- it was left as it was, or it is the planner's by the world of then
+-- it was left as it was, or it was outgrown in the world of then, and is the planner's by that
 abbrev pub PlansAt : List ℕ → Standing → Standing → Type 0
-PlansAt n old new = (plan_at new n ≡ plan_at old n) ⊎ IfSome (plan_at new n) (IsPlannedNow old.world)
+PlansAt n old new =
+    (dated_plan_at new n ≡ dated_plan_at old n)
+    ⊎ ((before : Plan × ℕ) × (after : Plan × ℕ) × (dated_plan_at old n ≡ Some before) × (dated_plan_at new n ≡ Some after) × IsMadeAnew old.world before after)
+
+-- and it isn't outgrown
+abbrev pub IsFittingAt : List ℕ → Standing → Type 0
+IsFittingAt n s = (p : Plan × ℕ) × (dated_plan_at s n ≡ Some p) × IsFitting p.1 ((s.world).tables).last
 
 -- the rows of the stored query of a name were found so
 abbrev pub FindsInListAt : List ℕ → Standing → Option ℕ → Type 0
 FindsInListAt n s probes = IfSome (plan_at s n) (λ p. FindsInList s.world p (list_at s n) probes)
 
--- each stored query by its name, with its list if it is a kept one, and with the steps by which its rows are found
-abbrev pub lists_of : Standing → List (List ℕ × Option Kept × List Step)
-lists_of s = map (λ h. (h.name, h.list, h.steps)) s.stored
+-- each stored query by its name, with its list if it is a kept one, and with the steps by which its rows are found and when they were planned
+abbrev pub lists_of : Standing → List (List ℕ × Option Kept × List Step × ℕ)
+lists_of s = map (λ h. (h.name, h.list, h.steps, h.planned_at)) s.stored
 
--- a new stored query has a blank list, if it has one, and the planner's steps by the world of then; all others stay. A refusal leaves all that is seen
+-- a new stored query has a blank list, if it has one, and the planner's steps by the world of then, with its newest table; all others stay. A refusal leaves all that is seen
 abbrev pub ListsOneMore : {T E : Type 0} → Result T E → List ℕ → Standing → Standing → Type 0
-ListsOneMore (Ok _) n old new = (h : Held) × (new.stored ≡ old.stored ++ h ∷ []) × (h.name ≡ n) × IfSome h.list IsBlank × IsPlannedIn old.world h.query (plan_of h)
+ListsOneMore (Ok _) n old new = (h : Held) × (new.stored ≡ old.stored ++ h ∷ []) × (h.name ≡ n) × IfSome h.list IsBlank × IsPlannedIn old.world h.query (plan_of h) × (h.planned_at ≡ ((old.world).tables).last)
 ListsOneMore (Err _) n old new = new ≡ old
 
 -- the end of a stored query is that of its list, and those of the others stay with their steps; a refusal leaves all

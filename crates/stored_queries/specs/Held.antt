@@ -1,5 +1,5 @@
 -- What is held of a stored query, and what it is told of a command.
-use Rattle.std.specs.Prelude.{◌≡◌, ℕ, ◌+◌, min, Bool, true, false, not, ◌&&◌, List, [], Option, Some, None, Ok, if◌then◌else◌}
+use Rattle.std.specs.Prelude.{◌≡◌, ℕ, ◌+◌, ◌*◌, ◌<◌, ◌≤◌, min, Bool, true, false, not, ◌&&◌, List, [], Option, Some, None, Ok, if◌then◌else◌}
 use Rattle.std.specs.List.Sorted.{IsStrictlyIncreasing}
 use Rattle.query_cache.specs.Kept as cache
 use Rattle.query_model.specs.Local.{is_local}
@@ -16,7 +16,7 @@ use Rattle.touched_entities.specs.Before.{view_before}
 use Rattle.touched_entities.specs.Concerned.{is_concerned}
 use Rattle.watch_meaning.specs.Since.{told_since}
 
--- a stored query as it is held: a monitor with the entities of its rows as they were told last, unless its query is local; a kept query with the list of its tables; and the steps by which its rows are found
+-- a stored query as it is held: a monitor with the entities of its rows as they were told last, unless its query is local; a kept query with the list of its tables; the steps by which its rows are found; and the serial of the newest table when they were planned
 pub record Held : Type 0 where
   pub name : List ℕ
   pub kind : StoredKind
@@ -24,6 +24,15 @@ pub record Held : Type 0 where
   pub these : List ℕ
   pub list : Option cache.Kept
   pub steps : List Step
+  pub planned_at : ℕ
+
+-- what was planned in a world that had had so many tables is outgrown where it has had more than twice as many (serials of tables count them)
+abbrev pub IsOutgrown : ℕ → ℕ → Type 0
+IsOutgrown planned newest = planned * 2 < newest
+
+-- and else it fits the world still
+abbrev pub IsFitting : ℕ → ℕ → Type 0
+IsFitting planned newest = newest ≤ planned * 2
 
 abbrev pub is_monitor : StoredKind → Bool
 is_monitor Monitor = true

@@ -8,7 +8,7 @@ use Rattle.stored_queries.specs.declared.stored.StoredQuery.{StoredQuery}
 
 -- a stored query of this name
 abbrev pub held_as : {A : Type 0} → List ℕ → StoredQuery A → Held
-held_as name q = record { name = name; kind = q.kind; query = (q.plan).query; these = (q.these).items; list = q.list; steps = (q.plan).steps }
+held_as name q = record { name = name; kind = q.kind; query = (q.plan).query; these = (q.these).items; list = q.list; steps = (q.plan).steps; planned_at = q.planned_at }
 
 -- the entities of a monitor's rows after a command: a set that was made of them, or else those before it, of whom some have left and to whom others have come
 unfoldable pub kept_set : Option Entities → List ℕ → List ℕ → Entities → Entities

@@ -19,6 +19,6 @@ mod telling;
 mod watched;
 
 pub use moves::RowsAfter;
-pub use stored::{JudgedPlan, StoredQuery, is_told};
+pub use stored::{JudgedPlan, StoredQuery, is_outgrown, is_told};
 pub use telling::tell_one;
 pub use watched::{newest_table, stored_query};

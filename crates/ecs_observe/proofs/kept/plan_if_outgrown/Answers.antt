@@ -1,10 +1,11 @@
 -- A list stays that of its query when it is brought up to date.
 use Rattle.std.specs.Prelude.{length}
-use Rattle.std.proofs.Common.{◌≡◌, ◌∙◌, inl, inr, refl, rules, subst, sym, vec_len}
+use Rattle.std.proofs.Common.{◌≡◌, ◌∙◌, arith, inl, inr, refl, rules, subst, sym, vec_len}
 use Rattle.query_model.specs.Query.{Query}
 use Rattle.query_plan.specs.Plans.{Plan}
 use Rattle.world_facts.specs.Kept.{AreTablesOf}
 use Rattle.world_query.specs.Planned.{IsPlannedForKept}
+use Rattle.stored_queries.specs.Held.{IsFitting, IsOutgrown}
 use Rattle.ecs_observe.specs.Following.{IsPlannedNow}
 use Rattle.ecs_observe.proofs.Synced.{follows_itself, follows_sync}
 use Rattle.ecs_observe.proofs.kept.plan_if_outgrown.Goals as goal
@@ -53,9 +54,19 @@ returns-clause-planned g c =
     let asked : p.query ≡ c.query.result.now = c.in_ok-planned.ensures.query in
     let same : p.query ≡ q = asked ∙ c.query.ensures in
     let long : vec_len c.put_tables.new.tables ≡ length c.put_tables.new.tables.items = search rules in
-    inr (subst (IsPlannedNow w) (sym c.replace.ensures) (record {
-      tables = c.put_tables.new.tables.items;
-      are_tables = subst (λ (x : Query). AreTablesOf x w.tables c.put_tables.new.tables.items) (sym same)
-          (subst (AreTablesOf q w.tables) (sym c.in_ok-put_tables.ensures) (record { listed = c.in_ok-sync.ensures.listed q c.requires.list.patterns; rising = c.sync.ensures.once }));
-      planned = subst (λ (x : Query). IsPlannedForKept w x (length c.put_tables.new.tables.items) p) (sym asked) (subst (λ n. IsPlannedForKept w c.query.result.now n p) (c.len.ensures ∙ long) c.in_ok-planned.ensures.planned);
-    }))
+    inr (
+      subst (IsOutgrown c.args.planned_at.now) c.newest_table-newest.ensures (c.is_outgrown.ensures.outgrown c.if-not-is_outgrown.false),
+      subst (IsPlannedNow w) (sym c.replace.ensures) (record {
+        tables = c.put_tables.new.tables.items;
+        are_tables = subst (λ (x : Query). AreTablesOf x w.tables c.put_tables.new.tables.items) (sym same)
+            (subst (AreTablesOf q w.tables) (sym c.in_ok-put_tables.ensures) (record { listed = c.in_ok-sync.ensures.listed q c.requires.list.patterns; rising = c.sync.ensures.once }));
+        planned = subst (λ (x : Query). IsPlannedForKept w x (length c.put_tables.new.tables.items) p) (sym asked) (subst (λ n. IsPlannedForKept w c.query.result.now n p) (c.len.ensures ∙ long) c.in_ok-planned.ensures.planned);
+      }),
+      c.newest_table-newest.ensures,
+    )
+
+pub returns-then-not-is_outgrown-clause-fitting : goal.returns-then-not-is_outgrown-clause-fitting
+returns-then-not-is_outgrown-clause-fitting g c = subst (IsFitting c.args.planned_at.now) c.newest_table-newest.ensures (c.is_outgrown.ensures.fitting c.if-not-is_outgrown.true)
+
+pub returns-clause-fitting : goal.returns-clause-fitting
+returns-clause-fitting g c = omega (arith, c.newest_table-newest.ensures)

@@ -75,7 +75,7 @@ returns-clause-lists g c =
     (c.in-Some.dropped.value).value.value (sym c.in-Some.ensures.value)
     (c.unpin_all.ensures.state ∙ ap (unpinned_by c.self.inside.world.state) (c.mentions.ensures ∙ ap (λ (q : Query). q.mentions) (c.query.ensures ∙ ap queried c.deref.ensures)))
     c.in-Some.ensures.entries (none_there c.self.inside.waiting idle)
-    ∙ ap (λ (s : Standing). filter (λ (p : List ℕ × Option Kept × List Step). not (bytes_eq c.args.name.now p.0)) (lists_of s)) c.self.view_is
+    ∙ ap (λ (s : Standing). filter (λ (p : List ℕ × Option Kept × List Step × ℕ). not (bytes_eq c.args.name.now p.0)) (lists_of s)) c.self.view_is
 
 pub returns-clause-tables : goal.returns-clause-tables
 returns-clause-tables g c = c.unpin_all.ensures.tables ∙ ap (λ (s : Standing). (s.world).tables) c.self.view_is

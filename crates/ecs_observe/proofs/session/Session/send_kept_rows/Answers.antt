@@ -15,7 +15,7 @@ use Rattle.stored_queries.specs.declared.stored.StoredQuery.{StoredQuery}
 use Rattle.ecs_observe.proofs.Entries.{look_stored, stored_in}
 use Rattle.ecs_observe.proofs.Found.{holds_of_found}
 use Rattle.ecs_observe.proofs.KeptFound.{none_kept, sends_answered}
-use Rattle.ecs_observe.proofs.Rewritten.{finds_then, follows_then, here_as, list_there, planned_then, query_in, reads_then, rewritten_session, same_then, still_lists}
+use Rattle.ecs_observe.proofs.Rewritten.{finds_then, fitting_then, follows_then, here_as, list_there, planned_then, query_in, reads_then, rewritten_session, same_then, still_lists}
 use Rattle.ecs_observe.proofs.Sending.{refused_calm}
 use Rattle.ecs_observe.proofs.Watches.{still_stored}
 use Rattle.ecs_observe.proofs.session.Session.send_kept_rows.Goals as goal
@@ -165,7 +165,7 @@ returns-clause-planned g c =
     } in
     planned_then c.args.name.now c.self.inside.world s t c.self.inside.waiting c.self.inside.compared i x y
     c.in-Some.ensures here refl name kind query these c.self.invariant.0 c.args.self.now c.self.view_is
-    (subst (λ (m : Entry g.row.A.Denot). StaysOrIsPlanned c.self.inside.world (m.value.value).plan (c.send_rows_of.new.query).plan) is c.send_rows_of.ensures.planned)
+    (subst (λ (m : Entry g.row.A.Denot). StaysOrIsPlanned c.self.inside.world ((m.value.value).plan, (m.value.value).planned_at) ((c.send_rows_of.new.query).plan, (c.send_rows_of.new.query).planned_at)) is c.send_rows_of.ensures.planned)
 
 pub returns-clause-reads : goal.returns-clause-reads
 returns-clause-reads g c =
@@ -212,6 +212,29 @@ returns-clause-found g c =
     finds_then c.args.name.now c.self.inside.world s t c.self.inside.waiting c.self.inside.compared i x y
     c.in-Some.ensures here refl name kind query these c.self.invariant.0 c.args.self.now c.self.view_is
     c.send_rows_of.result c.send_rows_of.ensures.found
+
+pub returns-clause-fitting : goal.returns-clause-fitting
+returns-clause-fitting g c =
+    let bs = made_of c.self.inside.stored in
+    let i = c.in-Some.place in
+    let x = c.index_mut-made.result.now in
+    let is = c.deref_mut.ensures.value in
+    let low = c.in-Some.ensures.0 in
+    let here = here_as bs i x low c.index_mut-made.ensures.value in
+    let m = c.deref_mut.result.now in
+    let y : Box g.row.A.Denot = with_value x (record { number = m.number; name = m.name; value = record { occasions = m.value.occasions; value = c.send_rows_of.new.query } }) in
+    let kind = c.send_rows_of.ensures.kind ∙ ap (λ (m : Entry g.row.A.Denot). (m.value.value).kind) is in
+    let query = c.send_rows_of.ensures.query ∙ ap (λ (m : Entry g.row.A.Denot). ((m.value.value).plan).query) is in
+    let these = c.send_rows_of.ensures.these ∙ ap (λ (m : Entry g.row.A.Denot). (m.value.value).these) is in
+    let name = ap (λ (m : Entry g.row.A.Denot). m.name) is in
+    let s = c.self.inside.stored in
+    let t : StoredQueries g.row.A.Denot = record {
+      all = record { order = record { made = with_item s.all.order.made i y; numbers = s.all.order.numbers }; index = s.all.index };
+      watches = s.watches;
+    } in
+    fitting_then c.args.name.now c.self.inside.world s t c.self.inside.waiting c.self.inside.compared i x y
+    c.in-Some.ensures here refl name kind query these c.self.invariant.0 c.args.self.now c.self.view_is
+    c.send_rows_of.result c.send_rows_of.ensures.fitting
 
 pub returns-in_default-clause-writes : goal.returns-in_default-clause-writes
 returns-in_default-clause-writes g c = refused_calm _ _ _

@@ -97,6 +97,7 @@ returns-clause-lists g c =
       c.in_ok-stored.ensures.blank,
       subst (λ (s : Standing). IsPlannedIn s.world h.query (plan_of h)) c.self.view_is
           (subst (λ (q : Query). IsPlannedIn c.self.inside.world q (plan_of h)) (sym c.in_ok-stored.ensures.query) c.in_ok-stored.ensures.planned),
+      c.in_ok-stored.ensures.planned_at ∙ ap (λ (s : Standing). ((s.world).tables).last) c.self.view_is,
     )
 
 pub returns-clause-tables : goal.returns-clause-tables

@@ -177,4 +177,7 @@ returns-clause-plan g c =
     } in
     same_plan c.args.name.now c.self.inside.world s t c.self.inside.waiting c.self.inside.compared i x y
     c.in-Some.ensures here refl name kind query these c.self.invariant.0 c.args.self.now c.self.view_is
-    (c.sync_list_of.ensures.plan ∙ ap (λ (m : Entry g.row.A.Denot). (m.value.value).plan) is)
+    (λ j. (
+      (c.sync_list_of.ensures.plan ∙ ap (λ (m : Entry g.row.A.Denot). (m.value.value).plan) is) j,
+      (c.sync_list_of.ensures.planned_at ∙ ap (λ (m : Entry g.row.A.Denot). (m.value.value).planned_at) is) j,
+    ))
