@@ -1,4 +1,4 @@
-//! The lists of kept queries: which tables are judged for them, and what is lent.
+//! The lists of kept queries: which tables are judged for them, what is told of them, and how many probes a run through them makes.
 
 ghost use Rattle.ecs_observe.specs.Following.{IsUpToDateAt};
 
@@ -104,7 +104,12 @@ fn take_entities(rows: &mut Rows<'_, Global>, found: &mut Vec<u32>) -> Result<()
 }
 
 /// The entities of the rows that the list of a kept query leads to.
-fn lent_rows(alloc: Global, session: &Session, name: &str, found: &mut Vec<u32>) -> Result<(), Fail>
+fn listed_rows(
+    alloc: Global,
+    session: &Session,
+    name: &str,
+    found: &mut Vec<u32>,
+) -> Result<(), Fail>
     requires { IsUpToDateAt session.now name.now }
 {
     session.keeps();
@@ -129,14 +134,25 @@ fn expect_rows(
 ) -> Result<(), Fail> {
     session.sync_kept("k")?;
     let mut found = Vec::new(alloc);
-    lent_rows(alloc, session, "k", &mut found)?;
+    listed_rows(alloc, session, "k", &mut found)?;
     found.sort()?;
     assert!(rt; found.as_slice() == entities);
     Ok(())
 }
 
-/// The list of a kept query, as it is lent, leads to the rows of the query, through changes.
-fn expect_lent(rt: &impl Abort, alloc: Global, session: &mut Session) -> Result<(), Fail> {
+/// The rows of the kept query take some probes, and no more than one for each of its two items and each table of its list.
+fn expect_probes(rt: &impl Abort, alloc: Global, session: &mut Session) -> Result<(), Fail> {
+    let mut printed = Vec::new(alloc);
+    let probes = session.write_kept_rows("k", &mut printed)?.unwrap_or(0);
+    let mut tables = Vec::new(alloc);
+    session.kept_tables("k", &mut tables)?;
+    let most = (tables.len() as u64).saturating_mul(2);
+    assert!(rt; probes > 0 && probes <= most);
+    Ok(())
+}
+
+/// The list of a kept query, as it is told, leads to the rows of the query, through changes.
+fn expect_listed(rt: &impl Abort, alloc: Global, session: &mut Session) -> Result<(), Fail> {
     run(alloc, session, KEPT_QUERY.base)?;
     run(alloc, session, &STORED)?;
     expect_no_list(rt, alloc, session, "nobody");
@@ -144,15 +160,17 @@ fn expect_lent(rt: &impl Abort, alloc: Global, session: &mut Session) -> Result<
     expect_rows(rt, alloc, session, &[EARTH])?;
     run(alloc, session, &HEATED)?;
     expect_rows(rt, alloc, session, &[EARTH])?;
+    expect_probes(rt, alloc, session)?;
     run(alloc, session, &SETTLED)?;
-    expect_rows(rt, alloc, session, &[EARTH, MOON])
+    expect_rows(rt, alloc, session, &[EARTH, MOON])?;
+    expect_probes(rt, alloc, session)
 }
 
 #[test]
-fn lists_are_lent(rt: HostRuntime) -> Result<(), Fail> {
+fn lists_lead_to_the_rows(rt: HostRuntime) -> Result<(), Fail> {
     let random = RandomState::new(&rt)?;
     let mut session = Session::new(rt.alloc(), random)?;
-    let done = expect_lent(&rt, rt.alloc(), &mut session);
+    let done = expect_listed(&rt, rt.alloc(), &mut session);
     drop(session);
     done
 }

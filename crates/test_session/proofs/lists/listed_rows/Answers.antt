@@ -2,7 +2,7 @@
 use Rattle.std.proofs.Common.{subst, sym, ◌∙◌}
 use Rattle.ecs_world.specs.Standing.{Standing}
 use Rattle.query_meaning.specs.Standing.{IsCurrentIn, WasAsked}
-use Rattle.test_session.proofs.lists.lent_rows.Goals as goal
+use Rattle.test_session.proofs.lists.listed_rows.Goals as goal
 
 pub of-requires : goal.of-requires
 of-requires c = record { asked = subst WasAsked (sym c.in_ok-query.ensures) (c.keeps.ensures.current c.args.name.now c.in_ok-kept.kept.now c.in_ok-kept.ensures).asked }
