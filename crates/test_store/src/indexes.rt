@@ -35,6 +35,7 @@ fn give_out_again(rt: &impl Abort, index: &mut EntityIndex) {
 fn the_smallest_free_index_comes_next(rt: HostRuntime) -> Result<(), Fail> {
     let mut index = EntityIndex::new(rt.alloc(), 65)?;
     give_out_again(&rt, &mut index);
+    drop(index);
     Ok(())
 }
 
@@ -55,6 +56,7 @@ fn retire(rt: &impl Abort, index: &mut EntityIndex) {
 fn an_index_is_retired_after_its_last_generation(rt: HostRuntime) -> Result<(), Fail> {
     let mut index = EntityIndex::new(rt.alloc(), 65)?;
     retire(&rt, &mut index);
+    drop(index);
     Ok(())
 }
 
@@ -74,6 +76,7 @@ fn a_name_names_one_entity(rt: HostRuntime) -> Result<(), Fail> {
     assert!(rt; bind(&mut names, "Sun", EARTH) == Err(BindError::NameTaken));
     names.unbind(SUN);
     assert!(rt; names.find("Sun").is_none());
+    drop(names);
     Ok(())
 }
 
@@ -83,5 +86,6 @@ fn a_table_is_entered(rt: HostRuntime) -> Result<(), Fail> {
     let mut index = ComponentIndex::new(rt.alloc(), RandomState::new(&rt)?);
     let key = TableKey { slot: 1, serial: 6 };
     assert!(rt; index.enter(key, &[Id::plain(80), Id::pair(70, 71)]).is_ok());
+    drop(index);
     Ok(())
 }

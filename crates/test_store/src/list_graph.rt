@@ -1,5 +1,6 @@
 //! A graph that is a list: at each index the ids of its entity.
-ghost use Rattle.std.specs.Prelude.{◌≡◌, ◌↔◌, ◌⊎◌, ℕ, [], length, All, Contains, IsTrue};
+ghost use Rattle.std.specs.Prelude.{◌≡◌, ◌<◌, ◌↔◌, ◌⊎◌, ℕ, [], length, All, Contains, IfSome, IsTrue};
+ghost use Rattle.ecs_id.specs.Id.{second_of};
 ghost use Rattle.ecs_model.specs.Links.{IsAcyclic};
 ghost use Rattle.test_store.specs.Closed.{FallBelow, MentionsInside, live_in, row_at, rows_in};
 
@@ -125,15 +126,23 @@ fn is_inside(id: Id, count: usize) -> bool
     }
 }
 
+/// Whether the target of a pair is below this.
+fn falls_below(id: Id, index: usize) -> bool
+    ensures { IsTrue result → IfSome (second_of id) (λ target. target < index) }
+{
+    match id.second() {
+        Some(target) => (target as usize) < index,
+        None => true,
+    }
+}
+
 /// Whether the targets of all pairs are below this.
 fn fall_below(row: &[Id], index: usize) -> bool
     ensures { IsTrue result → FallBelow index row.now }
 {
     for id in row {
-        if let Some(target) = id.second() {
-            if target as usize >= index {
-                return false;
-            }
+        if !falls_below(*id, index) {
+            return false;
         }
     }
     true

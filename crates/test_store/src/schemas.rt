@@ -33,5 +33,6 @@ fn no_value_of_one_byte(rt: HostRuntime) -> Result<(), Fail> {
     let schema = Schema::new(rt.alloc(), &[("x", Kind::U8)])?;
     assert!(rt; schema.size() == 1);
     encode_badly(&rt, &schema);
+    drop(schema);
     Ok(())
 }
