@@ -3,15 +3,14 @@
 ghost use Rattle.ecs_model.specs.rows.View.{view_of};
 ghost use Rattle.world_query.specs.Answerable.{IsAnswerable, IsAsked};
 
-use crate::worked::first_at;
-use ecs_id::Id;
+use crate::worked::add_all;
+use crate::worlds::new_world;
 use ecs_model::faults::CommandError;
 use ecs_world::World;
 use query_check::Query;
 use query_meaning::Step::{Check, Each};
 use query_plan::Plan;
 use std::alloc::Global;
-use std::hash::RandomState;
 use std::process::Abort;
 use std::test::Fail;
 use world_query::{read_query, write_planned_rows};
@@ -35,14 +34,16 @@ rows 4
 
 /// B and C are A, and D is both.
 pub(crate) fn make_diamond(world: &mut World) -> Result<(), CommandError> {
-    for name in ["A", "B", "C", "D"] {
-        world.entity(name)?;
+    for name in &["A", "B", "C", "D"] {
+        drop(world.entity(name)?);
     }
-    world.add(first_at(B), Id::pair(IS_A, A))?;
-    world.add(first_at(C), Id::pair(IS_A, A))?;
-    world.add(first_at(D), Id::pair(IS_A, B))?;
-    world.add(first_at(D), Id::pair(IS_A, C))?;
-    Ok(())
+    let facts = [
+        (B, IS_A, Some(A)),
+        (C, IS_A, Some(A)),
+        (D, IS_A, Some(B)),
+        (D, IS_A, Some(C)),
+    ];
+    add_all(world, &facts)
 }
 
 /// Writes the rows of a query by these steps.
@@ -80,7 +81,7 @@ fn try_diamond(rt: &impl Abort, alloc: Global, world: &mut World) -> Result<(), 
 
 #[test]
 fn the_diamond_has_its_rows_by_each_entity(rt: HostRuntime) -> Result<(), Fail> {
-    let mut world = World::new(rt.alloc(), RandomState::new(&rt)?)?;
+    let mut world = new_world(&rt)?;
     let done = try_diamond(&rt, rt.alloc(), &mut world);
     drop(world);
     done

@@ -6,13 +6,27 @@ use ecs_world::World;
 use std::alloc::{AllocError, Global};
 use std::process::Abort;
 
+/// A failure tells what was tried. To prove a message takes longer than most tests, so it stands here alone.
+pub(crate) fn expect(rt: &impl Abort, holds: bool, tried: &str) {
+    assert!(rt; holds, "{tried}");
+}
+
+fn is_among(lines: &str, line: &str) -> bool {
+    for own in lines.lines() {
+        if own == line {
+            return true;
+        }
+    }
+    false
+}
+
 /// The lines are the rows of what a query prints, in some order: as many, and each of these is among them. No row prints twice.
 pub(crate) fn expect_rows(rt: &impl Abort, lines: &str, printed: &str) {
     let rows = lines.lines().count().saturating_add(1);
-    assert!(rt; printed.lines().count() == rows, "{printed}");
+    expect(rt, printed.lines().count() == rows, printed);
     for line in printed.lines() {
-        let is_there = line.starts_with("rows ") || lines.lines().any(|own| own == line);
-        assert!(rt; is_there, "{line}");
+        let is_there = line.starts_with("rows ") || is_among(lines, line);
+        expect(rt, is_there, line);
     }
 }
 
@@ -27,7 +41,7 @@ pub(crate) fn write_entity(
     index: u32,
     lines: &mut String,
 ) -> Result<(), AllocError> {
-    for text in [" $", variable, "=", name(world, index)] {
+    for text in &[" $", variable, "=", name(world, index)] {
         lines.push_str(text)?;
     }
     Ok(())
@@ -38,14 +52,14 @@ fn write_id(world: &World, id: Id, lines: &mut String) -> Result<(), AllocError>
     let Some(target) = id.second() else {
         return lines.push_str(first);
     };
-    for text in ["(", first, ",", name(world, target), ")"] {
+    for text in &["(", first, ",", name(world, target), ")"] {
         lines.push_str(text)?;
     }
     Ok(())
 }
 
 /// Writes the numbers of a value behind `=`.
-fn write_value(
+pub(crate) fn write_value(
     alloc: Global,
     schema: &Schema,
     bytes: &[u8],
@@ -63,21 +77,15 @@ fn write_value(
     Ok(())
 }
 
-/// Writes a field: the fact's id and entity, and its value, if it shows one.
-pub(crate) fn write_field(
-    alloc: Global,
+/// Writes with which fact a field begins: its id and entity.
+pub(crate) fn write_fact(
     world: &World,
     id: Id,
     source: u32,
-    value: Option<(&Schema, &[u8])>,
     lines: &mut String,
 ) -> Result<(), AllocError> {
     lines.push_str(" [")?;
     write_id(world, id, lines)?;
     lines.push_str("@")?;
-    lines.push_str(name(world, source))?;
-    if let Some((schema, bytes)) = value {
-        write_value(alloc, schema, bytes, lines)?;
-    }
-    lines.push_str("]")
+    lines.push_str(name(world, source))
 }

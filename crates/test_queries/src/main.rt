@@ -6,13 +6,21 @@
 #[cfg(test)]
 mod chunks;
 #[cfg(test)]
+mod columns;
+#[cfg(test)]
+mod commands;
+#[cfg(test)]
 mod diamond;
+#[cfg(test)]
+mod growths;
 #[cfg(test)]
 mod judging;
 #[cfg(test)]
 mod kept;
 #[cfg(test)]
 mod lines;
+#[cfg(test)]
+mod lists;
 #[cfg(test)]
 mod orders;
 #[cfg(test)]
@@ -23,9 +31,15 @@ mod probes;
 mod rows;
 #[cfg(test)]
 mod runs;
+#[cfg(test)]
+mod searches;
 mod sky;
 #[cfg(test)]
+mod travel;
+#[cfg(test)]
 mod worked;
+#[cfg(test)]
+mod worlds;
 
 use query_check::{Query, check};
 use query_lexer::lex;

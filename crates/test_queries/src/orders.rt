@@ -7,6 +7,7 @@ ghost use Rattle.std.specs.Prelude.{◌≡◌, ◌+◌, ◌<◌, ◌≤◌, leng
 ghost use Rattle.ecs_model.specs.rows.View.{view_of};
 ghost use Rattle.world_query.specs.Answerable.{IsAnswerable, IsAsked};
 
+use crate::lines::expect;
 use crate::worked::WorkedRow;
 use ecs_world::World;
 use query_check::Query;
@@ -26,13 +27,12 @@ const PLAIN_MODES: usize = 3;
 /// Plans of more steps than these have more orders than can be tried, so their items, which are plain terms, are taken in the ways of these alone.
 const FEW_STEPS: usize = 6;
 
-/// A query in a world, the rows that it should give, and how many orders of its steps gave them.
+/// A query in a world, and the rows that it should give.
 #[derive(Clone, Copy)]
 struct Tried<'w> {
     world: &'w World,
     query: &'w Query,
     rows: &'w [u8],
-    plans: usize,
 }
 
 /// How many ways there are to take a step of so many.
@@ -73,33 +73,35 @@ fn item_of(step: Step) -> usize {
 }
 
 impl Tried<'_> {
-    /// Runs the steps, if they are a plan: whether they give the rows that they should.
-    fn runs(&mut self, alloc: Global, steps: &[Step]) -> Result<bool, Fail>
-        requires { IsAnswerable (view_of self.old.world.now.state) self.old.query.now }
-        ensures world { self.new.world.now ≡ self.old.world.now }
-        ensures query { self.new.query.now ≡ self.old.query.now }
+    /// Runs the steps, if they are a plan: how many plans these are, none or one. None where they don't give the rows that they should.
+    fn runs(&self, alloc: Global, steps: &[Step]) -> Result<Option<usize>, AllocError>
+        requires { IsAnswerable (view_of self.now.world.now.state) self.now.query.now }
     {
         let plan = match Plan::from_steps(alloc, self.query, steps) {
             Ok(plan) => plan,
-            Err(PlanFault::Refused(_)) => return Ok(true),
-            Err(PlanFault::Memory) => return Err(AllocError)?,
+            Err(PlanFault::Refused(_)) => return Ok(Some(0)),
+            Err(PlanFault::Memory) => return Err(AllocError),
         };
         let mut rows = Vec::new(alloc);
         let written = write_planned_rows(alloc, self.world, &plan, &mut rows);
         drop(plan);
+        let is_right = rows.as_slice() == self.rows;
+        drop(rows);
         written?;
-        self.plans = self.plans.saturating_add(1);
-        Ok(rows.as_slice() == self.rows)
+        Ok(if is_right { Some(1) } else { None })
     }
 
-    /// Tries each order of the steps from a place on, in each mode: whether all that are plans give the rows. The steps of a group stay in it, in
-    /// each of their orders, since no plan has one of them elsewhere.
-    fn all_run(&mut self, alloc: Global, steps: &mut [Step], at: usize) -> Result<bool, Fail>
-        requires answerable { IsAnswerable (view_of self.old.world.now.state) self.old.query.now }
+    /// Tries each order of the steps from a place on, in each mode: how many are plans, if all of these give the rows. The steps of a group stay in
+    /// it, in each of their orders, since no plan has one of them elsewhere.
+    fn all_run(
+        &self,
+        alloc: Global,
+        steps: &mut [Step],
+        at: usize,
+    ) -> Result<Option<usize>, AllocError>
+        requires answerable { IsAnswerable (view_of self.now.world.now.state) self.now.query.now }
         requires within { at ≤ length steps.old }
         ensures length { length steps.new ≡ length steps.old }
-        ensures world { self.new.world.now ≡ self.old.world.now }
-        ensures query { self.new.query.now ≡ self.old.query.now }
     {
         if at == steps.len() {
             return self.runs(alloc, steps);
@@ -108,19 +110,21 @@ impl Tried<'_> {
         if end == at {
             return self.all_run(alloc, steps, at + 1);
         }
+        let mut plans = 0usize;
         let mut turned = 0;
         'pieces: while turned < end - at {
             for mode in 0..modes_of(steps[at], steps.len()) {
                 steps[at] = in_mode(steps[at], mode);
-                if !self.all_run(alloc, steps, at + 1)? {
-                    return Ok(false);
-                }
+                let Some(more) = self.all_run(alloc, steps, at + 1)? else {
+                    return Ok(None);
+                };
+                plans = plans.saturating_add(more);
             }
             let piece = piece_at(steps, at, end);
             steps[at..end].rotate_left(piece);
             turned += piece;
         }
-        Ok(true)
+        Ok(Some(plans))
     }
 }
 
@@ -161,7 +165,7 @@ fn plans_of(
     world: &World,
     query: &Query,
     rows: &mut Vec<u8>,
-) -> Result<Option<usize>, Fail>
+) -> Result<Option<usize>, AllocError>
     requires { IsAsked world.now.state query.now }
 {
     world.keeps();
@@ -169,19 +173,13 @@ fn plans_of(
     let written = write_planned_rows(alloc, world, &planned, rows);
     let copied = Vec::from_slice(alloc, planned.steps());
     drop(planned);
-    written?;
     let mut steps = copied?;
-    let mut tried = Tried {
-        world,
-        query,
-        rows: rows.as_slice(),
-        plans: 0,
-    };
-    if tried.all_run(alloc, steps.as_mut_slice(), 0)? {
-        Ok(Some(tried.plans))
-    } else {
-        Ok(None)
-    }
+    let rows = rows.as_slice();
+    let tried = Tried { world, query, rows };
+    let plans = tried.all_run(alloc, steps.as_mut_slice(), 0);
+    drop(steps);
+    written?;
+    plans
 }
 
 /// How many orders of the steps of a row's plan are plans, if all of these give the rows that are printed, and else 0.
@@ -190,11 +188,10 @@ fn plans_of_row(alloc: Global, world: &World, row: &WorkedRow) -> Result<usize, 
     let mut rows = Vec::new(alloc);
     let plans = plans_of(alloc, world, &query, &mut rows);
     drop(query);
-    let plans = plans?;
-    if rows.as_slice() != row.answer.as_bytes() {
-        return Ok(0);
-    }
-    Ok(plans.unwrap_or(0))
+    let is_printed = rows.as_slice() == row.answer.as_bytes();
+    drop(rows);
+    let plans = plans?.unwrap_or(0);
+    Ok(if is_printed { plans } else { 0 })
 }
 
 /// All orders give what the worked row prints.
@@ -205,6 +202,6 @@ pub(crate) fn try_orders(
     row: &WorkedRow,
 ) -> Result<(), Fail> {
     let plans = plans_of_row(alloc, world, row)?;
-    assert!(rt; row.plans <= plans, "{}: {plans}", row.query);
+    expect(rt, row.plans <= plans, row.query);
     Ok(())
 }

@@ -1,6 +1,7 @@
 //! Steps of a few queries, with the answers that rules written apart from the code give.
 
 use crate::ask;
+use crate::lines::expect;
 use query_meaning::PlanRefusal::{MissingItem, RepeatedItem, UnboundMode};
 use query_meaning::Step::{Above, Check, Close, Each, Open, Scan, Targets};
 use query_meaning::{PlanRefusal, Step};
@@ -61,9 +62,9 @@ fn reason_of(alloc: Global, text: &str, steps: &[Step]) -> Result<Option<PlanRef
 
 #[test]
 fn steps_are_a_plan_or_not(rt: HostRuntime) -> Result<(), Fail> {
-    for (text, steps, reason) in JUDGED {
+    for (text, steps, reason) in &JUDGED {
         let found = reason_of(rt.alloc(), text, steps)?;
-        assert!(rt; found == reason, "{text}: {steps:?}");
+        expect(&rt, found == *reason, text);
     }
     Ok(())
 }
@@ -105,11 +106,9 @@ fn is_planned(alloc: Global, text: &str, lists: &[usize], steps: &[Step]) -> Res
 
 #[test]
 fn the_shortest_list_comes_first(rt: HostRuntime) -> Result<(), Fail> {
-    for (text, lists, steps) in PLANNED {
-        assert!(rt;
-            is_planned(rt.alloc(), text, lists, steps)?,
-            "{text}: {lists:?}"
-        );
+    for (text, lists, steps) in &PLANNED {
+        let is_planned = is_planned(rt.alloc(), text, lists, steps)?;
+        expect(&rt, is_planned, text);
     }
     Ok(())
 }

@@ -2,18 +2,48 @@
 
 use crate::diamond::{D, IS_A, make_diamond};
 use crate::kept::tables_in;
-use crate::lines::{expect_rows, write_entity, write_field};
+use crate::lines::{expect_rows, write_entity, write_fact, write_value};
 use crate::worked::first_at;
+use crate::worlds::new_world;
 use ecs_id::Id;
 use ecs_model::faults::CommandError;
 use ecs_world::World;
 use query_check::Query;
 use std::alloc::{AllocError, Global};
-use std::hash::RandomState;
 use std::process::Abort;
 use std::test::Fail;
 use world_query::read_query;
-use world_rows::{Asked, Rows, WorldView};
+use world_rows::{Asked, Field, Rows, WorldView};
+
+/// Writes a field: its fact, and its value, if it shows one.
+fn write_shown(
+    alloc: Global,
+    world: &World,
+    field: &Field<'_, Global>,
+    lines: &mut String,
+) -> Result<(), AllocError> {
+    write_fact(world, field.id, field.source, lines)?;
+    if let Some(value) = &field.value {
+        write_value(alloc, value.schema(), value.bytes(), lines)?;
+    }
+    lines.push_str("]")
+}
+
+/// Writes the field with a number, of the row that was given last.
+fn write_numbered(
+    alloc: Global,
+    world: &World,
+    rows: &Rows<'_, Global>,
+    number: usize,
+    lines: &mut String,
+) -> Result<(), AllocError> {
+    let Some(field) = rows.field(number) else {
+        return lines.push_str(" [-]");
+    };
+    let written = write_shown(alloc, world, &field, lines);
+    drop(field);
+    written
+}
 
 /// Writes the row that was given last.
 fn write_row(
@@ -29,16 +59,7 @@ fn write_row(
         write_entity(world, variable, *entity, lines)?;
     }
     for number in 0..rows.field_count() {
-        match rows.field(number) {
-            Some(field) => {
-                let value = match &field.value {
-                    Some(value) => Some((value.schema(), value.bytes())),
-                    None => None,
-                };
-                write_field(alloc, world, field.id, field.source, value, lines)?;
-            }
-            None => lines.push_str(" [-]")?,
-        }
+        write_numbered(alloc, world, rows, number, lines)?;
     }
     lines.push_str("\n")
 }
@@ -68,14 +89,15 @@ fn compare(
     query: &Query,
     rows: &mut Rows<'_, Global>,
     printed: &str,
-) -> Result<(), AllocError> {
+) {
     assert!(rt; rows.entities().is_empty() && rows.field_count() == 0 && rows.field(0).is_none());
     let mut lines = String::new(alloc);
-    write_rows(alloc, world, query, rows, &mut lines)?;
+    let written = write_rows(alloc, world, query, rows, &mut lines);
     expect_rows(rt, lines.as_str(), printed);
+    drop(lines);
+    assert!(rt; written.is_ok());
     assert!(rt; !rows.next());
     assert!(rt; rows.field(rows.field_count()).is_none());
-    Ok(())
 }
 
 /// Asks a query for its rows, and gives it back.
@@ -89,8 +111,7 @@ fn ask(
 ) -> Asked {
     assert!(rt; asked.is_current(view) && asked.covers(view));
     let mut rows = asked.rows(view);
-    let done = compare(rt, alloc, view.world(), query, &mut rows, printed);
-    assert!(rt; done.is_ok());
+    compare(rt, alloc, view.world(), query, &mut rows, printed);
     rows.into_asked()
 }
 
@@ -106,8 +127,7 @@ fn ask_kept(
     assert!(rt; asked.is_current(view) && asked.covers(view));
     let tables = tables_in(rt, alloc, view.world(), asked.query());
     let mut rows = asked.rows_in(view, tables.as_slice());
-    let done = compare(rt, alloc, view.world(), query, &mut rows, printed);
-    assert!(rt; done.is_ok());
+    compare(rt, alloc, view.world(), query, &mut rows, printed);
     rows.into_asked()
 }
 
@@ -118,14 +138,13 @@ fn compare_query(
     query: &Query,
     text: &str,
     printed: &str,
-) -> Result<(), Fail> {
+) {
     let view = WorldView::new(world);
-    let asked = Asked::new(alloc, &view, text)?;
+    let asked = Asked::new(alloc, &view, text).expect(rt, "it is no query");
     let asked = ask(rt, alloc, &view, query, asked, printed);
     let asked = ask(rt, alloc, &view, query, asked, printed);
     let asked = ask_kept(rt, alloc, &view, query, asked, printed);
     drop(asked);
-    Ok(())
 }
 
 /// The rows of a query are those that it prints: also when it is asked again, and from the tables that are kept for it.
@@ -135,11 +154,10 @@ pub(crate) fn compare_rows(
     world: &World,
     text: &str,
     printed: &str,
-) -> Result<(), Fail> {
-    let query = read_query(alloc, world, text)?;
-    let done = compare_query(rt, alloc, world, &query, text, printed);
+) {
+    let query = read_query(alloc, world, text).expect(rt, "it is no query");
+    compare_query(rt, alloc, world, &query, text, printed);
     drop(query);
-    done
 }
 
 const KINDS_OF_A: &str = "(IsA,A)";
@@ -169,10 +187,10 @@ const MANY: u32 = 300;
 /// Many entities come to the diamond, and after them one more that is D.
 fn grow(world: &mut World) -> Result<(), CommandError> {
     for _ in 0..MANY {
-        world.fresh()?;
+        drop(world.fresh()?);
     }
-    world.entity("Late")?;
-    world.add(first_at(FIRST + MANY), Id::pair(IS_A, D))?;
+    drop(world.entity("Late")?);
+    drop(world.add(first_at(FIRST + MANY), Id::pair(IS_A, D))?);
     Ok(())
 }
 
@@ -190,32 +208,22 @@ fn ask_later(
     ask(rt, alloc, view, query, asked, LATER_KINDS)
 }
 
-fn ask_before_and_later(
-    rt: &impl Abort,
-    alloc: Global,
-    world: &mut World,
-    query: &Query,
-) -> Result<(), Fail> {
-    let asked = Asked::new(alloc, &WorldView::new(world), KINDS_OF_A)?;
+fn ask_before_and_later(rt: &impl Abort, alloc: Global, world: &mut World, query: &Query) {
+    let asked = Asked::new(alloc, &WorldView::new(world), KINDS_OF_A).expect(rt, "it is no query");
     let asked = ask(rt, alloc, &WorldView::new(world), query, asked, KINDS);
     let grown = grow(world);
     let asked = ask_later(rt, alloc, &WorldView::new(world), query, asked);
     drop(asked);
-    Ok(grown?)
-}
-
-fn outgrow(rt: &impl Abort, alloc: Global, world: &mut World) -> Result<(), Fail> {
-    make_diamond(world)?;
-    let query = read_query(alloc, world, KINDS_OF_A)?;
-    let done = ask_before_and_later(rt, alloc, world, &query);
-    drop(query);
-    done
+    assert!(rt; grown.is_ok());
 }
 
 #[test]
 fn rows_come_in_a_world_that_has_outgrown_their_room(rt: HostRuntime) -> Result<(), Fail> {
-    let mut world = World::new(rt.alloc(), RandomState::new(&rt)?)?;
-    let done = outgrow(&rt, rt.alloc(), &mut world);
+    let mut world = new_world(&rt)?;
+    make_diamond(&mut world).expect(&rt, "out of memory");
+    let query = read_query(rt.alloc(), &world, KINDS_OF_A).expect(&rt, "it is no query");
+    ask_before_and_later(&rt, rt.alloc(), &mut world, &query);
+    drop(query);
     drop(world);
-    done
+    Ok(())
 }

@@ -8,6 +8,7 @@ ghost use Rattle.whole_rows.specs.WholeRows.{Fits};
 ghost use Rattle.query_meaning.specs.Names.{GoesUpWithoutCycles};
 ghost use Rattle.world_query.specs.Answerable.{IsAsked};
 
+use crate::lines::expect;
 use crate::worked::WorkedRow;
 use ecs_world::World;
 use plan_steps::Facts;
@@ -175,7 +176,7 @@ pub(crate) fn give_up_anywhere(
     let rows = row.answer.lines().count().saturating_sub(1);
     for most in 0..rows.saturating_add(2) {
         let came = run_text(rt, alloc, world, row.query, most)?;
-        assert!(rt; came == most.min(rows), "{}: {came}", row.query);
+        expect(rt, came == most.min(rows), row.query);
     }
     assert!(rt; facts_number(world) == before);
     Ok(())

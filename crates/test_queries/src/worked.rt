@@ -10,17 +10,17 @@ use crate::chunks::compare_chunks;
 use crate::orders::try_orders;
 use crate::rows::compare_rows;
 use crate::runs::give_up_anywhere;
+use crate::worlds::new_world;
 use ecs_id::{EntityId, Id, LAST_INDEX};
 use ecs_model::faults::{CommandError, Refusal};
 use ecs_schema::{Kind, Schema};
 use ecs_world::World;
 use std::alloc::Global;
-use std::hash::RandomState;
 use std::process::Abort;
 use std::test::Fail;
 
 /// An entity, and what it gets: a tag, or a relationship and a target. All by their indexes.
-type Fact = (u32, u32, Option<u32>);
+pub(crate) type Fact = (u32, u32, Option<u32>);
 
 /// The entities of a world, by name, and the facts with which several rows begin.
 #[derive(Clone, Copy)]
@@ -298,10 +298,10 @@ fn id_of(first: u32, target: Option<u32>) -> Result<Id, CommandError> {
     Ok(Id::pair(first, target))
 }
 
-fn add_all(world: &mut World, facts: &[Fact]) -> Result<(), CommandError> {
+pub(crate) fn add_all(world: &mut World, facts: &[Fact]) -> Result<(), CommandError> {
     for (entity, first, target) in facts {
         let id = id_of(*first, *target)?;
-        world.add(first_at(*entity), id)?;
+        drop(world.add(first_at(*entity), id)?);
     }
     Ok(())
 }
@@ -310,7 +310,7 @@ fn add_all(world: &mut World, facts: &[Fact]) -> Result<(), CommandError> {
 fn make_component(alloc: Global, world: &mut World, name: Option<&str>) -> Result<(), Fail> {
     if let Some(name) = name {
         let plane = Schema::new(alloc, &[("x", Kind::I32), ("y", Kind::I32)])?;
-        world.component(name, plane)?;
+        drop(world.component(name, plane)?);
     }
     Ok(())
 }
@@ -318,12 +318,12 @@ fn make_component(alloc: Global, world: &mut World, name: Option<&str>) -> Resul
 /// Makes the entities of a row's world, with their facts.
 fn fill(world: &mut World, row: &WorkedRow) -> Result<(), CommandError> {
     for name in row.base.names {
-        world.entity(name)?;
+        drop(world.entity(name)?);
     }
     add_all(world, row.base.facts)?;
     add_all(world, row.more)?;
     for (entity, position) in row.base.positions {
-        world.set(first_at(*entity), Id::plain(POSITION), position)?;
+        drop(world.set(first_at(*entity), Id::plain(POSITION), position)?);
     }
     Ok(())
 }
@@ -331,8 +331,8 @@ fn fill(world: &mut World, row: &WorkedRow) -> Result<(), CommandError> {
 fn try_row(rt: &impl Abort, alloc: Global, world: &mut World, row: &WorkedRow) -> Result<(), Fail> {
     make_component(alloc, world, row.base.component)?;
     fill(world, row)?;
-    compare_chunks(rt, alloc, world, row.query, row.answer)?;
-    compare_rows(rt, alloc, world, row.query, row.answer)?;
+    compare_chunks(rt, alloc, world, row.query, row.answer);
+    compare_rows(rt, alloc, world, row.query, row.answer);
     give_up_anywhere(rt, alloc, world, row)?;
     try_orders(rt, alloc, world, row)
 }
@@ -340,7 +340,7 @@ fn try_row(rt: &impl Abort, alloc: Global, world: &mut World, row: &WorkedRow) -
 #[test]
 fn worked_rows_come_in_each_way_and_are_given_up_anywhere(rt: HostRuntime) -> Result<(), Fail> {
     for row in &ROWS {
-        let mut world = World::new(rt.alloc(), RandomState::new(&rt)?)?;
+        let mut world = new_world(&rt)?;
         let done = try_row(&rt, rt.alloc(), &mut world, row);
         drop(world);
         done?;

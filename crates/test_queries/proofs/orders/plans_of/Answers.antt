@@ -16,5 +16,5 @@ write_planned_rows-written-requires c =
     let able = answerable c.args.world.now.state c.args.query.now c.keeps.ensures c.requires in
     record { answerable = as_answerable view view c.args.query.now c.in_ok-planned.planned.query refl (c.in_ok-planned.ensures.query ∙ c.in_ok-try_clone.ensures) able }
 
-pub all_run-requires-clause-answerable : goal.all_run-requires-clause-answerable
-all_run-requires-clause-answerable c = answerable c.args.world.now.state c.args.query.now c.keeps.ensures c.requires
+pub all_run-plans-requires-clause-answerable : goal.all_run-plans-requires-clause-answerable
+all_run-plans-requires-clause-answerable c = answerable c.args.world.now.state c.args.query.now c.keeps.ensures c.requires

@@ -1,4 +1,4 @@
--- the steps stay as many, and the world and the query the same
+-- the steps stay as many
 use Rattle.std.proofs.Common.{◌≡◌, ◌<◌, ◌≤◌, length, ◌-◌}
 use Rattle.test_queries.proofs.orders.Tried.+all_run.Given as goal
 
@@ -11,8 +11,6 @@ decreases-pieces l = l.end - l.at - l.turned
 abbrev pub invariant-pieces : goal.invariant-pieces
 invariant-pieces l = record {
   kept : length l.steps ≡ length l.fn.steps;
-  world : l.self.world.now ≡ l.fn.self.world.now;
-  query : l.self.query.now ≡ l.fn.self.query.now;
   end : l.end ≤ length l.fn.steps;
   within : l.at < l.end;
 }
@@ -20,8 +18,6 @@ invariant-pieces l = record {
 abbrev pub invariant-loop-mode : goal.invariant-loop-mode
 invariant-loop-mode l = record {
   kept : length l.steps ≡ length l.fn.steps;
-  world : l.self.world.now ≡ l.fn.self.world.now;
-  query : l.self.query.now ≡ l.fn.self.query.now;
   end : l.end ≤ length l.fn.steps;
   within : l.at < l.end;
 }

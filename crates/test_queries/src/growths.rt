@@ -1,5 +1,6 @@
 //! Each growth of each call is refused in turn.
-use crate::commands::{add_all, component, first_at, name_all, set};
+use crate::commands::{add_all, component, name_all, set};
+use crate::worked::first_at;
 use ecs_id::Id;
 use ecs_model::FactKey;
 use ecs_model::built_ins::{EXCLUSIVE, SYMMETRIC, WITH};
@@ -201,7 +202,7 @@ fn refuse_each(
 fn a_refused_call_is_accepted_with_memory(rt: HostRuntime) -> Result<(), Fail> {
     let heap = Refusing::new(rt.alloc());
     let random = RandomState::new(&rt)?;
-    for call in [
+    for call in &[
         Call::New,
         Call::Fresh,
         Call::Entity,
@@ -215,7 +216,7 @@ fn a_refused_call_is_accepted_with_memory(rt: HostRuntime) -> Result<(), Fail> {
         Call::Part,
         Call::Delete,
     ] {
-        refuse_each(&rt, &heap, random, call)?;
+        refuse_each(&rt, &heap, random, *call)?;
     }
     Ok(())
 }

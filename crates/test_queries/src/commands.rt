@@ -1,20 +1,13 @@
 //! Commands on worlds whose changes nobody reads.
 //!
 //! They are dropped by a call in one place: where they go out of scope by themselves, the drops of all their parts are proved at each command.
-use ecs_id::{EntityId, Id};
+use crate::worked::first_at;
+use ecs_id::Id;
 use ecs_model::FactKey;
 use ecs_model::faults::CommandError;
 use ecs_schema::{Kind, Schema};
 use ecs_world::World;
 use std::alloc::Allocator;
-
-/// The entity that first stands at an index.
-pub(crate) fn first_at(index: u32) -> EntityId {
-    EntityId {
-        index,
-        generation: 0,
-    }
-}
 
 /// Makes a component with one number.
 pub(crate) fn component<A: Allocator + Copy>(

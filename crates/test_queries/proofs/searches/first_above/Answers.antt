@@ -1,6 +1,6 @@
 use Rattle.std.proofs.Common.{subst}
 use Rattle.ecs_model.specs.Links.{IsAcyclic}
-use Rattle.test_world.proofs.searches.first_above.Goals as goal
+use Rattle.test_queries.proofs.searches.first_above.Goals as goal
 
 pub first_up-requires-clause-acyclic : goal.first_up-requires-clause-acyclic
 first_up-requires-clause-acyclic c =

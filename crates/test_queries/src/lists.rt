@@ -4,7 +4,9 @@ ghost use Rattle.std.specs.Prelude.{IfOk};
 ghost use Rattle.query_cache.specs.Kept.{Fits};
 ghost use Rattle.table_store.specs.Going.{TablesGoOn};
 
-use crate::commands::{add_all, component, first_at, name_all};
+use crate::commands::{add_all, component, name_all};
+use crate::worked::first_at;
+use crate::worlds::new_world;
 use ecs_id::Id;
 use ecs_model::FactKey;
 use ecs_model::faults::CommandError;
@@ -13,7 +15,6 @@ use query_cache::Kept;
 use query_cache::laws::fits_later;
 use query_check::Query;
 use std::alloc::{AllocError, Global};
-use std::hash::RandomState;
 use std::process::Abort;
 use std::test::Fail;
 use world_query::read_query;
@@ -98,7 +99,7 @@ fn follow_text(rt: &impl Abort, alloc: Global, world: &mut World) -> Result<(), 
 
 #[test]
 fn a_kept_list_follows_its_world(rt: HostRuntime) -> Result<(), Fail> {
-    let mut world = World::new(rt.alloc(), RandomState::new(&rt)?)?;
+    let mut world = new_world(&rt)?;
     let done = follow_text(&rt, rt.alloc(), &mut world);
     drop(world);
     done

@@ -1,6 +1,8 @@
 //! Who stands above an entity, and whom a stored query keeps alive.
-use crate::commands::{add_all, component, first_at, name_all};
+use crate::commands::{add_all, component, name_all};
 use crate::searches::{first_above, first_five, leads};
+use crate::worked::first_at;
+use crate::worlds::new_world;
 use component_index::{Part, Pattern};
 use ecs_id::Id;
 use ecs_model::FactKey;
@@ -8,7 +10,6 @@ use ecs_model::faults::{CommandError, Refusal};
 use ecs_world::{Changes, World};
 use rel_travel::{Graph, Scratch};
 use std::alloc::{AllocError, Global};
-use std::hash::RandomState;
 use std::process::Abort;
 use std::test::Fail;
 
@@ -101,7 +102,7 @@ fn search_and_delete(
 
 #[test]
 fn ancestors_are_found_and_what_is_asked_for_stays(rt: HostRuntime) -> Result<(), Fail> {
-    let mut world = World::new(rt.alloc(), RandomState::new(&rt)?)?;
+    let mut world = new_world(&rt)?;
     let mut scratch = Scratch::new(rt.alloc());
     let done = search_and_delete(&rt, rt.alloc(), &mut world, &mut scratch);
     drop(scratch);

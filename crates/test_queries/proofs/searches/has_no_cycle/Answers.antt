@@ -2,7 +2,7 @@ use Rattle.std.specs.Prelude.{IsTrue}
 use Rattle.ecs_id.specs.Id.{plain}
 use Rattle.ecs_model.specs.BuiltIns.{acyclic}
 use Rattle.ecs_model.specs.World.{holds}
-use Rattle.test_world.proofs.searches.has_no_cycle.Goals as goal
+use Rattle.test_queries.proofs.searches.has_no_cycle.Goals as goal
 
 pub returns : goal.returns
 returns c = λ t.
