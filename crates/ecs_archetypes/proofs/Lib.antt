@@ -23,3 +23,4 @@ pub mod FactReads
 pub mod Releases
 pub mod Counting
 pub mod WholeColumns
+pub mod Replacing

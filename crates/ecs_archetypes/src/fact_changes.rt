@@ -125,7 +125,7 @@ impl<A: Allocator + Copy> Archetypes<A> {
 
     // The table of an entity after facts of it have come and gone, with room for the planned moves to it and for a row more: by an edge
     // of its table where one id comes or goes, else by the list of its ids.
-    fn table_after(
+    pub(crate) fn table_after(
         &mut self,
         plan: &mut FactPlan<A>,
         entity: EntityId,

@@ -1,22 +1,25 @@
 //! One entity's ids and values: what it holds is found, and then changed at its place.
-ghost use Rattle.std.specs.Prelude.{◌≡◌, ℕ, ◌<◌, ◌≤◌, [], ◌∷◌, Some, IfOk, IfSome, OnOk, OnErr, IsTrue, is_some, length, option_map, replicate, false, true};
+ghost use Rattle.std.specs.Prelude.{◌≡◌, ◌≢◌, ℕ, ◌<◌, ◌≤◌, [], ◌∷◌, Some, IfOk, IfSome, OnOk, OnErr, IsTrue, is_some, length, option_map, replicate, false, true};
 ghost use Rattle.ecs_id.specs.Id.{id_cmp, id_eq};
 ghost use Rattle.ecs_model.specs.Map.{with_value, without};
 ghost use Rattle.entity_index.specs.Entities.{place_of};
 ghost use Rattle.ecs_archetypes.specs.Archetypes.{known_in};
 ghost use Rattle.ecs_archetypes.specs.Holdings.{AreHoldings, HoldAlike, KeepsSizes, agrees, held_at, holds_id, is_settled, with_cells, with_each_written};
 ghost use Rattle.ecs_archetypes.specs.Housing.{IsHoused, holdings_of};
+ghost use Rattle.ecs_archetypes.specs.Moves.{with_moved};
 ghost use Rattle.ecs_archetypes.specs.Tables.{StandAlike};
 ghost use Rattle.ecs_table.specs.Archetype.{Archetype};
 ghost use Rattle.ecs_archetypes.specs.Staying.{TablesStay, none_goes};
 ghost use Rattle.table_store.specs.Going.{TablesGoOn};
 ghost use Rattle.table_store.specs.Rows.{AreValues};
-ghost use Rattle.table_store.specs.Store.{size_in, table_at};
+ghost use Rattle.table_store.specs.Store.{Shape, room_at, shape_at, size_in, table_at};
 
 use crate::Archetypes;
+use crate::fact_plan::{FactPlan, SizedFact};
 use crate::rows::carry_alone;
 use crate::tables::{narrower, wider};
 use ecs_id::{EntityId, Id, Place, TableKey};
+use ecs_model::FactKey;
 use raw_column::Memory;
 use std::alloc::Allocator;
 
@@ -108,6 +111,51 @@ impl<A: Allocator + Copy> Archetypes<A> {
         let to = narrower(&mut self.tables, &mut self.components, place.table, id)?;
         carry_alone(&mut self.entities, &mut self.tables, entity, place, to);
         Ok(())
+    }
+
+    /// Gives an entity an id that it doesn't hold, with zeros as its value, in the place of one that it holds: its row moves once, to the table
+    /// with the one and without the other. Answers where it stands then. The plan lends its room, and what moves it had are let go.
+    pub fn replace(
+        &mut self,
+        plan: &mut FactPlan<A>,
+        entity: EntityId,
+        place: Place,
+        old: Id,
+        id: Id,
+        size: usize,
+    ) -> Result<Place, Memory>
+        requires there { place_of self.old.entities entity ≡ Some place }
+        requires not_held { holds_id (holdings_of self.old) entity.index id ≡ false }
+        requires small { size ≤ 64 }
+        requires agree { IsTrue (agrees (known_in self.old.tables) id size) }
+        ensures placed { IfOk result (λ now. place_of self.new.entities entity ≡ Some now) }
+        ensures replaced { OnOk result (HoldAlike (holdings_of self.new) (with_cells (holdings_of self.old) entity.index (with_value id_cmp (without id_cmp (held_at (holdings_of self.old) entity.index) (λ i. id_eq i old)) id (replicate size 0)))) }
+        ensures refused { OnErr result (HoldAlike (holdings_of self.new) (holdings_of self.old)) }
+        ensures sizes { KeepsSizes (known_in self.old.tables) ((id, size) ∷ []) (known_in self.new.tables) }
+        ensures goes_on { TablesGoOn self.old.tables self.new.tables }
+        ensures stay { TablesStay none_goes self.old.tables self.new.tables }
+        ensures holdings { AreHoldings (holdings_of self.new) }
+        ensures whole { IsHoused self.new }
+    {
+        let _ = &self.entities;
+        let came = [SizedFact::new(FactKey::new(entity.index, id), size)];
+        let went = [FactKey::new(entity.index, old)];
+        plan.moves.clear();
+        let to = self.table_after(plan, entity, place.table, &came, &went)?;
+        Ok(self.carry_to(entity, place, to))
+    }
+
+    // Moves the row of an entity to another table that has room, and answers where it stands then. The table that it leaves gives memory back.
+    fn carry_to(&mut self, entity: EntityId, place: Place, to: TableKey) -> Place
+        requires there { place_of self.old.entities entity ≡ Some place }
+        requires apart { place.table ≢ to }
+        requires room { 0 < room_at self.old.tables to }
+        ensures placed { place_of self.new.entities entity ≡ Some result }
+        ensures held { (f : Shape) → shape_at self.old.tables to ≡ Some f → HoldAlike (holdings_of self.new) (with_moved (holdings_of self.old) entity f) }
+        ensures alike { StandAlike self.old.tables self.new.tables }
+        ensures whole { IsHoused self.new }
+    {
+        carry_alone(&mut self.entities, &mut self.tables, entity, place, to)
     }
 }
 

@@ -56,9 +56,9 @@ use table_store::TableStore;
 
 /// The entities in their archetype tables.
 ///
-/// An entity is settled once it stands in a table. `settle`, `create`, `add` and `remove` touch one row and the last of its table.
+/// An entity is settled once it stands in a table. `settle`, `create`, `add`, `remove` and `replace` touch one row and the last of its table.
 /// `change_facts` takes all memory that its moves need before the first of them. A table that lost most of its rows gives memory back,
-/// after `add` and `remove`, after the last move of `change_facts`, and after each death.
+/// after `add`, `remove` and `replace`, after the last move of `change_facts`, and after each death.
 /// Readers take no memory, and look at no more than the ids of one table.
 #[derive(Drop)]
 pub struct Archetypes<A: Allocator = Global> {

@@ -20,15 +20,17 @@ use Rattle.ecs_model.proofs.Answering.{effect_well_formed}
 use Rattle.ecs_model.proofs.Differences.{last_value}
 use Rattle.ecs_model.proofs.Maps.{both_true, key_cmp_total, of_some}
 use Rattle.ecs_model.proofs.traits.Held.{removes_held_alone}
-use Rattle.fact_rules.specs.Simple.{ComesAlone, is_unmirrored}
+use Rattle.fact_rules.specs.Simple.{ComesAlone, ComesInPlace, is_unmirrored}
+use Rattle.ecs_world.specs.Singles.{without_one}
 use Rattle.name_index.specs.Names.{IsUnnamed, Names}
 use Rattle.ecs_archetypes.specs.Holdings.{AreHoldings, HoldAlike, Holdings, KeepsSizes, Sizes, agrees, cells_at, held_at, holds_id, is_settled, lives, upcoming, with_cells, with_entity}
 use Rattle.pin_counts.specs.Counts.{Counts}
 use Rattle.ecs_world.specs.State.{IsWorld, Parts, parts_of, byte_count, is_known_rightly, state_of, type_of, value_in}
 use Rattle.ecs_world.proofs.Births.{birth_left, component_known, effect-component, effect-entity, effect-fresh, none_live, other_schemas, state_component, state_fresh, state_named, tags_empty, tags_tagged}
 use Rattle.ecs_world.proofs.Judged.{CanBear, CanChange, add_of_set, judged-add, judged-remove}
-use Rattle.ecs_world.proofs.Left.{cells_left, effect-add, effect-remove, effect-set, facts_held, facts_new, held_world, recounted, state_gone, state_put, tags_gone, tags_put, there}
+use Rattle.ecs_world.proofs.Left.{cells_left, effect-add, effect-remove, effect-set, facts_held, facts_new, held_world, recounted, state_gone, state_put, state_replaced, tags_gone, tags_put, tags_replaced, there}
 use Rattle.ecs_world.proofs.NameLists.{AreNamed-bound, AreNamed-same, unnamed}
+use Rattle.ecs_world.proofs.Simple.{after_replacing, old_no_trait}
 use Rattle.ecs_world.proofs.States.{AreNamed-world, holds_is, ids_is, unsettled_dead, size_agrees, state_alike, type_is, world_alike, zeros_are_new}
 
 pub refuted : (b : Bool) → not b ≡ true → b ≡ false
@@ -159,6 +161,26 @@ module _ {parts : Parts} (world : IsWorld parts) {v : WorldState} (is : state_of
           ∙ ap (with_facts v) (sym (facts_new v e.index i alone absent)) in (
             cells_left world e i (can can') h' whole' (with_value id_cmp (held_at h e.index) i (replicate size 0)) alike ((i, size) ∷ []) keeps (fits_there can' size at)
                 (tags_put world e i (can can') h' whole' (replicate size 0) alike) accepted (subst IsWellFormed (sym state) (held_world v e i sound_v none)),
+            state,
+          )
+
+    -- a fact comes in the place of another
+    module _ (old : Id) (in_place : ComesInPlace (ids_of v) (e.index, i) old) (none : first_reason (reasons v (Add e i)) ≡ None) where
+      pub come_for : (h' : Holdings) (size : ℕ) → AreHoldings h' → size ≡ byte_count (type_of_id v i)
+          → HoldAlike h' (with_cells h e.index (with_value id_cmp (without id_cmp (held_at h e.index) (λ k. id_eq k old)) i (replicate size 0))) → KeepsSizes h.known ((i, size) ∷ []) h'.known
+          → IsWorld (parts_of h' names schemas pins accepted) × (state_of (parts_of h' names schemas pins accepted) ≡ with_facts v (facts_after_add v e.index i))
+      come_for h' size whole' at alike keeps =
+          let can' = judged-add v e i in_place.no_trait none in
+          let no_trait = old_no_trait v e.index i old in_place in
+          let value : value_in (type_of h schemas i) (replicate size 0) ≡ new_value v i =
+          ap (λ n. value_in (type_of h schemas i) (replicate n 0)) (at ∙ ap (λ u. byte_count (type_of_id u i)) (sym is) ∙ ap byte_count (type_is world i))
+          ∙ zeros_are_new (type_of h schemas i) ∙ ap (λ o. option_map_or zeros o []) (sym (type_is world i) ∙ ap (λ x. type_of_id x i) is) in
+          let state : state_of (parts_of h' names schemas pins accepted) ≡ with_facts v (facts_after_add v e.index i) =
+          state_replaced world e i (can can') old no_trait h' whole' (replicate size 0) alike accepted
+          ∙ (λ k. record (is k) { facts = with_value key_cmp (without_one (is k) e.index old) (e.index, i) (value k) })
+          ∙ ap (with_facts v) (sym (after_replacing v e.index i old in_place)) in (
+            cells_left world e i (can can') h' whole' (with_value id_cmp (without id_cmp (held_at h e.index) (λ k. id_eq k old)) i (replicate size 0)) alike ((i, size) ∷ []) keeps (fits_there can' size at)
+                (tags_replaced world e i (can can') old no_trait h' whole' (replicate size 0) alike) accepted (subst IsWellFormed (sym state) (held_world v e i sound_v none)),
             state,
           )
 
@@ -323,3 +345,12 @@ module _ {parts : Parts} (world : IsWorld parts) {v : WorldState} (is : state_of
       (λ k. record v { facts = last_set v e.index i alone vs (holds v e.index i) refl k; accepted = (is k).accepted + 1 }) ∙ ap counted (sym (effect-set v e i vs)) in
       written_left world is e i can h' bytes vs whole' alike ((i, length bytes) ∷ []) keeps (fits_there world is e i can (length bytes) at) value (parts.accepted + 1) (counted (effect v (SetValue e i vs))) to
       (effect_well_formed v (SetValue e i vs) (subst IsWellFormed is world.sound) tt none)
+
+-- an id comes in the place of another, and the command is counted
+pub replaced_left : {parts : Parts} (world : IsWorld parts) {v : WorldState} (is : state_of parts ≡ v) (e : EntityId) (i old : Id) (in_place : ComesInPlace (ids_of v) (e.index, i) old) → first_reason (reasons v (Add e i)) ≡ None
+    → (h' : Holdings) (size : ℕ) → AreHoldings h' → size ≡ byte_count (type_of_id v i)
+    → HoldAlike h' (with_cells parts.holdings e.index (with_value id_cmp (without id_cmp (held_at parts.holdings e.index) (λ k. id_eq k old)) i (replicate size 0))) → KeepsSizes (parts.holdings).known ((i, size) ∷ []) h'.known
+    → IsWorld (parts_of h' parts.names parts.schemas parts.pins (parts.accepted + 1)) × (state_of (parts_of h' parts.names parts.schemas parts.pins (parts.accepted + 1)) ≡ counted (effect v (Add e i)))
+replaced_left world {v} is e i old in_place none h' size whole' at alike keeps =
+    let left = come_for world is e i old in_place none h' size whole' at alike keeps in
+    counted_from left.0 left.1 v (Add e i) (effect-add v e i) (judged-add v e i in_place.no_trait none).room

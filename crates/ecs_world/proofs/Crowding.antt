@@ -3,16 +3,18 @@ use Rattle.std.proofs.Common.{◌≡◌, ℕ, suc, ◌<◌, ◌≤◌, Bool, tru
 use Rattle.std.proofs.lemmas.Bool.Decides.{nat_tests}
 use Rattle.std.specs.declared.cmp.Ordering.{Ordering}
 use Rattle.std.specs.declared.cmp.Ordering.TheVariants.{Less, Equal, Greater}
+use Rattle.std.specs.Cmp.{Equal-is, eq_by_cmp_equiv}
 use Rattle.std.specs.FinMap.Entries.{by_order}
 use Rattle.std.specs.List.{cons_option, list_any}
 use Rattle.std.specs.Ordering.{nat_cmp, is_eq, eq_by_cmp}
 use Rattle.ecs_id.specs.Id.{Id}
-use Rattle.ecs_model.specs.Map.{Map, has_key, keys, value_at, with_value}
+use Rattle.ecs_model.specs.Map.{Map, has_key, keys, value_at, with_value, without}
 use Rattle.ecs_model.specs.Command.{is_crowded, with_facts}
 use Rattle.ecs_model.specs.traits.Keeps.{IsWellFormed}
-use Rattle.ecs_model.specs.World.{WorldState, Key, key_cmp, holds, ids_of, is_live, new_value}
-use Rattle.ecs_model.proofs.Maps.{key_cmp_total, filter_map-with_value}
-use Rattle.ecs_world.specs.Singles.{with_one}
+use Rattle.ecs_model.specs.World.{WorldState, Key, key_cmp, key_eq, holds, ids_of, is_live, new_value}
+use Rattle.ecs_model.proofs.Maps.{key_cmp_same, key_cmp_total, filter_map-with_value}
+use Rattle.ecs_model.proofs.Removals.{fewer, value_at-without}
+use Rattle.ecs_world.specs.Singles.{with_one, with_one_for, without_one}
 
 behind : {A : Type 0} (o : Option A) (xs ys : List A) → length xs ≡ suc (length ys) → length (cons_option o xs) ≡ suc (length (cons_option o ys))
 behind None xs ys h = h
@@ -107,3 +109,63 @@ module _ (w : WorldState) (e : ℕ) (i : Id) (h : IsWellFormed w) where
   pub crowds : (b : Bool) (n : ℕ) → is_live w e ≡ true → b ≡ holds w e i → n ≡ length (ids_of w e) → (not b && nat_le 64 n) ≡ is_crowded (with_facts w (with_one w e i))
   crowds true n alive held counted = sym (not_crowded_held (sym held))
   crowds false n alive held counted = full_by_count n alive (sym held) counted
+
+-- whether a key is the one that goes
+abbrev goes_with : Key → Key → Bool
+goes_with k q = list_any (key_eq q) (k ∷ [])
+
+on_top : {A : Type 0} (o : Option A) (xs ys : List A) → suc (length xs) ≤ length ys → suc (length (cons_option o xs)) ≤ length (cons_option o ys)
+on_top None xs ys l = l
+on_top (Some x) xs ys l = omega (arith, l)
+
+-- a key that goes leaves one less of what is made of it
+one_less : {X Y : Type 0} (h : Key → Option Y) (m : Map Key X) (k : Key) (y : Y) → h k ≡ Some y → has_key key_cmp m k ≡ true
+    → suc (length (filter_map h (keys (without key_cmp m (goes_with k))))) ≤ length (filter_map h (keys m))
+one_less h [] k y made there = absurd (true≢false (sym there))
+one_less h (x ∷ xs) k y made there = by (key_eq x.0 k) refl there (one_less h xs k y made)
+  where
+    turned : (b : Bool) → key_eq x.0 k ≡ b → key_eq k x.0 ≡ b
+    turned b p = (eq_by_cmp_equiv key_cmp_total).symm k x.0 ∙ p
+
+    by : (b : Bool) → key_eq x.0 k ≡ b → has_key key_cmp (x ∷ xs) k ≡ true
+        → (has_key key_cmp xs k ≡ true → suc (length (filter_map h (keys (without key_cmp xs (goes_with k))))) ≤ length (filter_map h (keys xs)))
+        → suc (length (filter_map h (keys (cond (not (b || false)) (x ∷ without key_cmp xs (goes_with k)) (without key_cmp xs (goes_with k)))))) ≤ length (cons_option (h x.0) (filter_map h (keys xs)))
+    by true p here rest =
+        let is : x.0 ≡ k = key_cmp_same x.0 k ((Equal-is (key_cmp x.0 k)).0 p) in
+        let top : h x.0 ≡ Some y = ap h is ∙ made in
+        let few = fewer h xs (goes_with k) in
+        rw top (omega (arith, few))
+    by false p here rest =
+        on_top (h x.0) (filter_map h (keys (without key_cmp xs (goes_with k)))) (filter_map h (keys xs))
+        (rest (ap (λ b. is_some (cond b (Some x.1) (value_at key_cmp xs k))) (sym (turned false p)) ∙ here))
+
+-- what isn't held isn't held without another
+pub absent_without : (w : WorldState) (e : ℕ) (old i : Id) → holds w e i ≡ false → has_key key_cmp (without_one w e old) (e, i) ≡ false
+absent_without w e old i is_new = ap is_some (value_at-without w.facts (goes_with (e, old)) (e, i)) ∙ by (goes_with (e, old) (e, i)) (value_at key_cmp w.facts (e, i)) is_new
+  where
+    by : (b : Bool) (o : Option (List ℤ)) → is_some o ≡ false → is_some (cond (not b) o None) ≡ false
+    by true o n = refl
+    by false o n = n
+
+module _ (w : WorldState) (e : ℕ) (old i : Id) (h : IsWellFormed w) (is_new : holds w e i ≡ false) (old_held : holds w e old ≡ true) where
+  -- with one in the place of another there are no more
+  pub not_crowded_replaced : is_crowded (with_facts w (with_one_for w e old i)) ≡ false
+  not_crowded_replaced = none_pass (λ f. nat_lt 64 (length (ids_of (with_facts w (with_one_for w e old i)) f))) (keys w.live) (λ f. each f (e == f) refl)
+    where
+      own : length (ids_of (with_facts w (with_one_for w e old i)) e) ≤ 64
+      own =
+          let more = one_more (id_at e) (without_one w e old) (e, i) (new_value w i) i (own_id e i) (absent_without w e old i is_new) in
+          let less = one_less (id_at e) w.facts (e, old) old (own_id e old) old_held in
+          let held = h.few_ids e in
+          omega (arith, more, less, held)
+
+      others : (f : ℕ) → (e == f) ≡ false → length (ids_of (with_facts w (with_one_for w e old i)) f) ≤ 64
+      others f apart =
+          let same = filter_map-with_value key_cmp key_cmp_total (id_at f) (without_one w e old) (e, i) (new_value w i) (other_id e f i apart) in
+          let less = fewer (id_at f) w.facts (goes_with (e, old)) in
+          let held = h.few_ids f in
+          rw same (omega (arith, less, held))
+
+      each : (f : ℕ) (b : Bool) → (e == f) ≡ b → nat_lt 64 (length (ids_of (with_facts w (with_one_for w e old i)) f)) ≡ false
+      each f true p = let same : e ≡ f = grind (arith, nat_tests) in subst (λ n. nat_lt 64 (length (ids_of (with_facts w (with_one_for w e old i)) n)) ≡ false) same (few _ own)
+      each f false p = few _ (others f p)

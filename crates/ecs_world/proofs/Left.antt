@@ -1,12 +1,13 @@
 -- What commands on facts leave.
-use Rattle.std.proofs.Common.{◌≡◌, ℕ, ◌==◌, Bool, true, false, cond, ◌&&◌, List, [], length, ℤ, Some, None, is_some, if◌then◌else◌, IsTrue, IfSome, refl, sym, ap, subst, ◌∙◌, arith, true≢false}
+use Rattle.std.proofs.Common.{◌≡◌, ℕ, ◌==◌, Bool, true, false, cond, not, ◌&&◌, List, [], length, ℤ, Some, None, is_some, unwrap_or, if◌then◌else◌, inl, inr, IsTrue, IfSome, refl, sym, ap, subst, ◌∙◌, arith, true≢false}
 use Rattle.std.specs.Cmp.{nat_cmp_total, Equal-is}
+use Rattle.std.specs.FinMap.Entries.{is_sorted-where_key}
 use Rattle.std.specs.List.{list_all}
 use Rattle.std.specs.Option.{option_eq, option_map_or}
 use Rattle.std.specs.Ordering.{nat_cmp, eq_by_cmp}
 use Rattle.ecs_id.specs.declared.EntityId.{EntityId}
 use Rattle.ecs_id.specs.Id.{Id, plain, pair, mentioned, id_cmp, id_eq}
-use Rattle.ecs_model.specs.Map.{Map, value_at, has_key, keys, with_value, without}
+use Rattle.ecs_model.specs.Map.{Map, IsMap, value_at, has_key, keys, with_value, without}
 use Rattle.ecs_model.specs.Schema.{Schema, zeros, all_fit}
 use Rattle.ecs_model.specs.traits.Keeps.{IsWellFormed}
 use Rattle.ecs_model.specs.Refusal.{first_reason}
@@ -15,7 +16,8 @@ use Rattle.ecs_model.specs.traits.Rules.{is_trait}
 use Rattle.ecs_model.specs.World.{WorldState, Key, key_cmp, pair_is_tag, holds, ids_of, type_of_id, new_value, value_of}
 use Rattle.ecs_model.specs.Command.{counted, is_spent, with_facts}
 use Rattle.ecs_model.specs.traits.Command.{Add, SetValue, Remove, reasons, effect}
-use Rattle.ecs_model.proofs.Maps.{key_cmp_same, keys-with_value}
+use Rattle.ecs_model.proofs.Differences.{last_value}
+use Rattle.ecs_model.proofs.Maps.{IsMap-with_value, from_T, key_cmp_same, keys-with_value, nat_value_at, to_T}
 use Rattle.ecs_model.proofs.Additions.{not_spent}
 use Rattle.ecs_model.proofs.Answering.{effect_well_formed}
 use Rattle.fact_rules.specs.Simple.{ComesAlone, is_unmirrored}
@@ -26,7 +28,7 @@ use Rattle.ecs_world.specs.Singles.{with_one, without_one}
 use Rattle.ecs_world.specs.State.{IsWorld, Parts, parts_of, all_facts, byte_count, is_known_rightly, names_of, state_of, type_of, value_in}
 use Rattle.ecs_world.proofs.Entities.{generation_of}
 use Rattle.ecs_world.proofs.Facts.{bytes_in}
-use Rattle.ecs_world.proofs.FactChanges.{bytes_put, bytes_gone, facts_put, facts_gone}
+use Rattle.ecs_world.proofs.FactChanges.{AreCells, bytes_put, bytes_gone, facts_put, facts_gone}
 use Rattle.ecs_world.proofs.Judged.{CanChange}
 use Rattle.ecs_world.proofs.Simple.{after_add, after_remove}
 use Rattle.ecs_world.proofs.States.{AreCells-whole, AreCells-world, all_true, settled_at, type_in-same}
@@ -190,6 +192,66 @@ module _ {parts : Parts} (world : IsWorld parts) (e : EntityId) (i : Id) (can : 
     state_gone alone accepted' = λ k. record {
       live = alike.live k;
       facts = gone_left alone k;
+      names = names_of names (alike.live k);
+      schemas = schemas;
+      deletions = alike.deletions k;
+      pins = pins.entries;
+      accepted = accepted';
+    }
+
+  -- a fact comes in the place of another
+  module _ (old : Id) (no_trait : is_trait old ≡ false) (h' : Holdings) (whole' : AreHoldings h') (bytes : List ℕ)
+      (alike : HoldAlike h' (with_cells h e.index (with_value id_cmp (without id_cmp (held_at h e.index) (λ k. id_eq k old)) i bytes))) where
+    abbrev less : Cells
+    less = without id_cmp (held_at h e.index) (λ k. id_eq k old)
+
+    abbrev mid : Map ℕ Cells
+    mid = with_value nat_cmp h.cells e.index less
+
+    less_held : unwrap_or (value_at nat_cmp mid e.index) [] ≡ less
+    less_held = elim (nat_value_at h.cells e.index less e.index) [
+      | inl p ↦ ap (λ o. unwrap_or o []) p.1
+      | inr p ↦ absurd (p.0 refl)
+    ]
+
+    now_without : (d : ℕ) (j : Id) → bytes_in mid d j ≡ cond (eq_by_cmp key_cmp (d, j) (e.index, old)) None (bytes_in h.cells d j)
+    now_without d j = bytes_gone h.cells e.index old d j
+
+    now_cells : h'.cells ≡ with_value nat_cmp mid e.index (with_value id_cmp (unwrap_or (value_at nat_cmp mid e.index) []) i bytes)
+    now_cells = alike.cells ∙ sym (last_value nat_cmp nat_cmp_total h.cells e.index less (with_value id_cmp less i bytes)) ∙ ap (λ c. with_value nat_cmp mid e.index (with_value id_cmp c i bytes)) (sym less_held)
+
+    now_with : (d : ℕ) (j : Id) → bytes_in h'.cells d j ≡ cond (eq_by_cmp key_cmp (d, j) (e.index, i)) (Some bytes) (bytes_in mid d j)
+    now_with d j = ap (λ cells. bytes_in cells d j) now_cells ∙ bytes_put mid e.index i bytes d j
+
+    pub tags_replaced : (r : ℕ) → holds_id h' r (plain pair_is_tag) ≡ holds_id h r (plain pair_is_tag)
+    tags_replaced r = ap is_some (
+        now_with r (plain pair_is_tag) ∙ ap (λ b. cond b (Some bytes) (bytes_in mid r (plain pair_is_tag))) (no_tag_key e.index r i can.no_trait)
+        ∙ now_without r (plain pair_is_tag) ∙ ap (λ b. cond b None (bytes_in h.cells r (plain pair_is_tag))) (no_tag_key e.index r old no_trait))
+
+    types_replaced : (j : Id) → type_of h' schemas j ≡ type_of h schemas j
+    types_replaced j = type_in-same schemas schemas (λ r. holds_id h r (plain pair_is_tag)) (λ r. holds_id h' r (plain pair_is_tag)) (λ x. true) j (all_true (mentioned j)) (λ k t. refl) tags_replaced
+
+    mid_cells : AreCells mid
+    mid_cells = record {
+      in_order = IsMap-with_value nat_cmp nat_cmp_total h.cells e.index less (world.whole).cells;
+      rise = λ d cs found. elim (nat_value_at h.cells e.index less d) [
+        | inl p ↦ let own : Some less ≡ Some cs = sym p.1 ∙ found in let same : less ≡ cs = cc in subst (λ c. IsMap id_cmp c) same less_rise
+        | inr p ↦ (AreCells-world world).rise d cs (sym p.1 ∙ found)
+      ];
+    }
+      where
+        less_rise : IsMap id_cmp less
+        less_rise = from_T _ (is_sorted-where_key id_cmp (λ k. not (id_eq k old)) (held_at h e.index) (to_T _ (subst (λ o. IsMap id_cmp (unwrap_or o [])) (sym there.1) ((AreCells-world world).rise e.index there.0 there.1))))
+
+    facts_replaced : all_facts (type_of h' schemas) h'.cells ≡ with_value key_cmp (without_one w e.index old) (e.index, i) (value_in (type_of h schemas i) bytes)
+    facts_replaced = facts_put (type_of h schemas) (type_of h' schemas) mid h'.cells mid_cells (AreCells-whole h' whole') (λ d j bs p. types_replaced j) e.index i bytes now_with
+        ∙ (λ k. with_value key_cmp (facts_gone (type_of h schemas) (type_of h schemas) h.cells mid (AreCells-world world) mid_cells (λ d j bs p. refl) e.index old now_without k) (e.index, i) (value_in (types_replaced i k) bytes))
+
+    pub state_replaced : (accepted' : ℕ) → state_of (parts_of h' names schemas pins accepted')
+        ≡ record w { facts = with_value key_cmp (without_one w e.index old) (e.index, i) (value_in (type_of h schemas i) bytes); accepted = accepted' }
+    state_replaced accepted' = λ k. record {
+      live = alike.live k;
+      facts = facts_replaced k;
       names = names_of names (alike.live k);
       schemas = schemas;
       deletions = alike.deletions k;

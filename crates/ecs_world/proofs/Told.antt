@@ -21,8 +21,8 @@ use Rattle.ecs_model.proofs.traits.AfterAdd.{differences_of_add, differences_of_
 use Rattle.ecs_model.proofs.traits.Differences.{differences_of_remove}
 use Rattle.ecs_model.proofs.traits.Replacing.{is_replaced}
 use Rattle.ecs_world.proofs.Judged.{add_of_set, judged-add}
-use Rattle.ecs_world.proofs.Simple.{alone_comes, removed_alone, replaced_none}
-use Rattle.fact_rules.specs.Simple.{ComesAlone, is_unmirrored}
+use Rattle.ecs_world.proofs.Simple.{alone_comes, new_there, old_there, only_comes, removed_alone, replaced_none, replaced_one}
+use Rattle.fact_rules.specs.Simple.{ComesAlone, ComesInPlace, is_unmirrored}
 use Rattle.ecs_world.specs.State.{arrival, birth, no_change}
 
 -- where none passes, none is left
@@ -68,6 +68,16 @@ module _ (v : WorldState) (e : EntityId) (i : Id) where
   none_goes : ComesAlone (ids_of v) (e.index, i) → filter (is_replaced v e.index i) (keys v.facts) ≡ []
   none_goes alone = ap (λ ks. filter (λ k. list_any (key_eq k) ks) (keys v.facts)) (replaced_none v e.index i alone) ∙ filter_none (keys v.facts)
 
+  -- a fact that comes in the place of another comes, and the other goes
+  module _ (old : Id) (in_place : ComesInPlace (ids_of v) (e.index, i) old) where
+    comes_for : filter (λ k. not (holds v k.0 k.1)) (keys (coming v e.index i)) ≡ (e.index, i) ∷ []
+    comes_for = ap (filter (λ k. not (holds v k.0 k.1))) (only_comes v e.index i in_place.brings in_place.no_copies) ∙ ap (λ b. cond {A = List Key} (not b) ((e.index, i) ∷ []) []) (new_there v e.index i old in_place)
+
+    goes_for : IsWellFormed v → filter (is_replaced v e.index i) (keys v.facts) ≡ (e.index, old) ∷ []
+    goes_for sound =
+        ap (λ ks. filter (λ k. list_any (key_eq k) ks) (keys v.facts)) (replaced_one v e.index i old in_place)
+        ∙ one_passes v.facts (e.index, old) (sound.in_order).facts ∙ ap (λ b. if b then (e.index, old) ∷ [] else []) (old_there v e.index i old in_place)
+
   -- a fact without mirror goes alone, if it is held
   goes_alone : IsWellFormed v → is_unmirrored (ids_of v) i ≡ true
       → filter (λ k. list_any (key_eq k) (removed v e.index i)) (keys v.facts) ≡ (if holds v e.index i then (e.index, i) ∷ [] else [])
@@ -81,6 +91,12 @@ module _ (v : WorldState) (e : EntityId) (i : Id) where
   alone_added sound alone none =
       let can = judged-add v e i alone.no_trait none in
       differences_of_add v e i sound can.mentions ∙ (λ j. with_changes (comes_alone alone j) (none_goes alone j) [])
+
+  replaced_added : (old : Id) → IsWellFormed v → ComesInPlace (ids_of v) (e.index, i) old → first_reason (reasons v (Add e i)) ≡ None
+      → differences v (counted (effect v (Add e i))) (written_by (Add e i)) ≡ record no_change { came = (e.index, i) ∷ []; went = (e.index, old) ∷ [] }
+  replaced_added old sound in_place none =
+      let can = judged-add v e i in_place.no_trait none in
+      differences_of_add v e i sound can.mentions ∙ (λ j. with_changes (comes_for old in_place j) (goes_for old in_place sound j) [])
 
   alone_set : (vs : List ℤ) → IsWellFormed v → ComesAlone (ids_of v) (e.index, i) → first_reason (reasons v (SetValue e i vs)) ≡ None
       → differences v (counted (effect v (SetValue e i vs))) (written_by (SetValue e i vs)) ≡ record (arrival v e.index i) { written = (e.index, i) ∷ [] }
@@ -103,6 +119,10 @@ module _ (v u : WorldState) (told : Changed) where
   module _ (e : EntityId) (i : Id) (sound : IsWellFormed v) where
     pub told_add : ComesAlone (ids_of v) (e.index, i) → first_reason (reasons v (Add e i)) ≡ None → u ≡ counted (effect v (Add e i)) → told ≡ arrival v e.index i → AnswersStep (Ok told) (step v (Add e i)) v u
     told_add alone none left is = answers_accepted v (Add e i) told u none left (is ∙ sym (alone_added v e i sound alone none))
+
+    pub told_replacing : (old : Id) → ComesInPlace (ids_of v) (e.index, i) old → first_reason (reasons v (Add e i)) ≡ None → u ≡ counted (effect v (Add e i))
+        → told ≡ record no_change { came = (e.index, i) ∷ []; went = (e.index, old) ∷ [] } → AnswersStep (Ok told) (step v (Add e i)) v u
+    told_replacing old in_place none left is = answers_accepted v (Add e i) told u none left (is ∙ sym (replaced_added v e i old sound in_place none))
 
     pub told_set : (vs : List ℤ) → ComesAlone (ids_of v) (e.index, i) → first_reason (reasons v (SetValue e i vs)) ≡ None → u ≡ counted (effect v (SetValue e i vs))
         → told ≡ record (arrival v e.index i) { written = (e.index, i) ∷ [] } → AnswersStep (Ok told) (step v (SetValue e i vs)) v u

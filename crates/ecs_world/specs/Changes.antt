@@ -14,12 +14,17 @@ use Rattle.ecs_model.specs.traits.Changes.{coming, replaced}
 use Rattle.ecs_model.specs.traits.Keeps.{IsWellFormed}
 use Rattle.ecs_world.specs.State.{birth, byte_count, listed, no_change, value_in}
 use Rattle.ecs_world.specs.declared.changes.ChangeLists.{ChangeLists}
+use Rattle.ecs_world.specs.declared.changes.Replacement.{Replacement}
 use Rattle.ecs_world.specs.declared.changes.Told.{Told}
-use Rattle.ecs_world.specs.declared.changes.Told.TheVariants.{Nothing, Born, BornWith, Came, Went, Written, CameWritten, Lists}
+use Rattle.ecs_world.specs.declared.changes.Told.TheVariants.{Nothing, Born, BornWith, Came, Went, Replaced, Written, CameWritten, Lists}
 
 -- what lists tell
 abbrev pub changed_in : {Y : Type 0} → ChangeLists Y → Changed
 changed_in l = record no_change { died = ((l.lists).value).died.items; came = ((l.lists).value).came.items; went = ((l.lists).value).went.items; written = listed ((l.lists).value).written }
+
+-- what one fact in the place of another tells
+abbrev pub replaced_in : {Y : Type 0} → Replacement Y → Changed
+replaced_in r = record no_change { came = ((r.facts).value).came ∷ []; went = ((r.facts).value).went ∷ [] }
 
 -- what a command tells
 abbrev pub changed_by : {Y : Type 0} → Told Y → Changed
@@ -28,6 +33,7 @@ changed_by (Born e) = birth e
 changed_by (BornWith generation fact) = record (birth (record { index = fact.0; generation = generation })) { came = fact ∷ [] }
 changed_by (Came fact) = record no_change { came = fact ∷ [] }
 changed_by (Went fact) = record no_change { went = fact ∷ [] }
+changed_by (Replaced replacement) = replaced_in replacement
 changed_by (Written fact) = record no_change { written = fact ∷ [] }
 changed_by (CameWritten fact) = record no_change { came = fact ∷ []; written = fact ∷ [] }
 changed_by (Lists lists) = changed_in lists

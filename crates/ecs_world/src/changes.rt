@@ -3,7 +3,7 @@
 ghost use Rattle.std.specs.Prelude.{◌≡◌, [], ◌∷◌, option_map, IfOk};
 ghost use Rattle.std.specs.Option.{option_copied};
 ghost use Rattle.std.specs.String.{string_bytes};
-ghost use Rattle.ecs_world.specs.Changes.{changed_in};
+ghost use Rattle.ecs_world.specs.Changes.{changed_in, replaced_in};
 ghost use Rattle.ecs_world.specs.State.{birth, no_change};
 
 use crate::Memory;
@@ -115,6 +115,32 @@ impl<A: Allocator> ChangeLists<A> {
     }
 }
 
+/// A fact that came, and the one that went.
+#[derive(Drop)]
+struct Replaced {
+    came: FactKey,
+    went: FactKey,
+}
+
+/// One fact in the place of another. A command makes it before it changes its world. (It stands in a block, since two facts would make what
+/// every command tells larger, and slower to hand on.)
+#[derive(Drop)]
+pub(crate) struct Replacement<A: Allocator> {
+    facts: Box<Replaced, A>,
+}
+
+impl<A: Allocator> Replacement<A> {
+    /// One fact that comes, in the place of another.
+    pub(crate) fn new(alloc: A, came: FactKey, went: FactKey) -> Result<Self, Memory>
+        ensures { IfOk result (λ it. replaced_in it ≡ record no_change { came = came ∷ []; went = went ∷ [] }) }
+    {
+        match Box::new(alloc, Replaced { came, went }) {
+            Ok(facts) => Ok(Replacement { facts }),
+            Err(_) => Err(Memory),
+        }
+    }
+}
+
 /// What a command tells, which most of them tell of one fact or one entity without memory.
 #[derive(Drop)]
 enum Told<A: Allocator> {
@@ -124,6 +150,7 @@ enum Told<A: Allocator> {
     BornWith { generation: u16, fact: FactKey },
     Came(FactKey),
     Went(FactKey),
+    Replaced(Replacement<A>),
     Written(FactKey),
     /// A fact came and its value was set.
     CameWritten(FactKey),
@@ -131,15 +158,9 @@ enum Told<A: Allocator> {
 }
 
 /// What an accepted command has changed.
+#[derive(Drop)]
 pub struct Changes<A: Allocator = Global> {
     told: Told<A>,
-}
-
-// By hand, so that the drops of its parts are proved here, and not again wherever one goes.
-impl<A: Allocator> Drop for Changes<A> {
-    fn drop(self) {
-        let Self { told: _ } = self;
-    }
 }
 
 impl<A: Allocator> Model for Changes<A> {
@@ -184,6 +205,7 @@ impl<A: Allocator> Changes<A> {
             Told::BornWith { fact, .. } | Told::Came(fact) | Told::CameWritten(fact) => {
                 slice::from_ref(fact)
             }
+            Told::Replaced(replacement) => slice::from_ref(&replacement.facts.came),
             Told::Lists(changes) => changes.lists.came.as_slice(),
             _ => &[],
         }
@@ -195,6 +217,7 @@ impl<A: Allocator> Changes<A> {
     {
         match &self.told {
             Told::Went(fact) => slice::from_ref(fact),
+            Told::Replaced(replacement) => slice::from_ref(&replacement.facts.went),
             Told::Lists(changes) => changes.lists.went.as_slice(),
             _ => &[],
         }
@@ -255,6 +278,14 @@ impl<A: Allocator> Changes<A> {
     {
         Changes {
             told: Told::Went(key),
+        }
+    }
+
+    pub(crate) fn of_replacement(replacement: Replacement<A>) -> Changes<A>
+        ensures { result ≡ replaced_in replacement }
+    {
+        Changes {
+            told: Told::Replaced(replacement),
         }
     }
 

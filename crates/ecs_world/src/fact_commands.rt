@@ -10,7 +10,7 @@ use crate::{Changes, World};
 use ecs_id::{EntityId, Id};
 use ecs_model::FactKey;
 use ecs_model::faults::{CommandError, Refusal};
-use fact_rules::{Additions, adds_built_in};
+use fact_rules::{Additions, Arrival, adds_built_in};
 use std::alloc::Allocator;
 
 impl<A: Allocator + Copy> World<A> {
@@ -23,10 +23,10 @@ impl<A: Allocator + Copy> World<A> {
         ensures goes_on { TablesGoOn self.old.tables self.new.tables }
         ensures stay { OnlyForgottenGo self.old self.new }
     {
-        if self.comes_alone(entity, id) {
-            self.add_single(entity, id)
-        } else {
-            self.add_all(entity, id)
+        match self.arrival_of(entity, id) {
+            Arrival::Alone => self.add_single(entity, id),
+            Arrival::InPlaceOf(old) => self.add_in_place(entity, id, old),
+            Arrival::WithOthers => self.add_all(entity, id),
         }
     }
 
@@ -41,10 +41,9 @@ impl<A: Allocator + Copy> World<A> {
         ensures goes_on { TablesGoOn self.old.tables self.new.tables }
         ensures stay { OnlyForgottenGo self.old self.new }
     {
-        if self.comes_alone(entity, id) {
-            self.set_single(entity, id, values)
-        } else {
-            self.set_all(entity, id, values)
+        match self.arrival_of(entity, id) {
+            Arrival::Alone => self.set_single(entity, id, values),
+            Arrival::InPlaceOf(_) | Arrival::WithOthers => self.set_all(entity, id, values),
         }
     }
 

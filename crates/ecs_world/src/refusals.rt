@@ -8,7 +8,7 @@ ghost use Rattle.ecs_model.specs.Refusal.{first_reason};
 ghost use Rattle.ecs_model.specs.World.{holds, ids_of, is_alive, is_built_in, is_live, type_of_id};
 ghost use Rattle.ecs_model.specs.traits.Command.{Add, Remove, SetValue, reasons};
 ghost use Rattle.fact_rules.specs.Additions.{is_of_built_in};
-ghost use Rattle.fact_rules.specs.Simple.{ComesAlone, is_unmirrored};
+ghost use Rattle.fact_rules.specs.Simple.{Arrives, ComesAlone, ComesInPlace, is_unmirrored};
 ghost use Rattle.ecs_world.specs.State.{IsEncoded, growth_reasons};
 
 use crate::World;
@@ -19,7 +19,7 @@ use ecs_model::built_ins::SYMMETRIC;
 use ecs_model::faults::Refusal;
 use ecs_model::{FactKey, LAST_BUILT_IN, MOST_IDS, is_name};
 use ecs_schema::ValueFault;
-use fact_rules::{comes_alone, judge_remove, plain_comes_alone};
+use fact_rules::{Arrival, arrival_of, judge_remove, plain_comes_alone};
 use std::alloc::Allocator;
 
 impl<A: Allocator> World<A> {
@@ -98,6 +98,25 @@ impl<A: Allocator> World<A> {
         }
     }
 
+    /// Why a fact that comes in the place of another is not added to a live entity. It needs no room, since the other goes.
+    pub(crate) fn replacing_refusal(&self, entity: EntityId, id: Id, old: Id) -> Option<Refusal>
+        requires in_place { ComesInPlace (ids_of self.now.state) (entity.index, id) old }
+        requires alive { IsTrue (is_alive self.now.state entity) }
+        ensures { result ≡ first_reason (reasons self.now.state (Add entity id)) }
+    {
+        self.keeps();
+        let _ = old;
+        if !self.mentions_live(id) {
+            Some(Refusal::Dead)
+        } else if is_fixed(entity, id) {
+            Some(Refusal::BuiltIn)
+        } else if self.is_spent() {
+            Some(Refusal::Full)
+        } else {
+            None
+        }
+    }
+
     /// Why an id is not taken from a live entity.
     pub(crate) fn remove_refusal(&self, entity: EntityId, id: Id) -> Option<Refusal>
         requires { IsTrue (is_alive self.now.state entity) }
@@ -109,14 +128,20 @@ impl<A: Allocator> World<A> {
         judge_remove(FactKey::new(entity.index, id), self.is_spent())
     }
 
-    /// Whether an added fact is seen to come alone: nothing else comes or goes with it, and it closes no cycle.
+    /// How an added fact is seen to come: alone, in the place of one other, or with others.
     #[inline(always)]
-    pub(crate) fn comes_alone(&self, entity: EntityId, id: Id) -> bool
-        ensures { IsTrue result → ComesAlone (ids_of self.now.state) (entity.index, id) }
+    pub(crate) fn arrival_of(&self, entity: EntityId, id: Id) -> Arrival
+        ensures { Arrives (ids_of self.now.state) (entity.index, id) result }
     {
         match id.second() {
-            None => plain_comes_alone(self.ids_at(id.first()), id),
-            Some(_) => comes_alone(&self.links(), FactKey::new(entity.index, id)),
+            None => {
+                if plain_comes_alone(self.ids_at(id.first()), id) {
+                    Arrival::Alone
+                } else {
+                    Arrival::WithOthers
+                }
+            }
+            Some(_) => arrival_of(&self.links(), FactKey::new(entity.index, id)),
         }
     }
 

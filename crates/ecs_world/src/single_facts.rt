@@ -1,13 +1,14 @@
-//! Commands on facts with which no others come or go: each moves one row along an edge of its table, or none.
+//! Commands on facts with which no others come, and none goes or just one of the same entity: each moves one row, or none.
 
 ghost use Rattle.std.specs.Prelude.{◌≡◌, true};
 ghost use Rattle.ecs_model.specs.Command.{AnswersStep};
 ghost use Rattle.ecs_model.specs.World.{ids_of};
 ghost use Rattle.ecs_model.specs.traits.Command.{Add, Remove, SetValue, step};
-ghost use Rattle.fact_rules.specs.Simple.{ComesAlone, is_unmirrored};
+ghost use Rattle.fact_rules.specs.Simple.{ComesAlone, ComesInPlace, is_unmirrored};
 ghost use Rattle.ecs_world.specs.Releases.{NoneGo};
 ghost use Rattle.table_store.specs.Going.{TablesGoOn};
 
+use crate::changes::Replacement;
 use crate::{Changes, World};
 use ecs_id::{EntityId, Id};
 use ecs_model::FactKey;
@@ -43,6 +44,41 @@ impl<A: Allocator + Copy> World<A> {
         self.accepted += 1;
         let key = FactKey::new(entity.index, id);
         Ok(Changes::of_came(key))
+    }
+
+    /// `add` of a fact that comes in the place of another.
+    pub(crate) fn add_in_place(
+        &mut self,
+        entity: EntityId,
+        id: Id,
+        old: Id,
+    ) -> Result<Changes<A>, CommandError>
+        requires in_place { ComesInPlace (ids_of self.old.state) (entity.index, id) old }
+        ensures answers { AnswersStep result (step self.old.state (Add entity id)) self.old.state self.new.state }
+        ensures goes_on { TablesGoOn self.old.tables self.new.tables }
+        ensures stay { NoneGo self.old self.new }
+    {
+        let Some(found) = self.archetypes.find(entity, old) else {
+            return Err(CommandError::Refused(Refusal::Dead));
+        };
+        if let Some(refusal) = self.replacing_refusal(entity, id, old) {
+            return Err(CommandError::Refused(refusal));
+        }
+        let came = FactKey::new(entity.index, id);
+        let went = FactKey::new(entity.index, old);
+        let Ok(replacement) = Replacement::new(self.alloc, came, went) else {
+            return Err(CommandError::Memory);
+        };
+        let size = self.size_of(id);
+        let plan = &mut self.plan;
+        let moved = self
+            .archetypes
+            .replace(plan, entity, found.place, old, id, size);
+        if moved.is_err() {
+            return Err(CommandError::Memory);
+        }
+        self.accepted += 1;
+        Ok(Changes::of_replacement(replacement))
     }
 
     /// `set` of a fact that comes alone.

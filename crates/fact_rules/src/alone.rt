@@ -1,9 +1,10 @@
-//! Whether an added fact comes alone.
-ghost use Rattle.std.specs.Prelude.{◌≡◌, ℕ, List, [], None, false, IsTrue};
+//! Whether an added fact comes alone, or in the place of one other.
+ghost use Rattle.std.specs.Prelude.{◌≡◌, ℕ, List, [], None, false, IfOk, IsTrue};
+ghost use Rattle.std.specs.List.{cons_option};
 ghost use Rattle.ecs_id.specs.Id.{Id as IdValue, first_of, second_of};
-ghost use Rattle.ecs_model.specs.Added.{brought, displaced};
+ghost use Rattle.ecs_model.specs.Added.{brought};
 ghost use Rattle.ecs_model.specs.Links.{targets_in};
-ghost use Rattle.fact_rules.specs.Simple.{ComesAlone, leads_to_copies as leads_to_copies_of};
+ghost use Rattle.fact_rules.specs.Simple.{ComesAlone, GivesWay, Arrives, leads_to_copies as leads_to_copies_of};
 ghost use Rattle.rel_traits.specs.After.{ClosesAt};
 ghost use Rattle.rel_traits.specs.TraitBits.{AreTraits};
 
@@ -16,25 +17,46 @@ use ecs_model::built_ins::{IS_A, WITH};
 use rel_traits::{TraitSet, traits_among};
 use rel_travel::{Graph, Holders, may_be_target, target_under};
 
-/// Whether a fact is seen to come alone: it is no trait, brings no other, copies nothing, lets none give way, and closes no cycle.
+/// What comes and goes with an added fact, as far as it is seen.
+#[derive(Clone, Copy, Debug, PartialEq, Eq)]
+pub enum Arrival {
+    /// No other comes, and none goes.
+    Alone,
+    /// No other comes, and the entity's fact of this id goes, and no other.
+    InPlaceOf(Id),
+    /// Others may come or go.
+    WithOthers,
+}
+
+/// More than one target.
+struct Several;
+
+/// How a fact comes. One that comes alone, or in the place of another, is no trait, brings no other, copies nothing, and closes no cycle.
 ///
-/// Of some facts that come alone it isn't seen: of one that the entity holds, of one whose relationship leads to the entity, and of a
-/// pair of IsA where the entity has all that its base could give. It takes time in the ids of the fact's component or relationship, in those
-/// of its entity where that is exclusive, and in those of a base.
-pub fn comes_alone<G: Holders>(graph: &G, fact: FactKey) -> bool
-    ensures { IsTrue result → ComesAlone (G.ids graph.now) fact }
+/// Of some facts that come alone or in a place it isn't seen: of one whose relationship leads to the entity, and of a pair of IsA where the
+/// entity has all that its base could give. It takes time in the ids of the fact's component or relationship, in those of its entity where
+/// that is exclusive, and in those of a base.
+pub fn arrival_of<G: Holders>(graph: &G, fact: FactKey) -> Arrival
+    ensures { Arrives (G.ids graph.now) fact result }
 {
     let id = fact.id();
     let held = graph.ids(id.first());
     let traits = traits_among(held);
-    !is_trait(id)
-        && !may_bring(held, traits, id)
-        && !leads_to_copies(graph, id)
-        && !may_displace(graph, traits, fact)
-        && !may_close(graph, traits, fact)
+    if is_trait(id)
+        || may_bring(held, traits, id)
+        || leads_to_copies(graph, id)
+        || may_close(graph, traits, fact)
+    {
+        return Arrival::WithOthers;
+    }
+    match giving_way(graph, traits, fact) {
+        Ok(None) => Arrival::Alone,
+        Ok(Some(old)) => Arrival::InPlaceOf(old),
+        Err(Several) => Arrival::WithOthers,
+    }
 }
 
-/// The same of a fact of a plain id, by what its component holds. It needs no search.
+/// Whether a fact of a plain id is seen to come alone, by what its component holds. It needs no search.
 #[inline(always)]
 pub fn plain_comes_alone(traits: &[Id], id: Id) -> bool
     requires { second_of id ≡ None }
@@ -61,15 +83,49 @@ fn leads_to_copies<G: Graph>(graph: &G, id: Id) -> bool
     }
 }
 
-/// Whether others may give way to a fact.
-fn may_displace<G: Graph>(graph: &G, traits: TraitSet, fact: FactKey) -> bool
-    requires { AreTraits (G.ids graph.now (first_of fact.1)) traits.0 }
-    ensures { result ≡ false → displaced (G.ids graph.now) fact ≡ [] }
+/// The id of the one fact that gives way to a fact without mirror, if any does, or that there may be several.
+fn giving_way<G: Graph>(graph: &G, traits: TraitSet, fact: FactKey) -> Result<Option<Id>, Several>
+    requires traits { AreTraits (G.ids graph.now (first_of fact.1)) traits.0 }
+    requires alone { brought (G.ids graph.now) fact ≡ [] }
+    ensures { IfOk result (GivesWay (G.ids graph.now) fact) }
 {
+    let _ = graph.size();
     let id = fact.id();
-    id.is_pair()
-        && traits.contains(TraitSet::EXCLUSIVE)
-        && has_target(graph.ids(fact.entity()), id.first())
+    let Some(target) = id.second() else {
+        return Ok(None);
+    };
+    if !traits.contains(TraitSet::EXCLUSIVE) {
+        return Ok(None);
+    }
+    let Some(other) = only_target(graph.ids(fact.entity()), id.first())? else {
+        return Ok(None);
+    };
+    if other == target {
+        return Ok(None);
+    }
+    Ok(Some(Id::pair(id.first(), other)))
+}
+
+/// The target of the pairs of the relationship among the ids, if there is any.
+fn only_target(ids: &[Id], relationship: u32) -> Result<Option<u32>, Several>
+    ensures { IfOk result (λ only. targets_in ids.now relationship ≡ cons_option only []) }
+{
+    let mut only = None;
+    for id in ids {
+        only = one_of(only, target_under(*id, relationship))?;
+    }
+    Ok(only)
+}
+
+/// The one of two targets that is there.
+fn one_of(only: Option<u32>, other: Option<u32>) -> Result<Option<u32>, Several>
+    ensures { IfOk result (λ one. cons_option one [] ≡ cons_option only (cons_option other [])) }
+{
+    match (only, other) {
+        (None, _) => Ok(other),
+        (_, None) => Ok(only),
+        (Some(_), Some(_)) => Err(Several),
+    }
 }
 
 /// Whether a fact may close a cycle.

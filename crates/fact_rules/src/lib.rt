@@ -13,7 +13,7 @@ mod stored_queries;
 mod traits;
 
 pub use addition::Additions;
-pub use alone::{comes_alone, plain_comes_alone};
+pub use alone::{Arrival, arrival_of, plain_comes_alone};
 pub use deletion::Deletion;
 pub use refused_addition::judge_add;
 pub use refused_deletion::judge_delete;
