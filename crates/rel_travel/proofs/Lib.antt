@@ -1,6 +1,7 @@
 pub mod Growth
 mod Adding
 pub mod Begun
+mod LedOn
 mod Cleanup
 mod LineSearch
 pub mod Deepening

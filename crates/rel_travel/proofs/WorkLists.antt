@@ -5,15 +5,10 @@ use Rattle.std.proofs.lemmas.Bool.{cases_lt}
 use Rattle.std.proofs.lemmas.List.{get_or_default}
 use Rattle.std.proofs.lemmas.List.Elements.{Contains-get_or}
 use Rattle.ecs_model.specs.Reach.{Reached, itself, onward, IsReachedFrom, IsLeast}
+use Rattle.rel_travel.specs.Followed.{IsFollowed}
 use Rattle.rel_travel.specs.Growing.{IsGrownBy}
 
 module _ {A : Type 0} where
-  -- all that follows from the first so many has been added
-  pub record IsFollowed (next : A → List A) (start items : List A) (done : ℕ) : Type 0 where
-    pub sound : (y : A) → Contains items y → IsReachedFrom next start y
-    pub begun : (y : A) → Contains start y → Contains items y
-    pub closed : (k : ℕ) (d : A) → k < done → k < length items → (z : A) → Contains (next (get_or items k d)) z → Contains items z
-
   pub IsFollowed-none : (next : A → List A) (start : List A) → IsFollowed next start start 0
   IsFollowed-none next start = record {
     sound = λ y h. (y, h, itself);

@@ -3,6 +3,8 @@ pub mod Growing
 pub mod Words
 pub mod Trail
 pub mod Holders
+pub mod Followed
+pub mod Ways
 pub mod Lists
 pub mod Coming
 pub mod Referring

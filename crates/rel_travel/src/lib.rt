@@ -12,6 +12,8 @@ mod line;
 mod path;
 mod referrers;
 mod scratch;
+mod spread;
+mod ways;
 mod work_list;
 
 pub use falls::Falling;
@@ -22,4 +24,5 @@ pub use scratch::{
     Scratch, above, below, deleted, deletion_is_forbidden, depth, find_referrers, first_up, gather,
     known_depth, pull, reaches, would_cycle,
 };
+pub use ways::{Ways, known_reaches};
 pub use work_list::Rule;

@@ -1,5 +1,6 @@
 //! The least set that holds what it begins with, and all that its members bring.
-ghost use Rattle.std.specs.Prelude.{◌≡◌, ◌<◌, ◌↔◌, ℕ, All, IsTrue};
+ghost use Rattle.std.specs.Prelude.{◌≡◌, ◌<◌, ◌≤◌, ◌↔◌, ℕ, List, All, IsTrue};
+ghost use Rattle.rel_travel.specs.Followed.{IsFollowed};
 ghost use Rattle.rel_travel.specs.Growing.{IsGrownBy};
 ghost use Rattle.ecs_model.specs.Reach.{IsLeast, IsReachedFrom};
 
@@ -44,12 +45,29 @@ pub fn gather_until<R: Rule, A: Allocator>(rule: &R, index: u32, found: &mut Fou
     ensures reached { IsTrue result ↔ IsReachedFrom (R.next rule.now) found.old.items index }
 {
     let mut done = 0;
+    go_on_until(rule, index, &mut done, found)
+}
+
+/// The same, where the first so many of the found have brought all that they bring. So a search goes on from where it ended.
+pub fn go_on_until<R: Rule, A: Allocator>(
+    rule: &R,
+    index: u32,
+    done: &mut usize,
+    found: &mut Found<A>,
+) -> bool
+    requires closed { (x : ℕ) → All (λ y. y < found.old.size) (R.next rule.now x) }
+    requires inside { index < found.old.size }
+    ensures size { found.new.size ≡ found.old.size }
+    ensures grows { done.old ≤ done.new }
+    ensures followed { (start : List ℕ) → IsFollowed (R.next rule.now) start found.old.items done.old → IsFollowed (R.next rule.now) start found.new.items done.new }
+    ensures reached { (start : List ℕ) → IsFollowed (R.next rule.now) start found.old.items done.old → (IsTrue result ↔ IsReachedFrom (R.next rule.now) start index) }
+{
     while !found.is_found(index) {
-        if found.len() <= done {
+        if found.len() <= *done {
             return false;
         }
-        rule.follow(found.at(done), found);
-        done += 1;
+        rule.follow(found.at(*done), found);
+        *done += 1;
     }
     true
 }

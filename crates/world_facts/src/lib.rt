@@ -15,7 +15,9 @@ use ecs_id::{EntityId, Id, TableKey};
 use ecs_model::built_ins::REFLEXIVE;
 use ecs_world::{Links, World};
 use plan_steps::Facts;
-use rel_travel::{Graph, Holders, Scratch, above, below, known_depth, pull, reaches};
+use rel_travel::{
+    Graph, Holders, Scratch, Ways, above, below, known_depth, known_reaches, pull, reaches,
+};
 use std::alloc::Allocator;
 use std::marker::Model;
 
@@ -163,6 +165,21 @@ impl<A: Allocator> Facts for WorldFacts<'_, A> {
         }
         // No pair has a source or a target that isn't live.
         source == target && self.has(relationship, Id::plain(REFLEXIVE))
+    }
+
+    fn known_reaches<B: Allocator, C: Allocator>(
+        &self,
+        relationship: u32,
+        source: u32,
+        target: u32,
+        ways: &mut Ways<C>,
+        scratch: &mut Scratch<B>,
+    ) -> bool {
+        let size = self.links.size();
+        if source < size && target < size {
+            return known_reaches(&self.links, relationship, source, target, ways, scratch);
+        }
+        self.reaches(relationship, source, target, scratch)
     }
 
     fn first_up<B: Allocator>(

@@ -104,10 +104,10 @@ asks_one t h =
 fixed : (t : Term) → asks_one_id t ≡ true → is_fixed t ≡ true
 fixed t h = and_from _ _ (name_is_fixed t.first (asks_one t h).first) (target_is_fixed t.target (asks_one t h).target)
 
-shared_term : (u : ℕ) (t : Term) → asks_one_id t ≡ true → is_shared_test u (term_test t) ≡ true
-shared_term u t h = ap (is_shared_test u) (asks_one t h).test ∙ and_from _ _ (name_is_other u t.first (asks_one t h).first) (target_is_other u t.target (asks_one t h).target)
+shared_term : (u : ℕ) (t : Term) → asks_one_id t ≡ true → is_shared_test u None (term_test t) ≡ true
+shared_term u t h = ap (is_shared_test u None) (asks_one t h).test ∙ and_from _ _ (name_is_other u t.first (asks_one t h).first) (target_is_other u t.target (asks_one t h).target)
 
-shared_terms : (u : ℕ) (ts : List Term) → list_all asks_one_id ts ≡ true → list_all (is_shared_test u) (map term_test ts) ≡ true
+shared_terms : (u : ℕ) (ts : List Term) → list_all asks_one_id ts ≡ true → list_all (is_shared_test u None) (map term_test ts) ≡ true
 shared_terms u [] h = refl
 shared_terms u (t ∷ ts) h =
     let both = and_parts (asks_one_id t) (list_all asks_one_id ts) h in

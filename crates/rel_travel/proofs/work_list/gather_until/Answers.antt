@@ -1,32 +1,5 @@
-use Rattle.std.proofs.Common.{◌≡◌, ◌<◌, ◌∙◌, false, length, rules, arith, refl, sym, true≢false}
-use Rattle.rel_travel.proofs.Growth.{is_among_tells}
-use Rattle.rel_travel.proofs.WorkLists.{IsFollowed-all, IsFollowed-more, IsFollowed-none}
+use Rattle.rel_travel.proofs.WorkLists.{IsFollowed-none}
 use Rattle.rel_travel.proofs.work_list.gather_until.Goals as goal
 
-pub loop-found-init : goal.loop-found-init
-loop-found-init g c = record { size = search rules; within = omega arith; followed = IsFollowed-none (g.R.Rule.next c.args.rule.now) c.args.found.now.items }
-
-pub loop-found-preserved : goal.loop-found-preserved
-loop-found-preserved g c =
-    let items = c.loop-found.found.items in
-    let l : c.loop-found.done < length items = omega (arith, c.len.ensures.count) in
-    record {
-      size = search rules;
-      within = omega (arith, c.follow.ensures.grown.longer);
-      followed = IsFollowed-more (g.R.Rule.next c.args.rule.now) c.args.found.now.items items c.follow.new.found.items c.loop-found.done 0 l c.loop-found.invariant.followed (rw (← c.at.ensures) c.follow.ensures.grown);
-    }
-
--- it is found
 pub returns-clause-reached : goal.returns-clause-reached
-returns-clause-reached g c =
-    let tells = is_among_tells c.loop-found.found.items c.args.index in
-    (λ h. c.loop-found.invariant.followed.sound c.args.index (tells.0 (sym c.is_found.ensures ∙ c.loop-found-test.false)), λ r. refl)
-
--- all was followed
-pub returns-then-len-done-clause-reached : goal.returns-then-len-done-clause-reached
-returns-then-len-done-clause-reached g c =
-    let items = c.loop-found.found.items in
-    let tells = is_among_tells items c.args.index in
-    let least = IsFollowed-all (g.R.Rule.next c.args.rule.now) c.args.found.now.items items c.loop-found.done (omega (arith, c.len.ensures.count)) c.loop-found.invariant.followed in
-    let lacks : c.is_found.result ≡ false = search rules in
-    (λ h. absurd (true≢false (sym h)), λ r. absurd (true≢false (sym (tells.1 ((least c.args.index).1 r)) ∙ sym c.is_found.ensures ∙ lacks)))
+returns-clause-reached g c = c.go_on_until.ensures.reached c.args.found.now.items (IsFollowed-none (g.R.Rule.next c.args.rule.now) c.args.found.now.items)
