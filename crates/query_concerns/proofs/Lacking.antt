@@ -1,23 +1,25 @@
 -- Who lacks what a query asks of `$this` itself is `$this` of no row.
 use Rattle.std.proofs.Common.{◌≡◌, ℕ, Bool, true, false, cond, inl, inr, List, [], ◌∷◌, refl, sym, ap, ◌∙◌, subst}
-use Rattle.std.specs.Prelude.{◌||◌, filter, map, Some}
+use Rattle.std.specs.Prelude.{◌&&◌, ◌||◌, filter, map, not, Some}
 use Rattle.std.specs.List.{list_any}
-use Rattle.std.proofs.lemmas.Bool.{and_parts, false≢true, not-true, or_cases, true≢false}
+use Rattle.std.proofs.lemmas.Bool.{and_parts, false≢true, not-true, or_cases, or_left, or_right, true≢false}
+use Rattle.ecs_id.specs.Id.{Id}
 use Rattle.ecs_model.specs.rows.Level.{Level, also, first_level, joined, open_levels, other_levels, top}
 use Rattle.ecs_model.specs.rows.Rows.{Assignment, fields_of_item, fields_of_term, hits, keeps_one, matches, shown}
 use Rattle.ecs_model.specs.rows.View.{View}
 use Rattle.ecs_model.proofs.Members.{any_passes, passing}
 use Rattle.query_model.specs.declared.query.Term.{Term}
 use Rattle.query_model.specs.Local.{asks_first}
-use Rattle.query_model.specs.Query.{Item, Piece, must, may, either, equal, differ, item, opening, closing}
+use Rattle.query_model.specs.Query.{Item, Piece, must, may, either, equal, differ, item, opening, closing, Query}
 use Rattle.query_meaning.proofs.Assignments.{at}
 use Rattle.query_meaning.proofs.Holding.{Holds}
-use Rattle.query_concerns.specs.Concerns.{may_match}
+use Rattle.query_concerns.specs.Concerns.{concerns, is_asked_by_all, item_concerns, may_match, piece_concerns}
 use Rattle.query_concerns.specs.Laws.{LackingMatchNothing}
 use Rattle.query_concerns.specs.OwnIds.{item_lacks, lacks, lacks_from}
-use Rattle.query_concerns.proofs.Holding.{any-map, at_each, matches_may, some, some-first, some-map}
+use Rattle.query_concerns.proofs.Holding.{any-map, at_each, by_match, matches_may, some, some-first, some-map}
 use Rattle.query_concerns.proofs.Living.{has-some, some-taken}
 use Rattle.query_concerns.proofs.This.{asked_itself, this_of}
+use Rattle.query_concerns.proofs.Within.{any_same}
 
 some-filter : {X : Type 0} (p : X → Bool) (xs : List X) → some (filter p xs) ≡ list_any p xs
 some-filter p [] = refl
@@ -65,6 +67,30 @@ module _ (w : View) (a : Assignment) (e : ℕ) (this : at a 0 ≡ Some e) where
       ]
   level_fails (opening from_term own ∷ ps) lack holds = false≢true lack
   level_fails (closing ∷ ps) lack holds = false≢true lack
+
+-- whether ids lack what is asked is told by those of them that concern the query
+pieces_lack_alike : (q : Query) (is js : List Id) → filter (concerns q) is ≡ filter (concerns q) js → (ps : List Piece) → ((i : Id) → list_any (piece_concerns i) ps ≡ true → concerns q i ≡ true)
+    → lacks_from is ps ≡ lacks_from js ps
+pieces_lack_alike q is js same [] covers = refl
+pieces_lack_alike q is js same (item x ∷ ps) covers =
+    let first = by x (λ i h. covers i (or_left (item_concerns i x) (list_any (piece_concerns i) ps) h)) in
+    let rest = pieces_lack_alike q is js same ps (λ i h. covers i (or_right (item_concerns i x) (list_any (piece_concerns i) ps) h)) in
+    λ k. first k || rest k
+  where
+    by : (x : Item) → ((i : Id) → item_concerns i x ≡ true → concerns q i ≡ true) → item_lacks is x ≡ item_lacks js x
+    by (must t) h =
+        let matched = any_same (concerns q) is js same (may_match t.first t.target) (λ i m. h i (by_match i t m)) in
+        λ k. asks_first t && not (matched k)
+    by (may t) h = refl
+    by (either ts) h = refl
+    by (equal u r) h = refl
+    by (differ u r) h = refl
+pieces_lack_alike q is js same (opening from_term own ∷ ps) covers = refl
+pieces_lack_alike q is js same (closing ∷ ps) covers = refl
+
+pub lacks_alike : (q : Query) (is js : List Id) → filter (concerns q) is ≡ filter (concerns q) js → lacks q is ≡ lacks q js
+unfolding lacks concerns
+lacks_alike q is js same = pieces_lack_alike q is js same q.pieces (λ i h. or_right (is_asked_by_all i) (list_any (piece_concerns i) q.pieces) h)
 
 pub lacking_match_nothing : LackingMatchNothing
 unfolding lacks top

@@ -4,6 +4,7 @@ pub mod Anchored
 pub mod Others
 pub mod OwnIds
 pub mod Tied
+pub mod Idle
 pub mod Linked
 pub mod FromLeft
 pub mod Laws

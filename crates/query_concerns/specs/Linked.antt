@@ -1,5 +1,5 @@
 -- Linked queries: each variable stands for somebody who has a pair in common with `$this`, or with whom a variable before it stands for.
-use Rattle.std.specs.Prelude.{◌≡◌, ℕ, ◌==◌, Bool, true, false, not, ◌&&◌, ◌||◌, nat_lt, Option, is_none}
+use Rattle.std.specs.Prelude.{◌≡◌, ℕ, ◌==◌, Bool, true, false, not, ◌&&◌, ◌||◌, nat_lt, List, Option, is_none}
 use Rattle.std.specs.List.{Contains, list_all, list_any}
 use Rattle.std.specs.Option.{option_map_or}
 use Rattle.ecs_id.specs.Id.{Id, pair}
@@ -12,6 +12,7 @@ use Rattle.query_model.specs.Query.{Item, must, may, either, equal, differ, Piec
 use Rattle.query_concerns.specs.Anchored.{is_variable, may_be_variable}
 use Rattle.query_concerns.specs.Bonds.{are_all_bound, has_directly}
 use Rattle.query_concerns.specs.Concerns.{concerns}
+use Rattle.query_concerns.specs.Idle.{is_idle}
 use Rattle.query_concerns.specs.Others.{term_concerns_others}
 use Rattle.query_concerns.specs.OwnIds.{is_no_variable}
 use Rattle.query_concerns.specs.Tied.{piece_asks_near}
@@ -73,7 +74,8 @@ piece_links_by i closing = false
 unfoldable pub links_others : Query → Id → Bool
 links_others q i = list_any (piece_links_by i) q.pieces
 
--- in a view, those are near with whom an entity holds a pair that concerns a query; and of two with a pair that links others both are near, or neither is
-pub record HasLinked (q : Query) (w : View) (e : ℕ) (near : ℕ → Bool) : Type 0 where
+-- in a view, those are near with whom an entity holds a pair that concerns a query; and of two with a pair that links others and isn't idle by ids among which are the holder's, both are near,
+-- or neither is
+pub record HasLinked (q : Query) (all : ℕ → List Id) (w : View) (e : ℕ) (near : ℕ → Bool) : Type 0 where
   pub held : (r x : ℕ) → Contains (w.ids e) (pair r x) → concerns q (pair r x) ≡ true → near x ≡ true
-  pub linked : (r x y : ℕ) → Contains (w.ids x) (pair r y) → links_others q (pair r y) ≡ true → near x ≡ near y
+  pub linked : (r x y : ℕ) → Contains (w.ids x) (pair r y) → links_others q (pair r y) ≡ true → is_idle q (all x) (pair r y) ≡ false → near x ≡ near y

@@ -4,6 +4,7 @@
 mod anchoring;
 mod bonds;
 mod concerning;
+mod idle;
 pub mod laws;
 mod linking;
 mod others;
@@ -12,6 +13,7 @@ mod ties;
 
 pub use anchoring::is_anchored;
 pub use concerning::concerns;
+pub use idle::is_idle;
 pub use linking::{is_linked, links_others};
 pub use others::{concerns_below, concerns_others};
 pub use own_ids::{lacks, meets};

@@ -24,7 +24,7 @@ use std::alloc::Allocator;
 pub fn is_linked<A: Allocator>(query: &Query<A>) -> bool
     ensures { result ≡ is_linked query.now }
 {
-    pieces_ask_near(query.pieces()) && are_all_bound(query, Bond::Link)
+    pieces_ask_near(query.pieces()) && are_all_bound(query, &Bond::Link)
 }
 
 /// Whether an item holds only where the entity of a variable has a pair in common with that of one before it.

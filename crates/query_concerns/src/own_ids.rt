@@ -54,7 +54,7 @@ fn item_lacks<A: Allocator>(item: &Item<A>, ids: &[Id]) -> bool
 }
 
 /// Whether a term may match one of these ids.
-fn any_matches(term: &Term, ids: &[Id]) -> bool
+pub(crate) fn any_matches(term: &Term, ids: &[Id]) -> bool
     ensures { result ≡ list_any (may_match term.now.first term.now.target) ids.now }
 {
     ids.iter().any(|id| may_match(term.first, term.target, *id))

@@ -22,7 +22,7 @@ use std::alloc::Allocator;
 pub fn is_tied<A: Allocator>(query: &Query<A>) -> bool
     ensures { result ≡ is_tied query.now }
 {
-    pieces_ask_near(query.pieces()) && are_all_bound(query, Bond::Tie)
+    pieces_ask_near(query.pieces()) && are_all_bound(query, &Bond::Tie)
 }
 
 pub(crate) fn pieces_ask_near<A: Allocator>(pieces: &[Piece<A>]) -> bool
