@@ -78,15 +78,16 @@ MONITORS = {
 ROWS = [500, 8_000, 64_000]
 
 
-def in_teams(count):
-    """A command on one of so many entities in teams of ten, where a monitor looks at all in the team of each leader."""
+def in_teams(leaders, count):
+    """A command on one of so many entities in teams of ten, or on one of their leaders, where a monitor looks at all in the team of each leader."""
     world = [f"entity {name}" for name in ("InTeam", "Leader", "Stunned")] + [f"entity T{number}" for number in range(count // 10)]
     for number in range(count):
         world += [f"entity E{number}", f"add E{number} (InTeam,T{number // 10})"] + [f"add E{number} Leader"] * (number % 10 == 0)
     world.append("monitor m Leader, (InTeam,$t), !{ InTeam($u,$t), Stunned($u), Leader($u) }")
     moves = []
     for number in range(COMMANDS // 2):
-        entity = f"E{number * 7919 % count}"
+        number = number * 7919 % count
+        entity = f"E{number - number % 10 if leaders else number}"
         moves += [f"add {entity} Stunned", f"remove {entity} Stunned"]
     return [(1, world + moves), (-1, world)], COMMANDS
 
@@ -126,7 +127,8 @@ DIFFERENCES = {
     "beside_many": beside_many,
 }
 DIFFERENCES.update((f"moved_{name}_{count}", partial(moving, text, count)) for name, text in MONITORS.items() for count in ROWS)
-DIFFERENCES.update((f"moved_team_{count}", partial(in_teams, count)) for count in ROWS)
+DIFFERENCES.update((f"moved_team_{count}", partial(in_teams, False, count)) for count in ROWS)
+DIFFERENCES.update((f"moved_leader_{count}", partial(in_teams, True, count)) for count in ROWS)
 
 
 def scripts(name):

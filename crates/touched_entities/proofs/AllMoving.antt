@@ -3,7 +3,7 @@
 use Rattle.std.specs.Prelude.{◌≡◌, ◌↔◌, ◌||◌, ℕ, Bool, true, false, cond, List, [], ◌∷◌, ◌++◌, filter, flat_map, map, if◌then◌else◌}
 use Rattle.std.specs.List.{Contains}
 use Rattle.std.proofs.Common.{refl, sym, ap, subst, ◌∙◌, arith}
-use Rattle.std.proofs.lemmas.Bool.{or_left, or_right, true≢false}
+use Rattle.std.proofs.lemmas.Bool.{not-true, or_left, or_right, true≢false}
 use Rattle.std.proofs.lemmas.List.Elements.{Contains-append_left, Contains-append_right}
 use Rattle.ecs_id.specs.Id.{Id, plain, pair}
 use Rattle.ecs_model.specs.Command.{Changed}
@@ -11,29 +11,38 @@ use Rattle.ecs_model.specs.World.{WorldState, Key}
 use Rattle.ecs_model.proofs.Members.{in_flat_map}
 use Rattle.query_model.specs.Query.{Query}
 use Rattle.query_concerns.specs.Concerns.{concerns}
+use Rattle.query_concerns.specs.Idle.{is_idle}
 use Rattle.query_concerns.specs.Linked.{links_others}
 use Rattle.query_concerns.specs.Others.{concerns_below, concerns_others}
 use Rattle.query_concerns.specs.Tied.{is_tied}
 use Rattle.touched_entities.specs.Leaning.{Adds, HasAllBelow, IsClosed, concerns_beyond, leaning, linked_with, target_of}
-use Rattle.touched_entities.specs.Moving.{AreLinked, AreMoving, AreTargets, any_by, entities_by, entities_of, targets_by}
-use Rattle.touched_entities.proofs.Covered.{links_concern_others}
+use Rattle.touched_entities.specs.Moving.{AreLinked, AreMoving, AreTargets, any_by, busy_among, entities_by, entities_of, ids_around, is_busy, targets_by}
+use Rattle.touched_entities.proofs.Covered.{busy_concern_others, links_concern_others}
 use Rattle.touched_entities.proofs.Grown.{still}
 
 module _ (q : Query) (w : WorldState) (changed : Changed) where
   pub linked_if_tied : (linked : List ℕ) → linked ≡ entities_of (concerns_others q) changed → is_tied q ≡ true → AreLinked q w changed linked
   linked_if_tied linked are tied = record {
-    others = λ x h. subst (λ (es : List ℕ). Contains es x) (sym are) h;
+    others = λ tied x h. subst (λ (es : List ℕ). Contains es x) (sym are) h;
+    busy = λ loose x h. absurd (true≢false (sym tied ∙ loose));
+    holders = λ loose x h. absurd (true≢false (sym tied ∙ loose));
     lost = λ loose x h. absurd (true≢false (sym tied ∙ loose));
     closed = λ loose x y h leads. absurd (true≢false (sym tied ∙ loose));
   }
 
-  pub all_linked : (gathered more start linked : List ℕ) → gathered ≡ entities_of (concerns_others q) changed → Adds (targets_by (links_others q) changed.went) gathered more
+  pub all_linked : (busy gathered more start linked : List ℕ) → is_tied q ≡ false → busy ≡ busy_among q w changed.went changed.came ++ busy_among q w changed.went changed.went
+      → gathered ≡ busy ++ entities_by (links_others q) changed.went → Adds (targets_by (links_others q) changed.went) gathered more
       → ((e : ℕ) → Contains start e ↔ Contains more e) → IsClosed (linked_with (links_others q) w) start linked → AreLinked q w changed linked
-  all_linked gathered more start linked are adds same closed = record {
-    others = λ x h. closed.begun x ((same x).1 (still (targets_by (links_others q) changed.went) gathered more adds x (subst (λ (es : List ℕ). Contains es x) (sym are) h)));
-    lost = λ loose x h. closed.begun x ((same x).1 (adds.all x h));
-    closed = λ loose x y h leads. closed.stepped x y h leads;
-  }
+  all_linked busy gathered more start linked loose are_busy are adds same closed =
+      let holders = entities_by (links_others q) changed.went in
+      let put = λ (x : ℕ) (h : Contains (busy ++ holders) x).
+      closed.begun x ((same x).1 (still (targets_by (links_others q) changed.went) gathered more adds x (subst (λ (es : List ℕ). Contains es x) (sym are) h))) in record {
+        others = λ tied x h. absurd (true≢false (sym tied ∙ loose));
+        busy = λ loose x h. put x (Contains-append_left busy holders x (subst (λ (es : List ℕ). Contains es x) (sym are_busy) h));
+        holders = λ loose x h. put x (Contains-append_right busy holders x h);
+        lost = λ loose x h. closed.begun x ((same x).1 (adds.all x h));
+        closed = λ loose x y h leads. closed.stepped x y h leads;
+      }
 
   pub all_targets : (linked below gathered targets : List ℕ) → AreLinked q w changed linked → HasAllBelow (concerns_beyond q) w (entities_of (concerns_below q) changed) below
       → gathered ≡ linked ++ below → ((e : ℕ) → Contains targets e ↔ Contains gathered e) → AreTargets q w changed targets
@@ -65,12 +74,15 @@ fails : (a b : Bool) → (a ≡ true → b ≡ true) → b ≡ false → a ≡ f
 fails true b wider e = absurd (true≢false (sym (wider refl) ∙ e))
 fails false b wider e = refl
 
-none_by : (p r : Id → Bool) → ((i : Id) → p i ≡ true → r i ≡ true) → (ks : List Key) → any_by r ks ≡ false → entities_by p ks ≡ []
-none_by p r wider [] e = refl
-none_by p r wider (k ∷ ks) e =
+none_with : (p : Key → Bool) (r : Id → Bool) → ((k : Key) → p k ≡ true → r k.1 ≡ true) → (ks : List Key) → any_by r ks ≡ false → map (λ (k : Key). k.0) (filter p ks) ≡ []
+none_with p r wider [] e = refl
+none_with p r wider (k ∷ ks) e =
     let parts = both_false (r k.1) (any_by r ks) e in
-    ap (λ b. map (λ (k : Key). k.0) (cond b (k ∷ filter (λ k. p k.1) ks) (filter (λ k. p k.1) ks))) (fails (p k.1) (r k.1) (wider k.1) parts.0)
-    ∙ none_by p r wider ks parts.1
+    ap (λ b. map (λ (k : Key). k.0) (cond b (k ∷ filter p ks) (filter p ks))) (fails (p k) (r k.1) (wider k) parts.0)
+    ∙ none_with p r wider ks parts.1
+
+none_by : (p r : Id → Bool) → ((i : Id) → p i ≡ true → r i ≡ true) → (ks : List Key) → any_by r ks ≡ false → entities_by p ks ≡ []
+none_by p r wider = none_with (λ k. p k.1) r (λ k. wider k.1)
 
 none_of : (p r : Id → Bool) → ((i : Id) → p i ≡ true → r i ≡ true) → (changed : Changed) → (any_by r changed.came || any_by r changed.went) ≡ false → entities_of p changed ≡ []
 none_of p r wider changed e =
@@ -92,7 +104,13 @@ no_targets : (q : Query) (w : WorldState) (changed : Changed) → (any_by (conce
 no_targets q w changed none = record {
   linked = [];
   are_linked = record {
-    others = λ x h. subst (λ (es : List ℕ). Contains es x) (none_of (concerns_others q) (concerns_beyond q) (λ i t. or_right (concerns_below q i) (concerns_others q i) t) changed none) h;
+    others = λ tied x h. subst (λ (es : List ℕ). Contains es x) (none_of (concerns_others q) (concerns_beyond q) (λ i t. or_right (concerns_below q i) (concerns_others q i) t) changed none) h;
+    busy = λ loose x h.
+        let nobody = both_false (any_by (concerns_beyond q) changed.came) (any_by (concerns_beyond q) changed.went) none in
+        subst (λ (es : List ℕ). Contains es x) (λ j. busy_none changed.came nobody.0 j ++ busy_none changed.went nobody.1 j) h;
+    holders = λ loose x h. subst (λ (es : List ℕ). Contains es x)
+        (none_by (links_others q) (concerns_beyond q) (λ i t. or_right (concerns_below q i) (concerns_others q i) (links_concern_others q i t)) changed.went
+        (both_false (any_by (concerns_beyond q) changed.came) (any_by (concerns_beyond q) changed.went) none).1) h;
     lost = λ loose x h. subst (λ (es : List ℕ). Contains es x)
         (none_to (links_others q) (concerns_beyond q) (λ i t. or_right (concerns_below q i) (concerns_others q i) (links_concern_others q i t)) changed.went
         (both_false (any_by (concerns_beyond q) changed.came) (any_by (concerns_beyond q) changed.went) none).1) h;
@@ -103,6 +121,10 @@ no_targets q w changed none = record {
       let nobody : Contains [] x = subst (λ (es : List ℕ). Contains es x) (none_of (concerns_below q) (concerns_beyond q) (λ i t. or_left (concerns_below q i) (concerns_others q i) t) changed none) h in
       absurd (omega (arith, nobody.1));
 }
+  where
+    busy_none : (ks : List Key) → any_by (concerns_beyond q) ks ≡ false → busy_among q w changed.went ks ≡ []
+    busy_none = none_with (is_busy q w changed.went) (concerns_beyond q)
+        (λ k h. or_right (concerns_below q k.1) (concerns_others q k.1) (busy_concern_others q (ids_around w changed.went k.0) k.1 (not-true (is_idle q (ids_around w changed.went k.0) k.1) h)))
 
 -- so those whose own facts came or went are all who may have moved
 pub own_move : (q : Query) (w : WorldState) (changed : Changed) (own : List ℕ) → ((e : ℕ) → Contains own e ↔ Contains (entities_of (concerns q) changed) e)

@@ -1,13 +1,15 @@
 -- Which ids concern a query for others, or for those below, concern it.
-use Rattle.std.specs.Prelude.{◌≡◌, ◌==◌, Bool, true, List}
+use Rattle.std.specs.Prelude.{◌≡◌, ◌==◌, Bool, true, false, not, ◌||◌, List}
 use Rattle.std.specs.List.{list_any}
-use Rattle.std.proofs.Common.{inl, inr}
-use Rattle.std.proofs.lemmas.Bool.{and_parts, false≢true, or_left, or_right}
+use Rattle.std.proofs.Common.{inl, inr, refl}
+use Rattle.std.proofs.lemmas.Bool.{and_parts, false≢true, or_left, or_right, true≢false}
 use Rattle.ecs_id.specs.Id.{Id, plain, pair}
 use Rattle.ecs_model.specs.BuiltIns.{transitive, reflexive}
 use Rattle.ecs_model.proofs.Members.{any_passes, from_or, passing}
 use Rattle.query_model.specs.Query.{Item, must, may, either, equal, differ, Piece, item, opening, closing, Query}
 use Rattle.query_concerns.specs.Concerns.{concerns, is_asked_by_all, item_concerns, piece_concerns, term_concerns}
+use Rattle.query_concerns.specs.Bonds.{are_all_bound}
+use Rattle.query_concerns.specs.Idle.{is_idle, is_idle_for}
 use Rattle.query_concerns.specs.Linked.{item_links_by, links_others, piece_links_by, term_links_by}
 use Rattle.query_concerns.specs.Others.{concerns_below, concerns_others, item_concerns_below, item_concerns_others, piece_concerns_below, piece_concerns_others, says_how_far, term_concerns_below, term_concerns_others}
 
@@ -56,6 +58,15 @@ others_concern q i h = elim (from_or (says_how_far i) _ h) [
 pub below_concern : (q : Query) (i : Id) → concerns_below q i ≡ true → concerns q i ≡ true
 unfolding concerns concerns_below
 below_concern q i h = or_right (is_asked_by_all i) (list_any (piece_concerns i) q.pieces) (any_wider (piece_concerns_below i) (piece_concerns i) (piece_of_below i) q.pieces h)
+
+-- what isn't idle does
+pub busy_concern_others : (q : Query) (ids : List Id) (i : Id) → is_idle q ids i ≡ false → concerns_others q i ≡ true
+unfolding is_idle
+busy_concern_others q ids i h = by (concerns_others q i) h
+  where
+    by : (b : Bool) → (not b || are_all_bound (is_idle_for ids i q.pieces) q) ≡ false → b ≡ true
+    by true k = refl
+    by false k = absurd (true≢false k)
 
 -- what links others concerns them
 links_item : (i : Id) (x : Item) → item_links_by i x ≡ true → item_concerns_others i x ≡ true

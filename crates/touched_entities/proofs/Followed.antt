@@ -1,6 +1,6 @@
 -- Who isn't among those that may have moved stays as before: no fact that concerns the query came or went of its own, nor one that concerns others of somebody with whom it holds a pair,
--- nor one that concerns those below of somebody above it. Of a linked query no fact that concerns others came or went of any with whom it is linked, before or after.
-use Rattle.std.specs.Prelude.{◌≡◌, ◌↔◌, ℕ, suc, ◌==◌, Bool, true, false, not, ◌&&◌, ◌||◌, List, [], ◌∷◌, filter, length, Some, None, is_some, if◌then◌else◌}
+-- nor one that concerns those below of somebody above it. Of a linked query no fact that may move others came or went of any with whom it is linked, before or after.
+use Rattle.std.specs.Prelude.{◌≡◌, ◌↔◌, ℕ, suc, ◌==◌, Bool, true, false, not, ◌&&◌, ◌||◌, List, [], ◌∷◌, ◌++◌, filter, length, map, Some, None, is_some, if◌then◌else◌}
 use Rattle.std.specs.List.{Contains, list_any}
 use Rattle.std.proofs.Common.{refl, sym, ap, subst, ◌∙◌, inl, inr, arith, cond, true≢false}
 use Rattle.std.proofs.lemmas.Option.{same_Some}
@@ -24,6 +24,7 @@ use Rattle.component_index.specs.Patterns.{matches}
 use Rattle.query_model.specs.Query.{Query}
 use Rattle.query_meaning.specs.Sound.{IsSound}
 use Rattle.query_concerns.specs.Concerns.{concerns}
+use Rattle.query_concerns.specs.Idle.{is_idle}
 use Rattle.query_concerns.specs.Linked.{HasLinked, is_linked, links_others}
 use Rattle.query_concerns.specs.Others.{concerns_below, concerns_others}
 use Rattle.query_concerns.specs.Tied.{is_tied}
@@ -35,8 +36,8 @@ use Rattle.watch_meaning.specs.Since.{IsAfter}
 use Rattle.touched_entities.specs.Before.{view_before}
 use Rattle.touched_entities.specs.Laws.{OthersThanMovingStay}
 use Rattle.touched_entities.specs.Leaning.{concerns_beyond, leaning, leans, pairs_to, target_of, targets_at}
-use Rattle.touched_entities.specs.Moving.{AreMoving, any_concerns_others, entities_by, entities_of, is_followed}
-use Rattle.touched_entities.proofs.Covered.{below_concern, links_concern_others, others_concern}
+use Rattle.touched_entities.specs.Moving.{AreMoving, any_concerns_others, busy_among, entities_by, entities_of, ids_around, is_busy, is_followed}
+use Rattle.touched_entities.proofs.Covered.{below_concern, busy_concern_others, others_concern}
 use Rattle.touched_entities.proofs.IdsBefore.{is_among, same_held}
 use Rattle.touched_entities.proofs.Rising.{ids_rise, keys_rise, one_list}
 use Rattle.touched_entities.proofs.Unconcerned.{queries_matched_before}
@@ -73,10 +74,10 @@ to_pair r x (pair q t) h = by (q == r) refl h
     by false same k = absurd (false≢true (ap is_some k))
 
 -- whoever isn't listed by a test has no fact among these whose id passes it
-unlisted : (p : Id → Bool) (ks : List Key) (x : ℕ) → (Contains (entities_by p ks) x → ⊥) → (i : Id) → p i ≡ true → list_any (key_eq (x, i)) ks ≡ false
+unlisted : (p : Key → Bool) (ks : List Key) (x : ℕ) → (Contains (map (λ k. k.0) (filter p ks)) x → ⊥) → (i : Id) → p (x, i) ≡ true → list_any (key_eq (x, i)) ks ≡ false
 unlisted p ks x none i h =
     refuted (list_any (key_eq (x, i)) ks)
-    (λ t. none (in_map (λ (k : Key). k.0) (filter (λ k. p k.1) ks) (x, i) ((filtered (λ k. p k.1) ks (x, i)).1 (is_among ks (x, i) t, h))))
+    (λ t. none (in_map (λ (k : Key). k.0) (filter p ks) (x, i) ((filtered p ks (x, i)).1 (is_among ks (x, i) t, h))))
 
 -- whoever holds something that hasn't gone holds it still
 lasting : (now before : Bool) → before ≡ true → (not now && before) ≡ false → now ≡ true
@@ -115,9 +116,32 @@ module _ (v : WorldState) (changed : Changed) (kept_now : IsWellFormed v) (after
       let went = entities_by p changed.went in
       filter_twice p r (ids_of after.before x)
       ∙ passing_stay (λ i. r i && p i) x
-      (λ i h. unlisted p changed.came x (λ m. none (Contains-append_left came went x m)) i (and_parts _ _ h).1)
-      (λ i h. unlisted p changed.went x (λ m. none (Contains-append_right came went x m)) i (and_parts _ _ h).1)
+      (λ i h. unlisted (λ k. p k.1) changed.came x (λ m. none (Contains-append_left came went x m)) i (and_parts _ _ h).1)
+      (λ i h. unlisted (λ k. p k.1) changed.went x (λ m. none (Contains-append_right came went x m)) i (and_parts _ _ h).1)
       ∙ sym (filter_twice p r (ids_of v x))
+
+  -- who has no fact among those that came or went that may move others holds the same of ids that aren't idle for it
+  unmoved_stay : (q : Query) (r : Id → Bool) (x : ℕ) → (Contains (busy_among q v changed.went changed.came ++ busy_among q v changed.went changed.went) x → ⊥)
+      → filter (λ i. not (is_idle q (ids_around v changed.went x) i)) (filter r (ids_of after.before x)) ≡ filter (λ i. not (is_idle q (ids_around v changed.went x) i)) (filter r (ids_of v x))
+  unmoved_stay q r x none =
+      let p = λ (i : Id). not (is_idle q (ids_around v changed.went x) i) in
+      let came = busy_among q v changed.went changed.came in
+      let went = busy_among q v changed.went changed.went in
+      filter_twice p r (ids_of after.before x)
+      ∙ passing_stay (λ i. r i && p i) x
+      (λ i h. unlisted (is_busy q v changed.went) changed.came x (λ m. none (Contains-append_left came went x m)) i (and_parts _ _ h).1)
+      (λ i h. unlisted (is_busy q v changed.went) changed.went x (λ m. none (Contains-append_right came went x m)) i (and_parts _ _ h).1)
+      ∙ sym (filter_twice p r (ids_of v x))
+
+  -- what an entity held before it holds now, or a fact of that has gone
+  around_before : (x : ℕ) (i : Id) → Contains (ids_of after.before x) i → Contains (ids_around v changed.went x) i
+  around_before x i h = elim (cases_Bool (list_any (key_eq (x, i)) changed.went)) [
+    | inl gone ↦ Contains-append_right (ids_of v x) (map (λ (k : Key). k.1) changed.went) i (in_map (λ (k : Key). k.1) changed.went (x, i) (is_among changed.went (x, i) gone))
+    | inr lasts ↦
+        let was = listed_held after.before x i h in
+        let gone = has_gone after.before v after.command changed after.kept after.stepped (x, i) in
+        Contains-append_left (ids_of v x) (map (λ (k : Key). k.1) changed.went) i (held_listed v x i (lasting (holds v x i) (holds after.before x i) was (sym gone ∙ lasts)))
+  ]
 
   module _ (q : Query) (sound : IsSound q) (followed : is_followed q changed ≡ true) (es : List ℕ) (all : AreMoving q v changed es) (e : ℕ) (apart : Contains es e → ⊥) where
     -- ---- what matters for the entity: of its own ids those that concern the query, of others' ids those that do so for somebody else
@@ -164,23 +188,26 @@ module _ (v : WorldState) (changed : Changed) (kept_now : IsWellFormed v) (after
     record AreAlike (w u : View) : Type 0 where
       own : filter (concerns q) (w.ids e) ≡ filter (concerns q) (u.ids e)
       above : (r x : ℕ) → Contains (line u.ids u.entities r e) x → filter (concerns_below q) (w.ids x) ≡ filter (concerns_below q) (u.ids x)
-      held : (r x : ℕ) → Contains (u.ids e) (pair r x) → concerns q (pair r x) ≡ true → filter (concerns_others q) (w.ids x) ≡ filter (concerns_others q) (u.ids x)
+      held : is_tied q ≡ true → (r x : ℕ) → Contains (u.ids e) (pair r x) → concerns q (pair r x) ≡ true → filter (concerns_others q) (w.ids x) ≡ filter (concerns_others q) (u.ids x)
       near : ℕ → Bool
       here : near e ≡ true
-      known : (x : ℕ) → near x ≡ true → filter (concerns_others q) (w.ids x) ≡ filter (concerns_others q) (u.ids x)
-      linked : is_tied q ≡ false → HasLinked q w e near × HasLinked q u e near
+      all_ids : ℕ → List Id
+      all_first : (x : ℕ) (i : Id) → Contains (w.ids x) i → Contains (all_ids x) i
+      all_then : (x : ℕ) (i : Id) → Contains (u.ids x) i → Contains (all_ids x) i
+      known : is_tied q ≡ false → (x : ℕ) → near x ≡ true → filter (λ i. not (is_idle q (all_ids x) i)) (w.ids x) ≡ filter (λ i. not (is_idle q (all_ids x) i)) (u.ids x)
+      linked : is_tied q ≡ false → HasLinked q all_ids w e near × HasLinked q all_ids u e near
       others : any_concerns_others q changed.came ≡ false → any_concerns_others q changed.went ≡ false → (x : ℕ) → filter (concerns_others q) (w.ids x) ≡ filter (concerns_others q) (u.ids x)
 
     match_alike : (w u : View) → AreLinks (suc last_index) w.entities w.ids → AreLinks (suc last_index) u.entities u.ids → AreAlike w u → Contains (matching w q) e ↔ Contains (matching u q) e
     match_alike w u links links' same =
         let parts = and_parts _ _ followed in
         elim (cases_Bool (is_tied q)) [
-          | inl tied ↦ match_by_ties (suc last_index) (suc last_index) w u q links links' sound parts.0 tied e same.own same.above same.held
+          | inl tied ↦ match_by_ties (suc last_index) (suc last_index) w u q links links' sound parts.0 tied e same.own same.above (same.held tied)
           | inr loose ↦ elim (from_or (is_tied q || is_linked q) _ parts.1) [
             | inl bound ↦
                 let near = same.linked loose in
                 match_by_links (suc last_index) (suc last_index) w u q links links' sound parts.0 (ap (λ b. b || is_linked q) (sym loose) ∙ bound) e same.own same.above
-                same.near same.here near.0 near.1 same.known
+                same.all_ids same.all_first same.all_then same.near same.here near.0 near.1 (same.known loose)
             | inr none ↦
                 let both = and_parts _ _ none in
                 match_by_own_facts (suc last_index) (suc last_index) w u q links links' sound parts.0
@@ -189,19 +216,23 @@ module _ (v : WorldState) (changed : Changed) (kept_now : IsWellFormed v) (after
         ]
 
     -- all may be near
-    all_near : (u : View) → HasLinked q u e (λ x. true)
-    all_near u = record { held = λ r x h concerned. refl; linked = λ r x y h by. refl }
+    all_near : (all_ids : ℕ → List Id) (u : View) → HasLinked q all_ids u e (λ x. true)
+    all_near all_ids u = record { held = λ r x h concerned. refl; linked = λ r x y h by busy. refl }
 
     -- what doesn't matter makes no difference
     match_seen : (w : WorldState) → IsWellFormed w → Contains (matching (view_of w) q) e ↔ Contains (matching (seen w) q) e
     match_seen w kept = match_alike (view_of w) (seen w) (are_links w kept) (seen_links w kept) (record {
       own = filter_within (concerns q) (matters e) (λ i h. matters_itself i ∙ h) (ids_of w e);
       above = λ r x there. filter_within (concerns_below q) (matters x) (below_matters x) (ids_of w x);
-      held = λ r x there concerned. filter_within (concerns_others q) (matters x) (others_matter x) (ids_of w x);
+      held = λ tied r x there concerned. filter_within (concerns_others q) (matters x) (others_matter x) (ids_of w x);
       near = λ x. true;
       here = refl;
-      known = λ x near. filter_within (concerns_others q) (matters x) (others_matter x) (ids_of w x);
-      linked = λ loose. (all_near (view_of w), all_near (seen w));
+      all_ids = ids_of w;
+      all_first = λ x i h. h;
+      all_then = λ x i h. ((filtered (matters x) (ids_of w x) i).0 h).0;
+      known = λ loose x near. filter_within (λ i. not (is_idle q (ids_of w x) i)) (matters x)
+          (λ i h. others_matter x i (busy_concern_others q (ids_of w x) i (not-true (is_idle q (ids_of w x) i) h))) (ids_of w x);
+      linked = λ loose. (all_near (ids_of w) (view_of w), all_near (ids_of w) (seen w));
       others = λ came went x. filter_within (concerns_others q) (matters x) (others_matter x) (ids_of w x);
     })
 
@@ -299,9 +330,9 @@ module _ (v : WorldState) (changed : Changed) (kept_now : IsWellFormed v) (after
         | inl gone ↦
             let are = (all.are_targets).are_linked in
             let fact = is_among changed.went (x, pair r y) gone in
-            let test = λ (k : Key). concerns_others q k.1 in
-            let listed = in_map (λ (k : Key). k.0) (filter test changed.went) (x, pair r y) ((filtered test changed.went (x, pair r y)).1 (fact, links_concern_others q (pair r y) by)) in
-            let holder = are.others x (Contains-append_right (entities_by (concerns_others q) changed.came) (entities_by (concerns_others q) changed.went) x listed) in
+            let test = λ (k : Key). links_others q k.1 in
+            let listed = in_map (λ (k : Key). k.0) (filter test changed.went) (x, pair r y) ((filtered test changed.went (x, pair r y)).1 (fact, by)) in
+            let holder = are.holders loose x listed in
             let target = are.lost loose y (in_flat_map (λ (k : Key). target_of (links_others q) k.1) changed.went (x, pair r y) y fact (its_target (links_others q) r y by)) in
             is_far x holder ∙ sym (is_far y target)
         | inr lasts ↦
@@ -310,19 +341,19 @@ module _ (v : WorldState) (changed : Changed) (kept_now : IsWellFormed v) (after
             linked_now (held_listed v x (pair r y) (lasting (holds v x (pair r y)) (holds after.before x (pair r y)) was (sym gone ∙ lasts)))
       ]
 
-    near_before : is_tied q ≡ false → HasLinked q (seen after.before) e is_near
+    near_before : is_tied q ≡ false → HasLinked q (ids_around v changed.went) (seen after.before) e is_near
     near_before loose = record {
       held = λ r x h concerned.
           let here = (filtered (concerns q) (filter (matters e) (ids_of after.before e)) (pair r x)).1 (h, concerned) in
           let there = (filtered (concerns q) (filter (matters e) (ids_of v e)) (pair r x)).0 (subst (λ is. Contains is (pair r x)) own_stay here) in
           held_near r x ((filtered (matters e) (ids_of v e) (pair r x)).0 there.0).0 concerned;
-      linked = λ r x y h by. linked_before loose r x y by ((filtered (matters x) (ids_of after.before x) (pair r y)).0 h).0;
+      linked = λ r x y h by busy. linked_before loose r x y by ((filtered (matters x) (ids_of after.before x) (pair r y)).0 h).0;
     }
 
-    near_now : is_tied q ≡ false → HasLinked q (seen v) e is_near
+    near_now : is_tied q ≡ false → HasLinked q (ids_around v changed.went) (seen v) e is_near
     near_now loose = record {
       held = λ r x h concerned. held_near r x ((filtered (matters e) (ids_of v e) (pair r x)).0 h).0 concerned;
-      linked = λ r x y h by. linked_now loose r x y by ((filtered (matters x) (ids_of v x) (pair r y)).0 h).0;
+      linked = λ r x y h by busy. linked_now loose r x y by ((filtered (matters x) (ids_of v x) (pair r y)).0 h).0;
     }
 
     seen_alike : AreAlike (seen after.before) (seen v)
@@ -332,14 +363,17 @@ module _ (v : WorldState) (changed : Changed) (kept_now : IsWellFormed v) (after
           (λ h.
           let low = leans_below r x (line_chain (up r) (length (entities v)) e x there) in
           apart (all.held low.0 e ((all.are_targets).below x low.0 h low.1) low.2));
-      held = λ r x there concerned. unlisted_stay (matters x) (concerns_others q) x
+      held = λ tied r x there concerned. unlisted_stay (matters x) (concerns_others q) x
           (λ h.
           let f = (filtered (matters e) (ids_of v e) (pair r x)).0 there in
           let held = (filtered (concerns q) (ids_of v e) (pair r x)).1 (f.0, concerned) in
-          apart (all.held x e ((all.are_targets).among x (((all.are_targets).are_linked).others x h)) (holder_leans (concerns q) e r x held)));
+          apart (all.held x e ((all.are_targets).among x (((all.are_targets).are_linked).others tied x h)) (holder_leans (concerns q) e r x held)));
       near = is_near;
       here = itself_near;
-      known = λ x near. unlisted_stay (matters x) (concerns_others q) x (λ h. stays_out x near (((all.are_targets).are_linked).others x h));
+      all_ids = ids_around v changed.went;
+      all_first = λ x i h. around_before x i ((filtered (matters x) (ids_of after.before x) i).0 h).0;
+      all_then = λ x i h. Contains-append_left (ids_of v x) (map (λ (k : Key). k.1) changed.went) i ((filtered (matters x) (ids_of v x) i).0 h).0;
+      known = λ loose x near. unmoved_stay q (matters x) x (λ h. stays_out x near (((all.are_targets).are_linked).busy loose x h));
       linked = λ loose. (near_before loose, near_now loose);
       others = all_others_stay;
     }

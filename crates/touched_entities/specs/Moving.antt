@@ -1,5 +1,5 @@
 -- Who may move in or out of a query's rows by a command, and what is told of them but for those who have to be asked.
-use Rattle.std.specs.Prelude.{◌≡◌, ◌⊎◌, ◌↔◌, ℕ, Bool, false, not, ◌&&◌, ◌||◌, List, ◌++◌, filter, flat_map, map}
+use Rattle.std.specs.Prelude.{◌≡◌, ◌⊎◌, ◌↔◌, ℕ, Bool, true, false, not, ◌&&◌, ◌||◌, List, ◌++◌, filter, flat_map, map}
 use Rattle.std.specs.List.{Contains, list_any}
 use Rattle.std.specs.List.Sorted.{IsStrictlyIncreasing}
 use Rattle.ecs_id.specs.Id.{Id}
@@ -9,6 +9,7 @@ use Rattle.ecs_model.specs.rows.View.{view_of}
 use Rattle.ecs_model.specs.stored.Watches.{matching}
 use Rattle.query_concerns.specs.Anchored.{is_anchored}
 use Rattle.query_concerns.specs.Concerns.{concerns}
+use Rattle.query_concerns.specs.Idle.{is_idle}
 use Rattle.query_concerns.specs.Linked.{is_linked, links_others}
 use Rattle.query_concerns.specs.Others.{concerns_below, concerns_others}
 use Rattle.query_concerns.specs.OwnIds.{lacks, meets}
@@ -33,6 +34,18 @@ any_by p ks = list_any (λ k. p k.1) ks
 abbrev pub targets_by : (Id → Bool) → List Key → List ℕ
 targets_by p ks = flat_map (λ k. target_of p k.1) ks
 
+-- the ids that an entity holds, and those of facts that went
+abbrev pub ids_around : WorldState → List Key → ℕ → List Id
+ids_around w went x = ids_of w x ++ map (λ k. k.1) went
+
+-- whether a fact may move others than its holder in or out of a linked query's rows
+abbrev pub is_busy : Query → WorldState → List Key → Key → Bool
+is_busy q w went k = not (is_idle q (ids_around w went k.0) k.1)
+
+-- the entities of such facts among these
+abbrev pub busy_among : Query → WorldState → List Key → List Key → List ℕ
+busy_among q w went ks = map (λ k. k.0) (filter (is_busy q w went) ks)
+
 -- whether one of these facts concerns a query for others than its own entity and those below that
 abbrev pub any_concerns_others : Query → List Key → Bool
 any_concerns_others q ks = list_any (λ k. concerns_others q k.1) ks
@@ -42,10 +55,12 @@ abbrev pub is_followed : Query → Changed → Bool
 is_followed q changed = is_anchored q && (is_tied q || is_linked q || (not (any_concerns_others q changed.came) && not (any_concerns_others q changed.went)))
 
 module _ (q : Query) (w : WorldState) where
-  -- among these are those of whom a fact that concerns others came or went. Of a query that isn't tied the targets of what went and linked others are too,
-  -- and with each of them all who are linked with it now
+  -- among these are those of whom a fact that concerns others came or went. Of a query that isn't tied they are those of whom a fact came or went that may move others, the holders and the targets
+  -- of what went and linked others, and with each of them all who are linked with it now
   pub record AreLinked (changed : Changed) (xs : List ℕ) : Type 0 where
-    pub others : (x : ℕ) → Contains (entities_of (concerns_others q) changed) x → Contains xs x
+    pub others : is_tied q ≡ true → (x : ℕ) → Contains (entities_of (concerns_others q) changed) x → Contains xs x
+    pub busy : is_tied q ≡ false → (x : ℕ) → Contains (busy_among q w changed.went changed.came ++ busy_among q w changed.went changed.went) x → Contains xs x
+    pub holders : is_tied q ≡ false → (x : ℕ) → Contains (entities_by (links_others q) changed.went) x → Contains xs x
     pub lost : is_tied q ≡ false → (x : ℕ) → Contains (targets_by (links_others q) changed.went) x → Contains xs x
     pub closed : is_tied q ≡ false → (x y : ℕ) → Contains xs x → Contains (linked_with (links_others q) w x) y → Contains xs y
 

@@ -8,7 +8,7 @@ ghost use Rattle.touched_entities.specs.Bonds.{bonds_of};
 ghost use Rattle.query_concerns.specs.Concerns.{concerns};
 ghost use Rattle.query_concerns.specs.Others.{concerns_below};
 ghost use Rattle.touched_entities.specs.Leaning.{HasAllBelow, concerns_beyond, concerns_for};
-ghost use Rattle.touched_entities.specs.Moving.{AreLinked, AreMoving, AreTargets, TellsMoved, any_by, any_concerns_others, entities_by, entities_of, is_followed, is_open, is_sure};
+ghost use Rattle.touched_entities.specs.Moving.{AreLinked, AreMoving, AreTargets, TellsMoved, any_by, any_concerns_others, busy_among, entities_by, entities_of, is_followed, is_open, is_sure};
 ghost use Rattle.watch_meaning.specs.Since.{IsAfter};
 
 use crate::Bonds;
@@ -20,7 +20,7 @@ use crate::whom::{Whom, concerns_for};
 use ecs_model::FactKey;
 use ecs_world::{Changes, World};
 use query_check::Query;
-use query_concerns::{concerns_others, lacks, meets};
+use query_concerns::{concerns_others, is_idle, lacks, meets};
 use short_list::ShortList;
 use std::alloc::{AllocError, Allocator};
 
@@ -225,8 +225,8 @@ fn below<A: Allocator + Copy, B: Allocator>(
     Ok(Some(below))
 }
 
-/// All of whom a fact that concerns others came or went. Of a query that isn't tied, those with whom they had a pair in common that went too, and all
-/// who are linked with one of these, from pair to pair, unless they may be too many.
+/// All of whom a fact that concerns others came or went. Of a query that isn't tied, those of whom one did that may move others, those who had a pair in
+/// common that went, and all who are linked with one of these, from pair to pair, unless they may be too many.
 fn linked<A: Allocator + Copy, B: Allocator>(
     alloc: A,
     query: &Query<B>,
@@ -238,11 +238,15 @@ fn linked<A: Allocator + Copy, B: Allocator>(
     ensures { IfOk result (λ found. IfSome found (λ linked. AreLinked query.now world.now.state changes.now linked.items)) }
 {
     let mut linked = ShortList::new();
-    push_entities(alloc, query, Whom::Others, changes, &mut linked)?;
     if bonds.tied {
+        push_entities(alloc, query, Whom::Others, changes, &mut linked)?;
         return Ok(Some(linked));
     }
-    push_targets(alloc, query, changes.went(), &mut linked)?;
+    let went = changes.went();
+    push_busy(alloc, query, world, went, changes.came(), &mut linked)?;
+    push_busy(alloc, query, world, went, went, &mut linked)?;
+    push_entities_by(alloc, query, Whom::Linked, went, &mut linked)?;
+    push_targets(alloc, query, went, &mut linked)?;
     put_in_order(&mut linked);
     if !push_all_linked(alloc, query, world, &mut linked)? {
         return Ok(None);
@@ -277,6 +281,27 @@ fn push_entities_by<A: Allocator + Copy, B: Allocator>(
     for fact in facts {
         if concerns_for(query, whom, fact.id()) {
             found.push(alloc, fact.entity())?;
+        }
+    }
+    Ok(())
+}
+
+/// Adds the entities of those facts that may move others, where these facts went: whose holder has, or had, what else the query asks of somebody whom it
+/// might stand for.
+fn push_busy<A: Allocator + Copy, B: Allocator>(
+    alloc: A,
+    query: &Query<B>,
+    world: &World<A>,
+    went: &[FactKey],
+    facts: &[FactKey],
+    found: &mut ShortList<A>,
+) -> Result<(), AllocError>
+    ensures { OnOk result (found.new.items ≡ found.old.items ++ busy_among query.now world.now.state went.now facts.now) }
+{
+    for fact in facts {
+        let entity = fact.entity();
+        if !is_idle(query, ids_at(world, entity), went, fact.id()) {
+            found.push(alloc, entity)?;
         }
     }
     Ok(())

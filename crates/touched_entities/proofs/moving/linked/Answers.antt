@@ -4,7 +4,7 @@ use Rattle.ecs_model.specs.World.{Key}
 use Rattle.query_concerns.specs.Linked.{links_others}
 use Rattle.query_concerns.specs.Others.{concerns_others}
 use Rattle.touched_entities.specs.Leaning.{Adds}
-use Rattle.touched_entities.specs.Moving.{entities_of, targets_by}
+use Rattle.touched_entities.specs.Moving.{busy_among, entities_by, entities_of, targets_by}
 use Rattle.touched_entities.proofs.AllMoving.{all_linked, linked_if_tied}
 use Rattle.touched_entities.proofs.moving.linked.Goals as goal
 
@@ -18,8 +18,12 @@ returns-then-bonds g c =
 pub returns : goal.returns
 returns g c =
     let q = c.args.query.now in
+    let w = c.args.world.now.state in
     let changed = c.args.changes.now in
-    let gathered = c.in_ok-push_entities.ensures ∙ (λ i. c.new-linked.ensures i ++ entities_of (concerns_others q) changed) in
-    let lost = subst (λ (ks : List Key). Adds (targets_by (links_others q) ks) c.push_entities.new.found.items c.push_targets.new.found.items) c.went.ensures c.in_ok-push_targets.ensures in
-    all_linked q c.args.world.now.state changed c.push_entities.new.found.items c.push_targets.new.found.items c.put_in_order.new.indexes.items c.push_all_linked.new.found.items
-    gathered lost c.put_in_order.ensures.same (c.in_ok-push_all_linked.ensures c.if-not-branch.false)
+    let went = c.went-went.ensures in
+    let first = c.in_ok-push_busy.ensures ∙ (λ i. c.new-linked.ensures i ++ busy_among q w (went i) (c.came.ensures i)) in
+    let busy = c.in_ok-push_busy-2.ensures ∙ (λ i. first i ++ busy_among q w (went i) (went i)) in
+    let gathered = c.in_ok-push_entities_by.ensures ∙ (λ i. c.push_busy-2.new.found.items ++ entities_by (links_others q) (went i)) in
+    let lost = subst (λ (ks : List Key). Adds (targets_by (links_others q) ks) c.push_entities_by.new.found.items c.push_targets.new.found.items) went c.in_ok-push_targets.ensures in
+    all_linked q w changed c.push_busy-2.new.found.items c.push_entities_by.new.found.items c.push_targets.new.found.items c.put_in_order.new.indexes.items c.push_all_linked.new.found.items
+    (sym (ap (λ b. b.tied) c.requires.bonds) ∙ c.if-bonds.false) busy gathered lost c.put_in_order.ensures.same (c.in_ok-push_all_linked.ensures c.if-not-branch.false)
