@@ -114,6 +114,49 @@ def dropped_monitors():
     return [(1, stored + [*drops(STORED // 2)]), (-1, stored)], STORED // 2
 
 
+# queries that nobody answers, by what they ask of ancestors, of reach or of others
+BY_TABLES = {
+    "up": "[none] Position, Flying(up)",
+    "reach": "Position, !(In,Root)",
+    "lacks_up": "Position, !Boss(up IsA)",
+    "either": "Position, Flying(up IsA) || Other",
+    "others": "Position, !{ (In,$x), Boss($x) }",
+}
+ENTITIES = [1_000, 4_000, 16_000]
+# So often that what the hashes of the world vary by is little of it.
+ASKED = 100
+
+
+def in_tables(text, count):
+    """A query of so many entities in ten tables."""
+    world = ["component Position x:i32 y:i32", *(f"entity {name}" for name in ("Flying", "Other", "Boss", "In", "Root")), "add In Transitive"]
+    for number in range(10):
+        world += [f"entity G{number}", f"entity P{number}", f"add P{number} Boss", f"entity B{number}", f"add B{number} Boss"]
+        world.append(f"add P{number} (In,P{number - 1})" if number else "add P0 (In,Root)")
+    for number in range(count):
+        entity, part = f"E{number}", number % 10
+        world += [f"entity {entity}", f"set {entity} Position 1 1", f"add {entity} G{part}", f"add {entity} (In,P{part})", f"add {entity} (IsA,B{part})"]
+    return [(1, world + ASKED * [f"query {text}"]), (-1, world)], ASKED
+
+
+# queries of a chain: what they ask is asked of each of its entities, or of each two
+ALONG = {
+    "last": ("ChildOf", "T, P(E{last}|up)"),
+    "pair": ("ChildOf", "T, Q($this|up,$x), U($x)"),
+    "both_ways": ("IsA", "T, T($y), IsA($this,$y), IsA($y,$this), $this != $y"),
+}
+CHAINS = [500, 1_000, 2_000]
+
+
+def along(relationship, text, count):
+    """A query of a chain of so many entities."""
+    world = [f"entity {name}" for name in ("T", "P", "Q", "U", "X")] + ["add X U"]
+    for number in range(count):
+        world += [f"entity E{number}", f"add E{number} T"]
+        world.append(f"add E{number} ({relationship},E{number - 1})" if number else "add E0 (Q,X)")
+    return [(1, [*world, f"query {text.format(last=count - 1)}"]), (-1, world)], 1
+
+
 DIFFERENCES = {
     "untold": untold,
     "dropped": dropped,
@@ -129,6 +172,8 @@ DIFFERENCES = {
 DIFFERENCES.update((f"moved_{name}_{count}", partial(moving, text, count)) for name, text in MONITORS.items() for count in ROWS)
 DIFFERENCES.update((f"moved_team_{count}", partial(in_teams, False, count)) for count in ROWS)
 DIFFERENCES.update((f"moved_leader_{count}", partial(in_teams, True, count)) for count in ROWS)
+DIFFERENCES.update((f"tables_{name}_{count}", partial(in_tables, text, count)) for name, text in BY_TABLES.items() for count in ENTITIES)
+DIFFERENCES.update((f"chain_{name}_{count}", partial(along, *chain, count)) for name, chain in ALONG.items() for count in CHAINS)
 
 
 def scripts(name):
