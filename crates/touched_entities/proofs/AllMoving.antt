@@ -3,20 +3,19 @@
 use Rattle.std.specs.Prelude.{◌≡◌, ◌↔◌, ◌||◌, ℕ, Bool, true, false, cond, List, [], ◌∷◌, ◌++◌, filter, flat_map, map, if◌then◌else◌}
 use Rattle.std.specs.List.{Contains}
 use Rattle.std.proofs.Common.{refl, sym, ap, subst, ◌∙◌, arith}
-use Rattle.std.proofs.lemmas.Bool.{not-true, or_left, or_right, true≢false}
+use Rattle.std.proofs.lemmas.Bool.{and_parts, not-true, or_left, or_right, true≢false}
 use Rattle.std.proofs.lemmas.List.Elements.{Contains-append_left, Contains-append_right}
 use Rattle.ecs_id.specs.Id.{Id, plain, pair}
 use Rattle.ecs_model.specs.Command.{Changed}
-use Rattle.ecs_model.specs.World.{WorldState, Key}
-use Rattle.ecs_model.proofs.Members.{in_flat_map}
+use Rattle.ecs_model.specs.World.{WorldState, Key, ids_of}
+use Rattle.ecs_model.proofs.Members.{filtered, in_flat_map}
 use Rattle.query_model.specs.Query.{Query}
 use Rattle.query_concerns.specs.Concerns.{concerns}
 use Rattle.query_concerns.specs.Idle.{is_idle}
-use Rattle.query_concerns.specs.Linked.{links_others}
 use Rattle.query_concerns.specs.Others.{concerns_below, concerns_others}
 use Rattle.query_concerns.specs.Tied.{is_tied}
-use Rattle.touched_entities.specs.Leaning.{Adds, HasAllBelow, IsClosed, concerns_beyond, leaning, linked_with, target_of}
-use Rattle.touched_entities.specs.Moving.{AreLinked, AreMoving, AreTargets, any_by, busy_among, entities_by, entities_of, ids_around, is_busy, targets_by}
+use Rattle.touched_entities.specs.Leaning.{Adds, HasAllBelow, IsClosed, concerns_beyond, leaning, linked_with, links_busily, moves_by, target_of}
+use Rattle.touched_entities.specs.Moving.{AreLinked, AreMoving, AreTargets, any_by, busy_among, entities_by, entities_of, ids_around, is_busy, may_be_this, targets_by}
 use Rattle.touched_entities.proofs.Covered.{busy_concern_others, links_concern_others}
 use Rattle.touched_entities.proofs.Grown.{still}
 
@@ -25,26 +24,20 @@ module _ (q : Query) (w : WorldState) (changed : Changed) where
   linked_if_tied linked are tied = record {
     others = λ tied x h. subst (λ (es : List ℕ). Contains es x) (sym are) h;
     busy = λ loose x h. absurd (true≢false (sym tied ∙ loose));
-    holders = λ loose x h. absurd (true≢false (sym tied ∙ loose));
     lost = λ loose x h. absurd (true≢false (sym tied ∙ loose));
     closed = λ loose x y h leads. absurd (true≢false (sym tied ∙ loose));
   }
 
-  pub all_linked : (busy gathered more start linked : List ℕ) → is_tied q ≡ false → busy ≡ busy_among q w changed.went changed.came ++ busy_among q w changed.went changed.went
-      → gathered ≡ busy ++ entities_by (links_others q) changed.went → Adds (targets_by (links_others q) changed.went) gathered more
-      → ((e : ℕ) → Contains start e ↔ Contains more e) → IsClosed (linked_with (links_others q) w) start linked → AreLinked q w changed linked
-  all_linked busy gathered more start linked loose are_busy are adds same closed =
-      let holders = entities_by (links_others q) changed.went in
-      let put = λ (x : ℕ) (h : Contains (busy ++ holders) x).
-      closed.begun x ((same x).1 (still (targets_by (links_others q) changed.went) gathered more adds x (subst (λ (es : List ℕ). Contains es x) (sym are) h))) in record {
-        others = λ tied x h. absurd (true≢false (sym tied ∙ loose));
-        busy = λ loose x h. put x (Contains-append_left busy holders x (subst (λ (es : List ℕ). Contains es x) (sym are_busy) h));
-        holders = λ loose x h. put x (Contains-append_right busy holders x h);
-        lost = λ loose x h. closed.begun x ((same x).1 (adds.all x h));
-        closed = λ loose x y h leads. closed.stepped x y h leads;
-      }
+  pub all_linked : (busy more start linked : List ℕ) → is_tied q ≡ false → busy ≡ busy_among q w changed.went changed.came ++ busy_among q w changed.went changed.went
+      → Adds (targets_by q w changed.went changed.went) busy more → ((e : ℕ) → Contains start e ↔ Contains more e) → IsClosed (linked_with (links_busily q changed.went) w) start linked → AreLinked q w changed linked
+  all_linked busy more start linked loose are adds same closed = record {
+    others = λ tied x h. absurd (true≢false (sym tied ∙ loose));
+    busy = λ loose x h. closed.begun x ((same x).1 (still (targets_by q w changed.went changed.went) busy more adds x (subst (λ (es : List ℕ). Contains es x) (sym are) h)));
+    lost = λ loose x h. closed.begun x ((same x).1 (adds.all x h));
+    closed = λ loose x y h leads. closed.stepped x y h leads;
+  }
 
-  pub all_targets : (linked below gathered targets : List ℕ) → AreLinked q w changed linked → HasAllBelow (concerns_beyond q) w (entities_of (concerns_below q) changed) below
+  pub all_targets : (linked below gathered targets : List ℕ) → AreLinked q w changed linked → HasAllBelow (λ ids. concerns_beyond q) w (entities_of (concerns_below q) changed) below
       → gathered ≡ linked ++ below → ((e : ℕ) → Contains targets e ↔ Contains gathered e) → AreTargets q w changed targets
   all_targets linked below gathered targets are_linked all_below are same =
       let put = λ (e : ℕ) (h : Contains (linked ++ below) e). (same e).1 (subst (λ (es : List ℕ). Contains es e) (sym are) h) in record {
@@ -55,14 +48,15 @@ module _ (q : Query) (w : WorldState) (changed : Changed) where
       }
 
   pub all_moving : (own targets holders gathered moving : List ℕ) → ((e : ℕ) → Contains own e ↔ Contains (entities_of (concerns q) changed) e) → AreTargets q w changed targets
-      → Adds (flat_map (leaning (concerns q) w) targets) own holders → gathered ≡ holders ++ targets → ((e : ℕ) → Contains moving e ↔ Contains gathered e) → AreMoving q w changed moving
+      → Adds (flat_map (leaning (moves_by q) w) targets) own holders → gathered ≡ holders ++ filter (may_be_this q w) targets → ((e : ℕ) → Contains moving e ↔ Contains gathered e) → AreMoving q w changed moving
   all_moving own targets holders gathered moving are_own are_targets adds are same =
-      let put = λ (e : ℕ) (h : Contains (holders ++ targets) e). (same e).1 (subst (λ (es : List ℕ). Contains es e) (sym are) h) in record {
-        own = λ e h. put e (Contains-append_left holders targets e (still (flat_map (leaning (concerns q) w) targets) own holders adds e ((are_own e).1 h)));
+      let fit = filter (may_be_this q w) targets in
+      let put = λ (e : ℕ) (h : Contains (holders ++ fit) e). (same e).1 (subst (λ (es : List ℕ). Contains es e) (sym are) h) in record {
+        own = λ e h. put e (Contains-append_left holders fit e (still (flat_map (leaning (moves_by q) w) targets) own holders adds e ((are_own e).1 h)));
         targets = targets;
         are_targets = are_targets;
-        themselves = λ x h. put x (Contains-append_right holders targets x h);
-        held = λ x e h on. put e (Contains-append_left holders targets e (adds.all e (in_flat_map (leaning (concerns q) w) targets x e h on)));
+        themselves = λ x h may. put x (Contains-append_right holders fit x ((filtered (may_be_this q w) targets x).1 (h, may)));
+        held = λ x e h on. put e (Contains-append_left holders fit e (adds.all e (in_flat_map (leaning (moves_by q) w) targets x e h on)));
       }
 
 -- ---- where no fact concerns others or those below
@@ -90,11 +84,11 @@ none_of p r wider changed e =
     (λ i. none_by p r wider changed.came parts.0 i ++ none_by p r wider changed.went parts.1 i)
 
 -- nor is any target among them that links others
-none_to : (p r : Id → Bool) → ((i : Id) → p i ≡ true → r i ≡ true) → (ks : List Key) → any_by r ks ≡ false → targets_by p ks ≡ []
+none_to : (p : Key → Id → Bool) (r : Id → Bool) → ((k : Key) (i : Id) → p k i ≡ true → r i ≡ true) → (ks : List Key) → any_by r ks ≡ false → flat_map (λ k. target_of (p k) k.1) ks ≡ []
 none_to p r wider [] e = refl
 none_to p r wider (k ∷ ks) e =
     let parts = both_false (r k.1) (any_by r ks) e in
-    (λ i. no_pair p k.1 (fails (p k.1) (r k.1) (wider k.1) parts.0) i ++ none_to p r wider ks parts.1 i)
+    (λ i. no_pair (p k) k.1 (fails (p k k.1) (r k.1) (wider k k.1) parts.0) i ++ none_to p r wider ks parts.1 i)
   where
     no_pair : (p : Id → Bool) (i : Id) → p i ≡ false → target_of p i ≡ []
     no_pair p (plain c) h = refl
@@ -108,11 +102,8 @@ no_targets q w changed none = record {
     busy = λ loose x h.
         let nobody = both_false (any_by (concerns_beyond q) changed.came) (any_by (concerns_beyond q) changed.went) none in
         subst (λ (es : List ℕ). Contains es x) (λ j. busy_none changed.came nobody.0 j ++ busy_none changed.went nobody.1 j) h;
-    holders = λ loose x h. subst (λ (es : List ℕ). Contains es x)
-        (none_by (links_others q) (concerns_beyond q) (λ i t. or_right (concerns_below q i) (concerns_others q i) (links_concern_others q i t)) changed.went
-        (both_false (any_by (concerns_beyond q) changed.came) (any_by (concerns_beyond q) changed.went) none).1) h;
     lost = λ loose x h. subst (λ (es : List ℕ). Contains es x)
-        (none_to (links_others q) (concerns_beyond q) (λ i t. or_right (concerns_below q i) (concerns_others q i) (links_concern_others q i t)) changed.went
+        (none_to (λ k. links_busily q changed.went (ids_of w k.0)) (concerns_beyond q) (λ k i t. or_right (concerns_below q i) (concerns_others q i) (links_concern_others q i (and_parts _ _ t).0)) changed.went
         (both_false (any_by (concerns_beyond q) changed.came) (any_by (concerns_beyond q) changed.went) none).1) h;
     closed = λ loose x y h leads. absurd (omega (arith, h.1));
   };
@@ -133,6 +124,6 @@ own_move q w changed own are_own none = record {
   own = λ e h. (are_own e).1 h;
   targets = [];
   are_targets = no_targets q w changed none;
-  themselves = λ x h. absurd (omega (arith, h.1));
+  themselves = λ x h may. absurd (omega (arith, h.1));
   held = λ x e h on. absurd (omega (arith, h.1));
 }

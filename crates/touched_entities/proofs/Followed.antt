@@ -27,16 +27,18 @@ use Rattle.query_concerns.specs.Concerns.{concerns}
 use Rattle.query_concerns.specs.Idle.{is_idle}
 use Rattle.query_concerns.specs.Linked.{HasLinked, is_linked, links_others}
 use Rattle.query_concerns.specs.Others.{concerns_below, concerns_others}
+use Rattle.query_concerns.specs.OwnIds.{lacks}
 use Rattle.query_concerns.specs.Tied.{is_tied}
 use Rattle.query_concerns.proofs.Ancestors.{line_chain}
+use Rattle.query_concerns.proofs.Lacking.{lacking_match_nothing, lacks_alike}
 use Rattle.query_concerns.proofs.Linked.{match_by_links}
 use Rattle.query_concerns.proofs.OwnFacts.{match_by_own_facts}
 use Rattle.query_concerns.proofs.Tied.{match_by_ties}
 use Rattle.watch_meaning.specs.Since.{IsAfter}
 use Rattle.touched_entities.specs.Before.{view_before}
 use Rattle.touched_entities.specs.Laws.{OthersThanMovingStay}
-use Rattle.touched_entities.specs.Leaning.{concerns_beyond, leaning, leans, pairs_to, target_of, targets_at}
-use Rattle.touched_entities.specs.Moving.{AreMoving, any_concerns_others, busy_among, entities_by, entities_of, ids_around, is_busy, is_followed}
+use Rattle.touched_entities.specs.Leaning.{concerns_beyond, leaning, leans, links_busily, moves_by, pairs_to, target_of, targets_at}
+use Rattle.touched_entities.specs.Moving.{AreMoving, any_concerns_others, busy_among, entities_by, entities_of, ids_around, is_busy, is_followed, may_be_this}
 use Rattle.touched_entities.proofs.Covered.{below_concern, busy_concern_others, others_concern}
 use Rattle.touched_entities.proofs.IdsBefore.{is_among, same_held}
 use Rattle.touched_entities.proofs.Rising.{ids_rise, keys_rise, one_list}
@@ -62,6 +64,10 @@ wider_and false false h = refl
 -- so a wider test before changes nothing
 filter_within : (p r : Id → Bool) → ((i : Id) → p i ≡ true → r i ≡ true) → (is : List Id) → filter p is ≡ filter p (filter r is)
 filter_within p r wider is = sym (filter_twice p r is ∙ (λ j. filter (λ i. wider_and (r i) (p i) (wider i) j) is))
+
+not-false : (b : Bool) → not b ≡ false → b ≡ true
+not-false true h = refl
+not-false false h = absurd (true≢false h)
 
 -- ---- facts
 
@@ -143,7 +149,7 @@ module _ (v : WorldState) (changed : Changed) (kept_now : IsWellFormed v) (after
         Contains-append_left (ids_of v x) (map (λ (k : Key). k.1) changed.went) i (held_listed v x i (lasting (holds v x i) (holds after.before x i) was (sym gone ∙ lasts)))
   ]
 
-  module _ (q : Query) (sound : IsSound q) (followed : is_followed q changed ≡ true) (es : List ℕ) (all : AreMoving q v changed es) (e : ℕ) (apart : Contains es e → ⊥) where
+  module _ (q : Query) (sound : IsSound q) (followed : is_followed q changed ≡ true) (es : List ℕ) (all : AreMoving q v changed es) (e : ℕ) (apart : Contains es e → ⊥) (fit : may_be_this q v e ≡ true) where
     -- ---- what matters for the entity: of its own ids those that concern the query, of others' ids those that do so for somebody else
 
     abbrev matters : ℕ → Id → Bool
@@ -239,38 +245,38 @@ module _ (v : WorldState) (changed : Changed) (kept_now : IsWellFormed v) (after
     -- ---- whoever is above the entity
 
     -- who holds a pair that matters leans on its target
-    holder_leans : (p : Id → Bool) (y r x : ℕ) → Contains (filter p (ids_of v y)) (pair r x) → Contains (leaning p v x) y
-    holder_leans p y r x held =
-        let f = (filtered p (ids_of v y) (pair r x)).0 held in
+    holder_leans : (p : List Id → Id → Bool) (y r x : ℕ) → Contains (ids_of v y) (pair r x) → p (ids_of v y) (pair r x) ≡ true → Contains (leaning p v x) y
+    holder_leans p y r x held passes =
         (filtered (leans p v x) (entities v) y).1
-        ((are_links v kept_now).held y (pair r x) f.0, any_passes (λ i. matches (pairs_to x) i && p i) (ids_of v y) (pair r x) f.0 (and_from _ _ (eq_itself x) f.1))
+        ((are_links v kept_now).held y (pair r x) held, any_passes (λ i. matches (pairs_to x) i && p (ids_of v y) i) (ids_of v y) (pair r x) held (and_from _ _ (eq_itself x) passes))
 
     abbrev up : ℕ → ℕ → List ℕ
     up r = upward (λ x. filter (matters x) (ids_of v x)) r
 
     -- the entity by a pair that concerns the query, another one by one that does so for somebody else
-    itself_leans : (r x : ℕ) → Contains (up r e) x → Contains (leaning (concerns q) v x) e
+    itself_leans : (r x : ℕ) → Contains (up r e) x → Contains (leaning (moves_by q) v x) e
     itself_leans r x h =
         let found = from_filter_map (target_under r) (filter (matters e) (ids_of v e)) x h in
-        subst (λ (p : Id → Bool). Contains (leaning p v x) e) (λ j i. matters_itself i j) (holder_leans (matters e) e r x (subst (Contains (filter (matters e) (ids_of v e))) (to_pair r x found.0 found.2) found.1))
+        let f = (filtered (matters e) (ids_of v e) (pair r x)).0 (subst (Contains (filter (matters e) (ids_of v e))) (to_pair r x found.0 found.2) found.1) in
+        holder_leans (moves_by q) e r x f.0 (and_from _ _ (sym (matters_itself (pair r x)) ∙ f.1) fit)
 
-    other_leans : (r y x : ℕ) → (y == e) ≡ false → Contains (up r y) x → Contains (leaning (concerns_beyond q) v x) y
+    other_leans : (r y x : ℕ) → (y == e) ≡ false → Contains (up r y) x → Contains (leaning (λ ids. concerns_beyond q) v x) y
     other_leans r y x other h =
         let found = from_filter_map (target_under r) (filter (matters y) (ids_of v y)) x h in
-        subst (λ (p : Id → Bool). Contains (leaning p v x) y) (λ j i. if other j then concerns q i else concerns_beyond q i)
-        (holder_leans (matters y) y r x (subst (Contains (filter (matters y) (ids_of v y))) (to_pair r x found.0 found.2) found.1))
+        let f = (filtered (matters y) (ids_of v y) (pair r x)).0 (subst (Contains (filter (matters y) (ids_of v y))) (to_pair r x found.0 found.2) found.1) in
+        holder_leans (λ ids. concerns_beyond q) y r x f.0 (sym (λ j. if other j then concerns q (pair r x) else concerns_beyond q (pair r x)) ∙ f.1)
 
     -- so it leans on whoever is above it, or on somebody below that
-    leans_below : (r x : ℕ) → HasChain (up r) e x → (y : ℕ) × Reached (leaning (concerns_beyond q) v) x y × Contains (leaning (concerns q) v y) e
+    leans_below : (r x : ℕ) → HasChain (up r) e x → (y : ℕ) × Reached (leaning (λ ids. concerns_beyond q) v) x y × Contains (leaning (moves_by q) v y) e
     leans_below r x chain = by chain.2
       where
-        by : {z : ℕ} → Reached (up r) chain.0 z → (y : ℕ) × Reached (leaning (concerns_beyond q) v) z y × Contains (leaning (concerns q) v y) e
+        by : {z : ℕ} → Reached (up r) chain.0 z → (y : ℕ) × Reached (leaning (λ ids. concerns_beyond q) v) z y × Contains (leaning (moves_by q) v y) e
         by itself = (chain.0, itself, itself_leans r chain.0 chain.1)
         by (onward {y} {z} reached h) = elim (cases_Bool (y == e)) [
           | inl same ↦ (z, itself, itself_leans r z (subst (λ y. Contains (up r y) z) (eq_same y e same) h))
           | inr other ↦
               let rest = by reached in
-              (rest.0, chain_reached (leaning (concerns_beyond q) v) z rest.0 (y, other_leans r y z other h, rest.1), rest.2)
+              (rest.0, chain_reached (leaning (λ ids. concerns_beyond q) v) z rest.0 (y, other_leans r y z other h, rest.1), rest.2)
         ]
 
     -- ---- before and after
@@ -308,19 +314,22 @@ module _ (v : WorldState) (changed : Changed) (kept_now : IsWellFormed v) (after
         none (subst (Contains others_linked) (eq_same found.0 x found.2) found.1)))
 
     itself_near : is_near e ≡ true
-    itself_near = near_unless e (λ h. apart (all.themselves e ((all.are_targets).among e h)))
+    itself_near = near_unless e (λ h. apart (all.themselves e ((all.are_targets).among e h) fit))
 
     held_near : (r x : ℕ) → Contains (ids_of v e) (pair r x) → concerns q (pair r x) ≡ true → is_near x ≡ true
     held_near r x h concerned = near_unless x (λ l.
-        apart (all.held x e ((all.are_targets).among x l) (holder_leans (concerns q) e r x ((filtered (concerns q) (ids_of v e) (pair r x)).1 (h, concerned)))))
+        apart (all.held x e ((all.are_targets).among x l) (holder_leans (moves_by q) e r x h (and_from _ _ concerned fit))))
 
-    module _ (loose : is_tied q ≡ false) (r x y : ℕ) (by : links_others q (pair r y) ≡ true) where
+    module _ (loose : is_tied q ≡ false) (r x y : ℕ) (by : links_others q (pair r y) ≡ true) (busy : is_idle q (ids_around v changed.went x) (pair r y) ≡ false) where
+      links : links_busily q changed.went (ids_of v x) (pair r y) ≡ true
+      links = and_from _ _ by (ap not busy)
+
       linked_now : Contains (ids_of v x) (pair r y) → is_near x ≡ is_near y
       linked_now h =
-          let p = links_others q in
+          let p = links_busily q changed.went in
           let closed = ((all.are_targets).are_linked).closed loose in
-          let holder = holder_leans p x r y ((filtered p (ids_of v x) (pair r y)).1 (h, by)) in
-          let target = in_flat_map (target_of p) (ids_of v x) (pair r y) y h (its_target p r y by) in
+          let holder = holder_leans p x r y h links in
+          let target = in_flat_map (target_of (p (ids_of v x))) (ids_of v x) (pair r y) y h (its_target (p (ids_of v x)) r y links) in
           alike (is_near x) (is_near y)
           (λ near. near_unless y (λ l. stays_out x near (closed y x l (Contains-append_left (leaning p v y) (targets_at p v y) x holder))))
           (λ near. near_unless x (λ l. stays_out y near (closed x y l (Contains-append_right (leaning p v x) (targets_at p v x) y target))))
@@ -330,10 +339,11 @@ module _ (v : WorldState) (changed : Changed) (kept_now : IsWellFormed v) (after
         | inl gone ↦
             let are = (all.are_targets).are_linked in
             let fact = is_among changed.went (x, pair r y) gone in
-            let test = λ (k : Key). links_others q k.1 in
-            let listed = in_map (λ (k : Key). k.0) (filter test changed.went) (x, pair r y) ((filtered test changed.went (x, pair r y)).1 (fact, by)) in
-            let holder = are.holders loose x listed in
-            let target = are.lost loose y (in_flat_map (λ (k : Key). target_of (links_others q) k.1) changed.went (x, pair r y) y fact (its_target (links_others q) r y by)) in
+            let test = is_busy q v changed.went in
+            let listed = in_map (λ (k : Key). k.0) (filter test changed.went) (x, pair r y) ((filtered test changed.went (x, pair r y)).1 (fact, ap not busy)) in
+            let holder = are.busy loose x (Contains-append_right (busy_among q v changed.went changed.came) (busy_among q v changed.went changed.went) x listed) in
+            let passes = λ (k : Key). links_busily q changed.went (ids_of v k.0) in
+            let target = are.lost loose y (in_flat_map (λ (k : Key). target_of (passes k) k.1) changed.went (x, pair r y) y fact (its_target (passes (x, pair r y)) r y links)) in
             is_far x holder ∙ sym (is_far y target)
         | inr lasts ↦
             let was = listed_held after.before x (pair r y) h in
@@ -347,13 +357,13 @@ module _ (v : WorldState) (changed : Changed) (kept_now : IsWellFormed v) (after
           let here = (filtered (concerns q) (filter (matters e) (ids_of after.before e)) (pair r x)).1 (h, concerned) in
           let there = (filtered (concerns q) (filter (matters e) (ids_of v e)) (pair r x)).0 (subst (λ is. Contains is (pair r x)) own_stay here) in
           held_near r x ((filtered (matters e) (ids_of v e) (pair r x)).0 there.0).0 concerned;
-      linked = λ r x y h by busy. linked_before loose r x y by ((filtered (matters x) (ids_of after.before x) (pair r y)).0 h).0;
+      linked = λ r x y h by busy. linked_before loose r x y by busy ((filtered (matters x) (ids_of after.before x) (pair r y)).0 h).0;
     }
 
     near_now : is_tied q ≡ false → HasLinked q (ids_around v changed.went) (seen v) e is_near
     near_now loose = record {
       held = λ r x h concerned. held_near r x ((filtered (matters e) (ids_of v e) (pair r x)).0 h).0 concerned;
-      linked = λ r x y h by busy. linked_now loose r x y by ((filtered (matters x) (ids_of v x) (pair r y)).0 h).0;
+      linked = λ r x y h by busy. linked_now loose r x y by busy ((filtered (matters x) (ids_of v x) (pair r y)).0 h).0;
     }
 
     seen_alike : AreAlike (seen after.before) (seen v)
@@ -366,8 +376,7 @@ module _ (v : WorldState) (changed : Changed) (kept_now : IsWellFormed v) (after
       held = λ tied r x there concerned. unlisted_stay (matters x) (concerns_others q) x
           (λ h.
           let f = (filtered (matters e) (ids_of v e) (pair r x)).0 there in
-          let held = (filtered (concerns q) (ids_of v e) (pair r x)).1 (f.0, concerned) in
-          apart (all.held x e ((all.are_targets).among x (((all.are_targets).are_linked).others tied x h)) (holder_leans (concerns q) e r x held)));
+          apart (all.held x e ((all.are_targets).among x (((all.are_targets).are_linked).others tied x h)) (holder_leans (moves_by q) e r x f.0 (and_from _ _ concerned fit))));
       near = is_near;
       here = itself_near;
       all_ids = ids_around v changed.went;
@@ -378,8 +387,8 @@ module _ (v : WorldState) (changed : Changed) (kept_now : IsWellFormed v) (after
       others = all_others_stay;
     }
 
-    pub stay_put : Contains (matching (view_before v changed) q) e ↔ Contains (matching (view_of v) q) e
-    stay_put =
+    fit_stays : Contains (matching (view_before v changed) q) e ↔ Contains (matching (view_of v) q) e
+    fit_stays =
         let first = match_seen after.before after.kept in
         let middle = match_alike (seen after.before) (seen v) (seen_links after.before after.kept) (seen_links v kept_now) seen_alike in
         let last = match_seen v kept_now in
@@ -387,6 +396,28 @@ module _ (v : WorldState) (changed : Changed) (kept_now : IsWellFormed v) (after
           λ h. last.1 (middle.0 (first.0 (subst (λ es. Contains es e) were h))),
           λ h. subst (λ es. Contains es e) (sym were) (first.1 (middle.1 (last.0 h))),
         )
+
+  -- who lacks what is asked of `$this` now, and has gained and lost nothing that concerns the query, lacked it before
+  lacking_stays : (q : Query) (e : ℕ) → (Contains (entities_of (concerns q) changed) e → ⊥) → may_be_this q v e ≡ false → Contains (matching (view_before v changed) q) e ↔ Contains (matching (view_of v) q) e
+  lacking_stays q e none lack =
+      let w = after.before in
+      let p = concerns q in
+      let same : filter p (ids_of w e) ≡ filter p (ids_of v e) = passing_stay p e
+      (λ i h. unlisted (λ k. p k.1) changed.came e (λ m. none (Contains-append_left (entities_by p changed.came) (entities_by p changed.went) e m)) i h)
+      (λ i h. unlisted (λ k. p k.1) changed.went e (λ m. none (Contains-append_right (entities_by p changed.came) (entities_by p changed.went) e m)) i h) in
+      let now : lacks q (ids_of v e) ≡ true = not-false (lacks q (ids_of v e)) lack in
+      let before : lacks q (ids_of w e) ≡ true = lacks_alike q (ids_of w e) (ids_of v e) same ∙ now in
+      let were = queries_matched_before w v after.command changed q after.kept after.stepped in (
+        λ h. absurd (lacking_match_nothing (view_of w) q e before (subst (λ es. Contains es e) were h)),
+        λ h. absurd (lacking_match_nothing (view_of v) q e now h),
+      )
+
+  pub stay_put : (q : Query) → IsSound q → is_followed q changed ≡ true → (es : List ℕ) → AreMoving q v changed es → (e : ℕ) → (Contains es e → ⊥)
+      → Contains (matching (view_before v changed) q) e ↔ Contains (matching (view_of v) q) e
+  stay_put q sound followed es all e apart = elim (cases_Bool (may_be_this q v e)) [
+    | inl fit ↦ fit_stays q sound followed es all e apart fit
+    | inr lack ↦ lacking_stays q e (λ h. apart (all.own e h)) lack
+  ]
 
 pub others_than_moving_stay : OthersThanMovingStay
 others_than_moving_stay v changed q kept_now after sound followed es all e apart = stay_put v changed kept_now after q sound followed es all e apart

@@ -38,12 +38,12 @@ pub fewer : (a b x y : List ℕ) → Adds a x y → ((e : ℕ) → Contains b e 
 fewer a b x y h less = record { more = h.more; behind = h.behind; all = λ e m. h.all e (less e m) }
 
 -- all who lean on an entity are among those who hold a pair with it
-module _ (p : Id → Bool) (w : WorldState) (x : ℕ) (holders : List ℕ)
+module _ (p : List Id → Id → Bool) (w : WorldState) (x : ℕ) (holders : List ℕ)
     (exactly : (e : ℕ) → Contains (filter (λ e. list_any (matches (pairs_to x)) (ids_of w e)) (entities w)) e → Contains holders e) where
   pub leaning_are_holders : (e : ℕ) → Contains (leaning p w x) e → Contains (filter (leans p w x) holders) e
   leaning_are_holders e h =
       let f = (filtered (leans p w x) (entities w) e).0 h in
-      let found = passing (λ i. matches (pairs_to x) i && p i) (ids_of w e) f.1 in
+      let found = passing (λ i. matches (pairs_to x) i && p (ids_of w e) i) (ids_of w e) f.1 in
       let i : Id = found.0 in
       let pair_held = any_passes (matches (pairs_to x)) (ids_of w e) i found.1 (and_parts _ _ found.2).0 in
       (filtered (leans p w x) holders e).1 (exactly e ((filtered (λ e. list_any (matches (pairs_to x)) (ids_of w e)) (entities w) e).1 (f.0, pair_held)), f.1)

@@ -1,18 +1,22 @@
--- Who leans on an entity: who holds a pair with it that passes a test; and who is linked with it, by holding one or by being its target.
-use Rattle.std.specs.Prelude.{◌≡◌, ℕ, Bool, ◌&&◌, ◌||◌, List, [], ◌∷◌, ◌++◌, Some, filter, flat_map, if◌then◌else◌}
+-- Who leans on an entity: who holds a pair with it that passes a test, which may ask for the holder's other ids too; and who is linked with it, by holding one or by being its target.
+use Rattle.std.specs.Prelude.{◌≡◌, ℕ, Bool, ◌&&◌, ◌||◌, List, [], ◌∷◌, ◌++◌, Some, filter, flat_map, map, not, if◌then◌else◌}
 use Rattle.std.specs.List.{Contains, list_any}
 use Rattle.component_index.specs.Patterns.{matches}
 use Rattle.component_index.specs.declared.pattern.Part.TheVariants.{Is, Any}
 use Rattle.component_index.specs.declared.pattern.Pattern.{Pattern}
 use Rattle.ecs_id.specs.Id.{Id, plain, pair}
 use Rattle.ecs_model.specs.Reach.{Reached}
-use Rattle.ecs_model.specs.World.{WorldState, entities, ids_of}
+use Rattle.ecs_model.specs.World.{WorldState, Key, entities, ids_of}
 use Rattle.query_concerns.specs.Concerns.{concerns}
+use Rattle.query_concerns.specs.Idle.{is_idle}
 use Rattle.query_concerns.specs.Linked.{links_others}
 use Rattle.query_concerns.specs.Others.{concerns_below, concerns_others}
+use Rattle.query_concerns.specs.OwnIds.{lacks}
 use Rattle.query_model.specs.Query.{Query}
+use Rattle.touched_entities.specs.declared.sought.Sought.{Sought}
+use Rattle.touched_entities.specs.declared.sought.Sought.TheVariants.{Moving, Below, Linked}
 use Rattle.touched_entities.specs.declared.whom.Whom.{Whom}
-use Rattle.touched_entities.specs.declared.whom.Whom.TheVariants.{Anyone, Others, Below, Beyond, Linked}
+use Rattle.touched_entities.specs.declared.whom.Whom.TheVariants as whom
 
 -- whether an id concerns a query for somebody else than its holder
 abbrev pub concerns_beyond : Query → Id → Bool
@@ -20,11 +24,24 @@ concerns_beyond q i = concerns_below q i || concerns_others q i
 
 -- whether it does so for these
 abbrev pub concerns_for : Whom → Query → Id → Bool
-concerns_for Anyone q i = concerns q i
-concerns_for Others q i = concerns_others q i
-concerns_for Below q i = concerns_below q i
-concerns_for Beyond q i = concerns_beyond q i
-concerns_for Linked q i = links_others q i
+concerns_for whom.Anyone q i = concerns q i
+concerns_for whom.Others q i = concerns_others q i
+concerns_for whom.Below q i = concerns_below q i
+concerns_for whom.Beyond q i = concerns_beyond q i
+
+-- whether whoever holds these ids may move by a fact of the target of one of them, a pair: it concerns the query, and the ids don't lack what that asks of `$this` itself
+abbrev pub moves_by : Query → List Id → Id → Bool
+moves_by q ids i = concerns q i && not (lacks q ids)
+
+-- whether it is linked with the target, where these facts went: the pair links others, and isn't idle
+abbrev pub links_busily : Query → List Key → List Id → Id → Bool
+links_busily q went ids i = links_others q i && not (is_idle q (ids ++ map (λ k. k.1) went) i)
+
+-- whether it is looked for
+abbrev pub is_sought : Sought → Query → List Id → Id → Bool
+is_sought Moving q ids i = moves_by q ids i
+is_sought Below q ids i = concerns_beyond q i
+is_sought (Linked went) q ids i = links_busily q went.now ids i
 
 -- the pairs with this entity as their target
 abbrev pub pairs_to : ℕ → Pattern
@@ -35,10 +52,10 @@ abbrev pub target_of : (Id → Bool) → Id → List ℕ
 target_of p (plain c) = []
 target_of p (pair r x) = if p (pair r x) then x ∷ [] else []
 
-module _ (p : Id → Bool) (w : WorldState) where
-  -- whether an entity holds a pair that passes, with x as its target
+module _ (p : List Id → Id → Bool) (w : WorldState) where
+  -- whether an entity holds a pair that passes, by its ids, with x as its target
   abbrev pub leans : ℕ → ℕ → Bool
-  leans x e = list_any (λ i. matches (pairs_to x) i && p i) (ids_of w e)
+  leans x e = list_any (λ i. matches (pairs_to x) i && p (ids_of w e) i) (ids_of w e)
 
   -- all who do
   abbrev pub leaning : ℕ → List ℕ
@@ -46,7 +63,7 @@ module _ (p : Id → Bool) (w : WorldState) where
 
   -- the targets of the pairs that an entity holds
   abbrev pub targets_at : ℕ → List ℕ
-  targets_at e = flat_map (target_of p) (ids_of w e)
+  targets_at e = flat_map (target_of (p (ids_of w e))) (ids_of w e)
 
   -- all with whom an entity has a pair in common
   abbrev pub linked_with : ℕ → List ℕ

@@ -3,10 +3,10 @@
 ghost use Rattle.std.specs.Prelude.{◌≡◌, ◌==◌, ◌∷◌, [], true, filter, flat_map, map, IfOk, OnOk};
 ghost use Rattle.std.specs.List.{list_any};
 ghost use Rattle.component_index.specs.Patterns.{matches};
-ghost use Rattle.touched_entities.specs.Leaning.{Adds, HasAllBelow, concerns_for, leaning, leans, pairs_to};
+ghost use Rattle.touched_entities.specs.Leaning.{Adds, HasAllBelow, is_sought, leaning, leans, pairs_to};
 
+use crate::sought::{Sought, is_sought};
 use crate::touching::ids_at;
-use crate::whom::{Whom, concerns_for};
 use component_index::{Part, Pattern};
 use ecs_id::{EntityId, Id, TableKey};
 use ecs_world::World;
@@ -25,18 +25,18 @@ const MOST_TABLES: usize = 256;
 pub(crate) fn push_leaning_on_all<A: Allocator + Copy, B: Allocator>(
     alloc: A,
     query: &Query<B>,
-    whom: Whom,
+    sought: &Sought<'_>,
     world: &World<A>,
     targets: &[u32],
     found: &mut ShortList<A>,
 ) -> Result<bool, AllocError>
-    ensures { IfOk result (λ done. done ≡ true → Adds (flat_map (leaning (concerns_for whom query.now) world.now.state) targets.now) found.old.items found.new.items) }
+    ensures { IfOk result (λ done. done ≡ true → Adds (flat_map (leaning (is_sought sought.now query.now) world.now.state) targets.now) found.old.items found.new.items) }
 {
     if targets.len() > MOST {
         return Ok(false);
     }
     for target in targets {
-        if !push_leaning(alloc, query, whom, world, *target, found)? {
+        if !push_leaning(alloc, query, sought, world, *target, found)? {
             return Ok(false);
         }
     }
@@ -47,18 +47,18 @@ pub(crate) fn push_leaning_on_all<A: Allocator + Copy, B: Allocator>(
 pub(crate) fn push_all_below<A: Allocator + Copy, B: Allocator>(
     alloc: A,
     query: &Query<B>,
-    whom: Whom,
+    sought: &Sought<'_>,
     world: &World<A>,
     found: &mut ShortList<A>,
 ) -> Result<bool, AllocError>
-    ensures { IfOk result (λ done. done ≡ true → HasAllBelow (concerns_for whom query.now) world.now.state found.old.items found.new.items) }
+    ensures { IfOk result (λ done. done ≡ true → HasAllBelow (is_sought sought.now query.now) world.now.state found.old.items found.new.items) }
 {
     for next in 0..MOST {
         if next >= found.len() {
             return Ok(true);
         }
         let target = found.as_slice()[next];
-        if !push_leaning(alloc, query, whom, world, target, found)? {
+        if !push_leaning(alloc, query, sought, world, target, found)? {
             return Ok(false);
         }
     }
@@ -69,12 +69,12 @@ pub(crate) fn push_all_below<A: Allocator + Copy, B: Allocator>(
 pub(crate) fn push_leaning<A: Allocator + Copy, B: Allocator>(
     alloc: A,
     query: &Query<B>,
-    whom: Whom,
+    sought: &Sought<'_>,
     world: &World<A>,
     target: u32,
     found: &mut ShortList<A>,
 ) -> Result<bool, AllocError>
-    ensures { IfOk result (λ done. done ≡ true → Adds (leaning (concerns_for whom query.now) world.now.state target) found.old.items found.new.items) }
+    ensures { IfOk result (λ done. done ≡ true → Adds (leaning (is_sought sought.now query.now) world.now.state target) found.old.items found.new.items) }
 {
     let links = world.links();
     let pattern = Pattern {
@@ -85,7 +85,7 @@ pub(crate) fn push_leaning<A: Allocator + Copy, B: Allocator>(
     if !are_few(&links, tables) {
         return Ok(false);
     }
-    push_from_tables(alloc, query, whom, world, &links, tables, target, found)?;
+    push_from_tables(alloc, query, sought, world, &links, tables, target, found)?;
     Ok(found.len() <= MOST)
 }
 
@@ -109,17 +109,25 @@ fn are_few<G: Holders>(graph: &G, tables: &[TableKey]) -> bool {
 fn push_from_tables<G: Holders, A: Allocator + Copy, B: Allocator>(
     alloc: A,
     query: &Query<B>,
-    whom: Whom,
+    sought: &Sought<'_>,
     world: &World<A>,
     graph: &G,
     tables: &[TableKey],
     target: u32,
     found: &mut ShortList<A>,
 ) -> Result<(), AllocError>
-    ensures { OnOk result (Adds (filter (leans (concerns_for whom query.now) world.now.state target) (flat_map (G.rows graph.now) tables.now)) found.old.items found.new.items) }
+    ensures { OnOk result (Adds (filter (leans (is_sought sought.now query.now) world.now.state target) (flat_map (G.rows graph.now) tables.now)) found.old.items found.new.items) }
 {
     for table in tables {
-        push_from(alloc, query, whom, world, graph.rows(*table), target, found)?;
+        push_from(
+            alloc,
+            query,
+            sought,
+            world,
+            graph.rows(*table),
+            target,
+            found,
+        )?;
     }
     Ok(())
 }
@@ -128,16 +136,16 @@ fn push_from_tables<G: Holders, A: Allocator + Copy, B: Allocator>(
 fn push_from<A: Allocator + Copy, B: Allocator>(
     alloc: A,
     query: &Query<B>,
-    whom: Whom,
+    sought: &Sought<'_>,
     world: &World<A>,
     entities: &[EntityId],
     target: u32,
     found: &mut ShortList<A>,
 ) -> Result<(), AllocError>
-    ensures { OnOk result (Adds (filter (leans (concerns_for whom query.now) world.now.state target) (map (λ e. e.index) entities.now)) found.old.items found.new.items) }
+    ensures { OnOk result (Adds (filter (leans (is_sought sought.now query.now) world.now.state target) (map (λ e. e.index) entities.now)) found.old.items found.new.items) }
 {
     for entity in entities {
-        if leans(query, whom, world, target, entity.index) {
+        if leans(query, sought, world, target, entity.index) {
             push_new(alloc, entity.index, found)?;
         }
     }
@@ -167,16 +175,16 @@ pub(crate) fn is_among(entities: &[u32], entity: u32) -> bool
 /// Whether an entity leans on this target.
 fn leans<A: Allocator, B: Allocator>(
     query: &Query<B>,
-    whom: Whom,
+    sought: &Sought<'_>,
     world: &World<A>,
     target: u32,
     entity: u32,
 ) -> bool
-    ensures { result ≡ leans (concerns_for whom query.now) world.now.state target entity }
+    ensures { result ≡ leans (is_sought sought.now query.now) world.now.state target entity }
 {
     let ids = ids_at(world, entity);
     for id in ids {
-        if is_pair_to(*id, target) && concerns_for(query, whom, *id) {
+        if is_pair_to(*id, target) && is_sought(query, sought, ids, *id) {
             return true;
         }
     }

@@ -9,6 +9,7 @@ pub mod laws;
 mod leaning;
 mod linked;
 mod moving;
+mod sought;
 mod touching;
 mod whom;
 

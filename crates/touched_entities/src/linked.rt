@@ -1,18 +1,16 @@
 //! Who is linked with an entity, from pair to pair: by a pair that links others, which one of two holds with the other as its target.
 
 ghost use Rattle.std.specs.Prelude.{◌≡◌, ◌++◌, true, flat_map, IfOk, OnOk};
-ghost use Rattle.query_concerns.specs.Linked.{links_others};
-ghost use Rattle.touched_entities.specs.Leaning.{Adds, IsClosed, linked_with, target_of, targets_at};
+ghost use Rattle.touched_entities.specs.Leaning.{Adds, IsClosed, linked_with, links_busily, target_of, targets_at};
 ghost use Rattle.touched_entities.specs.Moving.{targets_by};
 
 use crate::leaning::{MOST, push_leaning, push_new};
+use crate::sought::{Sought, is_sought};
 use crate::touching::ids_at;
-use crate::whom::Whom;
 use ecs_id::Id;
 use ecs_model::FactKey;
 use ecs_world::World;
 use query_check::Query;
-use query_concerns::links_others;
 use short_list::ShortList;
 use std::alloc::{AllocError, Allocator};
 
@@ -20,17 +18,18 @@ use std::alloc::{AllocError, Allocator};
 pub(crate) fn push_all_linked<A: Allocator + Copy, B: Allocator>(
     alloc: A,
     query: &Query<B>,
+    went: &[FactKey],
     world: &World<A>,
     found: &mut ShortList<A>,
 ) -> Result<bool, AllocError>
-    ensures { IfOk result (λ done. done ≡ true → IsClosed (linked_with (links_others query.now) world.now.state) found.old.items found.new.items) }
+    ensures { IfOk result (λ done. done ≡ true → IsClosed (linked_with (links_busily query.now went.now) world.now.state) found.old.items found.new.items) }
 {
     for next in 0..MOST {
         if next >= found.len() {
             return Ok(true);
         }
         let entity = found.as_slice()[next];
-        if !push_linked(alloc, query, world, entity, found)? {
+        if !push_linked(alloc, query, went, world, entity, found)? {
             return Ok(false);
         }
     }
@@ -41,62 +40,69 @@ pub(crate) fn push_all_linked<A: Allocator + Copy, B: Allocator>(
 fn push_linked<A: Allocator + Copy, B: Allocator>(
     alloc: A,
     query: &Query<B>,
+    went: &[FactKey],
     world: &World<A>,
     entity: u32,
     found: &mut ShortList<A>,
 ) -> Result<bool, AllocError>
-    ensures { IfOk result (λ done. done ≡ true → Adds (linked_with (links_others query.now) world.now.state entity) found.old.items found.new.items) }
+    ensures { IfOk result (λ done. done ≡ true → Adds (linked_with (links_busily query.now went.now) world.now.state entity) found.old.items found.new.items) }
 {
-    if !push_leaning(alloc, query, Whom::Linked, world, entity, found)? {
+    if !push_leaning(alloc, query, &Sought::Linked(went), world, entity, found)? {
         return Ok(false);
     }
-    push_targets_at(alloc, query, ids_at(world, entity), found)?;
+    push_targets_at(alloc, query, went, ids_at(world, entity), found)?;
     Ok(true)
 }
 
-/// Adds the targets of those of an entity's ids that are pairs that link others.
+/// Adds the targets of those of an entity's ids that are pairs that link others, and aren't idle.
 fn push_targets_at<A: Allocator + Copy, B: Allocator>(
     alloc: A,
     query: &Query<B>,
+    went: &[FactKey],
     ids: &[Id],
     found: &mut ShortList<A>,
 ) -> Result<(), AllocError>
-    ensures { OnOk result (Adds (flat_map (target_of (links_others query.now)) ids.now) found.old.items found.new.items) }
+    ensures { OnOk result (Adds (flat_map (target_of (links_busily query.now went.now ids.now)) ids.now) found.old.items found.new.items) }
 {
     for id in ids {
-        push_target(alloc, query, *id, found)?;
+        push_target(alloc, query, went, ids, *id, found)?;
     }
     Ok(())
 }
 
-/// Adds the targets of those facts that are pairs that link others.
+/// Adds the targets of those facts that are pairs that link others, and aren't idle, where these facts went.
 pub(crate) fn push_targets<A: Allocator + Copy, B: Allocator>(
     alloc: A,
     query: &Query<B>,
+    world: &World<A>,
+    went: &[FactKey],
     facts: &[FactKey],
     found: &mut ShortList<A>,
 ) -> Result<(), AllocError>
-    ensures { OnOk result (Adds (targets_by (links_others query.now) facts.now) found.old.items found.new.items) }
+    ensures { OnOk result (Adds (targets_by query.now world.now.state went.now facts.now) found.old.items found.new.items) }
 {
     for fact in facts {
-        push_target(alloc, query, fact.id(), found)?;
+        let ids = ids_at(world, fact.entity());
+        push_target(alloc, query, went, ids, fact.id(), found)?;
     }
     Ok(())
 }
 
-/// Adds the target of a pair that links others.
+/// Adds the target of a pair that links others, and isn't idle for one who holds these ids.
 fn push_target<A: Allocator + Copy, B: Allocator>(
     alloc: A,
     query: &Query<B>,
+    went: &[FactKey],
+    ids: &[Id],
     id: Id,
     found: &mut ShortList<A>,
 ) -> Result<(), AllocError>
-    ensures { OnOk result (Adds (target_of (links_others query.now) id) found.old.items found.new.items) }
+    ensures { OnOk result (Adds (target_of (links_busily query.now went.now ids.now) id) found.old.items found.new.items) }
 {
     let Some(target) = id.second() else {
         return Ok(());
     };
-    if !links_others(query, id) {
+    if !is_sought(query, &Sought::Linked(went), ids, id) {
         return Ok(());
     }
     push_new(alloc, target, found)

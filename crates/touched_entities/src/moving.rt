@@ -8,13 +8,14 @@ ghost use Rattle.touched_entities.specs.Bonds.{bonds_of};
 ghost use Rattle.query_concerns.specs.Concerns.{concerns};
 ghost use Rattle.query_concerns.specs.Others.{concerns_below};
 ghost use Rattle.touched_entities.specs.Leaning.{HasAllBelow, concerns_beyond, concerns_for};
-ghost use Rattle.touched_entities.specs.Moving.{AreLinked, AreMoving, AreTargets, TellsMoved, any_by, any_concerns_others, busy_among, entities_by, entities_of, is_followed, is_open, is_sure};
+ghost use Rattle.touched_entities.specs.Moving.{AreLinked, AreMoving, AreTargets, TellsMoved, any_by, any_concerns_others, busy_among, entities_by, entities_of, is_followed, is_open, is_sure, may_be_this};
 ghost use Rattle.watch_meaning.specs.Since.{IsAfter};
 
 use crate::Bonds;
 use crate::indexes::put_in_order;
 use crate::leaning::{MOST, push_all_below, push_leaning_on_all};
 use crate::linked::{push_all, push_all_linked, push_targets};
+use crate::sought::Sought;
 use crate::touching::ids_at;
 use crate::whom::{Whom, concerns_for};
 use ecs_model::FactKey;
@@ -172,16 +173,34 @@ fn push_moved_by_others<A: Allocator + Copy, B: Allocator>(
     if !push_leaning_on_all(
         alloc,
         query,
-        Whom::Anyone,
+        &Sought::Moving,
         world,
         targets.as_slice(),
         moving,
     )? {
         return Ok(false);
     }
-    push_all(alloc, targets.as_slice(), moving)?;
+    push_matching(alloc, query, world, targets.as_slice(), moving)?;
     put_in_order(moving);
     Ok(true)
+}
+
+/// Adds those of these entities who don't lack what a query asks of `$this` itself.
+fn push_matching<A: Allocator + Copy, B: Allocator>(
+    alloc: A,
+    query: &Query<B>,
+    world: &World<A>,
+    entities: &[u32],
+    found: &mut ShortList<A>,
+) -> Result<(), AllocError>
+    ensures { OnOk result (found.new.items ≡ found.old.items ++ filter (may_be_this query.now world.now.state) entities.now) }
+{
+    for entity in entities {
+        if !lacks(query, ids_at(world, *entity)) {
+            found.push(alloc, *entity)?;
+        }
+    }
+    Ok(())
 }
 
 /// All with whom somebody holds a pair who may have moved by another one's fact, in order, unless they may be too many: those linked with one of whom
@@ -214,12 +233,12 @@ fn below<A: Allocator + Copy, B: Allocator>(
     world: &World<A>,
     changes: &Changes<A>,
 ) -> Result<Option<ShortList<A>>, AllocError>
-    ensures { IfOk result (λ found. IfSome found (λ below. HasAllBelow (concerns_beyond query.now) world.now.state (entities_of (concerns_below query.now) changes.now) below.items)) }
+    ensures { IfOk result (λ found. IfSome found (λ below. HasAllBelow (λ ids. concerns_beyond query.now) world.now.state (entities_of (concerns_below query.now) changes.now) below.items)) }
 {
     let mut below = ShortList::new();
     push_entities(alloc, query, Whom::Below, changes, &mut below)?;
     put_in_order(&mut below);
-    if !push_all_below(alloc, query, Whom::Beyond, world, &mut below)? {
+    if !push_all_below(alloc, query, &Sought::Below, world, &mut below)? {
         return Ok(None);
     }
     Ok(Some(below))
@@ -245,10 +264,9 @@ fn linked<A: Allocator + Copy, B: Allocator>(
     let went = changes.went();
     push_busy(alloc, query, world, went, changes.came(), &mut linked)?;
     push_busy(alloc, query, world, went, went, &mut linked)?;
-    push_entities_by(alloc, query, Whom::Linked, went, &mut linked)?;
-    push_targets(alloc, query, went, &mut linked)?;
+    push_targets(alloc, query, world, went, went, &mut linked)?;
     put_in_order(&mut linked);
-    if !push_all_linked(alloc, query, world, &mut linked)? {
+    if !push_all_linked(alloc, query, went, world, &mut linked)? {
         return Ok(None);
     }
     Ok(Some(linked))

@@ -5,7 +5,7 @@ ghost use Rattle.touched_entities.specs.Leaning.{concerns_for};
 
 use ecs_id::Id;
 use query_check::Query;
-use query_concerns::{concerns, concerns_below, concerns_others, links_others};
+use query_concerns::{concerns, concerns_below, concerns_others};
 use std::alloc::Allocator;
 
 /// For whom an id concerns a query.
@@ -19,8 +19,6 @@ pub(crate) enum Whom {
     Below,
     /// For others, or for those below.
     Beyond,
-    /// For others, as a pair that links them.
-    Linked,
 }
 
 #[inline(always)]
@@ -32,6 +30,5 @@ pub(crate) fn concerns_for<B: Allocator>(query: &Query<B>, whom: Whom, id: Id) -
         Whom::Others => concerns_others(query, id),
         Whom::Below => concerns_below(query, id),
         Whom::Beyond => concerns_below(query, id) || concerns_others(query, id),
-        Whom::Linked => links_others(query, id),
     }
 }

@@ -1,14 +1,14 @@
 use Rattle.std.specs.Prelude.{◌+◌, filter, map, take}
 use Rattle.std.proofs.Common.{subst, sym}
 use Rattle.ecs_id.specs.declared.EntityId.{EntityId}
-use Rattle.touched_entities.specs.Leaning.{Adds, concerns_for, leans}
+use Rattle.touched_entities.specs.Leaning.{Adds, is_sought, leans}
 use Rattle.touched_entities.proofs.Grown.{failed, passed}
 use Rattle.touched_entities.proofs.leaning.push_from.Goals as goal
 use Rattle.touched_entities.proofs.leaning.push_from.Goals.{then-leans+in_ok-push_new, else-leans}
 
 pub loop-entity-preserved : goal.loop-entity-preserved
 loop-entity-preserved g c =
-    let test = leans (concerns_for c.args.whom c.args.query.now) c.args.world.now.state c.args.target in
+    let test = leans (is_sought c.args.sought.now c.args.query.now) c.args.world.now.state c.args.target in
     let entities = c.args.entities.now in
     let i = c.loop-entity.entity-index in
     let before = c.loop-entity.found.items in

@@ -1,11 +1,11 @@
 use Rattle.std.specs.Prelude.{filter}
 use Rattle.std.proofs.Common.{subst}
-use Rattle.touched_entities.specs.Leaning.{Adds, concerns_for, leans}
+use Rattle.touched_entities.specs.Leaning.{Adds, is_sought, leans}
 use Rattle.touched_entities.proofs.Grown.{given_within}
 use Rattle.touched_entities.proofs.leaning.push_from_tables.Goals as goal
 
 pub loop-table-preserved : goal.loop-table-preserved
 loop-table-preserved g c =
-    given_within (leans (concerns_for c.args.whom c.args.query.now) c.args.world.now.state c.args.target) (g.G.Holders.rows c.args.graph.now) c.args.tables.now c.loop-table.table-index c.loop-table-test.true _
+    given_within (leans (is_sought c.args.sought.now c.args.query.now) c.args.world.now.state c.args.target) (g.G.Holders.rows c.args.graph.now) c.args.tables.now c.loop-table.table-index c.loop-table-test.true _
     c.args.found.now.items c.loop-table.found.items c.push_from.new.found.items c.loop-table.invariant
-    (subst (λ rows. Adds (filter (leans (concerns_for c.args.whom c.args.query.now) c.args.world.now.state c.args.target) rows) c.loop-table.found.items c.push_from.new.found.items) c.rows.ensures c.in_ok-push_from.ensures)
+    (subst (λ rows. Adds (filter (leans (is_sought c.args.sought.now c.args.query.now) c.args.world.now.state c.args.target) rows) c.loop-table.found.items c.push_from.new.found.items) c.rows.ensures c.in_ok-push_from.ensures)

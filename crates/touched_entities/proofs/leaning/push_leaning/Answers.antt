@@ -4,13 +4,13 @@ use Rattle.std.proofs.Common.{subst, ℕ, List}
 use Rattle.std.specs.List.{Contains}
 use Rattle.component_index.specs.Patterns.{matches}
 use Rattle.ecs_links.specs.Linked.{rows_under}
-use Rattle.touched_entities.specs.Leaning.{concerns_for, leaning, leans, pairs_to}
+use Rattle.touched_entities.specs.Leaning.{is_sought, leaning, leans, pairs_to}
 use Rattle.touched_entities.proofs.Grown.{fewer, leaning_are_holders}
 use Rattle.touched_entities.proofs.leaning.push_leaning.Goals as goal
 
 pub returns : goal.returns
 returns g c done =
-    let p = concerns_for c.args.whom c.args.query.now in
+    let p = is_sought c.args.sought.now c.args.query.now in
     let w = c.args.world.now.state in
     let x = c.args.target in
     let l = c.links-links.result in

@@ -1,17 +1,16 @@
 use Rattle.std.specs.Prelude.{◌<◌, ◌≤◌, length}
 use Rattle.std.proofs.Common.{ap, arith, get_or, subst}
 use Rattle.std.proofs.lemmas.Bool.Decides.{nat_tests}
-use Rattle.query_concerns.specs.Linked.{links_others}
-use Rattle.touched_entities.specs.Leaning.{Adds, linked_with}
+use Rattle.touched_entities.specs.Leaning.{Adds, linked_with, links_busily}
 use Rattle.touched_entities.proofs.Below.{all_walked, begun, walked_on}
 use Rattle.touched_entities.proofs.linked.push_all_linked.Goals as goal
 
 pub loop-next-init : goal.loop-next-init
-loop-next-init g c = begun (linked_with (links_others c.args.query.now) c.args.world.now.state) c.args.found.now.items
+loop-next-init g c = begun (linked_with (links_busily c.args.query.now c.args.went.now) c.args.world.now.state) c.args.found.now.items
 
 pub loop-next-preserved : goal.loop-next-preserved
 loop-next-preserved g c =
-    let next = linked_with (links_others c.args.query.now) c.args.world.now.state in
+    let next = linked_with (links_busily c.args.query.now c.args.went.now) c.args.world.now.state in
     let found = c.loop-next.found.items in
     let after = c.push_linked.new.found.items in
     let n = c.loop-next.next in
@@ -25,10 +24,10 @@ returns g c done =
     let found = c.loop-next.found.items in
     let count = c.len-2.result in
     let few : count ≤ 64 = grind (arith, nat_tests, done) in
-    all_walked (linked_with (links_others c.args.query.now) c.args.world.now.state) c.args.found.now.items found c.loop-next.next c.loop-next.invariant
+    all_walked (linked_with (links_busily c.args.query.now c.args.went.now) c.args.world.now.state) c.args.found.now.items found c.loop-next.next c.loop-next.invariant
     (omega (arith, few, c.len-2.ensures, c.loop-next-test.false))
 
 pub returns-then-next-len : goal.returns-then-next-len
 returns-then-next-len g c done =
-    all_walked (linked_with (links_others c.args.query.now) c.args.world.now.state) c.args.found.now.items c.loop-next.found.items c.loop-next.next c.loop-next.invariant
+    all_walked (linked_with (links_busily c.args.query.now c.args.went.now) c.args.world.now.state) c.args.found.now.items c.loop-next.found.items c.loop-next.next c.loop-next.invariant
     (omega (arith, c.if-next-len.true, c.len.ensures))

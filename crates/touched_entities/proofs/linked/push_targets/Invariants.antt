@@ -1,8 +1,7 @@
 use Rattle.std.proofs.Common.{take}
-use Rattle.query_concerns.specs.Linked.{links_others}
 use Rattle.touched_entities.specs.Leaning.{Adds}
 use Rattle.touched_entities.specs.Moving.{targets_by}
 use Rattle.touched_entities.proofs.linked.push_targets.Given as goal
 
 abbrev pub invariant-loop-fact : goal.invariant-loop-fact
-invariant-loop-fact g l = Adds (targets_by (links_others l.query) (take l.fact-index l.facts)) l.initial.found.items l.found.items
+invariant-loop-fact g l = Adds (targets_by l.query l.world.state l.went (take l.fact-index l.facts)) l.initial.found.items l.found.items

@@ -1,10 +1,9 @@
 use Rattle.std.specs.Prelude.{List, ◌++◌}
 use Rattle.std.proofs.Common.{sym, ap, subst, ◌∙◌}
 use Rattle.ecs_model.specs.World.{Key}
-use Rattle.query_concerns.specs.Linked.{links_others}
 use Rattle.query_concerns.specs.Others.{concerns_others}
-use Rattle.touched_entities.specs.Leaning.{Adds}
-use Rattle.touched_entities.specs.Moving.{busy_among, entities_by, entities_of, targets_by}
+use Rattle.touched_entities.specs.Leaning.{Adds, IsClosed, linked_with, links_busily}
+use Rattle.touched_entities.specs.Moving.{busy_among, entities_of, targets_by}
 use Rattle.touched_entities.proofs.AllMoving.{all_linked, linked_if_tied}
 use Rattle.touched_entities.proofs.moving.linked.Goals as goal
 
@@ -23,7 +22,8 @@ returns g c =
     let went = c.went-went.ensures in
     let first = c.in_ok-push_busy.ensures ∙ (λ i. c.new-linked.ensures i ++ busy_among q w (went i) (c.came.ensures i)) in
     let busy = c.in_ok-push_busy-2.ensures ∙ (λ i. first i ++ busy_among q w (went i) (went i)) in
-    let gathered = c.in_ok-push_entities_by.ensures ∙ (λ i. c.push_busy-2.new.found.items ++ entities_by (links_others q) (went i)) in
-    let lost = subst (λ (ks : List Key). Adds (targets_by (links_others q) ks) c.push_entities_by.new.found.items c.push_targets.new.found.items) went c.in_ok-push_targets.ensures in
-    all_linked q w changed c.push_busy-2.new.found.items c.push_entities_by.new.found.items c.push_targets.new.found.items c.put_in_order.new.indexes.items c.push_all_linked.new.found.items
-    (sym (ap (λ b. b.tied) c.requires.bonds) ∙ c.if-bonds.false) busy gathered lost c.put_in_order.ensures.same (c.in_ok-push_all_linked.ensures c.if-not-branch.false)
+    let lost = subst (λ (ks : List Key). Adds (targets_by q w ks ks) c.push_busy-2.new.found.items c.push_targets.new.found.items) went c.in_ok-push_targets.ensures in
+    let closed = subst (λ (ks : List Key). IsClosed (linked_with (links_busily q ks) w) c.put_in_order.new.indexes.items c.push_all_linked.new.found.items) went
+    (c.in_ok-push_all_linked.ensures c.if-not-branch.false) in
+    all_linked q w changed c.push_busy-2.new.found.items c.push_targets.new.found.items c.put_in_order.new.indexes.items c.push_all_linked.new.found.items
+    (sym (ap (λ b. b.tied) c.requires.bonds) ∙ c.if-bonds.false) busy lost c.put_in_order.ensures.same closed

@@ -1,7 +1,7 @@
-use Rattle.std.specs.Prelude.{ℕ, List, ◌++◌, IfSome, Option}
+use Rattle.std.specs.Prelude.{ℕ, List, ◌++◌, IfSome, Option, filter}
 use Rattle.std.proofs.Common.{subst, sym, ◌∙◌}
 use Rattle.short_list.specs.Items.{Items}
-use Rattle.touched_entities.specs.Moving.{AreTargets}
+use Rattle.touched_entities.specs.Moving.{AreTargets, may_be_this}
 use Rattle.touched_entities.proofs.AllMoving.{all_moving}
 use Rattle.touched_entities.proofs.moving.push_moved_by_others.Goals as goal
 
@@ -14,4 +14,4 @@ returns-clause-all g c done =
     let holders : List ℕ = c.push_leaning_on_all.new.found.items in
     all_moving q w changed c.args.moving.now.items c.as_slice.result.now holders _ c.put_in_order.new.indexes.items
     c.requires.own (subst (AreTargets q w changed) (sym c.as_slice.ensures) found) (c.in_ok-push_leaning_on_all.ensures c.if-not-branch.false)
-    (c.in_ok-push_all.ensures ∙ (λ i. holders ++ (c.as_slice-2.ensures ∙ sym c.as_slice.ensures) i)) c.put_in_order.ensures.same
+    (c.in_ok-push_matching.ensures ∙ (λ i. holders ++ filter (may_be_this q w) ((c.as_slice-2.ensures ∙ sym c.as_slice.ensures) i))) c.put_in_order.ensures.same

@@ -3,7 +3,7 @@ use Rattle.std.proofs.Common.{subst, ◌∙◌}
 use Rattle.query_concerns.specs.Others.{concerns_below}
 use Rattle.short_list.specs.Items.{Items}
 use Rattle.touched_entities.specs.Leaning.{HasAllBelow, concerns_beyond}
-use Rattle.touched_entities.specs.Moving.{AreLinked, AreTargets, entities_of}
+use Rattle.touched_entities.specs.Moving.{AreLinked, entities_of}
 use Rattle.touched_entities.proofs.AllMoving.{all_targets}
 use Rattle.touched_entities.proofs.moving.targets.Goals as goal
 
@@ -12,7 +12,7 @@ returns g c =
     let q = c.args.query.now in
     let w = c.args.world.now.state in
     let changed = c.args.changes.now in
-    let below = subst (λ (o : Option Items). IfSome o (λ below. HasAllBelow (concerns_beyond q) w (entities_of (concerns_below q) changed) below.items)) c.in-Some.is c.in_ok-below.ensures in
+    let below = subst (λ (o : Option Items). IfSome o (λ below. HasAllBelow (λ ids. concerns_beyond q) w (entities_of (concerns_below q) changed) below.items)) c.in-Some.is c.in_ok-below.ensures in
     let linked = subst (λ (o : Option Items). IfSome o (λ linked. AreLinked q w changed linked.items)) c.in-Some-2.is c.in_ok-targets.ensures in
     let start : List ℕ = c.in-Some-2.targets.items in
     all_targets q w changed start c.in-Some.below.items _ c.put_in_order.new.indexes.items

@@ -1,0 +1,39 @@
+//! Who is looked for among those that hold a pair with an entity.
+
+ghost use Rattle.std.specs.Prelude.{◌≡◌};
+ghost use Rattle.touched_entities.specs.Leaning.{is_sought};
+
+use crate::whom::{Whom, concerns_for};
+use ecs_id::Id;
+use ecs_model::FactKey;
+use query_check::Query;
+use query_concerns::{concerns, is_idle, lacks, links_others};
+use std::alloc::Allocator;
+
+/// Who is looked for among those that hold a pair with an entity.
+#[derive(Clone, Copy, Drop)]
+pub(crate) enum Sought<'a> {
+    /// Who may move by a fact of that: whose pair concerns the query, and who doesn't lack what it asks of `$this` itself.
+    Moving,
+    /// Who is below it: whose pair concerns the query for others, or for those below.
+    Below,
+    /// Who is linked with it: whose pair links others and isn't idle, where these facts went.
+    Linked(&'a [FactKey]),
+}
+
+/// Whether one who holds these ids is looked for, by a pair among them.
+#[inline(always)]
+pub(crate) fn is_sought<B: Allocator>(
+    query: &Query<B>,
+    sought: &Sought<'_>,
+    ids: &[Id],
+    id: Id,
+) -> bool
+    ensures { result ≡ is_sought sought.now query.now ids.now id }
+{
+    match sought {
+        Sought::Moving => concerns(query, id) && !lacks(query, ids),
+        Sought::Below => concerns_for(query, Whom::Beyond, id),
+        Sought::Linked(went) => links_others(query, id) && !is_idle(query, ids, *went, id),
+    }
+}
