@@ -114,6 +114,15 @@ def dropped_monitors():
     return [(1, stored + [*drops(STORED // 2)]), (-1, stored)], STORED // 2
 
 
+def switched(relationship):
+    """A line that adds a pair in whose place another one of its entity goes."""
+    world = [f"entity {name}" for name in ("Sun", "Moon", "Likes", "Earth")] + ["add Likes Exclusive", f"add Earth ({relationship},Sun)"]
+    lines = []
+    for _ in range(COMMANDS // 2):
+        lines += [f"add Earth ({relationship},{target})" for target in ("Moon", "Sun")]
+    return [(1, world + lines), (-1, world)], COMMANDS
+
+
 # queries that nobody answers, by what they ask of ancestors, of reach or of others
 BY_TABLES = {
     "up": "[none] Position, Flying(up)",
@@ -168,6 +177,8 @@ DIFFERENCES = {
     "beside_tied": beside("monitor", "(T0,$x), T0($x)"),
     "beside_observers": beside("on add", "T0"),
     "beside_many": beside_many,
+    "switched_parent": partial(switched, "ChildOf"),
+    "switched_pair": partial(switched, "Likes"),
 }
 DIFFERENCES.update((f"moved_{name}_{count}", partial(moving, text, count)) for name, text in MONITORS.items() for count in ROWS)
 DIFFERENCES.update((f"moved_team_{count}", partial(in_teams, False, count)) for count in ROWS)
