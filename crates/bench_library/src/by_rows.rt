@@ -6,11 +6,17 @@ use query_model::faults::QueryFault;
 use std::alloc::Global;
 use world_rows::{Asked, Rows, WorldView};
 
+/// The bytes of the value that a field shows, if it shows one.
+fn bytes_of<'w>(rows: &Rows<'w, Global>, number: usize) -> Option<&'w [u8]> {
+    let value = rows.field(number)?.value?;
+    Some(value.bytes())
+}
+
 /// The product of a row's two values, if both are there.
 fn product_of_values(rows: &Rows<'_, Global>) -> Option<i64> {
-    let position = rows.field(0)?.value?;
-    let velocity = rows.field(1)?.value?;
-    Some(product_of(position.bytes(), velocity.bytes()))
+    let position = bytes_of(rows, 0)?;
+    let velocity = bytes_of(rows, 1)?;
+    Some(product_of(position, velocity))
 }
 
 /// What is added up of a row: its two values, or its first entity.
@@ -62,5 +68,6 @@ pub(crate) fn sum_by_rows(
         asked = again;
         sum = sum.wrapping_add(more);
     }
+    drop(asked);
     Ok(sum)
 }

@@ -1,6 +1,7 @@
 //! Carries out many commands on a world, and tells two numbers that they have led to.
 
 use crate::{relations, values};
+use ecs_id::{EntityId, Id};
 use ecs_model::faults::CommandError;
 use ecs_schema::SchemaError;
 use ecs_world::World;
@@ -35,6 +36,29 @@ impl From<AllocError> for Fault {
     fn from(_: AllocError) -> Fault {
         Fault::Command(CommandError::Memory)
     }
+}
+
+/// Makes an entity without a name.
+pub(crate) fn fresh(world: &mut World) -> Result<EntityId, Fault> {
+    let changes = world.fresh()?;
+    let born = changes.born();
+    drop(changes);
+    born.ok_or(Fault::World)
+}
+
+pub(crate) fn add(world: &mut World, entity: EntityId, id: Id) -> Result<(), Fault> {
+    drop(world.add(entity, id)?);
+    Ok(())
+}
+
+pub(crate) fn set(
+    world: &mut World,
+    entity: EntityId,
+    id: Id,
+    value: &[i128],
+) -> Result<(), Fault> {
+    drop(world.set(entity, id, value)?);
+    Ok(())
 }
 
 /// Carries out a workload, by its name, on a new world.

@@ -6,7 +6,7 @@
 use ecs_id::EntityId;
 use entity_index::{CreateError, EntityIndex};
 use name_index::{BindError, NameIndex};
-use std::alloc::{AllocError, Global};
+use std::alloc::Global;
 use std::hash::RandomState;
 use std::io;
 
@@ -45,8 +45,7 @@ impl Bench {
     fn make(&mut self) -> Result<(), CreateError> {
         let entity = self.index.create()?;
         self.checksum = self.checksum.wrapping_mul(31).wrapping_add(entity.packed());
-        self.entities.push(entity).map_err(AllocError::from)?;
-        Ok(())
+        self.entities.push(entity).or(Err(CreateError::Memory))
     }
 
     fn delete(&mut self, at: usize) -> bool {
@@ -58,12 +57,7 @@ impl Bench {
     }
 }
 
-fn run(alloc: Global) -> Result<Bench, CreateError> {
-    let mut bench = Bench {
-        index: EntityIndex::new(alloc, LAST)?,
-        entities: Vec::new(alloc),
-        checksum: 0,
-    };
+fn work(bench: &mut Bench) -> Result<(), CreateError> {
     for _ in 0..STEPS {
         bench.make()?;
     }
@@ -76,7 +70,22 @@ fn run(alloc: Global) -> Result<Bench, CreateError> {
             bench.make()?;
         }
     }
-    Ok(bench)
+    Ok(())
+}
+
+/// A checksum of all entities that were made, and how many are left.
+fn run(alloc: Global) -> Result<(u64, usize), CreateError> {
+    let index = EntityIndex::new(alloc, LAST)?;
+    let mut bench = Bench {
+        index,
+        entities: Vec::new(alloc),
+        checksum: 0,
+    };
+    let done = work(&mut bench);
+    let (checksum, left) = (bench.checksum, bench.entities.len());
+    drop(bench);
+    done?;
+    Ok((checksum, left))
 }
 
 /// Names that are bound, and among them some that aren't.
@@ -87,30 +96,40 @@ struct Lookups {
 }
 
 impl Lookups {
-    fn new(alloc: Global, random: RandomState) -> Result<Lookups, BindError> {
-        let mut lookups = Lookups {
+    fn new(alloc: Global, random: RandomState) -> Lookups {
+        Lookups {
             index: NameIndex::new(alloc, random),
             names: Vec::new(alloc),
-        };
-        for number in 0..NAMES {
-            lookups.add(alloc, number)?;
         }
-        Ok(lookups)
     }
 
-    fn add(&mut self, alloc: Global, number: u32) -> Result<(), BindError> {
-        let name = format!(in alloc; "Entity{number}").map_err(|_| BindError::Memory)?;
+    fn add_all(&mut self, alloc: Global) -> Result<(), BindError> {
+        for number in 0..NAMES {
+            self.add(alloc, number)?;
+        }
+        Ok(())
+    }
+
+    /// Binds the name of a number, if it is even.
+    fn bind(&mut self, name: &str, number: u32) -> Result<(), BindError> {
         let entity = EntityId {
             index: number,
             generation: 0,
         };
-        if number % 2 == 0 {
-            match self.index.name_of(entity) {
-                None => self.index.bind(name.as_str(), entity)?,
-                Some(_) => {}
-            }
+        if number % 2 != 0 {
+            return Ok(());
         }
-        self.names.push(name).map_err(|_| BindError::Memory)
+        match self.index.name_of(entity) {
+            None => self.index.bind(name, entity),
+            Some(_) => Ok(()),
+        }
+    }
+
+    fn add(&mut self, alloc: Global, number: u32) -> Result<(), BindError> {
+        let name = format!(in alloc; "Entity{number}").or(Err(BindError::Memory))?;
+        let bound = self.bind(name.as_str(), number);
+        let added = self.names.push(name).or(Err(BindError::Memory));
+        bound.and(added)
     }
 
     fn find(&self, at: usize) -> Option<EntityId> {
@@ -151,23 +170,19 @@ fn name_all(lookups: &Lookups) -> u64 {
 
 fn tell_entities(rt: &HostRuntime) -> io::Result<()> {
     match run(rt.alloc()) {
-        Ok(bench) => {
-            let checksum = bench.checksum;
-            let left = bench.entities.len();
-            println!(rt; "{checksum} {left}")
-        }
+        Ok((checksum, left)) => println!(rt; "{checksum} {left}"),
         Err(error) => println!(rt; "{error:?}"),
     }
 }
 
 fn tell_names(rt: &HostRuntime) -> io::Result<()> {
-    match Lookups::new(rt.alloc(), RandomState::new(rt)?) {
-        Ok(lookups) => {
-            let (checksum, found) = find_all(&lookups);
-            println!(rt; "{checksum} {found}")?;
-            let bytes = name_all(&lookups);
-            println!(rt; "{bytes}")
-        }
+    let mut lookups = Lookups::new(rt.alloc(), RandomState::new(rt)?);
+    let done = lookups.add_all(rt.alloc());
+    let (checksum, found) = find_all(&lookups);
+    let bytes = name_all(&lookups);
+    drop(lookups);
+    match done {
+        Ok(()) => println!(rt; "{checksum} {found}\n{bytes}"),
         Err(error) => println!(rt; "{error:?}"),
     }
 }

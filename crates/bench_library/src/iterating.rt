@@ -1,7 +1,8 @@
 //! Entities in twenty tables, gone through by chunks and by rows, with a value written or without, and as many in plain slices.
 
 use crate::by_rows::sum_by_rows;
-use crate::commands::Fault;
+use crate::commands::{Fault, add, fresh, set};
+use crate::is_asked;
 use crate::values::{component, tag};
 use crate::writing::{Turn, move_all};
 use ecs_id::{EntityId, Id};
@@ -48,13 +49,13 @@ fn fill(alloc: Global, world: &mut World, count: u32) -> Result<Id, Fault> {
         tag(world, "E")?,
     ];
     for number in 0..count {
-        let entity = world.fresh()?.born().ok_or(Fault::World)?;
+        let entity = fresh(world)?;
         add_tags(world, entity, &tags, number % 20)?;
-        world.add(entity, position)?;
-        world.add(entity, velocity)?;
+        add(world, entity, position)?;
+        add(world, entity, velocity)?;
         let x = i128::from(number % 1000);
-        world.set(entity, position, &[x, -x])?;
-        world.set(entity, velocity, &[1, x])?;
+        set(world, entity, position, &[x, -x])?;
+        set(world, entity, velocity, &[1, x])?;
     }
     Ok(position)
 }
@@ -64,7 +65,7 @@ fn add_tags(world: &mut World, entity: EntityId, tags: &[Id], number: u32) -> Re
     let mut left = number;
     for tag in tags {
         if left % 2 == 1 {
-            world.add(entity, *tag)?;
+            add(world, entity, *tag)?;
         }
         left /= 2;
     }
@@ -110,11 +111,17 @@ fn sum_of_values(positions: &[u8], velocities: &[u8]) -> u64 {
     sum.cast_unsigned()
 }
 
+/// The bytes of a column, if it has values.
+pub(crate) fn bytes_of<'r>(chunk: &Chunk<'r>, number: usize) -> Option<&'r [u8]> {
+    match chunk.column(number) {
+        Some(Column::Values(_, _, bytes)) => Some(bytes),
+        _ => None,
+    }
+}
+
 fn values_of(chunk: &Chunk<'_>) -> u64 {
-    match (chunk.column(0), chunk.column(1)) {
-        (Some(Column::Values(_, _, positions)), Some(Column::Values(_, _, velocities))) => {
-            sum_of_values(positions, velocities)
-        }
+    match (bytes_of(chunk, 0), bytes_of(chunk, 1)) {
+        (Some(positions), Some(velocities)) => sum_of_values(positions, velocities),
         _ => 0,
     }
 }
@@ -135,8 +142,10 @@ fn sum_by_chunks(world: &World, query: &Query, values: bool) -> u64 {
         } else {
             sum_of_entities(chunk.entities())
         };
+        drop(chunk);
         sum = sum.wrapping_add(more);
     }
+    drop(chunks);
     sum
 }
 
@@ -148,12 +157,7 @@ struct Plain {
     velocities: Vec<u8>,
 }
 
-fn plain_entities(alloc: Global, count: u32) -> Result<Plain, AllocError> {
-    let mut all = Plain {
-        entities: Vec::new(alloc),
-        positions: Vec::new(alloc),
-        velocities: Vec::new(alloc),
-    };
+fn add_plain(all: &mut Plain, count: u32) -> Result<(), AllocError> {
     for index in 0..count {
         all.entities.push(EntityId {
             index,
@@ -162,7 +166,22 @@ fn plain_entities(alloc: Global, count: u32) -> Result<Plain, AllocError> {
         all.positions.extend_from_slice(&[1, 2, 3, 4, 5, 6, 7, 8])?;
         all.velocities.extend_from_slice(&[1, 0, 0, 0, 1, 0, 0, 0])?;
     }
-    Ok(all)
+    Ok(())
+}
+
+fn plain_entities(alloc: Global, count: u32) -> Result<Plain, AllocError> {
+    let mut all = Plain {
+        entities: Vec::new(alloc),
+        positions: Vec::new(alloc),
+        velocities: Vec::new(alloc),
+    };
+    match add_plain(&mut all, count) {
+        Ok(()) => Ok(all),
+        Err(error) => {
+            drop(all);
+            Err(error)
+        }
+    }
 }
 
 /// Goes over so many plain entities so often.
@@ -177,6 +196,7 @@ fn sum_plain(alloc: Global, values: bool, count: u32, times: u32) -> Result<u64,
         };
         sum = sum.wrapping_add(more);
     }
+    drop(all);
     Ok(sum)
 }
 
@@ -186,7 +206,9 @@ fn sum_plain_written(alloc: Global, count: u32, times: u32) -> Result<u64, Fault
     for _ in 0..times {
         move_all(all.positions.as_mut_slice(), all.velocities.as_slice());
     }
-    Ok(sum_of_values(all.positions.as_slice(), all.velocities.as_slice()))
+    let sum = sum_of_values(all.positions.as_slice(), all.velocities.as_slice());
+    drop(all);
+    Ok(sum)
 }
 
 /// Goes over the entities of a world so often by chunks.
@@ -196,12 +218,27 @@ fn sum_of_chunks(alloc: Global, world: &World, values: bool, times: u32) -> Resu
     for _ in 0..times {
         sum = sum.wrapping_add(sum_by_chunks(world, &query, values));
     }
+    drop(query);
     Ok(sum)
 }
 
 /// The same by rows.
 fn sum_of_rows(alloc: Global, world: &World, values: bool, times: u32) -> Result<u64, Fault> {
     sum_by_rows(alloc, world, TEXT, values, times).or(Err(Fault::World))
+}
+
+/// Moves the entities of a query so often by their velocities.
+fn move_often(
+    turn: &mut Turn,
+    world: &mut World,
+    query: &Query,
+    position: Id,
+    times: u32,
+) -> Result<(), Fault> {
+    for _ in 0..times {
+        turn.take(world, query, position)?;
+    }
+    Ok(())
 }
 
 /// Moves the entities of a world so often by their velocities, and goes over them once.
@@ -213,10 +250,11 @@ fn sum_of_written(
 ) -> Result<u64, Fault> {
     let query = read_query(alloc, world, TEXT).or(Err(Fault::World))?;
     let mut turn = Turn::new(alloc);
-    for _ in 0..times {
-        turn.take(world, &query, position)?;
-    }
-    Ok(sum_by_chunks(world, &query, true))
+    let moved = move_often(&mut turn, world, &query, position, times);
+    drop(turn);
+    let sum = sum_by_chunks(world, &query, true);
+    drop(query);
+    moved.and(Ok(sum))
 }
 
 /// Makes so many entities, and goes over them so often.
@@ -265,11 +303,7 @@ pub(crate) fn tell(
 ) -> io::Result<()> {
     let count = size.unwrap_or(COUNT);
     for name in &NAMES {
-        let is_asked = match chosen {
-            Some(word) => word.as_str() == *name,
-            None => true,
-        };
-        if is_asked {
+        if is_asked(chosen, name) {
             match sum(rt.alloc(), RandomState::new(rt)?, name, count, times) {
                 Ok(sum) => println!(rt; "{name}: {sum}")?,
                 Err(fault) => println!(rt; "{fault:?}")?,

@@ -31,9 +31,9 @@ mod writing;
 
 use std::{env, io};
 
-/// Whether a part is run.
-fn is_asked(part: &Option<String>, name: &str) -> bool {
-    match part {
+/// Whether something is run: what a word names, or all where there is none.
+fn is_asked(word: &Option<String>, name: &str) -> bool {
+    match word {
         Some(word) => word.as_str() == name,
         None => true,
     }
@@ -44,21 +44,53 @@ fn number(word: &Option<String>) -> Option<u32> {
     word.as_ref()?.parse().ok()
 }
 
-fn main(rt: HostRuntime) -> io::Result<()> {
-    let mut words = env::args(&rt)?.skip(1);
-    let (part, chosen, size, phase) = (words.next(), words.next(), words.next(), words.next());
-    if is_asked(&part, "indexes") {
-        indexes::tell(&rt)?;
+/// What the words after the program's name ask for.
+#[derive(Drop)]
+struct Order {
+    part: Option<String>,
+    chosen: Option<String>,
+    size: Option<String>,
+    phase: Option<String>,
+}
+
+fn read_order(rt: &HostRuntime) -> io::Result<Order> {
+    let mut words = env::args(rt)?.skip(1);
+    let order = Order {
+        part: words.next(),
+        chosen: words.next(),
+        size: words.next(),
+        phase: words.next(),
+    };
+    drop(words);
+    Ok(order)
+}
+
+/// Runs the part that is asked for, or all.
+fn run(rt: &HostRuntime, order: &Order) -> io::Result<()> {
+    if is_asked(&order.part, "indexes") {
+        indexes::tell(rt)?;
     }
-    if is_asked(&part, "query") {
-        let times = number(&size).unwrap_or(1);
-        reading::tell(&rt, &chosen, u64::from(times), &phase)?;
+    if is_asked(&order.part, "query") {
+        let times = number(&order.size).unwrap_or(1);
+        reading::tell(rt, &order.chosen, u64::from(times), &order.phase)?;
     }
-    if is_asked(&part, "iterate") {
-        iterating::tell(&rt, &chosen, number(&size).unwrap_or(1), number(&phase))?;
+    if is_asked(&order.part, "iterate") {
+        iterating::tell(
+            rt,
+            &order.chosen,
+            number(&order.size).unwrap_or(1),
+            number(&order.phase),
+        )?;
     }
-    if is_asked(&part, "world") {
-        commands::tell(&rt, &chosen, number(&size))?;
+    if is_asked(&order.part, "world") {
+        commands::tell(rt, &order.chosen, number(&order.size))?;
     }
     Ok(())
+}
+
+fn main(rt: HostRuntime) -> io::Result<()> {
+    let order = read_order(&rt)?;
+    let done = run(&rt, &order);
+    drop(order);
+    done
 }

@@ -3,8 +3,8 @@
 ghost use Rattle.std.specs.Prelude.{IfOk};
 ghost use Rattle.query_meaning.specs.Sound.{IsSound};
 
-use crate::texts;
 use crate::words::Words;
+use crate::{is_asked, texts};
 use query_check::{Query, check};
 use query_lexer::lex;
 use query_meaning::laws::checked_queries_are_sound;
@@ -88,45 +88,80 @@ fn read_often(
 ) -> Result<Query, QueryFault> {
     for _ in 1..times {
         match phase {
-            Some(phase) => ask_phase(alloc, text, phase).is_ok(),
-            None => ask(alloc, text).is_ok(),
-        };
+            Some(phase) => drop(ask_phase(alloc, text, phase)),
+            None => drop(ask(alloc, text)),
+        }
     }
     ask(alloc, text)
 }
 
 /// How many tables each item would be searched in.
-const TABLES: usize = 3;
+const TABLES: [usize; 64] = [3; 64];
+
+/// Does once what a phase asks: plans the query, with a test of the steps or without one, judges the steps of its plan, or copies it.
+fn plan_once(alloc: Global, query: &Query, plan: &Plan, tables: &[usize; 64], phase: &str)
+    requires { IsSound query.now }
+{
+    match phase {
+        "plan" => drop(Plan::new(alloc, query, tables)),
+        "tested" => drop(Plan::of_lists(alloc, query, tables)),
+        "copy" => drop(query.try_clone(alloc)),
+        _ => drop(Plan::from_steps(alloc, query, plan.steps())),
+    }
+}
+
+/// Does that so often, and tells how many steps the plan has.
+fn plan_query_often(
+    alloc: Global,
+    query: &Query,
+    phase: &str,
+    times: u64,
+) -> Result<usize, QueryFault>
+    requires { IsSound query.now }
+{
+    let tables = TABLES;
+    let Ok(plan) = Plan::new(alloc, query, &tables) else {
+        return Err(QueryFault::Memory);
+    };
+    for _ in 1..times {
+        plan_once(alloc, query, &plan, &tables, phase);
+    }
+    let steps = plan.steps().len();
+    drop(plan);
+    Ok(steps)
+}
 
 /// Plans a query that is checked once so often, with a test of the steps or without one, or judges the steps of its plan, or copies the query.
 fn plan_often(alloc: Global, text: &str, phase: &str, times: u64) -> Result<usize, QueryFault> {
     let query = ask(alloc, text)?;
-    let lists = [TABLES; 64];
-    let Ok(plan) = Plan::new(alloc, &query, &lists) else {
-        return Err(QueryFault::Memory);
-    };
-    for _ in 1..times {
-        if phase == "plan" {
-            Plan::new(alloc, &query, &lists).is_ok();
-        } else if phase == "tested" {
-            Plan::of_lists(alloc, &query, &lists).is_ok();
-        } else if phase == "copy" {
-            query.try_clone(alloc).is_ok();
-        } else {
-            Plan::from_steps(alloc, &query, plan.steps()).is_ok();
-        }
-    }
-    Ok(plan.steps().len())
+    let steps = plan_query_often(alloc, &query, phase, times);
+    drop(query);
+    steps
 }
 
-fn told(rt: &HostRuntime, name: &str, answer: Result<Query, QueryFault>) -> io::Result<()> {
+/// How many pieces, mentions and variables a query has.
+fn lengths_of(query: &Query) -> [usize; 3] {
+    [
+        query.pieces().len(),
+        query.mentions().len(),
+        query.variables().len(),
+    ]
+}
+
+/// The same of an answer, or its fault.
+fn lengths_in(answer: Result<Query, QueryFault>) -> Result<[usize; 3], QueryFault> {
+    let query = answer?;
+    let lengths = lengths_of(&query);
+    drop(query);
+    Ok(lengths)
+}
+
+fn told(rt: &HostRuntime, name: &str, answer: Result<[usize; 3], QueryFault>) -> io::Result<()> {
     match answer {
-        Ok(query) => println!(rt;
-            "{name}: {} pieces, {} mentions, {} variables",
-            query.pieces().len(),
-            query.mentions().len(),
-            query.variables().len()
-        ),
+        Ok(lengths) => {
+            let [pieces, mentions, variables] = lengths;
+            println!(rt; "{name}: {pieces} pieces, {mentions} mentions, {variables} variables")
+        }
         Err(QueryFault::Memory) => println!(rt; "{name}: Memory"),
         Err(QueryFault::Fault(fault)) => println!(rt;
             "{name}: {:?} {}..{}",
@@ -142,6 +177,22 @@ fn told_plan(rt: &HostRuntime, name: &str, steps: Result<usize, QueryFault>) -> 
     }
 }
 
+fn tell_text(
+    rt: &HostRuntime,
+    name: &str,
+    text: &str,
+    times: u64,
+    phase: &Option<String>,
+) -> io::Result<()> {
+    let alloc = rt.alloc();
+    match phase {
+        Some(phase) if asks_plans(phase) => {
+            told_plan(rt, name, plan_often(alloc, text, phase, times))
+        }
+        _ => told(rt, name, lengths_in(read_often(alloc, text, phase, times))),
+    }
+}
+
 /// Reads the text that is named, or each, so often, up to a phase if one is asked for, or plans it.
 pub(crate) fn tell(
     rt: &HostRuntime,
@@ -149,19 +200,13 @@ pub(crate) fn tell(
     times: u64,
     phase: &Option<String>,
 ) -> io::Result<()> {
-    let alloc = rt.alloc();
-    for name in TEXTS {
-        if chosen.as_ref().is_some_and(|word| word.as_str() != name) {
-            continue;
+    for name in &TEXTS {
+        if is_asked(chosen, name) {
+            let text = text_of(rt.alloc(), name)?;
+            let done = tell_text(rt, name, &text, times, phase);
+            drop(text);
+            done?;
         }
-        let text = text_of(alloc, name)?;
-        if let Some(phase) = phase
-            && asks_plans(phase.as_str())
-        {
-            told_plan(rt, name, plan_often(alloc, &text, phase, times))?;
-            continue;
-        }
-        told(rt, name, read_often(alloc, &text, phase, times))?;
     }
     Ok(())
 }

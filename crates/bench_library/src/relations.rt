@@ -1,6 +1,6 @@
 //! Workloads along relationships.
 
-use crate::commands::Fault;
+use crate::commands::{Fault, add, fresh};
 use ecs_id::{EntityId, Id, LAST_INDEX};
 use ecs_model::FIRST_INDEX;
 use ecs_model::built_ins::{EXCLUSIVE, SYMMETRIC};
@@ -34,10 +34,6 @@ impl Numbers {
     }
 }
 
-fn fresh(world: &mut World) -> Result<EntityId, Fault> {
-    world.fresh()?.born().ok_or(Fault::World)
-}
-
 /// The entity that was made with this number.
 fn entity(world: &World, number: u32) -> Result<EntityId, Fault> {
     let index = FIRST_INDEX.wrapping_add(number);
@@ -59,7 +55,7 @@ fn grow(world: &mut World, count: u32) -> Result<(), Fault> {
     for number in 0..count {
         let parent = entity(world, numbers.below(number.wrapping_add(1)))?;
         let child = fresh(world)?;
-        world.add(child, pair(CHILD_OF, parent.index)?)?;
+        add(world, child, pair(CHILD_OF, parent.index)?)?;
     }
     Ok(())
 }
@@ -89,7 +85,9 @@ pub fn felled(world: &mut World, count: u32) -> Result<(i128, u64), Fault> {
     grow(world, count)?;
     let root = entity(world, 0)?;
     let changes = world.delete(root)?;
-    Ok((changes.died().len() as i128, changes.went().len() as u64))
+    let (died, went) = (changes.died().len(), changes.went().len());
+    drop(changes);
+    Ok((died as i128, went as u64))
 }
 
 /// Makes the people, and after them a relationship that is symmetric and exclusive.
@@ -98,21 +96,25 @@ fn make_married(world: &mut World) -> Result<EntityId, Fault> {
         fresh(world)?;
     }
     let married = fresh(world)?;
-    world.add(married, Id::plain(EXCLUSIVE))?;
-    world.add(married, Id::plain(SYMMETRIC))?;
+    add(world, married, Id::plain(EXCLUSIVE))?;
+    add(world, married, Id::plain(SYMMETRIC))?;
     Ok(married)
 }
 
 /// How many facts came with a pair, and how many went.
 fn add_pair(world: &mut World, one: EntityId, pair: Id) -> Result<(usize, usize), Fault> {
     let changes = world.add(one, pair)?;
-    Ok((changes.came().len(), changes.went().len()))
+    let (came, went) = (changes.came().len(), changes.went().len());
+    drop(changes);
+    Ok((came, went))
 }
 
 /// How many facts went with a pair.
 fn remove_pair(world: &mut World, one: EntityId, pair: Id) -> Result<usize, Fault> {
     let changes = world.remove(one, pair)?;
-    Ok(changes.went().len())
+    let went = changes.went().len();
+    drop(changes);
+    Ok(went)
 }
 
 /// Adds a pair, and every other time removes it again. Tells how many facts came and how many went.
@@ -153,7 +155,7 @@ fn grow_chain(world: &mut World, scratch: &mut Scratch, count: u32) -> Result<()
         if closes(world, child.index, parent.index, scratch)? {
             return Err(Fault::World);
         }
-        world.add(child, pair(CHILD_OF, parent.index)?)?;
+        add(world, child, pair(CHILD_OF, parent.index)?)?;
         parent = child;
     }
     Ok(())

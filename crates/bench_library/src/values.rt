@@ -1,6 +1,6 @@
 //! Entities with three components, whose values are set, and which then move from table to table.
 
-use crate::commands::Fault;
+use crate::commands::{Fault, add, fresh, set};
 use ecs_id::{EntityId, Id};
 use ecs_schema::{Kind, Schema};
 use ecs_world::World;
@@ -30,12 +30,16 @@ pub(crate) fn component(
 ) -> Result<Id, Fault> {
     let schema = Schema::new(alloc, fields)?;
     let changes = world.component(name, schema)?;
-    id_of(changes.born())
+    let born = changes.born();
+    drop(changes);
+    id_of(born)
 }
 
 pub(crate) fn tag(world: &mut World, name: &str) -> Result<Id, Fault> {
     let changes = world.entity(name)?;
-    id_of(changes.born())
+    let born = changes.born();
+    drop(changes);
+    id_of(born)
 }
 
 impl Bench {
@@ -56,16 +60,14 @@ impl Bench {
 
     /// Makes an entity whose values come from its number.
     fn make(&self, world: &mut World, number: u32) -> Result<(), Fault> {
-        let born = world.fresh()?.born();
-        let entity = born.ok_or(Fault::World)?;
-        for id in [self.position, self.velocity, self.mass] {
-            world.add(entity, id)?;
+        let entity = fresh(world)?;
+        for id in &[self.position, self.velocity, self.mass] {
+            add(world, entity, *id)?;
         }
         let (x, y) = (i128::from(number % 1000), i128::from(number % 7));
-        world.set(entity, self.position, &[x, -y])?;
-        world.set(entity, self.velocity, &[y, x])?;
-        world.set(entity, self.mass, &[i128::from(number)])?;
-        Ok(())
+        set(world, entity, self.position, &[x, -y])?;
+        set(world, entity, self.velocity, &[y, x])?;
+        set(world, entity, self.mass, &[i128::from(number)])
     }
 
     /// The entity that was made with this number: the tag was born last before them. No list of them is kept, as the memory measured
@@ -79,11 +81,11 @@ impl Bench {
     fn move_all(&self, world: &mut World) -> Result<(), Fault> {
         for number in 0..self.count {
             let entity = self.entity(world, number)?;
-            world.add(entity, self.tag)?;
+            add(world, entity, self.tag)?;
         }
         for number in 0..self.count {
             let entity = self.entity(world, number)?;
-            world.remove(entity, self.velocity)?;
+            drop(world.remove(entity, self.velocity)?);
         }
         Ok(())
     }

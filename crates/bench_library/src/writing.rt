@@ -1,11 +1,11 @@
 //! One value of the same entities written for each of them: by table, and in plain slices.
 
 use crate::commands::Fault;
-use crate::iterating::{PLANE, plane_of};
+use crate::iterating::{PLANE, bytes_of, plane_of};
 use ecs_id::{Id, TableKey};
 use ecs_world::World;
 use query_check::Query;
-use query_chunks::{Chunks, Column, has_chunks};
+use query_chunks::{Chunk, Chunks, has_chunks};
 use std::alloc::{AllocError, Global};
 
 /// The bytes that tables get for one id, one table's behind those of another. The room stays from one turn to the next.
@@ -61,6 +61,27 @@ impl Turn {
         Ok(())
     }
 
+    /// Adds the moved positions of a table, if it has both values.
+    fn add_table(&mut self, table: &Chunk<'_>) -> Result<(), AllocError> {
+        match (bytes_of(table, 0), bytes_of(table, 1)) {
+            (Some(positions), Some(velocities)) => self.add(table.table(), positions, velocities),
+            _ => Ok(()),
+        }
+    }
+
+    /// Adds those of all tables to come.
+    fn add_tables(&mut self, tables: &mut Chunks<'_>) -> Result<(), AllocError> {
+        for _ in 0..u32::MAX {
+            let Some(table) = tables.next_chunk() else {
+                break;
+            };
+            let added = self.add_table(&table);
+            drop(table);
+            added?;
+        }
+        Ok(())
+    }
+
     /// Finds the moved positions of all tables of a query for both values.
     fn find(&mut self, world: &World, query: &Query) -> Result<(), AllocError> {
         self.tables.clear();
@@ -68,20 +89,10 @@ impl Turn {
         if !has_chunks(query) {
             return Ok(());
         }
-        let mut chunks = Chunks::start(world, query);
-        for _ in 0..u32::MAX {
-            let Some(chunk) = chunks.next_chunk() else {
-                break;
-            };
-            if let (
-                Some(Column::Values(_, _, positions)),
-                Some(Column::Values(_, _, velocities)),
-            ) = (chunk.column(0), chunk.column(1))
-            {
-                self.add(chunk.table(), positions, velocities)?;
-            }
-        }
-        Ok(())
+        let mut tables = Chunks::start(world, query);
+        let added = self.add_tables(&mut tables);
+        drop(tables);
+        added
     }
 
     /// Moves each entity of a query by its velocity.

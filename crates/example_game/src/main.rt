@@ -11,7 +11,7 @@ ghost use Rattle.example_game.specs.Litres.{litres_in};
 
 use ecs_id::Id;
 use ecs_model::watches::StoredKind;
-use ecs_observe::{Session, SessionError, write_event};
+use ecs_observe::{Event, Session, SessionError, write_event};
 use ecs_schema::{Kind, Schema, SchemaError};
 use query_chunks::{Chunk, Chunks, Column, has_chunks};
 use query_model::faults::QueryFault;
@@ -49,7 +49,7 @@ fn begin(alloc: Global, session: &mut Session) -> Result<(), GameError> {
     let litres = Schema::new(alloc, &[("litres", Kind::U16)])?;
     session.component("Fuel", litres)?;
     session.entity("Docked")?;
-    for name in SHIPS {
+    for name in &SHIPS {
         if let Some(ship) = session.entity(name)? {
             session.set(ship, Id::plain(FUEL), &[40])?;
             session.add(ship, Id::plain(DOCKED))?;
@@ -60,13 +60,19 @@ fn begin(alloc: Global, session: &mut Session) -> Result<(), GameError> {
     Ok(())
 }
 
-/// Prints what the monitor has to tell of the last command.
-fn tell_events(session: &mut Session, out: &mut Vec<u8>) -> Result<(), AllocError> {
-    let told = session.events()?;
-    for event in told.as_slice() {
+fn write_events(told: &[Event], out: &mut Vec<u8>) -> Result<(), AllocError> {
+    for event in told {
         write_event(event, out)?;
     }
     Ok(())
+}
+
+/// Prints what the monitor has to tell of the last command.
+fn tell_events(session: &mut Session, out: &mut Vec<u8>) -> Result<(), AllocError> {
+    let told = session.events()?;
+    let written = write_events(told.as_slice(), out);
+    drop(told);
+    written
 }
 
 /// A ship puts to sea, and has so many litres left.
@@ -170,10 +176,11 @@ fn play(alloc: Global, session: &mut Session, out: &mut Vec<u8>) -> Result<(), G
     show_docked(session, out)?;
     let fuel = Asked::new(alloc, &WorldView::new(session.world()), "Fuel")?;
     let (fuel, before) = litres_by_row(session, fuel);
-    put_to_sea(session, "Petrel", 33, out)?;
+    let sailed = put_to_sea(session, "Petrel", 33, out);
     let in_frames = litres_in_frames(session, &fuel);
     let (fuel, after) = litres_by_row(session, fuel);
     drop(fuel);
+    sailed?;
     show_docked(session, out)?;
     let line = format!(in alloc;
         "{before} litres, then {after}; {in_frames} in {FRAMES} frames\n"

@@ -20,10 +20,10 @@ const ANN: u32 = 65;
 const BOB: u32 = 66;
 
 /// Makes two entities with a position, and a kept query of them.
-fn fill<A: Allocator + Copy>(
-    session: &mut Session<A>,
-    position: Schema<A>,
-) -> Result<(), SessionError> {
+fn fill<A: Allocator + Copy>(session: &mut Session<A>, alloc: A) -> Result<(), SessionError> {
+    let Ok(position) = Schema::new(alloc, &[("x", Kind::I32)]) else {
+        return Err(SessionError::Memory);
+    };
     session.component("Position", position)?;
     session.entity("Ann")?;
     session.entity("Bob")?;
@@ -93,9 +93,8 @@ fn expect_both(
 fn each_entity_of_a_table_gets_its_value(rt: HostRuntime) -> Result<(), Fail> {
     let heap = Refusing::new(rt.alloc());
     let random = RandomState::new(&rt)?;
-    let position = Schema::new(&heap, &[("x", Kind::I32)])?;
     let mut session = Session::new(&heap, random)?;
-    let filled = fill(&mut session, position);
+    let filled = fill(&mut session, &heap);
     let done = expect_both(&rt, &mut session, &heap);
     drop(session);
     assert!(rt; filled == Ok(()));

@@ -256,8 +256,7 @@ fn expect_output(
     print_lines(session, alloc, base, &mut printed)?;
     print_lines(session, alloc, lines, &mut printed)?;
     expect_bytes(rt, printed.as_slice(), output.text);
-    let compared = session.compared();
-    assert!(rt; compared == output.compared, "{compared}");
+    assert!(rt; session.compared() == output.compared);
     Ok(())
 }
 
@@ -294,14 +293,14 @@ fn try_script(
 #[test]
 fn commands_outlast_refusals(rt: HostRuntime) -> Result<(), Fail> {
     let random = RandomState::new(&rt)?;
-    for script in [
+    for script in &[
         SYSTEM_ALONE,
         MARRIAGES,
         DELETED_PARENTS,
         INSTANCES,
         FIRST_ENTITY,
     ] {
-        try_script(&rt, random, &script)?;
+        try_script(&rt, random, script)?;
     }
     Ok(())
 }
@@ -309,8 +308,8 @@ fn commands_outlast_refusals(rt: HostRuntime) -> Result<(), Fail> {
 #[test]
 fn stored_queries_outlast_refusals(rt: HostRuntime) -> Result<(), Fail> {
     let random = RandomState::new(&rt)?;
-    for script in [QUERY_NAMES, SECOND_QUERIES, KEPT_QUERY, OBSERVERS] {
-        try_script(&rt, random, &script)?;
+    for script in &[QUERY_NAMES, SECOND_QUERIES, KEPT_QUERY, OBSERVERS] {
+        try_script(&rt, random, script)?;
     }
     Ok(())
 }
@@ -318,14 +317,14 @@ fn stored_queries_outlast_refusals(rt: HostRuntime) -> Result<(), Fail> {
 #[test]
 fn monitors_outlast_refusals(rt: HostRuntime) -> Result<(), Fail> {
     let random = RandomState::new(&rt)?;
-    for script in [
+    for script in &[
         LOCAL_MONITOR,
         NEW_ENTITY,
         MONITOR_OF_PARENTS,
         ASKING_MONITOR,
         WHOLE_ROWS,
     ] {
-        try_script(&rt, random, &script)?;
+        try_script(&rt, random, script)?;
     }
     Ok(())
 }

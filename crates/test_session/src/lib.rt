@@ -1,4 +1,4 @@
-//! A session at work: what scripts print, and each growth of each of their lines refused in turn.
+//! A session at work: what scripts print, each growth of each of their lines refused in turn, and whole scripts over tapes.
 #![tactic(auto)]
 
 #[cfg(test)]
@@ -13,3 +13,5 @@ mod lists;
 mod named;
 #[cfg(test)]
 mod scripts;
+#[cfg(test)]
+mod tapes;

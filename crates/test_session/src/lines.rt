@@ -9,6 +9,8 @@ use ecs_model::watches::StoredKind;
 use ecs_observe::{Command, EntityRef, Event, IdRef, Session, SessionError, write_event};
 use ecs_schema::{Kind, Schema};
 use std::alloc::{AllocError, Allocator};
+use std::hash::RandomState;
+use std::test::Fail;
 
 /// What an id names, by the indexes of the entities.
 #[derive(Clone, Copy)]
@@ -42,6 +44,12 @@ pub(crate) enum Line {
 
 /// What a session answers to a line.
 pub(crate) type Answer = Result<Option<EntityId>, SessionError>;
+
+/// A session without facts of its own. Whoever has it hands it on to what may fail, and drops it by a call in one place.
+pub(crate) fn new_session(rt: &HostRuntime) -> Result<Session, Fail> {
+    let random = RandomState::new(rt)?;
+    Ok(Session::new(rt.alloc(), random)?)
+}
 
 pub(crate) fn first_at(index: u32) -> EntityId {
     EntityId {

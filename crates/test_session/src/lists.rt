@@ -2,13 +2,12 @@
 
 ghost use Rattle.ecs_observe.specs.Following.{IsUpToDateAt};
 
-use crate::lines::{Line, Named, print_lines};
+use crate::lines::{Line, Named, new_session, print_lines};
 use crate::scripts::{EARTH, HOT, KEPT_QUERY, MOON, PLANET, POSITION};
 use ecs_model::faults::SessionRefusal;
 use ecs_model::watches::StoredKind;
 use ecs_observe::{Session, SessionError};
 use std::alloc::{AllocError, Global};
-use std::hash::RandomState;
 use std::process::Abort;
 use std::test::Fail;
 use world_rows::{Asked, Rows, WorldView};
@@ -75,8 +74,7 @@ fn expect_judged(rt: &impl Abort, alloc: Global, session: &mut Session) -> Resul
 
 #[test]
 fn each_table_is_judged_once(rt: HostRuntime) -> Result<(), Fail> {
-    let random = RandomState::new(&rt)?;
-    let mut session = Session::new(rt.alloc(), random)?;
+    let mut session = new_session(&rt)?;
     let done = expect_judged(&rt, rt.alloc(), &mut session);
     drop(session);
     done
@@ -121,7 +119,8 @@ fn listed_rows(
     let asked = Asked::of(alloc, &view, query)?;
     let mut rows = asked.rows_in(&view, tables.as_slice());
     let taken = take_entities(&mut rows, found);
-    drop(rows);
+    drop(rows.into_asked());
+    drop(tables);
     Ok(taken?)
 }
 
@@ -168,8 +167,7 @@ fn expect_listed(rt: &impl Abort, alloc: Global, session: &mut Session) -> Resul
 
 #[test]
 fn lists_lead_to_the_rows(rt: HostRuntime) -> Result<(), Fail> {
-    let random = RandomState::new(&rt)?;
-    let mut session = Session::new(rt.alloc(), random)?;
+    let mut session = new_session(&rt)?;
     let done = expect_listed(&rt, rt.alloc(), &mut session);
     drop(session);
     done

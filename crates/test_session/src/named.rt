@@ -1,13 +1,12 @@
 //! Commands as values, with entities by name and by handle.
 
-use crate::lines::first_at;
+use crate::lines::{first_at, new_session};
 use ecs_id::EntityId;
 use ecs_model::faults::{Refusal, SessionRefusal};
 use ecs_model::watches::StoredKind;
 use ecs_observe::{Answer, Command, EntityRef, IdRef, Session, SessionError};
 use ecs_schema::{Kind, Schema};
 use std::alloc::Global;
-use std::hash::RandomState;
 use std::process::Abort;
 use std::test::Fail;
 
@@ -126,8 +125,7 @@ fn expect_all(rt: &impl Abort, alloc: Global, session: &mut Session) -> Result<(
 
 #[test]
 fn commands_name_entities(rt: HostRuntime) -> Result<(), Fail> {
-    let random = RandomState::new(&rt)?;
-    let mut session = Session::new(rt.alloc(), random)?;
+    let mut session = new_session(&rt)?;
     let done = expect_all(&rt, rt.alloc(), &mut session);
     drop(session);
     done

@@ -1,6 +1,7 @@
 //! Scripts run over tapes.
 
 use refusing_alloc::Refusing;
+use std::alloc::AllocError;
 use std::hash::RandomState;
 use std::process::Abort;
 use std::test::Fail;
@@ -108,48 +109,38 @@ fn expect(
     writes: &[Turn],
     answer: Result<Summary, RunError>,
     written: &[u8],
-) -> Result<(), Fail> {
-    let mut reader = Tape::new(rt.alloc(), script, reads)?;
-    let mut writer = Tape::new(rt.alloc(), b"", writes)?;
+) {
+    let mut reader = Tape::new(rt.alloc(), script, reads).expect(rt, "out of memory");
+    let mut writer = Tape::new(rt.alloc(), b"", writes).expect(rt, "out of memory");
     let answered = run(rt.alloc(), random, &mut reader, &mut writer);
     assert!(rt; answered == answer);
     assert!(rt; writer.bytes() == written);
-    Ok(())
+    drop(writer);
+    drop(reader);
 }
 
 #[test]
 fn a_script_is_read_and_its_output_written_in_any_pieces(rt: HostRuntime) -> Result<(), Fail> {
     let random = RandomState::new(&rt)?;
-    expect(&rt, random, SCRIPT, &[], &[], Ok(SUMMARY), OUTPUT)?;
     let bytes = Vec::from_elem(rt.alloc(), Turn::Pass(1), SCRIPT.len())?;
-    expect(
-        &rt,
-        random,
-        SCRIPT,
-        bytes.as_slice(),
-        bytes.as_slice(),
-        Ok(SUMMARY),
-        OUTPUT,
-    )?;
+    let pieces = bytes.as_slice();
+    expect(&rt, random, SCRIPT, &[], &[], Ok(SUMMARY), OUTPUT);
+    expect(&rt, random, SCRIPT, pieces, pieces, Ok(SUMMARY), OUTPUT);
+    drop(bytes);
     let unended = &SCRIPT[..SCRIPT.len() - 1];
-    expect(&rt, random, unended, &[], &[], Ok(SUMMARY), OUTPUT)
+    expect(&rt, random, unended, &[], &[], Ok(SUMMARY), OUTPUT);
+    Ok(())
 }
 
 #[test]
 fn a_read_that_fails_is_told_after_the_output_of_whole_lines(rt: HostRuntime) -> Result<(), Fail> {
     let random = RandomState::new(&rt)?;
+    let fault = Err(RunError::Read);
     let whole = [Turn::Pass(SCRIPT.len()), FAILED];
-    expect(
-        &rt,
-        random,
-        SCRIPT,
-        &whole,
-        &[],
-        Err(RunError::Read),
-        OUTPUT,
-    )?;
+    expect(&rt, random, SCRIPT, &whole, &[], fault, OUTPUT);
     let part = [Turn::Pass(SCRIPT.len() - 5), FAILED];
-    expect(&rt, random, SCRIPT, &part, &[], Err(RunError::Read), b"")
+    expect(&rt, random, SCRIPT, &part, &[], fault, b"");
+    Ok(())
 }
 
 /// Runs a script with a writer that fails, or takes nothing, after each number of bytes of its output.
@@ -158,25 +149,25 @@ fn fail_each_write(
     random: RandomState,
     script: &[u8],
     output: &[u8],
-) -> Result<(), Fail> {
+) {
     let fault = Err(RunError::Write);
     for count in 0..output.len() {
         let written = &output[..count];
         let stalls = [Turn::Pass(count), Turn::Pass(0)];
-        expect(rt, random, script, &[], &stalls, fault, written)?;
+        expect(rt, random, script, &[], &stalls, fault, written);
         if count > 0 {
             let fails = [Turn::Pass(count), FAILED];
-            expect(rt, random, script, &[], &fails, fault, written)?;
+            expect(rt, random, script, &[], &fails, fault, written);
         }
     }
-    Ok(())
 }
 
 #[test]
 fn a_write_fails_at_any_byte(rt: HostRuntime) -> Result<(), Fail> {
     let random = RandomState::new(&rt)?;
-    fail_each_write(&rt, random, SCRIPT, OUTPUT)?;
-    fail_each_write(&rt, random, KEPT, KEPT_OUTPUT)
+    fail_each_write(&rt, random, SCRIPT, OUTPUT);
+    fail_each_write(&rt, random, KEPT, KEPT_OUTPUT);
+    Ok(())
 }
 
 #[test]
@@ -185,29 +176,30 @@ fn the_sixty_fifth_interruption_in_a_row_is_a_fault(rt: HostRuntime) -> Result<(
     let turns = Vec::from_elem(rt.alloc(), INTERRUPTED, 65)?;
     let many = turns.as_slice();
     let few = &turns[..64];
-    expect(&rt, random, SCRIPT, few, few, Ok(SUMMARY), OUTPUT)?;
-    expect(&rt, random, SCRIPT, many, &[], Err(RunError::Read), b"")?;
-    expect(&rt, random, SCRIPT, &[], many, Err(RunError::Write), b"")
+    expect(&rt, random, SCRIPT, few, few, Ok(SUMMARY), OUTPUT);
+    expect(&rt, random, SCRIPT, many, &[], Err(RunError::Read), b"");
+    expect(&rt, random, SCRIPT, &[], many, Err(RunError::Write), b"");
+    drop(turns);
+    Ok(())
+}
+
+/// Adds a line to a script that is longer than any script may be.
+fn add_slashes(script: &mut Vec<u8>) -> Result<(), AllocError> {
+    for _ in 0..0x10_0000 {
+        script.extend_from_slice(b"////////////////")?;
+    }
+    Ok(())
 }
 
 #[test]
 fn a_script_without_end_is_too_long_after_its_output(rt: HostRuntime) -> Result<(), Fail> {
     let random = RandomState::new(&rt)?;
     let mut script = Vec::from_slice(rt.alloc(), SCRIPT)?;
-    let slashes = Vec::from_elem(rt.alloc(), b'/', 65_536)?;
-    for _ in 0..256 {
-        script.extend_from_slice(slashes.as_slice())?;
-    }
-    let script = script.as_slice();
-    expect(
-        &rt,
-        random,
-        script,
-        &[],
-        &[],
-        Err(RunError::TooLong),
-        OUTPUT,
-    )
+    let added = add_slashes(&mut script);
+    let fault = Err(RunError::TooLong);
+    expect(&rt, random, script.as_slice(), &[], &[], fault, OUTPUT);
+    drop(script);
+    Ok(added?)
 }
 
 /// What is written where so many bytes of the script with deletions were read.
@@ -222,13 +214,35 @@ fn told_after(count: usize) -> &'static [u8] {
 fn a_read_fails_at_any_byte(rt: HostRuntime) -> Result<(), Fail> {
     let random = RandomState::new(&rt)?;
     let fault = Err(RunError::Read);
-    expect(&rt, random, DELETIONS, &[FAILED], &[], fault, b"")?;
+    expect(&rt, random, DELETIONS, &[FAILED], &[], fault, b"");
     for count in 1..=DELETIONS.len() {
         let turns = [Turn::Pass(count), FAILED];
         let written = told_after(count);
-        expect(&rt, random, DELETIONS, &turns, &[], fault, written)?;
+        expect(&rt, random, DELETIONS, &turns, &[], fault, written);
     }
     Ok(())
+}
+
+/// Whether a run is refused with so few blocks. What was written begins its output.
+fn is_refused(
+    rt: &(impl Abort + AllocGlobal),
+    random: RandomState,
+    script: &[u8],
+    output: &[u8],
+    allowed: u64,
+) -> bool {
+    let heap = Refusing::new(rt.alloc());
+    let mut reader = Tape::new(rt.alloc(), script, &[]).expect(rt, "out of memory");
+    let mut writer = Tape::new(rt.alloc(), b"", &[]).expect(rt, "out of memory");
+    heap.refuse_after(allowed);
+    let answered = run(&heap, random, &mut reader, &mut writer);
+    let begins = output.starts_with(writer.bytes());
+    drop(writer);
+    drop(reader);
+    drop(heap);
+    assert!(rt; begins);
+    assert!(rt; answered.is_ok() || answered == Err(RunError::Memory));
+    answered.is_err()
 }
 
 /// Runs a script with each growth refused in turn, and compares what was written with its output.
@@ -237,29 +251,21 @@ fn refuse_each_growth(
     random: RandomState,
     script: &[u8],
     output: &[u8],
-) -> Result<(), Fail> {
-    let heap = Refusing::new(rt.alloc());
+) {
     let mut refusals = 0;
     for allowed in 0..4000u64 {
-        let mut reader = Tape::new(rt.alloc(), script, &[])?;
-        let mut writer = Tape::new(rt.alloc(), b"", &[])?;
-        heap.refuse_after(allowed);
-        let answered = run(&heap, random, &mut reader, &mut writer);
-        heap.refuse_none();
-        assert!(rt; output.starts_with(writer.bytes()));
-        if answered.is_ok() {
+        if !is_refused(rt, random, script, output, allowed) {
             break;
         }
-        assert!(rt; answered == Err(RunError::Memory));
         refusals = allowed + 1;
     }
     assert!(rt; 0 < refusals && refusals < 4000);
-    Ok(())
 }
 
 #[test]
 fn each_growth_may_be_refused(rt: HostRuntime) -> Result<(), Fail> {
     let random = RandomState::new(&rt)?;
-    refuse_each_growth(&rt, random, SCRIPT, OUTPUT)?;
-    refuse_each_growth(&rt, random, KEPT, KEPT_OUTPUT)
+    refuse_each_growth(&rt, random, SCRIPT, OUTPUT);
+    refuse_each_growth(&rt, random, KEPT, KEPT_OUTPUT);
+    Ok(())
 }

@@ -1,5 +1,0 @@
-//! Whole scripts over tapes.
-#![tactic(auto)]
-
-#[cfg(test)]
-mod scripts;
