@@ -1,26 +1,14 @@
 -- What is known of ways tells where a relationship leads.
-use Rattle.std.proofs.Common.{◌≡◌, ◌≢◌, ◌↔◌, ℕ, ◌+◌, ◌<◌, Bool, true, false, List, [], ◌∷◌, length, get_or, Option, Some, None, refl, inl, inr}
+use Rattle.std.proofs.Common.{◌≡◌, ◌≢◌, ◌↔◌, ℕ, Bool, true, false, List, refl, inl, inr}
 use Rattle.std.proofs.lemmas.Bool.{false≢true}
 use Rattle.ecs_id.specs.Id.{Id}
-use Rattle.ecs_model.specs.Links.{AreLinks, IsReached, is_reflexive, is_transitive, reaches, upward}
+use Rattle.ecs_model.specs.Links.{AreLinks, is_reflexive, is_transitive, reaches, upward}
 use Rattle.ecs_model.specs.Reach.{Reached, Reaches, itself}
 use Rattle.ecs_model.proofs.Decided.{reaches_tells}
 use Rattle.ecs_model.proofs.Members.{alike}
 use Rattle.ecs_model.proofs.Reaching.{chain_or_none, chain_reached, turned_reach}
-use Rattle.rel_travel.specs.Growing.{IsGrownBy}
 use Rattle.rel_travel.specs.Holders.{holders_of_pair}
-use Rattle.rel_travel.specs.Ways.{IsSought}
 use Rattle.rel_travel.proofs.Cleanup.{holds_upward, upward_holds}
-use Rattle.rel_travel.proofs.WorkLists.{IsFollowed-more, IsFollowed-none}
-
--- a search that begins, and one that goes on
-pub begun_sought : (next : ℕ → List ℕ) (x : ℕ) (start : Option ℕ) (found : List ℕ) (done : ℕ) → start ≡ Some x → found ≡ x ∷ [] → done ≡ 0 → IsSought next start found done
-begun_sought next x start found done s f d = rw (s, f, d) (IsFollowed-none next (x ∷ []))
-
-pub sought_more : (next : ℕ → List ℕ) (start : Option ℕ) (items grown : List ℕ) (done : ℕ) → done < length items → IsGrownBy (next (get_or items done 0)) items grown → IsSought next start items done
-    → IsSought next start grown (done + 1)
-sought_more next None items grown done l g f = tt
-sought_more next (Some x) items grown done l g f = IsFollowed-more next (x ∷ []) items grown done 0 l f g
 
 -- one that is reached is reached in no step or by a chain
 by_steps : {A : Type 0} (next : A → List A) (x y : A) → Reached next x y → Reaches true true next x y

@@ -2,6 +2,7 @@ pub mod Growth
 mod Adding
 pub mod Begun
 mod LedOn
+mod Seeking
 mod Cleanup
 mod LineSearch
 pub mod Deepening

@@ -27,7 +27,8 @@ struct Pace {
     wanted: usize,
 }
 
-/// What is known of where one relationship leads: to whom from the entity that was asked last, and from whom to the one that was asked last.
+/// What is known of where one relationship leads: to whom from the entity that was asked last, and from those before it where that leads to no
+/// others; and from whom to the one that was asked last.
 ///
 /// Room is made by `reserve`; the other calls take no memory.
 #[derive(Drop)]
@@ -45,7 +46,7 @@ impl<A: Allocator> Model for Ways<A> {
 
     ghost Value = { Known };
 
-    ghost view = { λ w. record { size = w.below.found.size; is_transitive = w.is_transitive; above = record { start = w.above.start; found = w.above.found.items; done = w.above.done }; below = record { start = w.below.start; found = w.below.found.items; done = w.below.done } } };
+    ghost view = { λ w. record { size = w.below.found.size; is_transitive = w.is_transitive; above = record { start = w.above.start; is_alone = w.above.is_alone; found = w.above.found.items; done = w.above.done }; below = record { start = w.below.start; is_alone = w.below.is_alone; found = w.below.found.items; done = w.below.done } } };
 
     ghost invariant = { λ w. w.below.found.size ≤ w.above.found.size };
 }
@@ -105,8 +106,8 @@ impl<A: Allocator> Ways<A> {
 
 /// Whether a relationship leads from one entity to another, where it may be known already. What is found is noted there.
 ///
-/// It goes on from where the search from this source ended, and takes as many steps from this target: so a source or a target that stays
-/// is searched from once. Where there is no room for ways it searches anew.
+/// It goes on from where the search from this source ended, or from where one ended without this target. Where sources lead there it takes as many
+/// steps from the target: so a source or a target that stays is searched from once. Where there is no room for ways it searches anew.
 pub fn known_reaches<G: Holders, A: Allocator, B: Allocator>(
     graph: &G,
     relationship: u32,
@@ -152,50 +153,47 @@ fn leads_to_other<G: Holders, A: Allocator>(
     requires wider { below.old.found.size ≤ above.old.found.size }
     requires source { source < G.size graph.now }
     requires target { target < G.size graph.now }
-    requires above { IsSought (upward (G.ids graph.now) relationship) above.old.start above.old.found.items above.old.done }
-    requires below { IsSought (λ x. holders_of_pair (G.entities graph.now) (G.ids graph.now) x relationship) below.old.start below.old.found.items below.old.done }
+    requires above { IsSought (upward (G.ids graph.now) relationship) above.old.start above.old.is_alone above.old.found.items above.old.done }
+    requires below { IsSought (λ x. holders_of_pair (G.entities graph.now) (G.ids graph.now) x relationship) below.old.start below.old.is_alone below.old.found.items below.old.done }
     ensures above_size { above.new.found.size ≡ above.old.found.size }
     ensures below_size { below.new.found.size ≡ below.old.found.size }
-    ensures above { IsSought (upward (G.ids graph.now) relationship) above.new.start above.new.found.items above.new.done }
-    ensures below { IsSought (λ x. holders_of_pair (G.entities graph.now) (G.ids graph.now) x relationship) below.new.start below.new.found.items below.new.done }
+    ensures above { IsSought (upward (G.ids graph.now) relationship) above.new.start above.new.is_alone above.new.found.items above.new.done }
+    ensures below { IsSought (λ x. holders_of_pair (G.entities graph.now) (G.ids graph.now) x relationship) below.new.start below.new.is_alone below.new.found.items below.new.done }
     ensures answer { IsTrue result ↔ Reached (upward (G.ids graph.now) relationship) source target }
 {
     let _ = graph.size();
     if let Some(leads) = below.tells(target, source) {
         return leads;
     }
-    above.begin_at(source);
+    above.seek(source, target);
     let before = above.done;
     let rule = Upward {
         graph,
         relationship,
     };
     let leads = go_on_until(&rule, target, &mut above.done, &mut above.found);
-    go_on_below(
-        graph,
-        relationship,
-        target,
-        above.done - before,
-        below,
-        pace,
-    );
+    if below.is_from(target) {
+        pace.left = pace.left.saturating_add(above.done - before);
+    }
+    if leads {
+        go_on_below(graph, relationship, target, below, pace);
+    }
     leads
 }
 
-/// Goes on with who leads to a target, behind a search from a source that took so many steps. With a target that wasn't asked last it begins.
+/// Goes on with who leads to a target. With another one than before it begins.
 fn go_on_below<G: Holders, A: Allocator>(
     graph: &G,
     relationship: u32,
     target: u32,
-    steps: usize,
     below: &mut Spread<A>,
     pace: &mut Pace,
 )
     requires covered { G.size graph.now ≤ below.old.found.size }
     requires target { target < below.old.found.size }
-    requires sought { IsSought (λ x. holders_of_pair (G.entities graph.now) (G.ids graph.now) x relationship) below.old.start below.old.found.items below.old.done }
+    requires sought { IsSought (λ x. holders_of_pair (G.entities graph.now) (G.ids graph.now) x relationship) below.old.start below.old.is_alone below.old.found.items below.old.done }
     ensures size { below.new.found.size ≡ below.old.found.size }
-    ensures sought { IsSought (λ x. holders_of_pair (G.entities graph.now) (G.ids graph.now) x relationship) below.new.start below.new.found.items below.new.done }
+    ensures sought { IsSought (λ x. holders_of_pair (G.entities graph.now) (G.ids graph.now) x relationship) below.new.start below.new.is_alone below.new.found.items below.new.done }
 {
     let _ = graph.size();
     if !below.is_from(target) {
@@ -203,7 +201,6 @@ fn go_on_below<G: Holders, A: Allocator>(
         *pace = Pace { left: 0, wanted: 1 };
         return;
     }
-    pace.left = pace.left.saturating_add(steps);
     let rule = Downward {
         graph,
         relationship,

@@ -1,14 +1,15 @@
 use Rattle.std.proofs.Common.{◌≤◌, ◌<◌, ◌∙◌, ℕ, length, arith}
 use Rattle.rel_travel.specs.Holders.{holders_of_pair}
 use Rattle.rel_travel.proofs.Cleanup.{pairs_below}
-use Rattle.rel_travel.proofs.LedOn.{begun_sought, sought_more}
+use Rattle.rel_travel.proofs.Seeking.{sought_first, sought_more, sought_of}
 use Rattle.rel_travel.proofs.ways.go_on_below.Goals as goal
 
 pub returns-then-not-is_from-clause-sought : goal.returns-then-not-is_from-clause-sought
 returns-then-not-is_from-clause-sought g c =
     let now = c.begin.new.self in
     let down = λ (x : ℕ). holders_of_pair (g.G.Graph.entities c.args.graph.now) (g.G.Graph.ids c.args.graph.now) x c.args.relationship in
-    begun_sought down c.args.target now.start now.found.items now.done c.begin.ensures.start c.begin.ensures.items c.begin.ensures.done
+    let first = sought_first down c.args.target c.args.target now.is_alone now.found.items now.done c.begin.ensures.items c.begin.ensures.done in
+    sought_of down now.start c.args.target now.is_alone now.found.items now.done c.begin.ensures.start first.0
 
 pub follow-requires : goal.follow-requires
 follow-requires g c =
@@ -23,5 +24,5 @@ turns-preserved g c =
     let l : below.done < length below.found.items = omega (arith, c.len.ensures.count, c.if-below-len.true) in
     record {
       size = c.follow.ensures.size ∙ c.turns.invariant.size;
-      sought = sought_more down below.start below.found.items c.follow.new.found.items below.done l (rw (← c.at-entity.ensures) c.follow.ensures.grown) c.turns.invariant.sought;
+      sought = sought_more down below.start below.is_alone below.found.items c.follow.new.found.items below.done l (rw (← c.at-entity.ensures) c.follow.ensures.grown) c.turns.invariant.sought;
     }

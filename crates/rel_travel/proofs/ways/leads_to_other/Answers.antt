@@ -1,37 +1,55 @@
-use Rattle.std.proofs.Common.{◌≤◌, ◌∷◌, [], ℕ, arith, subst}
+use Rattle.std.proofs.Common.{◌∷◌, ℕ, arith}
 use Rattle.ecs_model.specs.Links.{upward}
 use Rattle.ecs_model.proofs.Linked.{upward_below}
 use Rattle.rel_travel.specs.Holders.{holders_of_pair}
-use Rattle.rel_travel.specs.Ways.{IsSought}
-use Rattle.rel_travel.proofs.Begun.{alone}
 use Rattle.rel_travel.proofs.LedOn.{led_from}
+use Rattle.rel_travel.proofs.Seeking.{reached_told, sought_of, sought_on}
 use Rattle.rel_travel.proofs.ways.leads_to_other.Goals as goal
 
 -- it was known
 pub returns-in-Some-clause-answer : goal.returns-in-Some-clause-answer
 returns-in-Some-clause-answer g c =
-    let below = c.args.below.now in
     let down = λ (x : ℕ). holders_of_pair (g.G.Graph.entities c.args.graph.now) (g.G.Graph.ids c.args.graph.now) x c.args.relationship in
-    let followed = subst (λ start. IsSought down start below.found.items below.done) c.in-Some.ensures.start c.requires.below in
-    let told = c.in-Some.ensures.reached down followed in
+    let told = c.in-Some.ensures down c.requires.below in
     let led = led_from c.size.ensures.links c.args.relationship c.args.source c.args.target in
     (λ h. led.0 (told.0 h), λ h. told.1 (led.1 h))
 
 pub go_on_until-leads-requires-clause-closed : goal.go_on_until-leads-requires-clause-closed
 go_on_until-leads-requires-clause-closed g c =
-    let size = c.begin_at.ensures.size in
+    let size = c.seek.ensures.size in
     let covered = c.requires.covered in
     let wider = c.requires.wider in
-    upward_below c.size.ensures.links c.args.relationship c.begin_at.new.self.found.size (omega (arith, size, covered, wider))
+    upward_below c.size.ensures.links c.args.relationship c.seek.new.self.found.size (omega (arith, size, covered, wider))
 
-pub returns-clause-above : goal.returns-clause-above
-returns-clause-above g c =
+-- it is searched for, and led there or not
+pub returns-then-leads-clause-above : goal.returns-then-leads-clause-above
+returns-then-leads-clause-above g c =
     let up = upward (g.G.Graph.ids c.args.graph.now) c.args.relationship in
-    rw c.begin_at.ensures.start (c.go_on_until-leads.ensures.followed (c.args.source ∷ []) (c.begin_at.ensures.followed up c.requires.above))
+    let s = c.seek.new.self in
+    let for = c.seek.ensures.sought up c.requires.above in
+    let found = c.go_on_until-leads.new.found.items in
+    let done = c.go_on_until-leads.new.done in
+    sought_of up s.start c.args.source s.is_alone found done c.seek.ensures.start (sought_on up c.args.source s.is_alone s.found.items found s.done done c.go_on_until-leads.ensures.followed for.0)
 
-pub returns-clause-answer : goal.returns-clause-answer
-returns-clause-answer g c =
+pub returns-else-leads-clause-above : goal.returns-else-leads-clause-above
+returns-else-leads-clause-above g c =
     let up = upward (g.G.Graph.ids c.args.graph.now) c.args.relationship in
-    let reached = c.go_on_until-leads.ensures.reached (c.args.source ∷ []) (c.begin_at.ensures.followed up c.requires.above) in
-    let one = alone up c.args.source c.args.target in
-    (λ h. one.0 (reached.0 h), λ h. reached.1 (one.1 h))
+    let s = c.seek.new.self in
+    let for = c.seek.ensures.sought up c.requires.above in
+    let found = c.go_on_until-leads.new.found.items in
+    let done = c.go_on_until-leads.new.done in
+    sought_of up s.start c.args.source s.is_alone found done c.seek.ensures.start (sought_on up c.args.source s.is_alone s.found.items found s.done done c.go_on_until-leads.ensures.followed for.0)
+
+pub returns-then-leads-clause-answer : goal.returns-then-leads-clause-answer
+returns-then-leads-clause-answer g c =
+    let up = upward (g.G.Graph.ids c.args.graph.now) c.args.relationship in
+    let s = c.seek.new.self in
+    let for = c.seek.ensures.sought up c.requires.above in
+    reached_told up c.args.source c.args.target s.is_alone s.found.items s.done for c.go_on_until-leads.result (c.go_on_until-leads.ensures.reached (c.args.source ∷ (for.0).left) (for.0).followed)
+
+pub returns-else-leads-clause-answer : goal.returns-else-leads-clause-answer
+returns-else-leads-clause-answer g c =
+    let up = upward (g.G.Graph.ids c.args.graph.now) c.args.relationship in
+    let s = c.seek.new.self in
+    let for = c.seek.ensures.sought up c.requires.above in
+    reached_told up c.args.source c.args.target s.is_alone s.found.items s.done for c.go_on_until-leads.result (c.go_on_until-leads.ensures.reached (c.args.source ∷ (for.0).left) (for.0).followed)
