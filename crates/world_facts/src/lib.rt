@@ -14,7 +14,7 @@ use component_index::Pattern;
 use ecs_id::{EntityId, Id, TableKey};
 use ecs_model::built_ins::REFLEXIVE;
 use ecs_world::{Links, World};
-use plan_steps::Facts;
+use plan_steps::{Facts, Known};
 use rel_travel::{
     Graph, Holders, Scratch, Ways, above, below, known_depth, known_reaches, pull, reaches,
 };
@@ -182,13 +182,13 @@ impl<A: Allocator> Facts for WorldFacts<'_, A> {
         self.reaches(relationship, source, target, scratch)
     }
 
-    fn first_up<B: Allocator>(
+    fn first_up<B: Allocator, K: Known>(
         &self,
         entity: u32,
         own: bool,
         relationship: u32,
         pattern: Pattern,
-        known: &mut [u32],
+        known: &mut K,
         scratch: &mut Scratch<B>,
     ) -> Option<u32> {
         first_up(
