@@ -14,3 +14,4 @@ pub mod Meeting
 pub mod OwnFacts
 pub mod Tied
 pub mod Linked
+pub mod Unasked

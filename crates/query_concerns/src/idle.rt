@@ -9,7 +9,6 @@ ghost use Rattle.query_concerns.specs.Idle.{asks_for, asks_itself, is_idle, item
 use crate::anchoring::is_variable;
 use crate::bonds::{Bond, are_all_bound};
 use crate::concerning::{may_match, term_concerns};
-use crate::others::concerns_others;
 use crate::own_ids::any_matches;
 use ecs_id::Id;
 use ecs_model::FactKey;
@@ -21,11 +20,11 @@ use std::alloc::Allocator;
 /// facts: of each variable whose entity is asked for the id, something else is asked directly in its own level that the holder lacks.
 ///
 /// Takes no memory, and time in the square of the pieces at most, and in the ids for each piece.
-#[tactic(auto, unfolding(crate::specs::Idle::is_idle))]
 pub fn is_idle<A: Allocator>(query: &Query<A>, ids: &[Id], facts: &[FactKey], id: Id) -> bool
     ensures { result ≡ is_idle query.now (ids.now ++ map (λ k. k.1) facts.now) id }
 {
-    !concerns_others(query, id) || are_all_bound(query, &Bond::Idle(ids, facts, id))
+    // an id that concerns no others is asked of no variable's entity
+    are_all_bound(query, &Bond::Idle(ids, facts, id))
 }
 
 /// Whether one of these pieces asks the entity of a variable, and an id concerns it.
