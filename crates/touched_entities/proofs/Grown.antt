@@ -1,7 +1,7 @@
 -- Lists that have grown, and have all that were wanted.
 use Rattle.std.specs.Prelude.{◌≡◌, ℕ, ◌+◌, ◌<◌, ◌==◌, ◌&&◌, Bool, true, false, List, [], ◌∷◌, ◌++◌, Some, None, filter, flat_map, length, map, take, if◌then◌else◌}
 use Rattle.std.specs.List.{Contains, list_any}
-use Rattle.std.proofs.Common.{refl, sym, ap, subst, ◌∙◌, inl, inr, append_assoc, arith, cond, get_or}
+use Rattle.std.proofs.Common.{refl, sym, ap, subst, ◌∙◌, inl, inr, append_assoc, arith, get_or}
 use Rattle.std.proofs.lemmas.Bool.{and_parts}
 use Rattle.std.proofs.lemmas.Grind.{flat_map-append}
 use Rattle.std.proofs.lemmas.List.{map-append, take_more}
@@ -57,23 +57,10 @@ there_already xs x h =
 
 -- ---- one item more of a list
 
-module _ {X : Type 0} (p : ℕ → Bool) (index : X → ℕ) (xs : List X) (i : ℕ) (inside : i < length xs) (d : X) where
-  one_more : filter p (map index (take (i + 1) xs)) ≡ filter p (map index (take i xs)) ++ filter p (index (get_or xs i d) ∷ [])
-  one_more =
-      ap (λ ys. filter p (map index ys)) (take_more xs i d inside)
-      ∙ ap (filter p) (map-append index (take i xs) (get_or xs i d ∷ []))
-      ∙ filter-append p (map index (take i xs)) (index (get_or xs i d) ∷ [])
-
-  by_test : (b : Bool) → p (index (get_or xs i d)) ≡ b → filter p (map index (take i xs)) ++ cond b (index (get_or xs i d) ∷ []) [] ≡ filter p (map index (take (i + 1) xs))
-  by_test b is = ap (λ b. filter p (map index (take i xs)) ++ cond b (index (get_or xs i d) ∷ []) []) (sym is) ∙ sym one_more
-
-  pub passed : (x y z : List ℕ) → Adds (filter p (map index (take i xs))) x y → p (index (get_or xs i d)) ≡ true → Adds (index (get_or xs i d) ∷ []) y z → Adds (filter p (map index (take (i + 1) xs))) x z
-  passed x y z h passes k =
-      subst (λ a. Adds a x z) (by_test true passes) (and_then (filter p (map index (take i xs))) (index (get_or xs i d) ∷ []) x y z h k)
-
-  pub failed : (x y : List ℕ) → Adds (filter p (map index (take i xs))) x y → p (index (get_or xs i d)) ≡ false → Adds (filter p (map index (take (i + 1) xs))) x y
-  failed x y h fails =
-      subst (λ a. Adds a x y) (by_test false fails) (and_then (filter p (map index (take i xs))) [] x y y h (already [] y (λ e m. absurd (omega (arith, m.1)))))
+pub added : {X : Type 0} (index : X → ℕ) (xs : List X) (i : ℕ) → i < length xs → (d : X) (x y z : List ℕ) → Adds (map index (take i xs)) x y → Adds (index (get_or xs i d) ∷ []) y z → Adds (map index (take (i + 1) xs)) x z
+added index xs i inside d x y z h k =
+    subst (λ a. Adds a x z) (sym (ap (map index) (take_more xs i d inside) ∙ map-append index (take i xs) (get_or xs i d ∷ [])))
+    (and_then (map index (take i xs)) (index (get_or xs i d) ∷ []) x y z h k)
 
 more_of : {X : Type 0} (next : X → List ℕ) (xs : List X) (x : X) → flat_map next (xs ++ (x ∷ [])) ≡ flat_map next xs ++ next x
 more_of next xs x = flat_map-append next xs (x ∷ []) ∙ ap (λ ys. flat_map next xs ++ ys) (sym (nothing_behind (next x)))

@@ -9,6 +9,7 @@ pub mod After
 pub mod Unconcerned
 pub mod Grown
 pub mod Below
+pub mod Alike
 pub mod AllMoving
 pub mod Covered
 pub mod Followed

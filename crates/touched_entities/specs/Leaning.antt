@@ -73,6 +73,10 @@ module _ (p : List Id → Id → Bool) (w : WorldState) where
   abbrev pub HasAllBelow : List ℕ → List ℕ → Type 0
   HasAllBelow start all = (x e : ℕ) → Contains start x → Reached leaning x e → Contains all e
 
+-- all of these hold the same ids
+abbrev pub AreAlike : WorldState → List ℕ → Type 0
+AreAlike w es = (x y : ℕ) → Contains es x → Contains es y → ids_of w x ≡ ids_of w y
+
 -- among these are those, and with each of these all to whom a step leads
 pub record IsClosed (next : ℕ → List ℕ) (start all : List ℕ) : Type 0 where
   pub begun : (x : ℕ) → Contains start x → Contains all x

@@ -1,9 +1,10 @@
 //! Who leans on an entity: who holds a pair with it that concerns a query.
 
 ghost use Rattle.std.specs.Prelude.{◌≡◌, ◌==◌, ◌∷◌, [], true, filter, flat_map, map, IfOk, OnOk};
-ghost use Rattle.std.specs.List.{list_any};
+ghost use Rattle.std.specs.List.{list_all, list_any};
 ghost use Rattle.component_index.specs.Patterns.{matches};
-ghost use Rattle.touched_entities.specs.Leaning.{Adds, HasAllBelow, is_sought, leaning, leans, pairs_to};
+ghost use Rattle.ecs_id.specs.declared.TableKey.{TableKey as Key};
+ghost use Rattle.touched_entities.specs.Leaning.{Adds, AreAlike, HasAllBelow, is_sought, leaning, leans, pairs_to};
 
 use crate::sought::{Sought, is_sought};
 use crate::touching::ids_at;
@@ -77,6 +78,8 @@ pub(crate) fn push_leaning<A: Allocator + Copy, B: Allocator>(
     ensures { IfOk result (λ done. done ≡ true → Adds (leaning (is_sought sought.now query.now) world.now.state target) found.old.items found.new.items) }
 {
     let links = world.links();
+    // What is known of each row.
+    let _ = links.tables().store();
     let pattern = Pattern {
         first: Part::Any,
         second: Some(Part::Is(target)),
@@ -105,7 +108,7 @@ fn are_few<G: Holders>(graph: &G, tables: &[TableKey]) -> bool {
     true
 }
 
-/// Adds those in these tables who lean on an entity.
+/// Adds those in these tables who lean on an entity. All in a table hold the same ids.
 fn push_from_tables<G: Holders, A: Allocator + Copy, B: Allocator>(
     alloc: A,
     query: &Query<B>,
@@ -116,6 +119,7 @@ fn push_from_tables<G: Holders, A: Allocator + Copy, B: Allocator>(
     target: u32,
     found: &mut ShortList<A>,
 ) -> Result<(), AllocError>
+    requires alike { (k : Key) → AreAlike world.now.state (G.rows graph.now k) }
     ensures { OnOk result (Adds (filter (leans (is_sought sought.now query.now) world.now.state target) (flat_map (G.rows graph.now) tables.now)) found.old.items found.new.items) }
 {
     for table in tables {
@@ -132,7 +136,7 @@ fn push_from_tables<G: Holders, A: Allocator + Copy, B: Allocator>(
     Ok(())
 }
 
-/// Adds those of these entities who lean on another one.
+/// Adds those of these entities who lean on another one. They hold the same ids, so all of them do, or nobody does.
 fn push_from<A: Allocator + Copy, B: Allocator>(
     alloc: A,
     query: &Query<B>,
@@ -142,12 +146,32 @@ fn push_from<A: Allocator + Copy, B: Allocator>(
     target: u32,
     found: &mut ShortList<A>,
 ) -> Result<(), AllocError>
+    requires alike { AreAlike world.now.state (map (λ e. e.index) entities.now) }
     ensures { OnOk result (Adds (filter (leans (is_sought sought.now query.now) world.now.state target) (map (λ e. e.index) entities.now)) found.old.items found.new.items) }
 {
+    let Some(first) = entities.first() else {
+        return Ok(());
+    };
+    // who is there already needn't be judged
+    if are_among(found.as_slice(), entities) {
+        return Ok(());
+    }
+    if !leans(query, sought, world, target, first.index) {
+        return Ok(());
+    }
+    push_each(alloc, entities, found)
+}
+
+/// Adds those of these entities that aren't there yet.
+fn push_each<A: Allocator + Copy>(
+    alloc: A,
+    entities: &[EntityId],
+    found: &mut ShortList<A>,
+) -> Result<(), AllocError>
+    ensures { OnOk result (Adds (map (λ e. e.index) entities.now) found.old.items found.new.items) }
+{
     for entity in entities {
-        if leans(query, sought, world, target, entity.index) {
-            push_new(alloc, entity.index, found)?;
-        }
+        push_new(alloc, entity.index, found)?;
     }
     Ok(())
 }
@@ -170,6 +194,13 @@ pub(crate) fn is_among(entities: &[u32], entity: u32) -> bool
     ensures { result ≡ list_any (λ x. x == entity) entities.now }
 {
     entities.iter().any(|x| *x == entity)
+}
+
+/// Whether all of these are among those that are there.
+fn are_among(found: &[u32], entities: &[EntityId]) -> bool
+    ensures { result ≡ list_all (λ e. list_any (λ x. x == e.index) found.now) entities.now }
+{
+    entities.iter().all(|entity| is_among(found, entity.index))
 }
 
 /// Whether an entity leans on this target.

@@ -1,6 +1,6 @@
 //! Who may have moved in or out of a query's rows, where few may.
 
-ghost use Rattle.std.specs.Prelude.{◌≡◌, ◌↔◌, ◌||◌, ◌++◌, ℕ, Contains, true, filter, IfOk, IfSome, OnOk};
+ghost use Rattle.std.specs.Prelude.{◌≡◌, ◌↔◌, ◌||◌, ◌++◌, ℕ, Contains, true, filter, IfOk, IfSome, OnOk, false};
 ghost use Rattle.std.specs.List.Sorted.{IsStrictlyIncreasing};
 ghost use Rattle.ecs_model.specs.World.{is_live};
 ghost use Rattle.query_meaning.specs.Sound.{IsSound};
@@ -48,7 +48,8 @@ pub fn who_may_have_moved<A: Allocator + Copy, B: Allocator>(
     requires bonds { bonds ≡ bonds_of query.now }
     requires after { IsAfter world.now.state changes.now }
     requires sound { IsSound query.now }
-    ensures { IfOk result (λ found. IfSome found (λ moved. TellsMoved query.now world.now.state changes.now moved.all.items moved.sure.items moved.asked.items)) }
+    ensures told { IfOk result (λ found. IfSome found (λ moved. TellsMoved query.now world.now.state changes.now moved.all.items moved.sure.items moved.asked.items)) }
+    ensures unknown { is_followed query.now changes.now ≡ false → IfOk result (λ found. found ≡ None) }
 {
     world.keeps();
     if !is_followed(query, bonds, changes) {

@@ -1,22 +1,28 @@
-use Rattle.std.specs.Prelude.{◌+◌, filter, map, take}
-use Rattle.std.proofs.Common.{subst, sym}
+use Rattle.std.specs.Option.{option_copied}
+use Rattle.std.proofs.Common.{◌==◌, ap, sym, ◌∙◌}
+use Rattle.std.specs.List.{list_all, list_any}
+use Rattle.std.proofs.lemmas.Result.{on_ok_weaker}
 use Rattle.ecs_id.specs.declared.EntityId.{EntityId}
-use Rattle.touched_entities.specs.Leaning.{Adds, is_sought, leans}
-use Rattle.touched_entities.proofs.Grown.{failed, passed}
+use Rattle.touched_entities.specs.Leaning.{is_sought}
+use Rattle.touched_entities.proofs.Alike.{all_added, all_there, nobody_leans, nobody_there}
 use Rattle.touched_entities.proofs.leaning.push_from.Goals as goal
-use Rattle.touched_entities.proofs.leaning.push_from.Goals.{then-leans+in_ok-push_new, else-leans}
 
-pub loop-entity-preserved : goal.loop-entity-preserved
-loop-entity-preserved g c =
-    let test = leans (is_sought c.args.sought.now c.args.query.now) c.args.world.now.state c.args.target in
-    let entities = c.args.entities.now in
-    let i = c.loop-entity.entity-index in
-    let before = c.loop-entity.found.items in
-    elim c.if-leans.branch [
-      | then-leans+in_ok-push_new w ↦
-          subst (λ found. Adds (filter test (map (λ (e : EntityId). e.index) (take (i + 1) entities))) c.args.found.now.items found.items) (sym w.found-is)
-          (passed test (λ e. e.index) entities i c.loop-entity-test.true _ c.args.found.now.items before w.push_new.new.found.items c.loop-entity.invariant (sym w.if-leans.ensures) w.in_ok-push_new.ensures)
-      | else-leans w ↦
-          subst (λ found. Adds (filter test (map (λ (e : EntityId). e.index) (take (i + 1) entities))) c.args.found.now.items found.items) (sym w.found-is)
-          (failed test (λ e. e.index) entities i c.loop-entity-test.true _ c.args.found.now.items before c.loop-entity.invariant (sym w.if-leans.ensures))
-    ]
+pub returns-in_default : goal.returns-in_default
+returns-in_default g c =
+    nobody_there (is_sought c.args.sought.now c.args.query.now) c.args.world.now.state c.args.target c.args.entities.now c.args.found.now.items (sym c.first.ensures.value ∙ ap option_copied c.in_default.is)
+
+pub returns-then-are_among : goal.returns-then-are_among
+returns-then-are_among g c =
+    let there = ap (λ found. list_all (λ (e : EntityId). list_any (λ x. x == e.index) found) c.args.entities.now) (sym c.as_slice.ensures) ∙ sym c.are_among.ensures ∙ c.if-are_among.true in
+    all_there (is_sought c.args.sought.now c.args.query.now) c.args.world.now.state c.args.target c.args.entities.now c.args.found.now.items there
+
+pub returns-then-not-leans : goal.returns-then-not-leans
+returns-then-not-leans g c =
+    nobody_leans (is_sought c.args.sought.now c.args.query.now) c.args.world.now.state c.args.target c.args.entities.now c.args.found.now.items c.requires.alike c.in-Some.first.now
+    (sym c.first.ensures.value ∙ ap option_copied c.in-Some.is) (sym c.leans.ensures ∙ c.if-not-leans.true)
+
+pub returns : goal.returns
+returns g c =
+    on_ok_weaker c.push_each.result
+    (all_added (is_sought c.args.sought.now c.args.query.now) c.args.world.now.state c.args.target c.args.entities.now c.args.found.now.items c.push_each.new.found.items)
+    c.push_each.ensures

@@ -1,8 +1,11 @@
 use Rattle.std.specs.Prelude.{filter}
-use Rattle.std.proofs.Common.{subst}
-use Rattle.touched_entities.specs.Leaning.{Adds, is_sought, leans}
+use Rattle.std.proofs.Common.{subst, sym}
+use Rattle.touched_entities.specs.Leaning.{Adds, AreAlike, is_sought, leans}
 use Rattle.touched_entities.proofs.Grown.{given_within}
 use Rattle.touched_entities.proofs.leaning.push_from_tables.Goals as goal
+
+pub push_from-requires : goal.push_from-requires
+push_from-requires g c = record { alike = subst (AreAlike c.args.world.now.state) (sym c.rows.ensures) (c.requires.alike _) }
 
 pub loop-table-preserved : goal.loop-table-preserved
 loop-table-preserved g c =

@@ -5,8 +5,12 @@ use Rattle.std.specs.List.{Contains}
 use Rattle.component_index.specs.Patterns.{matches}
 use Rattle.ecs_links.specs.Linked.{rows_under}
 use Rattle.touched_entities.specs.Leaning.{is_sought, leaning, leans, pairs_to}
+use Rattle.touched_entities.proofs.Alike.{alike_by_tables}
 use Rattle.touched_entities.proofs.Grown.{fewer, leaning_are_holders}
 use Rattle.touched_entities.proofs.leaning.push_leaning.Goals as goal
+
+pub push_from_tables-requires : goal.push_from_tables-requires
+push_from_tables-requires g c = record { alike = alike_by_tables c.links-links.result (rw (← c.tables.ensures.tables) c.store.ensures.rows) c.args.world.now.state c.links-links.ensures.sees.ids_are }
 
 pub returns : goal.returns
 returns g c done =

@@ -7,8 +7,8 @@ use Rattle.touched_entities.proofs.ButForAsked.{told_moved}
 use Rattle.touched_entities.proofs.Followed.{stay_put}
 use Rattle.touched_entities.proofs.moving.who_may_have_moved.Goals as goal
 
-pub returns : goal.returns
-returns g c =
+pub returns-clause-told : goal.returns-clause-told
+returns-clause-told g c =
     let w = c.args.world.now.state in
     let q = c.args.query.now in
     let changed = c.args.changes.now in
