@@ -1,6 +1,6 @@
 //! Events, and their lines.
 
-ghost use Rattle.std.specs.Prelude.{◌≡◌, ◌++◌, ◌∷◌, [], OnOk, Some, flat_map};
+ghost use Rattle.std.specs.Prelude.{◌≡◌, ◌++◌, ◌∷◌, [], OnErr, OnOk, Some, flat_map};
 ghost use Rattle.std.specs.Fmt.{signed_decimal};
 ghost use Rattle.ecs_model.specs.Print.{value_text};
 ghost use Rattle.ecs_model.specs.stored.Watches.{event_id_text, event_text, event_word};
@@ -99,7 +99,8 @@ pub(crate) fn push_event<A: Allocator>(
     event: Event<A>,
     events: &mut Vec<Event<A>, A>,
 ) -> Result<(), AllocError>
-    ensures { OnOk result (events.new.items ≡ events.old.items ++ event ∷ []) }
+    ensures told { OnOk result (events.new.items ≡ events.old.items ++ event ∷ []) }
+    ensures kept { OnErr result (events.new.items ≡ events.old.items) }
 {
     if events.is_empty() {
         events.reserve_exact(1)?;

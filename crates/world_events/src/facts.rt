@@ -1,10 +1,11 @@
 //! What observers are told of facts that came or were set.
 
-ghost use Rattle.std.specs.Prelude.{◌≡◌, ◌++◌, IfOk, OnOk, filter, map};
+ghost use Rattle.std.specs.Prelude.{◌≡◌, ◌++◌, IfOk, OnErr, OnOk, filter, map};
 ghost use Rattle.ecs_id.specs.Id.{IsIndex};
 ghost use Rattle.ecs_model.specs.rows.View.{view_of};
 ghost use Rattle.ecs_model.specs.stored.Watches.{fact_event, observes};
 ghost use Rattle.ecs_model.specs.World.{holds};
+ghost use Rattle.ecs_print.specs.Stops.{StopsWithin};
 ghost use Rattle.world_events.specs.Terms.{has_unasked, tells, told_facts, told_value};
 
 use crate::event::{Event, push_event};
@@ -30,8 +31,10 @@ pub(crate) fn tell_facts<A: Allocator + Copy>(
     kind: EventKind,
     events: &mut Vec<Event<A>, A>,
 ) -> Result<(), AllocError>
-    ensures { OnOk result (events.new.items ≡ events.old.items
+    ensures told { OnOk result (events.new.items ≡ events.old.items
         ++ map (fact_event (audience.entry.name).now kind world.now.state (told_value world.now.state kind)) (filter (observes (view_of world.now.state) (audience.entry.query).now) (told_facts changes.now kind))) }
+    ensures front { OnErr result (StopsWithin events.old.items events.new.items
+        (map (fact_event (audience.entry.name).now kind world.now.state (told_value world.now.state kind)) (filter (observes (view_of world.now.state) (audience.entry.query).now) (told_facts changes.now kind)))) }
 {
     let Some(term) = only_term(audience.query) else {
         return Ok(());

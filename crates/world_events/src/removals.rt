@@ -1,7 +1,8 @@
 //! What observers are told of facts that went.
 
-ghost use Rattle.std.specs.Prelude.{◌≡◌, ◌++◌, IfOk, OnOk, filter, map};
+ghost use Rattle.std.specs.Prelude.{◌≡◌, ◌++◌, IfOk, OnErr, OnOk, filter, map};
 ghost use Rattle.ecs_id.specs.Id.{IsIndex};
+ghost use Rattle.ecs_print.specs.Stops.{StopsWithin};
 ghost use Rattle.watch_meaning.specs.Since.{IsAfter, held_before, observed_before, removed_event};
 ghost use Rattle.world_events.specs.Terms.{has_unasked, tells};
 
@@ -27,8 +28,10 @@ pub(crate) fn tell_removals<A: Allocator + Copy>(
     events: &mut Vec<Event<A>, A>,
 ) -> Result<(), AllocError>
     requires { IsAfter world.now.state changes.now }
-    ensures { OnOk result (events.new.items ≡ events.old.items
+    ensures told { OnOk result (events.new.items ≡ events.old.items
         ++ map (removed_event world.now.state changes.now (audience.entry.name).now) (filter (observed_before world.now.state changes.now (audience.entry.query).now) changes.now.went)) }
+    ensures front { OnErr result (StopsWithin events.old.items events.new.items
+        (map (removed_event world.now.state changes.now (audience.entry.name).now) (filter (observed_before world.now.state changes.now (audience.entry.query).now) changes.now.went))) }
 {
     let Some(term) = only_term(audience.query) else {
         return Ok(());

@@ -1,8 +1,9 @@
 //! What monitors are told: the entities that have left their rows, and those that have entered them.
 
-ghost use Rattle.std.specs.Prelude.{◌≡◌, ◌++◌, IfOk, OnOk, map};
+ghost use Rattle.std.specs.Prelude.{◌≡◌, ◌++◌, IfOk, OnErr, OnOk, map};
 ghost use Rattle.ecs_model.specs.declared.watches.EventKind.TheVariants.{Entered};
 ghost use Rattle.ecs_model.specs.stored.Watches.{entity_event};
+ghost use Rattle.ecs_print.specs.Stops.{StopsWithin};
 ghost use Rattle.watch_meaning.specs.Since.{IsAfter, left_event};
 ghost use Rattle.world_events.specs.Told.{told_of_moves};
 
@@ -23,7 +24,7 @@ pub struct Moves<'m> {
 
 /// Puts what a monitor is told behind other events, where it is known who has left its rows and who has entered them. Those who left come first.
 ///
-/// Fails where memory is refused, and then the events may have grown.
+/// Fails where memory is refused, and then the first of these may stand behind the others.
 pub fn tell_moves<A: Allocator + Copy>(
     alloc: A,
     world: &World<A>,
@@ -33,8 +34,10 @@ pub fn tell_moves<A: Allocator + Copy>(
     events: &mut Vec<Event<A>, A>,
 ) -> Result<(), AllocError>
     requires { IsAfter world.now.state changes.now }
-    ensures { OnOk result (events.new.items ≡ events.old.items
+    ensures told { OnOk result (events.new.items ≡ events.old.items
         ++ told_of_moves world.now.state changes.now name.now (moves.entry.left).now (moves.entry.entered).now) }
+    ensures front { OnErr result (StopsWithin events.old.items events.new.items
+        (told_of_moves world.now.state changes.now name.now (moves.entry.left).now (moves.entry.entered).now)) }
 {
     tell_each_left(alloc, world, changes, name, moves.left, events)?;
     tell_each_entered(alloc, world, name, moves.entered, events)
@@ -50,7 +53,8 @@ fn tell_each_left<A: Allocator + Copy>(
     events: &mut Vec<Event<A>, A>,
 ) -> Result<(), AllocError>
     requires { IsAfter world.now.state changes.now }
-    ensures { OnOk result (events.new.items ≡ events.old.items ++ map (left_event world.now.state changes.now name.now) left.now) }
+    ensures told { OnOk result (events.new.items ≡ events.old.items ++ map (left_event world.now.state changes.now name.now) left.now) }
+    ensures front { OnErr result (StopsWithin events.old.items events.new.items (map (left_event world.now.state changes.now name.now) left.now)) }
 {
     for index in left {
         push_event(left_event(alloc, world, changes, name, *index)?, events)?;
@@ -66,7 +70,8 @@ fn tell_each_entered<A: Allocator + Copy>(
     entered: &[u32],
     events: &mut Vec<Event<A>, A>,
 ) -> Result<(), AllocError>
-    ensures { OnOk result (events.new.items ≡ events.old.items ++ map (entity_event name.now Entered world.now.state) entered.now) }
+    ensures told { OnOk result (events.new.items ≡ events.old.items ++ map (entity_event name.now Entered world.now.state) entered.now) }
+    ensures front { OnErr result (StopsWithin events.old.items events.new.items (map (entity_event name.now Entered world.now.state) entered.now)) }
 {
     for index in entered {
         push_event(entered_event(alloc, world, name, *index)?, events)?;

@@ -1,7 +1,8 @@
 //! What observers are told of a command.
 
-ghost use Rattle.std.specs.Prelude.{◌≡◌, ◌≢◌, ◌++◌, [], OnOk};
+ghost use Rattle.std.specs.Prelude.{◌≡◌, ◌≢◌, ◌++◌, [], OnErr, OnOk};
 ghost use Rattle.ecs_model.specs.declared.watches.StoredKind.TheVariants.{Monitor};
+ghost use Rattle.ecs_print.specs.Stops.{StopsWithin};
 ghost use Rattle.watch_meaning.specs.Since.{IsAfter, told_since};
 
 use crate::event::Event;
@@ -22,7 +23,7 @@ pub struct Audience<'q, A: Allocator> {
 
 /// Puts what an observer is told of a command behind other events, by the world after the command. It isn't for monitors, which `tell_moves` tells.
 ///
-/// An observer is judged by its one term before the world is read. Fails where memory is refused, and then the events may have grown.
+/// An observer is judged by its one term before the world is read. Fails where memory is refused, and then the first of these may stand behind the others.
 pub fn tell<A: Allocator + Copy>(
     alloc: A,
     world: &World<A>,
@@ -32,8 +33,10 @@ pub fn tell<A: Allocator + Copy>(
 ) -> Result<(), AllocError>
     requires after { IsAfter world.now.state changes.now }
     requires observes { audience.kind ≢ Monitor }
-    ensures { OnOk result (events.new.items ≡ events.old.items
+    ensures told { OnOk result (events.new.items ≡ events.old.items
         ++ told_since world.now.state changes.now (audience.entry.name).now audience.entry.kind (audience.entry.query).now []) }
+    ensures front { OnErr result (StopsWithin events.old.items events.new.items
+        (told_since world.now.state changes.now (audience.entry.name).now audience.entry.kind (audience.entry.query).now [])) }
 {
     match audience.kind {
         StoredKind::Kept => Ok(()),
