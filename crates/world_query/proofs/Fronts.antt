@@ -1,31 +1,29 @@
--- What stands in front of what is written.
-use Rattle.std.proofs.Common.{◌≡◌, ◌≤◌, ℕ, List, ◌++◌, length, take, ap, arith, sym, ◌∙◌}
-use Rattle.std.proofs.Math.Seq.{take-append_seam, take-length}
-use Rattle.std.proofs.lemmas.List.{length-take, take-take}
-use Rattle.std.specs.Io.{StartsWith}
-use Rattle.std.specs.Prelude.{OnErr, Result, Ok, Err, if◌then◌else◌, is_ok}
+-- A text that stops in the midst of the piece of an item.
+use Rattle.std.proofs.Common.{◌≡◌, ℕ, ◌+◌, ◌<◌, ◌≤◌, Bool, true, false, List, [], ◌++◌, length, take, drop, refl, sym, ap, ◌∙◌, subst, append_assoc, append-nil}
+use Rattle.std.specs.Prelude.{Some, codes, flat_map, slice_get}
+use Rattle.std.proofs.lemmas.Grind.{flat_map-append}
+use Rattle.std.proofs.lemmas.List.{take-append-drop}
+use Rattle.ecs_print.specs.Stops.{StopsWithin}
+use Rattle.ecs_print.proofs.Stops.{stops_behind, stops_sooner}
+use Rattle.world_query.specs.Lines.{line_end}
+use Rattle.world_query.proofs.Printed.{line_ended, one_more}
 
-pub all_starts : (xs : List ℕ) → StartsWith xs xs
-all_starts xs = take-length xs
+pub stops_in_item : {X : Type 0} (f : X → List ℕ) (xs : List X) (i : ℕ) (x : X) (start mid now : List ℕ) → i < length xs → slice_get xs i ≡ Some x → mid ≡ start ++ flat_map f (take i xs) → StopsWithin mid now (f x)
+    → StopsWithin start now (flat_map f xs)
+stops_in_item f xs i x start mid now within here before stops =
+    let done = flat_map f (take i xs) in
+    let rest = flat_map f (drop (i + 1) xs) in
+    let this : done ++ f x ≡ flat_map f (take (i + 1) xs) = one_more f xs i x [] done (done ++ f x) within here refl refl in
+    let all : (done ++ f x) ++ rest ≡ flat_map f xs
+    = ap (λ t. t ++ rest) this ∙ sym (flat_map-append f (take (i + 1) xs) (drop (i + 1) xs)) ∙ ap (flat_map f) (take-append-drop (i + 1) xs) in
+    subst (StopsWithin start now) all (stops_sooner start now (done ++ f x) rest (stops_behind start done mid now (f x) before stops))
 
--- what was there before more of it was written stays in front
-pub starts_before : (old more new : List ℕ) → new ≡ old ++ more → StartsWith new old
-starts_before old more new is = ap (take (length old)) is ∙ take-append_seam old more
-
-pub starts_through : (old mid new : List ℕ) → StartsWith mid old → StartsWith new mid → StartsWith new old
-starts_through old mid new first second =
-    let within : length old ≤ length mid = omega (arith, ap length first, length-take (length old) mid) in
-    sym (take-take (length old) (length mid) new within) ∙ ap (take (length old)) second ∙ first
-
-pub front_before : (old more mid new : List ℕ) → mid ≡ old ++ more → StartsWith new mid → StartsWith new old
-front_before old more mid new is stays = starts_through old mid new (starts_before old more mid is) stays
-
--- what holds anyway holds of an error
-pub on_err_anyway : {T E P : Type 0} (r : Result T E) → P → OnErr r P
-on_err_anyway (Ok x) p = tt
-on_err_anyway (Err e) p = p
-
--- where nothing is changed by a refusal
-pub kept_if_refused : {X E : Type 0} (r : Result X E) (old all new : List ℕ) → new ≡ (if is_ok r then all else old) → OnErr r (StartsWith new old)
-kept_if_refused (Ok x) old all new is = tt
-kept_if_refused (Err e) old all new is = ap (take (length old)) is ∙ all_starts old
+-- the last item ends the line
+pub stops_in_line : {X : Type 0} (f : X → List ℕ) (xs : List X) (i : ℕ) (x : X) (last : Bool) (start mid now : List ℕ) → i < length xs → slice_get xs i ≡ Some x → mid ≡ start ++ flat_map f (take i xs)
+    → (last ≡ true → length xs ≤ i + 1) → StopsWithin mid now (f x ++ line_end last) → StopsWithin start now (flat_map f xs ++ codes "\n")
+stops_in_line f xs i x true start mid now within here before ends stops =
+    let done = flat_map f (take i xs) in
+    let all : (done ++ f x) ++ codes "\n" ≡ flat_map f xs ++ codes "\n" = line_ended f xs i x [] done ((done ++ f x) ++ codes "\n") within here refl refl (ends refl) in
+    subst (StopsWithin start now) (sym (append_assoc done (f x) (codes "\n")) ∙ all) (stops_behind start done mid now (f x ++ codes "\n") before stops)
+stops_in_line f xs i x false start mid now within here before ends stops =
+    stops_sooner start now (flat_map f xs) (codes "\n") (stops_in_item f xs i x start mid now within here before (subst (StopsWithin mid now) (append-nil (f x)) stops))

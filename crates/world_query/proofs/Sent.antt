@@ -5,31 +5,20 @@ use Rattle.std.specs.Io.{StartsWith}
 use Rattle.std.specs.Io.KnownBytes.{Appends}
 use Rattle.std.proofs.KnownBytes.{Appends-nil, Appends-trans}
 use Rattle.std.proofs.lemmas.List.{take-append-drop}
+use Rattle.ecs_print.specs.Stops.{StopsWithin}
+use Rattle.ecs_print.proofs.Stops.{stops_behind, stops_front, stops_past, stops_same, stops_sooner}
 use Rattle.script_streams.specs.declared.streams.Calls.{Calls}
 use Rattle.script_streams.specs.Streams.{IsCalm, TakesFront}
 use Rattle.world_query.specs.declared.sending.SendError.{SendError}
 use Rattle.world_query.specs.declared.sending.SendError.TheVariants.{Memory, Write}
 use Rattle.world_query.specs.Sent.{FailsAtWrite, HoldsAtFault, HoldsOneLine, IsSent, StopsSending}
-use Rattle.world_query.proofs.Fronts.{starts_before}
-
--- what begins with a list is that and more
-begins : (old new : List ℕ) → StartsWith new old → new ≡ old ++ drop (length old) new
-begins old new starts = sym (take-append-drop (length old) new) ∙ ap (λ t. t ++ drop (length old) new) starts
 
 -- nothing is sent
 pub sent_here : (c : Option (List ℕ)) (before after text : List ℕ) → after ≡ before ++ text → IsSent c c before after text
 sent_here c before after text is = record { sent = []; wrote = Appends-nil c; whole = is }
 
-pub stops_here : (c : Option (List ℕ)) (before after text : List ℕ) → StartsWith after before → StopsSending c c before after text
-stops_here c before after text starts = record {
-  sent = [];
-  part = [];
-  more = drop (length before) after;
-  rest = before ++ text;
-  wrote = Appends-nil c;
-  kept = begins before after starts;
-  front = refl;
-}
+pub stops_here : (c : Option (List ℕ)) (before after text : List ℕ) → StopsWithin before after text → StopsSending c c before after text
+stops_here c before after text stops = record { sent = []; part = []; unsent = after; wrote = Appends-nil c; held = refl; stops = stops }
 
 -- all that is written is sent
 pub sent_off : (a b : Option (List ℕ)) (before after : List ℕ) → Appends a b before → after ≡ [] → IsSent a b before after []
@@ -40,11 +29,10 @@ pub stops_off : (a b : Option (List ℕ)) (before after text : List ℕ) → Tak
 stops_off a b before after text front same = record {
   sent = [];
   part = take front.0 before;
-  more = [];
-  rest = drop front.0 before ++ text;
+  unsent = drop front.0 before;
   wrote = front.2;
-  kept = same ∙ sym (append-nil before);
-  front = ap (λ t. t ++ text) (sym (take-append-drop front.0 before)) ∙ append_assoc (take front.0 before) (drop front.0 before) text;
+  held = same ∙ sym (take-append-drop front.0 before);
+  stops = stops_same before after text same;
 }
 
 -- s ++ z, where s ++ y is x ++ t and z is what y is behind another front
@@ -62,34 +50,31 @@ sent_then a b c x y z t u first second = record {
 pub stops_then : (a b c : Option (List ℕ)) (x y z t u : List ℕ) → IsSent a b x y t → StopsSending b c y z u → StopsSending a c x z (t ++ u)
 stops_then a b c x y z t u first second =
     let s = first.sent in
-    let taken = second.sent ++ second.part in
-    let assoc : (s ++ second.sent) ++ second.part ≡ s ++ taken = append_assoc s second.sent second.part in
+    let assoc : (s ++ second.sent) ++ second.part ≡ s ++ (second.sent ++ second.part) = append_assoc s second.sent second.part in
     record {
       sent = s ++ second.sent;
       part = second.part;
-      more = t ++ second.more;
-      rest = second.rest;
-      wrote = subst (Appends a c) (sym assoc) (Appends-trans a b c s taken first.wrote second.wrote);
-      kept = through s second.sent x y z t second.more first.whole second.kept;
-      front = sym (append_assoc x t u) ∙ ap (λ l. l ++ u) (sym first.whole) ∙ append_assoc s y u ∙ ap (λ l. s ++ l) second.front
-          ∙ sym (append_assoc s taken second.rest) ∙ ap (λ l. l ++ second.rest) (sym assoc);
+      unsent = second.unsent;
+      wrote = subst (Appends a c) (sym assoc) (Appends-trans a b c s (second.sent ++ second.part) first.wrote second.wrote);
+      held = second.held;
+      stops = subst (λ l. StopsWithin x l (t ++ u)) (sym (append_assoc s second.sent z))
+          (stops_behind x t (s ++ y) (s ++ (second.sent ++ z)) u first.whole (stops_past s y (second.sent ++ z) u second.stops));
     }
 
 -- the same as the front of a text
 pub stops_within : (a b : Option (List ℕ)) (x y t more all : List ℕ) → all ≡ t ++ more → StopsSending a b x y t → StopsSending a b x y all
-stops_within a b x y t more all is stops = record {
-  sent = stops.sent;
-  part = stops.part;
-  more = stops.more;
-  rest = stops.rest ++ more;
-  wrote = stops.wrote;
-  kept = stops.kept;
-  front = ap (λ l. x ++ l) is ∙ sym (append_assoc x t more) ∙ ap (λ l. l ++ more) stops.front ∙ append_assoc (stops.sent ++ stops.part) stops.rest more;
+stops_within a b x y t more all is so = record {
+  sent = so.sent;
+  part = so.part;
+  unsent = so.unsent;
+  wrote = so.wrote;
+  held = so.held;
+  stops = subst (StopsWithin x (so.sent ++ y)) (sym is) (stops_sooner x (so.sent ++ y) t more so.stops);
 }
 
 -- where a text is put down whose front was sent and kept
-pub stops_at : (a b : Option (List ℕ)) (x y z t more all : List ℕ) → all ≡ t ++ more → StartsWith z y → IsSent a b x y t → StopsSending a b x z all
-stops_at a b x y z t more all is starts sent = subst (StopsSending a b x z) (sym is) (stops_then a b b x y z t more sent (stops_here b y z more starts))
+pub stops_at : (a b : Option (List ℕ)) (x y z t more all : List ℕ) → all ≡ t ++ more → StopsWithin y z more → IsSent a b x y t → StopsSending a b x z all
+stops_at a b x y z t more all is stops sent = subst (StopsSending a b x z) (sym is) (stops_then a b b x y z t more sent (stops_here b y z more stops))
 
 -- the same of lists that are the same
 pub sent_as : (a b : Option (List ℕ)) (x y t before after : List ℕ) → before ≡ x → after ≡ y → IsSent a b x y t → IsSent a b before after t
@@ -100,12 +85,18 @@ pub stops_as : (a b : Option (List ℕ)) (x y t before after : List ℕ) → bef
 stops_as a b x y t before after first last so = record {
   sent = so.sent;
   part = so.part;
-  more = so.more;
-  rest = so.rest;
+  unsent = so.unsent;
   wrote = so.wrote;
-  kept = ap (λ l. so.sent ++ l) last ∙ so.kept ∙ ap (λ l. l ++ so.more) (sym first);
-  front = ap (λ l. l ++ t) first ∙ so.front;
+  held = last ∙ so.held;
+  stops = subst (λ l. StopsWithin l (so.sent ++ after) t) (sym first) (subst (λ l. StopsWithin x (so.sent ++ l) t) (sym last) so.stops);
 }
+
+-- what the writer has taken is a front of all
+pub taken_front : (a b : Option (List ℕ)) (before after text : List ℕ) (so : StopsSending a b before after text) → before ++ text ≡ (so.sent ++ so.part) ++ (so.unsent ++ so.stops.rest)
+taken_front a b before after text so =
+    ap (λ l. before ++ l) so.stops.front ∙ sym (append_assoc before so.stops.more so.stops.rest) ∙ ap (λ l. l ++ so.stops.rest) (sym so.stops.holds)
+    ∙ ap (λ l. (so.sent ++ l) ++ so.stops.rest) so.held ∙ ap (λ l. l ++ so.stops.rest) (sym (append_assoc so.sent so.part so.unsent))
+    ∙ append_assoc (so.sent ++ so.part) so.unsent so.stops.rest
 
 -- a writer that takes nothing has taken nothing
 none_sent : (s part : List ℕ) → [] ≡ s ++ part → s ≡ []
@@ -115,8 +106,11 @@ none_sent (x ∷ s) part none = absurd (omega (arith, ap length none))
 pub sent_nowhere : (before after text : List ℕ) → IsSent (Some []) (Some []) before after text → after ≡ before ++ text
 sent_nowhere before after text so = ap (λ s. s ++ after) so.wrote ∙ so.whole
 
+pub stops_unsent : (before after text : List ℕ) → StopsSending (Some []) (Some []) before after text → StopsWithin before after text
+stops_unsent before after text so = subst (λ s. StopsWithin before (s ++ after) text) (none_sent so.sent so.part so.wrote) so.stops
+
 pub stops_nowhere : (before after text : List ℕ) → StopsSending (Some []) (Some []) before after text → StartsWith after before
-stops_nowhere before after text so = starts_before before so.more after (ap (λ s. s ++ after) (sym (none_sent so.sent so.part so.wrote)) ∙ so.kept)
+stops_nowhere before after text so = stops_front before after text (stops_unsent before after text so)
 
 -- calls stay calm where no fault is answered
 pub calm_still : {T : Type 0} (old new : Calls) (answer : T) → FailsAtWrite old (Ok answer) new → IsCalm old → IsCalm new

@@ -1,6 +1,7 @@
 -- What has become of a text where a writer takes what stands in a list before it is whole.
 use Rattle.std.specs.Prelude.{◌≡◌, ◌≤◌, ⊤, ℕ, List, ◌++◌, length, Contains, Option, Result, Ok, Err}
 use Rattle.std.specs.Io.KnownBytes.{Appends}
+use Rattle.ecs_print.specs.Stops.{StopsWithin}
 use Rattle.script_streams.specs.declared.streams.Calls.{Calls}
 use Rattle.script_streams.specs.Streams.{IsCalm, IsFaulty}
 use Rattle.world_query.specs.declared.sending.SendError.{SendError}
@@ -12,15 +13,14 @@ pub record IsSent (old new : Option (List ℕ)) (before after text : List ℕ) :
   pub wrote : Appends old new sent
   pub whole : sent ++ after ≡ before ++ text
 
--- the writer has taken a front of that, and of what the list held nothing is lost but what it has taken
+-- a front of the text was put behind what the list held. The writer has taken some of that, which has left the list, and in a write that failed a part more, with which the list begins
 pub record StopsSending (old new : Option (List ℕ)) (before after text : List ℕ) : Type 0 where
   pub sent : List ℕ
   pub part : List ℕ
-  pub more : List ℕ
-  pub rest : List ℕ
+  pub unsent : List ℕ
   pub wrote : Appends old new (sent ++ part)
-  pub kept : sent ++ after ≡ before ++ more
-  pub front : before ++ text ≡ (sent ++ part) ++ rest
+  pub held : after ≡ part ++ unsent
+  pub stops : StopsWithin before (sent ++ after) text
 
 -- where the calls of a writer were calm, they are faulty after a fault of a write, and calm after any other answer
 abbrev pub FailsAtWrite : {T : Type 0} → Calls → Result T SendError → Calls → Type 0

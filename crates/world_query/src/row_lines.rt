@@ -1,11 +1,11 @@
 //! The line of a row.
 
 ghost use Rattle.std.specs.Prelude.{◌≡◌, ◌+◌, ◌<◌, ◌≤◌, ◌++◌, All, OnErr, OnOk, Some, codes, flat_map, length, map};
-ghost use Rattle.std.specs.Io.{StartsWith};
 ghost use Rattle.std.specs.List.{zip};
 ghost use Rattle.ecs_model.specs.Bytes.{size_of, values_in};
 ghost use Rattle.ecs_model.specs.Print.{field_text, index_text, value_text};
 ghost use Rattle.ecs_model.specs.rows.View.{view_of};
+ghost use Rattle.ecs_print.specs.Stops.{StopsWithin};
 ghost use Rattle.row_fields.specs.Fields.{shown_field};
 ghost use Rattle.world_query.specs.Lines.{AreTexts, IsEntityText, IsKept, IsLabel, IsLabelOf, field_end, label_text, line_end, line_headed, row_alone, started, starts_in, text_of, written};
 
@@ -43,7 +43,7 @@ pub(crate) fn write_row<'w, A: Allocator, B: Allocator>(
     requires texts { AreTexts world.now.state (length starts.now) (length (fields.now).items) texts.old }
     ensures texts { OnOk result (AreTexts world.now.state (length starts.now) (length (fields.now).items) texts.new) }
     ensures row { OnOk result (written out.new end.new ≡ written out.old end.old ++ line_headed world.now.state (starts_in starts.now) entities.now (fields.now).current) }
-    ensures front { OnErr result (StartsWith (written out.new end.new) (written out.old end.old)) }
+    ensures front { OnErr result (StopsWithin (written out.old end.old) (written out.new end.new) (line_headed world.now.state (starts_in starts.now) entities.now (fields.now).current)) }
 {
     begin_row(starts, end, out)?;
     write_bindings(
@@ -64,7 +64,7 @@ fn begin_row<A: Allocator, B: Allocator>(
     out: &mut Vec<u8, A>,
 ) -> Result<(), AllocError>
     ensures text { OnOk result (written out.new end.new ≡ written out.old end.old ++ row_alone (starts_in starts.now)) }
-    ensures front { OnErr result (StartsWith (written out.new end.new) (written out.old end.old)) }
+    ensures front { OnErr result (StopsWithin (written out.old end.old) (written out.new end.new) (row_alone (starts_in starts.now))) }
 {
     match starts {
         [] => put(b"row                             ", 3, end, out),
@@ -85,7 +85,7 @@ fn write_bindings<A: Allocator, B: Allocator>(
     requires texts { All (IsKept world.now.state) texts.old }
     ensures texts { OnOk result (All (IsKept world.now.state) texts.new) }
     ensures text { OnOk result (written out.new end.new ≡ written out.old end.old ++ flat_map (started world.now.state) (zip (starts_in starts.now) entities.now)) }
-    ensures front { OnErr result (StartsWith (written out.new end.new) (written out.old end.old)) }
+    ensures front { OnErr result (StopsWithin (written out.old end.old) (written out.new end.new) (flat_map (started world.now.state) (zip (starts_in starts.now) entities.now))) }
 {
     for place in 0..starts.len().min(entities.len()) {
         write_binding(
@@ -113,7 +113,7 @@ fn write_all_fields<'w, A: Allocator, B: Allocator>(
     requires texts { AreTexts world.now.state columns (length (fields.now).items) texts.old }
     ensures texts { OnOk result (AreTexts world.now.state columns (length (fields.now).items) texts.new) }
     ensures text { OnOk result (written out.new end.new ≡ written out.old end.old ++ flat_map (field_text world.now.state) (map (shown_field (view_of world.now.state)) (fields.now).current) ++ codes "\n") }
-    ensures front { OnErr result (StartsWith (written out.new end.new) (written out.old end.old)) }
+    ensures front { OnErr result (StopsWithin (written out.old end.old) (written out.new end.new) (flat_map (field_text world.now.state) (map (shown_field (view_of world.now.state)) (fields.now).current) ++ codes "\n")) }
 {
     let Some(last) = fields.len().checked_sub(1) else {
         return put(b"\n                               ", 1, end, out);
@@ -147,7 +147,7 @@ fn write_binding<A: Allocator, B: Allocator>(
     requires texts { All (IsKept world.now.state) texts.old }
     ensures texts { OnOk result (All (IsKept world.now.state) texts.new) }
     ensures text { OnOk result (written out.new end.new ≡ written out.old end.old ++ started world.now.state (text_of start.now, entity)) }
-    ensures front { OnErr result (StartsWith (written out.new end.new) (written out.old end.old)) }
+    ensures front { OnErr result (StopsWithin (written out.old end.old) (written out.new end.new) (started world.now.state (text_of start.now, entity))) }
 {
     let found = place_of_text(world, texts, place, entity)?;
     let text = &texts[found];
@@ -178,7 +178,7 @@ fn write_field<'w, A: Allocator, B: Allocator>(
     ensures texts { OnOk result (All (IsKept world.now.state) texts.new) }
     ensures label { OnOk result (IsLabel world.now.state label.new) }
     ensures text { OnOk result (written out.new end.new ≡ written out.old end.old ++ field_text world.now.state (shown_field (view_of world.now.state) shown) ++ line_end is_last) }
-    ensures front { OnErr result (StartsWith (written out.new end.new) (written out.old end.old)) }
+    ensures front { OnErr result (StopsWithin (written out.old end.old) (written out.new end.new) (field_text world.now.state (shown_field (view_of world.now.state) shown) ++ line_end is_last)) }
 {
     let Some(fact) = shown else {
         return write_unset(is_last, end, out);
@@ -199,7 +199,7 @@ fn write_unset<A: Allocator>(
     out: &mut Vec<u8, A>,
 ) -> Result<(), AllocError>
     ensures text { OnOk result (written out.new end.new ≡ written out.old end.old ++ codes " [-]" ++ line_end is_last) }
-    ensures front { OnErr result (StartsWith (written out.new end.new) (written out.old end.old)) }
+    ensures front { OnErr result (StopsWithin (written out.old end.old) (written out.new end.new) (codes " [-]" ++ line_end is_last)) }
 {
     if is_last {
         return put(b" [-]\n                           ", 5, end, out);
@@ -220,7 +220,7 @@ fn write_valued<'w, A: Allocator, B: Allocator>(
     requires label { IsLabelOf world.now.state label.now fact.id }
     requires source { IsEntityText world.now.state source.now }
     ensures text { OnOk result (written out.new end.new ≡ written out.old end.old ++ label_text world.now.state fact.id ++ index_text world.now.state (source.now).index ++ value_text ((view_of world.now.state).value fact.source fact.id) ++ field_end is_last) }
-    ensures front { OnErr result (StartsWith (written out.new end.new) (written out.old end.old)) }
+    ensures front { OnErr result (StopsWithin (written out.old end.old) (written out.new end.new) (label_text world.now.state fact.id ++ index_text world.now.state (source.now).index ++ value_text ((view_of world.now.state).value fact.source fact.id) ++ field_end is_last)) }
 {
     let Some(schema) = label.schema else {
         return write_bare(world, fact.id, is_last, label, source, end, out);
@@ -255,7 +255,7 @@ fn write_bare<'w, A: Allocator, B: Allocator>(
     requires label { IsLabelOf world.now.state label.now id }
     requires source { IsEntityText world.now.state source.now }
     ensures text { OnOk result (written out.new end.new ≡ written out.old end.old ++ label_text world.now.state id ++ index_text world.now.state (source.now).index ++ field_end is_last) }
-    ensures front { OnErr result (StartsWith (written out.new end.new) (written out.old end.old)) }
+    ensures front { OnErr result (StopsWithin (written out.old end.old) (written out.new end.new) (label_text world.now.state id ++ index_text world.now.state (source.now).index ++ field_end is_last)) }
 {
     put_pair(
         label.text.bytes.as_slice(),
@@ -277,7 +277,7 @@ fn write_numbers<A: Allocator>(
 ) -> Result<(), AllocError>
     requires { length bytes.now ≡ size_of schema.now }
     ensures text { OnOk result (written out.new end.new ≡ written out.old end.old ++ value_text (Some (values_in schema.now bytes.now)) ++ field_end is_last) }
-    ensures front { OnErr result (StartsWith (written out.new end.new) (written out.old end.old)) }
+    ensures front { OnErr result (StopsWithin (written out.old end.old) (written out.new end.new) (value_text (Some (values_in schema.now bytes.now)) ++ field_end is_last)) }
 {
     let mut text = [b']'; MOST_TEXT + CHUNK];
     text[MOST_TEXT + 1] = b'\n';

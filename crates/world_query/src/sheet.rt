@@ -3,7 +3,7 @@
 //! Of a sheet's bytes those before a place are written, and what stands behind them is room. The place is kept beside the bytes.
 
 ghost use Rattle.std.specs.Prelude.{◌≡◌, ◌+◌, ◌-◌, ◌<◌, ◌≤◌, ◌++◌, OnErr, OnOk, IfOk, drop, false, length, replicate, take, true};
-ghost use Rattle.std.specs.Io.{StartsWith};
+ghost use Rattle.ecs_print.specs.Stops.{StopsWithin};
 ghost use Rattle.world_query.specs.Lines.{written};
 
 use std::alloc::{AllocError, Allocator};
@@ -26,7 +26,7 @@ pub(crate) fn put<A: Allocator>(
     sheet: &mut Vec<u8, A>,
 ) -> Result<(), AllocError>
     ensures text { OnOk result (written sheet.new end.new ≡ written sheet.old end.old ++ take count text.now) }
-    ensures front { OnErr result (StartsWith (written sheet.new end.new) (written sheet.old end.old)) }
+    ensures front { OnErr result (StopsWithin (written sheet.old end.old) (written sheet.new end.new) (take count text.now)) }
 {
     let place = *end;
     if is_short(text, count) && has_room(place, CHUNK, sheet.len()) {
@@ -50,7 +50,7 @@ pub(crate) fn put_pair<A: Allocator>(
 ) -> Result<(), AllocError>
     requires { 32 ≤ length other.now }
     ensures text { OnOk result (written sheet.new end.new ≡ (written sheet.old end.old ++ take count text.now) ++ take more other.now) }
-    ensures front { OnErr result (StartsWith (written sheet.new end.new) (written sheet.old end.old)) }
+    ensures front { OnErr result (StopsWithin (written sheet.old end.old) (written sheet.new end.new) (take count text.now ++ take more other.now)) }
 {
     let place = *end;
     if is_short(text, count) && more <= CHUNK && has_room(place, PAIR, sheet.len()) {
@@ -121,7 +121,7 @@ fn put_long<A: Allocator>(
     sheet: &mut Vec<u8, A>,
 ) -> Result<(), AllocError>
     ensures text { OnOk result (written sheet.new end.new ≡ written sheet.old end.old ++ take count text.now) }
-    ensures front { OnErr result (StartsWith (written sheet.new end.new) (written sheet.old end.old)) }
+    ensures front { OnErr result (StopsWithin (written sheet.old end.old) (written sheet.new end.new) (take count text.now)) }
 {
     let text = &text[..count.min(text.len())];
     let place = (*end).min(sheet.len());

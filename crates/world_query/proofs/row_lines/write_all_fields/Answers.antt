@@ -1,9 +1,12 @@
 -- A field more at each turn, and the end of the line behind the last one.
-use Rattle.std.proofs.Common.{◌≡◌, true, false, ap, sym, ◌∙◌, arith, length, length-set}
-use Rattle.std.specs.Prelude.{Option, ◌==◌, ◌++◌, codes}
+use Rattle.std.proofs.Common.{◌≡◌, ◌+◌, ◌≤◌, ℕ, List, [], ◌∷◌, true, false, ap, refl, subst, sym, ◌∙◌, arith, length, length-set, map}
+use Rattle.std.specs.Prelude.{Option, ◌==◌, ◌++◌, codes, flat_map}
 use Rattle.std.proofs.lemmas.Bool.Decides.{nat_tests}
 use Rattle.std.proofs.lemmas.List.Elements.{All-set}
 use Rattle.std.proofs.lemmas.List.Folds.{flat_map-map}
+use Rattle.std.proofs.lemmas.Result.{on_err_weaker}
+use Rattle.ecs_print.specs.Stops.{StopsWithin}
+use Rattle.ecs_print.proofs.Stops.{on_err_anyway}
 use Rattle.ecs_model.specs.Print.{field_text}
 use Rattle.ecs_model.specs.rows.View.{view_of}
 use Rattle.row_fields.specs.declared.field_places.ShownFact.{ShownFact}
@@ -11,7 +14,7 @@ use Rattle.row_fields.specs.Fields.{shown_field}
 use Rattle.world_query.specs.Lines.{IsLabel, line_end, written}
 use Rattle.world_query.proofs.Kept.{texts_lent}
 use Rattle.world_query.proofs.Printed.{line_ended, line_goes_on}
-use Rattle.world_query.proofs.Fronts.{front_before, on_err_anyway}
+use Rattle.world_query.proofs.Fronts.{stops_in_line}
 use Rattle.world_query.proofs.row_lines.write_all_fields.Goals as goal
 
 pub loop-number-preserved : goal.loop-number-preserved
@@ -47,5 +50,28 @@ returns-clause-text g c =
     c.loop-number.invariant.all (omega arith)
     ∙ ap (λ t. written c.args.out.now c.args.end.now ++ t ++ codes "\n") (sym (flat_map-map (field_text w) (shown_field (view_of w)) current))
 
+-- in the midst of one
 pub returns-in_err-write_field-clause-front : goal.returns-in_err-write_field-clause-front
-returns-in_err-write_field-clause-front g c = on_err_anyway _ (front_before _ _ _ _ (c.loop-number.invariant.more (omega arith)) c.in_err-write_field.ensures.front)
+returns-in_err-write_field-clause-front g c =
+    let w = c.args.world.now.state in
+    let f = λ (s : Option ShownFact). field_text w (shown_field (view_of w) s) in
+    let xs = c.args.fields.now.current in
+    let i = c.loop-number.number in
+    let start = written c.args.out.now c.args.end.now in
+    let now = written c.write_field.new.out c.write_field.new.end in
+    let ends : (i == c.in-Some.last) ≡ true → length xs ≤ i + 1 = λ is. grind (arith, nat_tests) in
+    on_err_anyway _
+    (subst (λ t. StopsWithin start now (t ++ codes "\n")) (sym (flat_map-map (field_text w) (shown_field (view_of w)) xs))
+    (stops_in_line f xs i c.field.result (i == c.in-Some.last) start _ now (omega arith) c.field.ensures (c.loop-number.invariant.more (omega arith)) ends c.in_err-write_field.ensures.front))
+
+-- without fields the line ends at once
+no_fields : {X Y : Type 0} (f : Y → List ℕ) (g : X → Y) (xs : List X) → (1 ≤ length xs → ⊥) → codes "\n" ≡ flat_map f (map g xs) ++ codes "\n"
+no_fields f g [] none = refl
+no_fields f g (x ∷ xs) none = absurd (none (omega arith))
+
+pub returns-in_default-clause-front : goal.returns-in_default-clause-front
+returns-in_default-clause-front g c =
+    let w = c.args.world.now.state in
+    let xs = c.args.fields.now.current in
+    let none : 1 ≤ length xs → ⊥ = λ some. c.in_default.ensures (omega (arith, some, c.len.ensures.current)) in
+    on_err_weaker c.put.result (subst (StopsWithin _ _) (no_fields (field_text w) (shown_field (view_of w)) xs none)) c.put.ensures.front

@@ -5,11 +5,12 @@ use Rattle.std.specs.List.{zip}
 use Rattle.std.proofs.lemmas.List.{length-map, take_all}
 use Rattle.std.proofs.lemmas.Option.{slice_get-get_or, slice_get-map, slice_get_read}
 use Rattle.std.proofs.lemmas.Slice.Zip.{length-zip}
+use Rattle.ecs_print.proofs.Stops.{on_err_anyway}
 use Rattle.ecs_model.specs.World.{WorldState}
 use Rattle.world_query.specs.declared.labels.Piece.{Piece}
 use Rattle.world_query.specs.Lines.{started, starts_in, text_of, written}
 use Rattle.world_query.proofs.Printed.{both_at, one_more}
-use Rattle.world_query.proofs.Fronts.{front_before, on_err_anyway}
+use Rattle.world_query.proofs.Fronts.{stops_in_item}
 use Rattle.world_query.proofs.row_lines.write_bindings.Goals as goal
 
 pub loop-place-preserved : goal.loop-place-preserved
@@ -40,5 +41,19 @@ pub returns-clause-text : goal.returns-clause-text
 returns-clause-text g c =
     all_bindings c.args.world.now.state c.args.starts.now c.args.entities.now c.loop-place.place (written c.args.out.now c.args.end.now) (written c.loop-place.out c.loop-place.end) (omega arith) c.loop-place.invariant.text
 
+-- in the midst of one
 pub returns-in_err-write_binding-clause-front : goal.returns-in_err-write_binding-clause-front
-returns-in_err-write_binding-clause-front g c = on_err_anyway _ (front_before _ _ _ _ c.loop-place.invariant.text c.in_err-write_binding.ensures.front)
+returns-in_err-write_binding-clause-front g c =
+    let starts = c.args.starts.now in
+    let entities = c.args.entities.now in
+    let place = c.loop-place.place in
+    let start = c.index-starts-place.result in
+    let many = length-zip (starts_in starts) entities in
+    let as_many = length-map starts text_of in
+    let within : place < length starts = omega arith in
+    let too : place < length entities = omega arith in
+    let here = slice_get-map text_of starts place ∙ ap (option_map text_of) (slice_get_read starts (length starts) place start refl within c.index-starts-place.is) in
+    let there = slice_get-get_or entities place 0 too in
+    on_err_anyway _
+    (stops_in_item (started c.args.world.now.state) (zip (starts_in starts) entities) place (text_of start, get_or entities place 0) _ _ _
+    (omega arith) (both_at (starts_in starts) entities place (text_of start) (get_or entities place 0) here there) c.loop-place.invariant.text c.in_err-write_binding.ensures.front)

@@ -1,7 +1,9 @@
 -- The text that stands where it was found is the source's.
-use Rattle.std.proofs.Common.{◌≡◌, ℕ, Bool, true, false, List, [], ◌++◌, append-nil, append_assoc, ap, sym, ◌∙◌}
+use Rattle.std.proofs.Common.{◌≡◌, ℕ, Bool, true, false, List, [], ◌++◌, append-nil, append_assoc, ap, refl, subst, sym, ◌∙◌}
 use Rattle.std.specs.Prelude.{Option, Some, None, codes, if◌then◌else◌}
-use Rattle.std.proofs.lemmas.Result.{on_ok_weaker}
+use Rattle.std.proofs.lemmas.Result.{on_err_weaker, on_ok_weaker}
+use Rattle.ecs_print.specs.Stops.{StopsWithin}
+use Rattle.ecs_print.proofs.Stops.{on_err_anyway, stops_before}
 use Rattle.ecs_model.specs.World.{WorldState}
 use Rattle.ecs_model.specs.Print.{field_text, index_text, value_text}
 use Rattle.ecs_model.specs.rows.Rows.{Shown}
@@ -53,3 +55,24 @@ returns-clause-text g c =
     on_ok_weaker c.write_bare.result
     (without_value c.args.world.now.state c.in-Some.fact c.args.is_last c.args.shown _ (written c.args.out.now c.args.end.now) (written c.write_bare.new.out c.write_bare.new.end) c.in-Some.is (c.in_ok-found.ensures.place.index c.index-texts-found.result) c.if-fact.false)
     c.write_bare.ensures.text
+
+-- where it stops in the midst
+pub returns-in_default-clause-front : goal.returns-in_default-clause-front
+returns-in_default-clause-front g c =
+    on_err_weaker c.write_unset.result (subst (λ s. StopsWithin (written c.args.out.now c.args.end.now) (written c.write_unset.new.out c.write_unset.new.end) (field_text c.args.world.now.state (shown_field (view_of c.args.world.now.state) s) ++ line_end c.args.is_last)) (sym c.in_default.is)) c.write_unset.ensures.front
+
+pub returns-in_err-turn_to-clause-front : goal.returns-in_err-turn_to-clause-front
+returns-in_err-turn_to-clause-front g c = on_err_anyway _ (stops_before _ _)
+
+pub returns-in_err-found-clause-front : goal.returns-in_err-found-clause-front
+returns-in_err-found-clause-front g c = on_err_anyway _ (stops_before _ _)
+
+pub returns-then-fact-clause-front : goal.returns-then-fact-clause-front
+returns-then-fact-clause-front g c =
+    let all = with_value c.args.world.now.state c.in-Some.fact c.args.is_last c.args.shown _ [] _ c.in-Some.is (c.in_ok-found.ensures.place.index c.index-texts-found.result) c.if-fact.true refl in
+    on_err_weaker c.write_valued.result (subst (StopsWithin _ _) all) c.write_valued.ensures.front
+
+pub returns-clause-front : goal.returns-clause-front
+returns-clause-front g c =
+    let all = without_value c.args.world.now.state c.in-Some.fact c.args.is_last c.args.shown _ [] _ c.in-Some.is (c.in_ok-found.ensures.place.index c.index-texts-found.result) c.if-fact.false refl in
+    on_err_weaker c.write_bare.result (subst (StopsWithin _ _) all) c.write_bare.ensures.front

@@ -1,14 +1,15 @@
 -- Behind the bindings stand the fields.
-use Rattle.std.proofs.Common.{◌≡◌, List, ℕ, ◌++◌, ap, append_assoc, length, map, ◌∙◌}
+use Rattle.std.proofs.Common.{◌≡◌, List, ℕ, ◌++◌, ap, append_assoc, length, map, subst, ◌∙◌}
 use Rattle.std.specs.Prelude.{codes, flat_map}
 use Rattle.std.specs.List.{zip}
 use Rattle.std.proofs.lemmas.Result.{on_err_weaker, on_ok_weaker}
+use Rattle.ecs_print.specs.Stops.{StopsWithin}
+use Rattle.ecs_print.proofs.Stops.{on_err_anyway, stops_behind, stops_sooner}
 use Rattle.ecs_model.specs.Print.{field_text}
 use Rattle.ecs_model.specs.rows.View.{view_of}
 use Rattle.row_fields.specs.Fields.{shown_field}
 use Rattle.world_query.specs.Lines.{row_alone, started, starts_in, written}
 use Rattle.world_query.proofs.Kept.{texts_lent}
-use Rattle.world_query.proofs.Fronts.{front_before, on_err_anyway}
 use Rattle.world_query.proofs.row_lines.write_row.Goals as goal
 
 pub write_all_fields-requires : goal.write_all_fields-requires
@@ -30,9 +31,20 @@ returns-clause-row g c =
     (written c.begin_row.new.out c.begin_row.new.end) (written c.write_bindings.new.out c.write_bindings.new.end) (written c.write_all_fields.new.out c.write_all_fields.new.end) c.in_ok-begin_row.ensures.text c.in_ok-write_bindings.ensures.text)
     c.write_all_fields.ensures.text
 
+pub returns-in_err-begin_row-clause-front : goal.returns-in_err-begin_row-clause-front
+returns-in_err-begin_row-clause-front g c = on_err_anyway _ (stops_sooner _ _ _ _ (stops_sooner _ _ _ _ (stops_sooner _ _ _ _ c.in_err-begin_row.ensures.front)))
+
 pub returns-in_err-write_bindings-clause-front : goal.returns-in_err-write_bindings-clause-front
-returns-in_err-write_bindings-clause-front g c = on_err_anyway _ (front_before _ _ _ _ c.in_ok-begin_row.ensures.text c.in_err-write_bindings.ensures.front)
+returns-in_err-write_bindings-clause-front g c =
+    on_err_anyway _ (stops_sooner _ _ _ _ (stops_sooner _ _ _ _ (stops_behind _ _ _ _ _ c.in_ok-begin_row.ensures.text c.in_err-write_bindings.ensures.front)))
+
+row_whole : (start bindings fields end : List ℕ) → start ++ (bindings ++ (fields ++ end)) ≡ start ++ bindings ++ fields ++ end
+row_whole start bindings fields end = simp append_assoc
 
 pub returns-clause-front : goal.returns-clause-front
 returns-clause-front g c =
-    on_err_weaker c.write_all_fields.result (λ h. front_before _ _ _ _ c.in_ok-begin_row.ensures.text (front_before _ _ _ _ c.in_ok-write_bindings.ensures.text h)) c.write_all_fields.ensures.front
+    let w = c.args.world.now.state in
+    let heads = starts_in c.args.starts.now in
+    let all = row_whole (row_alone heads) (flat_map (started w) (zip heads c.args.entities.now)) (flat_map (field_text w) (map (shown_field (view_of w)) c.args.fields.now.current)) (codes "\n") in
+    on_err_weaker c.write_all_fields.result
+    (λ stops. subst (StopsWithin _ _) all (stops_behind _ _ _ _ _ c.in_ok-begin_row.ensures.text (stops_behind _ _ _ _ _ c.in_ok-write_bindings.ensures.text stops))) c.write_all_fields.ensures.front
