@@ -1,5 +1,5 @@
 -- Of which stored query the rows stay after a command, and what is put in their place.
-use Rattle.std.specs.Prelude.{◌≡◌, ℕ, ◌==◌, Bool, true, false, cond, not, ◌&&◌, List, [], ◌∷◌, ◌++◌, map, None, Some, if◌then◌else◌}
+use Rattle.std.specs.Prelude.{◌≡◌, ℕ, ◌==◌, Bool, true, false, cond, not, ◌&&◌, List, [], ◌∷◌, ◌++◌, map, None, Some, is_some, if◌then◌else◌}
 use Rattle.std.specs.List.{list_any}
 use Rattle.std.proofs.Common.{refl, ap, sym, ◌∙◌, true≢false}
 use Rattle.std.proofs.lemmas.Bool.{and_parts, not-true, or_left, or_right}
@@ -16,11 +16,12 @@ use Rattle.query_model.specs.Local.{is_local}
 use Rattle.query_model.specs.Query.{Query}
 use Rattle.touched_entities.specs.Before.{view_before}
 use Rattle.touched_entities.specs.Concerned.{is_concerned}
+use Rattle.touched_entities.specs.Moving.{is_followed}
 use Rattle.touched_entities.proofs.Unconcerned.{unconcerned_queries_match_on}
 use Rattle.watch_meaning.specs.Since.{IsAfter, left_event, told_since}
 use Rattle.world_events.specs.Hits.{may_tell}
 use Rattle.world_events.specs.Told.{told_of_moves}
-use Rattle.stored_queries.specs.Held.{Held, WasNow, is_compared, is_monitor, is_searched, is_told_locally, rows_before, rows_put, told_to}
+use Rattle.stored_queries.specs.Held.{Held, WasNow, is_compared, is_monitor, is_searched, is_taken_whole, is_told_locally, rows_before, rows_put, told_to}
 
 pub monitor_is : (kind : StoredKind) → is_monitor kind ≡ true → kind ≡ Monitor
 monitor_is Monitor e = refl
@@ -83,6 +84,22 @@ none_put w changed h spared = sym (ap (λ b. if b then Some (matching (view_of w
 
 pub isnt_searched : (changed : Changed) (h : Held) → is_compared h ≡ false → is_searched changed h ≡ false
 isnt_searched changed h other = ap (λ b. b && is_concerned h.query changed) other
+
+-- of which the whole rows aren't taken
+pub spared_isnt_taken : (changed : Changed) (h : Held) → is_searched changed h ≡ false → is_taken_whole changed h ≡ true → ⊥
+spared_isnt_taken changed h spared whole = true≢false (sym whole ∙ ap (λ b. b && not (is_followed h.query changed)) spared)
+
+-- nor of one in whose place no rows are put
+pub unput_isnt_taken : (w : WorldState) (changed : Changed) (h : Held) → rows_put w changed h ≡ None → is_taken_whole changed h ≡ false
+unput_isnt_taken w changed h none = by (is_searched changed h) refl
+  where
+    by : (b : Bool) → is_searched changed h ≡ b → is_taken_whole changed h ≡ false
+    by false e = ap (λ b. b && not (is_followed h.query changed)) e
+    by true e = absurd (true≢false (ap is_some (sym (ap (λ b. if b then Some (matching (view_of w) h.query) else None) e) ∙ none)))
+
+-- where they are taken, it can't be told who may have moved
+pub taken_isnt_followed : (changed : Changed) (h : Held) → is_taken_whole changed h ≡ true → is_followed h.query changed ≡ false
+taken_isnt_followed changed h whole = not-true (is_followed h.query changed) (and_parts (is_searched changed h) (not (is_followed h.query changed)) whole).1
 
 -- what may be told nothing isn't compared
 pub untold_isnt : (changed : Changed) (h : Held) → may_tell changed h.kind h.query ≡ false → is_compared h ≡ false

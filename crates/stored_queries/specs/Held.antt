@@ -14,6 +14,7 @@ use Rattle.ecs_model.specs.rows.View.{view_of}
 use Rattle.ecs_model.specs.stored.Watches.{Event, matching, watched}
 use Rattle.touched_entities.specs.Before.{view_before}
 use Rattle.touched_entities.specs.Concerned.{is_concerned}
+use Rattle.touched_entities.specs.Moving.{is_followed}
 use Rattle.watch_meaning.specs.Since.{told_since}
 
 -- a stored query as it is held: a monitor with the entities of its rows as they were told last, unless its query is local; a kept query with the list of its tables; the steps by which its rows are found; and the serial of the newest table when they were planned
@@ -46,9 +47,13 @@ is_told_locally h = is_monitor h.kind && is_local h.query
 abbrev pub is_compared : Held → Bool
 is_compared h = is_monitor h.kind && not (is_local h.query)
 
--- whether its whole rows are taken after a command: it is compared, and the command concerns its query
+-- whether its rows are searched for after a command: it is compared, and the command concerns its query
 abbrev pub is_searched : Changed → Held → Bool
 is_searched changed h = is_compared h && is_concerned h.query changed
+
+-- whether it can't be told, too, who may have moved in or out of its rows, so that all of them are taken and compared
+abbrev pub is_taken_whole : Changed → Held → Bool
+is_taken_whole changed h = is_searched changed h && not (is_followed h.query changed)
 
 -- of a monitor the entities of its rows before a command: of a local query they follow from what has changed, of another they are held
 abbrev pub rows_before : WorldState → Changed → Held → List ℕ

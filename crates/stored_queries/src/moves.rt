@@ -1,6 +1,6 @@
 //! Who leaves and who enters the rows of a monitor whose query isn't local.
 
-ghost use Rattle.std.specs.Prelude.{◌≡◌, ℕ, ◌+◌, ◌≤◌, ◌&&◌, ◌||◌, ◌++◌, ◌∷◌, [], IfOk, OnOk, filter, not, if◌then◌else◌};
+ghost use Rattle.std.specs.Prelude.{◌≡◌, ℕ, ◌+◌, ◌≤◌, ◌&&◌, ◌||◌, ◌++◌, ◌∷◌, [], IfOk, OnOk, false, filter, min, not, if◌then◌else◌};
 ghost use Rattle.std.specs.List.Sorted.{IsStrictlyIncreasing};
 ghost use Rattle.ecs_model.specs.rows.View.{view_of};
 ghost use Rattle.ecs_model.specs.stored.Watches.{matching, missing_from};
@@ -8,6 +8,7 @@ ghost use Rattle.stored_queries.specs.Moves.{IsTold, is_among};
 ghost use Rattle.stored_queries.specs.Parts.{kept_rows, kept_set};
 ghost use Rattle.query_meaning.specs.Standing.{IsCurrentIn};
 ghost use Rattle.touched_entities.specs.Before.{view_before};
+ghost use Rattle.touched_entities.specs.Moving.{is_followed};
 ghost use Rattle.watch_meaning.specs.Since.{IsAfter};
 
 use crate::asking::found_among;
@@ -47,6 +48,7 @@ pub(crate) fn rows_after<A: Allocator + Copy>(
     ensures left { IfOk result (λ rows. rows.left.items ≡ missing_from query.now.these.items (matching (view_of world.now.state) (query.now.plan).query)) }
     ensures entered { IfOk result (λ rows. rows.entered.items ≡ missing_from (matching (view_of world.now.state) (query.now.plan).query) query.now.these.items) }
     ensures these { IfOk result (λ rows. (kept_rows rows query.now.these).items ≡ matching (view_of world.now.state) (query.now.plan).query) }
+    ensures counted { is_followed (query.now.plan).query changes.now ≡ false → OnOk result (compared.new ≡ min (compared.old + 1) 18446744073709551615) }
     ensures grows { compared.old ≤ compared.new }
     ensures few { compared.new ≤ compared.old + 1 }
 {
@@ -119,8 +121,8 @@ fn rows_by_all<A: Allocator + Copy>(
     ensures left { IfOk result (λ rows. rows.left.items ≡ missing_from query.now.these.items (matching (view_of world.now.state) (query.now.plan).query)) }
     ensures entered { IfOk result (λ rows. rows.entered.items ≡ missing_from (matching (view_of world.now.state) (query.now.plan).query) query.now.these.items) }
     ensures these { IfOk result (λ rows. (kept_rows rows query.now.these).items ≡ matching (view_of world.now.state) (query.now.plan).query) }
+    ensures counted { compared.new ≡ min (compared.old + 1) 18446744073709551615 }
     ensures grows { compared.old ≤ compared.new }
-    ensures few { compared.new ≤ compared.old + 1 }
 {
     let these = whole_rows(alloc, world, &query.plan, compared)?;
     let left = query.these.without(alloc, &these)?;

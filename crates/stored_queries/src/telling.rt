@@ -1,9 +1,10 @@
 //! What one stored query is told of a command.
 
-ghost use Rattle.std.specs.Prelude.{◌≡◌, ◌+◌, ◌≤◌, ◌++◌, IfOk, OnOk, false, true};
+ghost use Rattle.std.specs.Prelude.{◌≡◌, ◌+◌, ◌≤◌, ◌++◌, IfOk, OnErr, OnOk, false, min, true};
 ghost use Rattle.std.specs.String.{string_bytes};
+ghost use Rattle.ecs_print.specs.Stops.{StopsWithin};
 ghost use Rattle.stored_queries.specs.Parts.{held_as, put_in};
-ghost use Rattle.stored_queries.specs.Held.{IsHeld, WasNow, is_compared, is_monitor, is_searched, is_told_locally, rows_put, told_to};
+ghost use Rattle.stored_queries.specs.Held.{IsHeld, WasNow, is_compared, is_monitor, is_searched, is_taken_whole, is_told_locally, rows_put, told_to};
 ghost use Rattle.stored_queries.specs.Telling.{AreTouchedBy};
 ghost use Rattle.watch_meaning.specs.Since.{IsAfter};
 
@@ -18,6 +19,8 @@ use world_events::{Audience, Event, Moves, may_tell, tell, tell_moves};
 
 /// Puts what a stored query is told behind other events, and answers the moves of its rows, unless those that are held stay. Most observers
 /// are told nothing, which is asked first.
+///
+/// Fails where memory is refused, and then the first of these events may stand behind the others.
 pub fn tell_one<A: Allocator + Copy>(
     alloc: A,
     world: &World<A>,
@@ -35,7 +38,9 @@ pub fn tell_one<A: Allocator + Copy>(
     requires touched { is_told_locally (held_as (string_bytes name.now) query.now) ≡ true → AreTouchedBy world.now.state changes.now touched.now }
     ensures rows { IfOk result (λ rows. put_in rows query.now.these ≡ rows_put world.now.state changes.now (held_as (string_bytes name.now) query.now)) }
     ensures told { OnOk result (events.new.items ≡ events.old.items ++ told_to world.now.state changes.now (held_as (string_bytes name.now) query.now)) }
+    ensures front { OnErr result (StopsWithin events.old.items events.new.items (told_to world.now.state changes.now (held_as (string_bytes name.now) query.now))) }
     ensures compared { is_searched changes.now (held_as (string_bytes name.now) query.now) ≡ false → compared.new ≡ compared.old }
+    ensures counted { is_taken_whole changes.now (held_as (string_bytes name.now) query.now) ≡ true → OnOk result (compared.new ≡ min (compared.old + 1) 18446744073709551615) }
     ensures grows { compared.old ≤ compared.new }
     ensures few { compared.new ≤ compared.old + 1 }
 {
@@ -71,7 +76,9 @@ fn tell_compared<A: Allocator + Copy>(
     requires compared { is_compared (held_as (string_bytes name.now) query.now) ≡ true }
     ensures rows { IfOk result (λ rows. put_in rows query.now.these ≡ rows_put world.now.state changes.now (held_as (string_bytes name.now) query.now)) }
     ensures told { OnOk result (events.new.items ≡ events.old.items ++ told_to world.now.state changes.now (held_as (string_bytes name.now) query.now)) }
+    ensures front { OnErr result (StopsWithin events.old.items events.new.items (told_to world.now.state changes.now (held_as (string_bytes name.now) query.now))) }
     ensures compared { is_searched changes.now (held_as (string_bytes name.now) query.now) ≡ false → compared.new ≡ compared.old }
+    ensures counted { is_taken_whole changes.now (held_as (string_bytes name.now) query.now) ≡ true → OnOk result (compared.new ≡ min (compared.old + 1) 18446744073709551615) }
     ensures grows { compared.old ≤ compared.new }
     ensures few { compared.new ≤ compared.old + 1 }
 {
@@ -101,6 +108,7 @@ fn tell_observer<A: Allocator + Copy>(
     requires after { IsAfter world.now.state changes.now }
     requires observes { is_monitor query.now.kind ≡ false }
     ensures told { OnOk result (events.new.items ≡ events.old.items ++ told_to world.now.state changes.now (held_as (string_bytes name.now) query.now)) }
+    ensures front { OnErr result (StopsWithin events.old.items events.new.items (told_to world.now.state changes.now (held_as (string_bytes name.now) query.now))) }
 {
     let audience = Audience {
         name: name.as_bytes(),
@@ -124,6 +132,7 @@ fn tell_locally<A: Allocator + Copy>(
     requires local { is_told_locally (held_as (string_bytes name.now) query.now) ≡ true }
     requires touched { AreTouchedBy world.now.state changes.now touched.now }
     ensures told { OnOk result (events.new.items ≡ events.old.items ++ told_to world.now.state changes.now (held_as (string_bytes name.now) query.now)) }
+    ensures front { OnErr result (StopsWithin events.old.items events.new.items (told_to world.now.state changes.now (held_as (string_bytes name.now) query.now))) }
 {
     world.keeps();
     let told = local_told(alloc, query.plan.query(), touched)?;
