@@ -25,8 +25,8 @@ use Rattle.watch_meaning.specs.Since.{IsAfter}
 use Rattle.ecs_observe.specs.Following.{lists_of}
 use Rattle.ecs_observe.specs.Parts.{ArePlaced, held_of, with_all_kept, with_kept_at}
 use Rattle.stored_queries.specs.Parts.{held_as, kept_rows}
-use Rattle.stored_queries.specs.Held.{Held, IsHeld, IsNow, WasNow, is_compared, is_monitor, is_searched, rows_put, told_to}
-use Rattle.ecs_observe.specs.Standing.{IsSession, Standing, has_searched, searched_in, session_of, stored_of, with_rows, with_these}
+use Rattle.stored_queries.specs.Held.{Held, IsHeld, IsNow, WasNow, is_compared, is_monitor, is_searched, is_taken_whole, rows_put, told_to}
+use Rattle.ecs_observe.specs.Standing.{IsSession, Standing, has_searched, searched_in, session_of, stored_of, taken_in, with_rows, with_these}
 use Rattle.stored_queries.specs.declared.moves.RowsAfter.{RowsAfter}
 use Rattle.stored_queries.specs.declared.stored.StoredQuery.{StoredQuery}
 use Rattle.stored_queries.proofs.Answering.{matching_ascends}
@@ -301,3 +301,10 @@ module _ (s now : Standing) (view_is : s ≡ now) where
   -- so many are
   pub searched_for : (changed : Changed) → s.waiting ≡ Some changed → count_by (is_searched changed) s.stored ≡ searched_in now
   searched_for changed waiting = sym (ap (λ o. option_map_or (λ done. count_by (is_searched done) s.stored) o 0) waiting) ∙ ap searched_in view_is
+
+  -- and of so many whole rows are taken
+  pub taken_for : (changed : Changed) → s.waiting ≡ Some changed → count_by (is_taken_whole changed) s.stored ≡ taken_in now
+  taken_for changed waiting = sym (ap (λ o. option_map_or (λ done. count_by (is_taken_whole done) s.stored) o 0) waiting) ∙ ap taken_in view_is
+
+  pub none_taken_for : s.waiting ≡ None → taken_in now ≡ 0
+  none_taken_for waiting = sym (ap taken_in view_is) ∙ ap (λ o. option_map_or (λ done. count_by (is_taken_whole done) s.stored) o 0) waiting

@@ -1,8 +1,6 @@
 -- What is sent of a kept query's rows, and how the calls of the writer stand behind it.
-use Rattle.std.proofs.Common.{◌≡◌, ℕ, List, length, refl, sym, ap, ◌∙◌, subst, take}
-use Rattle.std.proofs.Math.Seq.{take-length}
-use Rattle.std.specs.Prelude.{IsErrAnd, OnErr, Option, Some, [], Result, Ok, Err, max, ⊤}
-use Rattle.std.specs.Io.{StartsWith}
+use Rattle.std.proofs.Common.{◌≡◌, ℕ, List, length, refl, sym, ap, ◌∙◌, subst}
+use Rattle.std.specs.Prelude.{IsErrAnd, Option, Some, [], Result, Ok, Err, max, ⊤}
 use Rattle.ecs_model.specs.World.{WorldState}
 use Rattle.ecs_model.specs.declared.faults.SessionRefusal.{SessionRefusal}
 use Rattle.ecs_model.specs.declared.watches.StoredKind.TheVariants.{Kept}
@@ -13,11 +11,11 @@ use Rattle.world_query.specs.Lines.{lines_of_rows}
 use Rattle.world_query.specs.Sent.{FailsAtWrite, HoldsAtFault, StopsSending}
 use Rattle.world_query.specs.declared.sending.SendError.{SendError}
 use Rattle.world_query.specs.declared.sending.SendError.TheVariants as send
-use Rattle.world_query.proofs.Sent.{calm_still, stops_nowhere}
+use Rattle.world_query.proofs.Sent.{calm_still, stops_unsent}
 use Rattle.ecs_observe.specs.Answers.{AnswersRows, FailsAtSend, SendsKept, SendsRows}
 use Rattle.ecs_observe.specs.declared.errors.SendRowsError.{SendRowsError}
 use Rattle.ecs_observe.specs.declared.errors.SendRowsError.TheVariants as rows
-use Rattle.ecs_observe.specs.declared.errors.SessionError.TheVariants.{Refused}
+use Rattle.ecs_observe.specs.declared.errors.SessionError.TheVariants.{Refused, Memory}
 use Rattle.stored_queries.specs.declared.stored.StoredQuery.{StoredQuery}
 
 -- ---- answers that differ
@@ -77,13 +75,11 @@ module _ {A : Type 0} (most : ℕ) where
       let Q : Result T SendError → Type 0 = λ g. HoldsAtFault (max most (length before)) (lines_of_rows w (q.plan).query) g after in
       subst P (sym passed) (stopped T U e q w o p before after kind stops (subst Q was holds))
 
--- where nothing can be sent: a name that no kept query has, and what stays in front
+-- where nothing can be sent: a name that no kept query has, and a front of the rows
 module _ (most : ℕ) (s : SessionState) (name before after : List ℕ) where
   pub refused_nowhere : (reason : SessionRefusal) → SendsKept {T = Option ℕ} most (Err (rows.Refused reason)) s name (Some []) (Some []) before after → AnswersRows {T = Option ℕ} (Err (Refused reason)) s name before after
   refused_nowhere reason so = (so.0, so.1)
 
-  pub front_nowhere : {T : Type 0} (r : Result T SendRowsError) → SendsKept most r s name (Some []) (Some []) before after → OnErr r (StartsWith after before)
-  front_nowhere (Ok x) so = tt
-  front_nowhere (Err (rows.Refused reason)) so = ap (take (length before)) so.1 ∙ take-length before
-  front_nowhere (Err (rows.Unsent send.Memory)) so = stops_nowhere before after _ so.2
-  front_nowhere (Err (rows.Unsent send.Write)) so = stops_nowhere before after _ so.2
+  pub stopped_nowhere : (e : SendError) → SendsKept {T = Option ℕ} most (Err (rows.Unsent e)) s name (Some []) (Some []) before after → AnswersRows {T = Option ℕ} (Err Memory) s name before after
+  stopped_nowhere send.Memory so = (so.0, so.1, stops_unsent before after _ so.2)
+  stopped_nowhere send.Write so = (so.0, so.1, stops_unsent before after _ so.2)

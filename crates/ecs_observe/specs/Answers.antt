@@ -12,6 +12,7 @@ use Rattle.ecs_model.specs.stored.Session.{SessionState, Answer, in_world, kept_
 use Rattle.ecs_model.specs.stored.Watches.{is_told}
 use Rattle.ecs_model.specs.World.{WorldState}
 use Rattle.ecs_model.specs.traits.Command.{Command}
+use Rattle.ecs_print.specs.Stops.{StopsWithin}
 use Rattle.stored_queries.specs.Held.{Held}
 use Rattle.ecs_observe.specs.Standing.{Standing, session_of}
 use Rattle.script_streams.specs.declared.streams.Calls.{Calls}
@@ -49,11 +50,11 @@ abbrev pub AnswersCommand : List Held → Option Changed → Result Changed Comm
 AnswersCommand stored before (Ok changed) answer after = (answer ≡ Ok changed.born) × (after ≡ awaited stored changed)
 AnswersCommand stored before (Err error) answer after = (answer ≡ Err (session_error error)) × (after ≡ before)
 
--- the rows of a kept query were written behind what was there, or there is none of the name and nothing was
+-- the rows of a kept query were written behind what was there, or a front of them where memory was refused; or there is none of the name and nothing was
 abbrev pub AnswersRows : {T : Type 0} → Result T SessionError → SessionState → List ℕ → List ℕ → List ℕ → Type 0
 AnswersRows (Ok _) s name before after = (q : _) × (kept_query s name ≡ Ok q) × (after ≡ before ++ rows_text s.world q)
 AnswersRows (Err (Refused reason)) s name before after = (kept_query s name ≡ Err reason) × (after ≡ before)
-AnswersRows (Err Memory) s name before after = ⊤
+AnswersRows (Err Memory) s name before after = (q : _) × (kept_query s name ≡ Ok q) × StopsWithin before after (rows_text s.world q)
 
 -- the rows of a kept query were put behind what was there, and a front of all that may be sent; or there is none of the name, and nothing was
 abbrev pub SendsKept : {T : Type 0} → ℕ → Result T SendRowsError → SessionState → List ℕ → Option (List ℕ) → Option (List ℕ) → List ℕ → List ℕ → Type 0

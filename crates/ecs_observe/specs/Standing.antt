@@ -9,7 +9,7 @@ use Rattle.ecs_model.specs.stored.Watches.{Stored}
 use Rattle.ecs_world.specs.Standing as world
 use Rattle.watch_meaning.specs.Mentions.{times}
 use Rattle.watch_meaning.specs.Since.{IsAfter}
-use Rattle.stored_queries.specs.Held.{Held, IsHeld, IsNow, WasNow, is_searched, told_to}
+use Rattle.stored_queries.specs.Held.{Held, IsHeld, IsNow, WasNow, is_searched, is_taken_whole, told_to}
 
 -- a session: its world, the stored queries in the order of making, what was changed by a command whose events wait, and how often the whole rows of a monitor were taken
 pub record Standing : Type 0 where
@@ -28,6 +28,10 @@ has_searched s = option_map_or (λ changed. list_any (is_searched changed) s.sto
 -- of how many stored queries the whole rows may be taken for what waits
 abbrev pub searched_in : Standing → ℕ
 searched_in s = option_map_or (λ changed. count_by (is_searched changed) s.stored) s.waiting 0
+
+-- of how many they are taken, whatever is found out about who may have moved
+abbrev pub taken_in : Standing → ℕ
+taken_in s = option_map_or (λ changed. count_by (is_taken_whole changed) s.stored) s.waiting 0
 
 -- the session of the definitions
 unfoldable pub session_of : Standing → SessionState

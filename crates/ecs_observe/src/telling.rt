@@ -1,14 +1,14 @@
 //! Telling the events of a command.
 
-ghost use Rattle.std.specs.Prelude.{◌≡◌, ◌+◌, ◌<◌, ◌≤◌, [], ◌++◌, IfOk, OnErr, OnOk, All, length, map, flat_map, false, true};
+ghost use Rattle.std.specs.Prelude.{◌≡◌, ◌+◌, ◌<◌, ◌≤◌, [], ◌++◌, IfOk, OnErr, OnOk, All, length, map, flat_map, min, false, true};
 ghost use Rattle.std.specs.List.{count_by, list_any};
 ghost use Rattle.std.specs.List.Sorted.{IsStrictlyIncreasing};
 ghost use Rattle.ecs_model.specs.stored.Session.{after_events, events};
 ghost use Rattle.ecs_observe.specs.Following.{lists_of};
 ghost use Rattle.ecs_observe.specs.Lists.{KeepLists};
 ghost use Rattle.ecs_observe.specs.Parts.{ArePlaced, held_of, with_all_kept};
-ghost use Rattle.stored_queries.specs.Held.{IsHeld, WasNow, is_compared, is_searched, rows_put, told_to};
-ghost use Rattle.ecs_observe.specs.Standing.{has_searched, searched_in, session_of};
+ghost use Rattle.stored_queries.specs.Held.{IsHeld, WasNow, is_compared, is_searched, is_taken_whole, rows_put, told_to};
+ghost use Rattle.ecs_observe.specs.Standing.{has_searched, searched_in, session_of, taken_in};
 ghost use Rattle.ecs_observe.specs.Stored.{AreLedTo, IsStored, entries_of};
 ghost use Rattle.stored_queries.specs.Telling.{AreTouchedBy};
 ghost use Rattle.ecs_observe.specs.Telling.{any_locally_at};
@@ -39,6 +39,7 @@ impl<A: Allocator + Copy> Session<A> {
         ensures compared { list_any is_compared (self.old).stored ≡ false → (self.new).compared ≡ (self.old).compared }
         ensures grows { (self.old).compared ≤ (self.new).compared }
         ensures few { (self.new).compared ≤ (self.old).compared + searched_in self.old }
+        ensures counted { OnOk result (min ((self.old).compared + taken_in self.old) 18446744073709551615 ≤ (self.new).compared) }
         ensures spared { has_searched self.old ≡ false → (self.new).compared ≡ (self.old).compared }
         ensures lists { lists_of self.new ≡ lists_of self.old }
         ensures world { (self.new).world ≡ (self.old).world }
@@ -89,6 +90,7 @@ fn tell_led<A: Allocator + Copy>(
     ensures compared { list_any (is_searched changes.now) (map held_of (entries_of stored.now)) ≡ false → compared.new ≡ compared.old }
     ensures grows { compared.old ≤ compared.new }
     ensures few { OnOk result (compared.new ≤ compared.old + count_by (is_searched changes.now) (map held_of (entries_of stored.now))) }
+    ensures counted { OnOk result (min (compared.old + count_by (is_taken_whole changes.now) (map held_of (entries_of stored.now))) 18446744073709551615 ≤ compared.new) }
 {
     let mut found = ShortNumbers::new();
     stored.led(alloc, changes, &mut found)?;
@@ -158,6 +160,7 @@ fn tell_all<A: Allocator + Copy>(
     ensures compared { list_any (is_searched changes.now) (map held_of (entries_of stored.now)) ≡ false → compared.new ≡ compared.old }
     ensures grows { compared.old ≤ compared.new }
     ensures few { OnOk result (compared.new ≤ compared.old + count_by (is_searched changes.now) (map held_of (entries_of stored.now))) }
+    ensures counted { OnOk result (min (compared.old + count_by (is_taken_whole changes.now) (map held_of (entries_of stored.now))) 18446744073709551615 ≤ compared.new) }
 {
     world.keeps();
     for place in places {

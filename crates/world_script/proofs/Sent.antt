@@ -23,7 +23,7 @@ use Rattle.script_streams.specs.Streams.{IsCalm, TakesFront}
 use Rattle.world_query.specs.declared.sending.SendError.{SendError}
 use Rattle.world_query.specs.declared.sending.SendError.TheVariants as send
 use Rattle.world_query.specs.Sent.{FailsAtWrite, StopsSending, most_usize}
-use Rattle.world_query.proofs.Sent.{calm_memory}
+use Rattle.world_query.proofs.Sent.{calm_memory, taken_front}
 use Rattle.world_script.specs.declared.errors.RunError.{RunError}
 use Rattle.world_script.specs.declared.errors.RunError.TheVariants as run
 use Rattle.world_script.specs.declared.lines.Summary.{Summary}
@@ -87,10 +87,12 @@ does_memory contents calls writer most e s before after (Err error) is = record 
 -- a front of the rows is sent
 pub takes_stopped : (a b : Option (List ℕ)) (before after text : List ℕ) → StopsSending a b before after text → TakesFront a b (before ++ text)
 takes_stopped a b before after text so =
-    let taken = so.sent ++ so.part in (
+    let taken = so.sent ++ so.part in
+    let rest = so.unsent ++ so.stops.rest in
+    let front = taken_front a b before after text so in (
       length taken,
-      omega (arith, ap length so.front, length-append taken so.rest),
-      subst (Appends a b) (sym (ap (take (length taken)) so.front ∙ take-append_seam taken so.rest)) so.wrote,
+      omega (arith, ap length front, length-append taken rest),
+      subst (Appends a b) (sym (ap (take (length taken)) front ∙ take-append_seam taken rest)) so.wrote,
     )
 
 -- a line that stops

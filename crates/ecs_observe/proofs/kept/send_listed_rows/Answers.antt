@@ -7,11 +7,11 @@ use Rattle.ecs_model.specs.rows.View.{view_of}
 use Rattle.query_model.specs.Query.{Query}
 use Rattle.query_plan.specs.Plans.{Plan}
 use Rattle.world_facts.specs.Kept.{AreTablesOf}
+use Rattle.ecs_print.proofs.Stops.{on_err_anyway, stops_before}
 use Rattle.world_query.specs.Answerable.{IsAnswerable}
 use Rattle.world_query.specs.Lines.{lines_of_rows}
 use Rattle.world_query.specs.Probes.{StaysInTables}
 use Rattle.world_query.specs.Sent.{HoldsAtFault, StopsSending}
-use Rattle.world_query.proofs.Fronts.{all_starts, on_err_anyway}
 use Rattle.world_query.proofs.Sent.{calm_ok, calm_still, fails_same, fault_memory, fault_same, stops_here}
 use Rattle.stored_queries.proofs.Answering.{asked_is_sound, current_answerable}
 use Rattle.ecs_observe.specs.Following.{IsUpToDate}
@@ -65,13 +65,13 @@ returns-clause-reads g c =
 
 -- where memory is refused before a row is written
 pub returns-in_err-plan_if_outgrown-clause-front : goal.returns-in_err-plan_if_outgrown-clause-front
-returns-in_err-plan_if_outgrown-clause-front g c = on_err_anyway _ (stops_here _ _ _ _ (all_starts _))
+returns-in_err-plan_if_outgrown-clause-front g c = on_err_anyway _ (stops_here _ _ _ _ (stops_before _ _))
 
 pub returns-in_err-room-clause-front : goal.returns-in_err-room-clause-front
-returns-in_err-room-clause-front g c = on_err_anyway _ (stops_here _ _ _ _ (all_starts _))
+returns-in_err-room-clause-front g c = on_err_anyway _ (stops_here _ _ _ _ (stops_before _ _))
 
 pub returns-in_err-sync-clause-front : goal.returns-in_err-sync-clause-front
-returns-in_err-sync-clause-front g c = on_err_anyway _ (stops_here _ _ _ _ (all_starts _))
+returns-in_err-sync-clause-front g c = on_err_anyway _ (stops_here _ _ _ _ (stops_before _ _))
 
 pub returns-in_err-plan_if_outgrown-clause-held : goal.returns-in_err-plan_if_outgrown-clause-held
 returns-in_err-plan_if_outgrown-clause-held g c = fault_memory _ _ _ _ c.from_residual.ensures.1
@@ -88,7 +88,7 @@ returns-in_err-put_tables-clause-follows g c =
     (record { fits = c.plan_if_outgrown.ensures.list.fits; patterns = c.sync.ensures.patterns; exact = c.sync.ensures.exact; synced = c.sync.ensures.synced; refused = c.sync.ensures.refused; judges = c.sync.ensures.judged; again = c.sync.ensures.again }) c.plan_if_outgrown.ensures.follows c.in_ok-plan_if_outgrown.ensures.synced
 
 pub returns-in_err-put_tables-clause-front : goal.returns-in_err-put_tables-clause-front
-returns-in_err-put_tables-clause-front g c = on_err_anyway _ (stops_here _ _ _ _ (all_starts _))
+returns-in_err-put_tables-clause-front g c = on_err_anyway _ (stops_here _ _ _ _ (stops_before _ _))
 
 pub returns-in_err-put_tables-clause-held : goal.returns-in_err-put_tables-clause-held
 returns-in_err-put_tables-clause-held g c = fault_memory _ _ _ _ c.from_residual-in_err-put_tables.ensures.1

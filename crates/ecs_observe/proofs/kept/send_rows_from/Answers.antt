@@ -4,8 +4,8 @@ use Rattle.std.specs.Prelude.{codes, max}
 use Rattle.ecs_model.specs.rows.Text.{rows_text}
 use Rattle.ecs_model.specs.rows.View.{view_of}
 use Rattle.query_answers.proofs.Shown.{none_in_order}
+use Rattle.ecs_print.proofs.Stops.{on_err_anyway, stops_before, stops_same}
 use Rattle.world_query.specs.Sent.{IsSent, StopsSending}
-use Rattle.world_query.proofs.Fronts.{all_starts, on_err_anyway, starts_before}
 use Rattle.world_query.proofs.RowLines.{none_among}
 use Rattle.world_query.proofs.Sent.{calm_ok, calm_still, fails_same, fault_anyway, fault_memory, sent_here, sent_then, stops_here, stops_then}
 use Rattle.ecs_observe.proofs.NoRows.{no_lines}
@@ -14,7 +14,7 @@ use Rattle.ecs_observe.proofs.kept.send_rows_from.Goals as goal
 pub returns-in_err-extend_from_slice-clause-front : goal.returns-in_err-extend_from_slice-clause-front
 returns-in_err-extend_from_slice-clause-front g c =
     let old = c.args.out.now.items in
-    on_err_anyway _ (stops_here _ old _ _ (starts_before old [] _ (c.in_err-extend_from_slice.ensures.items ∙ sym (append-nil old))))
+    on_err_anyway _ (stops_here _ old _ _ (stops_same old _ _ c.in_err-extend_from_slice.ensures.items))
 
 pub returns-in_err-extend_from_slice-clause-held : goal.returns-in_err-extend_from_slice-clause-held
 returns-in_err-extend_from_slice-clause-held g c = fault_memory _ _ _ _ c.from_residual.ensures.1
@@ -47,7 +47,7 @@ returns-in_err-send_list-clause-held g c =
     })
 
 pub returns-in_err-room-clause-front : goal.returns-in_err-room-clause-front
-returns-in_err-room-clause-front g c = on_err_anyway _ (stops_here _ _ _ _ (all_starts _))
+returns-in_err-room-clause-front g c = on_err_anyway _ (stops_here _ _ _ _ (stops_before _ _))
 
 pub returns-in_err-room-clause-held : goal.returns-in_err-room-clause-held
 returns-in_err-room-clause-held g c = fault_memory _ _ _ _ c.from_residual-in_err-room.ensures.1

@@ -5,9 +5,10 @@ use Rattle.std.proofs.Common.{◌+◌, ◌<◌, ◌≤◌, ◌∙◌, ◌++◌, 
 use Rattle.std.proofs.lemmas.List.{length-map, take_all}
 use Rattle.stored_queries.specs.Parts.{held_as, put_in}
 use Rattle.ecs_observe.specs.Parts.{held_of}
-use Rattle.stored_queries.specs.Held.{IsHeld, WasNow, is_searched, rows_put, told_to}
+use Rattle.stored_queries.specs.Held.{IsHeld, WasNow, is_searched, is_taken_whole, rows_put, told_to}
+use Rattle.stored_queries.proofs.Staying.{unput_isnt_taken}
 use Rattle.ecs_observe.specs.Stored.{entries_of}
-use Rattle.ecs_observe.proofs.Counting.{AreDoneUpTo, all_counted, none_done, one_more}
+use Rattle.ecs_observe.proofs.Counting.{AreDoneUpTo, all_counted, all_taken, none_done, one_more}
 use Rattle.ecs_observe.proofs.Locally.{none_at, one_told_locally}
 use Rattle.ecs_observe.proofs.Retold.{ArePlacedUpTo, all_at, all_placed, held_at, none_put_there, none_yet, one_placed}
 use Rattle.ecs_observe.proofs.Skipped.{begin, put_here, told_all, told_none}
@@ -24,9 +25,9 @@ loop-place-init g c =
     let start = c.args.events.now.items in
     let placed = c.args.rows.now.items in
     let counted = c.args.compared.now in
-    let R = AreDoneUpTo g_put (is_searched c.args.changes.now) es counted in
+    let R = AreDoneUpTo g_put (is_searched c.args.changes.now) (is_taken_whole c.args.changes.now) es counted in
     record {
-      told = begin g_told g_put hs start R c.args.places.now start (placed, counted) (told_none g_told g_put hs start R start (placed, counted) refl (none_yet g_put es placed c.requires.none, omega arith));
+      told = begin g_told g_put hs start R c.args.places.now start (placed, counted) (told_none g_told g_put hs start R start (placed, counted) refl (none_yet g_put es placed c.requires.none, record { few = omega arith; least = omega arith }));
       compared = λ none. refl;
       grows = omega arith;
     }
@@ -70,8 +71,9 @@ loop-place-preserved g c =
     let told = told_to w changed in
     let put = rows_put w changed in
     let searched = is_searched changed in
+    let taken = is_taken_whole changed in
     let counted = c.args.compared.now in
-    let here = put_here told put hs start (AreDoneUpTo put searched es counted) (none_done put searched es counted) places c.requires.ascend silent j p 0 refl inside in
+    let here = put_here told put hs start (AreDoneUpTo put searched taken es counted) (none_done put searched taken es counted (unput_isnt_taken w changed)) places c.requires.ascend silent j p 0 refl inside in
     let before = c.loop-place.compared in
     let after = c.match-get_index.compared in
     elim c.match-get_index.branch [
@@ -80,13 +82,14 @@ loop-place-preserved g c =
           let one = held_as (string_bytes b.in-Some.name.now) q in
           let there = held_at es p b.in-Some.name.now q b.in-Some.ensures.entry in
           let few : after ≤ before + 1 = omega (arith, b.compared-is, b.in_ok-now.ensures.few) in
+          let grows : before ≤ after = omega (arith, b.compared-is, b.in_ok-now.ensures.grows) in
           record {
             told = here one there held_low c.loop-place.events.items (c.loop-place.rows.items, before) c.loop-place.invariant.told c.match-get_index.events.items (c.match-get_index.rows.items, after)
                 (ap (λ v. v.items) b.events-is ∙ b.in_ok-now.ensures.told)
                 (λ so. (
                   one_placed put es p c.loop-place.rows.items c.match-get_index.rows.items so.0 (b.in-Some.name.now, q) b.in-Some-now.after b.in-Some.ensures.entry
                       (sym b.in_ok-now.ensures.rows ∙ ap (λ o. put_in o q.these) b.in-Some-now.is) (ap (λ v. v.items) b.rows-is ∙ b.in_ok-push.ensures.items),
-                  one_more searched hs counted p before after one there few (λ spared. b.compared-is ∙ b.in_ok-now.ensures.compared spared) so.1,
+                  one_more searched taken hs counted p before after one there grows few (λ spared. b.compared-is ∙ b.in_ok-now.ensures.compared spared) (λ whole. b.compared-is ∙ b.in_ok-now.ensures.counted whole) so.1,
                 ));
             compared = λ none. b.compared-is
                 ∙ (b.in_ok-now.ensures.compared (none_at es p b.in-Some.name.now q b.in-Some.ensures.entry (is_searched changed) none) ∙ c.loop-place.invariant.compared none);
@@ -97,13 +100,14 @@ loop-place-preserved g c =
           let one = held_as (string_bytes b.in-Some.name.now) q in
           let there = held_at es p b.in-Some.name.now q b.in-Some.ensures.entry in
           let few : after ≤ before + 1 = omega (arith, b.compared-is, b.in_ok-now.ensures.few) in
+          let grows : before ≤ after = omega (arith, b.compared-is, b.in_ok-now.ensures.grows) in
           record {
             told = here one there held_low c.loop-place.events.items (c.loop-place.rows.items, before) c.loop-place.invariant.told c.match-get_index.events.items (c.match-get_index.rows.items, after)
                 (ap (λ v. v.items) b.events-is ∙ b.in_ok-now.ensures.told)
                 (λ so. (
                   subst (ArePlacedUpTo put es (p + 1)) (sym (ap (λ v. v.items) b.rows-is))
                       (none_put_there put es p c.loop-place.rows.items one so.0 there (sym b.in_ok-now.ensures.rows ∙ ap (λ o. put_in o q.these) b.in_default-now.is)),
-                  one_more searched hs counted p before after one there few (λ spared. b.compared-is ∙ b.in_ok-now.ensures.compared spared) so.1,
+                  one_more searched taken hs counted p before after one there grows few (λ spared. b.compared-is ∙ b.in_ok-now.ensures.compared spared) (λ whole. b.compared-is ∙ b.in_ok-now.ensures.counted whole) so.1,
                 ));
             compared = λ none. b.compared-is
                 ∙ (b.in_ok-now.ensures.compared (none_at es p b.in-Some.name.now q b.in-Some.ensures.entry (is_searched changed) none) ∙ c.loop-place.invariant.compared none);
@@ -121,8 +125,9 @@ returns-clause-rows g c =
     let silent = others_silent w changed es c.args.places.now c.keeps.ensures c.requires.after c.requires.was c.requires.led in
     let put = rows_put w changed in
     let searched = is_searched changed in
+    let taken = is_taken_whole changed in
     let counted = c.args.compared.now in
-    let all = told_all (told_to w changed) put hs c.args.events.now.items (AreDoneUpTo put searched es counted) (none_done put searched es counted) c.args.places.now c.requires.ascend silent c.loop-place.place-index c.loop-place.events.items
+    let all = told_all (told_to w changed) put hs c.args.events.now.items (AreDoneUpTo put searched taken es counted) (none_done put searched taken es counted (unput_isnt_taken w changed)) c.args.places.now c.requires.ascend silent c.loop-place.place-index c.loop-place.events.items
     (c.loop-place.rows.items, c.loop-place.compared) (omega arith) c.loop-place.invariant.told in
     all_placed put es (length hs) c.loop-place.rows.items (omega arith) all.rows.0
 
@@ -135,8 +140,9 @@ returns-clause-told g c =
     let silent = others_silent w changed es c.args.places.now c.keeps.ensures c.requires.after c.requires.was c.requires.led in
     let put = rows_put w changed in
     let searched = is_searched changed in
+    let taken = is_taken_whole changed in
     let counted = c.args.compared.now in
-    let all = told_all (told_to w changed) put hs c.args.events.now.items (AreDoneUpTo put searched es counted) (none_done put searched es counted) c.args.places.now c.requires.ascend silent c.loop-place.place-index c.loop-place.events.items
+    let all = told_all (told_to w changed) put hs c.args.events.now.items (AreDoneUpTo put searched taken es counted) (none_done put searched taken es counted (unput_isnt_taken w changed)) c.args.places.now c.requires.ascend silent c.loop-place.place-index c.loop-place.events.items
     (c.loop-place.rows.items, c.loop-place.compared) (omega arith) c.loop-place.invariant.told in
     all.told ∙ ap (λ hs. c.args.events.now.items ++ flat_map (told_to w changed) hs) (take_all (length hs) hs (omega arith))
 
@@ -149,7 +155,23 @@ returns-clause-few g c =
     let silent = others_silent w changed es c.args.places.now c.keeps.ensures c.requires.after c.requires.was c.requires.led in
     let put = rows_put w changed in
     let searched = is_searched changed in
+    let taken = is_taken_whole changed in
     let counted = c.args.compared.now in
-    let all = told_all (told_to w changed) put hs c.args.events.now.items (AreDoneUpTo put searched es counted) (none_done put searched es counted) c.args.places.now c.requires.ascend silent c.loop-place.place-index c.loop-place.events.items
+    let all = told_all (told_to w changed) put hs c.args.events.now.items (AreDoneUpTo put searched taken es counted) (none_done put searched taken es counted (unput_isnt_taken w changed)) c.args.places.now c.requires.ascend silent c.loop-place.place-index c.loop-place.events.items
     (c.loop-place.rows.items, c.loop-place.compared) (omega arith) c.loop-place.invariant.told in
-    all_counted searched hs counted (length hs) c.loop-place.compared (omega arith) all.rows.1
+    all_counted searched taken hs counted (length hs) c.loop-place.compared (omega arith) all.rows.1
+
+pub returns-clause-counted : goal.returns-clause-counted
+returns-clause-counted g c =
+    let w = c.args.world.now.state in
+    let changed = c.args.changes.now in
+    let es = entries_of c.args.stored.now in
+    let hs = map held_of es in
+    let silent = others_silent w changed es c.args.places.now c.keeps.ensures c.requires.after c.requires.was c.requires.led in
+    let put = rows_put w changed in
+    let searched = is_searched changed in
+    let taken = is_taken_whole changed in
+    let counted = c.args.compared.now in
+    let all = told_all (told_to w changed) put hs c.args.events.now.items (AreDoneUpTo put searched taken es counted) (none_done put searched taken es counted (unput_isnt_taken w changed)) c.args.places.now c.requires.ascend silent c.loop-place.place-index c.loop-place.events.items
+    (c.loop-place.rows.items, c.loop-place.compared) (omega arith) c.loop-place.invariant.told in
+    all_taken searched taken hs counted (length hs) c.loop-place.compared (omega arith) all.rows.1

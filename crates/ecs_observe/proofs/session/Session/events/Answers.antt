@@ -4,7 +4,7 @@ use Rattle.std.specs.Prelude.{IfSome}
 use Rattle.ecs_observe.specs.Parts.{held_of}
 use Rattle.ecs_observe.specs.Standing.{Standing}
 use Rattle.stored_queries.specs.Held.{WasNow, is_compared}
-use Rattle.ecs_observe.proofs.Retold.{none_for, none_waits_after, none_waits_told, put_told, retold_after, retold_lists, retold_session, searched_for, told_waits}
+use Rattle.ecs_observe.proofs.Retold.{none_for, none_taken_for, none_waits_after, none_waits_told, put_told, retold_after, retold_lists, retold_session, searched_for, taken_for, told_waits}
 use Rattle.ecs_observe.proofs.Staying.{none_searched}
 use Rattle.ecs_observe.specs.Stored.{entries_of}
 use Rattle.ecs_observe.proofs.session.Session.events.Goals as goal
@@ -53,6 +53,15 @@ returns-clause-few g c =
     let before = ap (λ (s : Standing). s.compared) c.self.view_is in
     let searched = searched_for _ c.args.self.now c.self.view_is c.in-Some.changes c.in-Some.is in
     omega (arith, before, searched, c.in_ok-tell_led.ensures.few)
+
+pub returns-in_default-clause-counted : goal.returns-in_default-clause-counted
+returns-in_default-clause-counted g c = omega (arith, none_taken_for _ c.args.self.now c.self.view_is c.in_default.is)
+
+pub returns-clause-counted : goal.returns-clause-counted
+returns-clause-counted g c =
+    let before = ap (λ (s : Standing). s.compared) c.self.view_is in
+    let taken = taken_for _ c.args.self.now c.self.view_is c.in-Some.changes c.in-Some.is in
+    omega (arith, before, taken, c.in_ok-tell_led.ensures.counted)
 
 pub returns-clause-spared : goal.returns-clause-spared
 returns-clause-spared g c = λ none.
