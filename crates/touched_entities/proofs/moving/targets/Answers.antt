@@ -1,8 +1,9 @@
 use Rattle.std.specs.Prelude.{ℕ, List, ◌++◌, IfSome, Option}
 use Rattle.std.proofs.Common.{subst, ◌∙◌}
+use Rattle.query_concerns.specs.Others.{concerns_below}
 use Rattle.short_list.specs.Items.{Items}
 use Rattle.touched_entities.specs.Leaning.{HasAllBelow, concerns_beyond}
-use Rattle.touched_entities.specs.Moving.{AreLinked}
+use Rattle.touched_entities.specs.Moving.{AreLinked, entities_of}
 use Rattle.touched_entities.proofs.AllMoving.{all_targets}
 use Rattle.touched_entities.proofs.moving.targets.Goals as goal
 
