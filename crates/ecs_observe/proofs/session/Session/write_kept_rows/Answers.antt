@@ -14,4 +14,4 @@ returns-in-Err-Refused-clause-rows g c =
 
 pub returns-in-Err-Unsent-clause-rows : goal.returns-in-Err-Unsent-clause-rows
 returns-in-Err-Unsent-clause-rows g c =
-    stopped_nowhere most_usize (session_of c.args.self.now) c.args.name.now c.args.out.now.items c.send_kept_rows.new.out.items c.in-Err-Unsent.error (rw c.in-Err-Unsent.field-0-is at c.in-Err-Unsent.ensures.rows)
+    stopped_nowhere most_usize (session_of c.args.self.now) c.args.name.now c.args.out.now.items c.send_kept_rows.new.out.items c.in-Err-Unsent.field-0-0 (rw c.in-Err-Unsent.field-0-is at c.in-Err-Unsent.ensures.rows)
