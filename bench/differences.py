@@ -27,11 +27,6 @@ def kept(count):
     yield from (f"keep k{number} T0" for number in range(count))
 
 
-def drops(count):
-    """Each is the first of those that are stored."""
-    yield from (f"drop k{number}" for number in range(count))
-
-
 def rows(count):
     yield from (f"rows k{number}" for number in range(count))
 
@@ -43,16 +38,38 @@ def untold():
     return [(1, tags + stored + told), (-1, tags + stored), (-1, tags + told), (1, tags)], OBSERVERS * COMMANDS
 
 
-def dropped():
-    """A `drop` line of the oldest of 1,024 stored queries."""
-    stored = [*tagged(1), *kept(STORED)]
-    return [(1, stored + [*drops(STORED // 2)]), (-1, stored)], STORED // 2
+# by a name, a line that stores a query
+DROPPED = {"dropped": "keep k{} T0", "dropped_monitors": "monitor k{} T0, !Sun", "dropped_up": "monitor k{} T0(up), !Sun"}
+
+
+def from_midst(count):
+    """Half of so many numbers, from the midst on, one below it and one above it in turn."""
+    return [count // 2 + (turn // 2 if turn % 2 else -1 - turn // 2) for turn in range(count // 2)]
+
+
+def dropped(line, numbers):
+    """A `drop` line of one of 1,024 stored queries that are alike, until half of them are left."""
+    stored = [*tagged(1), *(line.format(number) for number in range(STORED))]
+    return [(1, stored + [f"drop k{number}" for number in numbers]), (-1, stored)], len(numbers)
 
 
 def asked():
-    """A `rows` line of one of 1,024 kept queries, which nobody answers."""
+    """A `rows` line of one of 1,024 kept queries, which nobody answers: the first of each."""
     stored = [*tagged(1), *kept(STORED)]
     return [(1, stored + [*rows(STORED)]), (-1, stored)], STORED
+
+
+def asked_again():
+    """A `rows` line of a kept query that was asked before, which nobody answers."""
+    stored = [*tagged(1), "keep k T0", "rows k"]
+    return [(1, stored + ["rows k"] * COMMANDS), (-1, stored)], COMMANDS
+
+
+def made_tables():
+    """An `add` that makes a table, against one that finds it."""
+    world = [*tagged(COMMANDS), *(f"entity E{number}" for number in range(COMMANDS))]
+    made, found = ([f"add E{number} T{number if each else 0}" for number in range(COMMANDS)] for each in (True, False))
+    return [(1, world + made), (-1, world + found)], COMMANDS
 
 
 def moving(text, count):
@@ -108,12 +125,6 @@ def beside_many():
     return [(1, tags + stored + told), (-1, tags + stored), (-1, tags + told), (1, tags)], COMMANDS
 
 
-def dropped_monitors():
-    """A `drop` line of the oldest of 1,024 monitors that look out for the same."""
-    stored = [*tagged(1), *(f"monitor k{number} T0, !Sun" for number in range(STORED))]
-    return [(1, stored + [*drops(STORED // 2)]), (-1, stored)], STORED // 2
-
-
 def switched(relationship):
     """A line that adds a pair in whose place another one of its entity goes."""
     world = [f"entity {name}" for name in ("Sun", "Moon", "Likes", "Earth")] + ["add Likes Exclusive", f"add Earth ({relationship},Sun)"]
@@ -148,29 +159,50 @@ def in_tables(text, count):
     return [(1, world + ASKED * [f"query {text}"]), (-1, world)], ASKED
 
 
-# queries of a chain: what they ask is asked of each of its entities, or of each two
+LAYER = 20
+
+
+def before(number):
+    return range(max(number - 1, 0), number)
+
+
+def two_before(number):
+    return range(max(number - 2, 0), number)
+
+
+def layer_before(number):
+    begun = number - number % LAYER
+    return range(max(begun - LAYER, 0), begun)
+
+
+# queries of entities that lead to those before them: by a name, to whom each leads, by which relationship, and what is asked
 ALONG = {
-    "last": ("ChildOf", "T, P(E{last}|up)"),
-    "pair": ("ChildOf", "T, Q($this|up,$x), U($x)"),
-    "both_ways": ("IsA", "T, T($y), IsA($this,$y), IsA($y,$this), $this != $y"),
+    "chain_last": (before, "ChildOf", "T, P(E{last}|up)"),
+    "chain_pair": (before, "ChildOf", "T, Q($this|up,$x), U($x)"),
+    "chain_both_ways": (before, "IsA", "T, T($y), IsA($this,$y), IsA($y,$this), $this != $y"),
+    "chain_depths": (before, "In", "T(cascade In)"),
+    "ladder_depths": (two_before, "In", "T(cascade In)"),
+    "layers_depths": (layer_before, "In", "T(cascade In)"),
+    "ladder_top": (two_before, "In", "Q($this|up In,X)"),
 }
-CHAINS = [500, 1_000, 2_000]
+LENGTHS = [500, 1_000, 2_000]
 
 
-def along(relationship, text, count):
-    """A query of a chain of so many entities."""
+def along(leads_to, relationship, text, count):
+    """A query of so many entities that lead to those before them."""
     world = [f"entity {name}" for name in ("T", "P", "Q", "U", "X")] + ["add X U"]
+    world += ["entity In", "add In Traversable"] * (relationship == "In")
     for number in range(count):
         world += [f"entity E{number}", f"add E{number} T"]
-        world.append(f"add E{number} ({relationship},E{number - 1})" if number else "add E0 (Q,X)")
+        world += [f"add E{number} ({relationship},E{target})" for target in leads_to(number)] or [f"add E{number} (Q,X)"]
     return [(1, [*world, f"query {text.format(last=count - 1)}"]), (-1, world)], 1
 
 
 DIFFERENCES = {
     "untold": untold,
-    "dropped": dropped,
-    "dropped_monitors": dropped_monitors,
+    "made_tables": made_tables,
     "asked": asked,
+    "asked_again": asked_again,
     "beside_kept": beside("keep", "T0"),
     "beside_local": beside("monitor", "T0"),
     "beside_up": beside("monitor", "T0(up)"),
@@ -180,11 +212,13 @@ DIFFERENCES = {
     "switched_parent": partial(switched, "ChildOf"),
     "switched_pair": partial(switched, "Likes"),
 }
+DIFFERENCES.update((name, partial(dropped, line, range(STORED // 2))) for name, line in DROPPED.items())
+DIFFERENCES.update((f"{name}_midst", partial(dropped, line, from_midst(STORED))) for name, line in DROPPED.items())
 DIFFERENCES.update((f"moved_{name}_{count}", partial(moving, text, count)) for name, text in MONITORS.items() for count in ROWS)
 DIFFERENCES.update((f"moved_team_{count}", partial(in_teams, False, count)) for count in ROWS)
 DIFFERENCES.update((f"moved_leader_{count}", partial(in_teams, True, count)) for count in ROWS)
 DIFFERENCES.update((f"tables_{name}_{count}", partial(in_tables, text, count)) for name, text in BY_TABLES.items() for count in ENTITIES)
-DIFFERENCES.update((f"chain_{name}_{count}", partial(along, *chain, count)) for name, chain in ALONG.items() for count in CHAINS)
+DIFFERENCES.update((f"{name}_{count}", partial(along, *asked_of, count)) for name, asked_of in ALONG.items() for count in LENGTHS)
 
 
 def scripts(name):
