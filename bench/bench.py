@@ -1,7 +1,7 @@
 #!/usr/bin/env python3
 """bench.py [WORKLOAD ..]: tables of the workloads, or those named, and of what bench_library measures.
 
-seconds       the least of three runs
+seconds       of the processor, the least of three runs: they vary little with the load of the machine
 instructions  counted by valgrind, where that is installed: they don't vary with the load of the machine
 sqlite3       seconds of the sqlite3 shell, where that is installed, on the same workload as SQL: in memory, and in one transaction
 same          whether both wrote the same lines
@@ -13,11 +13,11 @@ The status is 1 where a program fails or what they wrote differs.
 import hashlib
 import os
 import re
+import resource
 import shutil
 import subprocess
 import sys
 import tempfile
-import time
 
 import differences
 import engine
@@ -43,14 +43,20 @@ def program(crate):
     return os.path.join(TOP, "crates", crate, "out", crate)
 
 
+def processor_seconds():
+    """The seconds that the processor was at work for all programs that were run and have ended."""
+    used = resource.getrusage(resource.RUSAGE_CHILDREN)
+    return used.ru_utime + used.ru_stime
+
+
 def timed(words, script):
     """The least seconds of a few runs, and what the last of them wrote; None where one fails."""
     least, wrote = None, b""
     for _ in range(RUNS):
         with open(script, "rb") as given:
-            begun = time.perf_counter()
+            begun = processor_seconds()
             ran = subprocess.run(words, stdin=given, stdout=subprocess.PIPE, check=False)
-            took = time.perf_counter() - begun
+            took = processor_seconds() - begun
         if ran.returncode:
             return None, b""
         least, wrote = took if least is None else min(least, took), ran.stdout
