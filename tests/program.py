@@ -1,11 +1,11 @@
 #!/usr/bin/env python3
 """program.py PROGRAM: runs the program from outside: its statuses, standard error, help and streams."""
 import os
+import resource
 import select
 import subprocess
 import sys
 import tempfile
-import time
 
 import explained
 import hostile
@@ -29,14 +29,20 @@ def run_words(program, words, script=b"", seconds=60, **streams):
     return subprocess.run([program, *words], input=script, timeout=seconds, **streams)
 
 
+def processor_seconds():
+    """What the programs that have ended took of processors: it hardly hangs on what else the machine does."""
+    spent = resource.getrusage(resource.RUSAGE_CHILDREN)
+    return spent.ru_utime + spent.ru_stime
+
+
 def least_seconds(program, script, most):
-    """The least time of three runs, each of which may take so many seconds."""
+    """The least processor time of three runs, each of which may take so many seconds."""
     times = []
     for _ in range(3):
-        begun = time.monotonic()
+        begun = processor_seconds()
         if run_words(program, [], script, most).returncode:
             raise ValueError("the script is not accepted")
-        times.append(time.monotonic() - begun)
+        times.append(processor_seconds() - begun)
     return min(times)
 
 
@@ -257,9 +263,9 @@ def two_thousand_lines_take_less_than_two_seconds(program, room):
     lines += [f"set {name} Position {n} -{n}" for n, name in enumerate(names)]
     lines += [f"add {name} Planet" for name in names]
     lines += ["query Position, Planet"] * 498
-    begun = time.monotonic()
+    begun = processor_seconds()
     ran = run_words(program, [], "\n".join(lines).encode())
-    return ran.returncode == 0 and ran.stdout.endswith(b"rows 500\n") and time.monotonic() - begun < 2
+    return ran.returncode == 0 and ran.stdout.endswith(b"rows 500\n") and processor_seconds() - begun < 2
 
 
 def colliding_names_take_at_most_twice_as_long(program, room):
@@ -280,17 +286,17 @@ def walk_through_tables_gives_memory_back(program, room):
 
 def dead_ends_lead_back_to_what_they_hang_on(program, room):
     """Queries of eight branches, each to twenty entities, that fail behind the last: in less than a second."""
-    begun = time.monotonic()
+    begun = processor_seconds()
     ran = run_words(program, [], hostile.dead_branches(8, 20))
-    return time.monotonic() - begun < 1 and answers(ran, 0, b"rows 0\nrows 0\nrow $this=H0 [T@H0]\nrow $this=H1 [T@H1]\nrows 2\nrows 0\n")
+    return processor_seconds() - begun < 1 and answers(ran, 0, b"rows 0\nrows 0\nrow $this=H0 [T@H0]\nrow $this=H1 [T@H1]\nrows 2\nrows 0\n")
 
 
 def local_monitors_cost_what_changed(program, room):
     """100,000 entities, ten monitors of local queries and 10,000 commands in less than a second."""
     script = monitors.many_entities(100_000, 10_000)
-    begun = time.monotonic()
+    begun = processor_seconds()
     ran = run_words(program, [], script)
-    return time.monotonic() - begun < 1 and answers(ran, 0) and ran.stdout.count(b"\n") > 10_000
+    return processor_seconds() - begun < 1 and answers(ran, 0) and ran.stdout.count(b"\n") > 10_000
 
 
 def are_told_as_twins(program, texts, more):
@@ -320,9 +326,9 @@ def monitors_of_few_bytes_take_little_memory(program, room):
 def monitors_cost_who_moves(program, room):
     """Monitors that go up, have variables, groups or wildcards, each of 30,000 rows of which 10,000 commands move one, in less than a second each."""
     for text in monitors.MANY_ROWS:
-        begun = time.monotonic()
+        begun = processor_seconds()
         ran = run_words(program, [], monitors.many_rows(text, 30_000, 10_000))
-        if time.monotonic() - begun >= 1 or not answers(ran, 0) or ran.stdout.count(b"\n") != 10_000:
+        if processor_seconds() - begun >= 1 or not answers(ran, 0) or ran.stdout.count(b"\n") != 10_000:
             return False
     return True
 
@@ -330,10 +336,10 @@ def monitors_cost_who_moves(program, room):
 def unconcerned_monitors_cost_nothing(program, room):
     """30,000 entities, a monitor that asks ancestors, and 10,000 commands that don't concern it, in less than a second; and three that do."""
     script = monitors.unconcerned(30_000, 10_000)
-    begun = time.monotonic()
+    begun = processor_seconds()
     ran = run_words(program, [], script)
     told = monitors.told_to(ran.stdout, "m")
-    return time.monotonic() - begun < 1 and answers(ran, 0) and told == [("enter", ["E1"]), ("leave", ["E3"]), ("leave", ["E0"])]
+    return processor_seconds() - begun < 1 and answers(ran, 0) and told == [("enter", ["E1"]), ("leave", ["E3"]), ("leave", ["E0"])]
 
 
 def stored_queries_are_told_as_if_alone(program, room):
@@ -355,9 +361,9 @@ def a_drop_and_a_command_cost_what_they_touch(program, room):
     for kind, text in (("keep", "Hot"), ("monitor", "Hot"), ("monitor", "Hot(up)"), ("on add", "Hot")):
         lines = monitors.making(["Planet", "Hot", "Earth"]) + [f"{kind} q{number} {text}" for number in range(1_000)]
         lines += ["add Earth Planet", "remove Earth Planet"] * 10_000 + [f"drop q{number}" for number in range(1_000)]
-        begun = time.monotonic()
+        begun = processor_seconds()
         ran = run_words(program, [], monitors.bytes_of(lines))
-        if time.monotonic() - begun > 1 or not answers(ran, 0) or ran.stdout:
+        if processor_seconds() - begun > 1 or not answers(ran, 0) or ran.stdout:
             return False
     return True
 
