@@ -2,6 +2,7 @@ pub mod Concerns
 pub mod Bonds
 pub mod Anchored
 pub mod Others
+pub mod Whom
 pub mod OwnIds
 pub mod Tied
 pub mod Idle

@@ -24,7 +24,7 @@ pub fn concerns<A: Allocator>(query: &Query<A>, id: Id) -> bool
 }
 
 /// Whether an id is a tag that says how far a relationship reaches, or who is passed over.
-fn is_asked_by_all(id: Id) -> bool
+pub(crate) fn is_asked_by_all(id: Id) -> bool
     ensures { result ≡ is_asked_by_all id }
 {
     if id.second().is_some() {

@@ -10,6 +10,7 @@ mod linking;
 mod others;
 mod own_ids;
 mod ties;
+mod whom;
 
 pub use anchoring::is_anchored;
 pub use concerning::concerns;
@@ -18,3 +19,4 @@ pub use linking::{is_linked, links_others};
 pub use others::{concerns_below, concerns_others};
 pub use own_ids::{lacks, meets};
 pub use ties::is_tied;
+pub use whom::{Concern, concern_of};

@@ -26,7 +26,7 @@ pub fn concerns_others<A: Allocator>(query: &Query<A>, id: Id) -> bool
 }
 
 /// Whether an id is a tag that says how far a relationship reaches.
-fn says_how_far(id: Id) -> bool
+pub(crate) fn says_how_far(id: Id) -> bool
     ensures { result ≡ says_how_far id }
 {
     if id.second().is_some() {
