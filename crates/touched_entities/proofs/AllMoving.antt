@@ -1,10 +1,11 @@
 -- All who may have moved are found in steps: whoever's facts matter for others, and whoever is linked with these; whoever's facts matter for those below, and those below;
 -- and then those whose own facts came or went, and those who hold a pair with one of these.
-use Rattle.std.specs.Prelude.{◌≡◌, ◌↔◌, ◌||◌, ℕ, Bool, true, false, cond, List, [], ◌∷◌, ◌++◌, filter, flat_map, map, if◌then◌else◌}
+use Rattle.std.specs.Prelude.{◌≡◌, ◌↔◌, ◌||◌, ◌+◌, ◌<◌, ℕ, Bool, true, false, cond, List, [], ◌∷◌, ◌++◌, filter, flat_map, length, map, take, if◌then◌else◌}
 use Rattle.std.specs.List.{Contains}
-use Rattle.std.proofs.Common.{refl, sym, ap, subst, ◌∙◌, arith}
+use Rattle.std.proofs.Common.{refl, sym, ap, subst, ◌∙◌, append_assoc, arith, get_or}
 use Rattle.std.proofs.lemmas.Bool.{and_parts, not-true, or_left, or_right, true≢false}
-use Rattle.std.proofs.lemmas.List.Elements.{Contains-append_left, Contains-append_right}
+use Rattle.std.proofs.lemmas.List.{map-append}
+use Rattle.std.proofs.lemmas.List.Elements.{Contains-append_left, Contains-append_right, filter_more}
 use Rattle.ecs_id.specs.Id.{Id, plain, pair}
 use Rattle.ecs_model.specs.Command.{Changed}
 use Rattle.ecs_model.specs.World.{WorldState, Key, ids_of}
@@ -117,13 +118,64 @@ no_targets q w changed none = record {
     busy_none = none_with (is_busy q w changed.went) (concerns_beyond q)
         (λ k h. or_right (concerns_below q k.1) (concerns_others q k.1) (busy_concern_others q (ids_around w changed.went k.0) k.1 (not-true (is_idle q (ids_around w changed.went k.0) k.1) h)))
 
+-- ---- so it is where none are gathered of whom such a fact came or went
+
+both_empty : (xs ys : List ℕ) → xs ++ ys ≡ [] → (xs ≡ []) × (ys ≡ [])
+both_empty [] ys e = (refl, e)
+both_empty (x ∷ xs) ys e = absurd cc
+
+none_if_nobody : (p : Id → Bool) (ks : List Key) → entities_by p ks ≡ [] → any_by p ks ≡ false
+none_if_nobody p [] e = refl
+none_if_nobody p (k ∷ ks) e = by (p k.1) (none_if_nobody p ks) e
+  where
+    by : (b : Bool) → (entities_by p ks ≡ [] → any_by p ks ≡ false) → map (λ (k : Key). k.0) (cond b (k ∷ filter (λ (k : Key). p k.1) ks) (filter (λ (k : Key). p k.1) ks)) ≡ [] → (b || any_by p ks) ≡ false
+    by true rest e = absurd cc
+    by false rest e = rest e
+
+neither : (p r : Id → Bool) (ks : List Key) → any_by p ks ≡ false → any_by r ks ≡ false → any_by (λ i. p i || r i) ks ≡ false
+neither p r [] e f = refl
+neither p r (k ∷ ks) e f =
+    let ps = both_false (p k.1) (any_by p ks) e in
+    let rs = both_false (r k.1) (any_by r ks) f in
+    (λ j. (ps.0 j || rs.0 j) || neither p r ks ps.1 rs.1 j)
+
+none_beyond : (q : Query) (changed : Changed) → entities_of (concerns_others q) changed ≡ [] → entities_of (concerns_below q) changed ≡ []
+    → (any_by (concerns_beyond q) changed.came || any_by (concerns_beyond q) changed.went) ≡ false
+none_beyond q changed others below =
+    let o = both_empty (entities_by (concerns_others q) changed.came) (entities_by (concerns_others q) changed.went) others in
+    let b = both_empty (entities_by (concerns_below q) changed.came) (entities_by (concerns_below q) changed.went) below in
+    let came = neither (concerns_below q) (concerns_others q) changed.came (none_if_nobody (concerns_below q) changed.came b.0) (none_if_nobody (concerns_others q) changed.came o.0) in
+    let went = neither (concerns_below q) (concerns_others q) changed.went (none_if_nobody (concerns_below q) changed.went b.1) (none_if_nobody (concerns_others q) changed.went o.1) in
+    (λ j. came j || went j)
+
+pub nobody : (xs ys : List ℕ) → xs ≡ ys → length xs ≡ 0 → ys ≡ []
+nobody [] ys same e = sym same
+nobody (x ∷ xs) ys same e = absurd (omega (arith, e))
+
 -- so those whose own facts came or went are all who may have moved
 pub own_move : (q : Query) (w : WorldState) (changed : Changed) (own : List ℕ) → ((e : ℕ) → Contains own e ↔ Contains (entities_of (concerns q) changed) e)
-    → (any_by (concerns_beyond q) changed.came || any_by (concerns_beyond q) changed.went) ≡ false → AreMoving q w changed own
-own_move q w changed own are_own none = record {
+    → entities_of (concerns_others q) changed ≡ [] → entities_of (concerns_below q) changed ≡ [] → AreMoving q w changed own
+own_move q w changed own are_own others below = record {
   own = λ e h. (are_own e).1 h;
   targets = [];
-  are_targets = no_targets q w changed none;
+  are_targets = no_targets q w changed (none_beyond q changed others below);
   themselves = λ x h may. absurd (omega (arith, h.1));
   held = λ x e h on. absurd (omega (arith, h.1));
 }
+
+-- ---- one fact more, whose entity is added if its id passes
+
+picked : (b : Bool) (k : Key) → map (λ (k : Key). k.0) (cond b (k ∷ []) []) ≡ (if b then k.0 ∷ [] else [])
+picked true k = refl
+picked false k = refl
+
+pub gathered_more : (p : Id → Bool) (ks : List Key) (i : ℕ) (d : Key) (initial old new : List ℕ) (b : Bool) (e : ℕ) → i < length ks → old ≡ initial ++ entities_by p (take i ks)
+    → b ≡ p (get_or ks i d).1 → e ≡ (get_or ks i d).0 → new ≡ old ++ (if b then e ∷ [] else []) → new ≡ initial ++ entities_by p (take (i + 1) ks)
+gathered_more p ks i d initial old new b e lt was is same now =
+    let k = get_or ks i d in
+    let passes : Key → Bool = λ k. p k.1 in
+    let one : List ℕ = if b then e ∷ [] else [] in
+    let front = entities_by p (take i ks) in
+    let more : entities_by p (take (i + 1) ks) ≡ front ++ (if p k.1 then k.0 ∷ [] else []) =
+        ap (map (λ (k : Key). k.0)) (filter_more passes ks i d lt) ∙ map-append (λ (k : Key). k.0) (filter passes (take i ks)) (cond (p k.1) (k ∷ []) []) ∙ ap (λ ys. front ++ ys) (picked (p k.1) k) in
+    now ∙ ap (λ ys. ys ++ one) was ∙ append_assoc initial front one ∙ (λ j. initial ++ (front ++ (if is j then same j ∷ [] else []))) ∙ ap (λ ys. initial ++ ys) (sym more)

@@ -15,19 +15,10 @@ use Rattle.query_concerns.specs.OwnIds.{lacks}
 use Rattle.query_model.specs.Query.{Query}
 use Rattle.touched_entities.specs.declared.sought.Sought.{Sought}
 use Rattle.touched_entities.specs.declared.sought.Sought.TheVariants.{Moving, Below, Linked}
-use Rattle.touched_entities.specs.declared.whom.Whom.{Whom}
-use Rattle.touched_entities.specs.declared.whom.Whom.TheVariants as whom
 
 -- whether an id concerns a query for somebody else than its holder
 abbrev pub concerns_beyond : Query → Id → Bool
 concerns_beyond q i = concerns_below q i || concerns_others q i
-
--- whether it does so for these
-abbrev pub concerns_for : Whom → Query → Id → Bool
-concerns_for whom.Anyone q i = concerns q i
-concerns_for whom.Others q i = concerns_others q i
-concerns_for whom.Below q i = concerns_below q i
-concerns_for whom.Beyond q i = concerns_beyond q i
 
 -- whether whoever holds these ids may move by a fact of the target of one of them, a pair: it concerns the query, and the ids don't lack what that asks of `$this` itself
 abbrev pub moves_by : Query → List Id → Id → Bool

@@ -11,7 +11,6 @@ mod linked;
 mod moving;
 mod sought;
 mod touching;
-mod whom;
 
 pub use bonds::Bonds;
 pub use concerned::is_concerned;

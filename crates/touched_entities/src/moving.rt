@@ -1,14 +1,13 @@
 //! Who may have moved in or out of a query's rows, where few may.
 
-ghost use Rattle.std.specs.Prelude.{◌≡◌, ◌↔◌, ◌||◌, ◌++◌, ℕ, Contains, true, filter, IfOk, IfSome, OnOk, false};
+ghost use Rattle.std.specs.Prelude.{◌≡◌, ◌↔◌, ◌++◌, ◌∷◌, [], ℕ, Contains, true, filter, IfOk, IfSome, OnOk, false, if◌then◌else◌};
 ghost use Rattle.std.specs.List.Sorted.{IsStrictlyIncreasing};
 ghost use Rattle.ecs_model.specs.World.{is_live};
 ghost use Rattle.query_meaning.specs.Sound.{IsSound};
 ghost use Rattle.touched_entities.specs.Bonds.{bonds_of};
 ghost use Rattle.query_concerns.specs.Concerns.{concerns};
-ghost use Rattle.query_concerns.specs.Others.{concerns_below};
-ghost use Rattle.touched_entities.specs.Leaning.{HasAllBelow, concerns_beyond, concerns_for};
-ghost use Rattle.touched_entities.specs.Moving.{AreLinked, AreMoving, AreTargets, TellsMoved, any_by, any_concerns_others, busy_among, entities_by, entities_of, is_followed, is_open, is_sure, may_be_this};
+ghost use Rattle.query_concerns.specs.Others.{concerns_below, concerns_others};
+ghost use Rattle.touched_entities.specs.Moving.{AreLinked, AreMoving, AreTargets, TellsMoved, any_concerns_others, busy_among, entities_by, entities_of, is_followed, is_open, is_sure, may_be_this};
 ghost use Rattle.watch_meaning.specs.Since.{IsAfter};
 
 use crate::Bonds;
@@ -17,11 +16,10 @@ use crate::leaning::{MOST, push_all_below, push_leaning_on_all};
 use crate::linked::{push_all, push_all_linked, push_targets};
 use crate::sought::Sought;
 use crate::touching::ids_at;
-use crate::whom::{Whom, concerns_for};
 use ecs_model::FactKey;
 use ecs_world::{Changes, World};
 use query_check::Query;
-use query_concerns::{concerns_others, is_idle, lacks, meets};
+use query_concerns::{concern_of, concerns_others, is_idle, lacks, meets};
 use short_list::ShortList;
 use std::alloc::{AllocError, Allocator};
 
@@ -140,19 +138,85 @@ fn moving<A: Allocator + Copy, B: Allocator>(
     ensures all { IfOk result (λ found. IfSome found (λ moving. AreMoving query.now world.now.state changes.now moving.items)) }
 {
     let mut moving = ShortList::new();
-    push_entities(alloc, query, Whom::Anyone, changes, &mut moving)?;
+    let mut others = ShortList::new();
+    let mut below = ShortList::new();
+    push_concerned(
+        alloc,
+        query,
+        changes.came(),
+        &mut moving,
+        &mut others,
+        &mut below,
+    )?;
+    push_concerned(
+        alloc,
+        query,
+        changes.went(),
+        &mut moving,
+        &mut others,
+        &mut below,
+    )?;
     put_in_order(&mut moving);
-    if !any_concerns_for(query, Whom::Beyond, changes) {
+    if others.len() == 0 && below.len() == 0 {
         return Ok(Some(moving));
     }
-    if !push_moved_by_others(alloc, query, bonds, world, changes, &mut moving)? {
+    if !push_moved_by_others(
+        alloc,
+        query,
+        bonds,
+        world,
+        changes,
+        others,
+        below,
+        &mut moving,
+    )? {
         return Ok(None);
     }
     Ok(Some(moving))
 }
 
-/// Adds all who may have moved by another one's fact to those of whom one that concerns the query came or went, and puts all in order. False, where they may
-/// be too many.
+/// Adds the entities of those facts that concern a query to the first list, of those that concern it for others to the second, and of those that
+/// concern it for those below to the third. The id of each fact is judged once.
+fn push_concerned<A: Allocator + Copy, B: Allocator>(
+    alloc: A,
+    query: &Query<B>,
+    facts: &[FactKey],
+    own: &mut ShortList<A>,
+    others: &mut ShortList<A>,
+    below: &mut ShortList<A>,
+) -> Result<(), AllocError>
+    ensures own { OnOk result (own.new.items ≡ own.old.items ++ entities_by (concerns query.now) facts.now) }
+    ensures others { OnOk result (others.new.items ≡ others.old.items ++ entities_by (concerns_others query.now) facts.now) }
+    ensures below { OnOk result (below.new.items ≡ below.old.items ++ entities_by (concerns_below query.now) facts.now) }
+{
+    for fact in facts {
+        let concern = concern_of(query, fact.id());
+        let entity = fact.entity();
+        push_if(alloc, concern.anyone, entity, own)?;
+        push_if(alloc, concern.others, entity, others)?;
+        push_if(alloc, concern.below, entity, below)?;
+    }
+    Ok(())
+}
+
+/// Adds an entity, if it is wanted.
+#[inline(always)]
+fn push_if<A: Allocator>(
+    alloc: A,
+    wanted: bool,
+    entity: u32,
+    found: &mut ShortList<A>,
+) -> Result<(), AllocError>
+    ensures { OnOk result (found.new.items ≡ found.old.items ++ (if wanted then entity ∷ [] else [])) }
+{
+    if wanted {
+        found.push(alloc, entity)?;
+    }
+    Ok(())
+}
+
+/// Adds all who may have moved by another one's fact to those of whom one that concerns the query came or went, and puts all in order. Takes those of
+/// whom one did that concerns others, and that concerns those below. False, where they may be too many.
 // (the facts of most commands concern their own entities alone)
 #[inline(never)]
 fn push_moved_by_others<A: Allocator + Copy, B: Allocator>(
@@ -161,14 +225,18 @@ fn push_moved_by_others<A: Allocator + Copy, B: Allocator>(
     bonds: Bonds,
     world: &World<A>,
     changes: &Changes<A>,
+    others: ShortList<A>,
+    below: ShortList<A>,
     moving: &mut ShortList<A>,
 ) -> Result<bool, AllocError>
     requires bonds { bonds ≡ bonds_of query.now }
     requires own { (e : ℕ) → Contains moving.old.items e ↔ Contains (entities_of (concerns query.now) changes.now) e }
+    requires others { others.items ≡ entities_of (concerns_others query.now) changes.now }
+    requires below { below.items ≡ entities_of (concerns_below query.now) changes.now }
     ensures ascend { IfOk result (λ done. done ≡ true → IsStrictlyIncreasing moving.new.items) }
     ensures all { IfOk result (λ done. done ≡ true → AreMoving query.now world.now.state changes.now moving.new.items) }
 {
-    let Some(targets) = targets(alloc, query, bonds, world, changes)? else {
+    let Some(targets) = targets(alloc, query, bonds, world, changes, others, below)? else {
         return Ok(false);
     };
     if !push_leaning_on_all(
@@ -212,37 +280,24 @@ fn targets<A: Allocator + Copy, B: Allocator>(
     bonds: Bonds,
     world: &World<A>,
     changes: &Changes<A>,
+    others: ShortList<A>,
+    mut below: ShortList<A>,
 ) -> Result<Option<ShortList<A>>, AllocError>
     requires bonds { bonds ≡ bonds_of query.now }
+    requires others { others.items ≡ entities_of (concerns_others query.now) changes.now }
+    requires below { below.items ≡ entities_of (concerns_below query.now) changes.now }
     ensures { IfOk result (λ found. IfSome found (λ targets. AreTargets query.now world.now.state changes.now targets.items)) }
 {
-    let Some(below) = below(alloc, query, world, changes)? else {
+    put_in_order(&mut below);
+    if !push_all_below(alloc, query, &Sought::Below, world, &mut below)? {
         return Ok(None);
-    };
-    let Some(mut targets) = linked(alloc, query, bonds, world, changes)? else {
+    }
+    let Some(mut targets) = linked(alloc, query, bonds, world, changes, others)? else {
         return Ok(None);
     };
     push_all(alloc, below.as_slice(), &mut targets)?;
     put_in_order(&mut targets);
     Ok(Some(targets))
-}
-
-/// All of whom a fact that concerns those below came or went, and all below these, unless they may be too many.
-fn below<A: Allocator + Copy, B: Allocator>(
-    alloc: A,
-    query: &Query<B>,
-    world: &World<A>,
-    changes: &Changes<A>,
-) -> Result<Option<ShortList<A>>, AllocError>
-    ensures { IfOk result (λ found. IfSome found (λ below. HasAllBelow (λ ids. concerns_beyond query.now) world.now.state (entities_of (concerns_below query.now) changes.now) below.items)) }
-{
-    let mut below = ShortList::new();
-    push_entities(alloc, query, Whom::Below, changes, &mut below)?;
-    put_in_order(&mut below);
-    if !push_all_below(alloc, query, &Sought::Below, world, &mut below)? {
-        return Ok(None);
-    }
-    Ok(Some(below))
 }
 
 /// All of whom a fact that concerns others came or went. Of a query that isn't tied, those of whom one did that may move others, those who had a pair in
@@ -253,15 +308,16 @@ fn linked<A: Allocator + Copy, B: Allocator>(
     bonds: Bonds,
     world: &World<A>,
     changes: &Changes<A>,
+    others: ShortList<A>,
 ) -> Result<Option<ShortList<A>>, AllocError>
     requires bonds { bonds ≡ bonds_of query.now }
+    requires others { others.items ≡ entities_of (concerns_others query.now) changes.now }
     ensures { IfOk result (λ found. IfSome found (λ linked. AreLinked query.now world.now.state changes.now linked.items)) }
 {
-    let mut linked = ShortList::new();
     if bonds.tied {
-        push_entities(alloc, query, Whom::Others, changes, &mut linked)?;
-        return Ok(Some(linked));
+        return Ok(Some(others));
     }
+    let mut linked = ShortList::new();
     let went = changes.went();
     push_busy(alloc, query, world, went, changes.came(), &mut linked)?;
     push_busy(alloc, query, world, went, went, &mut linked)?;
@@ -271,38 +327,6 @@ fn linked<A: Allocator + Copy, B: Allocator>(
         return Ok(None);
     }
     Ok(Some(linked))
-}
-
-/// Adds those of whom a fact that concerns a query so came or went.
-fn push_entities<A: Allocator + Copy, B: Allocator>(
-    alloc: A,
-    query: &Query<B>,
-    whom: Whom,
-    changes: &Changes<A>,
-    found: &mut ShortList<A>,
-) -> Result<(), AllocError>
-    ensures { OnOk result (found.new.items ≡ found.old.items ++ entities_of (concerns_for whom query.now) changes.now) }
-{
-    push_entities_by(alloc, query, whom, changes.came(), found)?;
-    push_entities_by(alloc, query, whom, changes.went(), found)
-}
-
-/// Adds the entities of those facts that concern a query so.
-fn push_entities_by<A: Allocator + Copy, B: Allocator>(
-    alloc: A,
-    query: &Query<B>,
-    whom: Whom,
-    facts: &[FactKey],
-    found: &mut ShortList<A>,
-) -> Result<(), AllocError>
-    ensures { OnOk result (found.new.items ≡ found.old.items ++ entities_by (concerns_for whom query.now) facts.now) }
-{
-    for fact in facts {
-        if concerns_for(query, whom, fact.id()) {
-            found.push(alloc, fact.entity())?;
-        }
-    }
-    Ok(())
 }
 
 /// Adds the entities of those facts that may move others, where these facts went: whose holder has, or had, what else the query asks of somebody whom it
@@ -324,26 +348,4 @@ fn push_busy<A: Allocator + Copy, B: Allocator>(
         }
     }
     Ok(())
-}
-
-/// Whether a fact that came or went concerns a query so.
-fn any_concerns_for<A: Allocator, B: Allocator>(
-    query: &Query<B>,
-    whom: Whom,
-    changes: &Changes<A>,
-) -> bool
-    ensures { result ≡ (any_by (concerns_for whom query.now) changes.now.came || any_by (concerns_for whom query.now) changes.now.went) }
-{
-    any_by(query, whom, changes.came()) || any_by(query, whom, changes.went())
-}
-
-fn any_by<B: Allocator>(query: &Query<B>, whom: Whom, facts: &[FactKey]) -> bool
-    ensures { result ≡ any_by (concerns_for whom query.now) facts.now }
-{
-    for fact in facts {
-        if concerns_for(query, whom, fact.id()) {
-            return true;
-        }
-    }
-    false
 }

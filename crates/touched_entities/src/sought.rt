@@ -3,11 +3,10 @@
 ghost use Rattle.std.specs.Prelude.{◌≡◌};
 ghost use Rattle.touched_entities.specs.Leaning.{is_sought};
 
-use crate::whom::{Whom, concerns_for};
 use ecs_id::Id;
 use ecs_model::FactKey;
 use query_check::Query;
-use query_concerns::{concerns, is_idle, lacks, links_others};
+use query_concerns::{concerns, concerns_below, concerns_others, is_idle, lacks, links_others};
 use std::alloc::Allocator;
 
 /// Who is looked for among those that hold a pair with an entity.
@@ -33,7 +32,7 @@ pub(crate) fn is_sought<B: Allocator>(
 {
     match sought {
         Sought::Moving => concerns(query, id) && !lacks(query, ids),
-        Sought::Below => concerns_for(query, Whom::Beyond, id),
+        Sought::Below => concerns_below(query, id) || concerns_others(query, id),
         Sought::Linked(went) => links_others(query, id) && !is_idle(query, ids, *went, id),
     }
 }

@@ -9,10 +9,7 @@ use Rattle.touched_entities.proofs.moving.linked.Goals as goal
 
 pub returns-then-bonds : goal.returns-then-bonds
 returns-then-bonds g c =
-    let q = c.args.query.now in
-    let changed = c.args.changes.now in
-    let gathered = c.in_ok-push_entities.ensures ∙ (λ i. c.new-linked.ensures i ++ entities_of (concerns_others q) changed) in
-    linked_if_tied q c.args.world.now.state changed c.push_entities.new.found.items gathered (sym (ap (λ b. b.tied) c.requires.bonds) ∙ c.if-bonds.true)
+    linked_if_tied c.args.query.now c.args.world.now.state c.args.changes.now c.args.others.items c.requires.others (sym (ap (λ b. b.tied) c.requires.bonds) ∙ c.if-bonds.true)
 
 pub returns : goal.returns
 returns g c =
