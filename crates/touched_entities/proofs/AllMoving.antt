@@ -177,5 +177,5 @@ gathered_more p ks i d initial old new b e lt was is same now =
     let one : List ℕ = if b then e ∷ [] else [] in
     let front = entities_by p (take i ks) in
     let more : entities_by p (take (i + 1) ks) ≡ front ++ (if p k.1 then k.0 ∷ [] else []) =
-        ap (map (λ (k : Key). k.0)) (filter_more passes ks i d lt) ∙ map-append (λ (k : Key). k.0) (filter passes (take i ks)) (cond (p k.1) (k ∷ []) []) ∙ ap (λ ys. front ++ ys) (picked (p k.1) k) in
+    ap (map (λ (k : Key). k.0)) (filter_more passes ks i d lt) ∙ map-append (λ (k : Key). k.0) (filter passes (take i ks)) (cond (p k.1) (k ∷ []) []) ∙ ap (λ ys. front ++ ys) (picked (p k.1) k) in
     now ∙ ap (λ ys. ys ++ one) was ∙ append_assoc initial front one ∙ (λ j. initial ++ (front ++ (if is j then same j ∷ [] else []))) ∙ ap (λ ys. initial ++ ys) (sym more)

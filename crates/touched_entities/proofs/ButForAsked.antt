@@ -1,8 +1,8 @@
 -- Of those that may have moved, ids tell who is in the rows, but for those who have to be asked.
-use Rattle.std.specs.Prelude.{◌≡◌, ◌↔◌, ◌⊎◌, ℕ, ◌==◌, true, false, not, List, filter}
+use Rattle.std.specs.Prelude.{◌≡◌, ◌≤◌, ◌↔◌, ◌⊎◌, ℕ, suc, Bool, ◌==◌, true, false, cond, not, List, [], ◌∷◌, filter, length}
 use Rattle.std.specs.List.{Contains, list_any}
 use Rattle.std.specs.List.Sorted.{IsStrictlyIncreasing}
-use Rattle.std.proofs.Common.{sym, ap, subst, ◌∙◌, inl, inr}
+use Rattle.std.proofs.Common.{arith, sym, ap, subst, ◌∙◌, inl, inr}
 use Rattle.std.proofs.lemmas.Bool.{and_from, and_parts, cases_Bool}
 use Rattle.std.proofs.lemmas.List.Kept.{IsStrictlyIncreasing-filter}
 use Rattle.ecs_model.specs.Command.{Changed}
@@ -18,7 +18,7 @@ use Rattle.query_concerns.specs.OwnIds.{lacks, meets}
 use Rattle.query_concerns.proofs.Lacking.{lacking_match_nothing}
 use Rattle.query_concerns.proofs.Meeting.{meeting_match}
 use Rattle.touched_entities.specs.Before.{view_before}
-use Rattle.touched_entities.specs.Moving.{TellsMoved, is_open, is_sure}
+use Rattle.touched_entities.specs.Moving.{AreFew, TellsMoved, is_open, is_sure, most_moving}
 use Rattle.touched_entities.proofs.AllTouched.{listed_lives}
 
 -- who lives is listed
@@ -59,3 +59,20 @@ module _ (v : WorldState) (changed : Changed) (q : Query) (sound : IsSound q) (e
           sure_match = λ e h. let both = and_parts _ _ (sure_at e h).1 in meeting_match (view_of v) q sound e (listed v e (and_parts _ _ both.0).0) both.1;
           covered = covers;
         }
+
+-- those of some that pass a test are no more than they
+no_more : {X : Type 0} (p : X → Bool) (xs : List X) → length (filter p xs) ≤ length xs
+no_more p [] = omega arith
+no_more p (x ∷ xs) = by (p x) (no_more p xs)
+  where
+    by : (b : Bool) → length (filter p xs) ≤ length xs → length (cond b (x ∷ filter p xs) (filter p xs)) ≤ suc (length xs)
+    by true few = omega (arith, few)
+    by false few = omega (arith, few)
+
+-- where all are few, so are those of them who are sure, and those who are asked
+pub few_moved : (p q : ℕ → Bool) (es all sure asked : List ℕ) → all ≡ es → sure ≡ filter p es → asked ≡ filter q es → length es ≤ most_moving → AreFew all sure asked
+few_moved p q es all sure asked are_all are_sure are_open few = record {
+  all_few = subst (λ (xs : List ℕ). length xs ≤ most_moving) (sym are_all) few;
+  sure_few = subst (λ (xs : List ℕ). length xs ≤ most_moving) (sym are_sure) (omega (arith, no_more p es, few));
+  asked_few = subst (λ (xs : List ℕ). length xs ≤ most_moving) (sym are_open) (omega (arith, no_more q es, few));
+}

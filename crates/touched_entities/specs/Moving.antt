@@ -1,5 +1,5 @@
 -- Who may move in or out of a query's rows by a command, and what is told of them but for those who have to be asked.
-use Rattle.std.specs.Prelude.{◌≡◌, ◌⊎◌, ◌↔◌, ℕ, Bool, true, false, not, ◌&&◌, ◌||◌, List, ◌++◌, filter, flat_map, map}
+use Rattle.std.specs.Prelude.{◌≡◌, ◌≤◌, ◌⊎◌, ◌↔◌, ℕ, Bool, true, false, not, ◌&&◌, ◌||◌, List, ◌++◌, filter, flat_map, length, map}
 use Rattle.std.specs.List.{Contains, list_any}
 use Rattle.std.specs.List.Sorted.{IsStrictlyIncreasing}
 use Rattle.ecs_id.specs.Id.{Id}
@@ -101,3 +101,13 @@ module _ (q : Query) (w : WorldState) where
     pub asked_live : (e : ℕ) → Contains asked e → Contains (entities w) e
     pub sure_match : (e : ℕ) → Contains sure e → Contains (matching (view_of w) q) e
     pub covered : (e : ℕ) → Contains all e → Contains (matching (view_of w) q) e → Contains sure e ⊎ Contains asked e
+
+-- so many are told at most
+abbrev pub most_moving : ℕ
+most_moving = 64
+
+-- whether few are told: of all who may move, of those who are in the rows for sure, and of those who are to be asked
+pub record AreFew (all sure asked : List ℕ) : Type 0 where
+  pub all_few : length all ≤ most_moving
+  pub sure_few : length sure ≤ most_moving
+  pub asked_few : length asked ≤ most_moving

@@ -7,7 +7,7 @@ ghost use Rattle.query_meaning.specs.Sound.{IsSound};
 ghost use Rattle.touched_entities.specs.Bonds.{bonds_of};
 ghost use Rattle.query_concerns.specs.Concerns.{concerns};
 ghost use Rattle.query_concerns.specs.Others.{concerns_below, concerns_others};
-ghost use Rattle.touched_entities.specs.Moving.{AreLinked, AreMoving, AreTargets, TellsMoved, any_concerns_others, busy_among, entities_by, entities_of, is_followed, is_open, is_sure, may_be_this};
+ghost use Rattle.touched_entities.specs.Moving.{AreFew, AreLinked, AreMoving, AreTargets, TellsMoved, any_concerns_others, busy_among, entities_by, entities_of, is_followed, is_open, is_sure, may_be_this};
 ghost use Rattle.watch_meaning.specs.Since.{IsAfter};
 
 use crate::Bonds;
@@ -35,7 +35,7 @@ pub struct Moved<A: Allocator> {
 /// Who may have moved in or out of a query's rows by a command. All others are in them or out of them as before.
 ///
 /// None, where that can't be told: of a query that isn't anchored, where a fact concerns others than its entity and the query is neither tied nor linked, or where
-/// too many may have moved. Takes time in what has changed, and for each that may have moved. Fails where memory is refused.
+/// more than 64 may have moved. Takes time in what has changed, and for each that may have moved. Fails where memory is refused.
 pub fn who_may_have_moved<A: Allocator + Copy, B: Allocator>(
     alloc: A,
     world: &World<A>,
@@ -47,6 +47,7 @@ pub fn who_may_have_moved<A: Allocator + Copy, B: Allocator>(
     requires after { IsAfter world.now.state changes.now }
     requires sound { IsSound query.now }
     ensures told { IfOk result (λ found. IfSome found (λ moved. TellsMoved query.now world.now.state changes.now moved.all.items moved.sure.items moved.asked.items)) }
+    ensures few { IfOk result (λ found. IfSome found (λ moved. AreFew moved.all.items moved.sure.items moved.asked.items)) }
     ensures unknown { is_followed query.now changes.now ≡ false → IfOk result (λ found. found ≡ None) }
 {
     world.keeps();

@@ -1,9 +1,8 @@
 use Rattle.std.specs.Prelude.{List, ◌++◌}
 use Rattle.std.proofs.Common.{sym, ap, subst, ◌∙◌}
 use Rattle.ecs_model.specs.World.{Key}
-use Rattle.query_concerns.specs.Others.{concerns_others}
 use Rattle.touched_entities.specs.Leaning.{Adds, IsClosed, linked_with, links_busily}
-use Rattle.touched_entities.specs.Moving.{busy_among, entities_of, targets_by}
+use Rattle.touched_entities.specs.Moving.{busy_among, targets_by}
 use Rattle.touched_entities.proofs.AllMoving.{all_linked, linked_if_tied}
 use Rattle.touched_entities.proofs.moving.linked.Goals as goal
 

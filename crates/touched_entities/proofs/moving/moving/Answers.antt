@@ -1,4 +1,4 @@
-use Rattle.std.specs.Prelude.{◌≡◌, ◌↔◌, ℕ, List, ◌++◌, [], length}
+use Rattle.std.specs.Prelude.{◌≡◌, ◌↔◌, ℕ, List, ◌++◌, length}
 use Rattle.std.specs.List.{Contains}
 use Rattle.std.proofs.Common.{arith, subst, ◌∙◌}
 use Rattle.query_concerns.specs.Concerns.{concerns}

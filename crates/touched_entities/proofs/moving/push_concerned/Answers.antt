@@ -1,4 +1,4 @@
-use Rattle.std.proofs.Common.{ap, sym, ◌∙◌}
+use Rattle.std.proofs.Common.{ap, ◌∙◌}
 use Rattle.ecs_model.specs.World.{Key}
 use Rattle.query_concerns.specs.Concerns.{concerns}
 use Rattle.query_concerns.specs.Others.{concerns_below, concerns_others}
@@ -19,9 +19,9 @@ loop-fact-preserved g c =
     let inv = c.loop-fact.invariant in
     record {
       own = gathered_more (concerns q) ks at k c.args.own.now.items c.loop-fact.own.items c.push_if.new.found.items now.anyone c.entity-entity.result lt inv.own
-        ((λ j. (of j).anyone) ∙ ap (concerns q) id) entity c.in_ok-push_if.ensures;
+          ((λ j. (of j).anyone) ∙ ap (concerns q) id) entity c.in_ok-push_if.ensures;
       others = gathered_more (concerns_others q) ks at k c.args.others.now.items c.loop-fact.others.items c.push_if-in-loop-fact.new.found.items now.others c.entity-entity.result lt inv.others
-        ((λ j. (of j).others) ∙ ap (concerns_others q) id) entity c.in_ok-push_if-2.ensures;
+          ((λ j. (of j).others) ∙ ap (concerns_others q) id) entity c.in_ok-push_if-2.ensures;
       below = gathered_more (concerns_below q) ks at k c.args.below.now.items c.loop-fact.below.items c.push_if-in-loop-fact-2.new.found.items now.below c.entity-entity.result lt inv.below
-        ((λ j. (of j).below) ∙ ap (concerns_below q) id) entity c.in_ok-push_if-3.ensures;
+          ((λ j. (of j).below) ∙ ap (concerns_below q) id) entity c.in_ok-push_if-3.ensures;
     }

@@ -16,7 +16,7 @@ returns g c =
     let roots = c.put_in_order.new.indexes.items in
     let are_roots = subst (λ (es : List ℕ). (e : ℕ) → Contains roots e ↔ Contains es e) c.requires.below c.put_in_order.ensures.same in
     let below : HasAllBelow (λ ids. concerns_beyond q) w (entities_of (concerns_below q) changed) c.push_all_below.new.found.items =
-        λ x e h reached. c.in_ok-push_all_below.ensures c.if-not-branch.false x e ((are_roots x).1 h) reached in
+    λ x e h reached. c.in_ok-push_all_below.ensures c.if-not-branch.false x e ((are_roots x).1 h) reached in
     let linked = subst (λ (o : Option Items). IfSome o (λ linked. AreLinked q w changed linked.items)) c.in-Some.is c.in_ok-targets.ensures in
     let start : List ℕ = c.in-Some.targets.items in
     all_targets q w changed start c.push_all_below.new.found.items _ c.put_in_order-2.new.indexes.items

@@ -1,9 +1,9 @@
-use Rattle.std.specs.Prelude.{◌≡◌, ◌++◌, IfSome, Option, filter}
+use Rattle.std.specs.Prelude.{◌≡◌, ◌++◌, IfSome, Option, filter, length}
 use Rattle.std.specs.List.Sorted.{IsStrictlyIncreasing}
-use Rattle.std.proofs.Common.{subst, sym, ◌∙◌}
+use Rattle.std.proofs.Common.{ap, arith, subst, sym, ◌∙◌}
 use Rattle.short_list.specs.Items.{Items}
 use Rattle.touched_entities.specs.Moving.{AreMoving, is_open, is_sure}
-use Rattle.touched_entities.proofs.ButForAsked.{told_moved}
+use Rattle.touched_entities.proofs.ButForAsked.{few_moved, told_moved}
 use Rattle.touched_entities.proofs.Followed.{stay_put}
 use Rattle.touched_entities.proofs.moving.who_may_have_moved.Goals as goal
 
@@ -22,3 +22,14 @@ returns-clause-told g c =
     c.in-Some.all.items c.push_by_ids.new.sure.items c.push_by_ids.new.asked.items same
     (c.in_ok-push_by_ids.ensures.sure ∙ (λ i. c.new-sure.ensures i ++ filter (is_sure q w) es))
     (c.in_ok-push_by_ids.ensures.asked ∙ (λ i. c.new-asked.ensures i ++ filter (is_open q w) es))
+
+-- they are no more than are told
+pub returns-clause-few : goal.returns-clause-few
+returns-clause-few g c =
+    let w = c.args.world.now.state in
+    let q = c.args.query.now in
+    let es = c.as_slice.result.now in
+    few_moved (is_sure q w) (is_open q w) es c.in-Some.all.items c.push_by_ids.new.sure.items c.push_by_ids.new.asked.items (sym c.as_slice.ensures)
+    (c.in_ok-push_by_ids.ensures.sure ∙ (λ i. c.new-sure.ensures i ++ filter (is_sure q w) es))
+    (c.in_ok-push_by_ids.ensures.asked ∙ (λ i. c.new-asked.ensures i ++ filter (is_open q w) es))
+    (omega (arith, ap length c.as_slice.ensures, c.len.ensures, c.if-len-gt-MOST.false))
