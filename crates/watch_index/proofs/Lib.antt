@@ -1,5 +1,6 @@
+mod Blocks
 mod Entering
 mod Gathered
-mod Increasing
 mod Led
+mod Listing
 mod Marked

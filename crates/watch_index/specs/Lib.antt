@@ -1,5 +1,6 @@
 pub mod Occasions
 pub mod SameOccasion
 pub mod Marks
+pub mod Words
 pub mod Listed
 pub mod Laws

@@ -18,8 +18,9 @@ use std::marker::Model;
 
 /// For each thing that may happen, the numbers of the stored queries that look out for it.
 ///
-/// `enter` and `leave` take time in the things that a stored query looks out for, and in the numbers of each list for their moves alone. `led` takes
-/// time in what has happened and in the numbers that it answers, whatever else is stored. `leave` takes no memory.
+/// `enter` and `leave` take time in the things that a stored query looks out for, and at most one move for each 64
+/// numbers of a list that go side by side. `led` takes time in what has happened and in the numbers that it answers,
+/// whatever else is stored. `leave` takes no memory.
 #[derive(Drop)]
 pub struct WatchIndex<A: Allocator = Global> {
     lists: Lists<A>,

@@ -23,6 +23,7 @@ mod marks;
 mod numbers;
 mod occasion;
 mod wanting;
+mod words;
 
 pub use gathering::Happened;
 pub use index::WatchIndex;

@@ -78,9 +78,7 @@ pub fn push_list<A: Allocator + Copy>(
 {
     if let Some(list) = lists.get(occasion) {
         let alloc = *lists.allocator();
-        let (front, rest) = list.as_slices();
-        numbers.extend_from_slice(alloc, front)?;
-        numbers.extend_from_slice(alloc, rest)?;
+        list.push_to(alloc, numbers)?;
     }
     Ok(())
 }

@@ -1,27 +1,29 @@
 //! The numbers of the stored queries that look out for one thing.
 ghost use Rattle.std.specs.Prelude.{◌≡◌, ◌==◌, ◌∷◌, ◌++◌, [], ℕ, true, cond, IfOk, IsTrue, OnErr, OnOk, ◌↔◌, length};
-ghost use Rattle.std.specs.List.Sorted.{IsStrictlyIncreasing};
 ghost use Rattle.watch_index.specs.Listed.{Loses, has};
 
+use crate::words::{Word, find, push_all};
+use short_list::ShortNumbers;
 use std::alloc::{AllocError, Allocator};
-use std::collections::VecDeque;
 use std::marker::Model;
 
-/// Numbers in ascending order, each once. What is taken out moves those behind it or those before it, whichever are fewer.
+/// Numbers in ascending order, each once, as the bits of words. These move only where one comes, or goes with its last
+/// number.
 #[derive(Drop)]
 pub struct Numbers<A: Allocator> {
-    items: VecDeque<u64, A>,
+    // None is empty, and their blocks rise.
+    words: Vec<Word, A>,
 }
 
 impl<A: Allocator> Model for Numbers<A> {
     ghost use Rattle.std.specs.Prelude.{List, ℕ};
-    ghost use Rattle.std.specs.List.Sorted.{IsStrictlyIncreasing};
+    ghost use Rattle.watch_index.specs.Words.{AreWords, numbers_in};
 
     ghost Value = { List ℕ };
 
-    ghost view = { λ n. n.items.items };
+    ghost view = { λ n. numbers_in n.words.items };
 
-    ghost invariant = { λ n. IsStrictlyIncreasing n.items.items };
+    ghost invariant = { λ n. AreWords n.words.items };
 }
 
 impl<A: Allocator> Numbers<A> {
@@ -29,22 +31,15 @@ impl<A: Allocator> Numbers<A> {
     pub fn one(alloc: A, number: u64) -> Result<Self, AllocError>
         ensures { IfOk result (λ numbers. numbers ≡ number ∷ []) }
     {
-        let mut items = VecDeque::new(alloc);
-        items.push_back(number)?;
-        Ok(Numbers { items })
-    }
-
-    /// Them in two parts, the second of which is mostly empty.
-    pub fn as_slices(&self) -> (&[u64], &[u64])
-        ensures { result.0.now ++ result.1.now ≡ self.now }
-    {
-        self.items.as_slices()
+        let mut words = Vec::with_capacity(alloc, 1)?;
+        words.push(Word::one(number))?;
+        Ok(Numbers { words })
     }
 
     pub fn is_empty(&self) -> bool
         ensures { IsTrue result ↔ (length self.now ≡ 0) }
     {
-        self.items.is_empty()
+        self.words.is_empty()
     }
 
     /// Puts a number in its place, unless it is there.
@@ -52,10 +47,14 @@ impl<A: Allocator> Numbers<A> {
         ensures inserted { OnOk result ((n : ℕ) → has self.new n ≡ cond (number == n) true (has self.old n)) }
         ensures refused { OnErr result (self.new ≡ self.old) }
     {
-        match self.items.binary_search(&number) {
-            Ok(_) => Ok(()),
+        match find(self.words.as_slice(), number / 64) {
+            Ok(place) => {
+                let word = self.words[place];
+                self.words[place] = word.with(number);
+                Ok(())
+            }
             Err(place) => {
-                self.items.insert(place, number)?;
+                self.words.insert(place, Word::one(number))?;
                 Ok(())
             }
         }
@@ -65,8 +64,23 @@ impl<A: Allocator> Numbers<A> {
     pub fn remove(&mut self, number: u64)
         ensures { Loses self.old self.new number }
     {
-        if let Ok(place) = self.items.binary_search(&number) {
-            self.items.remove(place);
+        if let Ok(place) = find(self.words.as_slice(), number / 64) {
+            let word = self.words[place];
+            let left = word.without(number);
+            if left.is_empty() {
+                self.words.remove(place);
+            } else {
+                self.words[place] = left;
+            }
         }
+    }
+}
+
+impl<A: Allocator + Copy> Numbers<A> {
+    /// Adds them to a list.
+    pub fn push_to(&self, alloc: A, numbers: &mut ShortNumbers<A>) -> Result<(), AllocError>
+        ensures { OnOk result (numbers.new.items ≡ numbers.old.items ++ self.now) }
+    {
+        push_all(self.words.as_slice(), alloc, numbers)
     }
 }

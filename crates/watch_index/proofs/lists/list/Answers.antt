@@ -6,7 +6,7 @@ use Rattle.watch_index.specs.declared.occasion.Occasion.{Occasion}
 use Rattle.watch_index.specs.SameOccasion.{occasion_eq}
 use Rattle.watch_index.specs.Listed.{has}
 use Rattle.watch_index.proofs.Entering.{Adds-one, Same-one, on_err}
-use Rattle.watch_index.proofs.Increasing.{one_has}
+use Rattle.watch_index.proofs.Blocks.{one_has}
 use Rattle.watch_index.proofs.lists.list.Goals as goal
 
 pub returns-in-Some-clause-listed : goal.returns-in-Some-clause-listed
