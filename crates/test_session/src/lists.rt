@@ -110,7 +110,6 @@ fn listed_rows(
 ) -> Result<(), Fail>
     requires { IsUpToDateAt session.now name.now }
 {
-    session.keeps();
     let mut tables = Vec::new(alloc);
     session.kept_tables(name, &mut tables)?;
     let kept = session.kept_query(name)?;
