@@ -38,7 +38,7 @@ enum GameError {
     Schema(#[from] SchemaError),
     #[error(transparent)]
     Session(#[from] SessionError),
-    #[error("no query: {0:?}")]
+    #[error("no query: {0}")]
     Query(#[from] QueryFault),
     #[error("out of memory")]
     Memory(#[from(alloc)] AllocError),
