@@ -1,6 +1,5 @@
 mod Current
 mod Given
-mod Permuted
 mod Pulled
 mod Running
 mod Shortest
