@@ -1,5 +1,5 @@
 -- Lines that begin with one of the words that most lines begin with, before a space.
-use Rattle.std.proofs.Common.{◌≡◌, ℕ, suc, ◌≤◌, List, [], ◌∷◌, drop, get_or, length, refl, sym, ap, ◌∙◌, arith}
+use Rattle.std.proofs.Common.{◌≡◌, ℕ, ◌≤◌, List, [], ◌∷◌, drop, get_or, length, sym, ap, ◌∙◌, arith}
 use Rattle.ecs_model.specs.Orders.{AddTo, MakeEntity, RemoveFrom}
 use Rattle.ecs_model.specs.Text.{words}
 use Rattle.ecs_model.specs.Script.{Obey, fact_line, forms, nothing_more, one_word, set_line}

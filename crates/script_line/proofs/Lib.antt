@@ -6,3 +6,4 @@ mod Fronts
 mod Digits
 mod Stops
 mod Named
+mod Close

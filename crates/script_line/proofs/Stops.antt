@@ -17,7 +17,7 @@ use Rattle.script_line.proofs.Named.{begins_not}
 abbrev pub TakesNoBlank : (ℕ → Bool) → Type 0
 TakesNoBlank p = (b : ℕ) → is_blank b ≡ true → p b ≡ false
 
-true_is_no_false : true ≡ false → ⊥
+pub true_is_no_false : true ≡ false → ⊥
 true_is_no_false h = absurd (cc)
 
 -- a byte that passes is no blank

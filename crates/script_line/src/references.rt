@@ -1,5 +1,5 @@
 //! Entities and ids as lines name them.
-ghost use Rattle.std.specs.Prelude.{◌≡◌, option_map, false};
+ghost use Rattle.std.specs.Prelude.{◌≡◌, IfSome, Some, option_map, false};
 ghost use Rattle.std.specs.List.{list_any, position_or_len};
 ghost use Rattle.ecs_model.specs.Text.{trim_front};
 ghost use Rattle.ecs_model.specs.Script.{handle_of, id_and_rest, pair_and_rest, pair_in, reference_of};
@@ -125,7 +125,44 @@ pub(crate) fn id_and_rest(text: &str) -> Option<(IdReference<'_>, &str)>
 }
 
 /// Reads a pair behind its `(`, and what stands behind its `)`: nothing, or a blank first.
+// Most pairs have no blanks.
+#[inline(always)]
 fn pair_and_rest(text: &str) -> Option<(IdReference<'_>, &str)>
+    ensures { option_map seen_id_and_rest result ≡ pair_and_rest text.now }
+{
+    match close_pair_and_rest(text) {
+        Some(read) => Some(read),
+        None => any_pair_and_rest(text),
+    }
+}
+
+/// Reads a pair without blanks behind its `(`, and what stands behind its `)`. None where there is no such pair: it may be one with blanks.
+// The text is gone over once.
+#[inline(always)]
+fn close_pair_and_rest(text: &str) -> Option<(IdReference<'_>, &str)>
+    ensures { IfSome result (λ read. Some (seen_id_and_rest read) ≡ pair_and_rest text.now) }
+{
+    let (relationship, behind) = text.split_at(reference_len(text.as_bytes()));
+    let behind = behind.strip_prefix(',')?;
+    let (target, behind) = behind.split_at(reference_len(behind.as_bytes()));
+    let rest = behind.strip_prefix(')')?;
+    if !is_apart(rest) {
+        return None;
+    }
+    let relationship = whole_reference(relationship)?;
+    let target = whole_reference(target)?;
+    Some((
+        IdReference::Pair {
+            relationship,
+            target,
+        },
+        rest,
+    ))
+}
+
+/// Reads a pair behind its `(`, and what stands behind its `)`, whether there are blanks in it or not.
+#[inline(never)]
+fn any_pair_and_rest(text: &str) -> Option<(IdReference<'_>, &str)>
     ensures { option_map seen_id_and_rest result ≡ pair_and_rest text.now }
 {
     let (inside, rest) = text.split_once(')')?;
