@@ -20,6 +20,7 @@ use std::alloc::{AllocError, Allocator, Global};
 use std::hash::RandomState;
 use std::process::Abort;
 use std::test::Fail;
+use whole_rows::laws::rising_queries_start;
 use world_facts::WorldFacts;
 use world_query::laws::{
     asked_queries_have_terms, facts_count_alike, planned_queries_stay_within_their_probes,
@@ -48,6 +49,7 @@ fn probes_of(alloc: Global, world: &World, query: Query, most: usize) -> Result<
     ensures { IfOk result (λ probes. (s : Shown) → s.world ≡ world.now → ListsTables s → (j : ℕ) → is_leading (entry_at query j) ≡ true → probes ≤ length (entries query) * slice_index (table_counts (reading_of s) query) j) }
 {
     world.keeps();
+    rising_queries_start();
     asked_queries_have_terms();
     facts_count_alike();
     planned_queries_stay_within_their_probes();

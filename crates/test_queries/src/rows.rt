@@ -1,11 +1,13 @@
 //! Rows one at a time, compared with the rows of a query as they print.
 
+use crate::commands::{component, name_all, set};
 use crate::diamond::{D, IS_A, make_diamond};
 use crate::kept::tables_in;
 use crate::lines::{expect_rows, write_entity, write_fact, write_value};
-use crate::worked::first_at;
+use crate::worked::{add_all, first_at};
 use crate::worlds::new_world;
 use ecs_id::Id;
+use ecs_model::built_ins::{DONT_INHERIT, INHERIT, ON_INSTANTIATE, PREFAB};
 use ecs_model::faults::CommandError;
 use ecs_world::World;
 use query_check::Query;
@@ -226,4 +228,87 @@ fn rows_come_in_a_world_that_has_outgrown_their_room(rt: HostRuntime) -> Result<
     drop(query);
     drop(world);
     Ok(())
+}
+
+const WEIGHT: u32 = 64;
+
+const HOLDS: u32 = 65;
+
+const BOX: u32 = 66;
+
+/// A pair has the values of its target's type, as its relationship has none.
+const BOX_ROWS: [(&str, &str); 2] = [
+    (
+        "(Holds,Weight)",
+        "row $this=Box [(Holds,Weight)@Box=7]\nrows 1\n",
+    ),
+    (
+        "[none] (Holds,Weight)",
+        "row $this=Box [(Holds,Weight)@Box]\nrows 1\n",
+    ),
+];
+
+fn make_box(alloc: Global, world: &mut World) -> Result<(), CommandError> {
+    component(world, alloc, "Weight")?;
+    name_all(world, &["Holds", "Box"])?;
+    set(world, BOX, Id::pair(HOLDS, WEIGHT), 7)
+}
+
+const MASS: u32 = 64;
+
+const HULL: u32 = 65;
+
+const FUEL: u32 = 66;
+
+const SHIP: u32 = 67;
+
+const ONE: u32 = 68;
+
+/// An instance has a copy of a mass, is read to have the hull of its base, and has none of its fuel.
+const SHIP_ROWS: [(&str, &str); 4] = [
+    ("Mass", "row $this=One [Mass@One=9]\nrows 1\n"),
+    ("Hull", "row $this=One [Hull@Ship]\nrows 1\n"),
+    ("Hull(self)", "rows 0\n"),
+    ("Fuel", "rows 0\n"),
+];
+
+fn make_ship(alloc: Global, world: &mut World) -> Result<(), CommandError> {
+    component(world, alloc, "Mass")?;
+    name_all(world, &["Hull"])?;
+    component(world, alloc, "Fuel")?;
+    name_all(world, &["Ship", "One"])?;
+    let traits = [
+        (HULL, ON_INSTANTIATE, Some(INHERIT)),
+        (FUEL, ON_INSTANTIATE, Some(DONT_INHERIT)),
+        (SHIP, PREFAB, None),
+        (SHIP, HULL, None),
+    ];
+    add_all(world, &traits)?;
+    set(world, SHIP, Id::plain(MASS), 9)?;
+    set(world, SHIP, Id::plain(FUEL), 5)?;
+    add_all(world, &[(ONE, IS_A, Some(SHIP))])
+}
+
+fn compare_all(rt: &impl Abort, alloc: Global, world: &World, rows: &[(&str, &str)]) {
+    for (text, printed) in rows {
+        compare_rows(rt, alloc, world, text, printed);
+    }
+}
+
+#[test]
+fn pairs_show_the_values_of_their_type(rt: HostRuntime) -> Result<(), Fail> {
+    let mut world = new_world(&rt)?;
+    let made = make_box(rt.alloc(), &mut world);
+    compare_all(&rt, rt.alloc(), &world, &BOX_ROWS);
+    drop(world);
+    Ok(made?)
+}
+
+#[test]
+fn instances_show_copies_and_what_they_read(rt: HostRuntime) -> Result<(), Fail> {
+    let mut world = new_world(&rt)?;
+    let made = make_ship(rt.alloc(), &mut world);
+    compare_all(&rt, rt.alloc(), &world, &SHIP_ROWS);
+    drop(world);
+    Ok(made?)
 }

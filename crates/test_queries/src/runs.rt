@@ -19,6 +19,7 @@ use row_fields::ShownFact;
 use std::alloc::{AllocError, Allocator, Global};
 use std::process::Abort;
 use std::test::Fail;
+use whole_rows::laws::rising_queries_start;
 use whole_rows::{Row, RowFrames, RowRun};
 use world_facts::WorldFacts;
 use world_query::{plan_in, read_query};
@@ -113,6 +114,7 @@ fn run_frames<F: Facts>(
     requires covers { (F.reading facts.now).size ≤ frames.frames.size }
     requires rises { GoesUpWithoutCycles (F.reading facts.now).view (plan.now).query }
 {
+    rising_queries_start();
     room.refuse_after(0);
     let mut run = RowRun::start(frames, facts);
     assert!(rt; row.fits(&run));

@@ -1,6 +1,6 @@
 //! Worked rows: a world, a query, and what it prints. Runs and all orders of a plan are tried with each.
 //!
-//! They are those of `tests/rows` on diamonds, parents, variables, groups and alternatives, and one more with sibling groups that find somebody.
+//! They are those of `tests/rows` on values, diamonds, parents, variables, groups and alternatives, and one more with sibling groups that find somebody.
 //! Of the components there `Position` is one here too, so its fields show values, and tags stand in place of the others.
 
 ghost use Rattle.std.specs.Prelude.{IfOk};
@@ -15,7 +15,7 @@ use ecs_id::{EntityId, Id, LAST_INDEX};
 use ecs_model::faults::{CommandError, Refusal};
 use ecs_schema::{Kind, Schema};
 use ecs_world::World;
-use std::alloc::Global;
+use std::alloc::{AllocError, Global};
 use std::process::Abort;
 use std::test::Fail;
 
@@ -92,7 +92,28 @@ const DIAMOND: Base = Base {
 /// Whom a query finds by two groups that each have a variable of their own.
 const SIBLINGS: &str = "Position, !{ (Likes,$x), Planet($x) }, !{ (ChildOf,$x), Position($x) }";
 
-const ROWS: [WorkedRow; 24] = [
+const ROWS: [WorkedRow; 27] = [
+    WorkedRow {
+        base: SKY,
+        more: &[],
+        query: "Position",
+        answer: "row $this=Sun [Position@Sun=0,0]\nrow $this=Earth [Position@Earth=10,-3]\nrows 2\n",
+        plans: 1,
+    },
+    WorkedRow {
+        base: SKY,
+        more: &[],
+        query: "Position(up)",
+        answer: "row $this=Earth [Position@Sun=0,0]\nrow $this=Moon [Position@Earth=10,-3]\nrows 2\n",
+        plans: 1,
+    },
+    WorkedRow {
+        base: SKY,
+        more: &[],
+        query: "Position(up ChildOf)",
+        answer: "row $this=Earth [Position@Sun=0,0]\nrow $this=Moon [Position@Earth=10,-3]\nrows 2\n",
+        plans: 1,
+    },
     WorkedRow {
         base: SKY,
         more: &[],
@@ -346,4 +367,53 @@ fn worked_rows_come_in_each_way_and_are_given_up_anywhere(rt: HostRuntime) -> Re
         done?;
     }
     Ok(())
+}
+
+/// How many terms a query has that names one thing again and again.
+const MANY: usize = 32;
+
+/// A text that begins, goes on in the same way for each further term, and ends.
+fn repeated(alloc: Global, first: &str, next: &str, last: &str) -> Result<String, AllocError> {
+    let mut text = String::new(alloc);
+    text.push_str(first)?;
+    for _ in 1..MANY {
+        text.push_str(next)?;
+    }
+    text.push_str(last)?;
+    Ok(text)
+}
+
+/// A field comes for each of many equal terms.
+fn compare_many_terms(rt: &impl Abort, alloc: Global, world: &World) {
+    let text = repeated(alloc, "Planet", ", Planet", "").expect(rt, "out of memory");
+    let first = "row $this=Earth [Planet@Earth]";
+    let row = repeated(alloc, first, " [Planet@Earth]", "\nrows 1\n").expect(rt, "out of memory");
+    compare_rows(rt, alloc, world, text.as_str(), row.as_str());
+    drop(row);
+    drop(text);
+}
+
+/// The sun goes, and with it the earth and the moon; two others come to their indexes.
+fn replace_sun(world: &mut World) -> Result<(), CommandError> {
+    drop(world.delete(first_at(SUN))?);
+    drop(world.fresh()?);
+    drop(world.fresh()?);
+    Ok(())
+}
+
+fn try_sky(rt: &impl Abort, alloc: Global, world: &mut World) -> Result<(), Fail> {
+    make_component(alloc, world, SKY.component)?;
+    fill(world, &ROWS[0])?;
+    compare_many_terms(rt, alloc, world);
+    replace_sun(world)?;
+    compare_rows(rt, alloc, world, "Position", "rows 0\n");
+    Ok(())
+}
+
+#[test]
+fn rows_of_many_terms_come_and_those_of_the_dead_do_not(rt: HostRuntime) -> Result<(), Fail> {
+    let mut world = new_world(&rt)?;
+    let done = try_sky(&rt, rt.alloc(), &mut world);
+    drop(world);
+    done
 }

@@ -1,17 +1,13 @@
 -- The laws give the bound of the run's limit, and no probe is made beyond that.
 use Rattle.std.proofs.Common.{◌≡◌, ◌≤◌, ◌*◌, List, ap, arith, length, subst, sym, ◌∙◌}
 use Rattle.std.specs.Prelude.{slice_index}
-use Rattle.std.specs.List.{All}
 use Rattle.ecs_model.specs.rows.View.{view_of}
 use Rattle.ecs_world.specs.Standing.{Standing}
 use Rattle.plan_steps.specs.Actions.{instructions_of}
-use Rattle.plan_steps.specs.Made.{IsStepAcyclic}
 use Rattle.plan_exec.specs.Room.{Room}
 use Rattle.plan_steps.specs.TableProbes.{JudgesTables}
 use Rattle.plan_steps.specs.Tables.{by_tables}
 use Rattle.plan_steps.specs.Width.{width_of}
-use Rattle.plan_steps.proofs.StepUps.{steps_go_up}
-use Rattle.plan_steps.proofs.TabledSteps.{tabled_acyclic}
 use Rattle.query_meaning.specs.Variables.{entries}
 use Rattle.query_meaning.specs.declared.steps.Step.{Step}
 use Rattle.query_model.specs.Query.{Query}
@@ -30,8 +26,7 @@ start-run-requires-clause-acyclic c =
     let able =
     as_answerable (view_of c.args.world.now.state) view c.args.query q (ap (λ (x : Standing). view_of x.state) c.new-facts.ensures) (c.query.ensures ∙ c.in_ok-plan.ensures.query)
     (answerable c.args.world.now.state c.args.query c.keeps.ensures c.requires.asked) in
-    subst (λ (frames : Room). All (IsStepAcyclic view.ids) frames.steps) (sym c.in_ok-frames.ensures.room)
-    (tabled_acyclic view.ids (instructions_of q c.steps.result.now) (steps_go_up view q able.rises c.steps.result.now))
+    c.rising_queries_start.ensures.acyclic view q c.steps.result.now c.in_ok-frames.frames.steps (ap (λ (r : Room). r.steps) c.in_ok-frames.ensures.room) able.rises
 
 pub returns : goal.returns
 returns c = λ s same lists j leading.
