@@ -9,6 +9,7 @@ use crate::rows::compare_rows;
 use crate::worked::{add_all, first_at};
 use crate::worlds::new_world;
 use ecs_id::Id;
+use ecs_model::built_ins::{DISABLED, PREFAB};
 use ecs_model::faults::CommandError;
 use ecs_schema::{Kind, Schema};
 use ecs_world::World;
@@ -19,10 +20,6 @@ use std::alloc::{AllocError, Global};
 use std::process::Abort;
 use std::test::Fail;
 use world_query::{read_query, write_rows};
-
-const PREFAB: u32 = 4;
-
-const DISABLED: u32 = 5;
 
 const POSITION: u32 = 64;
 

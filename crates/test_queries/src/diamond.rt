@@ -5,6 +5,7 @@ ghost use Rattle.world_query.specs.Answerable.{IsAnswerable, IsAsked};
 
 use crate::worked::add_all;
 use crate::worlds::new_world;
+pub(crate) use ecs_model::built_ins::IS_A;
 use ecs_model::faults::CommandError;
 use ecs_world::World;
 use query_check::Query;
@@ -14,8 +15,6 @@ use std::alloc::Global;
 use std::process::Abort;
 use std::test::Fail;
 use world_query::{read_query, write_planned_rows};
-
-pub(crate) const IS_A: u32 = 2;
 
 const A: u32 = 64;
 

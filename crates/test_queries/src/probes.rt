@@ -10,6 +10,7 @@ ghost use Rattle.world_query.specs.Answerable.{IsAsked, table_counts};
 
 use crate::runs::run_text;
 use crate::worked::first_at;
+use crate::worlds::new_world;
 use ecs_id::Id;
 use ecs_model::faults::CommandError;
 use ecs_world::World;
@@ -17,7 +18,6 @@ use plan_exec::{Frames, Run};
 use plan_steps::Facts;
 use query_check::Query;
 use std::alloc::{AllocError, Allocator, Global};
-use std::hash::RandomState;
 use std::process::Abort;
 use std::test::Fail;
 use whole_rows::laws::rising_queries_start;
@@ -121,7 +121,7 @@ fn expect_few(rt: &impl Abort, alloc: Global, world: &mut World) -> Result<(), F
 
 #[test]
 fn a_run_looks_no_further_than_it_is_asked(rt: HostRuntime) -> Result<(), Fail> {
-    let mut world = World::new(rt.alloc(), RandomState::new(&rt)?)?;
+    let mut world = new_world(&rt)?;
     let done = expect_few(&rt, rt.alloc(), &mut world);
     drop(world);
     done

@@ -6,6 +6,7 @@ use crate::worlds::new_world;
 use component_index::{Part, Pattern};
 use ecs_id::Id;
 use ecs_model::FactKey;
+use ecs_model::built_ins::IS_A;
 use ecs_model::faults::{CommandError, Refusal};
 use ecs_world::{Changes, World};
 use rel_travel::{Graph, Scratch};
@@ -14,8 +15,6 @@ use std::process::Abort;
 use std::test::Fail;
 
 const CHILD_OF: u32 = 1;
-
-const IS_A: u32 = 2;
 
 /// The component, and then the entities in the order of `NAMES`.
 const POSITION: u32 = 64;

@@ -1,7 +1,7 @@
 //! Scripts: worked ones that show most of what a session does, and some that have each call in them.
 use crate::lines::{Line, Named};
 use ecs_model::built_ins::{
-    DONT_INHERIT, EXCLUSIVE, INHERIT, IS_A, ON_INSTANTIATE, SYMMETRIC, WITH,
+    DISABLED, DONT_INHERIT, EXCLUSIVE, INHERIT, IS_A, ON_INSTANTIATE, PREFAB, SYMMETRIC, WITH,
 };
 use ecs_model::watches::StoredKind;
 use ecs_schema::Kind;
@@ -29,10 +29,6 @@ const SILENT: Output = Output {
 };
 
 const CHILD_OF: u32 = 1;
-
-const PREFAB: u32 = 4;
-
-const DISABLED: u32 = 5;
 
 pub(crate) const POSITION: u32 = 64;
 

@@ -6,12 +6,11 @@ ghost use Rattle.test_store.specs.Closed.{live_in, row_at};
 
 use crate::list_graph::{CHILD_OF, ListGraph, empty_rows, give};
 use ecs_id::Id;
+use ecs_model::built_ins::IS_A;
 use rel_travel::{Graph, Scratch, depth, known_depth};
 use std::alloc::{AllocError, Global};
 use std::process::Abort;
 use std::test::Fail;
-
-const IS_A: u32 = 2;
 
 /// The depth of an entity. The graph leads down, and has the entity.
 fn depth_of(graph: &ListGraph, index: u32, scratch: &mut Scratch) -> Option<u32> {
