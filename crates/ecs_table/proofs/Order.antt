@@ -13,13 +13,13 @@ use Rattle.ecs_table.specs.Archetype.{Ascend, index_in}
 apart_of : (x y : Id) (o : Ordering) → o ≢ Equal → id_cmp x y ≡ o → x ≢ y
 apart_of x y o ne e p = ne (sym e ∙ ap (id_cmp x) (sym p) ∙ id_cmp_itself x)
 
-lt_suc : (m n : ℕ) → nat_lt (1 + m) (suc n) ≡ nat_lt m n
+pub lt_suc : (m n : ℕ) → nat_lt (1 + m) (suc n) ≡ nat_lt m n
 lt_suc m n = grind (arith, nat_tests)
 
-lt_zero : (n : ℕ) → nat_lt 0 (suc n) ≡ true
+pub lt_zero : (n : ℕ) → nat_lt 0 (suc n) ≡ true
 lt_zero n = grind (arith, nat_tests)
 
-position_cons : {X : Type 0} (p : X → Bool) (x : X) (xs : List X) → position p (x ∷ xs) ≡ cond (p x) (Some 0) (option_map suc (position p xs))
+pub position_cons : {X : Type 0} (p : X → Bool) (x : X) (xs : List X) → position p (x ∷ xs) ≡ cond (p x) (Some 0) (option_map suc (position p xs))
 position_cons p x xs = by (p x)
   where
     next : (b : Bool) (l : ℕ) → cond b (Some (1 + l)) None ≡ option_map suc (cond b (Some l) None)
@@ -31,11 +31,11 @@ position_cons p x xs = by (p x)
     by true = ap (λ t. cond t (Some 0) None) (lt_zero (length xs))
     by false = ap (λ t. cond t (Some (1 + prefix_len (λ y. not (p y)) xs)) None) (lt_suc (prefix_len (λ y. not (p y)) xs) (length xs)) ∙ next _ _
 
-index_cons : (x i : Id) (ids : List Id) → index_in (x ∷ ids) i ≡ cond (id_eq x i) (Some 0) (option_map suc (index_in ids i))
+pub index_cons : (x i : Id) (ids : List Id) → index_in (x ∷ ids) i ≡ cond (id_eq x i) (Some 0) (option_map suc (index_in ids i))
 unfolding index_in
 index_cons x i ids = position_cons (λ j. id_eq j i) x ids
 
-index_nil : (i : Id) → index_in [] i ≡ None
+pub index_nil : (i : Id) → index_in [] i ≡ None
 unfolding index_in
 index_nil i = refl
 

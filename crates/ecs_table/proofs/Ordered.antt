@@ -1,5 +1,5 @@
 -- Tables whose ids strictly rise.
-use Rattle.std.proofs.Common.{◌≡◌, ℕ, ◌+◌, Bool, ◌&&◌, ◌||◌, suc, not, List, [], ◌∷◌, length, map, cond, nat_lt, refl, sym, ap, ◌∙◌, true, false, arith, get_or, inl, inr, Option, Some, None, option_map, unwrap_or, IsTrue}
+use Rattle.std.proofs.Common.{◌≡◌, ℕ, Bool, ◌&&◌, ◌||◌, suc, List, [], ◌∷◌, length, map, cond, nat_lt, refl, sym, ap, ◌∙◌, true, false, arith, get_or, inl, inr, Option, Some, None, option_map, unwrap_or, IsTrue}
 use Rattle.std.proofs.lemmas.Option.{none-some}
 use Rattle.std.proofs.lemmas.Bool.{cases_lt, false≢true}
 use Rattle.std.proofs.lemmas.Bool.Decides.{nat_tests}
@@ -8,20 +8,21 @@ use Rattle.std.specs.declared.cmp.Ordering.{Ordering}
 use Rattle.std.specs.declared.cmp.Ordering.TheVariants.{Less, Equal, Greater}
 use Rattle.std.specs.FinMap.{find, put, is_sorted}
 use Rattle.std.specs.FinMap.Entries.{below_all, by_order}
-use Rattle.std.specs.List.{filter, zip, list_any, position_or_len}
+use Rattle.std.specs.List.{filter, zip, list_any}
 use Rattle.ecs_id.specs.Id.{Id, id_cmp, id_cmp_total, id_cmp_same, id_eq, id_eq_itself, id_eq_same, id_eq_turned}
 use Rattle.ecs_table.proofs.Rows.{IsListed, map_listed, size_by_place, size_kept}
 use Rattle.ecs_table.specs.Archetype.{Archetype, Cells, IsSound, Shape, byte_size, cells_of, empty_table, index_in, shape_of, size_of, value_of, with_cell, no_values}
+use Rattle.ecs_table.proofs.Order.{index_cons, index_nil}
 
-both_first : (a b : Bool) → (a && b) ≡ true → a ≡ true
+pub both_first : (a b : Bool) → (a && b) ≡ true → a ≡ true
 both_first true b h = refl
 both_first false b h = h
 
-both_second : (a b : Bool) → (a && b) ≡ true → b ≡ true
+pub both_second : (a b : Bool) → (a && b) ≡ true → b ≡ true
 both_second true b h = h
 both_second false b h = absurd (false≢true h)
 
-less : (o : Ordering) → is_lt o ≡ true → o ≡ Less
+pub less : (o : Ordering) → is_lt o ≡ true → o ≡ Less
 less Less h = refl
 less Equal h = absurd (false≢true h)
 less Greater h = absurd (false≢true h)
@@ -30,7 +31,7 @@ less Greater h = absurd (false≢true h)
 apart : (i j : Id) → is_lt (id_cmp i j) ≡ true → id_eq i j ≡ false
 apart i j h = ap is_eq (less (id_cmp i j) h)
 
-below_less : {X : Type 0} (i j : Id) (es : List (Id × X)) → id_cmp i j ≡ Less → below_all id_cmp j es ≡ true → below_all id_cmp i es ≡ true
+pub below_less : {X : Type 0} (i j : Id) (es : List (Id × X)) → id_cmp i j ≡ Less → below_all id_cmp j es ≡ true → below_all id_cmp i es ≡ true
 below_less i j [] p h = refl
 below_less i j (e ∷ es) p h =
     let here : id_cmp i e.0 ≡ Less = id_cmp_total.trans i j e.0 p (less (id_cmp j e.0) (both_first (is_lt (id_cmp j e.0)) (below_all id_cmp j es) h)) in
@@ -67,36 +68,9 @@ with_cell_put i bytes old (c ∷ cells) h e =
     ] refl e
 
 -- ---- the shape of a new table
-index_cons : (j i : Id) (ids : List Id) → index_in (j ∷ ids) i ≡ cond (id_eq j i) (Some 0) (option_map suc (index_in ids i))
-unfolding index_in
-index_cons j i ids =
-    let m = position_or_len (λ k. id_eq k i) ids in let n = length ids in
-    let at : ℕ → Option ℕ = λ k. cond (nat_lt k (suc n)) (Some k) None in
-    elim (id_eq j i) as (λ b. at (cond (not b) (1 + m) 0) ≡ cond b (Some 0) (option_map suc (cond (nat_lt m n) (Some m) None))) [
-      | true ↦
-          let yes : nat_lt 0 (suc n) ≡ true = grind (arith, nat_tests) in
-          ap (λ b. cond b (Some 0) None) yes
-      | false ↦
-          let next : 1 + m ≡ suc m = omega arith in
-          ap at next ∙ elim (cases_lt m n) [
-            | inl a ↦
-                let yes : nat_lt (suc m) (suc n) ≡ true = grind (arith, nat_tests) in
-                let here : nat_lt m n ≡ true = grind (arith, nat_tests) in
-                ap (λ b. cond b (Some (suc m)) None) yes ∙ sym (ap (λ b. option_map suc (cond b (Some m) None)) here)
-            | inr b ↦
-                let no : nat_lt (suc m) (suc n) ≡ false = grind (arith, nat_tests) in
-                let here : nat_lt m n ≡ false = grind (arith, nat_tests) in
-                ap (λ b. cond b (Some (suc m)) None) no ∙ sym (ap (λ b. option_map suc (cond b (Some m) None)) here)
-          ]
-    ]
-
-index_none : (i : Id) → index_in [] i ≡ None
-unfolding index_in
-index_none i = refl
-
 -- the size beside an id, by its place
 found_by_place : (f : Shape) (i : Id) → elim (index_in (map (λ c. c.0) f) i) [ None ↦ None | Some k ↦ Some (get_or (map (λ c. c.1) f) k 0) ] ≡ find id_cmp i f
-found_by_place [] i = ap (λ o. elim o [ None ↦ None | Some k ↦ Some (get_or [] k 0) ]) (index_none i)
+found_by_place [] i = ap (λ o. elim o [ None ↦ None | Some k ↦ Some (get_or [] k 0) ]) (index_nil i)
 found_by_place (c ∷ f) i =
     let ids = map (λ c. c.0) f in let sizes = map (λ c. c.1) f in
     let read : Option ℕ → Option ℕ = λ o. elim o [ None ↦ None | Some k ↦ Some (get_or (c.1 ∷ sizes) k 0) ] in

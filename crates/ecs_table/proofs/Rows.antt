@@ -18,6 +18,7 @@ use Rattle.ecs_table.proofs.Soundness.{columns_paired, sizes_each, sizes_paired,
 use Rattle.ecs_table.proofs.Stored.{size_found, value_found}
 use Rattle.raw_column.specs.Contents.{with_item, with_zero, without_item}
 use Rattle.raw_column.specs.Places.{Values}
+pub use Rattle.raw_column.proofs.RowLemmas.{map_twice as map_fused}
 use Rattle.ecs_table.specs.Archetype.{Archetype, Cells, HaveEqualSizes, HaveOneSize, IsSound, byte_size, carried, cells_of, entity_at, fitting, ids_with_data, index_in, moved_into, no_entity, row_of, shape_of, size_of, value_of, values_at, with_cell, with_item_in, with_last, with_moved, with_row, with_value, without_row, zero_cells, no_values}
 
 -- where an id stands among others
@@ -125,10 +126,6 @@ size_absent t i e = ap (λ o. elim o [ None ↦ None | Some j ↦ Some (values_a
 same_branches : {X : Type 0} (b : Bool) (x : X) → cond b x x ≡ x
 same_branches true x = refl
 same_branches false x = refl
-
-pub map_fused : {X Y Z : Type 0} (f : Y → Z) (g : X → Y) (xs : List X) → map f (map g xs) ≡ map (λ x. f (g x)) xs
-map_fused f g [] = refl
-map_fused f g (x ∷ xs) = ap (λ l. f (g x) ∷ l) (map_fused f g xs)
 
 -- functions that agree on the ids of a list
 pub map_listed : {X : Type 0} (f g : Id → X) (ids : List Id) → ((i : Id) → IsListed i ids → f i ≡ g i) → map f ids ≡ map g ids

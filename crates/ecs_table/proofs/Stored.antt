@@ -1,9 +1,9 @@
 -- A table's lists beside each other, after each call.
-use Rattle.std.proofs.Common.{◌≡◌, ℕ, zero, suc, ◌+◌, ◌-◌, ◌≤◌, ◌<◌, List, [], ◌∷◌, ◌++◌, length, map, replicate, slice_index, refl, sym, ap, subst, ◌∙◌, arith, nat_lt, slice_get, Some, None, vec_len, vec_capacity}
+use Rattle.std.proofs.Common.{◌≡◌, ℕ, zero, suc, ◌+◌, ◌-◌, ◌≤◌, ◌<◌, List, [], ◌∷◌, ◌++◌, length, map, replicate, slice_index, refl, sym, ap, subst, ◌∙◌, arith, nat_lt, slice_get, Some, None}
 use Rattle.std.specs.List.{concat, filter, zip, swap_remove}
-use Rattle.std.specs.declared.vec.Vec.{Vec}
 use Rattle.ecs_id.specs.Id.{Id}
 use Rattle.ecs_id.specs.declared.EntityId.{EntityId}
+use Rattle.ecs_table.specs.EntityList.{Entities}
 use Rattle.raw_column.specs.Contents.{Contents, column_at, empty_contents, with_item_in as with_item_at, with_zeros, without_row as without_block_row}
 use Rattle.raw_column.specs.Places.{Values}
 use Rattle.ecs_table.proofs.Soundness.{columns_paired, sound_empty, sound_with_item, sound_with_moved, sound_with_room, sound_with_row, sound_without_row}
@@ -55,67 +55,66 @@ tags_small zero k lt = absurd (omega (arith, lt))
 tags_small (suc n) zero lt = omega arith
 tags_small (suc n) (suc k) lt = tags_small n k (omega (arith, lt))
 
-module _ {Z : Type 0} where
-  pub stored_paired : (ids ds : List Id) (b : Contents) (es : Vec EntityId Z) (more : ℕ) → IsStored ids ds b es more → length ds ≡ length b.columns
-  stored_paired ids ds b es more h = columns_paired (seen ids ds b es.items more) h.sound
+pub stored_paired : (ids ds : List Id) (b : Contents) (es : Entities) (more : ℕ) → IsStored ids ds b es more → length ds ≡ length b.columns
+stored_paired ids ds b es more h = columns_paired (seen ids ds b es.items more) h.sound
 
-  pub stored_row : (ids ds : List Id) (b new : Contents) (es es2 : Vec EntityId Z) (more : ℕ) (e : EntityId) → IsStored ids ds b es more → 0 < more → new ≡ with_zeros b
-      → es2.items ≡ es.items ++ e ∷ [] → vec_len es2 ≡ vec_len es + 1 → vec_capacity es ≤ vec_capacity es2 → length es2.items ≡ length es.items + 1 → IsStored ids ds new es2 (more - 1)
-  stored_row ids ds b new es es2 more e h some p q longer grown long = record {
-    sound = subst IsSound (sym (seen_row ids ds b new es.items es2.items more e p q)) (sound_with_row (seen ids ds b es.items more) e h.sound);
-    rows = ap (λ (v : Contents). v.len) p ∙ ap (λ n. n + 1) h.rows ∙ sym long;
-    places = let room : new.room ≡ b.room - 1 = ap (λ (v : Contents). v.room) p in omega (arith, h.places);
-    room = omega (arith, h.room);
-  }
+pub stored_row : (ids ds : List Id) (b new : Contents) (es es2 : Entities) (more : ℕ) (e : EntityId) → IsStored ids ds b es more → 0 < more → new ≡ with_zeros b
+    → es2.items ≡ es.items ++ e ∷ [] → es2.capacity ≡ es.capacity → length es2.items ≡ length es.items + 1 → IsStored ids ds new es2 (more - 1)
+stored_row ids ds b new es es2 more e h some p q grown long = record {
+  sound = subst IsSound (sym (seen_row ids ds b new es.items es2.items more e p q)) (sound_with_row (seen ids ds b es.items more) e h.sound);
+  rows = ap (λ (v : Contents). v.len) p ∙ ap (λ n. n + 1) h.rows ∙ sym long;
+  places = let room : new.room ≡ b.room - 1 = ap (λ (v : Contents). v.room) p in omega (arith, h.places);
+  room = omega (arith, h.room);
+}
 
-  pub stored_without : (ids ds : List Id) (b new : Contents) (es es2 : Vec EntityId Z) (more row : ℕ) → row < length es.items → IsStored ids ds b es more → new ≡ without_block_row b row
-      → es2.items ≡ swap_remove es.items row no_entity → vec_len es2 + 1 ≡ vec_len es → vec_capacity es2 ≡ vec_capacity es → length es2.items ≡ length es.items - 1 → IsStored ids ds new es2 (more + 1)
-  stored_without ids ds b new es es2 more row lt h p q shorter same long = record {
-    sound = subst IsSound (sym (seen_without ids ds b new es.items es2.items more row p q)) (sound_without_row (seen ids ds b es.items more) row lt h.sound);
-    rows = ap (λ (v : Contents). v.len) p ∙ ap (λ n. n - 1) h.rows ∙ sym long;
-    places = let room : new.room ≡ b.room + 1 = ap (λ (v : Contents). v.room) p in omega (arith, h.places);
-    room = omega (arith, h.room);
-  }
+pub stored_without : (ids ds : List Id) (b new : Contents) (es es2 : Entities) (more row : ℕ) → row < length es.items → IsStored ids ds b es more → new ≡ without_block_row b row
+    → es2.items ≡ swap_remove es.items row no_entity → es2.capacity ≡ es.capacity → length es2.items ≡ length es.items - 1 → IsStored ids ds new es2 (more + 1)
+stored_without ids ds b new es es2 more row lt h p q same long = record {
+  sound = subst IsSound (sym (seen_without ids ds b new es.items es2.items more row p q)) (sound_without_row (seen ids ds b es.items more) row lt h.sound);
+  rows = ap (λ (v : Contents). v.len) p ∙ ap (λ n. n - 1) h.rows ∙ sym long;
+  places = let room : new.room ≡ b.room + 1 = ap (λ (v : Contents). v.room) p in omega (arith, h.places);
+  room = omega (arith, h.room);
+}
 
-  pub stored_moved : (s : Archetype) (row : ℕ) (ids ds : List Id) (b new : Contents) (es es2 : Vec EntityId Z) (more : ℕ) → IsStored ids ds b es more → 0 < more
-      → new.columns ≡ map (λ p. with_last (value_of s row p.0) p.1) (zip ds b.columns) → new.len ≡ b.len + 1 → new.room ≡ b.room - 1
-      → es2.items ≡ es.items ++ entity_at s row ∷ [] → vec_len es2 ≡ vec_len es + 1 → vec_capacity es ≤ vec_capacity es2 → length es2.items ≡ length es.items + 1 → IsStored ids ds new es2 (more - 1)
-  stored_moved s row ids ds b new es es2 more h some p len room q longer grown long = record {
-    sound = subst IsSound (sym (seen_moved s row ids ds b new es.items es2.items more p q)) (sound_with_moved (seen ids ds b es.items more) s row h.sound);
-    rows = len ∙ ap (λ n. n + 1) h.rows ∙ sym long;
-    places = omega (arith, h.places);
-    room = omega (arith, h.room);
-  }
+pub stored_moved : (s : Archetype) (row : ℕ) (ids ds : List Id) (b new : Contents) (es es2 : Entities) (more : ℕ) → IsStored ids ds b es more → 0 < more
+    → new.columns ≡ map (λ p. with_last (value_of s row p.0) p.1) (zip ds b.columns) → new.len ≡ b.len + 1 → new.room ≡ b.room - 1
+    → es2.items ≡ es.items ++ entity_at s row ∷ [] → es2.capacity ≡ es.capacity → length es2.items ≡ length es.items + 1 → IsStored ids ds new es2 (more - 1)
+stored_moved s row ids ds b new es es2 more h some p len room q grown long = record {
+  sound = subst IsSound (sym (seen_moved s row ids ds b new es.items es2.items more p q)) (sound_with_moved (seen ids ds b es.items more) s row h.sound);
+  rows = len ∙ ap (λ n. n + 1) h.rows ∙ sym long;
+  places = omega (arith, h.places);
+  room = omega (arith, h.room);
+}
 
-  -- the same values, with other room
-  pub stored_reserve : (ids ds : List Id) (b new : Contents) (es es2 : Vec EntityId Z) (had more : ℕ) → IsStored ids ds b es had → new ≡ record b { room = new.room } → es2.items ≡ es.items
-      → more ≤ new.room → vec_len es2 + more ≤ vec_capacity es2 → IsStored ids ds new es2 more
-  stored_reserve ids ds b new es es2 had more h same whole enough room = record {
-    sound =
-        let t = seen ids ds b es.items had in
-        let u : record t { room = more } ≡ seen ids ds new es2.items more = same_table ids ids ds ds b.columns new.columns es.items es2.items more (λ _. ids) (λ _. ds) (sym (ap (λ (v : Contents). v.columns) same)) (sym whole) in
-        subst IsSound u (sound_with_room t more h.sound);
-    rows = ap (λ (v : Contents). v.len) same ∙ h.rows ∙ ap length (sym whole);
-    places = enough;
-    room = room;
-  }
+-- the same values, with other room
+pub stored_reserve : (ids ds : List Id) (b new : Contents) (es es2 : Entities) (had more : ℕ) → IsStored ids ds b es had → new ≡ record b { room = new.room } → es2.items ≡ es.items
+    → more ≤ new.room → length es2.items + more ≤ es2.capacity → IsStored ids ds new es2 more
+stored_reserve ids ds b new es es2 had more h same whole enough room = record {
+  sound =
+      let t = seen ids ds b es.items had in
+      let u : record t { room = more } ≡ seen ids ds new es2.items more = same_table ids ids ds ds b.columns new.columns es.items es2.items more (λ _. ids) (λ _. ds) (sym (ap (λ (v : Contents). v.columns) same)) (sym whole) in
+      subst IsSound u (sound_with_room t more h.sound);
+  rows = ap (λ (v : Contents). v.len) same ∙ h.rows ∙ ap length (sym whole);
+  places = enough;
+  room = room;
+}
 
-  pub stored_new : (ids all ds : List Id) (ss : List ℕ) (b : Contents) (es : Vec EntityId Z) → length ids ≡ length ss → ((k : ℕ) → k < length ss → slice_index ss k ≤ 64) → all ≡ ids → ds ≡ ids_with_data ids ss
-      → b ≡ empty_contents (filter (λ s. nat_lt 0 s) ss) → es.items ≡ [] → vec_len es ≡ 0 → IsStored all ds b es 0
-  stored_new ids all ds ss b es e small p q r none len = record {
-    sound = subst IsSound (sym (seen_new ids all ds ss b es.items p q r none)) (sound_empty ids ss e small);
-    rows = ap (λ (v : Contents). v.len) r ∙ ap length (sym none);
-    places = omega arith;
-    room = omega arith;
-  }
+pub stored_new : (ids all ds : List Id) (ss : List ℕ) (b : Contents) (es : Entities) → length ids ≡ length ss → ((k : ℕ) → k < length ss → slice_index ss k ≤ 64) → all ≡ ids → ds ≡ ids_with_data ids ss
+    → b ≡ empty_contents (filter (λ s. nat_lt 0 s) ss) → es.items ≡ [] → IsStored all ds b es 0
+stored_new ids all ds ss b es e small p q r none = record {
+  sound = subst IsSound (sym (seen_new ids all ds ss b es.items p q r none)) (sound_empty ids ss e small);
+  rows = ap (λ (v : Contents). v.len) r ∙ ap length (sym none);
+  places = omega arith;
+  room = let empty : length es.items ≡ 0 = ap length none in omega (arith, empty);
+}
 
-  pub stored_item : (ids ds : List Id) (b new : Contents) (es : Vec EntityId Z) (more k row : ℕ) (bytes : List ℕ) → IsStored ids ds b es more → k < length b.columns → row < length es.items
-      → length bytes ≡ (column_at b k).size → new ≡ with_item_at b k row bytes → IsStored ids ds new es more
-  stored_item ids ds b new es more k row bytes h lt within long e =
-      let t = seen ids ds b es.items more in
-      record {
-        sound = subst (λ (v : Contents). IsSound (seen ids ds v es.items more)) (sym e) (sound_with_item t row k bytes lt within long h.sound);
-        rows = ap (λ (v : Contents). v.len) e ∙ h.rows;
-        places = let room : new.room ≡ b.room = ap (λ (v : Contents). v.room) e in omega (arith, h.places);
-        room = h.room;
-      }
+pub stored_item : (ids ds : List Id) (b new : Contents) (es : Entities) (more k row : ℕ) (bytes : List ℕ) → IsStored ids ds b es more → k < length b.columns → row < length es.items
+    → length bytes ≡ (column_at b k).size → new ≡ with_item_at b k row bytes → IsStored ids ds new es more
+stored_item ids ds b new es more k row bytes h lt within long e =
+    let t = seen ids ds b es.items more in
+    record {
+      sound = subst (λ (v : Contents). IsSound (seen ids ds v es.items more)) (sym e) (sound_with_item t row k bytes lt within long h.sound);
+      rows = ap (λ (v : Contents). v.len) e ∙ h.rows;
+      places = let room : new.room ≡ b.room = ap (λ (v : Contents). v.room) e in omega (arith, h.places);
+      room = h.room;
+    }

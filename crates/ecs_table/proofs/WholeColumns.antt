@@ -1,19 +1,19 @@
 -- All rows of one id are written at once.
-use Rattle.std.proofs.Common.{◌≡◌, ◌≢◌, ℕ, suc, ◌*◌, ◌+◌, ◌≤◌, ◌<◌, Bool, List, [], ◌∷◌, length, length-drop, length-take-le, map, take, drop, cond, refl, sym, ap, subst, ◌∙◌, true, false, arith, get_or, slice_get, slice_set, get_or-set_other, inl, inr, Option, Some, None, IfSome, option_map, unwrap_or}
+use Rattle.std.proofs.Common.{◌≡◌, ◌≢◌, ℕ, suc, ◌*◌, ◌≤◌, ◌<◌, Bool, List, [], length, length-drop, length-take-le, map, take, drop, cond, refl, sym, ap, subst, ◌∙◌, true, false, arith, get_or, slice_get, slice_set, get_or-set_other, inl, inr, Option, Some, None, IfSome, option_map, unwrap_or}
 use Rattle.std.proofs.lemmas.Grind.{get_or-set_at}
 use Rattle.std.proofs.lemmas.Option.{slice_get-get_or, none-some, same_Some}
 use Rattle.std.proofs.lemmas.Bool.{cases_lt, cases_eq}
-use Rattle.std.specs.declared.vec.Vec.{Vec}
 use native.Mathlib.Nat.{suc-mul, mul-le-mul_right}
 use Rattle.ecs_id.specs.Id.{Id, id_eq, id_eq_same, id_eq_itself}
 use Rattle.ecs_id.specs.declared.EntityId.{EntityId}
+use Rattle.ecs_table.specs.EntityList.{Entities}
 use Rattle.raw_column.specs.Contents.{Contents, column_at, with_bytes, with_column as with_column_at}
 use Rattle.raw_column.specs.Places.{Values, rows}
 use Rattle.raw_column.proofs.PlaceLemmas.{length_rows, rows_get}
 use Rattle.ecs_table.proofs.Rows.{data_says, index_cases, index_says, map_fused, row_past, size_absent, size_kept, value_absent}
 use Rattle.ecs_table.proofs.Soundness.{shaped_changed, sizes_set}
 use Rattle.ecs_table.proofs.Stored.{size_found, value_found}
-use Rattle.ecs_table.specs.Archetype.{Archetype, Cells, IsShaped, IsSound, IsStored, byte_size, cells_of, index_in, no_values, row_of, seen, shape_of, size_of, value_of, values_at, with_bytes_in, with_cell, with_column}
+use Rattle.ecs_table.specs.Archetype.{Archetype, Cells, IsShaped, IsSound, IsStored, cells_of, index_in, no_values, row_of, seen, shape_of, size_of, value_of, values_at, with_bytes_in, with_cell, with_column}
 
 -- the bytes of a value for each row
 shaped_bytes : (n : ℕ) (bytes : List ℕ) (v : Values) → length bytes ≡ n * v.size → IsShaped n (with_bytes v n bytes)
@@ -37,7 +37,7 @@ sound_with_bytes t k bytes lt long h =
       shaped = shaped_changed (length t.entities) k t.columns v lt (shaped_bytes (length t.entities) bytes (values_at t.columns k) long) h.shaped;
     }
 
-pub stored_bytes : {Z : Type 0} (ids ds : List Id) (b new : Contents) (es : Vec EntityId Z) (more k : ℕ) (bytes : List ℕ) → IsStored ids ds b es more → k < length b.columns
+pub stored_bytes : (ids ds : List Id) (b new : Contents) (es : Entities) (more k : ℕ) (bytes : List ℕ) → IsStored ids ds b es more → k < length b.columns
     → length bytes ≡ length es.items * (column_at b k).size → new ≡ with_column_at b k bytes → IsStored ids ds new es more
 stored_bytes ids ds b new es more k bytes h lt long e =
     let t = seen ids ds b es.items more in
@@ -50,7 +50,7 @@ stored_bytes ids ds b new es more k bytes h lt long e =
       room = h.room;
     }
 
-pub seen_bytes : {Z : Type 0} (ids ds : List Id) (b : Contents) (es : Vec EntityId Z) (more k : ℕ) (i : Id) (bytes : List ℕ) → IsStored ids ds b es more → index_in ds i ≡ Some k
+pub seen_bytes : (ids ds : List Id) (b : Contents) (es : Entities) (more k : ℕ) (i : Id) (bytes : List ℕ) → IsStored ids ds b es more → index_in ds i ≡ Some k
     → seen ids ds (with_column_at b k bytes) es.items more ≡ with_column (seen ids ds b es.items more) i bytes
 seen_bytes ids ds b es more k i bytes h found =
     let t = seen ids ds b es.items more in

@@ -3,10 +3,9 @@ use Rattle.std.specs.Prelude.{◌≡◌, ℕ, ◌+◌, ◌-◌, ◌<◌, ◌≤�
 use Rattle.std.specs.List.{concat, filter, zip, position, swap_remove}
 use Rattle.std.specs.declared.cmp.Ordering.TheVariants.{Less}
 use Rattle.std.specs.FinMap.{find}
-use Rattle.std.specs.Prelude.{vec_len, vec_capacity}
-use Rattle.std.specs.declared.vec.Vec.{Vec}
 use Rattle.ecs_id.specs.Id.{Id, id_cmp, id_eq}
 use Rattle.ecs_id.specs.declared.EntityId.{EntityId}
+use Rattle.ecs_table.specs.EntityList.{Entities}
 pub use Rattle.raw_column.specs.Contents.{no_values}
 use Rattle.raw_column.specs.Contents.{Contents, with_bytes, with_item, with_zero, without_item}
 use Rattle.raw_column.specs.Places.{Values}
@@ -174,8 +173,8 @@ abbrev pub Ascend : List Id → Type 0
 Ascend ids = (j k : ℕ) (d : Id) → j < k → k < length ids → id_cmp (slice_index_or ids j d) (slice_index_or ids k d) ≡ Less
 
 -- how a table's lists stand beside each other
-pub record IsStored {Z : Type 0} (ids data_ids : List Id) (block : Contents) (entities : Vec EntityId Z) (more : ℕ) : Type 0 where
+pub record IsStored (ids data_ids : List Id) (block : Contents) (entities : Entities) (more : ℕ) : Type 0 where
   pub sound : IsSound (seen ids data_ids block entities.items more)
   pub rows : block.len ≡ length entities.items
   pub places : more ≤ block.room
-  pub room : vec_len entities + more ≤ vec_capacity entities
+  pub room : length entities.items + more ≤ entities.capacity

@@ -1,2 +1,3 @@
 pub mod Archetype
+pub mod EntityList
 pub mod IdList

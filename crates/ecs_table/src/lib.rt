@@ -3,6 +3,7 @@
 
 mod columns;
 mod data_ids;
+mod entity_list;
 mod id_list;
 mod table;
 

@@ -7,6 +7,7 @@ ghost use Rattle.ecs_table.specs.Archetype.{byte_size, column_of, empty_table, m
 
 use crate::columns::{ids_with_data, sizes_with_data};
 use crate::data_ids::DataIds;
+use crate::entity_list::EntityList;
 use crate::id_list::IdList;
 use ecs_id::{EntityId, Id};
 use raw_column::{Block, Memory};
@@ -25,13 +26,14 @@ const ENTITY_BYTES: usize = 8;
 /// gives it back.
 #[derive(Drop)]
 pub struct Table<A: Allocator = Global> {
+    // First what is read where tables are gone through: whether any stands in one, and its ids.
+    entities: EntityList<A>,
     ids: IdList<A>,
-    data_ids: DataIds<A>,
+    // how many more rows fit, with their values
+    room: usize,
     // a column for each id with data
     columns: Block<A>,
-    entities: Vec<EntityId, A>,
-    // how many more rows fit in both
-    room: usize,
+    data_ids: DataIds<A>,
 }
 
 impl<A: Allocator> Model for Table<A> {
@@ -57,7 +59,7 @@ impl<A: Allocator + Copy> Table<A> {
             ids: IdList::from_slice(alloc, ids)?,
             data_ids: DataIds::new(ids_with_data(alloc, ids, sizes)?),
             columns,
-            entities: Vec::new(alloc),
+            entities: EntityList::new(alloc),
             room: 0,
         })
     }
@@ -71,7 +73,7 @@ impl<A: Allocator + Copy> Table<A> {
             ids: IdList::from_slice(alloc, ids)?,
             data_ids: DataIds::new(Vec::new(alloc)),
             columns: Block::new(alloc, &[])?,
-            entities: Vec::new(alloc),
+            entities: EntityList::new(alloc),
             room,
         })
     }
@@ -155,7 +157,7 @@ impl<A: Allocator> Table<A> {
         requires { 0 < self.old.room }
         ensures { self.new ≡ with_row self.old entity }
     {
-        self.entities.push(entity).unwrap();
+        self.entities.push(entity);
         self.columns.push_zero();
         self.room -= 1;
     }
@@ -234,7 +236,7 @@ impl<A: Allocator> Table<A> {
         self.entities.swap_remove(row);
         self.columns.swap_remove(row);
         self.room += 1;
-        self.entities.get(row).copied()
+        self.entities.as_slice().get(row).copied()
     }
 
     /// Moves a row to the end of another table: the values of common ids are kept, the others are zeros.
@@ -267,7 +269,7 @@ impl<A: Allocator> Table<A> {
         ensures kept { (i : Id) (n : ℕ) (bytes : List ℕ) → size_of self.old i ≡ Some n → value_of source.now row i ≡ Some bytes → value_of self.new (length self.old.entities) i ≡ Some bytes }
         ensures zeros { (i : Id) → value_of source.now row i ≡ None → value_of self.new (length self.old.entities) i ≡ option_map (λ n. replicate n 0) (size_of self.old i) }
     {
-        self.entities.push(source.entities[row]).unwrap();
+        self.entities.push(source.entities.at(row));
         self.columns.push_zero();
         copy_values(&mut self.columns, self.data_ids.as_slice(), source, row);
         self.room -= 1;

@@ -28,7 +28,7 @@ map_all : {X Y : Type 0} (f g : X → Y) (xs : List X) → ((k : ℕ) (d : X) �
 map_all f g [] same = refl
 map_all f g (x ∷ xs) same = ap₂ (λ a b. a ∷ b) (same 0 x (omega arith)) (map_all f g xs (λ k d lt. same (suc k) d (omega arith)))
 
-map_twice : {X Y Z : Type 0} (f : Y → Z) (g : X → Y) (xs : List X) → map f (map g xs) ≡ map (λ x. f (g x)) xs
+pub map_twice : {X Y Z : Type 0} (f : Y → Z) (g : X → Y) (xs : List X) → map f (map g xs) ≡ map (λ x. f (g x)) xs
 map_twice f g [] = refl
 map_twice f g (x ∷ xs) = ap (λ l. f (g x) ∷ l) (map_twice f g xs)
 

@@ -7,7 +7,7 @@ use native.Mathlib.Nat.{mul-zero, zero-mul, add-mul, mul-le-mul_right}
 use lib.ListN.{get_or}
 use lib.Seq.{drop-drop}
 use Rattle.raw_column.specs.Places.{column_resized, over, padded, place_of, resized}
-use Rattle.raw_column.proofs.PlaceLemmas.{all_cons, drop_seam, filled_upto, length_column, length_resized, resized_more, take_seam}
+use Rattle.raw_column.proofs.PlaceLemmas.{all_cons, drop_seam, filled_upto, length_column, length_resized, resized_more, take_seam, nil_of}
 
 -- ---- what a write leaves
 module _ (k s : ℕ) (bs ws : List ℕ) (e : length ws ≡ s) (le : k + s ≤ length bs) where
@@ -231,17 +231,13 @@ length_gathered n c d ss bs le ge all =
     omega (arith, length-append rs (drop m bs), length-drop m bs, mul-le-mul_right (sum ss) ge)
 
 -- no bytes
-nothing_left : (xs : List ℕ) → length xs ≡ 0 → xs ≡ []
-nothing_left [] e = refl
-nothing_left (x ∷ xs) e = absurd (omega arith)
-
 pub resized_none : (n c d : ℕ) (ss bs : List ℕ) → n ≤ c → c ≤ d → bs ≡ [] → length bs ≡ d * sum ss → resized n c d ss bs ≡ []
 resized_none n c d ss bs le ge none all =
     let few : c * sum ss ≤ d * sum ss = mul-le-mul_right (sum ss) ge in let most : n ≤ d = omega arith in let zero_long : length bs ≡ 0 = ap length none in
-    nothing_left (resized n c d ss bs) (length_resized n c d le most ss bs (omega arith) ∙ sym all ∙ zero_long)
+    nil_of (resized n c d ss bs) (length_resized n c d le most ss bs (omega arith) ∙ sym all ∙ zero_long)
 
 pub gathered_none : (n c d : ℕ) (ss bs : List ℕ) → n ≤ d → d ≤ c → bs ≡ [] → length bs ≡ c * sum ss → resized n c d ss bs ++ drop (d * sum ss) bs ≡ []
-gathered_none n c d ss bs le ge none all = nothing_left (resized n c d ss bs ++ drop (d * sum ss) bs) (length_gathered n c d ss bs le ge all ∙ sym all ∙ ap length none)
+gathered_none n c d ss bs le ge none all = nil_of (resized n c d ss bs ++ drop (d * sum ss) bs) (length_gathered n c d ss bs le ge all ∙ sym all ∙ ap length none)
 
 -- a block that was refused has as many bytes as before
 pub length_padded : (m : ℕ) (bs : List ℕ) → length (padded m (length bs) bs) ≡ length bs

@@ -9,6 +9,7 @@ use Rattle.std.proofs.lemmas.List.Sums.{sum_by-cons}
 use Rattle.std.proofs.lemmas.Map.Keys.{IsDistinct-from_sorted}
 use Rattle.std.proofs.lemmas.Map.Made.{length-le_from_is_member}
 use Rattle.std.specs.Ordering.{nat_cmp}
+use Rattle.std.proofs.lemmas.Bool.{or_right}
 use Rattle.slab.specs.Slab as slots
 use Rattle.slab.specs.Slab.{Slab, Updates, slab_len}
 use Rattle.ecs_id.specs.declared.TableKey.{TableKey}
@@ -18,7 +19,7 @@ use Rattle.table_store.specs.Kept.{Held, IsOrder, is_held, store_of, tables_from
 use Rattle.table_store.proofs.Order.{IsRising, passed, rising_filter, serials_of, to_filter}
 use Rattle.table_store.proofs.Slots.{both, table_at-slots}
 
-nothing_at : {X : Type 0} (j : ℕ) (none : X) → slice_index_or [] j none ≡ none
+pub nothing_at : {X : Type 0} (j : ℕ) (none : X) → slice_index_or [] j none ≡ none
 nothing_at zero none = refl
 nothing_at (suc j) none = refl
 
@@ -65,10 +66,6 @@ numbers = subst IsEquivalence (λ i x y. unsigned_tied x y i) (eq_by_cmp_equiv n
 distinct : (keys : List TableKey) → IsRising keys → IsDistinct same_number (serials_of keys)
 distinct keys rise = subst (λ (e : ℕ → ℕ → Bool). IsDistinct e (serials_of keys)) (λ i x y. unsigned_tied x y i) (IsDistinct-from_sorted nat_cmp (serials_of keys) rise)
 
-either_true : (a b : Bool) → b ≡ true → (a || b) ≡ true
-either_true true b h = refl
-either_true false b h = h
-
 -- a key under which a table stands has the serial of one that is listed
 serial_listed : (k : TableKey) (es : List (TableKey × Archetype)) → is_some (option_map (λ e. e.1) (find (λ e. key_eq k e.0) es)) ≡ true → list_any (same_number k.serial) (map (λ e. e.0.serial) es) ≡ true
 serial_listed k [] h = absurd (true≢false (sym h))
@@ -78,7 +75,7 @@ serial_listed k (e ∷ es) h = by (key_eq k e.0) refl h (serial_listed k es)
         → (is_some (option_map (λ v. v.1) (find (λ v. key_eq k v.0) es)) ≡ true → list_any (same_number k.serial) (map (λ v. v.0.serial) es) ≡ true)
         → (k.serial == e.0.serial || list_any (same_number k.serial) (map (λ v. v.0.serial) es)) ≡ true
     by true t there rest = ap (λ b. b || list_any (same_number k.serial) (map (λ v. v.0.serial) es)) (both (k.slot == e.0.slot) (k.serial == e.0.serial) t).1
-    by false t there rest = either_true (k.serial == e.0.serial) _ (rest there)
+    by false t there rest = or_right (k.serial == e.0.serial) _ (rest there)
 
 module _ {Y : Type 0} (tables : Slab (Held Y)) (last : ℕ) where
   abbrev serials : List ℕ

@@ -1,26 +1,14 @@
 -- An id that is put among ids that strictly rise stands between those below it and those above.
-use Rattle.std.proofs.Common.{◌≡◌, Bool, true, false, cond, ◌&&◌, List, [], ◌∷◌, ◌++◌, ℕ, map, refl, sym, ap, ◌∙◌, true≢false}
+use Rattle.std.proofs.Common.{◌≡◌, Bool, true, false, cond, List, [], ◌∷◌, ◌++◌, ℕ, map, refl, ap, ◌∙◌}
 use Rattle.std.specs.declared.cmp.Ordering.{Ordering}
 use Rattle.std.specs.declared.cmp.Ordering.TheVariants.{Less, Equal, Greater}
 use Rattle.std.specs.Ordering.{is_lt, ordering_reverse}
 use Rattle.std.specs.List.{filter}
 use Rattle.std.specs.FinMap.{put, is_sorted}
 use Rattle.std.specs.FinMap.Entries.{below_all, by_order}
+use Rattle.ecs_table.proofs.Ordered.{both_first, both_second, less}
 use Rattle.ecs_id.specs.Id.{Id, id_cmp, id_cmp_same, id_cmp_total}
 use Rattle.table_store.specs.Store.{Shape}
-
-first : (a b : Bool) → (a && b) ≡ true → a ≡ true
-first true b h = refl
-first false b h = h
-
-second : (a b : Bool) → (a && b) ≡ true → b ≡ true
-second true b h = h
-second false b h = absurd (true≢false (sym h))
-
-is_less : (o : Ordering) → is_lt o ≡ true → o ≡ Less
-is_less Less h = refl
-is_less Equal h = absurd (true≢false (sym h))
-is_less Greater h = absurd (true≢false (sym h))
 
 kept : (p : Id × ℕ → Bool) (c : Id × ℕ) (f : Shape) → p c ≡ true → filter p (c ∷ f) ≡ c ∷ filter p f
 kept p c f e = ap (λ b. cond b (c ∷ filter p f) (filter p f)) e
@@ -35,31 +23,31 @@ turned x y o e = id_cmp_total.antisymm y x ∙ ap ordering_reverse e
 all_above : (i j : Id) (f : Shape) → id_cmp i j ≡ Less → below_all id_cmp j f ≡ true → filter (λ c. is_lt (id_cmp i c.0)) f ≡ f
 all_above i j [] p h = refl
 all_above i j (c ∷ f) p h =
-    let here : id_cmp i c.0 ≡ Less = id_cmp_total.trans i j c.0 p (is_less (id_cmp j c.0) (first (is_lt (id_cmp j c.0)) (below_all id_cmp j f) h)) in
-    kept (λ c. is_lt (id_cmp i c.0)) c f (ap is_lt here) ∙ ap (λ l. c ∷ l) (all_above i j f p (second (is_lt (id_cmp j c.0)) (below_all id_cmp j f) h))
+    let here : id_cmp i c.0 ≡ Less = id_cmp_total.trans i j c.0 p (less (id_cmp j c.0) (both_first (is_lt (id_cmp j c.0)) (below_all id_cmp j f) h)) in
+    kept (λ c. is_lt (id_cmp i c.0)) c f (ap is_lt here) ∙ ap (λ l. c ∷ l) (all_above i j f p (both_second (is_lt (id_cmp j c.0)) (below_all id_cmp j f) h))
 
 none_below : (i j : Id) (f : Shape) → id_cmp i j ≡ Less → below_all id_cmp j f ≡ true → filter (λ c. is_lt (id_cmp c.0 i)) f ≡ []
 none_below i j [] p h = refl
 none_below i j (c ∷ f) p h =
-    let here : id_cmp i c.0 ≡ Less = id_cmp_total.trans i j c.0 p (is_less (id_cmp j c.0) (first (is_lt (id_cmp j c.0)) (below_all id_cmp j f) h)) in
-    left_out (λ c. is_lt (id_cmp c.0 i)) c f (ap is_lt (turned i c.0 Less here)) ∙ none_below i j f p (second (is_lt (id_cmp j c.0)) (below_all id_cmp j f) h)
+    let here : id_cmp i c.0 ≡ Less = id_cmp_total.trans i j c.0 p (less (id_cmp j c.0) (both_first (is_lt (id_cmp j c.0)) (below_all id_cmp j f) h)) in
+    left_out (λ c. is_lt (id_cmp c.0 i)) c f (ap is_lt (turned i c.0 Less here)) ∙ none_below i j f p (both_second (is_lt (id_cmp j c.0)) (below_all id_cmp j f) h)
 
 all_above_own : (i : Id) (f : Shape) → below_all id_cmp i f ≡ true → filter (λ c. is_lt (id_cmp i c.0)) f ≡ f
 all_above_own i [] h = refl
-all_above_own i (c ∷ f) h = kept (λ c. is_lt (id_cmp i c.0)) c f (first (is_lt (id_cmp i c.0)) (below_all id_cmp i f) h) ∙ ap (λ l. c ∷ l) (all_above_own i f (second (is_lt (id_cmp i c.0)) (below_all id_cmp i f) h))
+all_above_own i (c ∷ f) h = kept (λ c. is_lt (id_cmp i c.0)) c f (both_first (is_lt (id_cmp i c.0)) (below_all id_cmp i f) h) ∙ ap (λ l. c ∷ l) (all_above_own i f (both_second (is_lt (id_cmp i c.0)) (below_all id_cmp i f) h))
 
 none_below_own : (i : Id) (f : Shape) → below_all id_cmp i f ≡ true → filter (λ c. is_lt (id_cmp c.0 i)) f ≡ []
 none_below_own i [] h = refl
 none_below_own i (c ∷ f) h =
-    let here : id_cmp i c.0 ≡ Less = is_less (id_cmp i c.0) (first (is_lt (id_cmp i c.0)) (below_all id_cmp i f) h) in
-    left_out (λ c. is_lt (id_cmp c.0 i)) c f (ap is_lt (turned i c.0 Less here)) ∙ none_below_own i f (second (is_lt (id_cmp i c.0)) (below_all id_cmp i f) h)
+    let here : id_cmp i c.0 ≡ Less = less (id_cmp i c.0) (both_first (is_lt (id_cmp i c.0)) (below_all id_cmp i f) h) in
+    left_out (λ c. is_lt (id_cmp c.0 i)) c f (ap is_lt (turned i c.0 Less here)) ∙ none_below_own i f (both_second (is_lt (id_cmp i c.0)) (below_all id_cmp i f) h)
 
 pub put_between : (i : Id) (n : ℕ) (f : Shape) → is_sorted id_cmp f ≡ true → filter (λ c. is_lt (id_cmp c.0 i)) f ++ (i, n) ∷ filter (λ c. is_lt (id_cmp i c.0)) f ≡ put id_cmp i n f
 put_between i n [] h = refl
-put_between i n (c ∷ f) h = by (id_cmp i c.0) refl (put_between i n f (second (below_all id_cmp c.0 f) (is_sorted id_cmp f) h))
+put_between i n (c ∷ f) h = by (id_cmp i c.0) refl (put_between i n f (both_second (below_all id_cmp c.0 f) (is_sorted id_cmp f) h))
   where
     below : below_all id_cmp c.0 f ≡ true
-    below = first (below_all id_cmp c.0 f) (is_sorted id_cmp f) h
+    below = both_first (below_all id_cmp c.0 f) (is_sorted id_cmp f) h
 
     by : (o : Ordering) → id_cmp i c.0 ≡ o → filter (λ c. is_lt (id_cmp c.0 i)) f ++ (i, n) ∷ filter (λ c. is_lt (id_cmp i c.0)) f ≡ put id_cmp i n f
         → filter (λ c. is_lt (id_cmp c.0 i)) (c ∷ f) ++ (i, n) ∷ filter (λ c. is_lt (id_cmp i c.0)) (c ∷ f) ≡ by_order o ((i, n) ∷ c ∷ f) ((c.0, n) ∷ f) (c ∷ put id_cmp i n f)

@@ -5,13 +5,10 @@ use Rattle.std.specs.declared.vec.Vec.{Vec}
 use Rattle.slab.specs.Slab as slots
 use Rattle.slab.specs.Slab.{Slab}
 use Rattle.ecs_id.specs.declared.TableKey.{TableKey}
-use Rattle.table_store.specs.Store.{Store, ids_at, shape_at, table_at}
+use Rattle.table_store.specs.Store.{Store, shape_at, table_at}
 use Rattle.table_store.specs.Kept.{ByIds, Held, store_of, standing, tables_from, IsKept, IsOrder, IsSlot}
 use Rattle.table_store.proofs.Slots.{none_is_some, table_at-slots}
-
-at_nil : {X : Type 0} (n : ℕ) (d : X) → slice_index_or [] n d ≡ d
-at_nil zero d = refl
-at_nil (suc n) d = refl
+use Rattle.table_store.proofs.Counting.{nothing_at}
 
 get_nil : {X : Type 0} (n : ℕ) → slice_get {X = X} [] n ≡ None
 get_nil zero = refl
@@ -27,7 +24,7 @@ module _ {Y : Type 0} (tables : Slab (Held Y)) (by_ids : ByIds Y) (by_serial : V
   s = store_of tables 0
 
   vacant : (n : ℕ) → slots.get tables n ≡ None
-  vacant n = ap (λ l. slice_index_or l n None) no_slots ∙ at_nil n None
+  vacant n = ap (λ l. slice_index_or l n None) no_slots ∙ nothing_at n None
 
   none_at : (k : TableKey) → table_at s k ≡ None
   none_at k = table_at-slots tables 0 k ∙ ap (λ o. standing o k.serial) (vacant k.slot)

@@ -10,6 +10,7 @@ use Rattle.ecs_id.specs.declared.TableKey.{TableKey}
 use Rattle.ecs_table.specs.Archetype.{Archetype, HaveEqualSizes, HaveOneSize, IsSound, with_moved, without_row}
 use Rattle.ecs_table.proofs.Rows.{equal_sizes, row_of_moved, row_past, shape_of_moved, shape_of_removed}
 use Rattle.ecs_table.proofs.Soundness.{sound_with_moved, sound_without_row}
+use Rattle.ecs_table.proofs.Ordered.{both_first}
 use Rattle.table_store.specs.declared.store.Slot.{Slot}
 use Rattle.table_store.specs.Store.{Shape, Store, changed_at, key_eq, moved_at, shape_at, shape_of, table_at}
 use Rattle.table_store.specs.Rows.{IsStored, Row, carried, filler, gap_filled, last_place, moved_rows, removed_rows, row_at, row_of, same_place, with_row_at, without_row_at}
@@ -44,10 +45,6 @@ places_apart rows p last q (Some w) v r one two = by (same_place r q) (same_plac
     by true false true h g = absurd (true≢false (g refl))
     by true false false h g = refl
     by false b c h g = refl
-
-both_first : (a b : Bool) → (a && b) ≡ true → a ≡ true
-both_first true b h = refl
-both_first false b h = h
 
 -- a place in one table is none in another
 other_table : (r q p : Place) → q.table ≢ p.table → same_place r q ≡ true → same_place r p ≡ false

@@ -18,7 +18,7 @@ serials_of keys = map (λ k. k.serial) keys
 abbrev pub IsRising : List TableKey → Type 0
 IsRising keys = IsStrictlySortedBy nat_cmp (serials_of keys)
 
-less_is : (x y : ℕ) → x < y → nat_cmp x y ≡ Less
+pub less_is : (x y : ℕ) → x < y → nat_cmp x y ≡ Less
 less_is x y h = grind (arith, nat_tests)
 
 -- what a filter has

@@ -1,15 +1,16 @@
 -- Shapes: lists of ids that strictly rise, each with a size.
-use Rattle.std.proofs.Common.{◌≡◌, ◌⊎◌, ℕ, suc, zero, ◌+◌, ◌≤◌, ◌<◌, ◌==◌, ◌&&◌, Bool, true, false, cond, List, [], ◌∷◌, Option, Some, None, IsTrue, IfSome, length, map, replicate, nat_lt, nat_le, not, slice_index, option_map, unwrap_or, slice_index_or, slice_get, refl, sym, ap, subst, ◌∙◌, true≢false, arith, inl, inr}
+use Rattle.std.proofs.Common.{◌≡◌, ◌⊎◌, ℕ, suc, zero, ◌≤◌, ◌<◌, ◌==◌, ◌&&◌, Bool, true, false, cond, List, [], ◌∷◌, Option, Some, None, IsTrue, IfSome, length, map, replicate, nat_lt, nat_le, slice_index, option_map, unwrap_or, slice_index_or, slice_get, refl, sym, ap, subst, ◌∙◌, true≢false, arith, inl, inr}
 use Rattle.std.specs.declared.cmp.Ordering.{Ordering}
 use Rattle.std.specs.declared.cmp.Ordering.TheVariants.{Less, Equal, Greater}
 use Rattle.std.specs.Ordering.{is_lt, is_eq}
 use Rattle.std.proofs.lemmas.Bool.Decides.{nat_tests, Decides-eqb}
-use Rattle.std.specs.List.{filter, zip, position, prefix_len, list_all}
+use Rattle.std.specs.List.{filter, zip, position, list_all}
 use Rattle.std.specs.FinMap.{find, put, is_sorted}
 use Rattle.std.specs.FinMap.Entries.{below_all, by_order}
 use Rattle.ecs_id.specs.Id.{Id, id_cmp, id_eq, id_eq_same, id_eq_itself, id_cmp_same, id_eq_turned}
 use Rattle.ecs_id.specs.declared.TableKey.{TableKey}
 use Rattle.ecs_table.specs.Archetype.{index_in, no_values, values_at}
+use Rattle.ecs_table.proofs.Order.{lt_zero, position_cons}
 use Rattle.table_store.specs.Store.{Shape, Store, IsStore, HasSize, shape_of, byte_size, shaped, find_in, shape_at}
 use Rattle.table_store.proofs.Slots.{one_some, none_is_some}
 use Rattle.table_store.proofs.StoreLemmas.{ids_of}
@@ -60,27 +61,9 @@ module _ {X : Type 0} where
       by false h f later = let r = later f in (suc r.0, r.1, r.2, r.3, r.4)
 
 -- the sizes in an empty table are those of its shape
-lt_suc : (m n : ℕ) → nat_lt (1 + m) (suc n) ≡ nat_lt m n
-lt_suc m n = grind (arith, nat_tests)
-
-lt_zero : (n : ℕ) → nat_lt 0 (suc n) ≡ true
-lt_zero n = grind (arith, nat_tests)
-
 no_size : (n : ℕ) → nat_lt 0 n ≡ false → n ≡ 0
 no_size zero e = refl
 no_size (suc n) e = absurd (true≢false (sym (lt_zero n) ∙ e))
-
-position_cons : {X : Type 0} (p : X → Bool) (x : X) (xs : List X) → position p (x ∷ xs) ≡ cond (p x) (Some 0) (option_map suc (position p xs))
-position_cons p x xs = by (p x)
-  where
-    next : (b : Bool) (l : ℕ) → cond b (Some (1 + l)) None ≡ option_map suc (cond b (Some l) None)
-    next true l = let e : 1 + l ≡ suc l = omega arith in ap Some e
-    next false l = refl
-
-    by : (b : Bool) → cond (nat_lt (cond (not b) (1 + prefix_len (λ y. not (p y)) xs) 0) (suc (length xs))) (Some (cond (not b) (1 + prefix_len (λ y. not (p y)) xs) 0)) None
-        ≡ cond b (Some 0) (option_map suc (cond (nat_lt (prefix_len (λ y. not (p y)) xs) (length xs)) (Some (prefix_len (λ y. not (p y)) xs)) None))
-    by true = ap (λ t. cond t (Some 0) None) (lt_zero (length xs))
-    by false = ap (λ t. cond t (Some (1 + prefix_len (λ y. not (p y)) xs)) None) (lt_suc (prefix_len (λ y. not (p y)) xs) (length xs)) ∙ next _ _
 
 -- the size by place, where a first id with its size comes before others
 abbrev sized_by : List Id → List ℕ → Id → ℕ

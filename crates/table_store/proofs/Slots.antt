@@ -3,16 +3,13 @@ use Rattle.std.proofs.Common.{◌≡◌, ◌≢◌, ℕ, suc, zero, ◌+◌, ◌
 use Rattle.std.specs.List.{find}
 use Rattle.std.proofs.lemmas.Bool.Decides.{Decides-eqb}
 use Rattle.std.specs.Cmp.Derive.{both_true}
+pub use Rattle.std.proofs.lemmas.Bool.{and_parts as both}
 use Rattle.slab.specs.Slab as slots
 use Rattle.slab.specs.Slab.{Slab, Updates, with_value}
 use Rattle.ecs_id.specs.declared.TableKey.{TableKey}
 use Rattle.ecs_table.specs.Archetype.{Archetype}
 use Rattle.table_store.specs.Store.{table_at, key_eq, changed_at, made_at, released_at}
 use Rattle.table_store.specs.Kept.{Held, tables_from, store_of, standing}
-
-pub both : (a b : Bool) → (a && b) ≡ true → (a ≡ true) × (b ≡ true)
-both true b h = (refl, h)
-both false b h = absurd (true≢false (sym h))
 
 -- the test of keys tells whether they are one
 pub same_key : (k q : TableKey) → key_eq k q ≡ true → k ≡ q

@@ -38,7 +38,7 @@ truly : (b : Bool) → T b → IsTrue b
 truly true h = refl
 truly false h = absurd h
 
-if_each : {X : Type 0} {P : X → Type 0} (o : Option X) → ((x : X) → o ≡ Some x → P x) → IfSome o P
+pub if_each : {X : Type 0} {P : X → Type 0} (o : Option X) → ((x : X) → o ≡ Some x → P x) → IfSome o P
 if_each None h = tt
 if_each (Some x) h = h x refl
 

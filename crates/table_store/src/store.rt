@@ -30,14 +30,16 @@ use std::marker::Model;
 use std::mem;
 
 /// A table with its serial, and the edges that lead from it.
+///
+/// The serial stands beside the edges and what comes first in a table, as these are read together.
 #[derive(Drop)]
 pub(crate) struct Slot<A: Allocator> {
-    pub(crate) serial: u128,
-    pub(crate) table: Table<A>,
     // for an id, the table that has it more
     more: Edges<A>,
     // for an id, the table that has it less
     less: Edges<A>,
+    pub(crate) serial: u128,
+    pub(crate) table: Table<A>,
 }
 
 // In boxes, so that one can be taken out for a moment: two slots of one slab can't be borrowed at once.

@@ -11,7 +11,7 @@ new-requires g c =
 pub invariant_of-result : goal.invariant_of-result
 invariant_of-result g c =
     stored_new c.args.ids.now c.in_ok-from_slice.field-0 c.new-2.result c.args.sizes.now c.in_ok-columns.columns c.new-3.result c.requires.paired c.requires.small
-    c.in_ok-from_slice.ensures.items (c.new-2.ensures ∙ c.in_ok-ids_with_data.ensures) (c.in_ok-columns.ensures ∙ ap empty_contents (c.as_slice.ensures ∙ c.in_ok-sized.ensures)) c.new-3.ensures.items c.new-3.ensures.len
+    c.in_ok-from_slice.ensures.items (c.new-2.ensures ∙ c.in_ok-ids_with_data.ensures) (c.in_ok-columns.ensures ∙ ap empty_contents (c.as_slice.ensures ∙ c.in_ok-sized.ensures)) c.new-3.ensures.items
 
 pub returns : goal.returns
 returns g c =

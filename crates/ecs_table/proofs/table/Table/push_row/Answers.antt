@@ -1,4 +1,4 @@
-use Rattle.std.proofs.Common.{◌≡◌, ℕ, ◌+◌, ◌-◌, ◌<◌, ◌++◌, ◌∷◌, [], length, map, ap, sym, subst, ◌∙◌, vec_len, rules, slice_index_or, arith}
+use Rattle.std.proofs.Common.{◌≡◌, ℕ, ◌+◌, ◌-◌, ◌<◌, ◌++◌, ◌∷◌, [], length, map, ap, sym, subst, ◌∙◌, slice_index_or, arith}
 use Rattle.std.proofs.lemmas.List.{get_or_default, length-map, length_push}
 use Rattle.std.specs.List.{zip}
 use Rattle.ecs_id.specs.declared.EntityId.{EntityId}
@@ -27,14 +27,13 @@ invariant_of-self g c =
     ∙ replaced_zeros (value_of s row) old.len ds old.columns long in
     let len : c.copy_values.new.columns.len ≡ old.len + 1 = ap (λ (v : Contents). v.len) (c.copy_values.ensures) ∙ ap (λ (v : Contents). v.len) zeros in
     let room : c.copy_values.new.columns.room ≡ old.room - 1 = ap (λ (v : Contents). v.room) (c.copy_values.ensures) ∙ ap (λ (v : Contents). v.room) zeros in
-    let source = c.source.inside.entities.items in let entity : EntityId = c.index.result.now in
+    let source = c.source.inside.entities.items in let entity : EntityId = c.at.result in
     let lt : row < length source = subst (λ (t : Archetype). row < length t.entities) (sym c.source.view_is) c.requires.row in
-    let same : entity ≡ entity_at s row = c.index.ensures ∙ get_or_default source row entity no_entity lt ∙ ap (λ (t : Archetype). slice_index_or t.entities row no_entity) c.source.view_is in
-    let pushed : c.push.new.self.items ≡ a.entities.items ++ entity ∷ [] = search rules in
+    let same : entity ≡ entity_at s row = c.at.ensures ∙ get_or_default source row entity no_entity lt ∙ ap (λ (t : Archetype). slice_index_or t.entities row no_entity) c.source.view_is in
+    let pushed : c.push.new.self.items ≡ a.entities.items ++ entity ∷ [] = c.push.ensures.items in
     let grown : c.push.new.self.items ≡ a.entities.items ++ entity_at s row ∷ [] = pushed ∙ ap (λ x. a.entities.items ++ x ∷ []) same in
     let some : 0 < a.room = subst (λ (t : Archetype). 0 < t.room) (sym c.self.view_is) c.requires.room in
-    let longer : vec_len c.push.new.self ≡ vec_len a.entities + 1 = search rules in
-    stored_moved s row a.ids ds old c.copy_values.new.columns a.entities c.push.new.self a.room h some columns len room grown longer c.push.ensures.capacity (ap length grown ∙ length_push a.entities.items (entity_at s row))
+    stored_moved s row a.ids ds old c.copy_values.new.columns a.entities c.push.new.self a.room h some columns len room grown c.push.ensures.capacity (ap length grown ∙ length_push a.entities.items (entity_at s row))
 
 pub returns-clause-came : goal.returns-clause-came
 returns-clause-came g c =
@@ -46,10 +45,10 @@ returns-clause-came g c =
     ap (λ (v : Contents). v.columns) c.copy_values.ensures
     ∙ (λ j. map (λ p. replaced (last j) (value_of s row p.0) p.1) (zip (c.as_slice.ensures j) (zeros j).columns))
     ∙ replaced_zeros (value_of s row) old.len ds old.columns long in
-    let source = c.source.inside.entities.items in let entity : EntityId = c.index.result.now in
+    let source = c.source.inside.entities.items in let entity : EntityId = c.at.result in
     let lt : row < length source = subst (λ (t : Archetype). row < length t.entities) (sym c.source.view_is) c.requires.row in
-    let same : entity ≡ entity_at s row = c.index.ensures ∙ get_or_default source row entity no_entity lt ∙ ap (λ (t : Archetype). slice_index_or t.entities row no_entity) c.source.view_is in
-    let pushed : c.push.new.self.items ≡ a.entities.items ++ entity ∷ [] = search rules in
+    let same : entity ≡ entity_at s row = c.at.ensures ∙ get_or_default source row entity no_entity lt ∙ ap (λ (t : Archetype). slice_index_or t.entities row no_entity) c.source.view_is in
+    let pushed : c.push.new.self.items ≡ a.entities.items ++ entity ∷ [] = c.push.ensures.items in
     let grown : c.push.new.self.items ≡ a.entities.items ++ entity_at s row ∷ [] = pushed ∙ ap (λ x. a.entities.items ++ x ∷ []) same in
     seen_moved s row a.ids ds old c.copy_values.new.columns a.entities.items c.push.new.self.items a.room columns grown ∙ ap (λ (t : Archetype). with_moved t s row) c.self.view_is
 

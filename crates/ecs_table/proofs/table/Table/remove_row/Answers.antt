@@ -15,7 +15,7 @@ invariant_of-self g c =
     let lt : row < length a.entities.items = subst (λ (t : Archetype). row < length t.entities) (sym c.self.view_is) c.requires in
     let some : 0 < length a.entities.items = omega arith in
     let gone : c.swap_remove.new.self.items ≡ swap_remove a.entities.items row no_entity = c.swap_remove.ensures.items ∙ swap_remove_default a.entities.items row c.swap_remove.result no_entity some in
-    stored_without a.ids a.data_ids a.columns c.swap_remove-2.new.self a.entities c.swap_remove.new.self a.room row lt c.self.invariant c.swap_remove-2.ensures gone c.swap_remove.ensures.len c.swap_remove.ensures.capacity
+    stored_without a.ids a.data_ids a.columns c.swap_remove-2.new.self a.entities c.swap_remove.new.self a.room row lt c.self.invariant c.swap_remove-2.ensures gone c.swap_remove.ensures.capacity
     (ap length gone ∙ length_without (seen a.ids a.data_ids a.columns a.entities.items a.room) row)
 
 pub returns-clause-row : goal.returns-clause-row
@@ -31,6 +31,12 @@ returns-clause-moved g c =
     let a = c.self.inside in let es = a.entities.items in let row = c.args.row in
     let lt : row < length es = subst (λ (t : Archetype). row < length t.entities) (sym c.self.view_is) c.requires in
     let some : 0 < length es = omega arith in
-    let gone : c.deref.result.now ≡ swap_remove es row no_entity = c.deref.ensures.value ∙ c.swap_remove.ensures.items ∙ swap_remove_default es row c.swap_remove.result no_entity some in
-    c.copied.ensures ∙ copied_is c.get.result c.deref.result.now row c.get.ensures.lookup.0 c.get.ensures.lookup.1 ∙ ap (λ l. slice_get l row) gone
+    let gone : c.as_slice.result.now ≡ swap_remove es row no_entity = c.as_slice.ensures ∙ c.swap_remove.ensures.items ∙ swap_remove_default es row c.swap_remove.result no_entity some in
+    c.copied.ensures ∙ copied_is c.get.result c.as_slice.result.now row c.get.ensures.lookup.0 c.get.ensures.lookup.1 ∙ ap (λ l. slice_get l row) gone
     ∙ ap (λ (l : List EntityId). slice_get (swap_remove l row no_entity) row) (ap (λ (t : Archetype). t.entities) c.self.view_is) ∙ moved_is c.args.self.now row c.requires
+
+pub overflow_add-self : goal.overflow_add-self
+overflow_add-self g c =
+    let a = c.self.inside in let row = c.args.row in
+    let lt : row < length a.entities.items = subst (λ (t : Archetype). row < length t.entities) (sym c.self.view_is) c.requires in
+    omega (arith, lt, c.self.invariant.room, c.swap_remove.ensures.capacity, c.swap_remove.ensures.small)
