@@ -1,5 +1,5 @@
 mod EnteredLemmas
-mod ListedLemmas
+pub mod ListedLemmas
 mod ListingLemmas
-mod TableLemmas
+pub mod TableLemmas
 mod Walks

@@ -5,6 +5,7 @@ use Rattle.std.specs.HashMap.{HashMap, get}
 use Rattle.std.specs.List.{list_any}
 use Rattle.std.proofs.lemmas.List.{take_all}
 use Rattle.std.proofs.lemmas.List.Folds.{list_any_more}
+use Rattle.std.proofs.lemmas.Bool.{or_right}
 use Rattle.ecs_id.specs.declared.TableKey.{TableKey}
 use Rattle.component_index.specs.declared.pattern.Pattern.{Pattern}
 use Rattle.component_index.specs.Entered.{table_eq}
@@ -12,32 +13,32 @@ use Rattle.component_index.specs.Listed.{is_listed, Adds, Drops, IsNewest, Keeps
 use Rattle.component_index.specs.TableList.{has, IsNewOrLast}
 use Rattle.component_index.specs.SamePattern.{pattern_eq, same_pattern}
 
-or_none : (b : Bool) → b ≡ (b || false)
+pub or_none : (b : Bool) → b ≡ (b || false)
 or_none true = refl
 or_none false = refl
 
-and_all : (b : Bool) → b ≡ (b && true)
+pub and_all : (b : Bool) → b ≡ (b && true)
 and_all true = refl
 and_all false = refl
 
-added_at : (t h : Bool) → cond t true h ≡ (h || t)
+pub added_at : (t h : Bool) → cond t true h ≡ (h || t)
 added_at true true = refl
 added_at true false = refl
 added_at false true = refl
 added_at false false = refl
 
-dropped_at : (t h : Bool) → cond t false h ≡ (h && not t)
+pub dropped_at : (t h : Bool) → cond t false h ≡ (h && not t)
 dropped_at true true = refl
 dropped_at true false = refl
 dropped_at false true = refl
 dropped_at false false = refl
 
 -- outside the wider test is outside the narrower
-apart_from : (c d t : Bool) → (c && t) ≡ false → (d ≡ true → c ≡ true) → (d && t) ≡ false
+pub apart_from : (c d t : Bool) → (c && t) ≡ false → (d ≡ true → c ≡ true) → (d && t) ≡ false
 apart_from c true t e k = ap (λ x. x && t) (sym (k refl)) ∙ e
 apart_from c false t e k = refl
 
-or_steps : (h a b t : Bool) → ((h || (a && t)) || (b && t)) ≡ (h || ((a || b) && t))
+pub or_steps : (h a b t : Bool) → ((h || (a && t)) || (b && t)) ≡ (h || ((a || b) && t))
 or_steps true a b t = refl
 or_steps false true true true = refl
 or_steps false true b false = and_false b
@@ -48,7 +49,7 @@ or_steps false true b false = and_false b
 or_steps false true false true = refl
 or_steps false false b t = refl
 
-and_steps : (h a b t : Bool) → ((h && not (a && t)) && not (b && t)) ≡ (h && not ((a || b) && t))
+pub and_steps : (h a b t : Bool) → ((h && not (a && t)) && not (b && t)) ≡ (h && not ((a || b) && t))
 and_steps true true b true = refl
 and_steps true true true false = refl
 and_steps true true false false = refl
@@ -122,7 +123,7 @@ IsNewest-one m n pattern key list writes last newest q = subst (λ o. IsNewOrLas
     by true = last
     by false = newest q
 
-gone_twice : {X : Type 0} (b : Bool) (x : X) (o p q : Option X) → p ≡ cond b (Some x) o → q ≡ cond b None p → q ≡ cond b None o
+pub gone_twice : {X : Type 0} (b : Bool) (x : X) (o p q : Option X) → p ≡ cond b (Some x) o → q ≡ cond b None p → q ≡ cond b None o
 gone_twice true x o p q f g = g
 gone_twice false x o p q f g = g ∙ f
 
@@ -139,18 +140,14 @@ pub has_none : (list : List TableKey) → length list ≡ 0 → (k : TableKey) �
 has_none list e k = sym (none_in list k e)
 
 -- ---- a step for each of a list
-or_wider : (a b c : Bool) → (b ≡ true → c ≡ true) → (a || b) ≡ true → (a || c) ≡ true
+pub or_wider : (a b c : Bool) → (b ≡ true → c ≡ true) → (a || b) ≡ true → (a || c) ≡ true
 or_wider true b c f h = refl
 or_wider false b c f h = f h
 
-any-take : {X : Type 0} (f : X → Bool) (xs : List X) (i : ℕ) → list_any f (take i xs) ≡ true → list_any f xs ≡ true
+pub any-take : {X : Type 0} (f : X → Bool) (xs : List X) (i : ℕ) → list_any f (take i xs) ≡ true → list_any f xs ≡ true
 any-take f xs zero h = absurd (true≢false (sym h))
 any-take f [] (suc i) h = h
 any-take f (x ∷ xs) (suc i) h = or_wider (f x) _ _ (any-take f xs i) h
-
-or_first : (a b : Bool) → b ≡ true → (a || b) ≡ true
-or_first true b h = refl
-or_first false b h = h
 
 or_new : (f t h : Bool) → (h ≡ true → f ≡ true) → (f || t) ≡ (f || (t && not h))
 or_new true t h k = refl
@@ -202,7 +199,7 @@ module _ {X : Type 0} (test : X → Pattern → Bool) (xs : List X) where
       -- where a step is refused, what was added and what was kept is of the whole list
       pub Keeps-more : Adds m n (of_first i) key → Keeps n o (test x) key → Keeps m o of_each key
       Keeps-more f g = Keeps-steps m n o (of_first i) (test x) of_each key (λ p h. any-take (λ y. test y p) xs i h)
-          (λ p h. any-take (λ y. test y p) xs (i + 1) (more p ∙ or_first (of_first i p) _ h)) f g
+          (λ p h. any-take (λ y. test y p) xs (i + 1) (more p ∙ or_right (of_first i p) _ h)) f g
 
       -- what matches the id before is among the first already
       module _ (h : Pattern → Bool) (had : (p : Pattern) → h p ≡ true → of_first i p ≡ true) where
@@ -211,13 +208,13 @@ module _ {X : Type 0} (test : X → Pattern → Bool) (xs : List X) where
 
         pub Keeps-new : Adds m n (of_first i) key → Keeps n o (λ p. test x p && not (h p)) key → Keeps m o of_each key
         Keeps-new f g = Keeps-steps m n o (of_first i) (λ p. test x p && not (h p)) of_each key (λ p e. any-take (λ y. test y p) xs i e)
-            (λ p e. any-take (λ y. test y p) xs (i + 1) (more p ∙ or_first (of_first i p) _ (left_of (test x p) _ e))) f g
+            (λ p e. any-take (λ y. test y p) xs (i + 1) (more p ∙ or_right (of_first i p) _ (left_of (test x p) _ e))) f g
 
         pub Drops-new : Drops m n (of_first i) key → Drops n o (λ p. test x p && not (h p)) key → Drops m o (of_first (i + 1)) key
         Drops-new f g = Drops-steps m n o (of_first i) (λ p. test x p && not (h p)) (of_first (i + 1)) key (λ p. more p ∙ or_new (of_first i p) (test x p) (h p) (had p)) f g
 
       pub had-next : (p : Pattern) → test x p ≡ true → of_first (i + 1) p ≡ true
-      had-next p e = more p ∙ or_first (of_first i p) _ e
+      had-next p e = more p ∙ or_right (of_first i p) _ e
 
 -- ---- one pattern, but where the id before has it
 module _ {S : Type 0} (m n : HashMap Pattern (List TableKey) S) (pattern : Pattern) (key : TableKey) (h : Pattern → Bool) where

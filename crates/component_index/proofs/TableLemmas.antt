@@ -5,7 +5,7 @@ use Rattle.std.specs.List.{IsDistinct, AllByRecursion, list_any, position, posit
 use Rattle.std.specs.List.Sorted.{IsPermutation}
 use Rattle.std.specs.Cmp.{IsEquivalence}
 use Rattle.std.proofs.lemmas.Bool.Decides.{Decides-ltb}
-use Rattle.std.proofs.lemmas.Bool.{ltb-false}
+use Rattle.std.proofs.lemmas.Bool.{ltb-false, not-false}
 use Rattle.std.proofs.lemmas.Cmp.{eq_by_cmp_equiv}
 use Rattle.std.proofs.Math.Seq.{get_or-append_seam}
 use Rattle.std.proofs.lemmas.Option.{get_or_from_slice_get, slice_get-get_or, slice_get_within}
@@ -13,10 +13,12 @@ use Rattle.std.proofs.lemmas.List.Folds.{list_any_at, list_any-append}
 use Rattle.std.proofs.lemmas.List.Sorted.{IsPermutation-swap_remove, list_any-IsPermutation}
 use Rattle.std.proofs.lemmas.List.Sums.{fails_before_first, prefix_len_stops}
 use Rattle.std.proofs.lemmas.Map.Keys.{IsDistinct-IsPermutation, IsDistinct-head, IsDistinct-push, IsDistinct-tail}
+use Rattle.std.proofs.Math.Bool.{or-false}
 use Rattle.indexmap.specs.IndexSet.{insert_key}
 use Rattle.ecs_id.specs.declared.TableKey.{TableKey}
 use Rattle.component_index.specs.Entered.{table_cmp_total, table_eq, eq_by-table_cmp, same_table}
 use Rattle.component_index.specs.TableList.{has, is_last, IsNewOrLast, IsPlace, Loses}
+pub use Rattle.component_index.proofs.ListedLemmas.{on_err}
 
 pub table_eq_equiv : IsEquivalence table_eq
 table_eq_equiv = subst IsEquivalence (λ i x y. eq_by-table_cmp x y i) (eq_by_cmp_equiv table_cmp_total)
@@ -41,10 +43,6 @@ kept ks key h = λ i. cond (sym h i) ks (ks ++ key ∷ [])
 
 pub put : (ks : List TableKey) (key : TableKey) → has ks key ≡ false → ks ++ key ∷ [] ≡ insert_key table_eq ks key
 put ks key h = λ i. cond (sym h i) ks (ks ++ key ∷ [])
-
-or_false : (b : Bool) → (b || false) ≡ b
-or_false true = refl
-or_false false = refl
 
 in_or : (a b : Bool) → (a || (b || false)) ≡ cond b true a
 in_or true true = refl
@@ -102,10 +100,6 @@ inserted (Ok x) old new key h e = e ∙ put old key h
 inserted (Err x) old new key h e = e
 
 -- ---- where a table stands
-not_false : (b : Bool) → not b ≡ false → b ≡ true
-not_false true h = refl
-not_false false h = absurd (true≢false h)
-
 none_passes : {X : Type 0} (t : X → Bool) (xs : List X) → ((k : ℕ) (d : X) → k < length xs → t (get_or xs k d) ≡ false) → list_any t xs ≡ false
 none_passes t [] h = refl
 none_passes t (x ∷ xs) h = (λ i. h 0 x (omega arith) i || none_passes t xs (λ k d w. h (suc k) d (omega arith)) i)
@@ -121,7 +115,7 @@ module _ (key : TableKey) (ks : List TableKey) where
       by true w e =
           let within : place < length ks = (Decides-ltb place (length ks)).0 w in
           let at : place ≡ i = cc in
-          subst (λ j. (j < length ks) × (table_eq key (get_or ks j d) ≡ true)) at (within, not_false _ (prefix_len_stops (λ x. not (table_eq key x)) ks d within))
+          subst (λ j. (j < length ks) × (table_eq key (get_or ks j d) ≡ true)) at (within, not-false _ (prefix_len_stops (λ x. not (table_eq key x)) ks d within))
       by false w e = absurd (cc)
 
   pub place_none : position (table_eq key) ks ≡ None → has ks key ≡ false
@@ -157,7 +151,7 @@ Loses-only ks first key is e k = by (table_eq key k) refl
     by : (b : Bool) → table_eq key k ≡ b → false ≡ cond b false (has ks k)
     by true t = refl
     by false t =
-        sym (ap (λ l. has l k) is ∙ or_false (table_eq k first) ∙ table_eq_equiv.symm k first ∙ ap (λ x. table_eq x k) (same_table first key e) ∙ t)
+        sym (ap (λ l. has l k) is ∙ or-false (table_eq k first) ∙ table_eq_equiv.symm k first ∙ ap (λ x. table_eq x k) (same_table first key e) ∙ t)
 
 module _ (ks : List TableKey) (once : IsDistinct table_eq ks) (key : TableKey) (i : ℕ) (is : IsPlace ks key (Some i)) (x : TableKey) (taken : x ≡ get_or ks i x) where
   at : (i < length ks) × (table_eq key (get_or ks i x) ≡ true)
@@ -202,9 +196,4 @@ once_inserted (Ok u) key old new e h d = subst (IsDistinct table_eq) (sym e) (di
 once_inserted (Err x) key old new e h d = subst (IsDistinct table_eq) (sym h) d
 
 pub only_has : (ks : List TableKey) (first key : TableKey) (b : Bool) → ks ≡ first ∷ [] → b ≡ table_eq first key → has ks key ≡ b
-only_has ks first key b is e = ap (λ l. has l key) is ∙ or_false (table_eq key first) ∙ table_eq_equiv.symm key first ∙ sym e
-
--- what holds holds of an error
-pub on_err : {X E : Type 0} {P : Type 0} (r : Result X E) → P → OnErr r P
-on_err (Ok x) p = tt
-on_err (Err e) p = p
+only_has ks first key b is e = ap (λ l. has l key) is ∙ or-false (table_eq key first) ∙ table_eq_equiv.symm key first ∙ sym e

@@ -47,7 +47,8 @@ pub struct Pattern {
 }
 
 impl Pattern {
-    fn matches(self, id: Id) -> bool
+    /// Whether an id is plain where it has one part and a pair where it has two, and each part takes its index.
+    pub fn matches(self, id: Id) -> bool
         ensures { result ≡ matches self id }
     {
         match (self.second, id.second()) {

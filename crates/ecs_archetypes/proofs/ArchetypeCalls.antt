@@ -119,7 +119,7 @@ held_settled h e i k = by (cells_at h e) k
 pub held_there : (w : Entities) (s : Store) (sound : IsSound w s) (h : Holdings) (view : meaning w s ≡ h) (e : EntityId) → lives h e ≡ true → (i : Id) → holds_id h e.index i ≡ true → IsSome (place_of w e)
 held_there w s sound h view e alive i k = settled_there w s sound h view e alive (held_settled h e.index i k)
 
-none_where : {A : Type 0} (o : Option A) → is_some o ≡ false → o ≡ None
+pub none_where : {A : Type 0} (o : Option A) → is_some o ≡ false → o ≡ None
 none_where None h = refl
 none_where (Some x) h = absurd (true≢false h)
 

@@ -14,7 +14,7 @@ use Rattle.ecs_archetypes.specs.Plans.{AreCounted}
 use Rattle.ecs_archetypes.proofs.Placings.{key_eq-tells}
 use Rattle.ecs_archetypes.proofs.Planning.{moves_more}
 
-unequal : (a b : ℕ) → a ≢ b → is_eq (nat_cmp a b) ≡ false
+pub unequal : (a b : ℕ) → a ≢ b → is_eq (nat_cmp a b) ≡ false
 unequal a b d = grind (arith, nat_tests)
 
 length_more : (ms : List Move) (m : Move) → length (ms ++ m ∷ []) ≡ length ms + 1

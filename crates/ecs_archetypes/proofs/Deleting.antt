@@ -1,10 +1,11 @@
 -- Entities that are deleted one after another.
-use Rattle.std.proofs.Common.{◌≡◌, ℕ, ◌+◌, ◌<◌, Bool, true, false, cond, not, ◌&&◌, ◌==◌, List, [], ◌∷◌, length, drop, get_or, Some, None, is_some, refl, sym, ap, subst, ◌∙◌}
+use Rattle.std.proofs.Common.{◌≡◌, ℕ, ◌+◌, ◌<◌, true, false, cond, not, ◌&&◌, ◌==◌, List, [], ◌∷◌, length, drop, get_or, Some, None, is_some, refl, sym, ap, subst, ◌∙◌}
 use Rattle.std.proofs.lemmas.List.{at_drop_more}
 use Rattle.std.specs.List.{list_all}
 use Rattle.std.specs.Option.{option_eq}
 use Rattle.std.specs.Ordering.{nat_cmp}
 use Rattle.std.specs.FinMap.Entries.{find, put}
+use Rattle.std.proofs.lemmas.Bool.{not-true}
 use Rattle.ecs_id.specs.declared.EntityId.{EntityId}
 use Rattle.ecs_model.proofs.Maps.{both_true}
 use Rattle.ecs_model.specs.Map.{count_at}
@@ -48,10 +49,6 @@ pub record AreDeleted (before : Housing) (dead : List EntityId) (now : Housing) 
   pub held : HoldAlike (without_each rest (holdings_of now)) (without_each dead (holdings_of before))
   pub alike : StandAlike before.tables now.tables
 
-not_true : (b : Bool) → not b ≡ true → b ≡ false
-not_true true h = sym h
-not_true false h = refl
-
 module _ (before now : Housing) (dead : List EntityId) (i : ℕ) (d e : EntityId) (is : e ≡ get_or dead i d) (within : i < length dead) (so_far : AreDeleted before dead now (drop i dead)) where
   left : drop i dead ≡ e ∷ drop (i + 1) dead
   left = at_drop_more (λ z. z) dead i d within ∙ ap (λ z. z ∷ drop (i + 1) dead) (sym is)
@@ -69,7 +66,7 @@ module _ (before now : Housing) (dead : List EntityId) (i : ℕ) (d e : EntityId
   next_settled = (both_true (is_settled (holdings_of now) e) (not (is_built_in e.index)) first.0).0
 
   pub next_deletable : is_built_in e.index ≡ false
-  next_deletable = not_true (is_built_in e.index) (both_true (is_settled (holdings_of now) e) (not (is_built_in e.index)) first.0).1
+  next_deletable = not-true (is_built_in e.index) (both_true (is_settled (holdings_of now) e) (not (is_built_in e.index)) first.0).1
 
   pub deleted_more : (next : Housing) → HoldAlike (holdings_of next) (without_entity (holdings_of now) e.index) → StandAlike now.tables next.tables → AreDeleted before dead next (drop (i + 1) dead)
   deleted_more next held alike =

@@ -1,5 +1,5 @@
 -- Lists of facts that ascend, and the ids of an entity after some have come and gone.
-use Rattle.std.proofs.Common.{◌≡◌, ◌≢◌, ℕ, Bool, true, false, true≢false, cond, not, ◌&&◌, ◌||◌, List, [], ◌∷◌, map, refl, sym, ap, ◌∙◌}
+use Rattle.std.proofs.Common.{◌≡◌, ◌≢◌, ℕ, Bool, true, false, true≢false, cond, not, ◌||◌, List, [], ◌∷◌, map, refl, sym, ap, ◌∙◌}
 use Rattle.std.specs.Prelude.{fold}
 use Rattle.std.specs.List.{AllByRecursion, filter, list_all}
 use Rattle.std.specs.List.Sorted.{IsStrictlySortedBy}
@@ -7,8 +7,9 @@ use Rattle.std.specs.Ordering.{is_eq, is_lt, ordering_reverse}
 use Rattle.std.specs.declared.cmp.Ordering.{Ordering}
 use Rattle.std.specs.declared.cmp.Ordering.TheVariants.{Less, Equal, Greater}
 use Rattle.std.specs.FinMap.Entries.{put, is_sorted, below_all, by_order}
+use Rattle.ecs_table.proofs.Ordered.{below_less}
 use Rattle.ecs_id.specs.Id.{Id, id_cmp, id_cmp_total, id_eq, id_eq_itself, id_eq_same}
-use Rattle.ecs_model.proofs.Maps.{both_true}
+use Rattle.ecs_model.proofs.Maps.{both_true, less as lt_less}
 use Rattle.table_store.specs.Store.{Shape}
 use Rattle.ecs_archetypes.specs.FactChanges.{begins_before, begins_with, changed_shape, is_among}
 use Rattle.ecs_archetypes.specs.Holdings.{Sizes}
@@ -24,11 +25,6 @@ apart_below x y less = ap is_eq (turned x y less)
 apart_above : (x y : Id) → id_cmp x y ≡ Less → id_eq x y ≡ false
 apart_above x y less = ap is_eq less
 
-lt_less : (r : Ordering) → is_lt r ≡ true → r ≡ Less
-lt_less Less h = refl
-lt_less Equal h = cc
-lt_less Greater h = cc
-
 -- an id that is neither below nor the same is above
 above : (x y : Id) → is_lt (id_cmp y x) ≡ false → id_eq x y ≡ false → id_cmp x y ≡ Less
 above x y low apart = by (id_cmp x y) refl
@@ -37,13 +33,6 @@ above x y low apart = by (id_cmp x y) refl
     by Less e = e
     by Equal e = absurd (true≢false (sym (ap is_eq e) ∙ apart))
     by Greater e = absurd (true≢false (sym (ap is_lt (id_cmp_total.antisymm y x ∙ ap ordering_reverse e)) ∙ low))
-
--- what is below the first of a list in order is below all of it
-below_less : {X : Type 0} (x y : Id) (es : List (Id × X)) → id_cmp x y ≡ Less → below_all id_cmp y es ≡ true → below_all id_cmp x es ≡ true
-below_less x y [] p h = refl
-below_less x y (e ∷ es) p h =
-    let parts = both_true (is_lt (id_cmp y e.0)) (below_all id_cmp y es) h in
-    λ i. is_lt (id_cmp_total.trans x y e.0 p (lt_less (id_cmp y e.0) parts.0) i) && below_less x y es p parts.1 i
 
 -- one id more in a list of sizes
 abbrev pub put_size : Sizes → Id × ℕ → Sizes

@@ -14,10 +14,12 @@ use Rattle.std.proofs.lemmas.Cmp.{tied_itself}
 use Rattle.std.proofs.lemmas.List.{append-nil}
 use Rattle.std.proofs.lemmas.List.Elements.{filter_map-append}
 use Rattle.std.proofs.lemmas.List.Folds.{list_any-append}
+pub use Rattle.std.proofs.lemmas.Bool.{eqb-true as same_of}
+use Rattle.std.proofs.lemmas.Bool.{not-true}
 use Rattle.ecs_id.specs.Id.{Id, id_cmp, id_eq}
 use Rattle.ecs_model.specs.FactOrder.{key_cmp_seen}
 use Rattle.ecs_model.specs.World.{Key, key_cmp, key_eq}
-use Rattle.ecs_model.proofs.Maps.{both_true}
+use Rattle.ecs_model.proofs.Maps.{both_true, less as lt_is}
 use Rattle.ecs_archetypes.specs.FactChanges.{Coming, coming_to, first_entity, goes_from, ids_among, ids_coming, is_among}
 use Rattle.ecs_archetypes.proofs.MapLists.{both}
 
@@ -33,9 +35,6 @@ le_then e n m h k = grind (arith, nat_tests)
 
 le_of : (e n : ℕ) → e ≤ n → nat_le e n ≡ true
 le_of e n h = grind (arith, nat_tests)
-
-pub same_of : (n e : ℕ) → (n == e) ≡ true → n ≡ e
-same_of n e h = (Decides-eqb n e).0 h
 
 -- the order of facts, by entity first
 by_parts : (k q : Key) → key_cmp k q ≡ ordering_then (nat_cmp k.0 q.0) (id_cmp k.1 q.1)
@@ -54,11 +53,6 @@ tied a b same = ap (nat_cmp a) (sym same) ∙ tied_itself nat_cmp_total a
 
 pub id_lt : (k q : Key) → k.0 ≡ q.0 → is_lt (key_cmp k q) ≡ true → is_lt (id_cmp k.1 q.1) ≡ true
 id_lt k q same h = ap (λ r. is_lt (ordering_then r (id_cmp k.1 q.1))) (sym (tied k.0 q.0 same)) ∙ ap is_lt (sym (by_parts k q)) ∙ h
-
-lt_is : (r : Ordering) → is_lt r ≡ true → r ≡ Less
-lt_is Less h = refl
-lt_is Equal h = cc
-lt_is Greater h = cc
 
 module _ {X : Type 0} where
   pub all_split : (test : X → Bool) (n : ℕ) (xs : List X) → list_all test xs ≡ true → (list_all test (take n xs) ≡ true) × (list_all test (drop n xs) ≡ true)
@@ -250,15 +244,11 @@ coming_own e (c ∷ cs) h =
     let parts = both_true (c.0.0 == e) (list_all (λ c. c.0.0 == e) cs) h in
     λ i. cons_option (cond (parts.0 i) (Some (c.0.1, c.1)) None) (coming_own e cs parts.1 i)
 
-off : (b : Bool) → not b ≡ true → b ≡ false
-off false h = refl
-off true h = cc
-
 pub coming_none : (d : ℕ) (cs : Coming) → list_all (λ c. not (c.0.0 == d)) cs ≡ true → coming_to d cs ≡ []
 coming_none d [] h = refl
 coming_none d (c ∷ cs) h =
     let parts = both_true (not (c.0.0 == d)) (list_all (λ c. not (c.0.0 == d)) cs) h in
-    λ i. cons_option (cond (off (c.0.0 == d) parts.0 i) (Some (c.0.1, c.1)) None) (coming_none d cs parts.1 i)
+    λ i. cons_option (cond (not-true (c.0.0 == d) parts.0 i) (Some (c.0.1, c.1)) None) (coming_none d cs parts.1 i)
 
 -- and what goes from it
 pub key_own : (e : ℕ) (i : Id) (k : Key) → (k.0 == e) ≡ true → key_eq (e, i) k ≡ id_eq i k.1

@@ -1,11 +1,12 @@
 -- The shape of an entity's table after facts of it have come and gone.
-use Rattle.std.proofs.Common.{◌≡◌, ℕ, Bool, true, false, cond, not, ◌||◌, List, [], ◌∷◌, length, get_or, replicate, Option, Some, None, is_some, option_map, unwrap_or, refl, sym, ap, subst, ◌∙◌, arith}
+use Rattle.std.proofs.Common.{◌≡◌, ℕ, Bool, true, false, cond, not, List, [], ◌∷◌, length, get_or, replicate, Option, Some, None, is_some, option_map, unwrap_or, refl, sym, ap, subst, ◌∙◌, arith}
 use Rattle.std.specs.Prelude.{fold, nat_le}
 use Rattle.std.specs.List.{filter, list_all}
 use Rattle.std.specs.Ordering.{nat_cmp}
 use Rattle.std.specs.declared.cmp.Ordering.{Ordering}
 use Rattle.std.specs.declared.cmp.Ordering.TheVariants.{Less, Equal, Greater}
 use Rattle.std.specs.FinMap.Entries.{find, put, is_sorted, by_order, is_sorted-put, is_sorted-where_key}
+use Rattle.component_index.proofs.ListedLemmas.{or_none}
 use Rattle.ecs_id.specs.declared.EntityId.{EntityId}
 use Rattle.ecs_id.specs.declared.Place.{Place}
 use Rattle.ecs_id.specs.declared.TableKey.{TableKey}
@@ -107,14 +108,10 @@ one_comes came went f i n x y none one first second id size =
     (λ k. put id_cmp (id k) ((size ∙ ap (λ z. z.1) (sym same)) k) (sym (none_gone f) k))
     ∙ (λ k. changed_shape (ids_coming (sym a k)) (is_among (ids_among (sym none k))) f)
 
-either_off : (b : Bool) → b ≡ (b || false)
-either_off true = refl
-either_off false = refl
-
 pub one_leaves : (came : Coming) (went : List Key) (f : Shape) (i : Id) (x : Key) → came ≡ [] → length went ≡ 1 → x ≡ get_or went 0 x → i ≡ x.1 → without_id f i ≡ changed_shape (ids_coming came) (is_among (ids_among went)) f
 one_leaves came went f i x none one first id =
     let a : went ≡ x ∷ [] = one_of went x one first in
-    (λ k. filter (λ e. not (either_off (id_eq e.0 (id k)) k)) f)
+    (λ k. filter (λ e. not (or_none (id_eq e.0 (id k)) k)) f)
     ∙ (λ k. changed_shape (ids_coming (sym none k)) (is_among (ids_among (sym a k))) f)
 
 -- who holds something at an index is alive, and stands in a table of its shape

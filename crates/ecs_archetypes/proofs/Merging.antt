@@ -3,7 +3,7 @@ use Rattle.std.proofs.Common.{◌≡◌, ℕ, zero, suc, ◌+◌, ◌<◌, ◌�
 use Rattle.std.proofs.Math.ListN.{drop_of_length-le}
 use Rattle.std.specs.List.{list_all, slice_get}
 use Rattle.std.specs.List.Sorted.{IsStrictlySortedBy}
-use Rattle.std.specs.Prelude.{Result, Ok, Err}
+use Rattle.std.specs.Prelude.{Result}
 use Rattle.std.specs.Result.{OnOk}
 use Rattle.std.specs.FinMap.Entries.{find, is_sorted, below_all}
 use Rattle.ecs_id.specs.Id.{Id, id_cmp, id_eq}
@@ -11,14 +11,11 @@ use Rattle.ecs_model.specs.Map.{has_key}
 use Rattle.ecs_model.specs.World.{Key}
 use Rattle.ecs_model.proofs.Maps.{both_true}
 use Rattle.table_store.specs.Rows.{Cells, shape_of_cells}
+use Rattle.table_store.proofs.RowCalls.{if_ok}
 use Rattle.ecs_archetypes.specs.FactChanges.{Coming, begins_before, begins_with, changed_shape, ids_among, ids_coming, is_among}
 use Rattle.ecs_archetypes.specs.Holdings.{Sizes}
 use Rattle.ecs_archetypes.proofs.FactLists.{all_above, all_come, comes_first, goes_held, goes_unheld, none_goes, one_goes, stays_held}
 use Rattle.ecs_archetypes.proofs.MapLists.{both, sorted_mapped}
-
-ok_then : {T E : Type 0} (r : Result T E) (P Q : Type 0) → (P → Q) → OnOk r P → OnOk r Q
-ok_then (Ok x) P Q f h = f h
-ok_then (Err e) P Q f h = tt
 
 -- these ids are put together, and the others are left
 pub record IsMerging (held : Cells) (came : Coming) (went : List Key) (facts : Cells) (comes : Coming) (goes : List Key) (place : ℕ) (ids : Sizes) : Type 0 where
@@ -81,7 +78,7 @@ module _ (held : Cells) (came : Coming) (went : List Key) (facts : Cells) where
 
     pub merged_ok : {T E : Type 0} (comes : Coming) (goes : List Key) → IsMerging held came went facts comes goes place ids → length facts ≤ place → (r : Result T E) (more : Sizes) → OnOk r (more ≡ ids ++ ids_coming comes)
         → OnOk r (more ≡ changed_shape (ids_coming came) (is_among (ids_among went)) (shape_of_cells held))
-    merged_ok comes goes m end r more = ok_then r (more ≡ ids ++ ids_coming comes) (more ≡ changed_shape (ids_coming came) (is_among (ids_among went)) (shape_of_cells held)) (merged comes goes m end more)
+    merged_ok comes goes m end r more = if_ok r (more ≡ ids ++ ids_coming comes) (more ≡ changed_shape (ids_coming came) (is_among (ids_among went)) (shape_of_cells held)) (merged comes goes m end more)
 
     module _ (x : Id × List ℕ) (at : slice_get facts place ≡ Some x) where
       abbrev rest : Cells

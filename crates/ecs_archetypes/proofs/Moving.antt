@@ -1,12 +1,12 @@
 -- A move to a table that has room, and several of them.
-use Rattle.std.proofs.Common.{◌≡◌, ℕ, ◌+◌, ◌<◌, ◌≤◌, Bool, true, false, true≢false, cond, not, List, [], ◌∷◌, Option, Some, None, option_map, unwrap_or, is_some, refl, sym, ap, subst, ◌∙◌, arith}
-use Rattle.std.proofs.Common.{drop, get_or, length}
+use Rattle.std.proofs.Common.{◌≡◌, ℕ, ◌+◌, ◌<◌, ◌≤◌, Bool, true, false, cond, List, [], ◌∷◌, Option, Some, None, option_map, unwrap_or, is_some, refl, sym, ap, subst, ◌∙◌, arith, drop, get_or, length}
 use Rattle.std.proofs.lemmas.List.{at_drop_more}
 use Rattle.std.specs.List.{list_all}
 use Rattle.std.specs.Cmp.{nat_cmp_total}
 use Rattle.std.specs.Ordering.{nat_cmp, eq_by_cmp}
 use Rattle.std.specs.FinMap.{nat_cmp-IsAntisymmetric}
 use Rattle.std.specs.FinMap.Entries.{find, put, is_sorted, find-put, is_sorted-put, same_entries}
+pub use Rattle.std.proofs.lemmas.Bool.{not-false as not_false}
 use Rattle.ecs_id.specs.declared.EntityId.{EntityId}
 use Rattle.ecs_id.specs.declared.Place.{Place}
 use Rattle.ecs_id.specs.declared.TableKey.{TableKey}
@@ -15,13 +15,13 @@ use Rattle.ecs_table.specs.Archetype as table
 use Rattle.ecs_model.proofs.Maps.{both_true, to_T}
 use Rattle.entity_index.specs.Entities.{Entities, place_of}
 use Rattle.table_store.specs.Rows.{Cells, carried, row_at, shape_of_cells}
-use Rattle.table_store.specs.Store.{Shape, Store, changed_at, key_eq, moved_at, room_at, shape_at, table_at}
+use Rattle.table_store.specs.Store.{Shape, Store, key_eq, moved_at, room_at, shape_at, table_at}
 use Rattle.ecs_archetypes.specs.declared.plans.Move.{Move}
 use Rattle.ecs_archetypes.specs.Archetypes.{IsSound, meaning}
 use Rattle.ecs_archetypes.specs.Holdings.{HoldAlike, Holdings, cells_at, held_at, is_settled, lives, with_cells}
 use Rattle.ecs_archetypes.specs.Housing.{Housing, holdings_of}
 use Rattle.ecs_archetypes.specs.Moves.{AreReady, shape_in, with_all_moved, with_moved}
-use Rattle.ecs_archetypes.specs.Tables.{LeavesRoom, StandAlike, TakesRoom, one_in}
+use Rattle.ecs_archetypes.specs.Tables.{StandAlike, TakesRoom, one_in}
 use Rattle.ecs_archetypes.proofs.ArchetypeCalls.{cells_view, row_here}
 use Rattle.ecs_archetypes.proofs.Carried.{carried_self}
 use Rattle.ecs_archetypes.proofs.Known.{room_stands}
@@ -50,10 +50,6 @@ put_same i v m s at = same_entries nat_cmp nat_cmp_total nat_cmp-IsAntisymmetric
     by : (j : ℕ) (b : Bool) → eq_by_cmp nat_cmp j i ≡ b → find nat_cmp j m ≡ cond b (Some v) (find nat_cmp j m)
     by j true e = ap (λ z. find nat_cmp z m) (nat_same j i e) ∙ at
     by j false e = refl
-
-pub not_false : (b : Bool) → not b ≡ false → b ≡ true
-not_false true h = refl
-not_false false h = absurd (true≢false h)
 
 -- an entity that stands in the table already keeps what it holds
 module _ (w : Entities) (s : Store) (sound : IsSound w s) (h : Holdings) (view : meaning w s ≡ h) (e : EntityId) (alive : lives h e ≡ true) (p : Place) (at : place_of w e ≡ Some p) where

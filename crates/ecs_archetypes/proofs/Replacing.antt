@@ -1,9 +1,10 @@
 -- One id of an entity comes in the place of another.
-use Rattle.std.proofs.Common.{◌≡◌, ◌≢◌, ℕ, Bool, true, false, cond, not, ◌&&◌, ◌||◌, [], ◌∷◌, length, replicate, Option, Some, None, option_map, unwrap_or, is_some, refl, sym, ap, subst, ◌∙◌, true≢false}
+use Rattle.std.proofs.Common.{◌≡◌, ◌≢◌, ℕ, true, false, cond, not, ◌&&◌, [], ◌∷◌, length, replicate, Some, None, option_map, unwrap_or, refl, sym, ap, subst, ◌∙◌}
 use Rattle.std.specs.List.{filter}
 use Rattle.std.specs.List.Sorted.{IsStrictlySortedBy}
 use Rattle.std.specs.Ordering.{nat_cmp}
 use Rattle.std.specs.FinMap.Entries.{find, put, find-put, is_sorted}
+use Rattle.std.proofs.Math.Bool.{or-false}
 use Rattle.ecs_id.specs.declared.EntityId.{EntityId}
 use Rattle.ecs_id.specs.declared.Place.{Place}
 use Rattle.ecs_id.specs.declared.TableKey.{TableKey}
@@ -15,18 +16,10 @@ use Rattle.ecs_archetypes.specs.FactChanges.{changed_shape, is_among}
 use Rattle.ecs_archetypes.specs.Holdings.{HoldAlike, Holdings, held_at, holds_id, is_settled, with_cells}
 use Rattle.ecs_archetypes.specs.Housing.{Housing, IsHoused, holdings_of}
 use Rattle.ecs_archetypes.specs.Tables.{HasGrown}
-use Rattle.ecs_archetypes.proofs.ArchetypeCalls.{alike_with, found_lives, found_settled, row_here}
+use Rattle.ecs_archetypes.proofs.ArchetypeCalls.{alike_with, found_lives, found_settled, row_here, none_where}
 use Rattle.ecs_archetypes.proofs.Carried.{find_shape}
 use Rattle.ecs_archetypes.proofs.FactTables.{carried_changed}
 use Rattle.ecs_archetypes.proofs.Soundness.{row_shape, row_sorted}
-
-absent : {X : Type 0} (o : Option X) → is_some o ≡ false → o ≡ None
-absent None h = refl
-absent (Some x) h = absurd (true≢false h)
-
-or_none : (b : Bool) → (b || false) ≡ b
-or_none true = refl
-or_none false = refl
 
 -- one id ascends
 pub one_rises : (i : Id) → IsStrictlySortedBy id_cmp (i ∷ [])
@@ -59,7 +52,7 @@ module _ (b : Housing) (whole : IsHoused b) (e : EntityId) (p : Place) (at : pla
     next = changed_shape ((i, n) ∷ []) (is_among (old ∷ [])) (shape_of_cells cells)
 
     none : find id_cmp i cells ≡ None
-    none = absent (find id_cmp i cells) unheld
+    none = none_where (find id_cmp i cells) unheld
 
     -- the next table is another one
     pub apart_replaced : p.table ≢ to
@@ -79,5 +72,5 @@ module _ (b : Housing) (whole : IsHoused b) (e : EntityId) (p : Place) (at : pla
         → HoldAlike a (with_cells h e.index (put id_cmp i (replicate n 0) (filter (λ c. not (id_eq c.0 old)) cells)))
     alike_replaced a moved = subst (λ c. HoldAlike a (with_cells h e.index c))
         (ap (carried next) held_still ∙ carried_changed cells ((i, n) ∷ []) (is_among (old ∷ [])) order (λ k. not (unheld k) && true)
-        ∙ (λ k. put id_cmp i (replicate n 0) (filter (λ c. not (or_none (id_eq c.0 old) k)) cells)))
+        ∙ (λ k. put id_cmp i (replicate n 0) (filter (λ c. not (or-false (id_eq c.0 old) k)) cells)))
         (alike_with a (holdings_of mid) h h e.index _ (moved next shape) alike refl)

@@ -9,7 +9,7 @@ use Rattle.ecs_model.specs.Map.{Map, has_key, keys}
 use Rattle.std.specs.Cmp.{nat_cmp_total}
 use Rattle.ecs_model.proofs.traits.Facts.{there_key}
 
-none_in : {X : Type 0} (xs : List X) → ((x : X) → Contains xs x → ⊥) → xs ≡ []
+pub none_in : {X : Type 0} (xs : List X) → ((x : X) → Contains xs x → ⊥) → xs ≡ []
 none_in [] none = refl
 none_in (x ∷ xs) none = absurd (none x (0, omega arith, refl))
 

@@ -49,7 +49,7 @@ bounds i h = (grind (arith, nat_tests), grind (arith, nat_tests))
 each_built_in : (p : ℕ → Bool) → passes p 22 1 ≡ true → (i : ℕ) → is_built_in i ≡ true → p i ≡ true
 each_built_in p h i b = let within = bounds i b in passes_at p 22 1 i h within.0 within.1
 
-is_value : (o : Option ℕ) (n : ℕ) → option_eq ◌==◌ o (Some n) ≡ true → o ≡ Some n
+pub is_value : (o : Option ℕ) (n : ℕ) → option_eq ◌==◌ o (Some n) ≡ true → o ≡ Some n
 is_value None n h = absurd (true≢false (sym h))
 is_value (Some m) n h = ap Some ((Decides-eqb m n).0 h)
 

@@ -23,3 +23,5 @@ pub mod Closing
 pub mod Decided
 pub mod traits
 mod stored
+pub mod Bits
+pub mod Rising

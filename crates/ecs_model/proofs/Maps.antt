@@ -9,6 +9,7 @@ use Rattle.std.specs.Cmp.{IsTotalOrder, nat_cmp_total, Equal-is}
 use Rattle.std.specs.FinMap.{nat_cmp-IsAntisymmetric}
 use Rattle.std.proofs.Common.{refl, sym, ap, subst, ◌∙◌, inl, inr, arith, true≢false}
 use Rattle.std.proofs.lemmas.Cmp.{tied_itself}
+pub use Rattle.std.proofs.lemmas.Bool.{and_parts as both_true}
 use Rattle.ecs_id.specs.Id.{id_cmp, id_cmp_same}
 use Rattle.ecs_model.specs.Map.{Map, IsMap, value_at, has_key, with_value, keys}
 use Rattle.ecs_model.specs.World.{Key, key_cmp}
@@ -34,11 +35,7 @@ pub some_of : {A : Type 0} (o : Option A) → is_some o ≡ true → (x : A) × 
 some_of None h = absurd (true≢false (sym h))
 some_of (Some x) h = (x, refl)
 
-pub both_true : (a b : Bool) → (a && b) ≡ true → (a ≡ true) × (b ≡ true)
-both_true true b h = (refl, h)
-both_true false b h = absurd (true≢false (sym h))
-
-less : (r : Ordering) → is_lt r ≡ true → r ≡ Less
+pub less : (r : Ordering) → is_lt r ≡ true → r ≡ Less
 less Less h = refl
 less Equal h = cc
 less Greater h = cc

@@ -1,10 +1,12 @@
 -- Members of lists, and what tests that are joined say.
-use Rattle.std.proofs.Common.{◌≡◌, ℕ, suc, ◌+◌, ◌<◌, ◌==◌, ◌⊎◌, ◌↔◌, IsTrue, Bool, true, false, cond, ◌&&◌, ◌||◌, true≢false, List, [], ◌∷◌, ◌++◌, length, get_or, take, drop, drop-cons, Option, Some, None, refl, sym, ◌∙◌, inl, inr, arith}
+use Rattle.std.proofs.Common.{◌≡◌, ℕ, suc, ◌+◌, ◌<◌, ◌==◌, ◌⊎◌, ◌↔◌, IsTrue, Bool, true, false, cond, true≢false, List, [], ◌∷◌, ◌++◌, length, get_or, take, drop, drop-cons, Option, Some, None, refl, sym, ◌∙◌, inl, inr, arith}
 use Rattle.std.specs.List.{Contains, filter, filter_map, flat_map, list_any, cons_option}
 use Rattle.std.proofs.lemmas.Bool.Decides.{nat_tests}
 use Rattle.std.proofs.lemmas.List.{length-append, length-drop, length-take, take-append-drop}
 use Rattle.std.proofs.lemmas.List.Elements.{Contains-append_cases, Contains-append_left, Contains-append_right, Contains-push_cases}
 use Rattle.std.proofs.lemmas.List.Folds.{list_any_at}
+pub use Rattle.std.proofs.lemmas.Bool.{and_parts as both, and_from as and_true, or_left, or_right, eqb-true as eq_same}
+pub use Rattle.query_model.proofs.NumberedVariables.{split as from_or}
 
 module _ {A : Type 0} where
   -- a list without the element at a place
@@ -41,11 +43,6 @@ module _ {A : Type 0} where
         | inl n ↦ (k, (0, omega arith, refl), n)
         | inr t ↦ let r = from_flat_map next ks y t in (r.0, Contains-append_right (k ∷ []) ks r.0 r.1, r.2)
       ]
-
--- one of two tests passes
-pub from_or : (a b : Bool) → (a || b) ≡ true → (a ≡ true) ⊎ (b ≡ true)
-from_or true b e = inl refl
-from_or false b e = inr e
 
 -- an item that passes
 pub passing : {X : Type 0} (p : X → Bool) (xs : List X) → list_any p xs ≡ true → (x : X) × Contains xs x × IsTrue (p x)
@@ -103,27 +100,8 @@ pub filtered : {A : Type 0} (p : A → Bool) (xs : List A) (y : A) → Contains 
 filtered p [] y = (λ h. absurd (omega (arith, h.1)), λ h. absurd (omega (arith, (h.0).1)))
 filtered p (x ∷ xs) y = filtered_at p x xs y (p x) refl (filtered p xs y)
 
-pub both : (a b : Bool) → (a && b) ≡ true → (a ≡ true) × (b ≡ true)
-both true b h = (refl, h)
-both false b h = absurd (true≢false (sym h))
-
-pub and_true : (a b : Bool) → a ≡ true → b ≡ true → (a && b) ≡ true
-and_true true b e f = f
-and_true false b e f = absurd (true≢false (sym e))
-
-pub or_left : (a b : Bool) → a ≡ true → (a || b) ≡ true
-or_left true b e = refl
-or_left false b e = absurd (true≢false (sym e))
-
-pub or_right : (a b : Bool) → b ≡ true → (a || b) ≡ true
-or_right true b e = refl
-or_right false b e = e
-
 pub eq_itself : (x : ℕ) → (x == x) ≡ true
 eq_itself x = grind (arith, nat_tests)
-
-pub eq_same : (x y : ℕ) → (x == y) ≡ true → x ≡ y
-eq_same x y e = grind (arith, nat_tests)
 
 -- two tests that pass alike
 pub alike : (a b : Bool) → (IsTrue a → IsTrue b) → (IsTrue b → IsTrue a) → a ≡ b

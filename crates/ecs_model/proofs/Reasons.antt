@@ -1,7 +1,8 @@
 -- What is known where no reason applied.
-use Rattle.std.specs.Prelude.{◌≡◌, ℕ, zero, suc, ◌+◌, ◌-◌, ◌<◌, ◌≤◌, Bool, true, false, ◌||◌, not, List, ◌∷◌, Option, Some, None, option_map, nat_lt}
-use Rattle.std.proofs.Common.{refl, sym, subst, arith, true≢false}
+use Rattle.std.specs.Prelude.{◌≡◌, ℕ, zero, suc, ◌+◌, ◌-◌, ◌<◌, ◌≤◌, Bool, true, false, not, List, ◌∷◌, Option, Some, None, option_map, nat_lt}
+use Rattle.std.proofs.Common.{refl, subst, arith}
 use Rattle.std.proofs.lemmas.Bool.Decides.{nat_tests}
+pub use Rattle.std.proofs.lemmas.Bool.{or_parts as neither, not-false as denied, not-true as refused}
 use Rattle.ecs_id.specs.declared.EntityId.{EntityId}
 use Rattle.ecs_model.specs.declared.faults.Refusal.{Refusal}
 use Rattle.ecs_model.specs.Map.{count_at}
@@ -14,18 +15,6 @@ use Rattle.ecs_model.proofs.Maps.{both_true}
 pub passed : (b : Bool) (r : Refusal) (rs : List (Bool × Refusal)) → first_reason ((b, r) ∷ rs) ≡ None → (b ≡ false) × (first_reason rs ≡ None)
 passed true r rs h = cc
 passed false r rs h = (refl, h)
-
-pub neither : (a b : Bool) → (a || b) ≡ false → (a ≡ false) × (b ≡ false)
-neither true b h = absurd (true≢false h)
-neither false b h = (refl, h)
-
-pub denied : (b : Bool) → not b ≡ false → b ≡ true
-denied true h = refl
-denied false h = absurd (true≢false h)
-
-pub refused : (b : Bool) → not b ≡ true → b ≡ false
-refused true h = absurd (true≢false (sym h))
-refused false h = refl
 
 -- the first number that passes does so, and is one of those that were tried
 pub first_passing_is : (test : ℕ → Bool) (n i k : ℕ) → first_passing test n i ≡ Some k → (test k ≡ true) × (i ≤ k) × (k < i + n)

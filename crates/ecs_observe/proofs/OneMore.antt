@@ -1,12 +1,13 @@
 -- What a session has once one stored query more is held.
-use Rattle.std.specs.Prelude.{◌≡◌, ◌≢◌, ℕ, ◌+◌, ◌<◌, ◌≤◌, cond, List, [], ◌∷◌, ◌++◌, slice_index_or, All, map, length, Option, None, option_map, IfSome, Result, Ok, Err, OnOk, IsOk, if◌then◌else◌}
+use Rattle.std.specs.Prelude.{◌≡◌, ◌≢◌, ℕ, ◌+◌, ◌<◌, ◌≤◌, cond, List, [], ◌∷◌, ◌++◌, slice_index_or, All, map, length, Option, None, option_map, IfSome, if◌then◌else◌}
 use Rattle.std.specs.declared.string.String.{String}
 use Rattle.std.specs.String.{string_bytes}
-use Rattle.std.proofs.Common.{sym, ap, subst, ◌∙◌, arith, true≢false}
+use Rattle.std.proofs.Common.{sym, ap, subst, ◌∙◌, arith}
 use Rattle.std.proofs.lemmas.List.{length-map, length_push, map-append}
 use Rattle.std.proofs.lemmas.List.Elements.{All-push}
 use Rattle.std.proofs.lemmas.List.Quantifiers.{all_pairs_push}
 use Rattle.std.proofs.lemmas.List.Sums.{count_by-le-length, sum_by_push}
+pub use Rattle.name_order.proofs.Placed.{of_ok}
 use Rattle.ecs_model.specs.Command.{Changed}
 use Rattle.ecs_model.specs.Map.{count_at}
 use Rattle.ecs_model.specs.World.{WorldState}
@@ -87,11 +88,6 @@ module _ (w v : world.Standing) (hs : List Held) (h : Held) (waiting : Option Ch
 pub same_seen : {A : Type 0} (w v : world.Standing) (es fs : List (String A × StoredQuery A)) (waiting : Option Changed) (n : ℕ) → v.state ≡ w.state → v.tables ≡ w.tables → fs ≡ es
     → seen v fs waiting n ≡ seen w es waiting n
 same_seen w v es fs waiting n state tables entries = λ i. record { world = record { state = state i; tables = tables i }; stored = map held_of (entries i); waiting = waiting; compared = n }
-
--- what is so of an accepted call
-pub of_ok : {T E P : Type 0} (r : Result T E) → OnOk r P → IsOk r → P
-of_ok (Ok x) h ok = h
-of_ok (Err e) h ok = absurd (true≢false (sym ok))
 
 -- ---- in the map
 

@@ -19,6 +19,7 @@ use Rattle.ecs_model.specs.rows.View.{view_of}
 use Rattle.query_meaning.specs.Standing.{IsCurrentIn}
 use Rattle.query_meaning.proofs.Mentioned.{asked_queries_are_current}
 use Rattle.std.specs.List.Sorted.{IsStrictlyIncreasing}
+pub use Rattle.ecs_archetypes.proofs.ArchetypeCalls.{none_where as none_there}
 use Rattle.ecs_observe.specs.Answers.{AnswersApply}
 use Rattle.ecs_observe.specs.declared.errors.SessionError.{SessionError}
 use Rattle.ecs_observe.specs.declared.errors.SessionError.TheVariants.{Refused, Memory}
@@ -31,10 +32,6 @@ use Rattle.ecs_observe.specs.Standing.{Standing, session_of, stored_of}
 use Rattle.ecs_observe.specs.Storing.{AnswersWatched, store_refusal, with_held}
 use Rattle.ecs_observe.proofs.Found.{as_many, first_of, refusal_is, stored_is, waits, world_is}
 use Rattle.ecs_observe.proofs.OneMore.{none_waits}
-
-pub none_there : {X : Type 0} (o : Option X) → is_some o ≡ false → o ≡ None
-none_there None h = refl
-none_there (Some x) h = absurd (true≢false h)
 
 -- ---- a new stored query
 

@@ -1,5 +1,5 @@
 -- What is sent of a kept query's rows, and how the calls of the writer stand behind it.
-use Rattle.std.proofs.Common.{◌≡◌, ℕ, List, length, refl, sym, ap, ◌∙◌, subst}
+use Rattle.std.proofs.Common.{◌≡◌, ℕ, List, length, refl, sym, subst}
 use Rattle.std.specs.Prelude.{IsErrAnd, Option, Some, [], Result, Ok, Err, max, ⊤}
 use Rattle.ecs_model.specs.World.{WorldState}
 use Rattle.ecs_model.specs.declared.faults.SessionRefusal.{SessionRefusal}
@@ -33,7 +33,7 @@ IsMemory send.Write = ⊥
 other : {T : Type 0} (r : Result T SendRowsError) → ¬ IsErrAnd r IsWrite → ¬ (r ≡ Err (rows.Unsent send.Write))
 other r none is = let P : Result _ SendRowsError → Type 0 = λ g. IsErrAnd g IsWrite in none (subst P (sym is) tt)
 
-memory_apart : {T : Type 0} (r : Result T SendError) → r ≡ Err send.Memory → ¬ (r ≡ Err send.Write)
+pub memory_apart : {T : Type 0} (r : Result T SendError) → r ≡ Err send.Memory → ¬ (r ≡ Err send.Write)
 memory_apart r memory write = let P : Result _ SendError → Type 0 = λ g. IsErrAnd g IsMemory in subst P write (subst P (sym memory) tt)
 
 -- ---- the calls of the writer

@@ -12,13 +12,13 @@ ghost use Rattle.ecs_observe.specs.Parts.{with_kept_at};
 ghost use Rattle.ecs_observe.specs.Stored.{AreLedTo, IsOpened, IsStored, entries_of, made_of};
 ghost use Rattle.ecs_observe.specs.Telling.{is_locally_at};
 ghost use Rattle.name_order.specs.Order.{IsPlaceOf, is_key};
-ghost use Rattle.touched_entities.specs.Concerned.{has_births_or_deaths};
 
 use ecs_world::Changes;
 use short_list::ShortNumbers;
 use std::alloc::{AllocError, Allocator};
 use std::hash::RandomState;
 use stored_queries::{RowsAfter, StoredQuery, is_told};
+use touched_entities::has_births_or_deaths;
 use watch_index::laws::whom_changes_concern_they_lead_to;
 use watch_index::{Happened, occasions_of};
 use watch_order::{Boxed, WatchOrder, Watcher};
@@ -194,11 +194,4 @@ impl<A: Allocator> StoredQueries<A> {
             self.all.order.made[place].value.value.keep(rows);
         }
     }
-}
-
-/// Whether somebody was born or died.
-fn has_births_or_deaths<A: Allocator>(changes: &Changes<A>) -> bool
-    ensures { result ≡ has_births_or_deaths changes.now }
-{
-    changes.born().is_some() || !changes.died().is_empty()
 }

@@ -1,11 +1,13 @@
 -- The numbers of a value as they are printed, one field more at a time, from the last on.
-use Rattle.std.specs.Prelude.{◌≡◌, ℕ, zero, suc, ◌+◌, ◌^◌, ◌<◌, ◌≤◌, Bool, true, false, ◌&&◌, ℤ, pos, negsuc, int_le, unsigned_abs, IsTrue, List, [], ◌∷◌, ◌++◌, flat_map, drop, length, slice_get, Some, Result, Ok, Err, OnOk, is_ok, if◌then◌else◌}
+use Rattle.std.specs.Prelude.{◌≡◌, ℕ, zero, suc, ◌+◌, ◌^◌, ◌<◌, ◌≤◌, false, ℤ, pos, negsuc, int_le, unsigned_abs, IsTrue, List, [], ◌∷◌, ◌++◌, flat_map, drop, length, slice_get, Some, Result, Ok, Err, OnOk, is_ok, if◌then◌else◌}
 use Rattle.std.specs.Fmt.{decimal, signed_decimal}
 use Rattle.std.proofs.Common.{refl, ap, sym, ◌∙◌, append-nil, arith}
 use Rattle.std.proofs.lemmas.Bool.Decides.{nat_tests}
 use Rattle.std.proofs.lemmas.Fmt.{length-decimal-le}
 use Rattle.std.proofs.lemmas.Int.{ints}
 use Rattle.std.proofs.lemmas.List.{drop-drop}
+use Rattle.ecs_schema.proofs.Words.{first_true}
+use Rattle.ecs_schema.proofs.Packed.{second_true}
 use Rattle.ecs_model.specs.declared.Kind.{Kind}
 use Rattle.ecs_model.specs.declared.Kind.TheVariants.{I8, U8, I16, U16, I32, U32, I64, U64}
 use Rattle.ecs_model.specs.Schema.{Schema, all_fit, fits_kind}
@@ -47,14 +49,6 @@ fits_word U8 (negsuc n) h = cc
 fits_word U16 (negsuc n) h = cc
 fits_word U32 (negsuc n) h = cc
 fits_word U64 (negsuc n) h = cc
-
-first_true : (a b : Bool) → (a && b) ≡ true → a ≡ true
-first_true true b h = refl
-first_true false b h = h
-
-second_true : (a b : Bool) → (a && b) ≡ true → b ≡ true
-second_true true b h = h
-second_true false b h = cc
 
 pub number_fits : (fs : Schema) (vs : List ℤ) (i : ℕ) (v : ℤ) → length vs ≡ length fs → IsTrue (all_fit fs vs) → slice_get vs i ≡ Some v → unsigned_abs v < 2 ^ 64
 number_fits fs [] i v n h at = cc

@@ -1,5 +1,5 @@
 -- The facts of an entity as they are printed, from the bytes of their values.
-use Rattle.std.specs.Prelude.{◌≡◌, ℕ, codes, zero, suc, ◌+◌, ◌≤◌, Bool, true, false, List, [], ◌∷◌, ◌++◌, flat_map, take, length, slice_get, if◌then◌else◌, IfSome, IsTrue, Option, Some, None, option_map}
+use Rattle.std.specs.Prelude.{◌≡◌, ℕ, codes, zero, suc, ◌+◌, Bool, true, false, List, [], ◌∷◌, ◌++◌, flat_map, take, length, slice_get, if◌then◌else◌, IfSome, IsTrue, Option, Some, None, option_map}
 use Rattle.std.specs.Option.{option_or}
 use Rattle.std.specs.Ordering.{nat_cmp}
 use Rattle.std.proofs.Common.{refl, ap, sym, ◌∙◌, add-one, append_assoc, arith}
@@ -10,14 +10,13 @@ use Rattle.ecs_id.specs.Id.{Id, plain, pair, id_cmp}
 use Rattle.ecs_model.specs.Map.{keys, value_at}
 use Rattle.ecs_model.specs.Output.{fact_text}
 use Rattle.ecs_model.specs.Print.{id_text, value_text}
-use Rattle.ecs_model.specs.Schema.{Schema, schema_fault, width}
+use Rattle.ecs_model.specs.Schema.{Schema, schema_fault}
 use Rattle.ecs_model.specs.traits.Keeps.{IsWellFormed}
-use Rattle.ecs_model.specs.declared.Kind.{Kind}
-use Rattle.ecs_model.specs.declared.Kind.TheVariants.{I8, U8, I16, U16, I32, U32, I64, U64}
 use Rattle.ecs_model.specs.World.{WorldState, holds, ids_of, is_live, pair_is_tag, type_of_id, value_of}
 use Rattle.ecs_schema.proofs.Packed.{size_of-first}
 use Rattle.ecs_archetypes.specs.Holdings.{Cells}
 use Rattle.ecs_world.specs.State.{AreFactsOf, byte_count, value_in}
+use Rattle.ecs_world.proofs.Copied.{some_width}
 use Rattle.ecs_print.specs.Values.{ended_text, held_text}
 
 -- a fact is printed by the bytes of its value
@@ -66,16 +65,6 @@ sound_type w is (pair r t) = by (holds w r (plain pair_is_tag)) (value_at nat_cm
     by true o p h k = tt
     by false None p h k = k
     by false (Some fs) p h k = h
-
-some_width : (k : Kind) → 1 ≤ width k
-some_width I8 = omega arith
-some_width U8 = omega arith
-some_width I16 = omega arith
-some_width U16 = omega arith
-some_width I32 = omega arith
-some_width U32 = omega arith
-some_width I64 = omega arith
-some_width U64 = omega arith
 
 -- an id whose values have no bytes has no type
 pub no_type : (w : WorldState) → IsWellFormed w → (i : Id) → byte_count (type_of_id w i) ≡ 0 → type_of_id w i ≡ None

@@ -1,11 +1,12 @@
 -- What bytes mean that no value was written to.
-use Rattle.std.proofs.Common.{◌≡◌, ℕ, zero, suc, ◌+◌, ◌-◌, ◌<◌, Bool, true, IsTrue, ◌&&◌, List, [], ◌∷◌, length, get_or, take, drop, replicate, ℤ, pos, refl, ap, arith}
+use Rattle.std.proofs.Common.{◌≡◌, ℕ, zero, suc, ◌+◌, ◌-◌, ◌<◌, IsTrue, List, [], ◌∷◌, length, get_or, take, drop, replicate, ℤ, pos, refl, ap, arith}
 use Rattle.std.specs.Int.{w8, w16, w32, w64, from_le_bytes}
 use mir.Val.{SFits}
 use Rattle.std.proofs.Math.Facts.{sfits_to_z}
 use Rattle.std.proofs.lemmas.Int.{ints}
 use Rattle.std.proofs.lemmas.Bool.Decides.{nat_tests}
 use Rattle.std.proofs.lemmas.List.{drop-replicate, get_or-drop, take-replicate}
+use Rattle.std.proofs.lemmas.Bool.{and_from}
 use Rattle.ecs_model.specs.declared.Kind.{Kind}
 use Rattle.ecs_model.specs.declared.Kind.TheVariants.{I8, U8, I16, U16, I32, U32, I64, U64}
 use Rattle.ecs_model.specs.Schema.{Schema, width, fits_kind, all_fit, zeros}
@@ -72,11 +73,8 @@ fits-number_in U64 bs h =
     let a = h 0 in let b = h 1 in let c = h 2 in let d = h 3 in let e = h 4 in let f = h 5 in let g = h 6 in let i = h 7 in
     grind (arith, nat_tests)
 
-both_true : (a b : Bool) → a ≡ true → b ≡ true → (a && b) ≡ true
-both_true a b h k = rw (h, k)
-
 -- bytes mean a value
 pub all_fit-values_in : (fs : Schema) (bs : List ℕ) → AreBytes bs → IsTrue (all_fit fs (values_in fs bs))
 all_fit-values_in [] bs h = refl
 all_fit-values_in (f ∷ fs) bs h =
-    both_true _ _ (fits-number_in f.kind (take (width f.kind) bs) (AreBytes-take (width f.kind) bs h)) (all_fit-values_in fs (drop (width f.kind) bs) (AreBytes-drop (width f.kind) bs h))
+    and_from _ _ (fits-number_in f.kind (take (width f.kind) bs) (AreBytes-take (width f.kind) bs h)) (all_fit-values_in fs (drop (width f.kind) bs) (AreBytes-drop (width f.kind) bs h))

@@ -14,7 +14,7 @@ use Rattle.ecs_model.specs.Schema.{Field, Schema, width, fits_kind, all_fit}
 use Rattle.ecs_model.specs.Bytes.{number_bytes, number_in, size_of, value_bytes, values_in}
 use Rattle.ecs_schema.proofs.Words.{first_true, SFits-I8, SFits-I16, SFits-I32, SFits-I64}
 
-second_true : (a b : Bool) → (a && b) ≡ true → b ≡ true
+pub second_true : (a b : Bool) → (a && b) ≡ true → b ≡ true
 second_true true b h = h
 second_true false b h = cc
 

@@ -1,11 +1,12 @@
 -- What the calls need that carry out accepted commands, and what they leave.
-use Rattle.std.proofs.Common.{◌≡◌, ◌<◌, ℕ, ◌+◌, ◌==◌, Bool, true, false, not, ◌&&◌, List, [], ◌∷◌, length, replicate, ℤ, Option, Some, None, is_some, IsTrue, Result, Ok, Err, is_err, IfOk, OnOk, OnErr, refl, sym, ap, subst, ◌∙◌, true≢false}
+use Rattle.std.proofs.Common.{◌≡◌, ◌<◌, ℕ, ◌+◌, ◌==◌, Bool, true, false, ◌&&◌, List, [], ◌∷◌, length, replicate, ℤ, Option, Some, None, is_some, IsTrue, Result, Ok, Err, is_err, IfOk, OnOk, OnErr, refl, sym, ap, subst, ◌∙◌, true≢false}
 use Rattle.std.proofs.lemmas.Bool.Decides.{Decides-eqb}
 use Rattle.std.proofs.lemmas.List.{length-map}
 use Rattle.std.specs.FinMap as finite
 use Rattle.std.specs.List.{list_all}
 use Rattle.std.specs.Option.{option_map_or}
 use Rattle.std.specs.Ordering.{nat_cmp}
+pub use Rattle.std.proofs.lemmas.Bool.{not-true as refuted}
 use Rattle.ecs_id.specs.declared.EntityId.{EntityId}
 use Rattle.ecs_id.specs.Id.{Id, plain, mentioned, id_cmp, id_eq}
 use Rattle.ecs_model.specs.Map.{Map, value_at, has_key, with_value, without}
@@ -32,10 +33,6 @@ use Rattle.ecs_world.proofs.Left.{cells_left, effect-add, effect-remove, effect-
 use Rattle.ecs_world.proofs.NameLists.{AreNamed-bound, AreNamed-same, unnamed}
 use Rattle.ecs_world.proofs.Simple.{after_replacing, old_no_trait}
 use Rattle.ecs_world.proofs.States.{AreNamed-world, holds_is, ids_is, unsettled_dead, size_agrees, state_alike, type_is, world_alike, zeros_are_new}
-
-pub refuted : (b : Bool) → not b ≡ true → b ≡ false
-refuted true h = absurd (true≢false (sym h))
-refuted false h = refl
 
 pub on_ok : {T E : Type 0} {P : Type 0} (r : Result T E) → OnOk r P → is_err r ≡ false → P
 on_ok (Ok t) p h = p

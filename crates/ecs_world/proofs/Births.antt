@@ -1,5 +1,5 @@
 -- What the birth of an entity leaves.
-use Rattle.std.proofs.Common.{◌≡◌, ◌≢◌, ℕ, ◌<◌, ◌==◌, Bool, true, false, cond, ◌&&◌, List, [], ◌∷◌, Option, Some, None, is_some, refl, sym, ap, subst, ◌∙◌, inl, inr, true≢false}
+use Rattle.std.proofs.Common.{◌≡◌, ◌≢◌, ℕ, ◌<◌, ◌==◌, Bool, true, false, cond, ◌&&◌, List, [], ◌∷◌, Some, None, is_some, refl, sym, ap, subst, ◌∙◌, inl, inr, true≢false}
 use Rattle.std.specs.Cmp.{Equal-is}
 use Rattle.std.specs.FinMap as finite
 use Rattle.std.specs.FinMap.Entries.{by_order}
@@ -20,6 +20,7 @@ use Rattle.ecs_model.proofs.Maps.{both_true, key_cmp_same, nat_value_at}
 use Rattle.ecs_model.proofs.Reasons.{next_is_free}
 use Rattle.name_index.specs.Names.{Names}
 use Rattle.ecs_archetypes.specs.Holdings.{AreHoldings, Cells, HoldAlike, Holdings, KeepsSizes, Sizes, cells_at, holds_id, with_cells, with_entity}
+use Rattle.ecs_archetypes.proofs.ArchetypeCalls.{none_where}
 use Rattle.pin_counts.specs.Counts.{Counts}
 use Rattle.ecs_world.specs.State.{IsWorld, Parts, parts_of, all_facts, byte_count, is_known_rightly, names_of, state_of, type_of, value_in}
 use Rattle.ecs_world.proofs.Entities.{alive_of}
@@ -49,10 +50,6 @@ keys_put (e ∷ m) (f ∷ n) k x y h =
     by Equal Greater p first rest more = cc
     by Greater Less p first rest more = cc
     by Greater Equal p first rest more = cc
-
-none_of : {X : Type 0} (o : Option X) → is_some o ≡ false → o ≡ None
-none_of None h = refl
-none_of (Some x) h = absurd (true≢false h)
 
 no_tag : (e r : ℕ) → eq_by_cmp key_cmp (r, plain pair_is_tag) (e, plain component) ≡ false
 no_tag e r = by (eq_by_cmp key_cmp (r, plain pair_is_tag) (e, plain component)) refl
@@ -84,7 +81,7 @@ module _ {parts : Parts} (world : IsWorld parts) (e : EntityId) (next : next_ent
   fresh = (next_is_free w e next).fresh
 
   pub none_live : value_at nat_cmp h.live e.index ≡ None
-  none_live = none_of (value_at nat_cmp h.live e.index) fresh
+  none_live = none_where (value_at nat_cmp h.live e.index) fresh
 
   pub none_settled : cells_at h e.index ≡ None
   none_settled = unsettled_at world e.index fresh

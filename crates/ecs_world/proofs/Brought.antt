@@ -96,12 +96,12 @@ pub listed : {w v : WorldState} {came went : List Key} {sized : Coming} → w �
 listed {came = came} {went = went} {sized = sized} is e i none came_are went_are sized_are =
     subst (λ u. IsListed u e i came went sized) (sym is) (record { none = none; came_are = came_are; went_are = went_are; sized_are = sized_are })
 
-effect_is : (w : WorldState) (e : EntityId) (i : Id) → effect w (Add e i) ≡ with_facts w (facts_after_add w e.index i)
+pub effect_is : (w : WorldState) (e : EntityId) (i : Id) → effect w (Add e i) ≡ with_facts w (facts_after_add w e.index i)
 unfolding effect
 effect_is w e i = refl
 
 -- an addition leaves a well-formed world, before it is counted
-added_sound : (w : WorldState) (e : EntityId) (i : Id) → IsWellFormed w → first_reason (reasons w (Add e i)) ≡ None → IsWellFormed (with_facts w (facts_after_add w e.index i))
+pub added_sound : (w : WorldState) (e : EntityId) (i : Id) → IsWellFormed w → first_reason (reasons w (Add e i)) ≡ None → IsWellFormed (with_facts w (facts_after_add w e.index i))
 added_sound w e i h none = before_count (with_facts w (facts_after_add w e.index i)) (subst (λ v. IsWellFormed (counted v)) (effect_is w e i) (keeps_add w e i h none))
 
 -- none is a part of all

@@ -1,5 +1,5 @@
 -- What is left after entities were deleted, with all facts that mention them.
-use Rattle.std.proofs.Common.{◌≡◌, ◌↔◌, ℕ, ◌==◌, Bool, true, false, cond, not, ◌&&◌, ◌||◌, List, [], ◌∷◌, length, ℤ, Option, Some, None, option_map, unwrap_or, is_some, if◌then◌else◌, IfSome, IsTrue, Result, Ok, Err, OnErr, refl, sym, ap, subst, ◌∙◌, arith, true≢false}
+use Rattle.std.proofs.Common.{◌≡◌, ◌↔◌, ℕ, ◌==◌, Bool, true, false, cond, not, ◌&&◌, ◌||◌, List, [], ◌∷◌, length, ℤ, Option, Some, None, option_map, unwrap_or, is_some, if◌then◌else◌, IfSome, IsTrue, refl, sym, ap, subst, ◌∙◌, arith, true≢false}
 use Rattle.std.specs.Prelude.{map, filter}
 use Rattle.std.proofs.lemmas.Bool.Decides.{nat_tests, Decides-eqb}
 use Rattle.std.specs.Cmp.{nat_cmp_total}
@@ -9,10 +9,11 @@ use Rattle.std.specs.FinMap.Entries.{below_all, is_some-find, is_sorted}
 use Rattle.std.specs.List.{AllByRecursion, Contains, cons_option, list_all, list_any}
 use Rattle.std.specs.List.Sorted.{IsStrictlySortedBy}
 use Rattle.std.specs.Option.{option_eq, option_map_or, option_or}
-use Rattle.std.specs.Ordering.{eq_by_cmp, is_lt, nat_cmp}
+use Rattle.std.specs.Ordering.{is_lt, nat_cmp}
 use Rattle.std.specs.declared.cmp.Ordering.{Ordering}
-use Rattle.std.specs.declared.cmp.Ordering.TheVariants.{Less, Equal, Greater}
+use Rattle.std.specs.declared.cmp.Ordering.TheVariants.{Less}
 use Rattle.std.proofs.lemmas.List.Kept.{IsStrictlySortedBy-filter}
+pub use Rattle.component_index.proofs.ListedLemmas.{on_err as whatever}
 use Rattle.ecs_id.specs.declared.EntityId.{EntityId}
 use Rattle.ecs_id.specs.Id.{Id, plain, pair, mentioned, id_cmp}
 use Rattle.ecs_model.specs.declared.faults.Refusal.TheVariants.{Dead, BuiltIn, InUse, Panic, Full}
@@ -27,7 +28,7 @@ use Rattle.ecs_model.specs.World.{WorldState, Key, key_cmp, key_eq, entities, id
 use Rattle.ecs_model.specs.traits.Changes.{deleted, is_forbidden, mentions_gone, facts_after_delete}
 use Rattle.ecs_model.specs.traits.Command.{Delete, delete_reasons, is_pinned, reasons, without_entities}
 use Rattle.ecs_model.specs.traits.Keeps.{IsWellFormed}
-use Rattle.ecs_model.proofs.Maps.{both_true, key_cmp_total}
+use Rattle.ecs_model.proofs.Maps.{both_true, key_cmp_total, less}
 use Rattle.ecs_model.proofs.Members.{filtered}
 use Rattle.ecs_model.proofs.Reasons.{neither, passed}
 use Rattle.ecs_model.proofs.Removals.{IsMap-without, value_at-without}
@@ -42,6 +43,7 @@ use Rattle.ecs_archetypes.specs.FactChanges.{changed_cells, coming_to, goes_from
 use Rattle.ecs_archetypes.specs.Holdings.{AreHoldings, Cells, HoldAlike, Holdings, KeepsSizes, bytes_at, cells_at, holds_id, is_settled, lives, without_entity}
 use Rattle.ecs_archetypes.specs.Moves.{are_apart, are_deletable, without_each}
 use Rattle.ecs_archetypes.proofs.FactReads.{bytes_changed, cells_changed}
+use Rattle.ecs_archetypes.proofs.MapLists.{eq_tells}
 use Rattle.fact_rules.specs.Deletions.{is_lost}
 use Rattle.name_index.specs.Names.{IsOneToOne, Names}
 use Rattle.pin_counts.specs.Counts.{Counts}
@@ -54,7 +56,7 @@ use Rattle.ecs_world.proofs.NameLists.{IsMap-names, and_then, name_kept, names_a
 use Rattle.ecs_world.proofs.States.{AreCells-whole, AreNamed-world, all_implied, holds_is, settled_at, state_alike, value_is, world_alike}
 
 -- a world is well formed before it is counted
-still_sound : (w : WorldState) → IsWellFormed (counted w) → IsWellFormed w
+pub still_sound : (w : WorldState) → IsWellFormed (counted w) → IsWellFormed w
 still_sound w h = record {
   in_order = record {
     live = (h.in_order).live;
@@ -79,11 +81,6 @@ still_sound w h = record {
 
     typed : (e : ℕ) (i : Id) → IfSome (value_of w e i) (λ v. (length v ≡ length (new_value w i)) × IsTrue (option_map_or (λ fs. all_fit fs v) (type_of_id w i) true))
     typed e i = subst (λ o. IfSome (value_of w e i) (λ v. (length v ≡ length (option_map_or zeros o [])) × IsTrue (option_map_or (λ fs. all_fit fs v) o true))) (types i) (h.typed e i)
-
-less : (o : Ordering) → is_lt o ≡ true → o ≡ Less
-less Less h = refl
-less Equal h = absurd (true≢false (sym h))
-less Greater h = absurd (true≢false (sym h))
 
 module _ {K X : Type 0} (R : K → K → Ordering) where
   pub without_none : (m : Map K X) → without R m (λ k. false) ≡ m
@@ -126,15 +123,8 @@ none_rise = tt
 abbrev pub among : List ℕ → ℕ → Bool
 among is k = list_any (λ x. k == x) is
 
-same_test : (k x : ℕ) → eq_by_cmp nat_cmp k x ≡ (k == x)
-same_test k x = by (eq_by_cmp nat_cmp k x) refl
-  where
-    by : (b : Bool) → eq_by_cmp nat_cmp k x ≡ b → b ≡ (k == x)
-    by true h = let same : k ≡ x = grind (arith, nat_tests) in sym ((Decides-eqb k x).1 same)
-    by false h = let other : (k == x) ≡ false = grind (arith, nat_tests) in sym other
-
 key_among : {X : Type 0} (m : Map ℕ X) (k : ℕ) → has_key nat_cmp m k ≡ among (keys m) k
-key_among m k = is_some-find nat_cmp k m ∙ (λ j. list_any (λ x. same_test k x j) (keys m))
+key_among m k = is_some-find nat_cmp k m ∙ (λ j. list_any (λ x. eq_tells k x j) (keys m))
 
 -- entities with these indexes, each with its generation
 module _ (f : ℕ → ℕ) where
@@ -556,7 +546,3 @@ module _ {parts : Parts} (world : IsWorld parts) {v : WorldState} (is : state_of
           (subst (λ (es : List EntityId). (n : List ℕ) (f : EntityId) → (finite.get names' n ≡ Some f) ↔ ((finite.get parts.names n ≡ Some f) × (Contains es f → ⊥))) these names_are)
           (subst (λ xs. (test : Id × ℕ → Bool) → list_all (λ c. mentions_one xs c.0 || test c) (parts.holdings).known ≡ true → list_all test h'.known ≡ true) (same_ids ∙ ids_are) released) in
           (done.0, done.1 ∙ ap (λ u. without_entities u (deleted u e.index)) is)
-
-pub whatever : {T E : Type 0} {P : Type 0} (r : Result T E) → P → OnErr r P
-whatever (Ok t) p = tt
-whatever (Err e) p = p

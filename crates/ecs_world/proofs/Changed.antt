@@ -1,19 +1,20 @@
 -- What is left of a world where facts have come and gone, each with the value that is read there.
-use Rattle.std.proofs.Common.{◌≡◌, ℕ, ◌==◌, Bool, true, false, cond, not, List, [], ◌∷◌, map, if◌then◌else◌, refl, sym, ap, subst, ◌∙◌, arith, true≢false}
-use Rattle.std.specs.Prelude.{ℤ, Option, Some, None, option_map, unwrap_or, is_some, IfSome, IsTrue, length, Result, Ok, Err, OnErr}
+use Rattle.std.proofs.Common.{◌≡◌, ℕ, ◌==◌, Bool, true, false, cond, not, List, [], ◌∷◌, map, if◌then◌else◌, refl, sym, ap, subst, ◌∙◌, true≢false}
+use Rattle.std.specs.Prelude.{ℤ, Option, Some, None, option_map, unwrap_or, is_some}
 use Rattle.std.specs.List.{AllByRecursion, list_all, list_any}
 use Rattle.std.specs.List.Sorted.{IsStrictlySortedBy}
-use Rattle.std.specs.Option.{option_eq, option_map_or, option_or}
+use Rattle.std.specs.Option.{option_eq, option_or}
 use Rattle.std.specs.Ordering.{nat_cmp, is_lt}
 use Rattle.std.specs.FinMap.{is_sorted}
 use Rattle.std.specs.FinMap.Entries.{below_all}
 use Rattle.std.specs.declared.cmp.Ordering.{Ordering}
 use Rattle.std.specs.declared.cmp.Ordering.TheVariants.{Less, Equal, Greater}
+pub use Rattle.component_index.proofs.ListedLemmas.{on_err as when_err}
 use Rattle.ecs_id.specs.Id.{Id, plain, pair, id_cmp}
-use Rattle.ecs_model.specs.Command.{counted, with_facts}
+use Rattle.ecs_model.specs.Command.{with_facts}
 use Rattle.ecs_model.specs.Map.{Map, IsMap, has_key, keys, value_at}
-use Rattle.ecs_model.specs.Schema.{Schema, all_fit, zeros}
-use Rattle.ecs_model.specs.World.{WorldState, Key, key_cmp, key_eq, pair_is_tag, holds, new_value, type_of_id, value_of}
+use Rattle.ecs_model.specs.Schema.{Schema}
+use Rattle.ecs_model.specs.World.{WorldState, Key, key_cmp, key_eq, pair_is_tag, holds, type_of_id}
 use Rattle.ecs_model.specs.traits.Keeps.{IsWellFormed}
 use Rattle.ecs_model.proofs.Maps.{both_true, key_cmp_same}
 use Rattle.ecs_model.proofs.traits.Facts.{key_there}
@@ -26,6 +27,7 @@ use Rattle.pin_counts.specs.Counts.{Counts}
 use Rattle.ecs_world.specs.State.{IsWorld, Parts, parts_of, all_facts, is_known_rightly, names_of, state_of, type_of, value_in}
 use Rattle.ecs_world.proofs.Facts.{IsMap-facts, find-facts, same_facts}
 use Rattle.ecs_world.proofs.States.{AreCells-whole}
+pub use Rattle.ecs_world.proofs.Buried.{still_sound as before_count}
 
 module _ {K : Type 0} (R : K → K → Ordering) where
   is_less : (o : Ordering) → is_lt o ≡ true → o ≡ Less
@@ -42,43 +44,6 @@ module _ {K : Type 0} (R : K → K → Ordering) where
   unfolding IsStrictlySortedBy
   keys_rise [] h = tt
   keys_rise (e ∷ es) h = let parts = both_true (below_all R e.0 es) (is_sorted R es) h in (all_above e.0 es parts.0, keys_rise es parts.1)
-
--- a world is well formed before it is counted
-pub before_count : (w : WorldState) → IsWellFormed (counted w) → IsWellFormed w
-before_count w h = record {
-  in_order = record {
-    live = (h.in_order).live;
-    facts = (h.in_order).facts;
-    names = (h.in_order).names;
-    schemas = (h.in_order).schemas;
-    deletions = (h.in_order).deletions;
-    pins = (h.in_order).pins;
-  };
-  indexes = record { given_out = (h.indexes).given_out; generation = (h.indexes).generation };
-  built_in = record {
-    live = (h.built_in).live;
-    names = (h.built_in).names;
-    facts = (h.built_in).facts;
-    schemas = (h.built_in).schemas;
-  };
-  live = record { names = (h.live).names; names_differ = (h.live).names_differ; schemas = (h.live).schemas; pins = (h.live).pins; facts = (h.live).facts };
-  typed = λ e i. typed e i;
-  few_ids = h.few_ids;
-  counted = omega (arith, h.counted);
-  traits = record {
-    one_target = (h.traits).one_target;
-    mirrored = (h.traits).mirrored;
-    traversable_acyclic = (h.traits).traversable_acyclic;
-    no_cycle = (h.traits).no_cycle;
-  };
-}
-  where
-    types : (i : Id) → type_of_id (counted w) i ≡ type_of_id w i
-    types (plain c) = refl
-    types (pair r t) = refl
-
-    typed : (e : ℕ) (i : Id) → IfSome (value_of w e i) (λ v. (length v ≡ length (new_value w i)) × IsTrue (option_map_or (λ fs. all_fit fs v) (type_of_id w i) true))
-    typed e i = subst (λ o. IfSome (value_of w e i) (λ v. (length v ≡ length (option_map_or zeros o [])) × IsTrue (option_map_or (λ fs. all_fit fs v) o true))) (types i) (h.typed e i)
 
 -- ids have the types of a state with the same fields, in which the same relationships keep their pairs without data
 pub types_are : (h : Holdings) (schemas : Map ℕ Schema) (v : WorldState) → v.schemas ≡ schemas → ((r : ℕ) → holds_id h r (plain pair_is_tag) ≡ holds v r (plain pair_is_tag))
@@ -181,8 +146,3 @@ module _ {parts : Parts} (world : IsWorld parts) (came : Coming) (went : List Ke
 -- the same in other tables, twice
 pub alike_then : {a b c : Holdings} → HoldAlike a b → HoldAlike b c → HoldAlike a c
 alike_then x y = record { live = x.live ∙ y.live; deletions = x.deletions ∙ y.deletions; cells = x.cells ∙ y.cells }
-
--- what is told of a refusal
-pub when_err : {T E : Type 0} {P : Type 0} (r : Result T E) → P → OnErr r P
-when_err (Ok t) p = tt
-when_err (Err e) p = p

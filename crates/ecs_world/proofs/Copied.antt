@@ -62,7 +62,7 @@ copies_each e f g m (c ∷ cs) same =
     copies_each e f g (with_value key_cmp m (e, c) (f c)) cs (λ d n. same d (Contains-append_right (c ∷ []) cs d n))
     ∙ ap (λ v. with_each e g (with_value key_cmp m (e, c) v) cs) (same c (0, omega arith, refl))
 
-some_width : (k : Kind) → 1 ≤ width k
+pub some_width : (k : Kind) → 1 ≤ width k
 some_width I8 = omega arith
 some_width U8 = omega arith
 some_width I16 = omega arith

@@ -1,19 +1,22 @@
 -- The facts of all entities as one list: what is found in it, that it is in order, and what a change of one entity does.
-use Rattle.std.proofs.Common.{◌≡◌, ◌≢◌, ℕ, ◌==◌, Bool, true, false, cond, ◌&&◌, List, [], ◌∷◌, ◌++◌, filter_map, ℤ, Option, Some, None, option_map, unwrap_or, is_some, if◌then◌else◌, refl, sym, ap, subst, ◌∙◌, arith, true≢false}
+use Rattle.std.proofs.Common.{◌≡◌, ◌≢◌, ℕ, ◌==◌, Bool, true, false, cond, List, [], ◌∷◌, ◌++◌, filter_map, ℤ, Option, Some, None, option_map, unwrap_or, is_some, if◌then◌else◌, refl, sym, ap, subst, ◌∙◌, arith, true≢false}
 use Rattle.std.proofs.lemmas.Bool.Decides.{nat_tests, Decides-eqb}
-use Rattle.std.proofs.lemmas.Cmp.{nat_cmp_total, tied_itself}
+use Rattle.std.proofs.lemmas.Cmp.{nat_cmp_total}
 use Rattle.std.specs.List.{cons_option}
 use Rattle.std.specs.declared.cmp.Ordering.{Ordering}
 use Rattle.std.specs.declared.cmp.Ordering.TheVariants.{Less, Equal, Greater}
 use Rattle.std.specs.Ordering.{nat_cmp, eq_by_cmp, is_eq, is_lt, ordering_then}
 use Rattle.std.specs.FinMap.{find, is_sorted}
 use Rattle.std.specs.FinMap.Entries.{below_all, same_entries}
+use Rattle.std.proofs.lemmas.Bool.{and_from}
+use Rattle.pin_counts.proofs.Listed.{tied as nat_self}
 use Rattle.ecs_id.specs.Id.{Id, id_cmp, id_cmp_same}
 use Rattle.ecs_model.specs.Map.{Map, IsMap, value_at, keys}
 use Rattle.ecs_model.specs.Schema.{Schema}
 use Rattle.ecs_model.specs.World.{Key, key_cmp}
 use Rattle.ecs_model.proofs.Maps.{to_T, both_true, key_cmp_total, key_cmp_same, eq_itself, absent_below}
 use Rattle.ecs_archetypes.specs.Holdings.{Cells}
+use Rattle.ecs_archetypes.proofs.Counting.{unequal}
 use Rattle.ecs_world.specs.State.{all_facts, facts_of, value_in}
 
 abbrev pub or_else : {X : Type 0} → Option X → Option X → Option X
@@ -23,10 +26,6 @@ or_else (Some x) y = Some x
 or_else-none : {X : Type 0} (o : Option X) → or_else o None ≡ o
 or_else-none None = refl
 or_else-none (Some x) = refl
-
-both : (a b : Bool) → a ≡ true → b ≡ true → (a && b) ≡ true
-both true b p q = q
-both false b p q = p
 
 module _ {K X : Type 0} (R : K → K → Ordering) where
   or_else-cond : (b : Bool) (x : X) (o p : Option X) → cond b (Some x) (or_else o p) ≡ or_else (cond b (Some x) o) p
@@ -39,7 +38,7 @@ module _ {K X : Type 0} (R : K → K → Ordering) where
 
   pub below_all-join : (x : K) (xs ys : List (K × X)) → below_all R x xs ≡ true → below_all R x ys ≡ true → below_all R x (xs ++ ys) ≡ true
   below_all-join x [] ys g h = h
-  below_all-join x (y ∷ xs) ys g h = let parts = both_true (is_lt (R x y.0)) (below_all R x xs) g in both _ _ parts.0 (below_all-join x xs ys parts.1 h)
+  below_all-join x (y ∷ xs) ys g h = let parts = both_true (is_lt (R x y.0)) (below_all R x xs) g in and_from _ _ parts.0 (below_all-join x xs ys parts.1 h)
 
   -- each of xs is below all of ys
   abbrev all_below : List (K × X) → List (K × X) → Type 0
@@ -48,13 +47,7 @@ module _ {K X : Type 0} (R : K → K → Ordering) where
 
   pub is_sorted-join : (xs ys : List (K × X)) → IsMap R xs → IsMap R ys → all_below xs ys → IsMap R (xs ++ ys)
   is_sorted-join [] ys g h a = h
-  is_sorted-join (x ∷ xs) ys g h a = let parts = both_true (below_all R x.0 xs) (is_sorted R xs) g in both _ _ (below_all-join x.0 xs ys parts.0 a.0) (is_sorted-join xs ys parts.1 h a.1)
-
-nat_self : (e : ℕ) → nat_cmp e e ≡ Equal
-nat_self e = tied_itself nat_cmp_total e
-
-is_eq-nat : (d e : ℕ) → d ≢ e → is_eq (nat_cmp d e) ≡ false
-is_eq-nat d e ne = grind (arith, nat_tests)
+  is_sorted-join (x ∷ xs) ys g h a = let parts = both_true (below_all R x.0 xs) (is_sorted R xs) g in and_from _ _ (below_all-join x.0 xs ys parts.0 a.0) (is_sorted-join xs ys parts.1 h a.1)
 
 is_eq-then : (o p : Ordering) → is_eq o ≡ false → is_eq (ordering_then o p) ≡ false
 is_eq-then Less p h = h
@@ -72,7 +65,7 @@ eq_same e i j = ap (λ o. is_eq (ordering_then o (id_cmp i j))) (nat_self e)
 
 pub eq_apart : (d e : ℕ) (i j : Id) → d ≢ e → eq_by_cmp key_cmp (d, i) (e, j) ≡ false
 unfolding key_cmp
-eq_apart d e i j ne = is_eq-then (nat_cmp d e) (id_cmp i j) (is_eq-nat d e ne)
+eq_apart d e i j ne = is_eq-then (nat_cmp d e) (id_cmp i j) (unequal d e ne)
 
 lt_same : (e : ℕ) (i j : Id) → is_lt (key_cmp (e, i) (e, j)) ≡ is_lt (id_cmp i j)
 unfolding key_cmp
@@ -136,15 +129,15 @@ module _ (types : Id → Option Schema) where
 
   below-own : (e : ℕ) (i : Id) (cs : Cells) → below_all id_cmp i cs ≡ true → below_all key_cmp (e, i) (facts_of types e cs) ≡ true
   below-own e i [] h = refl
-  below-own e i (c ∷ cs) h = let parts = both_true (is_lt (id_cmp i c.0)) (below_all id_cmp i cs) h in both _ _ (lt_same e i c.0 ∙ parts.0) (below-own e i cs parts.1)
+  below-own e i (c ∷ cs) h = let parts = both_true (is_lt (id_cmp i c.0)) (below_all id_cmp i cs) h in and_from _ _ (lt_same e i c.0 ∙ parts.0) (below-own e i cs parts.1)
 
   is_sorted-own : (e : ℕ) (cs : Cells) → IsMap id_cmp cs → IsMap key_cmp (facts_of types e cs)
   is_sorted-own e [] h = refl
-  is_sorted-own e (c ∷ cs) h = let parts = both_true (below_all id_cmp c.0 cs) (is_sorted id_cmp cs) h in both _ _ (below-own e c.0 cs parts.0) (is_sorted-own e cs parts.1)
+  is_sorted-own e (c ∷ cs) h = let parts = both_true (below_all id_cmp c.0 cs) (is_sorted id_cmp cs) h in and_from _ _ (below-own e c.0 cs parts.0) (is_sorted-own e cs parts.1)
 
   below-other : (d e : ℕ) (i : Id) (cs : Cells) → is_lt (nat_cmp d e) ≡ true → below_all key_cmp (d, i) (facts_of types e cs) ≡ true
   below-other d e i [] h = refl
-  below-other d e i (c ∷ cs) h = both _ _ (lt_apart d e i c.0 h) (below-other d e i cs h)
+  below-other d e i (c ∷ cs) h = and_from _ _ (lt_apart d e i c.0 h) (below-other d e i cs h)
 
   below-facts : (d : ℕ) (i : Id) (es : Map ℕ Cells) → below_all nat_cmp d es ≡ true → below_all key_cmp (d, i) (all_facts types es) ≡ true
   below-facts d i [] h = refl

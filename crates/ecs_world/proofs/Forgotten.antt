@@ -4,6 +4,7 @@ use Rattle.std.proofs.lemmas.Bool.Decides.{Decides-eqb}
 use Rattle.std.specs.Cmp.{nat_cmp_total}
 use Rattle.std.specs.List.{Contains, list_any}
 use Rattle.std.specs.Ordering.{nat_cmp}
+use Rattle.std.proofs.lemmas.Bool.{or_left, or_right}
 use Rattle.ecs_id.specs.declared.EntityId.{EntityId}
 use Rattle.ecs_id.specs.Id.{Id, plain, pair, mentioned}
 use Rattle.ecs_model.specs.Command.{counted, differences}
@@ -45,13 +46,6 @@ none_narrower p q within (i ∷ ids) none =
 stay_wider : (p q : Id → Bool) (s n : Store) → ((i : Id) → p i ≡ true → q i ≡ true) → TablesStay (list_any p) s n → TablesStay (list_any q) s n
 stay_wider p q s n within = stay_more (list_any p) (list_any q) s n (none_narrower p q within)
 
-left_or : (a b : Bool) → a ≡ true → (a || b) ≡ true
-left_or a b h = ap (λ z. z || b) h
-
-right_or : (a b : Bool) → b ≡ true → (a || b) ≡ true
-right_or true b h = refl
-right_or false b h = h
-
 module _ (w v : WorldState) where
   -- the dead lived, and don't live after
   abbrev AreDead : List ℕ → Type 0
@@ -63,7 +57,7 @@ module _ (w v : WorldState) where
       let d = passing (λ d. x.0 == d) dead x.2 in
       let same : d.0 ≡ x.0 = sym ((Decides-eqb x.0 d.0).0 d.2) in
       let fell = are x.0 (subst (Contains dead) same d.1) in
-      left_or (mentions_dead w v i) (became_tag w v i) (any_passes (λ x. is_live w x && not (is_live v x)) (mentioned i) x.0 x.1 (both (is_live w x.0) (not (is_live v x.0)) fell.0 (ap not fell.1)))
+      or_left (mentions_dead w v i) (became_tag w v i) (any_passes (λ x. is_live w x && not (is_live v x)) (mentioned i) x.0 x.1 (both (is_live w x.0) (not (is_live v x.0)) fell.0 (ap not fell.1)))
 
   -- what came is held after, and wasn't
   abbrev AreNew : List Key → Type 0
@@ -76,7 +70,7 @@ module _ (w v : WorldState) where
       let k = from_map (λ (k : Key). (k, _)) came x.0 x.1 in
       let same : k.0 ≡ (r, plain pair_is_tag) = ap (λ (y : Key × ℕ). y.0) k.2 ∙ key_eq_same x.0.0 (r, plain pair_is_tag) x.2 in
       let new = are (r, plain pair_is_tag) (subst (Contains came) same k.1) in
-      right_or (mentions_dead w v (pair r t)) (became_tag w v (pair r t)) (both (not (holds w r (plain pair_is_tag))) (holds v r (plain pair_is_tag)) (ap not new.0) new.1)
+      or_right (mentions_dead w v (pair r t)) (became_tag w v (pair r t)) (both (not (holds w r (plain pair_is_tag))) (holds v r (plain pair_is_tag)) (ap not new.0) new.1)
 
   -- what differs is new
   differing_new : AreNew (keys (without key_cmp v.facts (has_key key_cmp w.facts)))

@@ -1,5 +1,5 @@
 -- What commands on facts leave.
-use Rattle.std.proofs.Common.{◌≡◌, ℕ, ◌==◌, Bool, true, false, cond, not, ◌&&◌, List, [], length, ℤ, Some, None, is_some, unwrap_or, if◌then◌else◌, inl, inr, IsTrue, IfSome, refl, sym, ap, subst, ◌∙◌, arith, true≢false}
+use Rattle.std.proofs.Common.{◌≡◌, ℕ, ◌==◌, Bool, true, false, cond, not, ◌&&◌, List, [], length, ℤ, Some, None, is_some, unwrap_or, if◌then◌else◌, inl, inr, IsTrue, IfSome, refl, sym, ap, subst, ◌∙◌, true≢false}
 use Rattle.std.specs.Cmp.{nat_cmp_total, Equal-is}
 use Rattle.std.specs.FinMap.Entries.{is_sorted-where_key}
 use Rattle.std.specs.List.{list_all}
@@ -10,16 +10,14 @@ use Rattle.ecs_id.specs.Id.{Id, plain, pair, mentioned, id_cmp, id_eq}
 use Rattle.ecs_model.specs.Map.{Map, IsMap, value_at, has_key, keys, with_value, without}
 use Rattle.ecs_model.specs.Schema.{Schema, zeros, all_fit}
 use Rattle.ecs_model.specs.traits.Keeps.{IsWellFormed}
-use Rattle.ecs_model.specs.Refusal.{first_reason}
 use Rattle.ecs_model.specs.traits.Changes.{facts_after_add, facts_after_remove}
 use Rattle.ecs_model.specs.traits.Rules.{is_trait}
 use Rattle.ecs_model.specs.World.{WorldState, Key, key_cmp, pair_is_tag, holds, ids_of, type_of_id, new_value, value_of}
 use Rattle.ecs_model.specs.Command.{counted, is_spent, with_facts}
-use Rattle.ecs_model.specs.traits.Command.{Add, SetValue, Remove, reasons, effect}
+use Rattle.ecs_model.specs.traits.Command.{SetValue, Remove, effect}
 use Rattle.ecs_model.proofs.Differences.{last_value}
 use Rattle.ecs_model.proofs.Maps.{IsMap-with_value, from_T, key_cmp_same, keys-with_value, nat_value_at, to_T}
 use Rattle.ecs_model.proofs.Additions.{not_spent}
-use Rattle.ecs_model.proofs.Answering.{effect_well_formed}
 use Rattle.fact_rules.specs.Simple.{ComesAlone, is_unmirrored}
 use Rattle.name_index.specs.Names.{Names}
 use Rattle.ecs_archetypes.specs.Holdings.{AreHoldings, Cells, HoldAlike, Holdings, KeepsSizes, Sizes, cells_at, held_at, holds_id, with_cells}
@@ -32,40 +30,10 @@ use Rattle.ecs_world.proofs.FactChanges.{AreCells, bytes_put, bytes_gone, facts_
 use Rattle.ecs_world.proofs.Judged.{CanChange}
 use Rattle.ecs_world.proofs.Simple.{after_add, after_remove}
 use Rattle.ecs_world.proofs.States.{AreCells-whole, AreCells-world, all_true, settled_at, type_in-same}
+pub use Rattle.ecs_world.proofs.Brought.{effect_is as effect-add, added_sound as held_world}
+pub use Rattle.ecs_world.proofs.Buried.{still_sound as uncounted}
 
--- a world is well formed before it is counted
-pub uncounted : (w : WorldState) → IsWellFormed (counted w) → IsWellFormed w
-uncounted w h = record {
-  in_order = record {
-    live = (h.in_order).live;
-    facts = (h.in_order).facts;
-    names = (h.in_order).names;
-    schemas = (h.in_order).schemas;
-    deletions = (h.in_order).deletions;
-    pins = (h.in_order).pins;
-  };
-  indexes = record { given_out = (h.indexes).given_out; generation = (h.indexes).generation };
-  built_in = record {
-    live = (h.built_in).live;
-    names = (h.built_in).names;
-    facts = (h.built_in).facts;
-    schemas = (h.built_in).schemas;
-  };
-  live = record { names = (h.live).names; names_differ = (h.live).names_differ; schemas = (h.live).schemas; pins = (h.live).pins; facts = (h.live).facts };
-  typed = λ e i. typed e i;
-  few_ids = h.few_ids;
-  counted = omega (arith, h.counted);
-  traits = record { one_target = (h.traits).one_target; mirrored = (h.traits).mirrored; traversable_acyclic = (h.traits).traversable_acyclic; no_cycle = (h.traits).no_cycle };
-}
-  where
-    types : (i : Id) → type_of_id (counted w) i ≡ type_of_id w i
-    types (plain c) = refl
-    types (pair r t) = refl
-
-    typed : (e : ℕ) (i : Id) → IfSome (value_of w e i) (λ v. (length v ≡ length (new_value w i)) × IsTrue (option_map_or (λ fs. all_fit fs v) (type_of_id w i) true))
-    typed e i = subst (λ o. IfSome (value_of w e i) (λ v. (length v ≡ length (option_map_or zeros o [])) × IsTrue (option_map_or (λ fs. all_fit fs v) o true))) (types i) (h.typed e i)
-
--- and where one more command can be counted, after it
+-- where one more command can be counted, a world is well formed after it
 pub recounted : (w : WorldState) → IsWellFormed w → is_spent w ≡ false → IsWellFormed (counted w)
 recounted w h room = record {
   in_order = record {
@@ -274,10 +242,6 @@ facts_new w e i alone absent = after_add w e i alone ∙ new_alone w e i absent
 pub facts_held : (w : WorldState) (e : ℕ) (i : Id) → ComesAlone (ids_of w) (e, i) → holds w e i ≡ true → facts_after_add w e i ≡ w.facts
 facts_held w e i alone held = after_add w e i alone ∙ held_alone w e i held
 
-pub effect-add : (w : WorldState) (e : EntityId) (i : Id) → effect w (Add e i) ≡ with_facts w (facts_after_add w e.index i)
-unfolding effect
-effect-add w e i = refl
-
 pub effect-set : (w : WorldState) (e : EntityId) (i : Id) (vs : List ℤ) → effect w (SetValue e i vs) ≡ with_facts w (with_value key_cmp (facts_after_add w e.index i) (e.index, i) vs)
 unfolding effect
 effect-set w e i vs = refl
@@ -285,7 +249,3 @@ effect-set w e i vs = refl
 pub effect-remove : (w : WorldState) (e : EntityId) (i : Id) → effect w (Remove e i) ≡ with_facts w (facts_after_remove w e.index i)
 unfolding effect
 effect-remove w e i = refl
-
--- the world with the fact, not yet counted
-pub held_world : (w : WorldState) (e : EntityId) (i : Id) → IsWellFormed w → first_reason (reasons w (Add e i)) ≡ None → IsWellFormed (with_facts w (facts_after_add w e.index i))
-held_world w e i sound none = uncounted (with_facts w (facts_after_add w e.index i)) (subst (λ v. IsWellFormed (counted v)) (effect-add w e i) (effect_well_formed w (Add e i) sound tt none))

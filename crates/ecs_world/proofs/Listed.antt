@@ -1,7 +1,6 @@
 -- Lists of the dead, and what is forgotten of them, one after another.
 use Rattle.std.proofs.Common.{◌≡◌, ◌≢◌, ◌↔◌, ◌⊎◌, ℕ, ◌+◌, ◌<◌, ◌==◌, Bool, true, false, ◌||◌, List, [], ◌∷◌, ◌++◌, length, get_or, take, Option, Some, None, option_map, is_some, Result, Ok, Err, is_ok, is_err, if◌then◌else◌, refl, sym, ap, ◌∙◌, inl, inr, arith, true≢false}
 use Rattle.std.specs.Prelude.{map}
-use Rattle.std.proofs.lemmas.Bool.Decides.{nat_tests}
 use Rattle.std.proofs.lemmas.List.{take_more}
 use Rattle.std.proofs.lemmas.List.Elements.{Contains-append_left, Contains-append_right, Contains-push_cases, filter_map-append}
 use Rattle.std.proofs.lemmas.List.Folds.{list_any-append}
@@ -10,6 +9,8 @@ use Rattle.std.specs.FinMap as finite
 use Rattle.std.specs.List.{Contains, cons_option, list_any}
 use Rattle.std.specs.Map.{remove_entry}
 use Rattle.std.specs.Ordering.{nat_cmp}
+use Rattle.std.proofs.Math.Bool.{or-false}
+use Rattle.fact_rules.proofs.Falling.{flipped}
 use Rattle.ecs_id.specs.declared.EntityId.{EntityId}
 use Rattle.ecs_model.specs.Map.{IsMap, Map, value_at, without}
 use Rattle.ecs_model.specs.World.{WorldState, entity_at, name_of}
@@ -72,13 +73,6 @@ same_or_not e f = by (entity_eq e f) refl
     by true p = inl (same_entity e f p)
     by false p = inr (λ q. true≢false (sym (entity_eq_true e f q) ∙ p))
 
-flipped : (x y : ℕ) → (x == y) ≡ (y == x)
-flipped x y = grind (arith, nat_tests)
-
-or_none : (b : Bool) → (b || false) ≡ b
-or_none true = refl
-or_none false = refl
-
 pub forgotten_more : {X : Type 0} (old mid new : Names) (fields between left : Map ℕ X) (dead : List EntityId) (e : EntityId) → AreForgotten old mid fields between dead
     → IsUnnamed new e → OthersKeepTheirs mid new e → left ≡ remove_entry (is_at (nat_cmp e.index)) between → AreForgotten old new fields left (dead ++ e ∷ [])
 forgotten_more {X} old mid new fields between left dead e so_far freed others taken = record { names = λ n f. (named n f, still n f); schemas = fields_left }
@@ -106,7 +100,7 @@ forgotten_more {X} old mid new fields between left dead e so_far freed others ta
       where
         same : (i : ℕ) → (list_any (λ e. e.index == i) dead || i == e.index) ≡ list_any (λ e. e.index == i) (dead ++ e ∷ [])
         same i =
-            ap (λ b. list_any (λ e. e.index == i) dead || b) (flipped i e.index ∙ sym (or_none (e.index == i)))
+            ap (λ b. list_any (λ e. e.index == i) dead || b) (flipped i e.index ∙ sym (or-false (e.index == i)))
             ∙ sym (list_any-append (λ e. e.index == i) dead (e ∷ []))
 
 -- the entity at an index has it

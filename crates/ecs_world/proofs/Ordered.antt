@@ -36,7 +36,7 @@ module _ {X : Type 0} where
       by Greater p n rest = ap (λ r. cond (is_eq r) (insert_entry nat_cmp m k x) (e ∷ remove_entry (is_at (nat_cmp k)) (insert_entry nat_cmp m k x))) p ∙ ap (λ l. e ∷ l) (rest n)
 
 -- both tests of equality are one
-same_test : (k j : ℕ) → is_eq (nat_cmp k j) ≡ (j == k)
+pub same_test : (k j : ℕ) → is_eq (nat_cmp k j) ≡ (j == k)
 same_test k j = by (nat_cmp k j) refl (j == k) refl
   where
     tied : (j == k) ≡ true → nat_cmp k j ≡ Equal

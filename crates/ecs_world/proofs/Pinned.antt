@@ -1,22 +1,18 @@
 -- What one stored query more or less leaves that mentions an entity.
 use Rattle.std.proofs.Common.{◌≡◌, ℕ, zero, suc, ◌^◌, ◌<◌, ◌≤◌, ◌==◌, ◌⊎◌, true, false, Some, Ok, Err, if◌then◌else◌, sym, ap, subst, ◌∙◌, inl, inr, arith}
-use Rattle.std.specs.Cmp.{nat_cmp_total}
 use Rattle.std.specs.Ordering.{nat_cmp}
 use Rattle.ecs_id.specs.declared.EntityId.{EntityId}
 use Rattle.ecs_model.specs.declared.faults.Refusal.TheVariants.{Dead}
 use Rattle.ecs_model.specs.traits.Keeps.{IsWellFormed}
-use Rattle.ecs_model.specs.Map.{Map, IsMap, count_at, value_at}
+use Rattle.ecs_model.specs.Map.{Map, count_at, value_at}
 use Rattle.ecs_model.specs.World.{WorldState, is_alive, is_live}
 use Rattle.ecs_model.specs.traits.Pins.{one_less, one_more, pin, unpin, with_count, with_pins}
-use Rattle.ecs_model.proofs.Maps.{IsMap-with_value, if_some, nat_value_at, of_some}
+use Rattle.ecs_model.proofs.Maps.{if_some, nat_value_at, of_some}
 use Rattle.ecs_model.proofs.Steps.{there}
-use Rattle.ecs_model.proofs.traits.Deletions.{nat_IsMap-without, nat_value_at-without, was}
+use Rattle.ecs_model.proofs.traits.Deletions.{nat_value_at-without, was}
 use Rattle.pin_counts.specs.Counts.{Counts}
+use Rattle.pin_counts.proofs.Listed.{IsMap-with_count}
 use Rattle.ecs_world.specs.State.{IsWorld, Parts, parts_of, state_of}
-
-IsMap-with_count : (m : Map ℕ ℕ) (i n : ℕ) → IsMap nat_cmp m → IsMap nat_cmp (with_count m i n)
-IsMap-with_count m i zero h = nat_IsMap-without m (λ j. j == i) h
-IsMap-with_count m i (suc n) h = IsMap-with_value nat_cmp nat_cmp_total m i (suc n) h
 
 -- a count is the new one, and not 0, or as it was
 value_at-with_count : (m : Map ℕ ℕ) (i n j x : ℕ) → value_at nat_cmp (with_count m i n) j ≡ Some x → ((j ≡ i) × (n ≡ x) × (0 < n)) ⊎ (value_at nat_cmp m j ≡ Some x)

@@ -1,12 +1,13 @@
 -- Whatever bytes a value has, its numbers are in range.
-use Rattle.std.proofs.Common.{◌≡◌, ℕ, zero, suc, ◌+◌, ◌*◌, ◌-◌, ◌^◌, ◌<◌, ◌≤◌, Bool, true, false, IsTrue, ◌&&◌, List, [], ◌∷◌, length, get_or, take, drop, ℤ, pos, negsuc, refl, sym, ap, ◌∙◌, arith, to_z, of_z}
-use Rattle.std.specs.Int.{Width, w8, w16, w32, w64, from_le_bytes}
+use Rattle.std.proofs.Common.{◌≡◌, ℕ, zero, suc, ◌^◌, ◌<◌, true, ◌&&◌, List, [], ◌∷◌, get_or, take, drop, pos, refl, arith, to_z}
+use Rattle.std.specs.Int.{w8, w16, w32, w64, from_le_bytes}
 use Rattle.std.proofs.lemmas.Int.{ints}
 use Rattle.std.proofs.lemmas.Bool.Decides.{nat_tests}
+pub use Rattle.ecs_schema.proofs.Meaning.{length-values_in as length_values}
 use Rattle.ecs_model.specs.declared.Kind.{Kind}
 use Rattle.ecs_model.specs.declared.Kind.TheVariants.{I8, U8, I16, U16, I32, U32, I64, U64}
-use Rattle.ecs_model.specs.Schema.{Field, Schema, width, fits_kind, all_fit}
-use Rattle.ecs_model.specs.Bytes.{number_in, size_of, values_in}
+use Rattle.ecs_model.specs.Schema.{Schema, width, fits_kind, all_fit}
+use Rattle.ecs_model.specs.Bytes.{number_in, values_in}
 
 abbrev pub AreBytes : List ℕ → Type 0
 AreBytes bs = (i : ℕ) → get_or bs i 0 < 256
@@ -70,10 +71,6 @@ bytes_behind (suc n) [] h = h
 bytes_behind (suc n) (b ∷ bs) h = bytes_behind n bs (λ j. h (suc j))
 
 -- as many numbers as fields, each in its field's range
-pub length_values : (fs : Schema) (bs : List ℕ) → length (values_in fs bs) ≡ length fs
-length_values [] bs = refl
-length_values (f ∷ fs) bs = ap suc (length_values fs (drop (width f.kind) bs))
-
 pub values_fit : (fs : Schema) (bs : List ℕ) → AreBytes bs → all_fit fs (values_in fs bs) ≡ true
 values_fit [] bs h = refl
 values_fit (f ∷ fs) bs h = λ k. fits f.kind (take (width f.kind) bs) (bytes_front (width f.kind) bs h) k && values_fit fs (drop (width f.kind) bs) (bytes_behind (width f.kind) bs h) k

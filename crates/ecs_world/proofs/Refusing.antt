@@ -6,6 +6,7 @@ use Rattle.ecs_id.specs.declared.EntityId.{EntityId}
 use Rattle.ecs_id.specs.Id.{Id, mentioned}
 use Rattle.std.specs.List.{list_all}
 use Rattle.std.specs.Ordering.{nat_cmp}
+use Rattle.std.proofs.Math.Bool.{or-true}
 use Rattle.ecs_model.specs.Refusal.{first_reason}
 use Rattle.ecs_model.specs.traits.Keeps.{IsWellFormed}
 use Rattle.ecs_model.specs.Map.{value_at}
@@ -37,16 +38,12 @@ none_first [] ss h = refl
 none_first ((true, q) ∷ rs) ss h = absurd (cc)
 none_first ((false, q) ∷ rs) ss h = none_first rs ss h
 
-or_true : (b : Bool) → (b || true) ≡ true
-or_true true = refl
-or_true false = refl
-
 module _ (w : WorldState) (e : EntityId) (i : Id) where
   pub entity_dead : is_alive w e ≡ false → is_dead w e i ≡ true
   entity_dead h = ap (λ b. not b || not (list_all (is_live w) (mentioned i))) h
 
   pub mention_dead : list_all (is_live w) (mentioned i) ≡ false → is_dead w e i ≡ true
-  mention_dead h = ap (λ b. not (is_alive w e) || not b) h ∙ or_true (not (is_alive w e))
+  mention_dead h = ap (λ b. not (is_alive w e) || not b) h ∙ or-true (not (is_alive w e))
 
   pub not_dead : is_alive w e ≡ true → list_all (is_live w) (mentioned i) ≡ true → is_dead w e i ≡ false
   not_dead alive mentions = λ k. not (alive k) || not (mentions k)

@@ -5,6 +5,8 @@ use Rattle.std.specs.Cmp.{Equal-is}
 use Rattle.std.specs.List.{list_all, list_any, slice_get}
 use Rattle.std.specs.Option.{option_and_then}
 use Rattle.std.specs.Ordering.{nat_cmp}
+pub use Rattle.std.proofs.lemmas.Bool.{or_parts as neither, false_from_ne_true as no_true}
+use Rattle.rel_travel.proofs.Marks.{or_found}
 use Rattle.ecs_id.specs.declared.Place.{Place}
 use Rattle.ecs_id.specs.declared.TableKey.{TableKey}
 use Rattle.ecs_id.specs.Id.{Id, id_cmp, id_eq, id_eq_itself, id_eq_same, plain, pair, mentioned}
@@ -79,10 +81,6 @@ no_rows g pattern whole unheld k m = by (rows_in g.tables k) refl
         let i = any_key (matches pattern) v.0.1 (ap (list_any (matches pattern)) (sym same) ∙ m.2) in
         absurd (true≢false (sym (ap (λ o. is_some (value_at id_cmp (unwrap_or o []) i.0)) row.cells ∙ i.2) ∙ unheld v.0.0.index i.0 i.1))
 
-pub neither : (a b : Bool) → (a || b) ≡ false → (a ≡ false) × (b ≡ false)
-neither true b h = absurd (true≢false h)
-neither false b h = (refl, h)
-
 -- sizes that pass or are of ids that go pass, where none of them goes
 spared : (gone : Id → Bool) (test : Id × ℕ → Bool) (f : Shape) → list_any gone (map (λ c. c.0) f) ≡ false → list_all (λ c. gone c.0 || test c) f ≡ true → list_all test f ≡ true
 spared gone test [] none all = refl
@@ -90,10 +88,6 @@ spared gone test (c ∷ f) none all =
     let nots = neither (gone c.0) (list_any gone (map (λ c. c.0) f)) none in
     let parts = both_true (gone c.0 || test c) (list_all (λ c. gone c.0 || test c) f) all in
     both (test c) (list_all test f) (ap (λ b. b || test c) (sym nots.0) ∙ parts.0) (spared gone test f nots.1 parts.1)
-
-pub no_true : (b : Bool) → (b ≡ true → ⊥) → b ≡ false
-no_true true h = absurd (h refl)
-no_true false h = refl
 
 -- where the tables that a pattern matches have gone, the sizes of the other ids are known
 pub sizes_released : (pattern : Pattern) (s n : Store) → IsStore n → ((k : TableKey) → HasMatch n pattern k → ⊥) → StandApart pattern s n
@@ -192,11 +186,6 @@ first_of_two : (a b : Bool) → (a && true) ≡ true → (a || (b || false)) ≡
 first_of_two true b h = refl
 first_of_two false b h = absurd (true≢false (sym h))
 
-second_of_two : (a b : Bool) → b ≡ true → (a || (b || false)) ≡ true
-second_of_two true b h = refl
-second_of_two false true h = refl
-second_of_two false false h = h
-
 pub plain_mentions : (dead : ℕ) (i : Id) → matches (plain_of dead) i ≡ true → mentions dead i ≡ true
 plain_mentions dead (plain c) h = or_none (c == dead) h
 plain_mentions dead (pair r t) h = absurd (true≢false (sym h))
@@ -207,7 +196,7 @@ pairs_mention dead (pair r t) h = first_of_two (r == dead) (t == dead) h
 
 pub targets_mention : (dead : ℕ) (i : Id) → matches (pairs_to dead) i ≡ true → mentions dead i ≡ true
 targets_mention dead (plain c) h = absurd (true≢false (sym h))
-targets_mention dead (pair r t) h = second_of_two (r == dead) (t == dead) h
+targets_mention dead (pair r t) h = or_found (r == dead) (t == dead) h
 
 all_three : (dead : ℕ) (i : Id) → ((matches (plain_of dead) i || matches (pairs_of dead) i) || matches (pairs_to dead) i) ≡ mentions dead i
 all_three dead (plain c) = by (c == dead)
@@ -246,10 +235,6 @@ module _ {X : Type 0} (goes : X → Id → Bool) (xs : List X) (g : Housing) whe
   pub unheld_at : (n : ℕ) (d x : X) (h : Housing) → n < length xs → x ≡ get_or xs n d → IsLeftTo n h → AreUnheld (λ i. list_any (λ y. goes y i) xs) g → AreUnheld (goes x) h
   unheld_at n d x h within is so_far unheld = unheld_still (λ i. list_any (λ y. goes y i) (take n xs)) (goes x) g h so_far
       (λ e i gone. unheld e i (list_any_at (λ y. goes y i) xs n d within (ap (λ y. goes y i) (sym is) ∙ gone)))
-
-or_false : (a : Bool) → (a || false) ≡ a
-or_false true = refl
-or_false false = refl
 
 -- the ids that mention one of the dead, death by death
 pub mentions_each : (dead : List ℕ) (i : Id) → mentions_one dead i ≡ list_any (λ d. mentions d i) dead

@@ -5,6 +5,7 @@ use Rattle.std.specs.List.{Contains, list_any}
 use Rattle.std.specs.declared.cmp.Ordering.{Ordering}
 use Rattle.std.proofs.lemmas.List.Elements.{Contains-push}
 use Rattle.std.proofs.Common.{◌≡◌, ℕ, zero, suc, ◌*◌, Bool, true, false, not, ◌&&◌, ◌||◌, List, [], ◌∷◌, ◌++◌, length, if◌then◌else◌, ◌⊎◌, refl, sym, ap, subst, ◌∙◌, inl, inr, arith, true≢false}
+use Rattle.std.proofs.Math.Bool.{or-false}
 use Rattle.ecs_id.specs.declared.EntityId.{EntityId}
 use Rattle.ecs_id.specs.Id.{Id, plain, pair, first_of, id_eq}
 use Rattle.ecs_model.specs.declared.faults.Refusal.TheVariants.{TraitFixed, Cycle, TooManyIds, Full}
@@ -32,6 +33,7 @@ use Rattle.ecs_model.proofs.traits.Facts.{is_held-holds}
 use Rattle.ecs_model.proofs.traits.Replacing.{GivesWay, from_displaced, key_eq_same}
 use Rattle.fact_rules.specs.Additions.{is_of_built_in}
 use Rattle.fact_rules.specs.Simple.{ComesAlone, ComesInPlace, is_unmirrored, leads_to_copies}
+use Rattle.fact_rules.proofs.Lonely.{unmirrored}
 use Rattle.rel_traits.specs.After.{ClosesAt}
 use Rattle.ecs_world.specs.Singles.{with_one, with_one_for, without_one}
 use Rattle.ecs_world.proofs.Crowding.{absent_without, not_crowded_replaced}
@@ -53,16 +55,6 @@ alone_within R next (suc n) x none = ap (grown R next) (alone_within R next n x 
 none_without : {X : Type 0} (m : Map Key X) → without key_cmp m (λ k. false) ≡ m
 none_without [] = refl
 none_without (e ∷ es) = ap (λ m. e ∷ m) (none_without es)
-
-or_none : (a : Bool) → (a || false) ≡ a
-or_none true = refl
-or_none false = refl
-
--- where nothing is brought there is no mirror
-unmirrored : (b : Bool) (xs : List Key) (x : Key) → xs ++ (if b then x ∷ [] else []) ≡ [] → b ≡ false
-unmirrored true [] x h = absurd cc
-unmirrored true (y ∷ ys) x h = absurd cc
-unmirrored false xs x h = refl
 
 passes_not : (a b c : Bool) → b ≡ false → (a && b && c) ≡ false
 passes_not true true c h = absurd (true≢false h)
@@ -112,7 +104,7 @@ nothing_copied w e (pair r t) leads single b is =
     base = (e, pair is_a t)
 
     alone : has_key key_cmp (added w e (pair r t)) base ≡ true → key_eq base (e, pair r t) ≡ true
-    alone there = sym (or_none (key_eq base (e, pair r t))) ∙ sym (is_some-find key_cmp base (added w e (pair r t)) ∙ ap (list_any (key_eq base)) single) ∙ there
+    alone there = sym (or-false (key_eq base (e, pair r t))) ∙ sym (is_some-find key_cmp base (added w e (pair r t)) ∙ ap (list_any (key_eq base)) single) ∙ there
 
     passed : (p q : Bool) → (if p && q then Some t else None) ≡ Some b → (p ≡ true) × (t ≡ b)
     passed true true s = (refl, (cc))
@@ -139,13 +131,13 @@ module _ (w : WorldState) (e : ℕ) where
     added_only = ap keys (alone_within key_cmp (brought (ids_of w)) (2 * length (entities w)) (e, i) brings)
 
     pub built_in_only : adds_built_in w e i ≡ is_of_built_in (e, i)
-    built_in_only = ap (list_any (λ k. is_built_in k.0 || id_eq k.1 (plain component))) added_only ∙ or_none (is_of_built_in (e, i))
+    built_in_only = ap (list_any (λ k. is_built_in k.0 || id_eq k.1 (plain component))) added_only ∙ or-false (is_of_built_in (e, i))
 
     -- and is no trait
     pub changes_only : is_trait i ≡ false → changes_trait w e i ≡ false
     changes_only no_trait =
         ap (list_any (λ k. not (holds w k.0 k.1) && is_trait k.1 && (is_used (ids_of w) (entities w) k.0 || is_pinned w k.0))) added_only
-        ∙ or_none (not (holds w e i) && is_trait i && (is_used (ids_of w) (entities w) e || is_pinned w e))
+        ∙ or-false (not (holds w e i) && is_trait i && (is_used (ids_of w) (entities w) e || is_pinned w e))
         ∙ passes_not (not (holds w e i)) (is_trait i) (is_used (ids_of w) (entities w) e || is_pinned w e) no_trait
 
     -- and leads to no copies

@@ -13,7 +13,7 @@ use Rattle.ecs_model.specs.Refusal.{first_reason}
 use Rattle.ecs_model.specs.Schema.{Schema}
 use Rattle.ecs_model.specs.World.{WorldState, Key, key_cmp, key_eq, component, holds, is_built_in, pair_is_tag, value_of}
 use Rattle.ecs_model.specs.traits.Changes.{facts_after_remove, removed}
-use Rattle.ecs_model.specs.traits.Command.{Remove, effect, reasons}
+use Rattle.ecs_model.specs.traits.Command.{Remove, reasons}
 use Rattle.ecs_model.specs.traits.Keeps.{IsWellFormed}
 use Rattle.ecs_model.specs.traits.Rules.{is_trait}
 use Rattle.ecs_model.proofs.Maps.{key_cmp_total}
@@ -30,19 +30,16 @@ use Rattle.ecs_world.specs.State.{IsWorld, Parts, parts_of, byte_count, is_known
 use Rattle.ecs_world.proofs.Brought.{any_filter, any_key}
 use Rattle.ecs_world.proofs.Changed.{AreRead, before_count, bytes_left, keys_rise, state_changed, types_are, world_changed}
 use Rattle.ecs_world.proofs.States.{holds_is, settled_at, state_alike, type_is, value_is, world_alike}
+use Rattle.ecs_world.proofs.Left.{effect-remove}
 
 -- a removal against which there is no reason, with the list of what goes
 pub record IsTold (w : WorldState) (e : EntityId) (i : Id) (went : List Key) : Type 0 where
   pub none : first_reason (reasons w (Remove e i)) ≡ None
   pub went_are : went ≡ filter (λ k. list_any (key_eq k) (removed w e.index i)) (keys w.facts)
 
-effect_is : (w : WorldState) (e : EntityId) (i : Id) → effect w (Remove e i) ≡ with_facts w (facts_after_remove w e.index i)
-unfolding effect
-effect_is w e i = refl
-
 -- a removal leaves a well-formed world, before it is counted
 taken_sound : (w : WorldState) (e : EntityId) (i : Id) → IsWellFormed w → first_reason (reasons w (Remove e i)) ≡ None → IsWellFormed (with_facts w (facts_after_remove w e.index i))
-taken_sound w e i h none = before_count (with_facts w (facts_after_remove w e.index i)) (subst (λ v. IsWellFormed (counted v)) (effect_is w e i) (keeps_remove w e i h none))
+taken_sound w e i h none = before_count (with_facts w (facts_after_remove w e.index i)) (subst (λ v. IsWellFormed (counted v)) (effect-remove w e i) (keeps_remove w e i h none))
 
 -- nothing goes from what is built in, and no trait goes
 not_fixed : (w : WorldState) (e : EntityId) (i : Id) → first_reason (reasons w (Remove e i)) ≡ None → (is_built_in e.index ≡ false) × (is_trait i ≡ false)

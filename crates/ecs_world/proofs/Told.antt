@@ -26,7 +26,7 @@ use Rattle.fact_rules.specs.Simple.{ComesAlone, ComesInPlace, is_unmirrored}
 use Rattle.ecs_world.specs.State.{arrival, birth, no_change}
 
 -- where none passes, none is left
-filter_none : {A : Type 0} (xs : List A) → filter (λ x. false) xs ≡ []
+pub filter_none : {A : Type 0} (xs : List A) → filter (λ x. false) xs ≡ []
 filter_none [] = refl
 filter_none (x ∷ xs) = filter_none xs
 

@@ -1,9 +1,9 @@
 -- The greatest live index plus 1, as entities come and go.
-use Rattle.std.proofs.Common.{◌≡◌, ℕ, zero, suc, ◌+◌, ◌-◌, ◌<◌, ◌≤◌, ◌==◌, Bool, true, false, true≢false, cond, not, ◌&&◌, List, [], ◌∷◌, Option, Some, None, is_some, refl, sym, ap, subst, ◌∙◌, arith}
+use Rattle.std.proofs.Common.{◌≡◌, ℕ, zero, suc, ◌+◌, ◌-◌, ◌<◌, ◌≤◌, ◌==◌, Bool, true, false, true≢false, cond, not, List, [], ◌∷◌, Option, Some, None, is_some, refl, sym, ap, subst, ◌∙◌, arith}
 use Rattle.std.specs.Prelude.{max, nat_le}
 use Rattle.std.specs.List.{filter, last_or}
 use Rattle.std.specs.Option.{option_eq, option_map, option_map_or}
-use Rattle.std.specs.Cmp.{nat_cmp_total, Equal-is}
+use Rattle.std.specs.Cmp.{nat_cmp_total}
 use Rattle.std.specs.Ordering.{eq_by_cmp, is_lt, nat_cmp}
 use Rattle.std.specs.declared.cmp.Ordering.{Ordering}
 use Rattle.std.specs.declared.cmp.Ordering.TheVariants.{Less, Equal, Greater}
@@ -14,6 +14,7 @@ use Rattle.ecs_model.specs.Map.{Map, keys}
 use Rattle.ecs_model.proofs.Maps.{both_true, eq_itself}
 use Rattle.ecs_id.specs.declared.EntityId.{EntityId}
 use Rattle.ecs_model.specs.World.{is_built_in}
+use Rattle.ecs_model.proofs.LeastSets.{nat_same}
 use Rattle.entity_index.specs.Entities.{Entities, IsWellFormed, is_alive, is_deletable, is_live, with_entity, without_entity}
 use Rattle.entity_index.specs.Sizes.{IsSized, live_size}
 
@@ -28,9 +29,6 @@ top_le live (suc k) m a b = let h = b.bound (suc k - 1) (a.hit (omega arith)) in
 
 pub top_same : (live : Map ℕ ℕ) (n m : ℕ) → IsTop live n → IsTop live m → n ≡ m
 top_same live n m a b = let x = top_le live n m a b in let y = top_le live m n b a in omega (arith, x, y)
-
-same_index : (i j : ℕ) → eq_by_cmp nat_cmp i j ≡ true → i ≡ j
-same_index i j e = nat_cmp-IsAntisymmetric i j ((Equal-is (nat_cmp i j)).0 e)
 
 less_index : (a b : ℕ) (r : Ordering) → nat_cmp a b ≡ r → is_lt r ≡ true → a < b
 less_index a b Less e h = grind (arith, nat_tests)
@@ -53,7 +51,7 @@ last_is e [] up = record {
 }
   where
     by : (i : ℕ) (b : Bool) → eq_by_cmp nat_cmp i e.0 ≡ b → is_some {T = ℕ} (cond b (Some e.1) None) ≡ true → i ≤ e.0
-    by i true own h = let same = same_index i e.0 own in omega (arith, same)
+    by i true own h = let same = nat_same i e.0 own in omega (arith, same)
     by i false own h = absurd (true≢false (sym h))
 last_is e (f ∷ fs) up =
     let ups = both_true (below_all nat_cmp e.0 (f ∷ fs)) (is_sorted nat_cmp (f ∷ fs)) up in
@@ -72,7 +70,7 @@ last_is e (f ∷ fs) up =
     either false o h = h
 
     by : (i l : ℕ) → e.0 ≤ l → (is_some (find nat_cmp i (f ∷ fs)) ≡ true → i ≤ l) → (b : Bool) → eq_by_cmp nat_cmp i e.0 ≡ b → is_some (cond b (Some e.1) (find nat_cmp i (f ∷ fs))) ≡ true → i ≤ l
-    by i l high rest true own h = let same = same_index i e.0 own in omega (arith, same, high)
+    by i l high rest true own h = let same = nat_same i e.0 own in omega (arith, same, high)
     by i l high rest false own h = rest h
 
 pub top_is : (live : Map ℕ ℕ) → is_sorted nat_cmp live ≡ true → IsTop live (live_size live)
@@ -99,7 +97,7 @@ top_born live n i g top = record {
 }
   where
     below : (j : ℕ) (b : Bool) → eq_by_cmp nat_cmp j i ≡ b → is_some (cond b (Some g) (find nat_cmp j live)) ≡ true → j < max n (i + 1)
-    below j true own h = let same = same_index j i own in omega (arith, same)
+    below j true own h = let same = nat_same j i own in omega (arith, same)
     below j false own h = let low = top.bound j h in omega (arith, low)
 
     either : (b : Bool) (o : Option ℕ) → is_some o ≡ true → is_some (cond b (Some g) o) ≡ true

@@ -4,9 +4,9 @@ use Rattle.std.specs.Int.{bit_at, bit_not}
 use Rattle.std.proofs.Common.{◌≡◌, ℕ, ◌-◌, ◌*◌, ◌/◌, ◌%◌, ◌^◌, ◌<◌, ◌≤◌, min, Bool, true, false, List, ◌++◌, append-nil, length, get_or, set, take, drop, sym, ap, ◌∙◌, inl, inr, arith, eq-eqb, w64, refl}
 use Rattle.std.proofs.lemmas.Bool.{cases_eq, cases_lt, ne_eqb}
 use Rattle.std.proofs.lemmas.Bool.Decides.{nat_tests}
-use Rattle.std.proofs.lemmas.Grind.{get_or-set_at}
-use Rattle.std.proofs.lemmas.List.{at_drop_all, get_or-set_other, get_or_past, take_all}
-use Rattle.std.proofs.lemmas.Nat.Bits.{bit_at-lt, bit_at-zero, bit_at_and, bit_at_not, bit_at_clear_other, bit_at_clear_same, bit_at_set_other, bit_at_set_same, shr_and_one}
+use Rattle.std.proofs.lemmas.List.{at_drop_all, get_or_past, take_all}
+use Rattle.std.proofs.lemmas.Nat.Bits.{bit_at-lt, bit_at-zero, bit_at_and, bit_at_not, bit_at_clear_other, bit_at_clear_same, shr_and_one}
+use Rattle.ecs_model.proofs.Bits.{at_place, elsewhere, other_bit, set_at, set_other, small}
 use Rattle.entity_set.specs.Members.{has, has_else}
 
 -- a slice that is written back whole
@@ -14,47 +14,14 @@ pub written_back : (new old : List ℕ) (n : ℕ) → length new ≡ length old 
 written_back new old n same long =
     at_drop_all (λ d. take n (new ++ d)) old (length new) (omega (arith, same)) ∙ ap (take n) (append-nil new) ∙ take_all n new (omega (arith, same, long))
 
--- a word in the place of another
-module _ (old new : List ℕ) (k word : ℕ) (within : k / 64 < length old) (is : new ≡ set old (k / 64) word) where
-  at_place : (e : ℕ) → e / 64 ≡ k / 64 → get_or new (e / 64) 0 ≡ word
-  at_place e same = ap (λ xs. get_or xs (e / 64) 0) is ∙ get_or-set_at old (k / 64) (e / 64) word 0 same within
-
-  elsewhere : (e : ℕ) → (e / 64 ≡ k / 64 → ⊥) → get_or new (e / 64) 0 ≡ get_or old (e / 64) 0
-  elsewhere e other = ap (λ xs. get_or xs (e / 64) 0) is ∙ get_or-set_other old (k / 64) (e / 64) word 0 other
-
-other_bit : (e k : ℕ) → (e ≡ k → ⊥) → e / 64 ≡ k / 64 → e % 64 ≡ k % 64 → ⊥
-other_bit e k other place same = other (omega (arith, place, same))
-
-small : (k : ℕ) → k % 64 < 64
-small k = omega arith
-
 -- a bit that is set
 module _ (old new : List ℕ) (k : ℕ) (within : k / 64 < length old) (is : new ≡ set old (k / 64) (bit_or (get_or old (k / 64) 0) (1 * 2 ^ (k % 64) % 2 ^ 64))) where
-  abbrev with_bit : ℕ
-  with_bit = bit_or (get_or old (k / 64) 0) (1 * 2 ^ (k % 64) % 2 ^ 64)
-
-  set_at : (e : ℕ) → e ≡ k → bit_at (get_or new (e / 64) 0) (e % 64) ≡ 1
-  set_at e same =
-      ap (λ n. bit_at (get_or new (n / 64) 0) (n % 64)) same
-      ∙ ap (λ x. bit_at x (k % 64)) (at_place old new k with_bit within is k refl)
-      ∙ bit_at_set_same w64 (get_or old (k / 64) 0) (k % 64) (small k)
-
-  set_other : (e : ℕ) → (e ≡ k → ⊥) → bit_at (get_or new (e / 64) 0) (e % 64) ≡ bit_at (get_or old (e / 64) 0) (e % 64)
-  set_other e other =
-      elim (cases_eq (e / 64) (k / 64)) [
-        | inl place ↦
-            ap (λ x. bit_at x (e % 64)) (at_place old new k with_bit within is e place)
-            ∙ bit_at_set_other w64 (get_or old (k / 64) 0) (k % 64) (small k) (e % 64) (other_bit e k other place)
-            ∙ ap (λ p. bit_at (get_or old p 0) (e % 64)) (sym place)
-        | inr apart ↦ ap (λ x. bit_at x (e % 64)) (elsewhere old new k with_bit within is e apart)
-      ]
-
   pub has_one_more : (e : ℕ) → has new e ≡ (e == k || has old e)
   unfolding has
   has_one_more e =
       elim (cases_eq e k) [
-        | inl same ↦ eq-eqb _ 1 (set_at e same) ∙ sym (ap (λ b. b || (bit_at (get_or old (e / 64) 0) (e % 64) == 1)) (eq-eqb e k same))
-        | inr other ↦ ap (λ b. b == 1) (set_other e other) ∙ sym (ap (λ b. b || (bit_at (get_or old (e / 64) 0) (e % 64) == 1)) (ne_eqb e k other))
+        | inl same ↦ eq-eqb _ 1 (set_at old new k within is e same) ∙ sym (ap (λ b. b || (bit_at (get_or old (e / 64) 0) (e % 64) == 1)) (eq-eqb e k same))
+        | inr other ↦ ap (λ b. b == 1) (set_other old new k within is e other) ∙ sym (ap (λ b. b || (bit_at (get_or old (e / 64) 0) (e % 64) == 1)) (ne_eqb e k other))
       ]
 
 and_not : (a b : Bool) → b ≡ true → (a && not b) ≡ false

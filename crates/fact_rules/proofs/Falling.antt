@@ -49,7 +49,7 @@ from_facts ids es k c =
 in_facts : (ids : ℕ → List Id) (es : List ℕ) (k : Key) → Contains es k.0 → Contains (ids k.0) k.1 → Contains (facts_of ids es) k
 in_facts ids es k e i = in_flat_map (λ y. map (λ i. (y, i)) (ids y)) es k.0 k e (in_map (λ i. (k.0, i)) (ids k.0) k.1 i)
 
-flipped : (x y : ℕ) → (x == y) ≡ (y == x)
+pub flipped : (x y : ℕ) → (x == y) ≡ (y == x)
 flipped x y = grind (arith, nat_tests)
 
 among_alike : (y : ℕ) (xs : List ℕ) → list_any (λ x. x == y) xs ≡ is_among xs y

@@ -1,9 +1,9 @@
 mod OneList
 mod Pushed
 mod Seen
-mod Falling
+pub mod Falling
 mod Counting
 mod Coming
 mod Going
-mod Lonely
+pub mod Lonely
 pub mod Dying

@@ -91,7 +91,7 @@ module _ (ids : ℕ → List Id) where
   unpaired_displaces (e, pair r t) single = absurd (single tt)
 
 -- a pair brings its mirror
-unmirrored : (b : Bool) (xs : List Key) (x : Key) → xs ++ (if b then x ∷ [] else []) ≡ [] → b ≡ false
+pub unmirrored : (b : Bool) (xs : List Key) (x : Key) → xs ++ (if b then x ∷ [] else []) ≡ [] → b ≡ false
 unmirrored true [] x h = absurd cc
 unmirrored true (y ∷ ys) x h = absurd cc
 unmirrored false xs x h = refl

@@ -1,10 +1,10 @@
 -- What follows for a world that a graph shows.
-use Rattle.std.proofs.Common.{◌≡◌, ◌↔◌, ◌∙◌, ℕ, ◌<◌, ◌≤◌, Bool, IsTrue, List, sym, subst, arith}
+use Rattle.std.proofs.Common.{◌≡◌, ◌↔◌, ◌∙◌, ℕ, Bool, IsTrue, List, sym, subst, arith}
 use Rattle.std.specs.Prelude.{filter, not}
 use Rattle.std.specs.List.{All, Contains}
 use Rattle.std.specs.List.Sorted.{IsStrictlySortedBy}
+pub use Rattle.rel_travel.proofs.Forbidden.{mentioned_below}
 use Rattle.ecs_id.specs.Id.{Id, plain, pair, first_of, mentioned}
-use Rattle.ecs_model.specs.Links.{AreLinks}
 use Rattle.ecs_model.specs.Map.{keys, without}
 use Rattle.ecs_model.specs.World.{WorldState, Key, key_cmp, entities, holds, ids_of}
 use Rattle.ecs_model.proofs.Maps.{key_cmp_same, key_cmp_total}
@@ -21,10 +21,6 @@ pub of_world : {w : WorldState} {live : List ℕ} {ids : ℕ → List Id} → Se
 of_world {w = w} {live = live} {ids = ids} sees Q q =
     let same : ids_of w ≡ ids = λ j e. sees.ids_are e j in
     subst (λ es. Q es (ids_of w)) (sym sees.live_are) (subst (λ f. Q live f) (sym same) q)
-
--- what an id of someone mentions is below the size
-pub mentioned_below : {n : ℕ} {live : List ℕ} {ids : ℕ → List Id} → AreLinks n live ids → (m : ℕ) → n ≤ m → (e : ℕ) (i : Id) → Contains (ids e) i → All (λ x. x < m) (mentioned i)
-mentioned_below links m l e i h k d inside = let below = links.below _ (links.live e i h k d inside) in omega (arith, below)
 
 -- the component or relationship is mentioned
 pub of_first : (P : ℕ → Type 0) (i : Id) → All P (mentioned i) → P (first_of i)

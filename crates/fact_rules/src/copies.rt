@@ -14,17 +14,12 @@ use crate::traits::is_trait;
 use bitflags::Flags;
 use ecs_id::Id;
 use ecs_model::FactKey;
-use ecs_model::built_ins::{DONT_INHERIT, INHERIT, IS_A, ON_INSTANTIATE};
+use ecs_model::built_ins::{
+    COMPONENT, DISABLED, DONT_INHERIT, INHERIT, IS_A, ON_INSTANTIATE, PREFAB,
+};
 use rel_traits::{TraitSet, is_fact, traits_among};
 use rel_travel::{Graph, target_under};
 use std::alloc::{AllocError, Allocator};
-
-/// The tags of components, of prefabs and of disabled entities.
-const COMPONENT: u32 = 3;
-
-const PREFAB: u32 = 4;
-
-const DISABLED: u32 = 5;
 
 /// Lists the copies that come with an added fact, where these facts are added with it. It answers the base from which they come, if there is one.
 pub(crate) fn list_copies<G: Graph, A: Allocator>(

@@ -6,21 +6,18 @@ use Rattle.std.proofs.lemmas.Bool.{false≢true, cases_Bool, eqb-true, eq-eqb, o
 use Rattle.std.proofs.lemmas.List.Kept.{AllPairs-from_increasing}
 use Rattle.query_meaning.specs.Variables.{contains}
 use Rattle.query_meaning.proofs.Assignments.{or_left}
-use Rattle.query_meaning.proofs.Lists.{In, place_of}
-use Rattle.query_meaning.proofs.Numbers.{In-list_any}
+use Rattle.query_meaning.proofs.Lists.{place_of}
+use Rattle.query_meaning.proofs.Named.{In-from_contains}
 
 -- each number is below those behind it
 abbrev Rises : List ℕ → Type 0
 Rises [] = Unit {0}
 Rises (x ∷ xs) = ((e : ℕ) → contains xs e ≡ true → x < e) × Rises xs
 
-member : (xs : List ℕ) (e : ℕ) → contains xs e ≡ true → In e xs
-member xs e h = let found = In-list_any (λ u. u == e) xs h in subst (λ x. In x xs) (eqb-true found.0 e found.2) found.1
-
 rises : (xs : List ℕ) → AllPairs (λ a b. a < b) xs → Rises xs
 rises [] h = tt
 rises (x ∷ xs) h = (
-  λ e i. let p = place_of xs e (member xs e i) in let low : p.0 < length xs = p.1 in subst (λ y. x < y) p.2 (h 0 (suc p.0) e (omega arith) (omega arith)),
+  λ e i. let p = place_of xs e (In-from_contains xs e i) in let low : p.0 < length xs = p.1 in subst (λ y. x < y) p.2 (h 0 (suc p.0) e (omega arith) (omega arith)),
   rises xs (λ i j d low high. h (suc i) (suc j) d (omega arith) (omega arith)),
 )
 

@@ -1,97 +1,37 @@
 -- Who is `$this` of a row of a local query is told by the ids of each entity alone.
-use Rattle.std.proofs.Common.{◌≡◌, ℕ, zero, suc, Bool, true, false, cond, inl, inr, List, [], ◌∷◌, ◌++◌, length, refl, sym, ap, ◌∙◌, arith}
-use Rattle.std.specs.Prelude.{◌==◌, ◌&&◌, ◌||◌, filter, flat_map, map, not, take, Contains, Option, Some, None, is_none, if◌then◌else◌}
-use Rattle.std.specs.List.{list_any, list_all, range_with_len}
+use Rattle.std.proofs.Common.{◌≡◌, ℕ, zero, suc, Bool, true, false, cond, inl, inr, List, [], ◌∷◌, length, refl, sym, ap, ◌∙◌, arith}
+use Rattle.std.specs.Prelude.{◌==◌, ◌&&◌, ◌||◌, filter, flat_map, map, not, Contains, Option, Some, None, if◌then◌else◌}
+use Rattle.std.specs.List.{list_any, list_all}
 use Rattle.std.specs.List.Sorted.{IsStrictlyIncreasing}
 use Rattle.std.specs.Option.{option_eq, option_map_or}
-use Rattle.std.specs.Ordering.{nat_cmp}
-use Rattle.std.proofs.lemmas.Bool.{false≢true, and_parts, eqb-true, ne_eqb, not-true, cases_Bool}
+use Rattle.std.proofs.lemmas.Bool.{and_parts, eqb-true, ne_eqb, not-true, cases_Bool}
 use Rattle.std.proofs.lemmas.List.Folds.{list_any-append}
 use Rattle.std.proofs.lemmas.List.Kept.{IsStrictlyIncreasing-filter}
 use Rattle.ecs_id.specs.Id.{Id, plain, pair}
-use Rattle.ecs_model.specs.Map.{with_value}
-use Rattle.ecs_model.specs.Links.{line}
 use Rattle.ecs_model.specs.rows.Level.{Level, done, also, unless, top}
 use Rattle.ecs_model.specs.rows.Rows as meant
-use Rattle.ecs_model.specs.rows.Rows.{candidates, Assignment, Field, Unset, assignments, first_nonempty, fits, product, matches, keeps_one, hits, closed_fields, fields_of_term, shown, shown_fields, same_entity, fields_of_item, solutions, passes_over, visible, row_of, rows_under, rows}
+use Rattle.ecs_model.specs.rows.Rows.{candidates, Assignment, Field, Unset, assignments, fits, matches, keeps_one, hits, fields_of_term, shown, shown_fields, same_entity, fields_of_item, solutions, passes_over, row_of, rows_under, rows}
 use Rattle.ecs_model.specs.rows.View.{View}
 use Rattle.ecs_model.specs.traits.Rules.{prefab, disabled}
 use Rattle.ecs_model.specs.stored.Watches.{is_this, matching}
 use Rattle.query_model.specs.declared.query.Ref.{Ref}
 use Rattle.query_model.specs.declared.query.Ref.TheVariants.{Is, Var, Any, One}
 use Rattle.query_model.specs.declared.query.Term.{Term}
-use Rattle.query_model.specs.Observers.{is_first}
 use Rattle.query_model.specs.Query.{Item, must, may, either, equal, differ, item, Query}
 use Rattle.query_model.specs.Local.{asks_first, is_local_piece}
 use Rattle.query_meaning.specs.Local.{IsLocal}
 use Rattle.query_meaning.specs.Variables.{contains}
 use Rattle.query_meaning.proofs.Ordered.{any-ordered}
 use Rattle.query_meaning.proofs.Assignments.{at, at-with_other}
+use Rattle.query_meaning.proofs.Choices.{fields-on_this, none_counted, none_of, one, or_last, some, some-filter, some-first, some-if, some-map, some-product, some-taken, source_first}
 use Rattle.query_meaning.proofs.Lists.{In-from_place}
 use Rattle.query_meaning.proofs.Numbers.{contains-from_In}
 use Rattle.local_queries.specs.Judging.{has_hit, is_same, item_holds, judged, stands_for, suits}
 use Rattle.local_queries.proofs.Ascending.{contains-filter}
-use Rattle.query_meaning.proofs.Locality.{is_local_level, top_local}
+use Rattle.query_meaning.proofs.Locality.{is_local_level, one_visible, top_local}
 use Rattle.local_queries.proofs.Passing.{level_holds, holds_is}
 
--- ---- whether there is a choice
-
-module _ {X : Type 0} where
-  abbrev some : List X → Bool
-  some [] = false
-  some (x ∷ xs) = true
-
-  none_counted : (xs : List X) → (length xs == 0) ≡ not (some xs)
-  none_counted [] = refl
-  none_counted (x ∷ xs) = ne_eqb (suc (length xs)) 0 (λ e. absurd (omega (arith, e)))
-
-  some-append : (xs ys : List X) → some (xs ++ ys) ≡ (some xs || some ys)
-  some-append [] ys = refl
-  some-append (x ∷ xs) ys = refl
-
-  some-first : (xss : List (List X)) → some (first_nonempty xss) ≡ list_any some xss
-  some-first [] = refl
-  some-first ([] ∷ xss) = some-first xss
-  some-first ((x ∷ xs) ∷ xss) = refl
-
-  some-take_one : (xs : List X) → some (take 1 xs) ≡ some xs
-  some-take_one [] = refl
-  some-take_one (x ∷ xs) = refl
-
-  some-filter : (p : X → Bool) (xs : List X) → some (filter p xs) ≡ list_any p xs
-  some-filter p [] = refl
-  some-filter p (x ∷ xs) = elim (p x) as (λ b. some (cond b (x ∷ filter p xs) (filter p xs)) ≡ (b || list_any p xs)) [ true ↦ refl | false ↦ some-filter p xs ]
-
-  some-if : (b : Bool) (x : X) → some (if b then x ∷ [] else []) ≡ b
-  some-if true x = refl
-  some-if false x = refl
-
-  some-if_not : (b : Bool) (x : X) → some (if b then [] else x ∷ []) ≡ not b
-  some-if_not true x = refl
-  some-if_not false x = refl
-
-some-map : {X Y : Type 0} (f : X → Y) (xs : List X) → some (map f xs) ≡ some xs
-some-map f [] = refl
-some-map f (x ∷ xs) = refl
-
-some-product : {X : Type 0} (xs ys : List (List X)) → some (product xs ys) ≡ (some xs && some ys)
-some-product [] ys = refl
-some-product (x ∷ xs) ys =
-    some-append (map (λ y. x ++ y) ys) (product xs ys)
-    ∙ ap (λ b. b || some (product xs ys)) (some-map (λ y. x ++ y) ys)
-    ∙ ap (λ b. some ys || b) (some-product xs ys)
-    ∙ absorbed (some xs) (some ys)
-  where
-    absorbed : (a b : Bool) → (b || (a && b)) ≡ b
-    absorbed true true = refl
-    absorbed true false = refl
-    absorbed false true = refl
-    absorbed false false = refl
-
 -- ---- where `$this` is one entity
-
-abbrev one : ℕ → Assignment
-one e = with_value nat_cmp [] 0 e
 
 other_unset : (e v : ℕ) → at (one e) (suc v) ≡ None
 other_unset e v = at-with_other [] 0 e (suc v) (λ h. absurd (omega (arith, h)))
@@ -116,34 +56,22 @@ same_one : (w : View) (e v : ℕ) (r : Ref) → same_entity w (one e) v r ≡ is
 same_one w e zero r = fits_one e e r
 same_one w e (suc v) r = ap (λ o. option_map_or (λ d. fits (one e) d r) o false) (other_unset e v) ∙ sym (ap (λ b. b && stands_for e e r) (isnt_first v))
 
-source_first : (r : Ref) → is_first r ≡ true → r ≡ Var 0
-source_first (Is e) h = absurd (false≢true h)
-source_first (Var v) h = ap Var (eqb-true v 0 h)
-source_first Any h = absurd (false≢true h)
-source_first One h = absurd (false≢true h)
+module _ {X : Type 0} where
+  one_where : (b : Bool) (x : X) → some (if b then x ∷ [] else []) ≡ b
+  one_where true x = refl
+  one_where false x = refl
 
-none_of : {X : Type 0} (o : Option X) → is_none o ≡ true → o ≡ None
-none_of None h = refl
-none_of (Some x) h = absurd (false≢true h)
+  none_where : (b : Bool) (x : X) → some (if b then [] else x ∷ []) ≡ not b
+  none_where true x = refl
+  none_where false x = refl
 
 module _ (w : View) (e : ℕ) where
-  asked_itself : (t : Term) → t.source ≡ Var 0 → t.on_source ≡ true → t.up ≡ None → t.closed ≡ false
-      → fields_of_term w (one e) t ≡ first_nonempty (map (λ j. (e, j)) (hits w (one e) t e) ∷ [])
-  unfolding fields_of_term
-  asked_itself t source on up closed = λ i. option_map_or (λ s.
-      if closed i then closed_fields w (meant.meant (one e) t.first) s (option_map_or (meant.meant (one e)) t.target None)
-      else first_nonempty (map (λ m. map (λ j. (m, j)) (hits w (one e) t m)) ((if on i then s ∷ [] else []) ++ option_map_or (λ r. line w.ids w.entities r s) (up i) []))) (meant.meant (one e) (source i)) []
-
   some_hits : (t : Term) → some (hits w (one e) t e) ≡ has_hit e (w.ids e) t
   unfolding hits
-  some_hits t = by (keeps_one t) ∙ some-filter (matches (one e) t.first t.target) (w.ids e) ∙ (λ i. list_any (λ j. matches_one e t.first t.target j i) (w.ids e))
-    where
-      all : List Id
-      all = filter (matches (one e) t.first t.target) (w.ids e)
-
-      by : (b : Bool) → some (if b then take 1 all else all) ≡ some all
-      by true = some-take_one all
-      by false = refl
+  some_hits t =
+      some-taken (keeps_one t) (filter (matches (one e) t.first t.target) (w.ids e))
+      ∙ some-filter (matches (one e) t.first t.target) (w.ids e)
+      ∙ (λ i. list_any (λ j. matches_one e t.first t.target j i) (w.ids e))
 
   some_shown : (t : Term) → asks_first t ≡ true → some (shown_fields w (one e) t) ≡ has_hit e (w.ids e) t
   some_shown t h =
@@ -151,7 +79,7 @@ module _ (w : View) (e : ℕ) where
       let up = and_parts _ _ stored.0 in
       let source = and_parts _ _ up.0 in
       some-map (λ f. shown w t f ∷ []) (fields_of_term w (one e) t)
-      ∙ ap some (asked_itself t (source_first t.source source.0) source.1 (none_of t.up up.1) (not-true t.closed stored.1))
+      ∙ ap some (fields-on_this w e t (source_first t.source source.0) source.1 (none_of t.up up.1) (not-true t.closed stored.1))
       ∙ some-first (map (λ j. (e, j)) (hits w (one e) t e) ∷ [])
       ∙ ap (λ b. b || false) (some-map (λ j. (e, j)) (hits w (one e) t e) ∙ some_hits t)
       ∙ or_none (has_hit e (w.ids e) t)
@@ -171,14 +99,10 @@ module _ (w : View) (e : ℕ) where
   some_of_item : (i : Item) → is_local_piece (item i) ≡ true → some (fields_of_item w (one e) i) ≡ item_holds e (w.ids e) i
   unfolding fields_of_item
   some_of_item (must t) h = some_shown t h
-  some_of_item (may t) h = some-first (shown_fields w (one e) t ∷ ((Unset ∷ []) ∷ []) ∷ []) ∙ always (some (shown_fields w (one e) t))
-    where
-      always : (b : Bool) → (b || (true || false)) ≡ true
-      always true = refl
-      always false = refl
+  some_of_item (may t) h = some-first (shown_fields w (one e) t ∷ ((Unset ∷ []) ∷ []) ∷ []) ∙ or_last (some (shown_fields w (one e) t))
   some_of_item (either ts) h = some-first (map (shown_fields w (one e)) ts) ∙ some_alternative ts h
-  some_of_item (equal v r) h = some-if (same_entity w (one e) v r) [] ∙ same_one w e v r
-  some_of_item (differ v r) h = some-if_not (same_entity w (one e) v r) [] ∙ ap not (same_one w e v r)
+  some_of_item (equal v r) h = one_where (same_entity w (one e) v r) [] ∙ same_one w e v r
+  some_of_item (differ v r) h = none_where (same_entity w (one e) v r) [] ∙ ap not (same_one w e v r)
 
   -- a group has no variables of its own, so it asks the one assignment
   group_of_one : (own : List ℕ) → length own ≡ 0 → (inner : Level)
@@ -203,21 +127,14 @@ module _ (w : View) (e : ℕ) where
       let group = and_parts _ _ parts.0 in
       let holds = group_of_one own (eqb-true (length own) 0 group.0) inner ∙ ap not (some_of_level inner group.1) in
       ap (λ b. some (if b then solutions w rest (one e) else [])) holds
-      ∙ by (not (level_holds e (w.ids e) inner))
+      ∙ some-if (not (level_holds e (w.ids e) inner)) (solutions w rest (one e))
       ∙ ap (λ b. not (level_holds e (w.ids e) inner) && b) (some_of_level rest parts.1)
-    where
-      by : (b : Bool) → some (if b then solutions w rest (one e) else []) ≡ (b && some (solutions w rest (one e)))
-      by true = refl
-      by false = refl
 
 -- ---- the rows
 
 and_none : (b : Bool) → false ≡ (b && false)
 and_none true = refl
 and_none false = refl
-
-one_visible : (q : Query) → (length q.variables == 1) ≡ true → visible q ≡ 0 ∷ []
-one_visible q h = ap (range_with_len 0) (eqb-true (length q.variables) 1 h)
 
 module _ (w : View) (q : Query) where
   -- whether an entity is `$this` of a row

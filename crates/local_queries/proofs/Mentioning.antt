@@ -1,18 +1,12 @@
 -- What is read of a query's pieces from the left is what it mentions.
 use Rattle.std.proofs.Common.{◌≡◌, ℕ, suc, zero, Bool, true, false, List, [], ◌∷◌, refl, sym, ap, ◌∙◌}
 use Rattle.std.specs.Prelude.{◌&&◌, ◌||◌}
+use Rattle.std.proofs.Math.Bool.{or-false}
+use Rattle.query_meaning.proofs.Flat.{or_assoc}
 use Rattle.ecs_model.specs.rows.Level.{Level, done, also, unless, top, then_level, joined, open_levels, first_level, other_levels}
 use Rattle.ecs_model.specs.rows.Rows.{item_mentions, level_mentions}
 use Rattle.local_queries.specs.Mentions.{hidden_behind, hidden_around, counted, mentions_from}
 use Rattle.query_model.specs.Query.{Item, Piece, item, opening, closing, Query}
-
-or_assoc : (a b c : Bool) → ((a || b) || c) ≡ (a || (b || c))
-or_assoc true b c = refl
-or_assoc false b c = refl
-
-or_none : (a : Bool) → (a || false) ≡ a
-or_none true = refl
-or_none false = refl
 
 module _ (tag : ℕ) where
   -- some level mentions it, but for so many of the first
@@ -22,7 +16,7 @@ module _ (tag : ℕ) where
   any_level (suc h) (l ∷ ls) = any_level h ls
 
   item_first : (h : ℕ) (b : Bool) (i : Item) (ls : List Level) → b ≡ item_mentions tag i → (counted h b || any_level h ls) ≡ any_level h (also i (first_level ls) ∷ other_levels ls)
-  item_first zero b i [] e = ap (λ t. t || false) (e ∙ sym (or_none (item_mentions tag i)))
+  item_first zero b i [] e = ap (λ t. t || false) (e ∙ sym (or-false (item_mentions tag i)))
   item_first zero b i (l ∷ ls) e = ap (λ t. t || (level_mentions tag l || any_level zero ls)) e ∙ sym (or_assoc (item_mentions tag i) (level_mentions tag l) (any_level zero ls))
   item_first (suc h) b i [] e = none h
     where
@@ -34,7 +28,7 @@ module _ (tag : ℕ) where
       → any_level (hidden_behind h from_term) ls ≡ any_level h (unless from_term own (first_level ls) (first_level (other_levels ls)) ∷ other_levels (other_levels ls))
   group_first zero true own [] = refl
   group_first zero false own [] = refl
-  group_first zero true own (l ∷ []) = ap (λ t. t || false) (sym (or_none (level_mentions tag l)))
+  group_first zero true own (l ∷ []) = ap (λ t. t || false) (sym (or-false (level_mentions tag l)))
   group_first zero false own (l ∷ []) = refl
   group_first zero true own (l ∷ m ∷ ls) = sym (or_assoc (level_mentions tag l) (level_mentions tag m) (any_level zero ls))
   group_first zero false own (l ∷ m ∷ ls) = refl

@@ -1,5 +1,5 @@
 -- What an index of names says of its fields, and what a change does to its names.
-use Rattle.std.proofs.Common.{◌≡◌, ◌≢◌, ℕ, ◌==◌, ◌&&◌, Bool, true, false, cond, List, [], ◌∷◌, ◌++◌, Some, None, Option, is_some, true≢false, map, bytes_eq, ◌↔◌, refl, sym, ap, subst, ◌∙◌}
+use Rattle.std.proofs.Common.{◌≡◌, ◌≢◌, ℕ, ◌==◌, Bool, true, false, cond, List, [], ◌∷◌, ◌++◌, Some, None, Option, is_some, true≢false, map, bytes_eq, ◌↔◌, refl, sym, ap, subst, ◌∙◌}
 use Rattle.std.specs.Prelude.{nat_eq}
 use Rattle.std.specs.Option.{option_or}
 use Rattle.std.specs.declared.string.String.{String}
@@ -14,6 +14,7 @@ use Rattle.std.specs.Cmp.Derive.{both_true}
 use Rattle.std.proofs.lemmas.Map.Text.{is_eq-slice_cmp, hash_map_updates_text}
 use Rattle.std.proofs.lemmas.Slice.Eq.{bytes_eq-Decides}
 use Rattle.std.proofs.lemmas.Bool.Decides.{Decides-eqb}
+use Rattle.std.proofs.lemmas.Bool.{and_parts}
 use Rattle.ecs_id.specs.declared.EntityId.{EntityId}
 use Rattle.name_index.specs.declared.texts.Texts.{Texts}
 use Rattle.name_index.specs.Names.{Names, names_in, entity_eq, IsUnnamed, IsOneToOne, OthersKeepTheirs, AreApart, AreKept}
@@ -21,13 +22,9 @@ use Rattle.name_index.specs.Short.{is_short}
 use Rattle.name_index.specs.Texts.{text_of}
 
 -- the test of entities tells whether they are one
-both : (a b : Bool) → (a && b) ≡ true → (a ≡ true) × (b ≡ true)
-both true b h = (refl, h)
-both false b h = absurd (true≢false (sym h))
-
 pub same_entity : (x y : EntityId) → entity_eq x y ≡ true → x ≡ y
 same_entity x y h =
-    let tests = both (x.index == y.index) (x.generation == y.generation) h in
+    let tests = and_parts (x.index == y.index) (x.generation == y.generation) h in
     λ i. record { index = (Decides-eqb x.index y.index).0 tests.0 i; generation = (Decides-eqb x.generation y.generation).0 tests.1 i }
 
 pub entity_eq_true : (x y : EntityId) → x ≡ y → entity_eq x y ≡ true

@@ -1,5 +1,5 @@
 -- The counts of a list as a map: what stands at each index, and that the indexes rise.
-use Rattle.std.proofs.Common.{◌≡◌, ◌≢◌, ◌⊎◌, ℕ, zero, suc, ◌+◌, ◌<◌, ◌≤◌, ◌==◌, Bool, true, false, cond, not, ◌&&◌, List, [], ◌∷◌, filter, length, nat_lt, get_or, set, Option, Some, None, unwrap_or, refl, sym, ap, subst, ◌∙◌, inl, inr, arith}
+use Rattle.std.proofs.Common.{◌≡◌, ◌≢◌, ◌⊎◌, ℕ, zero, suc, ◌+◌, ◌<◌, ◌≤◌, ◌==◌, Bool, true, false, cond, not, ◌&&◌, List, [], ◌∷◌, filter, length, nat_lt, get_or, set, Option, Some, None, unwrap_or, refl, sym, ap, ◌∙◌, inl, inr, arith}
 use Rattle.std.proofs.lemmas.Bool.{cases_eq, cases_lt, ne_eqb}
 use Rattle.std.proofs.lemmas.Bool.Decides.{nat_tests, Decides-eqb}
 use Rattle.std.proofs.lemmas.Grind.{get_or-set_at}
@@ -10,7 +10,7 @@ use Rattle.std.specs.FinMap.Entries.{below_all, is_sorted, same_entries}
 use Rattle.std.specs.List.{enumerate_from}
 use Rattle.std.specs.Ordering.{nat_cmp, eq_by_cmp, is_eq, is_lt}
 use Rattle.std.specs.declared.cmp.Ordering.TheVariants.{Equal, Greater}
-use Rattle.ecs_model.specs.Map.{Map, IsMap, count_at, value_at, with_value}
+use Rattle.ecs_model.specs.Map.{Map, IsMap, count_at, value_at}
 use Rattle.ecs_model.specs.traits.Pins.{with_count}
 use Rattle.ecs_model.proofs.Maps.{IsMap-with_value, absent_below, nat_value_at, to_T}
 use Rattle.ecs_model.proofs.traits.Deletions.{nat_IsMap-without, nat_value_at-without}
@@ -27,7 +27,7 @@ kept (suc n) = Some (suc n)
 below : (d a : ℕ) → d < a → is_lt (nat_cmp d a) ≡ true
 below d a h = grind (arith, nat_tests)
 
-tied : (k : ℕ) → nat_cmp k k ≡ Equal
+pub tied : (k : ℕ) → nat_cmp k k ≡ Equal
 tied k = grind (arith, nat_tests)
 
 not_tied : (k a : ℕ) → a < k → nat_cmp k a ≡ Greater
@@ -94,7 +94,7 @@ same_grown old new m n before after same more wider = same_counts old new (λ k.
     by k (inr beyond) (inl within) = more k 0 beyond within ∙ sym (get_or_past old k 0 (omega (arith, before, beyond)))
     by k (inr beyond) (inr past) = get_or_past new k 0 (omega (arith, after, past)) ∙ sym (get_or_past old k 0 (omega (arith, before, beyond)))
 
-IsMap-with_count : (m : Map ℕ ℕ) (i n : ℕ) → IsMap nat_cmp m → IsMap nat_cmp (with_count m i n)
+pub IsMap-with_count : (m : Map ℕ ℕ) (i n : ℕ) → IsMap nat_cmp m → IsMap nat_cmp (with_count m i n)
 IsMap-with_count m i zero h = nat_IsMap-without m (λ j. j == i) h
 IsMap-with_count m i (suc n) h = IsMap-with_value nat_cmp nat_cmp_total m i (suc n) h
 

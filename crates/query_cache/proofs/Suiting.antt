@@ -3,15 +3,14 @@ use Rattle.std.proofs.Common.{◌≡◌, ◌↔◌, ℕ, Bool, true, false, if�
 use Rattle.std.specs.List.{Contains, list_any}
 use Rattle.std.specs.Option.{option_map_or}
 use Rattle.std.proofs.lemmas.Bool.Decides.{nat_tests}
+use Rattle.std.proofs.lemmas.Bool.{and_parts}
 use Rattle.component_index.specs.Patterns.{matches, takes}
 use Rattle.component_index.specs.declared.pattern.Pattern.{Pattern}
 use Rattle.ecs_id.specs.Id.{Id, plain, pair}
 use Rattle.ecs_id.specs.declared.TableKey.{TableKey}
 use Rattle.ecs_model.specs.rows.Level.{Level, done, also, unless, top}
-use Rattle.ecs_model.specs.rows.Rows.{fits}
-use Rattle.ecs_model.specs.rows.Rows.{matches as matches_term}
-use Rattle.ecs_model.specs.stored.Tables.{is_cacheable, item_suits, level_suits, lists_table}
-use Rattle.ecs_model.specs.stored.Tables.{has_hit as has_term_hit}
+use Rattle.ecs_model.specs.rows.Rows.{fits, matches as matches_term}
+use Rattle.ecs_model.specs.stored.Tables.{is_cacheable, item_suits, level_suits, lists_table, has_hit as has_term_hit}
 use Rattle.query_model.specs.declared.query.Ref.{Ref}
 use Rattle.query_model.specs.declared.query.Ref.TheVariants.{Is, Var, Any, One}
 use Rattle.query_model.specs.declared.query.Term.{Term}
@@ -30,10 +29,6 @@ part_takes (Var v) i h = absurd (true≢false (sym h))
 part_takes Any i h = refl
 part_takes One i h = refl
 
-both : (a b : Bool) → (a && b) ≡ true → (a ≡ true) × (b ≡ true)
-both true b h = (refl, h)
-both false b h = absurd (true≢false (sym h))
-
 pattern_hits : (first : Ref) (target : Option Ref) → is_constant first ≡ true → is_constant_target target ≡ true → (i : Id)
     → matches (record { first = part_of first; second = option_map part_of target }) i ≡ matches_term [] first target i
 pattern_hits first None f t (plain c) = part_takes first c f
@@ -49,8 +44,8 @@ term_suits : (q : Query) (t : Term) (b : Bool) → is_cacheable q t ≡ b → (i
     → suits ((if b then pattern_of t ∷ [] else []) ++ rest) ids ≡ ((not b || has_term_hit ids t) && r)
 term_suits q t false e ids rest r h = h
 term_suits q t true e ids rest r h =
-    let asks = both (q.has_this && asks_first t && is_constant t.first) (is_constant_target t.target) e in
-    let first = both (q.has_this && asks_first t) (is_constant t.first) asks.0 in
+    let asks = and_parts (q.has_this && asks_first t && is_constant t.first) (is_constant_target t.target) e in
+    let first = and_parts (q.has_this && asks_first t) (is_constant t.first) asks.0 in
     λ j. any_same (matches (pattern_of t)) (matches_term [] t.first t.target) (pattern_hits t.first t.target first.1 asks.1) ids j && h j
 
 one_suits : (q : Query) (i : Item) (ids : List Id) (rest : List Pattern) (r : Bool) → suits rest ids ≡ r → suits (item_patterns q i ++ rest) ids ≡ (item_suits q ids i && r)

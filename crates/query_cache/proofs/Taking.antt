@@ -1,21 +1,17 @@
 -- What is taken in from the tables above a serial.
 use Rattle.std.proofs.Common.{◌≡◌, inl, inr, ℕ, zero, suc, ◌+◌, ◌<◌, ◌≤◌, Bool, true, false, append-nil, append_assoc, cond, le-leb, List, [], ◌∷◌, ◌++◌, Ok, Err, OnErr, OnOk, Result, is_err, length, map, max, min, nat_le, slice_index_or, refl, sym, ap, subst, ◌∙◌, arith, true≢false}
-use Rattle.std.specs.declared.cmp.Ordering.TheVariants.{Less}
 use Rattle.std.specs.List.{AllByRecursion, Contains, filter}
-use Rattle.std.specs.Ordering.{nat_cmp}
 use Rattle.std.proofs.lemmas.Bool.Decides.{nat_tests}
 use Rattle.std.proofs.lemmas.List.Elements.{Contains-append_cases, Contains-get_or, filter-append, recursion_from_All}
 use Rattle.component_index.specs.declared.pattern.Pattern.{Pattern}
 use Rattle.ecs_id.specs.declared.TableKey.{TableKey}
 use Rattle.table_store.specs.Store.{Store, IsStore}
+pub use Rattle.table_store.proofs.Order.{less_is}
 use Rattle.query_cache.specs.Kept.{AreAbove, Counts, IsTakenIn, is_kept}
 use Rattle.query_cache.proofs.Filters.{from_filter}
 
 abbrev pub serials_of : List TableKey → List ℕ
 serials_of keys = map (λ k. k.serial) keys
-
-pub less_is : (x y : ℕ) → x < y → nat_cmp x y ≡ Less
-less_is x y h = grind (arith, nat_tests)
 
 module _ {X Y : Type 0} (f : X → Y) where
   pub from_mapped : (xs : List X) (y : Y) (i : ℕ) → i < length (map f xs) → slice_index_or (map f xs) i y ≡ y → (x : X) × Contains xs x × (f x ≡ y)

@@ -6,6 +6,7 @@ use Rattle.std.proofs.Common.{eq-eqb, ap, sym, ◌∙◌, refl, get_or, arith}
 use Rattle.std.proofs.lemmas.List.{append-nil, append_assoc, drop_more, drop_all, get_or-map, length-map, map-append, drop-map, length-drop}
 use Rattle.std.proofs.Math.Seq.{take-length}
 use Rattle.std.proofs.lemmas.Grind.{flat_map-append}
+use Rattle.std.proofs.Math.Bool.{and-false}
 use Rattle.query_model.specs.declared.Span.{Span}
 use Rattle.query_model.specs.declared.syntax.Role.TheVariants.{And, Or, Not, Optional}
 use Rattle.query_check.specs.declared.uses.Use as code_use
@@ -128,12 +129,8 @@ found_are ps used us all found u is f by =
 pub both : (l m : ℕ) (b : Bool) → l ≡ m → true ≡ b → (l == m && b) ≡ true
 both l m b e h = ap (λ t. t && b) (eq-eqb l m e) ∙ sym h
 
-and_false : (a : Bool) → (a && false) ≡ false
-and_false true = refl
-and_false false = refl
-
 pub not_second : (l m : ℕ) (b : Bool) → false ≡ b → (l == m && b) ≡ false
-not_second l m b h = ap (λ t. l == m && t) (sym h) ∙ and_false (l == m)
+not_second l m b h = ap (λ t. l == m && t) (sym h) ∙ and-false (l == m)
 
 pub not_first : (l m : ℕ) (b : Bool) → l ≢ m → (l == m && b) ≡ false
 not_first l m b ne = ap (λ t. t && b) (ne_eqb l m ne)

@@ -13,6 +13,7 @@ mod places;
 mod query;
 mod scope;
 mod shown;
+mod terms;
 mod uses;
 
 pub use checked::check;

@@ -4,8 +4,8 @@ ghost use Rattle.std.specs.Prelude.{◌≡◌, map};
 ghost use Rattle.std.specs.List.{list_all, list_any};
 ghost use Rattle.query_check.specs.Seen.{seen_item, seen_piece};
 ghost use Rattle.query_model.specs.Query.{item as as_piece};
-ghost use Rattle.query_model.specs.Local.{asks_first, asks_one_id, is_local_piece, is_must, is_name, is_name_if_written, is_simple_piece};
-ghost use Rattle.query_model.specs.Observers.{asks_first_alone, is_constant, is_constant_target, is_first, is_one_term};
+ghost use Rattle.query_model.specs.Local.{asks_first, asks_one_id, is_local_piece, is_must, is_simple_piece};
+ghost use Rattle.query_model.specs.Observers.{asks_first_alone, is_one_term};
 
 use crate::query::{Item, Piece};
 use query_model::query::{Ref, Term};
@@ -24,33 +24,11 @@ pub(crate) fn is_one_term<A: Allocator>(pieces: &[Piece<A>]) -> bool
 fn asks_first_alone(term: &Term) -> bool
     ensures { result ≡ asks_first_alone term.now }
 {
-    is_first(term.source)
+    term.source.is_first()
         && term.on_source
         && term.up.is_none()
-        && is_constant(term.first)
-        && is_constant_target(term.target)
-}
-
-/// Whether a reference is the first variable, which is `$this` where that occurs.
-fn is_first(reference: Ref) -> bool
-    ensures { result ≡ is_first reference }
-{
-    matches!(reference, Ref::Var(0))
-}
-
-fn is_constant(reference: Ref) -> bool
-    ensures { result ≡ is_constant reference }
-{
-    !matches!(reference, Ref::Var(_))
-}
-
-fn is_constant_target(target: Option<Ref>) -> bool
-    ensures { result ≡ is_constant_target target }
-{
-    match target {
-        Some(reference) => is_constant(reference),
-        None => true,
-    }
+        && term.first.is_constant()
+        && term.target.map_or(true, Ref::is_constant)
 }
 
 /// Whether all terms ask the first variable itself, for ids that are stored, and no group has variables of its own.
@@ -79,7 +57,7 @@ fn is_local_item<A: Allocator>(item: &Item<A>) -> bool
     ensures { result ≡ is_local_piece (as_piece (seen_item item.now)) }
 {
     match item {
-        Item::And(term) | Item::Optional(term) => asks_first(term),
+        Item::And(term) | Item::Optional(term) => term.asks_first(),
         Item::Or(terms) => all_ask_first(terms.as_slice()),
         Item::Equal(_, _) | Item::Differ(_, _) => true,
     }
@@ -88,13 +66,7 @@ fn is_local_item<A: Allocator>(item: &Item<A>) -> bool
 fn all_ask_first(terms: &[Term]) -> bool
     ensures { result ≡ list_all asks_first terms.now }
 {
-    terms.iter().all(|term| asks_first(term))
-}
-
-fn asks_first(term: &Term) -> bool
-    ensures { result ≡ asks_first term.now }
-{
-    is_first(term.source) && term.on_source && term.up.is_none() && !term.closed
+    terms.iter().all(|term| term.asks_first())
 }
 
 /// Whether all pieces are items whose terms ask the first variable for one id each.
@@ -113,7 +85,7 @@ fn is_simple_piece<A: Allocator>(piece: &Piece<A>) -> bool
     ensures { result ≡ is_simple_piece (seen_piece piece.now) }
 {
     match piece {
-        Piece::Item(Item::And(term) | Item::Optional(term)) => asks_one_id(term),
+        Piece::Item(Item::And(term) | Item::Optional(term)) => term.asks_one_id(),
         Piece::Item(Item::Or(terms)) => all_ask_one_id(terms.as_slice()),
         _ => false,
     }
@@ -122,28 +94,7 @@ fn is_simple_piece<A: Allocator>(piece: &Piece<A>) -> bool
 fn all_ask_one_id(terms: &[Term]) -> bool
     ensures { result ≡ list_all asks_one_id terms.now }
 {
-    terms.iter().all(|term| asks_one_id(term))
-}
-
-fn asks_one_id(term: &Term) -> bool
-    ensures { result ≡ asks_one_id term.now }
-{
-    asks_first(term) && is_name(term.first) && is_name_if_written(term.target)
-}
-
-fn is_name(reference: Ref) -> bool
-    ensures { result ≡ is_name reference }
-{
-    matches!(reference, Ref::Is(_))
-}
-
-fn is_name_if_written(target: Option<Ref>) -> bool
-    ensures { result ≡ is_name_if_written target }
-{
-    match target {
-        Some(reference) => is_name(reference),
-        None => true,
-    }
+    terms.iter().all(|term| term.asks_one_id())
 }
 
 /// Whether one of the pieces is a term that must match.

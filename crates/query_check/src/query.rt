@@ -13,6 +13,7 @@ ghost use Rattle.query_model.specs.Local.{is_local, is_simple};
 ghost use Rattle.query_model.specs.Observers.{monitored, observed, whole};
 ghost use Rattle.query_model.specs.Scope.{sightings};
 ghost use Rattle.query_model.specs.Numbers.{numbers_from};
+ghost use Rattle.query_check.specs.Terms.{item_terms, piece_terms, terms};
 ghost use Rattle.query_model.specs.Query as specs;
 ghost use Rattle.query_model.specs.Seen.{seen_flags, seen_part, seen_reference, seen_term};
 
@@ -25,6 +26,7 @@ use crate::numbers::{Variable, has_this, number_of, own_numbers, variables};
 use crate::places::Place;
 use crate::scope::{Occurrence, alternative, name_of};
 use crate::shown::shown;
+use crate::terms::terms;
 use crate::uses::Use;
 use ecs_id::EntityId;
 use query_model::Span;
@@ -33,6 +35,7 @@ use query_model::query::{Mention, Ref, Term};
 use query_model::syntax::{Flags, Part, Reference, Rise, Role, Spoken, TermSyntax};
 use std::alloc::{AllocError, Allocator, Global};
 use std::marker::Model;
+use std::slice::from_ref;
 
 /// The index of the built-in relationship ChildOf, along which a plain `up` or `cascade` asks.
 const CHILD_OF: u32 = 1;
@@ -55,6 +58,19 @@ pub enum Item<A: Allocator = Global> {
     Differ(usize, Ref),
 }
 
+impl<A: Allocator> Item<A> {
+    /// Its terms: one, or its alternatives. An equality has none.
+    pub fn terms(&self) -> &[Term]
+        ensures { result.now ≡ item_terms (seen_item self.now) }
+    {
+        match self {
+            Item::And(term) | Item::Optional(term) => from_ref(term),
+            Item::Or(terms) => terms.as_slice(),
+            Item::Equal(_, _) | Item::Differ(_, _) => &[],
+        }
+    }
+}
+
 /// A piece of a query in the order of its text.
 #[derive(Debug, Drop)]
 pub enum Piece<A: Allocator = Global> {
@@ -75,6 +91,7 @@ pub struct Query<A: Allocator = Global> {
     cascade: Option<EntityId>,
     numbered: Vec<Numbered, A>,
     shown: Vec<usize, A>,
+    terms: Vec<Term, A>,
     mentions: Vec<Mention, A>,
     length: usize,
 }
@@ -89,6 +106,7 @@ impl<A: Allocator> Drop for Query<A> {
             cascade: _,
             numbered: _,
             shown: _,
+            terms: _,
             mentions: _,
             length: _,
         } = self;
@@ -96,9 +114,10 @@ impl<A: Allocator> Drop for Query<A> {
 }
 
 impl<A: Allocator> Model for Query<A> {
-    ghost use Rattle.std.specs.Prelude.{◌≡◌, [], map};
+    ghost use Rattle.std.specs.Prelude.{◌≡◌, [], flat_map, map};
     ghost use Rattle.query_model.specs.Query as model;
     ghost use Rattle.query_model.specs.Query.{entries_from, shown_from};
+    ghost use Rattle.query_check.specs.Terms.{piece_terms};
     ghost use Rattle.query_check.specs.Seen.{entry_at, seen_piece};
 
     ghost Value = { model.Query };
@@ -112,7 +131,7 @@ impl<A: Allocator> Model for Query<A> {
       length = q.length;
     } };
 
-    ghost invariant = { λ q. (q.shown.items ≡ shown_from 0 (entries_from 0 [] (map seen_piece q.pieces.items))) × (map (entry_at (map seen_piece q.pieces.items)) q.numbered.items ≡ entries_from 0 [] (map seen_piece q.pieces.items)) };
+    ghost invariant = { λ q. (q.shown.items ≡ shown_from 0 (entries_from 0 [] (map seen_piece q.pieces.items))) × (map (entry_at (map seen_piece q.pieces.items)) q.numbered.items ≡ entries_from 0 [] (map seen_piece q.pieces.items)) × (q.terms.items ≡ flat_map piece_terms (map seen_piece q.pieces.items)) };
 }
 
 impl<A: Allocator> Query<A> {
@@ -165,6 +184,13 @@ impl<A: Allocator> Query<A> {
         ensures { result.now ≡ shown self.now }
     {
         self.shown.as_slice()
+    }
+
+    /// The terms in the order of the text, those of alternatives and those inside groups too.
+    pub fn terms(&self) -> &[Term]
+        ensures { result.now ≡ terms self.now }
+    {
+        self.terms.as_slice()
     }
 
     /// The entities that the text names, each once, by first appearance.
@@ -255,6 +281,7 @@ impl<A: Allocator + Copy> Query<A> {
             cascade: self.cascade,
             numbered: Vec::from_slice(alloc, self.numbered.as_slice())?,
             shown: Vec::from_slice(alloc, self.shown.as_slice())?,
+            terms: Vec::from_slice(alloc, self.terms.as_slice())?,
             mentions: Vec::from_slice(alloc, self.mentions.as_slice())?,
             length: self.length,
         })
@@ -310,6 +337,7 @@ pub(crate) fn build<'a, A: Allocator + Copy, W: Lookup>(
     let visible = visible_names(alloc, numbered)?;
     let mentions = mentions(alloc, world, uses)?;
     let shown = shown(alloc, pieces.as_slice())?;
+    let terms = terms(alloc, pieces.as_slice())?;
     let entries = places_of_entries(alloc, pieces.as_slice())?;
     Ok(Query {
         variables: visible,
@@ -318,6 +346,7 @@ pub(crate) fn build<'a, A: Allocator + Copy, W: Lookup>(
         cascade: cascade_of(world, cascades),
         numbered: entries,
         shown,
+        terms,
         mentions,
         length: text_length,
     })

@@ -3,8 +3,7 @@
 ghost use Rattle.std.specs.Prelude.{◌≡◌, ◌==◌, ◌-◌, length, map, option_map, slice_get, if◌then◌else◌};
 ghost use Rattle.std.specs.List.{list_all};
 ghost use Rattle.query_check.specs.Seen.{seen_item, seen_piece};
-ghost use Rattle.query_model.specs.Local.{asks_first, asks_one_id, is_name, is_name_if_written};
-ghost use Rattle.query_model.specs.Observers.{is_first};
+ghost use Rattle.query_model.specs.Local.{asks_one_id};
 ghost use Rattle.query_model.specs.Query.{item as as_piece};
 ghost use Rattle.query_chunks.specs.Asked.{has_chunks, hit, is_chunked_piece, is_named, items_from, names};
 
@@ -55,7 +54,7 @@ fn is_chunked_item<B: Allocator>(item: &Item<B>) -> bool
     ensures { result ≡ is_chunked_piece (as_piece (seen_item item.now)) }
 {
     match item {
-        Item::And(term) | Item::Optional(term) => asks_one_id(term),
+        Item::And(term) | Item::Optional(term) => term.asks_one_id(),
         Item::Or(terms) => all_ask_one_id(terms.as_slice()),
         Item::Equal(_, _) | Item::Differ(_, _) => false,
     }
@@ -64,41 +63,7 @@ fn is_chunked_item<B: Allocator>(item: &Item<B>) -> bool
 fn all_ask_one_id(terms: &[Term]) -> bool
     ensures { result ≡ list_all asks_one_id terms.now }
 {
-    terms.iter().all(|term| asks_one_id(term))
-}
-
-fn asks_one_id(term: &Term) -> bool
-    ensures { result ≡ asks_one_id term.now }
-{
-    asks_first(term) && is_name(term.first) && is_name_if_written(term.target)
-}
-
-fn asks_first(term: &Term) -> bool
-    ensures { result ≡ asks_first term.now }
-{
-    is_first(term.source) && term.on_source && term.up.is_none() && !term.closed
-}
-
-/// Whether a reference is the first variable, which is `$this` where that occurs.
-fn is_first(reference: Ref) -> bool
-    ensures { result ≡ is_first reference }
-{
-    matches!(reference, Ref::Var(0))
-}
-
-fn is_name(reference: Ref) -> bool
-    ensures { result ≡ is_name reference }
-{
-    matches!(reference, Ref::Is(_))
-}
-
-fn is_name_if_written(target: Option<Ref>) -> bool
-    ensures { result ≡ is_name_if_written target }
-{
-    match target {
-        Some(reference) => is_name(reference),
-        None => true,
-    }
+    terms.iter().all(|term| term.asks_one_id())
 }
 
 /// The item with this number among those outside all groups.

@@ -5,7 +5,9 @@ use Rattle.std.specs.Prelude.{◌+◌, ◌-◌, ◌==◌, ◌&&◌, ◌||◌, no
 use Rattle.std.specs.List.{list_all, range_with_len}
 use Rattle.ecs_model.specs.rows.Level.{Level, done, also, unless, top, then_level, joined, open_levels, first_level, other_levels}
 use Rattle.ecs_model.specs.rows.Rows.{visible}
+use Rattle.query_model.specs.declared.query.Term.{Term}
 use Rattle.query_model.specs.Query.{Item, Piece, item, opening, closing, Query}
+use Rattle.query_check.specs.Terms.{terms}
 use Rattle.query_concerns.specs.declared.bonds.Bond.{Bond}
 use Rattle.query_concerns.specs.Bonds.{are_all_bound, groups_are_bound, has_directly}
 use Rattle.query_concerns.specs.FromLeft.{binds, binds_from, depth_behind, groups_from, is_end, is_free, item_binds, passes_from, piece_passes}
@@ -88,7 +90,7 @@ and_assoc : (a b c : Bool) → (a && (b && c)) ≡ ((a && b) && c)
 and_assoc true b c = refl
 and_assoc false b c = refl
 
-module _ (bond : Bond) (all : List Piece) where
+module _ (bond : Bond) (all : List Term) where
   bound_left : (whole : Bool) (ps : List Piece) (v : ℕ) → binds_from bond all whole ps v ≡ binds bond all v (left whole zero (open_levels ps))
   bound_left whole ps v = ap (λ b. is_free bond all v || b) (level_left (item_binds bond v) whole zero ps)
 
@@ -126,11 +128,11 @@ module _ (bond : Bond) (all : List Piece) where
   joined_groups [] = refl
   joined_groups (l ∷ ls) = then_groups l (joined ls) ∙ ap (λ b. bound l && b) (joined_groups ls)
 
--- by the pieces of a query, and how many visible variables it has
-pub all_bound_left : (bond : Bond) (q : Query) (ps : List Piece) (n : ℕ) → ps ≡ q.pieces → n ≡ length q.variables
-    → (list_all (binds_from bond ps true ps) (range_with_len 0 n) && groups_from bond ps ps) ≡ are_all_bound (binds bond q.pieces) q
+-- by the terms and the pieces of a query, and how many visible variables it has
+pub all_bound_left : (bond : Bond) (q : Query) (ts : List Term) (ps : List Piece) (n : ℕ) → ts ≡ terms q → ps ≡ q.pieces → n ≡ length q.variables
+    → (list_all (binds_from bond ts true ps) (range_with_len 0 n) && groups_from bond ts ps) ≡ are_all_bound (binds bond (terms q)) q
 unfolding top
-all_bound_left bond q ps n pieces count =
-    let all = all_agree (binds_from bond q.pieces true q.pieces) (λ v. binds bond q.pieces v (joined (open_levels q.pieces))) (bound_left bond q.pieces true q.pieces) (visible q) in
-    let groups = groups_left bond q.pieces q.pieces ∙ sym (joined_groups bond q.pieces (open_levels q.pieces)) in
-    (λ k. list_all (binds_from bond (pieces k) true (pieces k)) (range_with_len 0 (count k)) && groups_from bond (pieces k) (pieces k)) ∙ (λ k. all k && groups k)
+all_bound_left bond q ts ps n asked pieces count =
+    let all = all_agree (binds_from bond (terms q) true q.pieces) (λ v. binds bond (terms q) v (joined (open_levels q.pieces))) (bound_left bond (terms q) true q.pieces) (visible q) in
+    let groups = groups_left bond (terms q) q.pieces ∙ sym (joined_groups bond (terms q) (open_levels q.pieces)) in
+    (λ k. list_all (binds_from bond (asked k) true (pieces k)) (range_with_len 0 (count k)) && groups_from bond (asked k) (pieces k)) ∙ (λ k. all k && groups k)

@@ -1,70 +1,31 @@
 -- Whether a level holds is the same in two views that agree in the ids that concern its items.
-use Rattle.std.proofs.Common.{◌≡◌, ℕ, suc, Bool, true, false, List, [], ◌∷◌, ◌++◌, length, refl, sym, ap, ◌∙◌, arith}
+use Rattle.std.proofs.Common.{◌≡◌, ℕ, Bool, true, false, inl, inr, List, [], ◌∷◌, length, refl, sym, ap, ◌∙◌, arith}
 use Rattle.std.specs.Prelude.{◌==◌, ◌&&◌, ◌||◌, map, not, take, Option, Some, None, if◌then◌else◌}
-use Rattle.std.specs.List.{list_any, list_all}
+use Rattle.std.specs.List.{Contains, list_any, list_all}
 use Rattle.std.specs.Option.{option_map_or}
-use Rattle.std.proofs.lemmas.Bool.{and_from, and_parts, eq-eqb, ne_eqb, or_left, or_right}
+use Rattle.std.proofs.lemmas.Bool.{and_from, and_parts, eq-eqb, false≢true, or_cases, or_left, or_right}
+use Rattle.std.proofs.lemmas.List.Elements.{Contains-append_right}
 use Rattle.std.proofs.lemmas.List.Folds.{list_any-append}
 use Rattle.std.proofs.lemmas.Option.{same_Some}
 use Rattle.ecs_id.specs.Id.{Id, plain, pair}
 use Rattle.ecs_model.specs.Links.{line}
 use Rattle.ecs_model.specs.rows.Level.{Level, done, also, unless}
-use Rattle.ecs_model.specs.rows.Rows.{Assignment, Unset, asked, assignments, closed_fields, fields_at, fields_of_item, fields_of_term, first_nonempty, fits, hits, keeps_one, matches, meant, product, shown, shown_fields, solutions}
+use Rattle.ecs_model.specs.rows.Rows.{Assignment, Unset, asked, assignments, closed_fields, fields_at, fields_of_item, fields_of_term, first_nonempty, fits, hits, keeps_one, matches, meant, shown, shown_fields, solutions}
 use Rattle.ecs_model.specs.rows.View.{View}
 use Rattle.query_model.specs.declared.query.Ref.{Ref}
 use Rattle.query_model.specs.declared.query.Ref.TheVariants.{Is, Var, Any, One}
 use Rattle.query_model.specs.declared.query.Term.{Term}
 use Rattle.query_model.specs.Query.{Item, must, may, either, equal, differ}
+use Rattle.query_check.specs.Terms.{item_terms}
+use Rattle.ecs_model.proofs.Members.{passing}
+use Rattle.ecs_model.proofs.traits.Kept.{each_passes}
+use Rattle.query_meaning.proofs.Holding.{Holds}
+use Rattle.query_concerns.specs.Bonds.{each_must, has_directly}
 use Rattle.query_concerns.specs.Concerns.{is_pair_of, leads_up, may_be, may_match, term_concerns}
-use Rattle.query_concerns.proofs.Covered.{Covers, CoversLevel}
+use Rattle.query_meaning.proofs.Choices.{any-map, has-some, none_counted, some, some-first, some-if, some-map, some-product}
+use Rattle.query_concerns.proofs.Covered.{Covers, CoversLevel, OfEach}
 use Rattle.query_concerns.proofs.Reaching.{Agree, HasPairs}
 use Rattle.query_concerns.proofs.Within.{filter_same}
-
--- ---- whether there is a choice
-
-module _ {X : Type 0} where
-  abbrev pub some : List X → Bool
-  some [] = false
-  some (x ∷ xs) = true
-
-  pub none_counted : (xs : List X) → (length xs == 0) ≡ not (some xs)
-  none_counted [] = refl
-  none_counted (x ∷ xs) = ne_eqb (suc (length xs)) 0 (λ e. absurd (omega (arith, e)))
-
-  some-append : (xs ys : List X) → some (xs ++ ys) ≡ (some xs || some ys)
-  some-append [] ys = refl
-  some-append (x ∷ xs) ys = refl
-
-  pub some-first : (xss : List (List X)) → some (first_nonempty xss) ≡ list_any some xss
-  some-first [] = refl
-  some-first ([] ∷ xss) = some-first xss
-  some-first ((x ∷ xs) ∷ xss) = refl
-
-  some-if : (b : Bool) (xs : List X) → some (if b then xs else []) ≡ (b && some xs)
-  some-if true xs = refl
-  some-if false xs = refl
-
-pub some-map : {X Y : Type 0} (f : X → Y) (xs : List X) → some (map f xs) ≡ some xs
-some-map f [] = refl
-some-map f (x ∷ xs) = refl
-
-pub any-map : {X Y : Type 0} (f : X → List Y) (xs : List X) → list_any some (map f xs) ≡ list_any (λ x. some (f x)) xs
-any-map f [] = refl
-any-map f (x ∷ xs) = ap (λ b. some (f x) || b) (any-map f xs)
-
-some-product : {X : Type 0} (xs ys : List (List X)) → some (product xs ys) ≡ (some xs && some ys)
-some-product [] ys = refl
-some-product (x ∷ xs) ys =
-    some-append (map (λ y. x ++ y) ys) (product xs ys)
-    ∙ ap (λ b. b || some (product xs ys)) (some-map (λ y. x ++ y) ys)
-    ∙ ap (λ b. some ys || b) (some-product xs ys)
-    ∙ absorbed (some xs) (some ys)
-  where
-    absorbed : (a b : Bool) → (b || (a && b)) ≡ b
-    absorbed true true = refl
-    absorbed true false = refl
-    absorbed false true = refl
-    absorbed false false = refl
 
 -- the ids of an entity, with it
 abbrev pub at_each : ℕ → List Id → List (ℕ × Id)
@@ -101,6 +62,50 @@ module _ (i : Id) (t : Term) where
 
   by_closure : (t.closed && is_pair_of t.first i) ≡ true → term_concerns i t ≡ true
   by_closure h = or_right (may_match t.first t.target i || leads_up t.up i) (t.closed && is_pair_of t.first i) h
+
+-- ---- an item
+
+alternatives_alike : {X Y : Type 0} (f g : X → List Y) (xs : List X) → ((x : X) → Contains xs x → some (f x) ≡ some (g x)) → list_any some (map f xs) ≡ list_any some (map g xs)
+alternatives_alike f g [] h = refl
+alternatives_alike f g (x ∷ xs) h =
+    let first = h x (0, omega arith, refl) in
+    let rest = alternatives_alike f g xs (λ y c. h y (Contains-append_right (x ∷ []) xs y c)) in
+    λ k. first k || rest k
+
+-- where each term of it has a choice in both views or in neither, so has the item
+pub item_alike : (w v : View) (a : Assignment) (x : Item) → ((t : Term) → Contains (item_terms x) t → some (shown_fields w a t) ≡ some (shown_fields v a t)) → some (fields_of_item w a x) ≡ some (fields_of_item v a x)
+unfolding fields_of_item
+item_alike w v a (must t) h = h t (0, omega arith, refl)
+item_alike w v a (may t) h =
+    some-first (shown_fields w a t ∷ ((Unset ∷ []) ∷ []) ∷ [])
+    ∙ ap (λ b. b || (true || false)) (h t (0, omega arith, refl))
+    ∙ sym (some-first (shown_fields v a t ∷ ((Unset ∷ []) ∷ []) ∷ []))
+item_alike w v a (either ts) h = some-first (map (shown_fields w a) ts) ∙ alternatives_alike (shown_fields w a) (shown_fields v a) ts h ∙ sym (some-first (map (shown_fields v a) ts))
+item_alike w v a (equal u r) h = refl
+item_alike w v a (differ u r) h = refl
+
+-- where an item has a choice that holds only by a term that passes, such a term has one
+pub must_given : (w : View) (a : Assignment) (p : Term → Bool) (x : Item) → each_must p x ≡ true → some (fields_of_item w a x) ≡ true
+    → (t : Term) × Contains (item_terms x) t × (p t ≡ true) × (some (shown_fields w a t) ≡ true)
+unfolding fields_of_item
+must_given w a p (must t) h f = (t, (0, omega arith, refl), h, f)
+must_given w a p (may t) h f = absurd (false≢true h)
+must_given w a p (either ts) h f =
+    let found = passing (λ t. some (shown_fields w a t)) ts (sym (any-map (shown_fields w a) ts) ∙ sym (some-first (map (shown_fields w a) ts)) ∙ f) in
+    (found.0, found.1, each_passes p ts h found.0 found.1, found.2)
+must_given w a p (equal u r) h f = absurd (false≢true h)
+must_given w a p (differ u r) h f = absurd (false≢true h)
+
+-- where a level holds, so does each item directly in it
+pub directly_given : (w : View) (a : Assignment) (P : Item → Type 0) (test : Item → Bool) (l : Level) → OfEach P l → has_directly test l ≡ true → Holds w l a
+    → (x : Item) × P x × (test x ≡ true) × (some (fields_of_item w a x) ≡ true)
+directly_given w a P test done all h holds = absurd (false≢true h)
+directly_given w a P test (also x rest) all h holds =
+    elim (or_cases _ _ h) [
+      | inl here ↦ (x, all.0, here, sym (has-some (fields_of_item w a x)) ∙ holds.0)
+      | inr later ↦ directly_given w a P test rest all.1 later holds.1
+    ]
+directly_given w a P test (unless from_term own inner rest) all h holds = directly_given w a P test rest all.1 h holds.1
 
 module _ (wide : Id → Bool) (w v : View) (agree : Agree wide w v) where
   -- ---- a term
@@ -179,26 +184,8 @@ module _ (wide : Id → Bool) (w v : View) (agree : Agree wide w v) where
         ∙ fields_same
         ∙ sym (some-map (λ f. shown v t f ∷ []) (fields_of_term v a t))
 
-  -- ---- an item
-
-  alternatives_same : (a : Assignment) (ts : List Term) → ((i : Id) → list_any (term_concerns i) ts ≡ true → wide i ≡ true)
-      → list_any some (map (shown_fields w a) ts) ≡ list_any some (map (shown_fields v a) ts)
-  alternatives_same a [] h = refl
-  alternatives_same a (t ∷ ts) h =
-      let first = shown_same a t (λ i x. h i (or_left (term_concerns i t) (list_any (term_concerns i) ts) x)) in
-      let rest = alternatives_same a ts (λ i x. h i (or_right (term_concerns i t) (list_any (term_concerns i) ts) x)) in
-      λ k. first k || rest k
-
   pub item_same : (a : Assignment) (x : Item) → Covers wide x → some (fields_of_item w a x) ≡ some (fields_of_item v a x)
-  unfolding fields_of_item
-  item_same a (must t) h = shown_same a t h
-  item_same a (may t) h =
-      some-first (shown_fields w a t ∷ ((Unset ∷ []) ∷ []) ∷ [])
-      ∙ ap (λ b. b || (true || false)) (shown_same a t h)
-      ∙ sym (some-first (shown_fields v a t ∷ ((Unset ∷ []) ∷ []) ∷ []))
-  item_same a (either ts) h = some-first (map (shown_fields w a) ts) ∙ alternatives_same a ts h ∙ sym (some-first (map (shown_fields v a) ts))
-  item_same a (equal u r) h = refl
-  item_same a (differ u r) h = refl
+  item_same a x h = item_alike w v a x (λ t c. shown_same a t (h t c))
 
   -- ---- a level, where the same live
 

@@ -1,8 +1,9 @@
 -- Who lacks what a query asks of `$this` itself is `$this` of no row.
-use Rattle.std.proofs.Common.{◌≡◌, ℕ, Bool, true, false, cond, inl, inr, List, [], ◌∷◌, refl, sym, ap, ◌∙◌, subst}
+use Rattle.std.proofs.Common.{◌≡◌, ℕ, true, inl, inr, List, [], ◌∷◌, refl, sym, ap, ◌∙◌, subst, arith}
 use Rattle.std.specs.Prelude.{◌&&◌, ◌||◌, filter, map, not, Some}
 use Rattle.std.specs.List.{list_any}
-use Rattle.std.proofs.lemmas.Bool.{and_parts, false≢true, not-true, or_cases, or_left, or_right, true≢false}
+use Rattle.std.proofs.lemmas.Bool.{and_parts, false≢true, not-true, or_cases, true≢false}
+use Rattle.std.proofs.Math.Bool.{or-false}
 use Rattle.ecs_id.specs.Id.{Id}
 use Rattle.ecs_model.specs.rows.Level.{Level, also, first_level, joined, open_levels, other_levels, top}
 use Rattle.ecs_model.specs.rows.Rows.{Assignment, fields_of_item, fields_of_term, hits, keeps_one, matches, shown}
@@ -13,21 +14,14 @@ use Rattle.query_model.specs.Local.{asks_first}
 use Rattle.query_model.specs.Query.{Item, Piece, must, may, either, equal, differ, item, opening, closing, Query}
 use Rattle.query_meaning.proofs.Assignments.{at}
 use Rattle.query_meaning.proofs.Holding.{Holds}
-use Rattle.query_concerns.specs.Concerns.{concerns, is_asked_by_all, item_concerns, may_match, piece_concerns}
+use Rattle.query_concerns.specs.Concerns.{concerns, may_match}
 use Rattle.query_concerns.specs.Laws.{LackingMatchNothing}
 use Rattle.query_concerns.specs.OwnIds.{item_lacks, lacks, lacks_from}
-use Rattle.query_concerns.proofs.Holding.{any-map, at_each, by_match, matches_may, some, some-first, some-map}
-use Rattle.query_concerns.proofs.Living.{has-some, some-taken}
+use Rattle.query_meaning.proofs.Choices.{any-map, has-some, some, some-filter, some-first, some-map, some-taken}
+use Rattle.query_concerns.proofs.Covered.{Covers, OfEachPiece, pieces_covered}
+use Rattle.query_concerns.proofs.Holding.{at_each, by_match, matches_may}
 use Rattle.query_concerns.proofs.This.{asked_itself, this_of}
 use Rattle.query_concerns.proofs.Within.{any_same}
-
-some-filter : {X : Type 0} (p : X → Bool) (xs : List X) → some (filter p xs) ≡ list_any p xs
-some-filter p [] = refl
-some-filter p (x ∷ xs) = elim (p x) as (λ b. some (cond b (x ∷ filter p xs) (filter p xs)) ≡ (b || list_any p xs)) [ true ↦ refl | false ↦ some-filter p xs ]
-
-alone : (b : Bool) → (b || false) ≡ b
-alone true = refl
-alone false = refl
 
 pub behind_item : (x : Item) (ls : List Level) → joined (also x (first_level ls) ∷ other_levels ls) ≡ also x (joined ls)
 behind_item x [] = refl
@@ -40,7 +34,7 @@ module _ (w : View) (a : Assignment) (e : ℕ) (this : at a 0 ≡ Some e) where
       ap some (asked_itself w a e t this asks)
       ∙ some-first (map (λ m. at_each m (hits w a t m)) (e ∷ []))
       ∙ any-map (λ m. at_each m (hits w a t m)) (e ∷ [])
-      ∙ alone (some (at_each e (hits w a t e)))
+      ∙ or-false (some (at_each e (hits w a t e)))
       ∙ some-map (λ i. (e, i)) (hits w a t e)
       ∙ some-taken (keeps_one t) (filter (matches a t.first t.target) (w.ids e))
       ∙ some-filter (matches a t.first t.target) (w.ids e)
@@ -69,17 +63,16 @@ module _ (w : View) (a : Assignment) (e : ℕ) (this : at a 0 ≡ Some e) where
   level_fails (closing ∷ ps) lack holds = false≢true lack
 
 -- whether ids lack what is asked is told by those of them that concern the query
-pieces_lack_alike : (q : Query) (is js : List Id) → filter (concerns q) is ≡ filter (concerns q) js → (ps : List Piece) → ((i : Id) → list_any (piece_concerns i) ps ≡ true → concerns q i ≡ true)
-    → lacks_from is ps ≡ lacks_from js ps
+pieces_lack_alike : (q : Query) (is js : List Id) → filter (concerns q) is ≡ filter (concerns q) js → (ps : List Piece) → OfEachPiece (Covers (concerns q)) ps → lacks_from is ps ≡ lacks_from js ps
 pieces_lack_alike q is js same [] covers = refl
 pieces_lack_alike q is js same (item x ∷ ps) covers =
-    let first = by x (λ i h. covers i (or_left (item_concerns i x) (list_any (piece_concerns i) ps) h)) in
-    let rest = pieces_lack_alike q is js same ps (λ i h. covers i (or_right (item_concerns i x) (list_any (piece_concerns i) ps) h)) in
+    let first = by x covers.0 in
+    let rest = pieces_lack_alike q is js same ps covers.1 in
     λ k. first k || rest k
   where
-    by : (x : Item) → ((i : Id) → item_concerns i x ≡ true → concerns q i ≡ true) → item_lacks is x ≡ item_lacks js x
+    by : (x : Item) → Covers (concerns q) x → item_lacks is x ≡ item_lacks js x
     by (must t) h =
-        let matched = any_same (concerns q) is js same (may_match t.first t.target) (λ i m. h i (by_match i t m)) in
+        let matched = any_same (concerns q) is js same (may_match t.first t.target) (λ i m. h t (0, omega arith, refl) i (by_match i t m)) in
         λ k. asks_first t && not (matched k)
     by (may t) h = refl
     by (either ts) h = refl
@@ -89,8 +82,8 @@ pieces_lack_alike q is js same (opening from_term own ∷ ps) covers = refl
 pieces_lack_alike q is js same (closing ∷ ps) covers = refl
 
 pub lacks_alike : (q : Query) (is js : List Id) → filter (concerns q) is ≡ filter (concerns q) js → lacks q is ≡ lacks q js
-unfolding lacks concerns
-lacks_alike q is js same = pieces_lack_alike q is js same q.pieces (λ i h. or_right (is_asked_by_all i) (list_any (piece_concerns i) q.pieces) h)
+unfolding lacks
+lacks_alike q is js same = pieces_lack_alike q is js same q.pieces (pieces_covered q)
 
 pub lacking_match_nothing : LackingMatchNothing
 unfolding lacks top

@@ -1,8 +1,8 @@
 -- Of a linked query, what others hold matters for an entity only where they are near: linked with it, from pair to pair; and of that only what isn't idle.
 use Rattle.std.proofs.Common.{◌≡◌, ℕ, zero, suc, ◌<◌, Bool, true, false, inl, inr, List, [], ◌∷◌, ◌++◌, refl, sym, ap, ◌∙◌, subst, arith}
-use Rattle.std.specs.Prelude.{◌==◌, ◌&&◌, ◌||◌, filter, flat_map, is_none, map, not, Option, Some, None, if◌then◌else◌}
+use Rattle.std.specs.Prelude.{◌==◌, ◌&&◌, ◌||◌, filter, is_none, map, not, Option, Some, None, if◌then◌else◌}
 use Rattle.std.specs.List.{Contains, list_any, list_all}
-use Rattle.std.specs.Option.{option_eq, option_map_or}
+use Rattle.std.specs.Option.{option_map_or}
 use Rattle.std.proofs.lemmas.Bool.{and_from, and_parts, cases_Bool, eq-eqb, eqb-true, false≢true, ltb-true, not-true, or_cases, or_left, or_right, true≢false}
 use Rattle.std.proofs.lemmas.List.Elements.{Contains-append_cases}
 use Rattle.std.proofs.lemmas.Option.{same_Some}
@@ -12,29 +12,33 @@ use Rattle.ecs_model.specs.rows.Level.{Level, done, also, unless, top}
 use Rattle.ecs_model.specs.rows.Rows.{Assignment, asked, closed_fields, fields_at, fields_of_item, fields_of_term, first_nonempty, hits, keeps_one, matches, meant, shown, shown_fields, visible}
 use Rattle.ecs_model.specs.rows.View.{View}
 use Rattle.ecs_model.proofs.Members.{any_passes, filtered, head_or_tail, passing}
+use Rattle.ecs_model.proofs.FirstWorld.{is_value}
 use Rattle.query_model.specs.declared.query.Ref.{Ref}
 use Rattle.query_model.specs.declared.query.Ref.TheVariants.{Is, Var, Any, One}
 use Rattle.query_model.specs.declared.query.Term.{Term}
 use Rattle.query_model.specs.Observers.{is_first}
 use Rattle.query_model.specs.Query.{Item, must, may, either, equal, differ, Piece, item, opening, closing, Query}
+use Rattle.query_check.specs.Terms.{item_terms, terms}
 use Rattle.query_meaning.specs.Sound.{is_sound, is_sound_level}
 use Rattle.query_meaning.specs.Variables.{contains, item_variables, pattern_variables, term_variables, variable_in}
 use Rattle.query_meaning.proofs.Assignments.{Extends, at}
 use Rattle.query_meaning.proofs.Holding.{Holds, contains-cases, contains-left, contains-right}
 use Rattle.query_concerns.specs.Anchored.{anchors, is_anchored, is_variable, may_be_variable}
-use Rattle.query_concerns.specs.Bonds.{groups_are_bound, has_directly}
+use Rattle.query_concerns.specs.Bonds.{each_must, groups_are_bound, has_directly}
 use Rattle.query_concerns.specs.Concerns.{concerns, may_match, term_concerns}
-use Rattle.query_concerns.specs.Idle.{asks_for, asks_itself, is_idle, is_idle_for, item_asks_for, item_lacks_of, term_asks_for}
+use Rattle.query_concerns.specs.Idle.{asks_for, asks_itself, is_idle, is_idle_for, item_lacks_of, term_asks_for}
 use Rattle.query_concerns.specs.Laws.{MatchByLinks}
 use Rattle.query_concerns.specs.Linked.{HasLinked, is_before, is_linked, is_linked_in, is_some_variable, item_links, item_links_by, links_others, may_be_before, piece_links_by, term_links, term_links_by}
 use Rattle.query_concerns.specs.Others.{asks_this, concerns_below, concerns_others}
-use Rattle.query_concerns.specs.Tied.{piece_asks}
-use Rattle.query_concerns.proofs.Covered.{Covers, CoversLevel, OfEach, OfEachPiece, of_top, top_covered}
-use Rattle.query_concerns.proofs.Holding.{any-map, at_each, by_match, matches_may, some, some-first, some-map}
-use Rattle.query_concerns.proofs.Living.{first_there, has-some, some-taken}
+use Rattle.query_concerns.specs.Tied.{asks_near, term_asks}
+use Rattle.query_meaning.proofs.Choices.{any-map, has-some, none_of, some, some-first, some-map, some-taken, source_first}
+use Rattle.query_concerns.proofs.Covered.{AreAmong, OfEach, OfEachPiece, by_term, of_top, top_among}
+use Rattle.query_concerns.proofs.Holding.{at_each, by_match, matches_may, must_given}
+use Rattle.query_concerns.proofs.Living.{first_there}
 use Rattle.query_concerns.proofs.OwnFacts.{carried_over, passed_alike}
-use Rattle.query_concerns.proofs.This.{KeepsThis, first_variable, sound_keeps_this}
-use Rattle.query_concerns.proofs.Tied.{IsNear, KnowsAll, all_left, for_others, item_alike, none_above, the_variable, to_variable, top_near}
+use Rattle.query_concerns.proofs.This.{KeepsThis, sound_keeps_this}
+use Rattle.query_concerns.proofs.Tied.{KnowsAll, item_near, scoped_term, the_variable, to_variable}
+use Rattle.query_concerns.proofs.Unasked.{asked_for_others}
 use Rattle.query_concerns.proofs.WhoeverLives.{all_at, lives_too}
 use Rattle.query_concerns.proofs.Within.{filter_same}
 
@@ -106,10 +110,6 @@ one_before u (Var s) h = record { number = s; is = refl; below = ltb-true s u h;
 one_before u Any h = absurd (false≢true h)
 one_before u One h = absurd (false≢true h)
 
-given : (o : Option ℕ) (x : ℕ) → option_eq ◌==◌ o (Some x) ≡ true → o ≡ Some x
-given None x h = absurd (false≢true h)
-given (Some y) x h = ap Some (eqb-true y x h)
-
 -- an id that a pattern matches whose target is a variable before another one
 record IsPairBefore (a : Assignment) (u : ℕ) (target : Option Ref) (i : Id) : Type 0 where
   number : ℕ
@@ -134,7 +134,7 @@ pair_before a u first (Some (Var s)) (pair r x) h m =
       among = or_left (s == s) false (eq-eqb s s refl);
       first = r;
       second = x;
-      stands = given (at a s) x (and_parts _ _ m).1;
+      stands = is_value (at a s) x (and_parts _ _ m).1;
       is = refl;
       variable = refl;
     }
@@ -145,6 +145,14 @@ some_variable u (Some (Is d)) h = absurd (false≢true h)
 some_variable u (Some (Var s)) h = refl
 some_variable u (Some Any) h = absurd (false≢true h)
 some_variable u (Some One) h = absurd (false≢true h)
+
+-- an id that a term links by, so does an item that holds only by such terms
+links_too : (i : Id) (p : Term → Bool) (x : Item) (t : Term) → each_must p x ≡ true → Contains (item_terms x) t → term_links_by i t ≡ true → item_links_by i x ≡ true
+links_too i p (must u) t h c links = elim (head_or_tail u t [] c) [ inl e ↦ ap (term_links_by i) e ∙ links | inr none ↦ absurd (omega (arith, none.1)) ]
+links_too i p (may u) t h c links = absurd (false≢true h)
+links_too i p (either ts) t h c links = any_passes (term_links_by i) ts t c links
+links_too i p (equal u r) t h c links = absurd (false≢true h)
+links_too i p (differ u r) t h c links = absurd (false≢true h)
 
 module _ (q : Query) {m n : ℕ} (w v : View) (links : AreLinks m w.entities w.ids) (links' : AreLinks n v.entities v.ids) (e : ℕ)
     (own : filter (concerns q) (w.ids e) ≡ filter (concerns q) (v.ids e))
@@ -159,13 +167,9 @@ module _ (q : Query) {m n : ℕ} (w v : View) (links : AreLinks m w.entities w.i
   abbrev LinksBy : Item → Type 0
   LinksBy x = (i : Id) → item_links_by i x ≡ true → links_others q i ≡ true
 
-  -- for what the entity of a variable is asked by an item, it is asked for by the query
-  abbrev AsksToo : Item → Type 0
-  AsksToo x = (u : ℕ) (i : Id) → item_asks_for u i x ≡ true → asks_for q.pieces u i ≡ true
-
   -- what is asked of whoever a variable stands for isn't idle for it
   abbrev IsBusyFor : Assignment → ℕ → Type 0
-  IsBusyFor a u = (u == 0) ≡ false → (x : ℕ) → at a u ≡ Some x → (i : Id) → asks_for q.pieces u i ≡ true → is_idle q (all x) i ≡ false
+  IsBusyFor a u = (u == 0) ≡ false → (x : ℕ) → at a u ≡ Some x → (i : Id) → asks_for (terms q) u i ≡ true → is_idle q (all x) i ≡ false
 
   abbrev AreBusy : List ℕ → Assignment → Type 0
   AreBusy scope a = (u : ℕ) → contains scope u ≡ true → IsBusyFor a u
@@ -179,7 +183,7 @@ module _ (q : Query) {m n : ℕ} (w v : View) (links : AreLinks m w.entities w.i
           let outer = and_parts _ _ asks in
           let middle = and_parts _ _ outer.0 in
           let inner = and_parts _ _ middle.0 in
-          let found = found_hit z a t (none_above t.up middle.1) (not-true t.closed outer.1) (sym (some-map (λ f. shown z t f ∷ []) (fields_of_term z a t)) ∙ holds) in
+          let found = found_hit z a t (none_of t.up middle.1) (not-true t.closed outer.1) (sym (some-map (λ f. shown z t f ∷ []) (fields_of_term z a t)) ∙ holds) in
           let holder : found.holder ≡ x = same_Some found.holder x (sym found.source ∙ ap (meant a) (the_variable u t.source inner.0) ∙ is) in
           any_passes (may_match t.first t.target) (all x) found.id (held x found.id (subst (λ y. Contains (z.ids y) found.id) holder found.held))
           (matches_may a t.first t.target found.id found.fits)
@@ -201,13 +205,13 @@ module _ (q : Query) {m n : ℕ} (w v : View) (links : AreLinks m w.entities w.i
       level_has (unless from_term us inner rest) lack holds = level_has rest lack holds.1
 
     -- so what is asked of it isn't idle
-    all_busy : (us : List ℕ) (l : Level) → ((x : ℕ) (i : Id) → is_idle q (all x) i ≡ true → concerns_others q i ≡ true → list_all (λ u. is_idle_for (all x) i q.pieces u l) us ≡ true) → Holds z l a → AreBusy us a
+    all_busy : (us : List ℕ) (l : Level) → ((x : ℕ) (i : Id) → is_idle q (all x) i ≡ true → concerns_others q i ≡ true → list_all (λ u. is_idle_for (all x) i (terms q) u l) us ≡ true) → Holds z l a → AreBusy us a
     all_busy us l idle holds u mine apart x is i asked = elim (cases_Bool (is_idle q (all x) i)) [
-      | inl still ↦ absurd (never (all_at (λ u. is_idle_for (all x) i q.pieces u l) us u (idle x i still (for_others u apart i q asked)) mine))
+      | inl still ↦ absurd (never (all_at (λ u. is_idle_for (all x) i (terms q) u l) us u (idle x i still (asked_for_others i u apart q asked)) mine))
       | inr stopped ↦ stopped
     ]
       where
-        never : is_idle_for (all x) i q.pieces u l ≡ true → ⊥
+        never : is_idle_for (all x) i (terms q) u l ≡ true → ⊥
         never h = elim (or_cases _ _ h) [
           | inl free ↦ elim (or_cases _ _ free) [
             | inl same ↦ true≢false (sym same ∙ apart)
@@ -230,9 +234,8 @@ module _ (q : Query) {m n : ℕ} (w v : View) (links : AreLinks m w.entities w.i
 
   module _ (z : View) (closed : HasLinked q all z e near) (a : Assignment) (this : at a 0 ≡ Some e) (scope : List ℕ) (busy : AreBusy scope a) (u x : ℕ) (is : at a u ≡ Some x)
       (before : (s : ℕ) → s < u → contains scope s ≡ true → IsNearBy a s) where
-    term_linked : (t : Term) → ((v : ℕ) (i : Id) → term_asks_for v i t ≡ true → asks_for q.pieces v i ≡ true) → ((i : Id) → term_concerns i t ≡ true → concerns q i ≡ true) → ((i : Id) → term_links_by i t ≡ true → links_others q i ≡ true)
-        → list_all (contains scope) (term_variables t) ≡ true → term_links u t ≡ true → some (shown_fields z a t) ≡ true → near x ≡ true
-    term_linked t asks_too covers links_by scoped tie holds =
+    term_linked : (t : Term) → Contains (terms q) t → ((i : Id) → term_links_by i t ≡ true → links_others q i ≡ true) → list_all (contains scope) (term_variables t) ≡ true → term_links u t ≡ true → some (shown_fields z a t) ≡ true → near x ≡ true
+    term_linked t among links_by scoped tie holds =
         elim (or_cases _ _ outer.1) [
           | inl from_here ↦ elim (cases_Bool (asks_this t)) [
             | inl asks ↦ absurd (not_this (and_parts _ _ from_here) asks)
@@ -250,7 +253,7 @@ module _ (q : Query) {m n : ℕ} (w v : View) (links : AreLinks m w.entities w.i
         found : IsHit z a t
         found =
             let inner = and_parts _ _ outer.0 in
-            found_hit z a t (none_above t.up inner.0) (not-true t.closed inner.1) (sym (some-map (λ f. shown z t f ∷ []) (fields_of_term z a t)) ∙ holds)
+            found_hit z a t (none_of t.up inner.0) (not-true t.closed inner.1) (sym (some-map (λ f. shown z t f ∷ []) (fields_of_term z a t)) ∙ holds)
 
         concerned : term_concerns found.id t ≡ true
         concerned = by_match found.id t (matches_may a t.first t.target found.id found.fits)
@@ -265,7 +268,7 @@ module _ (q : Query) {m n : ℕ} (w v : View) (links : AreLinks m w.entities w.i
         is_busy : (s : ℕ) → t.source ≡ Var s → asks_this t ≡ false → contains scope s ≡ true → is_idle q (all found.holder) found.id ≡ false
         is_busy s source other c =
             let apart : (s == 0) ≡ false = by (s == 0) (ap (λ r. is_first r && not t.closed) (sym source) ∙ other) in
-            let asked = asks_too s found.id (and_from _ _ (ap (is_variable s) source ∙ eq-eqb s s refl) concerned) in
+            let asked = any_passes (term_asks_for s found.id) (terms q) t among (and_from _ _ (ap (is_variable s) source ∙ eq-eqb s s refl) concerned) in
             busy s c apart found.holder (sym (ap (meant a) source) ∙ found.source) found.id asked
           where
             by : (b : Bool) → (b && not t.closed) ≡ false → b ≡ false
@@ -274,7 +277,7 @@ module _ (q : Query) {m n : ℕ} (w v : View) (links : AreLinks m w.entities w.i
 
         not_this : (is_variable u t.source ≡ true) × (may_be_before u t.target ≡ true) → asks_this t ≡ true → ⊥
         not_this both asks =
-            let same : Var u ≡ Var 0 = sym (the_variable u t.source both.0) ∙ first_variable t.source (and_parts _ _ asks).0 in
+            let same : Var u ≡ Var 0 = sym (the_variable u t.source both.0) ∙ source_first t.source (and_parts _ _ asks).0 in
             let first : u ≡ 0 = cc in
             let p = pair_before a u t.first t.target found.id both.1 found.fits in
             let low : p.number < u = p.below in
@@ -293,10 +296,10 @@ module _ (q : Query) {m n : ℕ} (w v : View) (links : AreLinks m w.entities w.i
 
         own_pair : (is_before u t.source ≡ true) × (may_be_variable u t.target ≡ true) → asks_this t ≡ true → near x ≡ true
         own_pair both asks =
-            let holder : found.holder ≡ e = same_Some found.holder e (sym found.source ∙ ap (meant a) (first_variable t.source (and_parts _ _ asks).0) ∙ this) in
+            let holder : found.holder ≡ e = same_Some found.holder e (sym found.source ∙ ap (meant a) (source_first t.source (and_parts _ _ asks).0) ∙ this) in
             let r = to_variable a u x t.first t.target found.id both.1 is found.fits in
             let held = subst (λ y. Contains (z.ids y) (pair r.0 x)) holder (subst (Contains (z.ids found.holder)) r.1 found.held) in
-            closed.held r.0 x held (sym (ap (concerns q) r.1) ∙ covers found.id concerned)
+            closed.held r.0 x held (sym (ap (concerns q) r.1) ∙ by_term q t among found.id concerned)
 
         backward : (is_before u t.source ≡ true) × (may_be_variable u t.target ≡ true) → asks_this t ≡ false → near x ≡ true
         backward both other =
@@ -308,43 +311,21 @@ module _ (q : Query) {m n : ℕ} (w v : View) (links : AreLinks m w.entities w.i
             sym (closed.linked r.0 found.holder x held (sym (ap (links_others q) r.1) ∙ linking (some_variable u t.target both.1) other)
             (sym (ap (is_idle q (all found.holder)) r.1) ∙ is_busy s.number s.is other scoped_source)) ∙ source
 
-    some_linked : (ts : List Term) → ((v : ℕ) (i : Id) → list_any (term_asks_for v i) ts ≡ true → asks_for q.pieces v i ≡ true) → ((i : Id) → list_any (term_concerns i) ts ≡ true → concerns q i ≡ true) → ((i : Id) → list_any (term_links_by i) ts ≡ true → links_others q i ≡ true)
-        → list_all (contains scope) (flat_map term_variables ts) ≡ true → list_all (term_links u) ts ≡ true → list_any some (map (shown_fields z a) ts) ≡ true → near x ≡ true
-    some_linked [] asks_too covers links_by scoped tie holds = absurd (false≢true holds)
-    some_linked (t ∷ ts) asks_too covers links_by scoped tie holds =
-        let each = and_parts _ _ tie in
-        let parts = all_left (contains scope) (term_variables t) (flat_map term_variables ts) scoped in
-        elim (or_cases _ _ holds) [
-          | inl first ↦ term_linked t
-              (λ v i h. asks_too v i (or_left (term_asks_for v i t) (list_any (term_asks_for v i) ts) h))
-              (λ i h. covers i (or_left (term_concerns i t) (list_any (term_concerns i) ts) h))
-              (λ i h. links_by i (or_left (term_links_by i t) (list_any (term_links_by i) ts) h))
-              parts.0 each.0 first
-          | inr later ↦ some_linked ts
-              (λ v i h. asks_too v i (or_right (term_asks_for v i t) (list_any (term_asks_for v i) ts) h))
-              (λ i h. covers i (or_right (term_concerns i t) (list_any (term_concerns i) ts) h))
-              (λ i h. links_by i (or_right (term_links_by i t) (list_any (term_links_by i) ts) h))
-              parts.1 each.1 later
-        ]
+    item_linked : (y : Item) → AreAmong (terms q) y → LinksBy y → list_all (contains scope) (item_variables y) ≡ true → item_links u y ≡ true → some (fields_of_item z a y) ≡ true → near x ≡ true
+    item_linked y among links_by scoped tie holds =
+        let t = must_given z a (term_links u) y tie holds in
+        term_linked t.0 (among t.0 t.1) (λ i h. links_by i (links_too i (term_links u) y t.0 tie t.1 h)) (scoped_term scope y scoped t.0 t.1) t.2 t.3
 
-    item_linked : (y : Item) → AsksToo y → Covers (concerns q) y → LinksBy y → list_all (contains scope) (item_variables y) ≡ true → item_links u y ≡ true → some (fields_of_item z a y) ≡ true → near x ≡ true
-    unfolding fields_of_item
-    item_linked (must t) asks_too covers links_by scoped tie holds = term_linked t asks_too covers links_by scoped tie holds
-    item_linked (may t) asks_too covers links_by scoped tie holds = absurd (false≢true tie)
-    item_linked (either ts) asks_too covers links_by scoped tie holds = some_linked ts asks_too covers links_by scoped tie (sym (some-first (map (shown_fields z a) ts)) ∙ holds)
-    item_linked (equal s r) asks_too covers links_by scoped tie holds = absurd (false≢true tie)
-    item_linked (differ s r) asks_too covers links_by scoped tie holds = absurd (false≢true tie)
-
-    level_linked : (l : Level) → OfEach AsksToo l → CoversLevel (concerns q) l → OfEach LinksBy l → is_sound_level scope l ≡ true → has_directly (item_links u) l ≡ true → Holds z l a → near x ≡ true
-    level_linked done asks_too covers links_by sound tie holds = absurd (false≢true tie)
-    level_linked (also y rest) asks_too covers links_by sound tie holds =
+    level_linked : (l : Level) → OfEach (AreAmong (terms q)) l → OfEach LinksBy l → is_sound_level scope l ≡ true → has_directly (item_links u) l ≡ true → Holds z l a → near x ≡ true
+    level_linked done among links_by sound tie holds = absurd (false≢true tie)
+    level_linked (also y rest) among links_by sound tie holds =
         let parts = and_parts _ _ sound in
         let checked = and_parts _ _ parts.0 in
         elim (or_cases _ _ tie) [
-          | inl first ↦ item_linked y asks_too.0 covers.0 links_by.0 checked.1 first (sym (has-some (fields_of_item z a y)) ∙ holds.0)
-          | inr later ↦ level_linked rest asks_too.1 covers.1 links_by.1 parts.1 later holds.1
+          | inl first ↦ item_linked y among.0 links_by.0 checked.1 first (sym (has-some (fields_of_item z a y)) ∙ holds.0)
+          | inr later ↦ level_linked rest among.1 links_by.1 parts.1 later holds.1
         ]
-    level_linked (unless from_term us inner rest) asks_too covers links_by sound tie holds = level_linked rest asks_too.1 covers.1 links_by.1 (and_parts _ _ sound).1 tie holds.1
+    level_linked (unless from_term us inner rest) among links_by sound tie holds = level_linked rest among.1 links_by.1 (and_parts _ _ sound).1 tie holds.1
 
   -- ---- all variables in scope are near
 
@@ -352,16 +333,16 @@ module _ (q : Query) {m n : ℕ} (w v : View) (links : AreLinks m w.entities w.i
   AreNearBy scope a = (u : ℕ) → contains scope u ≡ true → IsNearBy a u
 
   -- where the level holds in one of the views, and all others in scope are
-  all_near : (z : View) → HasLinked q all z e near → (a : Assignment) → at a 0 ≡ Some e → (scope us : List ℕ) → AreBusy scope a → (l : Level) → OfEach AsksToo l → CoversLevel (concerns q) l → OfEach LinksBy l → is_sound_level scope l ≡ true
+  all_near : (z : View) → HasLinked q all z e near → (a : Assignment) → at a 0 ≡ Some e → (scope us : List ℕ) → AreBusy scope a → (l : Level) → OfEach (AreAmong (terms q)) l → OfEach LinksBy l → is_sound_level scope l ≡ true
       → list_all (λ u. is_linked_in u l) us ≡ true → Holds z l a → ((u : ℕ) → contains us u ≡ false → contains scope u ≡ true → IsNearBy a u) → AreNearBy scope a
-  all_near z closed a this scope us busy l asks_too covers links_by sound tied holds others u c = up_to (suc u) u (omega arith) c
+  all_near z closed a this scope us busy l among links_by sound tied holds others u c = up_to (suc u) u (omega arith) c
     where
       up_to : (n u : ℕ) → u < n → contains scope u ≡ true → IsNearBy a u
       up_to zero u low c x is = absurd (omega (arith, low))
       up_to (suc n) u low c x is = elim (cases_Bool (contains us u)) [
         | inl mine ↦ elim (or_cases _ _ (all_at (λ u. is_linked_in u l) us u tied mine)) [
           | inl first ↦ ap near (same_Some x e (sym is ∙ ap (at a) (eqb-true u 0 first) ∙ this)) ∙ here
-          | inr tie ↦ level_linked z closed a this scope busy u x is (λ s below k. up_to n s (omega (arith, low, below)) k) l asks_too covers links_by sound tie holds
+          | inr tie ↦ level_linked z closed a this scope busy u x is (λ s below k. up_to n s (omega (arith, low, below)) k) l among links_by sound tie holds
         ]
         | inr other ↦ others u other c x is
       ]
@@ -377,38 +358,30 @@ module _ (q : Query) {m n : ℕ} (w v : View) (links : AreLinks m w.entities w.i
 
   known_near : (us : List ℕ) (a : Assignment) → AreBusy us a → AreNearBy us a → KnowsAll q w v links links' e own above us a
   known_near us a busy nearby u mine needs x is =
-      filter_same (λ i. not (is_idle q (all x) i)) (w.ids x) (v.ids x) (known x (nearby u mine x is)) (asks_for q.pieces u) (λ i asked. ap not (busy u mine (unlike (u == 0) needs) x is i asked))
+      filter_same (λ i. not (is_idle q (all x) i)) (w.ids x) (v.ids x) (known x (nearby u mine x is)) (asks_for (terms q) u) (λ i asked. ap not (busy u mine (unlike (u == 0) needs) x is i asked))
     where
-      unlike : (b : Bool) → (b || not (list_any (piece_asks u) q.pieces)) ≡ false → b ≡ false
+      unlike : (b : Bool) → (b || not (list_any (term_asks u) (terms q))) ≡ false → b ≡ false
       unlike true h = h
       unlike false h = refl
 
   -- ---- a level
 
-  abbrev AsksNear : Item → Type 0
-  AsksNear = IsNear q w v links links' e own above
-
-  asking_too : (l : Level) → OfEach AsksNear l → OfEach AsksToo l
-  asking_too done asks = tt
-  asking_too (also x rest) asks = ((asks.0).asked_for, asking_too rest asks.1)
-  asking_too (unless from_term us inner rest) asks = (asking_too inner asks.0, asking_too rest asks.1)
-
   -- whatever is idle is idle in the groups of a level
   abbrev IsIdleIn : Level → Type 0
-  IsIdleIn l = (x : ℕ) (i : Id) → is_idle q (all x) i ≡ true → concerns_others q i ≡ true → groups_are_bound (is_idle_for (all x) i q.pieces) l ≡ true
+  IsIdleIn l = (x : ℕ) (i : Id) → is_idle q (all x) i ≡ true → concerns_others q i ≡ true → groups_are_bound (is_idle_for (all x) i (terms q)) l ≡ true
 
-  module _ (held : (x : ℕ) (i : Id) → Contains (w.ids x) i → Contains (all x) i) (held' : (x : ℕ) (i : Id) → Contains (v.ids x) i → Contains (all x) i) (back : HasLinked q all w e near) (there : HasLinked q all v e near) where
-    level_alike : (scope : List ℕ) (l : Level) → OfEach AsksNear l → CoversLevel (concerns q) l → OfEach LinksBy l → is_sound_level scope l ≡ true → KeepsThis l → groups_are_bound anchors l ≡ true
+  module _ (asking : list_all asks_near (terms q) ≡ true) (held : (x : ℕ) (i : Id) → Contains (w.ids x) i → Contains (all x) i) (held' : (x : ℕ) (i : Id) → Contains (v.ids x) i → Contains (all x) i) (back : HasLinked q all w e near) (there : HasLinked q all v e near) where
+    level_alike : (scope : List ℕ) (l : Level) → OfEach (AreAmong (terms q)) l → OfEach LinksBy l → is_sound_level scope l ≡ true → KeepsThis l → groups_are_bound anchors l ≡ true
         → groups_are_bound is_linked_in l ≡ true → IsIdleIn l → (a : Assignment) → at a 0 ≡ Some e → AreBusy scope a → AreNearBy scope a → (Holds w l a → Holds v l a) × (Holds v l a → Holds w l a)
-    level_alike scope done asks covers links_by sound keeps anchored tied idle a this busy around = (λ x. tt, λ x. tt)
-    level_alike scope (also x rest) asks covers links_by sound keeps anchored tied idle a this busy around =
+    level_alike scope done among links_by sound keeps anchored tied idle a this busy around = (λ x. tt, λ x. tt)
+    level_alike scope (also x rest) among links_by sound keeps anchored tied idle a this busy around =
         let parts = and_parts _ _ sound in
         let checked = and_parts _ _ parts.0 in
-        let items = item_alike q w v links links' e own above scope a this (known_near scope a busy around) x asks.0 checked.1 in
+        let items = item_near q w v links links' e own above asking scope a this (known_near scope a busy around) x among.0 checked.1 in
         let same = has-some (fields_of_item w a x) ∙ items ∙ sym (has-some (fields_of_item v a x)) in
-        let others = level_alike scope rest asks.1 covers.1 links_by.1 parts.1 keeps anchored tied idle a this busy around in
+        let others = level_alike scope rest among.1 links_by.1 parts.1 keeps anchored tied idle a this busy around in
         (λ y. (sym same ∙ y.0, others.0 y.1), λ y. (same ∙ y.0, others.1 y.1))
-    level_alike scope (unless from_term us inner rest) asks covers links_by sound keeps anchored tied idle a this busy around =
+    level_alike scope (unless from_term us inner rest) among links_by sound keeps anchored tied idle a this busy around =
         let s = and_parts _ _ sound in
         let s' = and_parts _ _ s.0 in
         let p = and_parts _ _ anchored in
@@ -418,14 +391,13 @@ module _ (q : Query) {m n : ℕ} (w v : View) (links : AreLinks m w.entities w.i
         let own_idle = λ (x : ℕ) (i : Id) (h : is_idle q (all x) i ≡ true) (k : concerns_others q i ≡ true). (and_parts _ _ (and_parts _ _ (idle x i h k)).0).0 in
         let inner_idle = λ (x : ℕ) (i : Id) (h : is_idle q (all x) i ≡ true) (k : concerns_others q i ≡ true). (and_parts _ _ (and_parts _ _ (idle x i h k)).0).1 in
         let rest_idle = λ (x : ℕ) (i : Id) (h : is_idle q (all x) i ≡ true) (k : concerns_others q i ≡ true). (and_parts _ _ (idle x i h k)).1 in
-        let asks_too = asking_too inner asks.0 in
-        let within = level_alike (scope ++ us) inner asks.0 covers.0 links_by.0 s'.1 keeps.1 p'.1 r'.1 inner_idle in
-        let others = level_alike scope rest asks.1 covers.1 links_by.1 s.1 keeps.2 p.1 r.1 rest_idle a this busy around in (
+        let within = level_alike (scope ++ us) inner among.0 links_by.0 s'.1 keeps.1 p'.1 r'.1 inner_idle in
+        let others = level_alike scope rest among.1 links_by.1 s.1 keeps.2 p.1 r.1 rest_idle a this busy around in (
           λ y. (
             λ b ext holds.
                 let first = ext.rest 0 keeps.0 ∙ this in
                 let busy' = busy_within scope us v.entities a b ext busy (all_busy v held' b us inner own_idle holds) in
-                let nearby = all_near v there b first (scope ++ us) us busy' inner asks_too covers.0 links_by.0 s'.1 r'.0 holds (near_within scope us v.entities a b ext around) in
+                let nearby = all_near v there b first (scope ++ us) us busy' inner among.0 links_by.0 s'.1 r'.0 holds (near_within scope us v.entities a b ext around) in
                 let back = (within b first busy' nearby).1 holds in
                 y.0 b (lives_too v w links us inner p'.0 a b ext back) back,
             others.0 y.1,
@@ -434,7 +406,7 @@ module _ (q : Query) {m n : ℕ} (w v : View) (links : AreLinks m w.entities w.i
             λ b ext holds.
                 let first = ext.rest 0 keeps.0 ∙ this in
                 let busy' = busy_within scope us w.entities a b ext busy (all_busy w held b us inner own_idle holds) in
-                let nearby = all_near w back b first (scope ++ us) us busy' inner asks_too covers.0 links_by.0 s'.1 r'.0 holds (near_within scope us w.entities a b ext around) in
+                let nearby = all_near w back b first (scope ++ us) us busy' inner among.0 links_by.0 s'.1 r'.0 holds (near_within scope us w.entities a b ext around) in
                 let after = (within b first busy' nearby).0 holds in
                 y.0 b (lives_too w v links' us inner p'.0 a b ext after) after,
             others.1 y.1,
@@ -456,7 +428,7 @@ module _ (q : Query) {m n : ℕ} (w v : View) (links : AreLinks m w.entities w.i
 
 -- whatever is idle is idle in the whole query
 idle_top : (q : Query) (ids : List Id) (i : Id) → is_idle q ids i ≡ true → concerns_others q i ≡ true
-    → (list_all (λ u. is_idle_for ids i q.pieces u (top q)) (visible q) ≡ true) × (groups_are_bound (is_idle_for ids i q.pieces) (top q) ≡ true)
+    → (list_all (λ u. is_idle_for ids i (terms q) u (top q)) (visible q) ≡ true) × (groups_are_bound (is_idle_for ids i (terms q)) (top q) ≡ true)
 unfolding is_idle
 idle_top q ids i h k = elim (or_cases _ _ h) [
   | inl none ↦ absurd (true≢false (sym k ∙ not-true _ none))
@@ -470,9 +442,7 @@ match_by_links m n w v q links links' sound anchored linked e own above all held
     let asking = and_parts _ _ linked in
     let bound = and_parts _ _ asking.1 in
     let checked = (and_parts _ _ sound).0 in
-    let asks = top_near q w v links links' e own above asking.0 in
-    let asks_too = asking_too q w v links links' e own above all near here known (top q) asks in
-    let covers = top_covered q in
+    let among = top_among q in
     let links_by = top_links q w v links links' e own above all near here known in
     let keeps = λ (shown : contains (visible q) 0 ≡ true). sound_keeps_this (visible q) (top q) shown checked in
     let passed = passed_alike q w v e own in
@@ -480,10 +450,10 @@ match_by_links m n w v q links links' sound anchored linked e own above all held
     let busy = λ (z : View) (held : (x : ℕ) (i : Id) → Contains (z.ids x) i → Contains (all x) i) (a : Assignment) (holds : Holds z (top q) a).
     all_busy q w v links links' e own above all near here known z held a (visible q) (top q) (λ x i h k. (idle_top q (all x) i h k).0) holds in
     let nearby = λ (z : View) (held : (x : ℕ) (i : Id) → Contains (z.ids x) i → Contains (all x) i) (closed : HasLinked q all z e near) (a : Assignment) (this : at a 0 ≡ Some e) (holds : Holds z (top q) a).
-    all_near q w v links links' e own above all near here known z closed a this (visible q) (visible q) (busy z held a holds) (top q) asks_too covers links_by checked bound.0 holds
+    all_near q w v links links' e own above all near here known z closed a this (visible q) (visible q) (busy z held a holds) (top q) among links_by checked bound.0 holds
     (λ u other c. absurd (true≢false (sym c ∙ other))) in
     let levels = λ (a : Assignment) (this : at a 0 ≡ Some e) (shown : contains (visible q) 0 ≡ true).
-    level_alike q w v links links' e own above all near here known held held' back there (visible q) (top q) asks covers links_by checked (keeps shown) both.1 bound.1 idle a this in (
+    level_alike q w v links links' e own above all near here known asking.0 held held' back there (visible q) (top q) among links_by checked (keeps shown) both.1 bound.1 idle a this in (
       carried_over w v q e links' both.0 passed (λ a this shown holds. (levels a this shown (busy w held a holds) (nearby w held back a this holds)).0 holds),
       carried_over v w q e links both.0 (λ a this. sym (passed a this)) (λ a this shown holds. (levels a this shown (busy v held' a holds) (nearby v held' there a this holds)).1 holds),
     )

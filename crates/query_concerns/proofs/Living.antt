@@ -1,42 +1,31 @@
 -- Where facts are of the living alone and mention them alone, an anchored variable stands for an entity that lives.
 use Rattle.std.proofs.Common.{◌≡◌, ℕ, ◌==◌, Bool, true, false, inl, inr, List, [], ◌∷◌, length, refl, sym, ap, ◌∙◌, subst, arith}
-use Rattle.std.specs.Prelude.{◌||◌, not, filter, map, take, Option, Some, None, if◌then◌else◌}
-use Rattle.std.specs.List.{Contains, list_any, list_all}
+use Rattle.std.specs.Prelude.{◌||◌, not, filter, map, Option, Some, None, if◌then◌else◌}
+use Rattle.std.specs.List.{Contains}
 use Rattle.std.specs.Option.{option_eq, option_map_or}
-use Rattle.std.proofs.lemmas.Bool.{and_parts, eqb-true, false≢true, or_cases}
+use Rattle.std.proofs.lemmas.Bool.{and_parts, eqb-true, false≢true, not-true, or_cases}
 use Rattle.std.proofs.lemmas.List.Elements.{All-contains, Contains-append_cases}
 use Rattle.std.proofs.lemmas.Option.{same_Some}
 use Rattle.ecs_id.specs.Id.{Id, plain, pair, mentioned}
 use Rattle.ecs_model.specs.Links.{AreLinks, line, target_under, upward}
 use Rattle.ecs_model.specs.rows.Level.{Level, done, also, unless}
-use Rattle.ecs_model.specs.rows.Rows.{Assignment, asked, closed_fields, fields_at, fields_of_item, fields_of_term, first_nonempty, fits, hits, keeps_one, matches, meant, shown, shown_fields}
+use Rattle.ecs_model.specs.rows.Rows.{Assignment, asked, closed_fields, fields_at, fields_of_term, first_nonempty, fits, hits, keeps_one, matches, meant, shown}
 use Rattle.ecs_model.specs.rows.View.{View}
 use Rattle.ecs_model.proofs.Members.{filtered, from_filter_map, head_or_tail, passing}
 use Rattle.query_model.specs.declared.query.Ref.{Ref}
 use Rattle.query_model.specs.declared.query.Ref.TheVariants.{Is, Var, Any, One}
 use Rattle.query_model.specs.declared.query.Term.{Term}
-use Rattle.query_model.specs.Query.{Item, must, may, either, equal, differ}
 use Rattle.query_meaning.proofs.Assignments.{at}
-use Rattle.query_meaning.proofs.Holding.{Holds, has_some}
+use Rattle.query_meaning.proofs.Holding.{Holds}
 use Rattle.query_concerns.specs.Anchored.{anchors, is_variable, item_anchors, may_be_variable, term_anchors}
+use Rattle.query_meaning.proofs.Choices.{any-map, some, some-first, some-map, some-taken}
 use Rattle.query_concerns.proofs.Ancestors.{line_chain}
-use Rattle.query_concerns.proofs.Holding.{any-map, at_each, none_counted, some, some-first, some-map}
-
-not_not : (b : Bool) → not (not b) ≡ b
-not_not true = refl
-not_not false = refl
-
-pub has-some : {X : Type 0} (xs : List X) → has_some xs ≡ some xs
-has-some xs = ap not (none_counted xs) ∙ not_not (some xs)
+use Rattle.query_concerns.proofs.Covered.{OfEach}
+use Rattle.query_concerns.proofs.Holding.{at_each, directly_given, must_given}
 
 pub first_there : {X : Type 0} (xs : List X) → some xs ≡ true → (x : X) × Contains xs x
 first_there [] h = absurd (false≢true h)
 first_there (x ∷ xs) h = (x, (0, omega arith, refl))
-
-pub some-taken : {X : Type 0} (b : Bool) (xs : List X) → some (if b then take 1 xs else xs) ≡ some xs
-some-taken true [] = refl
-some-taken true (x ∷ xs) = refl
-some-taken false xs = refl
 
 -- ---- what a reference that is a variable stands for
 
@@ -123,32 +112,17 @@ module _ {n : ℕ} (w : View) (links : AreLinks n w.entities w.ids) where
 
         by : (o : Option ℕ) → meant a t.source ≡ o → some (option_map_or (fields_at w a t) o []) ≡ true → Contains w.entities e
         by None source g = absurd (false≢true g)
-        by (Some s) source g = found_lives t (sym (not_not t.closed) ∙ ap not parts.0) s source parts.1 g
+        by (Some s) source g = found_lives t (not-true t.closed parts.0) s source parts.1 g
 
-    -- ---- an item, and a level
+    -- ---- a level
 
-    shown_lives : (t : Term) → term_anchors v t ≡ true → some (shown_fields w a t) ≡ true → Contains w.entities e
-    shown_lives t h f = term_lives t h (sym (some-map (λ f. shown w t f ∷ []) (fields_of_term w a t)) ∙ f)
-
-    some_lives : (ts : List Term) → list_all (term_anchors v) ts ≡ true → list_any some (map (shown_fields w a) ts) ≡ true → Contains w.entities e
-    some_lives [] h f = absurd (false≢true f)
-    some_lives (t ∷ ts) h f =
-        let each = and_parts _ _ h in
-        elim (or_cases _ _ f) [ inl first ↦ shown_lives t each.0 first | inr rest ↦ some_lives ts each.1 rest ]
-
-    item_lives : (x : Item) → item_anchors v x ≡ true → some (fields_of_item w a x) ≡ true → Contains w.entities e
-    unfolding fields_of_item
-    item_lives (must t) h f = shown_lives t h f
-    item_lives (may t) h f = absurd (false≢true h)
-    item_lives (either ts) h f = some_lives ts h (sym (some-first (map (shown_fields w a) ts)) ∙ f)
-    item_lives (equal u r) h f = absurd (false≢true h)
-    item_lives (differ u r) h f = absurd (false≢true h)
+    each_any : (l : Level) → OfEach (λ x. Unit {0}) l
+    each_any done = tt
+    each_any (also x rest) = (tt, each_any rest)
+    each_any (unless from_term own inner rest) = (each_any inner, each_any rest)
 
     pub anchored_lives : (l : Level) → anchors v l ≡ true → Holds w l a → Contains w.entities e
-    anchored_lives done h holds = absurd (false≢true h)
-    anchored_lives (also x rest) h holds =
-        elim (or_cases _ _ h) [
-          | inl here ↦ item_lives x here (sym (has-some (fields_of_item w a x)) ∙ holds.0)
-          | inr later ↦ anchored_lives rest later holds.1
-        ]
-    anchored_lives (unless from_term own inner rest) h holds = anchored_lives rest h holds.1
+    anchored_lives l h holds =
+        let x = directly_given w a (λ x. Unit {0}) (item_anchors v) l (each_any l) h holds in
+        let t = must_given w a (term_anchors v) x.0 x.2 x.3 in
+        term_lives t.0 t.2 (sym (some-map (λ f. shown w t.0 f ∷ []) (fields_of_term w a t.0)) ∙ t.3)

@@ -17,8 +17,9 @@ use Rattle.ecs_model.specs.traits.Rules.{prefab, disabled}
 use Rattle.query_model.specs.Query.{Query}
 use Rattle.query_concerns.specs.Concerns.{concerns}
 use Rattle.query_concerns.specs.Laws.{AreAlikeFor, MatchByWhatConcerns}
+use Rattle.query_meaning.proofs.Choices.{some}
 use Rattle.query_concerns.proofs.Covered.{asked_by_all, top_covered}
-use Rattle.query_concerns.proofs.Holding.{level_same, some}
+use Rattle.query_concerns.proofs.Holding.{level_same}
 use Rattle.query_concerns.proofs.Reaching.{HoldAlike, agree_alive, held_same}
 
 -- whether an entity is the first that an assignment has

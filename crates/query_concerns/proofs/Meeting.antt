@@ -15,6 +15,7 @@ use Rattle.ecs_model.specs.rows.View.{View}
 use Rattle.ecs_model.specs.stored.Watches.{is_this, matching}
 use Rattle.ecs_model.specs.traits.Rules.{prefab, disabled}
 use Rattle.ecs_model.proofs.Members.{any_passes, filtered, passing}
+use Rattle.query_model.specs.Observers.{is_constant, is_constant_target}
 use Rattle.query_model.specs.declared.query.Ref.{Ref}
 use Rattle.query_model.specs.declared.query.Ref.TheVariants.{Is, Var, Any, One}
 use Rattle.query_model.specs.declared.query.Term.{Term}
@@ -26,23 +27,22 @@ use Rattle.query_meaning.proofs.Holding.{Holds, Holds-solutions}
 use Rattle.query_meaning.proofs.Lists.{In, place_of}
 use Rattle.query_concerns.specs.Concerns.{may_be, may_match}
 use Rattle.query_concerns.specs.Laws.{MeetingMatch}
-use Rattle.query_concerns.specs.OwnIds.{is_no_variable, item_is_met, item_lacks, meets, meets_from, term_is_met}
-use Rattle.query_concerns.proofs.Holding.{any-map, some, some-first, some-map}
+use Rattle.query_concerns.specs.OwnIds.{item_is_met, item_lacks, meets, meets_from, term_is_met}
+use Rattle.query_meaning.proofs.Choices.{any-map, has-some, or_last, some, some-first, some-map}
 use Rattle.query_concerns.proofs.Lacking.{behind_item, hits_itself, item_fails}
-use Rattle.query_concerns.proofs.Living.{has-some}
 use Rattle.query_concerns.proofs.Matching.{is_first_of}
 use Rattle.query_concerns.proofs.This.{KeepsThis, head_at, sound_keeps_this}
 use Rattle.query_concerns.proofs.WhoeverLives.{any_row, to_place}
 
 -- ---- a term without variables
 
-fits_too : (a : Assignment) (x : ℕ) (r : Ref) → is_no_variable r ≡ true → may_be x r ≡ true → fits a x r ≡ true
+fits_too : (a : Assignment) (x : ℕ) (r : Ref) → is_constant r ≡ true → may_be x r ≡ true → fits a x r ≡ true
 fits_too a x (Is d) n h = h
 fits_too a x (Var v) n h = absurd (false≢true n)
 fits_too a x Any n h = refl
 fits_too a x One n h = refl
 
-matches_too : (a : Assignment) (first : Ref) (target : Option Ref) (i : Id) → is_no_variable first ≡ true → option_map_or is_no_variable target true ≡ true → may_match first target i ≡ true → matches a first target i ≡ true
+matches_too : (a : Assignment) (first : Ref) (target : Option Ref) (i : Id) → is_constant first ≡ true → is_constant_target target ≡ true → may_match first target i ≡ true → matches a first target i ≡ true
 matches_too a first None (plain c) n k h = fits_too a c first n h
 matches_too a first None (pair r t) n k h = h
 matches_too a first (Some target) (plain c) n k h = h
@@ -54,10 +54,6 @@ behind_group : (from_term : Bool) (own : List ℕ) (ls : List Level) → joined 
 behind_group from_term own [] = refl
 behind_group from_term own (l ∷ []) = refl
 behind_group from_term own (l ∷ m ∷ ls) = refl
-
-anyway : (b : Bool) → (b || (true || false)) ≡ true
-anyway true = refl
-anyway false = refl
 
 module _ (w : View) (e : ℕ) where
   -- ---- an item
@@ -75,7 +71,7 @@ module _ (w : View) (e : ℕ) where
   item_meets : (x : Item) → item_is_met (w.ids e) x ≡ true → (a : Assignment) → at a 0 ≡ Some e → some (fields_of_item w a x) ≡ true
   unfolding fields_of_item
   item_meets (must t) h a this = term_meets t h a this
-  item_meets (may t) h a this = some-first (shown_fields w a t ∷ ((Unset ∷ []) ∷ []) ∷ []) ∙ anyway (some (shown_fields w a t))
+  item_meets (may t) h a this = some-first (shown_fields w a t ∷ ((Unset ∷ []) ∷ []) ∷ []) ∙ or_last (some (shown_fields w a t))
   item_meets (either ts) h a this =
       let found = passing (term_is_met (w.ids e)) ts h in
       some-first (map (shown_fields w a) ts)

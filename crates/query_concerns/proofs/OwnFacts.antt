@@ -3,7 +3,7 @@ use Rattle.std.proofs.Common.{◌≡◌, ℕ, Bool, true, false, inl, inr, List,
 use Rattle.std.specs.Prelude.{◌&&◌, ◌||◌, filter, is_some, map, not, take, Option, Some, None, if◌then◌else◌}
 use Rattle.std.specs.List.{Contains, list_any, list_all}
 use Rattle.std.specs.Option.{option_map_or}
-use Rattle.std.proofs.lemmas.Bool.{and_from, and_parts, cases_Bool, eq-eqb, or_left, or_right}
+use Rattle.std.proofs.lemmas.Bool.{and_from, and_parts, cases_Bool, eq-eqb, or_left}
 use Rattle.std.proofs.lemmas.List.Folds.{list_any-append}
 use Rattle.ecs_id.specs.Id.{Id, plain, pair, id_eq, id_eq_same}
 use Rattle.ecs_model.specs.BuiltIns.{transitive, reflexive}
@@ -11,26 +11,27 @@ use Rattle.ecs_model.specs.Links.{AreLinks, is_held, line, target_under, upward}
 use Rattle.ecs_model.specs.Reach.{HasChain, Reached, itself, onward}
 use Rattle.ecs_model.proofs.Linked.{upward_lives}
 use Rattle.ecs_model.specs.rows.Level.{Level, done, also, unless, top}
-use Rattle.ecs_model.specs.rows.Rows.{Assignment, Unset, asked, assignments, candidates, fields_of_item, fields_of_term, hits, is_cut, keeps_one, level_mentions, matches, passes_over, rows, shown, shown_fields, solutions, visible}
+use Rattle.ecs_model.specs.rows.Rows.{Assignment, asked, assignments, candidates, fields_of_item, fields_of_term, hits, is_cut, keeps_one, level_mentions, matches, passes_over, rows, shown, shown_fields, solutions, visible}
 use Rattle.ecs_model.specs.rows.View.{View}
 use Rattle.ecs_model.specs.stored.Watches.{is_this, matching}
 use Rattle.ecs_model.specs.traits.Rules.{prefab, disabled}
 use Rattle.ecs_model.proofs.Members.{alike, any_passes, filtered, passing}
 use Rattle.query_model.specs.declared.query.Term.{Term}
-use Rattle.query_model.specs.Query.{Item, must, may, either, equal, differ, Piece, item, opening, closing, Query}
+use Rattle.query_model.specs.Query.{Item, Query}
+use Rattle.query_check.specs.Terms.{terms}
 use Rattle.query_meaning.specs.Sound.{is_sound}
 use Rattle.query_meaning.specs.Variables.{contains}
 use Rattle.query_meaning.proofs.Assignments.{assignments-from_Extends, at}
 use Rattle.query_meaning.proofs.Holding.{Holds, Holds-solutions}
 use Rattle.query_meaning.proofs.Lists.{place_of}
 use Rattle.query_concerns.specs.Anchored.{anchors, groups_are_anchored, is_anchored}
-use Rattle.query_concerns.specs.Concerns.{concerns, is_asked_by_all, item_concerns, leads_up, piece_concerns, term_concerns}
+use Rattle.query_concerns.specs.Concerns.{concerns, leads_up, term_concerns}
 use Rattle.query_concerns.specs.Laws.{MatchByOwnFacts}
-use Rattle.query_concerns.specs.Others.{asks_this, concerns_below, concerns_others, item_concerns_below, item_concerns_others, piece_concerns_below, piece_concerns_others, says_how_far, term_concerns_below, term_concerns_others}
+use Rattle.query_concerns.specs.Others.{asks_this, concerns_below, concerns_others, says_how_far, term_concerns_others}
+use Rattle.query_meaning.proofs.Choices.{any-map, has-some, some, some-first, some-map}
 use Rattle.query_concerns.proofs.Ancestors.{agree_linked, chain_line, line_chain}
-use Rattle.query_concerns.proofs.Covered.{OfEach, OfEachPiece, asked_by_all, of_top}
-use Rattle.query_concerns.proofs.Holding.{any-map, at_each, by_match, by_rise, matches_may, shown_same, some, some-first, some-map}
-use Rattle.query_concerns.proofs.Living.{has-some}
+use Rattle.query_concerns.proofs.Covered.{OfEach, asked_by_all, by_term, by_term_below, by_term_of_others, top_so}
+use Rattle.query_concerns.proofs.Holding.{at_each, by_match, by_rise, item_alike, matches_may, shown_same}
 use Rattle.query_concerns.proofs.Matching.{is_first_of}
 use Rattle.query_concerns.proofs.Reaching.{Agree, HasPairs, no_target}
 use Rattle.query_concerns.proofs.This.{KeepsThis, asked_of_this, sound_keeps_this, this_of}
@@ -54,12 +55,6 @@ module _ (next next' : ℕ → List ℕ) (e : ℕ) (here : next e ≡ next' e) (
   chain_back : (y : ℕ) → HasChain next' e y → HasChain next e y
   chain_back y k = (k.0, subst (λ l. Contains l k.0) (sym here) k.1, reached_back k.0 k.1 k.2)
 
--- whatever concerns a term concerns the query, for those for whom it does so
-pub record IsCovered (q : Query) (t : Term) : Type 0 where
-  pub concerned : (i : Id) → term_concerns i t ≡ true → concerns q i ≡ true
-  pub others : (i : Id) → term_concerns_others i t ≡ true → concerns_others q i ≡ true
-  pub below : (i : Id) → term_concerns_below i t ≡ true → concerns_below q i ≡ true
-
 -- ---- a term
 
 module _ (w v : View) (a : Assignment) (t : Term) where
@@ -73,7 +68,7 @@ module _ (w v : View) (a : Assignment) (t : Term) where
 module _ (q : Query) {m n : ℕ} (w v : View) (links : AreLinks m w.entities w.ids) (links' : AreLinks n v.entities v.ids) (e : ℕ)
     (own : filter (concerns q) (w.ids e) ≡ filter (concerns q) (v.ids e))
     (above : (r x : ℕ) → Contains (line v.ids v.entities r e) x → filter (concerns_below q) (w.ids x) ≡ filter (concerns_below q) (v.ids x)) where
-  module _ (a : Assignment) (this : at a 0 ≡ Some e) (t : Term) (covered : IsCovered q t) (asks : asks_this t ≡ true) where
+  module _ (a : Assignment) (this : at a 0 ≡ Some e) (t : Term) (among : Contains (terms q) t) (asks : asks_this t ≡ true) where
     -- whether an entity has a hit
     abbrev has : View → ℕ → Bool
     has u x = some (at_each x (hits u a t x))
@@ -85,7 +80,7 @@ module _ (q : Query) {m n : ℕ} (w v : View) (links : AreLinks m w.entities w.i
           h (pair r u) (by_rise (pair r u) t leads)
 
       covered_below : (i : Id) → term_concerns i t ≡ true → concerns_below q i ≡ true
-      covered_below i h = covered.below i (and_from _ _ (and_from _ _ asks (ap is_some up)) h)
+      covered_below i h = by_term_below q t among i (and_from _ _ (and_from _ _ asks (ap is_some up)) h)
 
       next_alike : (wide : Id → Bool) (x : ℕ) → ((i : Id) → term_concerns i t ≡ true → wide i ≡ true) → filter wide (w.ids x) ≡ filter wide (v.ids x) → upward w.ids r x ≡ upward v.ids r x
       next_alike wide x h same = maps_same wide (w.ids x) (v.ids x) same (target_under r) (no_target wide r (pairs wide h))
@@ -94,7 +89,7 @@ module _ (q : Query) {m n : ℕ} (w v : View) (links : AreLinks m w.entities w.i
       in_line x k = chain_line (upward v.ids r) v.entities (upward_lives links' r) e x k
 
       here : upward w.ids r e ≡ upward v.ids r e
-      here = next_alike (concerns q) e covered.concerned own
+      here = next_alike (concerns q) e (by_term q t among) own
 
       on_line : (x : ℕ) → HasChain (upward v.ids r) e x → upward w.ids r x ≡ upward v.ids r x
       on_line x k = next_alike (concerns_below q) x covered_below (above r x (in_line x k))
@@ -119,7 +114,7 @@ module _ (q : Query) {m n : ℕ} (w v : View) (links : AreLinks m w.entities w.i
     lines_alike (Some r) up = line_alike r up
 
     source_alike : (b : Bool) → list_any (has w) (if b then e ∷ [] else []) ≡ list_any (has v) (if b then e ∷ [] else [])
-    source_alike true = ap (λ is. some (at_each e is) || false) (hits_alike w v a t (concerns q) e covered.concerned own)
+    source_alike true = ap (λ is. some (at_each e is) || false) (hits_alike w v a t (concerns q) e (by_term q t among) own)
     source_alike false = refl
 
     found : (u : View) → some (shown_fields u a t) ≡ (list_any (has u) (if t.on_source then e ∷ [] else []) || list_any (has u) (option_map_or (λ r. line u.ids u.entities r e) t.up []))
@@ -139,10 +134,10 @@ module _ (q : Query) {m n : ℕ} (w v : View) (links : AreLinks m w.entities w.i
 module _ (q : Query) {m n : ℕ} (w v : View) (links : AreLinks m w.entities w.ids) (links' : AreLinks n v.entities v.ids) (agree : Agree (concerns_others q) w v) (e : ℕ)
     (own : filter (concerns q) (w.ids e) ≡ filter (concerns q) (v.ids e))
     (above : (r x : ℕ) → Contains (line v.ids v.entities r e) x → filter (concerns_below q) (w.ids x) ≡ filter (concerns_below q) (v.ids x)) where
-  term_alike : (a : Assignment) → at a 0 ≡ Some e → (t : Term) → IsCovered q t → some (shown_fields w a t) ≡ some (shown_fields v a t)
-  term_alike a this t covered = elim (cases_Bool (asks_this t)) [
-    | inl asks ↦ this_alike q w v links links' e own above a this t covered asks
-    | inr other ↦ shown_same (concerns_others q) w v agree a t (λ i h. covered.others i (and_from _ _ (ap not other) h))
+  term_alike : (a : Assignment) → at a 0 ≡ Some e → (t : Term) → Contains (terms q) t → some (shown_fields w a t) ≡ some (shown_fields v a t)
+  term_alike a this t among = elim (cases_Bool (asks_this t)) [
+    | inl asks ↦ this_alike q w v links links' e own above a this t among asks
+    | inr other ↦ shown_same (concerns_others q) w v agree a t (λ i h. by_term_of_others q t among i (and_from _ _ (ap not other) h))
   ]
 
   -- ---- an item
@@ -151,63 +146,8 @@ module _ (q : Query) {m n : ℕ} (w v : View) (links : AreLinks m w.entities w.i
   abbrev IsAlike : Item → Type 0
   IsAlike x = (a : Assignment) → at a 0 ≡ Some e → some (fields_of_item w a x) ≡ some (fields_of_item v a x)
 
-  -- what concerns some of the terms, or of the pieces, does so
-  abbrev AreCovered : {X : Type 0} → (Id → X → Bool) → (Id → X → Bool) → (Id → X → Bool) → List X → Type 0
-  AreCovered c o b xs = ((i : Id) → list_any (c i) xs ≡ true → concerns q i ≡ true) × ((i : Id) → list_any (o i) xs ≡ true → concerns_others q i ≡ true) × ((i : Id) → list_any (b i) xs ≡ true → concerns_below q i ≡ true)
-
-  rest_covered : {X : Type 0} (c o b : Id → X → Bool) (x : X) (xs : List X) → AreCovered c o b (x ∷ xs) → AreCovered c o b xs
-  rest_covered c o b x xs h = (
-    λ i t. h.0 i (or_right (c i x) (list_any (c i) xs) t),
-    λ i t. h.1 i (or_right (o i x) (list_any (o i) xs) t),
-    λ i t. h.2 i (or_right (b i x) (list_any (b i) xs) t),
-  )
-
-  term_covered : (t : Term) (ts : List Term) → AreCovered term_concerns term_concerns_others term_concerns_below (t ∷ ts) → IsCovered q t
-  term_covered t ts h = record {
-    concerned = λ i x. h.0 i (or_left (term_concerns i t) (list_any (term_concerns i) ts) x);
-    others = λ i x. h.1 i (or_left (term_concerns_others i t) (list_any (term_concerns_others i) ts) x);
-    below = λ i x. h.2 i (or_left (term_concerns_below i t) (list_any (term_concerns_below i) ts) x);
-  }
-
-  some_alike : (a : Assignment) → at a 0 ≡ Some e → (ts : List Term) → AreCovered term_concerns term_concerns_others term_concerns_below ts
-      → list_any some (map (shown_fields w a) ts) ≡ list_any some (map (shown_fields v a) ts)
-  some_alike a this [] h = refl
-  some_alike a this (t ∷ ts) h =
-      let first = term_alike a this t (term_covered t ts h) in
-      let rest = some_alike a this ts (rest_covered term_concerns term_concerns_others term_concerns_below t ts h) in
-      λ j. first j || rest j
-
-  item_alike : (x : Item) → ((i : Id) → item_concerns i x ≡ true → concerns q i ≡ true) → ((i : Id) → item_concerns_others i x ≡ true → concerns_others q i ≡ true)
-      → ((i : Id) → item_concerns_below i x ≡ true → concerns_below q i ≡ true) → IsAlike x
-  unfolding fields_of_item
-  item_alike (must t) h k l a this = term_alike a this t (record { concerned = h; others = k; below = l })
-  item_alike (may t) h k l a this =
-      some-first (shown_fields w a t ∷ ((Unset ∷ []) ∷ []) ∷ [])
-      ∙ ap (λ b. b || (true || false)) (term_alike a this t (record { concerned = h; others = k; below = l }))
-      ∙ sym (some-first (shown_fields v a t ∷ ((Unset ∷ []) ∷ []) ∷ []))
-  item_alike (either ts) h k l a this = some-first (map (shown_fields w a) ts) ∙ some_alike a this ts (h, k, l) ∙ sym (some-first (map (shown_fields v a) ts))
-  item_alike (equal u r) h k l a this = refl
-  item_alike (differ u r) h k l a this = refl
-
-  pieces_alike : (ps : List Piece) → AreCovered piece_concerns piece_concerns_others piece_concerns_below ps → OfEachPiece IsAlike ps
-  pieces_alike [] h = tt
-  pieces_alike (item x ∷ ps) h = (
-    item_alike x
-        (λ i t. h.0 i (or_left (item_concerns i x) (list_any (piece_concerns i) ps) t))
-        (λ i t. h.1 i (or_left (item_concerns_others i x) (list_any (piece_concerns_others i) ps) t))
-        (λ i t. h.2 i (or_left (item_concerns_below i x) (list_any (piece_concerns_below i) ps) t)),
-    pieces_alike ps (rest_covered piece_concerns piece_concerns_others piece_concerns_below (item x) ps h),
-  )
-  pieces_alike (opening from_term own ∷ ps) h = pieces_alike ps (rest_covered piece_concerns piece_concerns_others piece_concerns_below (opening from_term own) ps h)
-  pieces_alike (closing ∷ ps) h = pieces_alike ps (rest_covered piece_concerns piece_concerns_others piece_concerns_below closing ps h)
-
   top_alike : OfEach IsAlike (top q)
-  unfolding concerns concerns_others concerns_below
-  top_alike = of_top IsAlike q (pieces_alike q.pieces (
-    λ i t. or_right (is_asked_by_all i) (list_any (piece_concerns i) q.pieces) t,
-    λ i t. or_right (says_how_far i) (list_any (piece_concerns_others i) q.pieces) t,
-    λ i t. t,
-  ))
+  top_alike = top_so q IsAlike (λ x among a this. item_alike w v a x (λ t c. term_alike a this t (among t c)))
 
   -- ---- a level, where facts are of the living alone
 
@@ -240,7 +180,7 @@ module _ (q : Query) (w v : View) (e : ℕ) (own : filter (concerns q) (w.ids e)
 
 asked_of_others : (q : Query) (i : Id) → says_how_far i ≡ true → concerns_others q i ≡ true
 unfolding concerns_others
-asked_of_others q i t = or_left (says_how_far i) (list_any (piece_concerns_others i) q.pieces) t
+asked_of_others q i t = or_left (says_how_far i) (list_any (term_concerns_others i) (terms q)) t
 
 -- ---- the entities of rows
 

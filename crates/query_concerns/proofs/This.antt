@@ -1,6 +1,6 @@
 -- The assignment under which a row has an entity first gives it to the first variable; and what a term gives that asks it itself.
 use Rattle.std.proofs.Common.{◌≡◌, ℕ, zero, suc, ◌<◌, ◌⊎◌, true, false, cond, inl, inr, List, [], ◌∷◌, ◌++◌, length, Less, refl, sym, ap, ◌∙◌, arith}
-use Rattle.std.specs.Prelude.{◌==◌, ◌&&◌, map, not, Option, Some, None, is_none, is_some, if◌then◌else◌}
+use Rattle.std.specs.Prelude.{◌==◌, ◌&&◌, map, not, Some, None, is_some, if◌then◌else◌}
 use Rattle.std.specs.Cmp.{nat_cmp_is}
 use Rattle.std.specs.FinMap.Entries.{by_order}
 use Rattle.std.specs.List.{Contains, list_any, range_with_len}
@@ -15,19 +15,16 @@ use Rattle.ecs_model.specs.rows.Rows.{Assignment, asked, assignments, candidates
 use Rattle.ecs_model.specs.rows.View.{View}
 use Rattle.ecs_model.specs.stored.Watches.{is_this, matching}
 use Rattle.ecs_model.proofs.Members.{filtered, passing}
-use Rattle.query_model.specs.declared.query.Ref.{Ref}
-use Rattle.query_model.specs.declared.query.Ref.TheVariants.{Is, Var, Any, One}
 use Rattle.query_model.specs.declared.query.Term.{Term}
 use Rattle.query_model.specs.Local.{asks_first}
-use Rattle.query_model.specs.Observers.{is_first}
 use Rattle.query_model.specs.Query.{Query}
 use Rattle.query_meaning.specs.Sound.{is_sound_level, occurs_directly}
 use Rattle.query_meaning.specs.Variables.{contains}
 use Rattle.query_meaning.proofs.Assignments.{Extends, Extends-from_assignments, IsMap-with, at, at-with_other, at-with_same, same_assignment}
 use Rattle.query_meaning.proofs.Holding.{Holds, Holds-solutions, contains-left}
 use Rattle.query_concerns.specs.Others.{asks_this}
-use Rattle.query_concerns.proofs.Holding.{at_each, some}
-use Rattle.query_concerns.proofs.Living.{has-some}
+use Rattle.query_meaning.proofs.Choices.{has-some, none_of, some, source_first}
+use Rattle.query_concerns.proofs.Holding.{at_each}
 use Rattle.query_concerns.proofs.Matching.{is_first_of}
 use Rattle.query_concerns.proofs.WhoeverLives.{all_at, any_row, first_bound, to_place}
 
@@ -123,23 +120,13 @@ sound_keeps_this scope (unless from_term own inner rest) there h =
 
 -- ---- a term that asks the first variable itself
 
-pub first_variable : (r : Ref) → is_first r ≡ true → r ≡ Var 0
-first_variable (Is e) h = absurd (false≢true h)
-first_variable (Var v) h = ap Var (eqb-true v 0 h)
-first_variable Any h = absurd (false≢true h)
-first_variable One h = absurd (false≢true h)
-
-no_way_up : (o : Option ℕ) → is_none o ≡ true → o ≡ None
-no_way_up None h = refl
-no_way_up (Some r) h = absurd (false≢true h)
-
 -- what a term gives that asks the first variable
 pub asked_of_this : (w : View) (a : Assignment) (e : ℕ) (t : Term) → at a 0 ≡ Some e → asks_this t ≡ true → fields_of_term w a t ≡ first_nonempty (map (λ m. at_each m (hits w a t m)) (asked w t e))
 unfolding fields_of_term
 asked_of_this w a e t this asks =
     let both = and_parts _ _ asks in
     let closed = not-true t.closed both.1 in
-    let source = ap (meant a) (first_variable t.source both.0) ∙ this in
+    let source = ap (meant a) (source_first t.source both.0) ∙ this in
     λ i. option_map_or (λ s.
     if closed i then closed_fields w (meant a t.first) s (option_map_or (meant a) t.target None)
     else first_nonempty (map (λ m. at_each m (hits w a t m)) (asked w t s))) (source i) []
@@ -150,6 +137,6 @@ asked_itself w a e t this asks =
     let outer = and_parts _ _ asks in
     let middle = and_parts _ _ outer.0 in
     let inner = and_parts _ _ middle.0 in
-    let up = no_way_up t.up middle.1 in
+    let up = none_of t.up middle.1 in
     asked_of_this w a e t this (and_from _ _ inner.0 outer.1)
     ∙ (λ i. first_nonempty (map (λ m. at_each m (hits w a t m)) ((if inner.1 i then e ∷ [] else []) ++ option_map_or (λ r. line w.ids w.entities r e) (up i) [])))

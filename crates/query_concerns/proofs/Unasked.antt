@@ -12,13 +12,14 @@ use Rattle.query_model.specs.declared.query.Ref.{Ref}
 use Rattle.query_model.specs.declared.query.Ref.TheVariants.{Is, Var, Any, One}
 use Rattle.query_model.specs.declared.query.Term.{Term}
 use Rattle.query_model.specs.Observers.{is_first}
-use Rattle.query_model.specs.Query.{Item, must, may, either, equal, differ, Piece, item, opening, closing, Query}
+use Rattle.query_model.specs.Query.{Query}
+use Rattle.query_check.specs.Terms.{terms}
 use Rattle.query_concerns.specs.Anchored.{is_variable}
 use Rattle.query_concerns.specs.Bonds.{are_all_bound, groups_are_bound, has_directly}
-use Rattle.query_concerns.specs.Idle.{asks_for, is_idle, is_idle_for, item_asks_for, item_lacks_of, piece_asks_for, term_asks_for}
-use Rattle.query_concerns.specs.Others.{asks_this, concerns_others, item_concerns_others, piece_concerns_others, says_how_far, term_concerns_others}
+use Rattle.query_concerns.specs.Idle.{asks_for, is_idle, is_idle_for, item_lacks_of, term_asks_for}
+use Rattle.query_concerns.specs.Others.{concerns_others, says_how_far, term_concerns_others}
 
-any_wider : {X : Type 0} (p r : X → Bool) → ((x : X) → p x ≡ true → r x ≡ true) → (xs : List X) → list_any p xs ≡ true → list_any r xs ≡ true
+pub any_wider : {X : Type 0} (p r : X → Bool) → ((x : X) → p x ≡ true → r x ≡ true) → (xs : List X) → list_any p xs ≡ true → list_any r xs ≡ true
 any_wider p r wider xs h = let found = passing p xs h in any_passes r xs found.0 found.1 (wider found.0 found.2)
 
 other_source : (v : ℕ) (r : Ref) → (v == 0) ≡ false → is_variable v r ≡ true → is_first r ≡ false
@@ -34,21 +35,9 @@ module _ (i : Id) (v : ℕ) (other : (v == 0) ≡ false) where
       let beside = other_source v t.source other parts.0 in
       λ k. not (beside k && not t.closed) && parts.1 k
 
-  of_item : (x : Item) → item_asks_for v i x ≡ true → item_concerns_others i x ≡ true
-  of_item (must t) h = of_term t h
-  of_item (may t) h = of_term t h
-  of_item (either ts) h = any_wider (term_asks_for v i) (term_concerns_others i) of_term ts h
-  of_item (equal u r) h = absurd (false≢true h)
-  of_item (differ u r) h = absurd (false≢true h)
-
-  of_piece : (p : Piece) → piece_asks_for v i p ≡ true → piece_concerns_others i p ≡ true
-  of_piece (item x) h = of_item x h
-  of_piece (opening from_term own) h = absurd (false≢true h)
-  of_piece closing h = absurd (false≢true h)
-
-  asked_of_others : (q : Query) → asks_for q.pieces v i ≡ true → concerns_others q i ≡ true
+  pub asked_for_others : (q : Query) → asks_for (terms q) v i ≡ true → concerns_others q i ≡ true
   unfolding concerns_others
-  asked_of_others q h = or_right (says_how_far i) (list_any (piece_concerns_others i) q.pieces) (any_wider (piece_asks_for v i) (piece_concerns_others i) of_piece q.pieces h)
+  asked_for_others q h = or_right (says_how_far i) (list_any (term_concerns_others i) (terms q)) (any_wider (term_asks_for v i) (term_concerns_others i) of_term (terms q) h)
 
 -- ---- where each variable is bound in each level
 
@@ -70,17 +59,17 @@ module _ (bound : ℕ → Level → Bool) (all : (v : ℕ) (l : Level) → bound
   bound_everywhere q = let here = all_true (λ v. bound v (top q)) (λ v. all v (top q)) (visible q) in let groups = groups_too (top q) in λ k. here k && groups k
 
 module _ (q : Query) (ids : List Id) (i : Id) where
-  idle_in : (none : concerns_others q i ≡ false) (v : ℕ) (l : Level) → is_idle_for ids i q.pieces v l ≡ true
+  idle_in : (none : concerns_others q i ≡ false) (v : ℕ) (l : Level) → is_idle_for ids i (terms q) v l ≡ true
   idle_in none v l = by (v == 0) refl
     where
-      by : (b : Bool) → (v == 0) ≡ b → is_idle_for ids i q.pieces v l ≡ true
-      by true first = λ k. (first k || not (asks_for q.pieces v i)) || has_directly (item_lacks_of ids v) l
+      by : (b : Bool) → (v == 0) ≡ b → is_idle_for ids i (terms q) v l ≡ true
+      by true first = λ k. (first k || not (asks_for (terms q) v i)) || has_directly (item_lacks_of ids v) l
       by false other =
-          let unasked : asks_for q.pieces v i ≡ false = refuted (asks_for q.pieces v i) (λ asks. true≢false (sym (asked_of_others i v other q asks) ∙ none)) in
+          let unasked : asks_for (terms q) v i ≡ false = refuted (asks_for (terms q) v i) (λ asks. true≢false (sym (asked_for_others i v other q asks) ∙ none)) in
           λ k. (other k || not (unasked k)) || has_directly (item_lacks_of ids v) l
 
   abbrev by_variables : Bool
-  by_variables = are_all_bound (is_idle_for ids i q.pieces) q
+  by_variables = are_all_bound (is_idle_for ids i (terms q)) q
 
   pub idle_by_variables : is_idle q ids i ≡ by_variables
   unfolding is_idle
@@ -88,4 +77,4 @@ module _ (q : Query) (ids : List Id) (i : Id) where
     where
       by : (b : Bool) → concerns_others q i ≡ b → (not (concerns_others q i) || by_variables) ≡ by_variables
       by true some = ap (λ b. not b || by_variables) some
-      by false none = ap (λ b. not b || by_variables) none ∙ sym (bound_everywhere (is_idle_for ids i q.pieces) (idle_in none) q)
+      by false none = ap (λ b. not b || by_variables) none ∙ sym (bound_everywhere (is_idle_for ids i (terms q)) (idle_in none) q)

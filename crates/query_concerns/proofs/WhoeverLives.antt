@@ -23,10 +23,11 @@ use Rattle.query_meaning.proofs.Lists.{In, In-from_place, place_of}
 use Rattle.query_concerns.specs.Anchored.{anchors, groups_are_anchored, is_anchored}
 use Rattle.query_concerns.specs.Concerns.{concerns}
 use Rattle.query_concerns.specs.Laws.{MatchWhoeverElseLives}
+use Rattle.query_meaning.proofs.Choices.{has-some, some}
 use Rattle.query_concerns.proofs.Ancestors.{agree_linked}
 use Rattle.query_concerns.proofs.Covered.{CoversLevel, asked_by_all, top_covered}
-use Rattle.query_concerns.proofs.Holding.{item_same, some}
-use Rattle.query_concerns.proofs.Living.{anchored_lives, has-some}
+use Rattle.query_concerns.proofs.Holding.{item_same}
+use Rattle.query_concerns.proofs.Living.{anchored_lives}
 use Rattle.query_concerns.proofs.Matching.{is_first_of, passed_same, this_of_rows}
 use Rattle.query_concerns.proofs.Reaching.{Agree, HoldAlike}
 

@@ -1,13 +1,12 @@
 -- Anchored queries: a fact is about each entity that a variable stands for, so births and deaths alone change no row.
 use Rattle.std.specs.Prelude.{ℕ, ◌==◌, Bool, false, not, ◌&&◌, ◌||◌, Option}
-use Rattle.std.specs.List.{list_all}
 use Rattle.std.specs.Option.{option_map_or}
 use Rattle.ecs_model.specs.rows.Level.{Level}
 use Rattle.query_model.specs.declared.query.Ref.{Ref}
 use Rattle.query_model.specs.declared.query.Ref.TheVariants.{Is, Var, Any, One}
 use Rattle.query_model.specs.declared.query.Term.{Term}
-use Rattle.query_model.specs.Query.{Item, must, may, either, equal, differ, Query}
-use Rattle.query_concerns.specs.Bonds.{are_all_bound, groups_are_bound, has_directly}
+use Rattle.query_model.specs.Query.{Item, Query}
+use Rattle.query_concerns.specs.Bonds.{are_all_bound, each_must, groups_are_bound, has_directly}
 
 -- whether a reference is a variable
 abbrev pub is_variable : ℕ → Ref → Bool
@@ -25,11 +24,7 @@ term_anchors v t = not t.closed && (is_variable v t.source || is_variable v t.fi
 
 -- whether an item holds only where there is such a fact
 abbrev pub item_anchors : ℕ → Item → Bool
-item_anchors v (must t) = term_anchors v t
-item_anchors v (may t) = false
-item_anchors v (either ts) = list_all (term_anchors v) ts
-item_anchors v (equal u r) = false
-item_anchors v (differ u r) = false
+item_anchors v x = each_must (term_anchors v) x
 
 -- whether an item directly in a level does
 abbrev pub anchors : ℕ → Level → Bool

@@ -3,7 +3,16 @@ use Rattle.std.specs.Prelude.{ℕ, Bool, true, false, ◌&&◌, ◌||◌}
 use Rattle.std.specs.List.{list_all}
 use Rattle.ecs_model.specs.rows.Level.{Level, done, also, unless, top}
 use Rattle.ecs_model.specs.rows.Rows.{visible}
-use Rattle.query_model.specs.Query.{Item, Query}
+use Rattle.query_model.specs.declared.query.Term.{Term}
+use Rattle.query_model.specs.Query.{Item, must, may, either, equal, differ, Query}
+
+-- whether an item holds only where a term matches that passes a test
+abbrev pub each_must : (Term → Bool) → Item → Bool
+each_must p (must t) = p t
+each_must p (may t) = false
+each_must p (either ts) = list_all p ts
+each_must p (equal v r) = false
+each_must p (differ v r) = false
 
 -- whether an item directly in a level passes a test
 abbrev pub has_directly : (Item → Bool) → Level → Bool

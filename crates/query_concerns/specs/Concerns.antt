@@ -7,7 +7,8 @@ use Rattle.ecs_model.specs.traits.Rules.{prefab, disabled}
 use Rattle.query_model.specs.declared.query.Ref.{Ref}
 use Rattle.query_model.specs.declared.query.Ref.TheVariants.{Is, Var, Any, One}
 use Rattle.query_model.specs.declared.query.Term.{Term}
-use Rattle.query_model.specs.Query.{Item, must, may, either, equal, differ, Piece, item, opening, closing, Query}
+use Rattle.query_model.specs.Query.{Query}
+use Rattle.query_check.specs.Terms.{terms}
 
 -- whether a reference may stand for an entity, whatever variables stand for
 abbrev pub may_be : ℕ → Ref → Bool
@@ -37,18 +38,6 @@ leads_up (Some r) i = is_pair_of (Is r) i
 abbrev pub term_concerns : Id → Term → Bool
 term_concerns i t = may_match t.first t.target i || leads_up t.up i || (t.closed && is_pair_of t.first i)
 
-abbrev pub item_concerns : Id → Item → Bool
-item_concerns i (must t) = term_concerns i t
-item_concerns i (may t) = term_concerns i t
-item_concerns i (either ts) = list_any (term_concerns i) ts
-item_concerns i (equal v r) = false
-item_concerns i (differ v r) = false
-
-abbrev pub piece_concerns : Id → Piece → Bool
-piece_concerns i (item x) = item_concerns i x
-piece_concerns i (opening from_term own) = false
-piece_concerns i closing = false
-
 -- the tags that say how far a relationship reaches, and who is passed over
 abbrev pub is_asked_by_all : Id → Bool
 is_asked_by_all (plain c) = c == transitive || c == reflexive || c == prefab || c == disabled
@@ -56,4 +45,4 @@ is_asked_by_all (pair r t) = false
 
 -- whether an id concerns a query, terms inside groups too
 unfoldable pub concerns : Query → Id → Bool
-concerns q i = is_asked_by_all i || list_any (piece_concerns i) q.pieces
+concerns q i = is_asked_by_all i || list_any (term_concerns i) (terms q)

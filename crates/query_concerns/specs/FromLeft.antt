@@ -2,6 +2,7 @@
 use Rattle.std.specs.Prelude.{ℕ, ◌+◌, ◌-◌, ◌==◌, Bool, true, false, not, ◌&&◌, ◌||◌, List, [], ◌∷◌, ◌++◌, map, if◌then◌else◌}
 use Rattle.std.specs.List.{list_all}
 use Rattle.ecs_model.specs.rows.Level.{Level}
+use Rattle.query_model.specs.declared.query.Term.{Term}
 use Rattle.query_model.specs.Query.{Item, Piece, item, opening, closing}
 use Rattle.query_concerns.specs.declared.bonds.Bond.{Bond}
 use Rattle.query_concerns.specs.declared.bonds.Bond.TheVariants.{Anchor, Tie, Link, Idle}
@@ -19,15 +20,15 @@ item_binds Tie v x = item_ties v x
 item_binds Link v x = item_links v x
 item_binds (Idle ids went i) v x = item_lacks_of (ids.now ++ map (λ k. k.1) went.now) v x
 
--- whether a variable needs no bond, by the pieces of its query
-abbrev pub is_free : Bond → List Piece → ℕ → Bool
-is_free Anchor ps v = false
-is_free Tie ps v = needs_no_tie ps v
-is_free Link ps v = v == 0
-is_free (Idle ids went i) ps v = v == 0 || not (asks_for ps v i)
+-- whether a variable needs no bond, by the terms of its query
+abbrev pub is_free : Bond → List Term → ℕ → Bool
+is_free Anchor ts v = false
+is_free Tie ts v = needs_no_tie ts v
+is_free Link ts v = v == 0
+is_free (Idle ids went i) ts v = v == 0 || not (asks_for ts v i)
 
-abbrev pub binds : Bond → List Piece → ℕ → Level → Bool
-binds bond ps v l = is_free bond ps v || has_directly (item_binds bond v) l
+abbrev pub binds : Bond → List Term → ℕ → Level → Bool
+binds bond ts v l = is_free bond ts v || has_directly (item_binds bond v) l
 
 -- ---- the pieces
 
@@ -56,8 +57,8 @@ module _ (test : Item → Bool) where
       else if depth == 0 && not whole && is_end p then false
       else passes_from whole (depth_behind depth p) ps
 
--- by all pieces of a query
-module _ (bond : Bond) (all : List Piece) where
+-- by all terms of a query
+module _ (bond : Bond) (all : List Term) where
   -- whether a variable is bound in the level that begins here
   abbrev pub binds_from : Bool → List Piece → ℕ → Bool
   binds_from whole ps v = is_free bond all v || passes_from (item_binds bond v) whole 0 ps

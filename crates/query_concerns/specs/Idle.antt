@@ -4,7 +4,8 @@ use Rattle.std.specs.List.{list_any}
 use Rattle.ecs_id.specs.Id.{Id}
 use Rattle.ecs_model.specs.rows.Level.{Level}
 use Rattle.query_model.specs.declared.query.Term.{Term}
-use Rattle.query_model.specs.Query.{Item, must, may, either, equal, differ, Piece, item, opening, closing, Query}
+use Rattle.query_model.specs.Query.{Item, must, may, either, equal, differ, Query}
+use Rattle.query_check.specs.Terms.{terms}
 use Rattle.query_concerns.specs.Anchored.{is_variable}
 use Rattle.query_concerns.specs.Bonds.{are_all_bound, has_directly}
 use Rattle.query_concerns.specs.Concerns.{may_match, term_concerns}
@@ -16,20 +17,9 @@ use Rattle.query_concerns.specs.Others.{concerns_others}
 abbrev pub term_asks_for : ℕ → Id → Term → Bool
 term_asks_for v i t = is_variable v t.source && term_concerns i t
 
-abbrev pub item_asks_for : ℕ → Id → Item → Bool
-item_asks_for v i (must t) = term_asks_for v i t
-item_asks_for v i (may t) = term_asks_for v i t
-item_asks_for v i (either ts) = list_any (term_asks_for v i) ts
-item_asks_for v i (equal u r) = false
-item_asks_for v i (differ u r) = false
-
-abbrev pub piece_asks_for : ℕ → Id → Piece → Bool
-piece_asks_for v i (item x) = item_asks_for v i x
-piece_asks_for v i (opening from_term own) = false
-piece_asks_for v i closing = false
-
-abbrev pub asks_for : List Piece → ℕ → Id → Bool
-asks_for ps v i = list_any (piece_asks_for v i) ps
+-- whether one of these terms does
+abbrev pub asks_for : List Term → ℕ → Id → Bool
+asks_for ts v i = list_any (term_asks_for v i) ts
 
 -- ---- who lacks what is asked
 
@@ -46,9 +36,9 @@ item_lacks_of ids v (equal u r) = false
 item_lacks_of ids v (differ u r) = false
 
 -- whether a variable is `$this`, or its entity isn't asked for an id, or these ids lack what an item directly in its level asks of it
-abbrev pub is_idle_for : List Id → Id → List Piece → ℕ → Level → Bool
-is_idle_for ids i ps v l = (v == 0 || not (asks_for ps v i)) || has_directly (item_lacks_of ids v) l
+abbrev pub is_idle_for : List Id → Id → List Term → ℕ → Level → Bool
+is_idle_for ids i ts v l = (v == 0 || not (asks_for ts v i)) || has_directly (item_lacks_of ids v) l
 
 -- whether a fact of an id, of whom only these ids are held, is idle: the id concerns no others, or so it is for each variable in its own level
 unfoldable pub is_idle : Query → List Id → Id → Bool
-is_idle q ids i = not (concerns_others q i) || are_all_bound (is_idle_for ids i q.pieces) q
+is_idle q ids i = not (concerns_others q i) || are_all_bound (is_idle_for ids i (terms q)) q

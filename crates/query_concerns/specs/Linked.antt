@@ -5,17 +5,18 @@ use Rattle.std.specs.Option.{option_map_or}
 use Rattle.ecs_id.specs.Id.{Id, pair}
 use Rattle.ecs_model.specs.rows.Level.{Level}
 use Rattle.ecs_model.specs.rows.View.{View}
+use Rattle.query_model.specs.Observers.{is_constant}
 use Rattle.query_model.specs.declared.query.Ref.{Ref}
 use Rattle.query_model.specs.declared.query.Ref.TheVariants.{Is, Var, Any, One}
 use Rattle.query_model.specs.declared.query.Term.{Term}
 use Rattle.query_model.specs.Query.{Item, must, may, either, equal, differ, Piece, item, opening, closing, Query}
+use Rattle.query_check.specs.Terms.{terms}
 use Rattle.query_concerns.specs.Anchored.{is_variable, may_be_variable}
-use Rattle.query_concerns.specs.Bonds.{are_all_bound, has_directly}
+use Rattle.query_concerns.specs.Bonds.{are_all_bound, each_must, has_directly}
 use Rattle.query_concerns.specs.Concerns.{concerns}
 use Rattle.query_concerns.specs.Idle.{is_idle}
 use Rattle.query_concerns.specs.Others.{term_concerns_others}
-use Rattle.query_concerns.specs.OwnIds.{is_no_variable}
-use Rattle.query_concerns.specs.Tied.{piece_asks_near}
+use Rattle.query_concerns.specs.Tied.{asks_near}
 
 -- ---- links of variables
 
@@ -35,11 +36,7 @@ term_links v t = is_none t.up && not t.closed && (is_variable v t.source && may_
 
 -- whether an item holds only where it does
 abbrev pub item_links : ℕ → Item → Bool
-item_links v (must t) = term_links v t
-item_links v (may t) = false
-item_links v (either ts) = list_all (term_links v) ts
-item_links v (equal u r) = false
-item_links v (differ u r) = false
+item_links v x = each_must (term_links v) x
 
 -- whether an item directly in a level shows so, or the variable is `$this`
 abbrev pub is_linked_in : ℕ → Level → Bool
@@ -47,12 +44,12 @@ is_linked_in v l = v == 0 || has_directly (item_links v) l
 
 -- whether all terms ask `$this` and its ancestors, or a variable's entity itself, and each variable is linked in its own level
 unfoldable pub is_linked : Query → Bool
-is_linked q = list_all piece_asks_near q.pieces && are_all_bound is_linked_in q
+is_linked q = list_all asks_near (terms q) && are_all_bound is_linked_in q
 
 -- ---- ids that link
 
 abbrev pub is_some_variable : Option Ref → Bool
-is_some_variable r = option_map_or (λ r. not (is_no_variable r)) r false
+is_some_variable r = option_map_or (λ r. not (is_constant r)) r false
 
 -- whether an id may be a pair between the entities of two variables, by a term that asks somebody else than `$this`
 abbrev pub term_links_by : Id → Term → Bool

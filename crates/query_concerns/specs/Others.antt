@@ -5,7 +5,8 @@ use Rattle.ecs_id.specs.Id.{Id, plain, pair}
 use Rattle.ecs_model.specs.BuiltIns.{transitive, reflexive}
 use Rattle.query_model.specs.declared.query.Term.{Term}
 use Rattle.query_model.specs.Observers.{is_first}
-use Rattle.query_model.specs.Query.{Item, must, may, either, equal, differ, Piece, item, opening, closing, Query}
+use Rattle.query_model.specs.Query.{Query}
+use Rattle.query_check.specs.Terms.{terms}
 use Rattle.query_concerns.specs.Concerns.{term_concerns}
 
 -- whether a term asks `$this`, itself or its ancestors, for ids that are stored
@@ -16,18 +17,6 @@ asks_this t = is_first t.source && not t.closed
 abbrev pub term_concerns_others : Id → Term → Bool
 term_concerns_others i t = not (asks_this t) && term_concerns i t
 
-abbrev pub item_concerns_others : Id → Item → Bool
-item_concerns_others i (must t) = term_concerns_others i t
-item_concerns_others i (may t) = term_concerns_others i t
-item_concerns_others i (either ts) = list_any (term_concerns_others i) ts
-item_concerns_others i (equal v r) = false
-item_concerns_others i (differ v r) = false
-
-abbrev pub piece_concerns_others : Id → Piece → Bool
-piece_concerns_others i (item x) = item_concerns_others i x
-piece_concerns_others i (opening from_term own) = false
-piece_concerns_others i closing = false
-
 -- the tags that say how far a relationship reaches
 abbrev pub says_how_far : Id → Bool
 says_how_far (plain c) = c == transitive || c == reflexive
@@ -35,24 +24,12 @@ says_how_far (pair r t) = false
 
 -- whether an id concerns a query for others than its holder and those whose ancestor it is, terms inside groups too
 unfoldable pub concerns_others : Query → Id → Bool
-concerns_others q i = says_how_far i || list_any (piece_concerns_others i) q.pieces
+concerns_others q i = says_how_far i || list_any (term_concerns_others i) (terms q)
 
 -- whether an id concerns a term that asks the ancestors of `$this`
 abbrev pub term_concerns_below : Id → Term → Bool
 term_concerns_below i t = asks_this t && is_some t.up && term_concerns i t
 
-abbrev pub item_concerns_below : Id → Item → Bool
-item_concerns_below i (must t) = term_concerns_below i t
-item_concerns_below i (may t) = term_concerns_below i t
-item_concerns_below i (either ts) = list_any (term_concerns_below i) ts
-item_concerns_below i (equal v r) = false
-item_concerns_below i (differ v r) = false
-
-abbrev pub piece_concerns_below : Id → Piece → Bool
-piece_concerns_below i (item x) = item_concerns_below i x
-piece_concerns_below i (opening from_term own) = false
-piece_concerns_below i closing = false
-
 -- whether an id concerns a query for those whose ancestor its holder is, terms inside groups too
 unfoldable pub concerns_below : Query → Id → Bool
-concerns_below q i = list_any (piece_concerns_below i) q.pieces
+concerns_below q i = list_any (term_concerns_below i) (terms q)

@@ -1,12 +1,10 @@
 -- What an entity's ids alone tell of whether it is `$this` of a row.
 use Rattle.std.specs.Prelude.{◌==◌, Bool, true, false, not, ◌&&◌, ◌||◌, List, [], ◌∷◌, length, if◌then◌else◌}
 use Rattle.std.specs.List.{list_any}
-use Rattle.std.specs.Option.{option_map_or}
 use Rattle.ecs_id.specs.Id.{Id, plain}
 use Rattle.ecs_model.specs.Links.{is_held}
 use Rattle.ecs_model.specs.traits.Rules.{prefab, disabled}
-use Rattle.query_model.specs.declared.query.Ref.{Ref}
-use Rattle.query_model.specs.declared.query.Ref.TheVariants.{Var}
+use Rattle.query_model.specs.Observers.{is_constant, is_constant_target}
 use Rattle.query_model.specs.declared.query.Term.{Term}
 use Rattle.query_model.specs.Local.{asks_first}
 use Rattle.query_model.specs.Query.{Item, must, may, either, equal, differ, Piece, item, opening, closing, Query}
@@ -32,13 +30,9 @@ lacks q ids = lacks_from ids q.pieces
 
 -- ---- surely
 
-abbrev pub is_no_variable : Ref → Bool
-is_no_variable (Var v) = false
-is_no_variable r = true
-
 -- whether one of these ids is what a term without variables asks of `$this` itself
 abbrev pub term_is_met : List Id → Term → Bool
-term_is_met ids t = asks_first t && is_no_variable t.first && option_map_or is_no_variable t.target true && list_any (may_match t.first t.target) ids
+term_is_met ids t = asks_first t && is_constant t.first && is_constant_target t.target && list_any (may_match t.first t.target) ids
 
 abbrev pub item_is_met : List Id → Item → Bool
 item_is_met ids (must t) = term_is_met ids t

@@ -3,10 +3,10 @@ use Rattle.std.specs.Prelude.{◌||◌, List}
 use Rattle.std.specs.List.{list_any}
 use Rattle.ecs_id.specs.Id.{Id}
 use Rattle.query_model.specs.declared.query.Term.{Term}
-use Rattle.query_model.specs.Query.{Item, Piece, Query}
+use Rattle.query_model.specs.Query.{Query}
 use Rattle.query_concerns.specs.declared.whom.Concern.{Concern}
-use Rattle.query_concerns.specs.Concerns.{concerns, item_concerns, piece_concerns, term_concerns}
-use Rattle.query_concerns.specs.Others.{concerns_below, concerns_others, item_concerns_below, item_concerns_others, piece_concerns_below, piece_concerns_others, term_concerns_below, term_concerns_others}
+use Rattle.query_concerns.specs.Concerns.{concerns, term_concerns}
+use Rattle.query_concerns.specs.Others.{concerns_below, concerns_others, term_concerns_below, term_concerns_others}
 
 abbrev pub joined : Concern → Concern → Concern
 joined a b = record { anyone = a.anyone || b.anyone; others = a.others || b.others; below = a.below || b.below }
@@ -16,15 +16,6 @@ term_concern i t = record { anyone = term_concerns i t; others = term_concerns_o
 
 abbrev pub terms_concern : Id → List Term → Concern
 terms_concern i ts = record { anyone = list_any (term_concerns i) ts; others = list_any (term_concerns_others i) ts; below = list_any (term_concerns_below i) ts }
-
-abbrev pub item_concern : Id → Item → Concern
-item_concern i x = record { anyone = item_concerns i x; others = item_concerns_others i x; below = item_concerns_below i x }
-
-abbrev pub piece_concern : Id → Piece → Concern
-piece_concern i p = record { anyone = piece_concerns i p; others = piece_concerns_others i p; below = piece_concerns_below i p }
-
-abbrev pub pieces_concern : Id → List Piece → Concern
-pieces_concern i ps = record { anyone = list_any (piece_concerns i) ps; others = list_any (piece_concerns_others i) ps; below = list_any (piece_concerns_below i) ps }
 
 -- whether it does at all, for others, and for those below its holder
 abbrev pub concern_of : Query → Id → Concern

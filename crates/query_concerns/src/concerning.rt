@@ -1,13 +1,12 @@
 //! Which ids concern a query.
 
-ghost use Rattle.std.specs.Prelude.{◌≡◌, map};
+ghost use Rattle.std.specs.Prelude.{◌≡◌};
 ghost use Rattle.std.specs.List.{list_any};
-ghost use Rattle.query_check.specs.Seen.{seen_item, seen_piece};
-ghost use Rattle.query_concerns.specs.Concerns.{concerns, is_asked_by_all, is_pair_of, item_concerns, leads_up, may_be, may_match, piece_concerns, term_concerns};
+ghost use Rattle.query_concerns.specs.Concerns.{concerns, is_asked_by_all, is_pair_of, leads_up, may_be, may_match, term_concerns};
 
 use ecs_id::Id;
 use ecs_model::built_ins::{DISABLED, PREFAB, REFLEXIVE, TRANSITIVE};
-use query_check::{Item, Piece, Query};
+use query_check::Query;
 use query_model::query::{Ref, Term};
 use std::alloc::Allocator;
 
@@ -20,11 +19,12 @@ use std::alloc::Allocator;
 pub fn concerns<A: Allocator>(query: &Query<A>, id: Id) -> bool
     ensures { result ≡ concerns query.now id }
 {
-    is_asked_by_all(id) || pieces_concern(query.pieces(), id)
+    is_asked_by_all(id) || any_concerns(query.terms(), id)
 }
 
 /// Whether an id is a tag that says how far a relationship reaches, or who is passed over.
-pub(crate) fn is_asked_by_all(id: Id) -> bool
+#[inline(always)]
+pub fn is_asked_by_all(id: Id) -> bool
     ensures { result ≡ is_asked_by_all id }
 {
     if id.second().is_some() {
@@ -32,36 +32,6 @@ pub(crate) fn is_asked_by_all(id: Id) -> bool
     }
     let tag = id.first();
     tag == TRANSITIVE || tag == REFLEXIVE || tag == PREFAB || tag == DISABLED
-}
-
-fn pieces_concern<A: Allocator>(pieces: &[Piece<A>], id: Id) -> bool
-    ensures { result ≡ list_any (piece_concerns id) (map seen_piece pieces.now) }
-{
-    for piece in pieces {
-        if piece_concerns(piece, id) {
-            return true;
-        }
-    }
-    false
-}
-
-fn piece_concerns<A: Allocator>(piece: &Piece<A>, id: Id) -> bool
-    ensures { result ≡ piece_concerns id (seen_piece piece.now) }
-{
-    match piece {
-        Piece::Item(item) => item_concerns(item, id),
-        Piece::Opening(_, _) | Piece::Closing => false,
-    }
-}
-
-fn item_concerns<A: Allocator>(item: &Item<A>, id: Id) -> bool
-    ensures { result ≡ item_concerns id (seen_item item.now) }
-{
-    match item {
-        Item::And(term) | Item::Optional(term) => term_concerns(term, id),
-        Item::Or(terms) => any_concerns(terms.as_slice(), id),
-        Item::Equal(_, _) | Item::Differ(_, _) => false,
-    }
 }
 
 fn any_concerns(terms: &[Term], id: Id) -> bool

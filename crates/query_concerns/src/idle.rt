@@ -2,9 +2,9 @@
 
 ghost use Rattle.std.specs.Prelude.{◌≡◌, ◌++◌, map};
 ghost use Rattle.std.specs.List.{list_any};
-ghost use Rattle.query_check.specs.Seen.{seen_item, seen_piece};
+ghost use Rattle.query_check.specs.Seen.{seen_item};
 ghost use Rattle.query_concerns.specs.Concerns.{may_match};
-ghost use Rattle.query_concerns.specs.Idle.{asks_for, asks_itself, is_idle, item_asks_for, item_lacks_of, piece_asks_for, term_asks_for};
+ghost use Rattle.query_concerns.specs.Idle.{asks_for, asks_itself, is_idle, item_lacks_of, term_asks_for};
 
 use crate::anchoring::is_variable;
 use crate::bonds::{Bond, are_all_bound};
@@ -12,7 +12,7 @@ use crate::concerning::{may_match, term_concerns};
 use crate::own_ids::any_matches;
 use ecs_id::Id;
 use ecs_model::FactKey;
-use query_check::{Item, Piece, Query};
+use query_check::{Item, Query};
 use query_model::query::Term;
 use std::alloc::Allocator;
 
@@ -27,39 +27,9 @@ pub fn is_idle<A: Allocator>(query: &Query<A>, ids: &[Id], facts: &[FactKey], id
     are_all_bound(query, &Bond::Idle(ids, facts, id))
 }
 
-/// Whether one of these pieces asks the entity of a variable, and an id concerns it.
-pub(crate) fn asks_for<A: Allocator>(pieces: &[Piece<A>], variable: usize, id: Id) -> bool
-    ensures { result ≡ asks_for (map seen_piece pieces.now) variable id }
-{
-    for piece in pieces {
-        if piece_asks_for(piece, variable, id) {
-            return true;
-        }
-    }
-    false
-}
-
-fn piece_asks_for<A: Allocator>(piece: &Piece<A>, variable: usize, id: Id) -> bool
-    ensures { result ≡ piece_asks_for variable id (seen_piece piece.now) }
-{
-    match piece {
-        Piece::Item(item) => item_asks_for(item, variable, id),
-        Piece::Opening(_, _) | Piece::Closing => false,
-    }
-}
-
-fn item_asks_for<A: Allocator>(item: &Item<A>, variable: usize, id: Id) -> bool
-    ensures { result ≡ item_asks_for variable id (seen_item item.now) }
-{
-    match item {
-        Item::And(term) | Item::Optional(term) => term_asks_for(term, variable, id),
-        Item::Or(terms) => any_asks_for(terms.as_slice(), variable, id),
-        Item::Equal(_, _) | Item::Differ(_, _) => false,
-    }
-}
-
-fn any_asks_for(terms: &[Term], variable: usize, id: Id) -> bool
-    ensures { result ≡ list_any (term_asks_for variable id) terms.now }
+/// Whether one of these terms asks the entity of a variable, and an id concerns it.
+pub(crate) fn asks_for(terms: &[Term], variable: usize, id: Id) -> bool
+    ensures { result ≡ asks_for terms.now variable id }
 {
     terms.iter().any(|term| term_asks_for(term, variable, id))
 }

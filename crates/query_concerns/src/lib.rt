@@ -13,7 +13,7 @@ mod ties;
 mod whom;
 
 pub use anchoring::is_anchored;
-pub use concerning::concerns;
+pub use concerning::{concerns, is_asked_by_all};
 pub use idle::is_idle;
 pub use linking::{is_linked, links_others};
 pub use others::{concerns_below, concerns_others};

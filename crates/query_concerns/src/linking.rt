@@ -8,8 +8,7 @@ ghost use Rattle.query_concerns.specs.Linked.{is_before, is_linked, is_some_vari
 use crate::anchoring::{is_variable, may_be_variable};
 use crate::bonds::{Bond, are_all_bound};
 use crate::others::term_concerns_others;
-use crate::own_ids::is_no_variable;
-use crate::ties::pieces_ask_near;
+use crate::ties::all_ask_near;
 use ecs_id::Id;
 use query_check::{Item, Piece, Query};
 use query_model::query::{Ref, Term};
@@ -24,7 +23,7 @@ use std::alloc::Allocator;
 pub fn is_linked<A: Allocator>(query: &Query<A>) -> bool
     ensures { result ≡ is_linked query.now }
 {
-    pieces_ask_near(query.pieces()) && are_all_bound(query, &Bond::Link)
+    all_ask_near(query.terms()) && are_all_bound(query, &Bond::Link)
 }
 
 /// Whether an item holds only where the entity of a variable has a pair in common with that of one before it.
@@ -129,7 +128,7 @@ fn is_some_variable(reference: Option<Ref>) -> bool
     ensures { result ≡ is_some_variable reference }
 {
     match reference {
-        Some(reference) => !is_no_variable(reference),
+        Some(reference) => !reference.is_constant(),
         None => false,
     }
 }

@@ -1,16 +1,14 @@
 //! Which ids concern a query for others than the entity that holds them.
 
-ghost use Rattle.std.specs.Prelude.{◌≡◌, map};
+ghost use Rattle.std.specs.Prelude.{◌≡◌};
 ghost use Rattle.std.specs.List.{list_any};
-ghost use Rattle.query_check.specs.Seen.{seen_item, seen_piece};
-ghost use Rattle.query_model.specs.Observers.{is_first};
-ghost use Rattle.query_concerns.specs.Others.{asks_this, concerns_below, concerns_others, item_concerns_below, item_concerns_others, piece_concerns_below, piece_concerns_others, says_how_far, term_concerns_below, term_concerns_others};
+ghost use Rattle.query_concerns.specs.Others.{asks_this, concerns_below, concerns_others, says_how_far, term_concerns_below, term_concerns_others};
 
 use crate::concerning::term_concerns;
 use ecs_id::Id;
 use ecs_model::built_ins::{REFLEXIVE, TRANSITIVE};
-use query_check::{Item, Piece, Query};
-use query_model::query::{Ref, Term};
+use query_check::Query;
+use query_model::query::Term;
 use std::alloc::Allocator;
 
 /// Whether an id concerns a query for others than the entity that holds it and those whose ancestor that is: if a term asks for it that asks
@@ -22,7 +20,7 @@ use std::alloc::Allocator;
 pub fn concerns_others<A: Allocator>(query: &Query<A>, id: Id) -> bool
     ensures { result ≡ concerns_others query.now id }
 {
-    says_how_far(id) || pieces_concern_others(query.pieces(), id)
+    says_how_far(id) || any_concerns_others(query.terms(), id)
 }
 
 /// Whether an id is a tag that says how far a relationship reaches.
@@ -34,36 +32,6 @@ pub(crate) fn says_how_far(id: Id) -> bool
     }
     let tag = id.first();
     tag == TRANSITIVE || tag == REFLEXIVE
-}
-
-fn pieces_concern_others<A: Allocator>(pieces: &[Piece<A>], id: Id) -> bool
-    ensures { result ≡ list_any (piece_concerns_others id) (map seen_piece pieces.now) }
-{
-    for piece in pieces {
-        if piece_concerns_others(piece, id) {
-            return true;
-        }
-    }
-    false
-}
-
-fn piece_concerns_others<A: Allocator>(piece: &Piece<A>, id: Id) -> bool
-    ensures { result ≡ piece_concerns_others id (seen_piece piece.now) }
-{
-    match piece {
-        Piece::Item(item) => item_concerns_others(item, id),
-        Piece::Opening(_, _) | Piece::Closing => false,
-    }
-}
-
-fn item_concerns_others<A: Allocator>(item: &Item<A>, id: Id) -> bool
-    ensures { result ≡ item_concerns_others id (seen_item item.now) }
-{
-    match item {
-        Item::And(term) | Item::Optional(term) => term_concerns_others(term, id),
-        Item::Or(terms) => any_concerns_others(terms.as_slice(), id),
-        Item::Equal(_, _) | Item::Differ(_, _) => false,
-    }
 }
 
 fn any_concerns_others(terms: &[Term], id: Id) -> bool
@@ -86,37 +54,7 @@ pub(crate) fn term_concerns_others(term: &Term, id: Id) -> bool
 pub fn concerns_below<A: Allocator>(query: &Query<A>, id: Id) -> bool
     ensures { result ≡ concerns_below query.now id }
 {
-    pieces_concern_below(query.pieces(), id)
-}
-
-fn pieces_concern_below<A: Allocator>(pieces: &[Piece<A>], id: Id) -> bool
-    ensures { result ≡ list_any (piece_concerns_below id) (map seen_piece pieces.now) }
-{
-    for piece in pieces {
-        if piece_concerns_below(piece, id) {
-            return true;
-        }
-    }
-    false
-}
-
-fn piece_concerns_below<A: Allocator>(piece: &Piece<A>, id: Id) -> bool
-    ensures { result ≡ piece_concerns_below id (seen_piece piece.now) }
-{
-    match piece {
-        Piece::Item(item) => item_concerns_below(item, id),
-        Piece::Opening(_, _) | Piece::Closing => false,
-    }
-}
-
-fn item_concerns_below<A: Allocator>(item: &Item<A>, id: Id) -> bool
-    ensures { result ≡ item_concerns_below id (seen_item item.now) }
-{
-    match item {
-        Item::And(term) | Item::Optional(term) => term_concerns_below(term, id),
-        Item::Or(terms) => any_concerns_below(terms.as_slice(), id),
-        Item::Equal(_, _) | Item::Differ(_, _) => false,
-    }
+    any_concerns_below(query.terms(), id)
 }
 
 fn any_concerns_below(terms: &[Term], id: Id) -> bool
@@ -136,14 +74,5 @@ fn term_concerns_below(term: &Term, id: Id) -> bool
 pub(crate) fn asks_this(term: &Term) -> bool
     ensures { result ≡ asks_this term.now }
 {
-    is_first(term.source) && !term.closed
-}
-
-pub(crate) fn is_first(reference: Ref) -> bool
-    ensures { result ≡ is_first reference }
-{
-    match reference {
-        Ref::Var(number) => number == 0,
-        Ref::Is(_) | Ref::Any | Ref::One => false,
-    }
+    term.source.is_first() && !term.closed
 }

@@ -1,17 +1,14 @@
 //! What an entity's ids alone tell of whether it is `$this` of a row of a query.
 
-ghost use Rattle.std.specs.Prelude.{◌≡◌, map, true, false};
+ghost use Rattle.std.specs.Prelude.{◌≡◌, map, false};
 ghost use Rattle.std.specs.List.{list_any};
-ghost use Rattle.std.specs.Option.{option_map_or};
 ghost use Rattle.ecs_id.specs.Id.{IsIndex, plain};
 ghost use Rattle.ecs_model.specs.Links.{is_held};
 ghost use Rattle.query_check.specs.Seen.{seen_item, seen_piece};
-ghost use Rattle.query_model.specs.Local.{asks_first};
 ghost use Rattle.query_concerns.specs.Concerns.{may_match};
-ghost use Rattle.query_concerns.specs.OwnIds.{is_no_variable, item_is_met, item_lacks, lacks, lacks_from, meets, meets_from, term_is_met};
+ghost use Rattle.query_concerns.specs.OwnIds.{item_is_met, item_lacks, lacks, lacks_from, meets, meets_from, term_is_met};
 
 use crate::concerning::may_match;
-use crate::others::is_first;
 use ecs_id::Id;
 use ecs_model::built_ins::{DISABLED, PREFAB};
 use query_check::{Item, Piece, Query};
@@ -48,7 +45,7 @@ fn item_lacks<A: Allocator>(item: &Item<A>, ids: &[Id]) -> bool
     ensures { result ≡ item_lacks ids.now (seen_item item.now) }
 {
     match item {
-        Item::And(term) => asks_first(term) && !any_matches(term, ids),
+        Item::And(term) => term.asks_first() && !any_matches(term, ids),
         Item::Optional(_) | Item::Or(_) | Item::Equal(_, _) | Item::Differ(_, _) => false,
     }
 }
@@ -137,33 +134,8 @@ fn any_is_met(terms: &[Term], ids: &[Id]) -> bool
 fn term_is_met(term: &Term, ids: &[Id]) -> bool
     ensures { result ≡ term_is_met ids.now term.now }
 {
-    asks_first(term)
-        && is_no_variable(term.first)
-        && may_be_no_variable(term.target)
+    term.asks_first()
+        && term.first.is_constant()
+        && term.target.map_or(true, Ref::is_constant)
         && any_matches(term, ids)
-}
-
-fn may_be_no_variable(reference: Option<Ref>) -> bool
-    ensures { result ≡ option_map_or is_no_variable reference true }
-{
-    match reference {
-        Some(reference) => is_no_variable(reference),
-        None => true,
-    }
-}
-
-pub(crate) fn is_no_variable(reference: Ref) -> bool
-    ensures { result ≡ is_no_variable reference }
-{
-    match reference {
-        Ref::Var(_) => false,
-        Ref::Is(_) | Ref::Any | Ref::One => true,
-    }
-}
-
-/// Whether a term asks `$this` itself, for ids that are stored.
-pub(crate) fn asks_first(term: &Term) -> bool
-    ensures { result ≡ asks_first term.now }
-{
-    is_first(term.source) && term.on_source && term.up.is_none() && !term.closed
 }

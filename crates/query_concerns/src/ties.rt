@@ -1,15 +1,14 @@
 //! Whether a query asks nobody but `$this`, its ancestors, and those with whom `$this` itself holds a pair.
 
-ghost use Rattle.std.specs.Prelude.{◌≡◌, map};
+ghost use Rattle.std.specs.Prelude.{◌≡◌};
 ghost use Rattle.std.specs.List.{list_all, list_any};
-ghost use Rattle.query_check.specs.Seen.{seen_item, seen_piece};
-ghost use Rattle.query_concerns.specs.Tied.{asks_near, is_tied, item_asks, item_asks_near, item_ties, needs_no_tie, piece_asks, piece_asks_near, term_asks, term_ties};
+ghost use Rattle.query_check.specs.Seen.{seen_item};
+ghost use Rattle.query_concerns.specs.Tied.{asks_near, is_tied, item_ties, needs_no_tie, term_asks, term_ties};
 
 use crate::anchoring::{is_variable, may_be_variable};
 use crate::bonds::{Bond, are_all_bound};
 use crate::others::asks_this;
-use crate::own_ids::{asks_first, is_no_variable};
-use query_check::{Item, Piece, Query};
+use query_check::{Item, Query};
 use query_model::query::Term;
 use std::alloc::Allocator;
 
@@ -22,40 +21,10 @@ use std::alloc::Allocator;
 pub fn is_tied<A: Allocator>(query: &Query<A>) -> bool
     ensures { result ≡ is_tied query.now }
 {
-    pieces_ask_near(query.pieces()) && are_all_bound(query, &Bond::Tie)
+    all_ask_near(query.terms()) && are_all_bound(query, &Bond::Tie)
 }
 
-pub(crate) fn pieces_ask_near<A: Allocator>(pieces: &[Piece<A>]) -> bool
-    ensures { result ≡ list_all piece_asks_near (map seen_piece pieces.now) }
-{
-    for piece in pieces {
-        if !piece_asks_near(piece) {
-            return false;
-        }
-    }
-    true
-}
-
-fn piece_asks_near<A: Allocator>(piece: &Piece<A>) -> bool
-    ensures { result ≡ piece_asks_near (seen_piece piece.now) }
-{
-    match piece {
-        Piece::Item(item) => item_asks_near(item),
-        Piece::Opening(_, _) | Piece::Closing => true,
-    }
-}
-
-fn item_asks_near<A: Allocator>(item: &Item<A>) -> bool
-    ensures { result ≡ item_asks_near (seen_item item.now) }
-{
-    match item {
-        Item::And(term) | Item::Optional(term) => asks_near(term),
-        Item::Or(terms) => all_ask_near(terms.as_slice()),
-        Item::Equal(_, _) | Item::Differ(_, _) => true,
-    }
-}
-
-fn all_ask_near(terms: &[Term]) -> bool
+pub(crate) fn all_ask_near(terms: &[Term]) -> bool
     ensures { result ≡ list_all asks_near terms.now }
 {
     terms.iter().all(|term| asks_near(term))
@@ -65,48 +34,17 @@ fn all_ask_near(terms: &[Term]) -> bool
 fn asks_near(term: &Term) -> bool
     ensures { result ≡ asks_near term.now }
 {
-    asks_this(term) || (!is_no_variable(term.source) && term.up.is_none() && !term.closed)
+    asks_this(term) || (!term.source.is_constant() && term.up.is_none() && !term.closed)
 }
 
-/// Whether a variable is `$this`, or one whose entity none of these pieces asks.
-pub(crate) fn needs_no_tie<A: Allocator>(pieces: &[Piece<A>], variable: usize) -> bool
-    ensures { result ≡ needs_no_tie (map seen_piece pieces.now) variable }
+/// Whether a variable is `$this`, or one whose entity none of these terms asks.
+pub(crate) fn needs_no_tie(terms: &[Term], variable: usize) -> bool
+    ensures { result ≡ needs_no_tie terms.now variable }
 {
-    variable == 0 || !any_asks(pieces, variable)
+    variable == 0 || !any_asks(terms, variable)
 }
 
-fn any_asks<A: Allocator>(pieces: &[Piece<A>], variable: usize) -> bool
-    ensures { result ≡ list_any (piece_asks variable) (map seen_piece pieces.now) }
-{
-    for piece in pieces {
-        if piece_asks(piece, variable) {
-            return true;
-        }
-    }
-    false
-}
-
-fn piece_asks<A: Allocator>(piece: &Piece<A>, variable: usize) -> bool
-    ensures { result ≡ piece_asks variable (seen_piece piece.now) }
-{
-    match piece {
-        Piece::Item(item) => item_asks(item, variable),
-        Piece::Opening(_, _) | Piece::Closing => false,
-    }
-}
-
-/// Whether a term of an item asks the entity of a variable.
-fn item_asks<A: Allocator>(item: &Item<A>, variable: usize) -> bool
-    ensures { result ≡ item_asks variable (seen_item item.now) }
-{
-    match item {
-        Item::And(term) | Item::Optional(term) => is_variable(term.source, variable),
-        Item::Or(terms) => some_ask(terms.as_slice(), variable),
-        Item::Equal(_, _) | Item::Differ(_, _) => false,
-    }
-}
-
-fn some_ask(terms: &[Term], variable: usize) -> bool
+fn any_asks(terms: &[Term], variable: usize) -> bool
     ensures { result ≡ list_any (term_asks variable) terms.now }
 {
     terms.iter().any(|term| is_variable(term.source, variable))
@@ -133,5 +71,5 @@ fn all_tie(terms: &[Term], variable: usize) -> bool
 fn term_ties(term: &Term, variable: usize) -> bool
     ensures { result ≡ term_ties variable term.now }
 {
-    asks_first(term) && may_be_variable(term.target, variable)
+    term.asks_first() && may_be_variable(term.target, variable)
 }

@@ -1,13 +1,12 @@
 //! For whom an id concerns a query.
 
-ghost use Rattle.std.specs.Prelude.{◌≡◌, map};
-ghost use Rattle.query_check.specs.Seen.{seen_item, seen_piece};
-ghost use Rattle.query_concerns.specs.Whom.{concern_of, item_concern, joined, piece_concern, pieces_concern, term_concern, terms_concern};
+ghost use Rattle.std.specs.Prelude.{◌≡◌};
+ghost use Rattle.query_concerns.specs.Whom.{concern_of, joined, term_concern, terms_concern};
 
 use crate::concerning::{is_asked_by_all, term_concerns};
 use crate::others::{asks_this, says_how_far};
 use ecs_id::Id;
-use query_check::{Item, Piece, Query};
+use query_check::Query;
 use query_model::query::Term;
 use std::alloc::Allocator;
 
@@ -40,7 +39,7 @@ pub fn concern_of<A: Allocator>(query: &Query<A>, id: Id) -> Concern
         others: says_how_far(id),
         below: false,
     };
-    joined(of_tags, of_pieces(query.pieces(), id))
+    joined(of_tags, of_terms(query.terms(), id))
 }
 
 /// For whom either does.
@@ -52,37 +51,6 @@ fn joined(one: Concern, other: Concern) -> Concern
         anyone: one.anyone | other.anyone,
         others: one.others | other.others,
         below: one.below | other.below,
-    }
-}
-
-fn of_pieces<A: Allocator>(pieces: &[Piece<A>], id: Id) -> Concern
-    ensures { result ≡ pieces_concern id (map seen_piece pieces.now) }
-{
-    let mut found = NOBODY;
-    for piece in pieces {
-        found = joined(found, of_piece(piece, id));
-    }
-    found
-}
-
-#[inline(always)]
-fn of_piece<A: Allocator>(piece: &Piece<A>, id: Id) -> Concern
-    ensures { result ≡ piece_concern id (seen_piece piece.now) }
-{
-    match piece {
-        Piece::Item(item) => of_item(item, id),
-        Piece::Opening(_, _) | Piece::Closing => NOBODY,
-    }
-}
-
-#[inline(always)]
-fn of_item<A: Allocator>(item: &Item<A>, id: Id) -> Concern
-    ensures { result ≡ item_concern id (seen_item item.now) }
-{
-    match item {
-        Item::And(term) | Item::Optional(term) => of_term(term, id),
-        Item::Or(terms) => of_terms(terms.as_slice(), id),
-        Item::Equal(_, _) | Item::Differ(_, _) => NOBODY,
     }
 }
 

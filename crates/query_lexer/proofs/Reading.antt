@@ -8,17 +8,14 @@ use Rattle.std.proofs.lemmas.Bool.Decides.{nat_tests}
 use Rattle.std.proofs.lemmas.Str.{IsCharBoundary-after_ascii}
 use Rattle.std.specs.Prelude.{slice_get}
 use Rattle.std.proofs.lemmas.List.{take_rest}
-use Rattle.query_model.specs.Text.{is_letter, is_word_byte, is_name_byte, is_query_blank}
+use Rattle.query_model.specs.Text.{is_word_byte, is_name_byte, is_query_blank}
 use Rattle.query_model.specs.Tokens.{Sign, Variable, token, spelled, sign_at, variable_at}
+pub use Rattle.query_model.proofs.Spelling.{letter_is_name_byte}
 use Rattle.query_lexer.specs.Lexed.{token_of, placed, next_of}
 
 -- a byte of a name is ASCII
 pub name_byte_is_ascii : (b : ℕ) → is_name_byte b ≡ true → b < 128
 name_byte_is_ascii b e = grind (arith, nat_tests)
-
--- a letter may stand in a name
-pub letter_is_name_byte : (b : ℕ) → is_letter b ≡ true → is_name_byte b ≡ true
-letter_is_name_byte b e = grind (arith, nat_tests)
 
 -- the bytes of a name are ASCII
 pub name_is_ascii : (xs : List ℕ) → All (λ byte. byte < 128) (take (prefix_len is_name_byte xs) xs)

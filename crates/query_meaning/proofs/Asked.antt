@@ -1,12 +1,10 @@
 -- A query that a text asks is the checked query of a syntax without faults.
-use Rattle.std.specs.Prelude.{◌≡◌, ℕ, List, [], ◌∷◌, ◌++◌, length, Option, Some, None, Result, Ok, Err, if◌then◌else◌}
-use Rattle.std.specs.Option.{option_map_or}
+use Rattle.std.specs.Prelude.{◌≡◌, ℕ, List, [], length, None, Result, Ok, Err}
 use Rattle.std.proofs.Common.{refl}
 use Rattle.query_model.specs.declared.Span.{Span}
-use Rattle.query_model.specs.declared.faults.Fault.{Fault}
 use Rattle.query_model.specs.declared.faults.FaultKind.TheVariants.{Lex}
 use Rattle.query_model.specs.declared.faults.FaultKind.TheVariants.{Syntax as SyntaxFault}
-use Rattle.query_model.specs.Faults.{as_fault, is_before, least_from}
+use Rattle.query_model.specs.Faults.{as_fault, least_from}
 use Rattle.query_model.specs.Tokens.{Token, IsSpelledBy, tokens_of}
 use Rattle.query_model.specs.Machine.{parts_of}
 use Rattle.query_model.specs.Laws.{EndsInEnd}
@@ -14,33 +12,14 @@ use Rattle.query_model.specs.Grammar.{IsQuery}
 use Rattle.query_model.specs.Syntax.{Part, Syntax}
 use Rattle.query_model.specs.Check.{Known, faults}
 use Rattle.query_model.specs.Query.{Query, check_of, checked, checked_query, parts_read, query_of}
+use Rattle.query_model.proofs.SoundTerms.{answered, no_faults}
 use Rattle.query_model.proofs.Spelling.{tokens_are_spelled}
 use Rattle.query_model.proofs.SyntaxFaults.{parts_are_grammatical}
 
-pub left_nil : {A : Type 0} (xs ys : List A) → xs ++ ys ≡ [] → xs ≡ []
-left_nil [] ys e = refl
-left_nil (x ∷ xs) ys e = absurd (cc)
-
-pub right_nil : {A : Type 0} (xs ys : List A) → xs ++ ys ≡ [] → ys ≡ []
-right_nil [] ys e = e
-right_nil (x ∷ xs) ys e = absurd (cc)
-
-some_least : (f : Fault) (fs : List Fault) → least_from (Some f) fs ≡ None → ⊥
-some_least f [] e = cc
-some_least f (g ∷ gs) e = some_least (if is_before g f then g else f) gs e
-
-no_faults : (fs : List Fault) → least_from None fs ≡ None → fs ≡ []
-no_faults [] e = refl
-no_faults (f ∷ fs) e = absurd (some_least f fs e)
-
 module _ (k : Known) where
-  answered : (s : Syntax) (q : Query) (o : Option Fault) → option_map_or Err o (Ok (checked_query k s)) ≡ Ok q → (o ≡ None) × (checked_query k s ≡ q)
-  answered s q None e = (refl, cc)
-  answered s q (Some f) e = absurd (cc)
-
   -- a checked query's syntax has no faults
   pub checked_faultless : (s : Syntax) (q : Query) → check_of k s ≡ Ok q → (faults k s.parts ≡ []) × (checked_query k s ≡ q)
-  checked_faultless s q e = let a = answered s q (least_from None (faults k s.parts)) e in (no_faults (faults k s.parts) a.0, a.1)
+  checked_faultless s q e = let a = answered k s q (least_from None (faults k s.parts)) e in (no_faults (faults k s.parts) a.0, a.1)
 
   -- the query of a syntax of tokens
   abbrev pub IsAsked : Query → Type 0

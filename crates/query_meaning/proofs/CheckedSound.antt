@@ -21,7 +21,8 @@ use Rattle.query_model.proofs.Scoping.{queries_are_scoped}
 use Rattle.query_model.proofs.FreshVariables.{own_variables_are_new}
 use Rattle.query_model.proofs.SoundTerms.{terms_are_sound}
 use Rattle.query_meaning.specs.Laws.{CheckedQueriesAreSound}
-use Rattle.query_meaning.proofs.Asked.{asked, checked_faultless, left_nil, right_nil}
+use Rattle.query_model.proofs.SoundTerms.{left_nil, right_nil}
+use Rattle.query_meaning.proofs.Asked.{asked, checked_faultless}
 use Rattle.query_meaning.proofs.DistinctVariables.{distinct_among, one_variable, this_is_first, this_or_occurs, visible_number}
 use Rattle.query_meaning.proofs.OwnOccur.{mentions, own_of_pieces, pieces_from, Remain, whole_occurs}
 use Rattle.query_meaning.proofs.SoundLevels.{occurs_among, occurs_in_front, own_variables_occur, sound-from_pieces}
@@ -81,7 +82,7 @@ module _ (all : List Sighting) where
         | inr i ↦ right_true (is_among (map (variable_of all) here) u) _ (part_mentions qs u i)
       ]
 
-not_faulty : (b : Bool) (f : Fault) → when (not b) f ≡ [] → b ≡ true
+pub not_faulty : (b : Bool) (f : Fault) → when (not b) f ≡ [] → b ≡ true
 not_faulty true f e = refl
 not_faulty false f e = absurd (cc)
 

@@ -1,34 +1,22 @@
 -- The variables of a query stand once each among its variables, so a number belongs to one of them; and each of them occurs.
-use Rattle.std.specs.Prelude.{◌≡◌, ◌⊎◌, ℕ, ◌+◌, ◌<◌, ◌≤◌, ◌==◌, Bool, true, false, not, ◌&&◌, List, [], ◌∷◌, ◌++◌, filter, fold, length, bytes_eq, if◌then◌else◌}
+use Rattle.std.specs.Prelude.{◌≡◌, ◌⊎◌, ℕ, ◌+◌, ◌<◌, ◌≤◌, ◌==◌, Bool, true, false, not, ◌&&◌, List, [], ◌∷◌, ◌++◌, filter, fold, length, if◌then◌else◌}
 use Rattle.std.specs.List.{list_all}
 use Rattle.std.proofs.Common.{ap, sym, ◌∙◌, refl, subst, inl, inr, arith, eq-eqb}
-use Rattle.std.proofs.lemmas.Bool.{cases_eq, eqb-true}
+use Rattle.std.proofs.lemmas.Bool.{cases_eq, eqb-true, false_from_ne_true}
 use Rattle.std.proofs.lemmas.List.Folds.{list_any-append}
-use Rattle.std.proofs.lemmas.Slice.Eq.{bytes_eq-Decides}
 use Rattle.query_model.specs.Numbers.{Variable, add_new, is_whole, number_from, numbers_from, same_variable, variables_among}
 use Rattle.query_model.specs.Scope.{this}
 use Rattle.query_model.specs.Query.{visible_names}
-use Rattle.query_model.specs.Scopes.{has_number}
+use Rattle.query_model.specs.Scopes.{contains}
+use Rattle.query_model.proofs.FreshVariables.{one_more}
 use Rattle.query_model.proofs.NumberedVariables.{Parted, both, count_visible, first_of, is_among, left_true, right_true, second_of, split}
-
-pub one_variable : (v u : Variable) → same_variable v u ≡ true → v ≡ u
-one_variable v u e =
-    let name : v.0 ≡ u.0 = (bytes_eq-Decides v.0 u.0).0 (first_of (bytes_eq v.0 u.0) (v.1 == u.1) e) in
-    let level : v.1 ≡ u.1 = eqb-true v.1 u.1 (second_of (bytes_eq v.0 u.0) (v.1 == u.1) e) in
-    ap (λ n. (n, v.1)) name ∙ ap (λ l. (u.0, l)) level
-
-pub same_itself : (v : Variable) → same_variable v v ≡ true
-same_itself v = both (bytes_eq v.0 v.0) (v.1 == v.1) ((bytes_eq-Decides v.0 v.0).1 refl) (eq-eqb v.1 v.1 refl)
+pub use Rattle.query_model.proofs.NumberedVariables.{one_variable, same_itself}
 
 -- ---- distinct variables
 
 abbrev pub distinct : List Variable → Bool
 distinct [] = true
 distinct (v ∷ vs) = not (is_among vs v) && distinct vs
-
-refuted : (b : Bool) → (b ≡ true → ⊥) → b ≡ false
-refuted true h = absurd (h refl)
-refuted false h = refl
 
 not_both : {b : Bool} → b ≡ true → not b ≡ true → ⊥
 not_both {b = true} e f = cc
@@ -38,14 +26,14 @@ one_behind : (vs : List Variable) (x : Variable) → distinct vs ≡ true → is
 one_behind [] x d n = refl
 one_behind (v ∷ vs) x d n =
     both (not (is_among (vs ++ x ∷ []) v)) (distinct (vs ++ x ∷ []))
-    (ap not (refuted (is_among (vs ++ x ∷ []) v) (λ e. elim (split (is_among vs v) _ (sym (list_any-append (same_variable v) vs (x ∷ [])) ∙ e)) [
+    (ap not (false_from_ne_true (is_among (vs ++ x ∷ []) v) (λ e. elim (split (is_among vs v) _ (sym (list_any-append (same_variable v) vs (x ∷ [])) ∙ e)) [
       | inl i ↦ not_both i (first_of (not (is_among vs v)) (distinct vs) d)
       | inr i ↦
           let same : v ≡ x = elim (split (same_variable v x) false i) [ inl s ↦ one_variable v x s | inr f ↦ absurd (let y : false ≡ true = f in cc) ] in
           let here : is_among (v ∷ vs) x ≡ true = left_true (same_variable x v) (is_among vs x) (subst (λ (u : Variable). same_variable x u ≡ true) (sym same) (same_itself x)) in
           absurd (let y : false ≡ true = sym n ∙ here in cc)
     ])))
-    (one_behind vs x (second_of (not (is_among vs v)) (distinct vs) d) (refuted (is_among vs x) (λ e. let y : false ≡ true = sym n ∙ right_true (same_variable x v) (is_among vs x) e in cc)))
+    (one_behind vs x (second_of (not (is_among vs v)) (distinct vs) d) (false_from_ne_true (is_among vs x) (λ e. let y : false ≡ true = sym n ∙ right_true (same_variable x v) (is_among vs x) e in cc)))
 
 distinct_added : (xs base : List Variable) → distinct base ≡ true → distinct (fold add_new base xs) ≡ true
 distinct_added [] base d = d
@@ -68,15 +56,7 @@ distinct_among has xs = distinct_added (filter (is_whole false) xs) _ (distinct_
 abbrev pub Has : ℕ → ℕ → ℕ → List Variable → Type 0
 Has b level r us = (name : List ℕ) × (is_among us (name, level) ≡ true) × (number_from b (name, level) us ≡ r)
 
-one_more : (b r : ℕ) (rest : List ℕ) (here : Bool) → has_number r (if here then b ∷ rest else rest) ≡ true → ((here ≡ true) × (b ≡ r)) ⊎ (has_number r rest ≡ true)
-one_more b r rest true e =
-    elim (split (b == r) (has_number r rest) e) [
-      | inl s ↦ inl (refl, eqb-true b r s)
-      | inr s ↦ inr s
-    ]
-one_more b r rest false e = inr e
-
-pub own_number : (b level r : ℕ) (us : List Variable) → distinct us ≡ true → has_number r (numbers_from b level us) ≡ true → Has b level r us
+pub own_number : (b level r : ℕ) (us : List Variable) → distinct us ≡ true → contains (numbers_from b level us) r ≡ true → Has b level r us
 own_number b level r [] d e = absurd (let x : false ≡ true = e in cc)
 own_number b level r (w ∷ ws) d e =
     elim (one_more b r (numbers_from (b + 1) level ws) (w.1 == level) e) [
@@ -90,25 +70,25 @@ own_number b level r (w ∷ ws) d e =
           let h = own_number (b + 1) level r ws (second_of (not (is_among ws w)) (distinct ws) d) s in
           let v : Variable = (h.0, level) in
           let other : same_variable v w ≡ false =
-          refuted (same_variable v w) (λ t. not_both (subst (λ (u : Variable). is_among ws u ≡ true) (one_variable v w t) h.1) (first_of (not (is_among ws w)) (distinct ws) d)) in
+          false_from_ne_true (same_variable v w) (λ t. not_both (subst (λ (u : Variable). is_among ws u ≡ true) (one_variable v w t) h.1) (first_of (not (is_among ws w)) (distinct ws) d)) in
           (h.0, right_true (same_variable v w) (is_among ws v) h.1, ap (λ c. if c then b else number_from (b + 1) v ws) other ∙ h.2)
     ]
 
-whole_number : (b r : ℕ) (ws gs : List Variable) → list_all (is_whole true) ws ≡ true → b ≤ r → r < b + length ws → has_number r (numbers_from b 0 (ws ++ gs)) ≡ true
+whole_number : (b r : ℕ) (ws gs : List Variable) → list_all (is_whole true) ws ≡ true → b ≤ r → r < b + length ws → contains (numbers_from b 0 (ws ++ gs)) r ≡ true
 whole_number b r [] gs w low high = absurd (omega arith)
 whole_number b r (v ∷ ws) gs w low high =
     let rest = numbers_from (b + 1) 0 (ws ++ gs) in
-    ap (λ here. has_number r (if here then b ∷ rest else rest)) (first_of (is_whole true v) _ w)
+    ap (λ here. contains (if here then b ∷ rest else rest) r) (first_of (is_whole true v) _ w)
     ∙ elim (cases_eq b r) [
-      | inl e ↦ left_true (b == r) (has_number r rest) (eq-eqb b r e)
-      | inr d ↦ right_true (b == r) (has_number r rest) (whole_number (b + 1) r ws gs (second_of (is_whole true v) _ w) (omega arith) (omega arith))
+      | inl e ↦ left_true (b == r) (contains rest r) (eq-eqb b r e)
+      | inr d ↦ right_true (b == r) (contains rest r) (whole_number (b + 1) r ws gs (second_of (is_whole true v) _ w) (omega arith) (omega arith))
     ]
 
 -- each number of a visible variable is one's of the whole query
 pub visible_number : (r : ℕ) (vs : List Variable) → Parted vs → distinct vs ≡ true → r < length (visible_names vs) → Has 0 0 r vs
 visible_number r vs p d l =
     let count : length (visible_names vs) ≡ length p.wholes = ap (λ us. length (visible_names us)) p.is ∙ count_visible p.wholes p.inner p.all_whole p.all_inner in
-    own_number 0 0 r vs d (ap (λ us. has_number r (numbers_from 0 0 us)) p.is ∙ whole_number 0 r p.wholes p.inner p.all_whole (omega arith) (omega arith))
+    own_number 0 0 r vs d (ap (λ us. contains (numbers_from 0 0 us) r) p.is ∙ whole_number 0 r p.wholes p.inner p.all_whole (omega arith) (omega arith))
 
 -- ---- where `$this` occurs, it has the first number
 

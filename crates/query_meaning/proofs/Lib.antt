@@ -13,6 +13,8 @@ pub mod Cursor
 pub mod Worlds
 pub mod Rows
 pub mod RowIds
+pub mod Piecewise
+pub mod Choices
 pub mod Locality
 pub mod Flat
 pub mod SoundLevels

@@ -21,7 +21,8 @@ use Rattle.ecs_model.specs.Query.{known_of}
 use Rattle.ecs_model.specs.World.{WorldState, entity_at, is_alive, named}
 use Rattle.ecs_model.proofs.Members.{eq_itself, passing}
 use Rattle.query_meaning.specs.Standing.{AskedQueriesAreCurrent}
-use Rattle.query_meaning.proofs.Asked.{asked, checked_faultless, left_nil, right_nil}
+use Rattle.query_model.proofs.SoundTerms.{left_nil, right_nil}
+use Rattle.query_meaning.proofs.Asked.{asked, checked_faultless}
 use Rattle.query_meaning.proofs.Holding.{list_all-from_In}
 use Rattle.query_meaning.proofs.Lists.{In, In-append_cases, In-append_left, In-append_right, In-flat_map_from, In-from_place}
 

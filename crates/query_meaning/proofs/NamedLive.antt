@@ -27,7 +27,8 @@ use Rattle.query_meaning.specs.Laws.{CheckedQueriesNameTheLiving}
 use Rattle.query_meaning.specs.Names.{entry_names, item_names, name_in, term_names}
 use Rattle.query_meaning.specs.Standing.{CurrentQueriesNameTheLiving}
 use Rattle.query_meaning.specs.Variables.{entries}
-use Rattle.query_meaning.proofs.Asked.{asked, checked_faultless, left_nil}
+use Rattle.query_model.proofs.SoundTerms.{left_nil}
+use Rattle.query_meaning.proofs.Asked.{asked, checked_faultless}
 use Rattle.query_meaning.proofs.EachTerm.{All-left, All-right, holds_in_entries, of_item}
 use Rattle.query_meaning.proofs.Holding.{In-list_all}
 use Rattle.query_meaning.proofs.Mentioned.{IsGood, IsMentioned, asked_queries_are_current, from_checked, good_references, word_mentioned}

@@ -1,5 +1,5 @@
 -- A variable that is bound in the level to which it belongs occurs there directly, also by its number.
-use Rattle.std.specs.Prelude.{◌≡◌, ◌⊎◌, ℕ, zero, suc, ◌+◌, ◌<◌, ◌≤◌, ◌==◌, Bool, true, false, ◌||◌, List, [], ◌∷◌, ◌++◌, map, flat_map, fold, drop, length, bytes_eq, Option, Some, None, option_map, if◌then◌else◌}
+use Rattle.std.specs.Prelude.{◌≡◌, ◌⊎◌, ℕ, zero, suc, ◌+◌, ◌<◌, ◌≤◌, ◌==◌, Bool, true, false, ◌||◌, List, [], ◌∷◌, ◌++◌, map, flat_map, drop, length, bytes_eq, Option, Some, None, option_map, if◌then◌else◌}
 use Rattle.std.specs.List.{list_any, list_all}
 use Rattle.std.specs.Option.{option_map_or}
 use Rattle.std.proofs.Common.{ap, sym, ◌∙◌, refl, subst, inl, inr, eq-eqb, arith}
@@ -17,8 +17,9 @@ use Rattle.query_model.specs.Scope.{Sighting, binds_in, is_variable, is_variable
 use Rattle.query_model.specs.Numbers.{Variable, number_from, numbers_from, same_variable, variable_of}
 use Rattle.query_model.specs.Check.{Known}
 use Rattle.query_model.specs.Query.{Item, Piece, item, closing, chain_of, checked_equality, checked_term, may, must, pieces_of_part, ref_of, ref_of_spoken, source_of}
-use Rattle.query_model.specs.Scopes.{has_number}
+use Rattle.query_model.proofs.FreshVariables.{Before, each_number}
 use Rattle.query_model.proofs.NumberedVariables.{both, first_of, is_among, left_true, right_true, second_of, split}
+use Rattle.query_model.proofs.Scoping.{outermost_cases, outermost_from, owner_cases}
 use Rattle.query_meaning.specs.Variables.{contains, item_variables, term_variables, variable_in}
 use Rattle.query_meaning.proofs.DistinctVariables.{distinct, one_variable, own_number}
 use Rattle.query_meaning.proofs.Holding.{contains-left, contains-right}
@@ -28,14 +29,14 @@ use Rattle.query_meaning.proofs.SoundLevels.{occurs_in_front, own_variables_occu
 
 -- a level isn't on a path
 abbrev Lacks : ℕ → Path → Type 0
-Lacks m path = has_number m path ≡ true → ⊥
+Lacks m path = contains path m ≡ true → ⊥
 
 lacks_none : (m : ℕ) → Lacks m []
 lacks_none m e = absurd (let x : false ≡ true = e in cc)
 
 lacks_begun : (m n : ℕ) (path : Path) → m < n → Lacks m path → Lacks m (n ∷ path)
 lacks_begun m n path l h e =
-    elim (split (n == m) (has_number m path) e) [
+    elim (split (n == m) (contains path m) e) [
       | inl s ↦ absurd (let same = eqb-true n m s in omega arith)
       | inr s ↦ h s
     ]
@@ -80,10 +81,6 @@ lacks_behind m n path p l h =
           ]
     ]
 
--- the levels of a path are begun before
-abbrev pub Before : ℕ → Path → Type 0
-Before n path = (l : ℕ) → has_number l path ≡ true → l < n
-
 lacks_before : (m n : ℕ) (path : Path) → n ≤ m → Before n path → Lacks m path
 lacks_before m n path l b e = absurd (let less = b m e in omega arith)
 
@@ -100,7 +97,7 @@ before_behind n path p b =
   where
     inside : Before (n + 1) (n ∷ path)
     inside l e =
-        elim (split (n == l) (has_number l path) e) [
+        elim (split (n == l) (contains path l) e) [
           | inl s ↦ let same = eqb-true n l s in omega arith
           | inr s ↦ let less = b l s in omega arith
         ]
@@ -123,7 +120,7 @@ first_part n path p ps = ((path_in n path p, p), alternatives (map (λ (q : Path
 
 -- a test of parts that stand in a level
 abbrev Within : (Standing → Bool) → ℕ → Type 0
-Within hit m = (q : Standing) → hit q ≡ true → has_number m (q.0).0 ≡ true
+Within hit m = (q : Standing) → hit q ≡ true → contains (q.0).0 m ≡ true
 
 -- none is behind the level's end
 behind_end : (hit : Standing → Bool) (m : ℕ) → Within hit m → (n : ℕ) (path : Path) (ps : List Part) → m < n → Lacks m path → list_any hit (parts_from n path ps) ≡ true → ⊥
@@ -140,40 +137,20 @@ before_start : (hit : Standing → Bool) (m : ℕ) → Within hit m → (n : ℕ
 before_start hit m only n path p ps l b e =
     elim (split (hit (first_part n path p ps)) (list_any hit (parts_from (n + 1) (path_behind n path p) ps)) e) [
       | inl i ↦ absurd (elim (in_cases n path p) [
-        | inl c ↦ begun (subst (λ ls. has_number m ls ≡ true) c (only (first_part n path p ps) i))
-        | inr c ↦ lacks_before m n path (omega arith) b (subst (λ ls. has_number m ls ≡ true) c (only (first_part n path p ps) i))
+        | inl c ↦ begun (subst (λ ls. contains ls m ≡ true) c (only (first_part n path p ps) i))
+        | inr c ↦ lacks_before m n path (omega arith) b (subst (λ ls. contains ls m ≡ true) c (only (first_part n path p ps) i))
       ])
       | inr i ↦ i
     ]
   where
-    begun : has_number m (n ∷ path) ≡ true → ⊥
+    begun : contains (n ∷ path) m ≡ true → ⊥
     begun f =
-        elim (split (n == m) (has_number m path) f) [
+        elim (split (n == m) (contains path m) f) [
           | inl s ↦ absurd (let same = eqb-true n m s in omega arith)
           | inr s ↦ lacks_before m n path (omega arith) b s
         ]
 
 -- ---- to which level a variable belongs
-
-abbrev outermost_from : (ℕ → Bool) → ℕ → Path → ℕ
-outermost_from test found path = fold (λ o l. if test l then l else o) found path
-
-outermost_cases : (test : ℕ → Bool) (path : Path) (found : ℕ) → (outermost_from test found path ≡ found) ⊎ (has_number (outermost_from test found path) path ≡ true)
-outermost_cases test [] found = inl refl
-outermost_cases test (l ∷ ls) found = by (outermost_cases test ls l) (outermost_cases test ls found) (test l)
-  where
-    by : (outermost_from test l ls ≡ l) ⊎ (has_number (outermost_from test l ls) ls ≡ true) → (outermost_from test found ls ≡ found) ⊎ (has_number (outermost_from test found ls) ls ≡ true) → (b : Bool)
-        → (outermost_from test (if b then l else found) ls ≡ found) ⊎ (has_number (outermost_from test (if b then l else found) ls) (l ∷ ls) ≡ true)
-    by here there true =
-        elim here [
-          | inl e ↦ inr (left_true (l == outermost_from test l ls) _ (eq-eqb l (outermost_from test l ls) (sym e)))
-          | inr e ↦ inr (right_true (l == outermost_from test l ls) _ e)
-        ]
-    by here there false =
-        elim there [
-          | inl e ↦ inl e
-          | inr e ↦ inr (right_true (l == outermost_from test found ls) _ e)
-        ]
 
 outermost_append : (test : ℕ → Bool) (pre path : Path) (found : ℕ) → outermost_from test found (pre ++ path) ≡ outermost_from test (outermost_from test found pre) path
 outermost_append test [] path found = refl
@@ -187,7 +164,7 @@ outermost_tail test pre m path l inner outer e = by (test m) (sym (outermost_app
     not_found f =
         elim (outermost_cases test pre 0) [
           | inl z ↦ absurd (let zero_found = z in omega arith)
-          | inr h ↦ inner (subst (λ r. has_number r pre ≡ true) f h)
+          | inr h ↦ inner (subst (λ r. contains pre r ≡ true) f h)
         ]
 
     by : (b : Bool) → outermost_from test (if b then m else outermost_from test 0 pre) path ≡ m → outermost_from test (if b then m else 0) path ≡ m
@@ -195,18 +172,10 @@ outermost_tail test pre m path l inner outer e = by (test m) (sym (outermost_app
     by false f =
         elim (outermost_cases test path (outermost_from test 0 pre)) [
           | inl z ↦ absurd (not_found (sym z ∙ f))
-          | inr h ↦ absurd (outer (subst (λ r. has_number r path ≡ true) f h))
+          | inr h ↦ absurd (outer (subst (λ r. contains path r ≡ true) f h))
         ]
 
 module _ (all : List Sighting) where
-  owner_cases : (name : List ℕ) (path : Path) → (owner all name path ≡ 0) ⊎ (has_number (owner all name path) path ≡ true)
-  owner_cases name path = by (bytes_eq name this) (occurs_in all name 0)
-    where
-      by : (a b : Bool) → ((if a then 0 else (if b then 0 else outermost (occurs_in all name) path)) ≡ 0) ⊎ (has_number (if a then 0 else (if b then 0 else outermost (occurs_in all name) path)) path ≡ true)
-      by true b = inl refl
-      by false true = inl refl
-      by false false = outermost_cases (occurs_in all name) path 0
-
   owner_tail : (name : List ℕ) (pre : Path) (m : ℕ) (path : Path) → 0 < m → Lacks m pre → Lacks m path → owner all name (pre ++ m ∷ path) ≡ m → owner all name (m ∷ path) ≡ m
   owner_tail name pre m path l inner outer = by (bytes_eq name this) (occurs_in all name 0)
     where
@@ -255,9 +224,9 @@ module _ (all : List Sighting) where
   mentioned_within : (u : Variable) → 0 < u.1 → Within (mentions u) u.1
   mentioned_within u l q e =
       let same = mentioned_owner u q e in
-      elim (owner_cases u.0 (q.0).0) [
+      elim (owner_cases all u.0 (q.0).0) [
         | inl z ↦ absurd (omega arith)
-        | inr h ↦ subst (λ r. has_number r (q.0).0 ≡ true) same h
+        | inr h ↦ subst (λ r. contains (q.0).0 r ≡ true) same h
       ]
 
   abbrev MentionedFrom : Variable → ℕ → List Part → Path → Type 0
@@ -360,7 +329,7 @@ module _ (k : Known) (all : List Sighting) (vs : List Variable) where
   bound_within : (name : List ℕ) (m : ℕ) → 0 < m → Within (binds_in name m) m
   bound_within name m z q e = at_level (q.0).0 (first_of (level_of (q.0).0 == m) _ e)
     where
-      at_level : (path : Path) → (level_of path == m) ≡ true → has_number m path ≡ true
+      at_level : (path : Path) → (level_of path == m) ≡ true → contains path m ≡ true
       at_level [] f = absurd (let same = eqb-true 0 m f in omega arith)
       at_level (l ∷ ls) f = left_true (l == m) _ f
 
@@ -461,10 +430,6 @@ module _ (k : Known) (all : List Sighting) (vs : List Variable) where
         before_start (binds_in name m) m (bound_within name m (omega arith)) n path p ps (omega arith) b now.0,
         before_start (mentions all (name, m)) m (mentioned_within all (name, m) (omega arith)) n path p ps (omega arith) b now.1,
       )
-
-  each_number : (test : ℕ → Bool) (xs : List ℕ) → ((v : ℕ) → has_number v xs ≡ true → test v ≡ true) → list_all test xs ≡ true
-  each_number test [] h = refl
-  each_number test (x ∷ xs) h = both (test x) _ (h x (left_true (x == x) _ (eq-eqb x x refl))) (each_number test xs (λ v e. h v (right_true (x == v) _ e)))
 
   module _ (d : distinct vs ≡ true) where
     -- the own variables of a group, and of a Not term

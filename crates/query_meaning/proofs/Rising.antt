@@ -7,12 +7,11 @@ use Rattle.std.proofs.lemmas.List.Elements.{All-append, All-cons, All-head, All-
 use Rattle.ecs_id.specs.Id.{id_cmp, plain}
 use Rattle.ecs_id.specs.declared.EntityId.{EntityId}
 use Rattle.query_model.specs.declared.Span.{Span}
-use Rattle.query_model.specs.declared.faults.Fault.{Fault}
 use Rattle.query_model.specs.declared.faults.FaultKind.TheVariants.{NotTraversable, UnknownName}
 use Rattle.query_model.specs.declared.query.Mention.{Mention}
 use Rattle.query_model.specs.declared.query.Position.TheVariants.{Component, Source, Target, Risen}
 use Rattle.query_model.specs.Faults.{fault_at}
-use Rattle.query_model.specs.Syntax.{Spoken, Word, Var, Any, One, Reference, at, RiseWord, Up, Cascade, Rise, none, up, Flags, TermSyntax, Part, term, opened, closed, equality, Syntax}
+use Rattle.query_model.specs.Syntax.{Spoken, Word, Var, Any, One, Reference, at, Up, Cascade, Rise, none, up, Flags, TermSyntax, Part, term, opened, closed, equality, Syntax}
 use Rattle.query_model.specs.Levels.{Path, path_behind, path_in, placed}
 use Rattle.query_model.specs.Uses.{Use, along_what, rise_of, risen, uses_of, uses_of_term, written}
 use Rattle.query_model.specs.Scope.{Sighting}
@@ -29,15 +28,13 @@ use Rattle.query_meaning.specs.Names.{entry_rises, item_rises, term_rises}
 use Rattle.query_meaning.specs.Standing.{CurrentQueriesGoUpWithoutCycles, CurrentQueriesOrderWithoutCycles, IsCurrentIn}
 use Rattle.ecs_model.specs.traits.Keeps.{IsWellFormed}
 use Rattle.query_meaning.specs.Variables.{entries}
-use Rattle.query_meaning.proofs.Asked.{asked, checked_faultless, left_nil}
+use Rattle.query_model.proofs.SoundTerms.{left_nil}
+use Rattle.query_meaning.proofs.Asked.{asked, checked_faultless}
 use Rattle.query_meaning.proofs.EachTerm.{All-left, All-right, holds_in_entries, of_item}
 use Rattle.query_meaning.proofs.Holding.{In-list_all}
 use Rattle.query_meaning.proofs.Lists.{In}
 use Rattle.query_meaning.proofs.Mentioned.{IsGood, IsMentioned, asked_queries_are_current, from_checked, good_references, word_mentioned}
-
-not_faulty : (b : Bool) (f : Fault) → when (not b) f ≡ [] → b ≡ true
-not_faulty true f e = refl
-not_faulty false f e = absurd (cc)
+use Rattle.query_meaning.proofs.CheckedSound.{not_faulty}
 
 module _ (k : Known) (ms : List Mention) where
   abbrev Good : Use → Type 0

@@ -1,5 +1,5 @@
 -- Later occurrences of a variable add nothing to the least fault.
-use Rattle.std.specs.Prelude.{◌≡◌, ◌⊎◌, ℕ, ◌≤◌, ◌==◌, Bool, true, false, not, ◌&&◌, ◌||◌, List, [], ◌∷◌, ◌++◌, flat_map, bytes_eq, nat_lt, Option, None, Some, if◌then◌else◌}
+use Rattle.std.specs.Prelude.{◌≡◌, ℕ, ◌≤◌, ◌==◌, Bool, true, false, not, ◌&&◌, ◌||◌, List, [], ◌∷◌, ◌++◌, flat_map, bytes_eq, nat_lt, Option, None, Some, if◌then◌else◌}
 use Rattle.std.specs.List.{list_any}
 use Rattle.std.proofs.lemmas.Bool.{eqb-true, le-ltb, ltb-false, or_from, or_parts}
 use Rattle.std.proofs.lemmas.Bool.Decides.{eqb_tells}
@@ -16,6 +16,7 @@ use Rattle.query_model.specs.Scope.{Occurrence, is_bound, occurrences, sightings
 use Rattle.query_model.specs.Numbers.{Variable, same_variable, variable_of}
 use Rattle.query_model.specs.Check.{unbound, when}
 use Rattle.query_model.specs.FirstOccurrence.{Ascends, FirstSuffices, unbound_first}
+use Rattle.query_model.proofs.NumberedVariables.{first_of, second_of, split}
 
 -- a fault that starts later comes before nothing that the earlier one doesn't
 later : (s t x : ℕ) (b : Bool) → s ≤ t → (nat_lt s x || s == x && b) ≡ false → (nat_lt t x || t == x && b) ≡ false
@@ -51,18 +52,6 @@ faulty ps v = not (bytes_eq v.0 this || is_bound ps v.0 v.1)
 
 record Covered (ps : List Part) (seen : List Variable) (found : Option Fault) (low : ℕ) : Type 0 where
   each : (u : Variable) → list_any (same_variable u) seen ≡ true → faulty ps u ≡ true → Covers found low
-
-split : (a b : Bool) → (a || b) ≡ true → (a ≡ true) ⊎ (b ≡ true)
-split true b e = inl refl
-split false b e = inr e
-
-first_of : (a b : Bool) → (a && b) ≡ true → a ≡ true
-first_of true b e = refl
-first_of false b e = e
-
-second_of : (a b : Bool) → (a && b) ≡ true → b ≡ true
-second_of true b e = e
-second_of false b e = absurd (cc)
 
 bytes_same : (xs ys : List ℕ) → bytes_eq xs ys ≡ true → xs ≡ ys
 bytes_same xs ys e = (bytes_eq-Decides xs ys).0 e

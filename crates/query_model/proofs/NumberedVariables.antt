@@ -2,18 +2,15 @@
 use Rattle.std.specs.Prelude.{◌≡◌, ◌⊎◌, ℕ, suc, ◌+◌, ◌<◌, ◌==◌, Bool, true, false, not, ◌&&◌, ◌||◌, List, [], ◌∷◌, ◌++◌, map, filter, fold, length, bytes_eq, if◌then◌else◌}
 use Rattle.std.specs.List.{list_any, list_all}
 use Rattle.std.proofs.Common.{ap, sym, ◌∙◌, refl, subst, inl, inr, arith, eq-eqb}
-use Rattle.std.proofs.Math.Bool.{or-true}
 use Rattle.std.proofs.lemmas.Bool.{eqb-true}
 use Rattle.std.proofs.lemmas.List.{append-nil, append_assoc}
 use Rattle.std.proofs.lemmas.List.Folds.{list_any-append}
 use Rattle.std.proofs.lemmas.Slice.Eq.{bytes_eq-Decides}
+pub use Rattle.std.proofs.lemmas.Bool.{and_from as both, or_left as left_true, or_right as right_true}
 use Rattle.query_model.specs.Numbers.{Variable, add_new, is_whole, number_from, numbers_from, same_variable, variables_among}
 use Rattle.query_model.specs.Scope.{this}
 use Rattle.query_model.specs.Query.{visible_names}
-use Rattle.query_model.specs.Scopes.{has_number}
-
-pub both : (a b : Bool) → a ≡ true → b ≡ true → (a && b) ≡ true
-both a b e f = rw e f
+use Rattle.query_model.specs.Scopes.{contains}
 
 pub first_of : (a b : Bool) → (a && b) ≡ true → a ≡ true
 first_of true b e = refl
@@ -22,12 +19,6 @@ first_of false b e = e
 pub second_of : (a b : Bool) → (a && b) ≡ true → b ≡ true
 second_of true b e = e
 second_of false b e = absurd (cc)
-
-pub left_true : (a b : Bool) → a ≡ true → (a || b) ≡ true
-left_true a b e = rw e refl
-
-pub right_true : (a b : Bool) → b ≡ true → (a || b) ≡ true
-right_true a b e = ap (λ x. a || x) e ∙ or-true a
 
 pub split : (a b : Bool) → (a || b) ≡ true → (a ≡ true) ⊎ (b ≡ true)
 split true b e = inl refl
@@ -48,10 +39,10 @@ same_name v u e = (bytes_eq-Decides v.0 u.0).0 (first_of (bytes_eq v.0 u.0) (v.1
 same_level : (v u : Variable) → same_variable v u ≡ true → v.1 ≡ u.1
 same_level v u e = eqb-true v.1 u.1 (second_of (bytes_eq v.0 u.0) (v.1 == u.1) e)
 
-one_variable : (v u : Variable) → same_variable v u ≡ true → v ≡ u
+pub one_variable : (v u : Variable) → same_variable v u ≡ true → v ≡ u
 one_variable v u e = ap (λ n. (n, v.1)) (same_name v u e) ∙ ap (λ l. (u.0, l)) (same_level v u e)
 
-same_itself : (v : Variable) → same_variable v v ≡ true
+pub same_itself : (v : Variable) → same_variable v v ≡ true
 same_itself v = both (bytes_eq v.0 v.0) (v.1 == v.1) ((bytes_eq-Decides v.0 v.0).1 refl) (eq-eqb v.1 v.1 refl)
 
 abbrev pub is_among : List Variable → Variable → Bool
@@ -224,13 +215,13 @@ this_is_visible true xs e =
 this_is_visible false xs e = absurd (cc)
 
 -- a variable's number is one of its level's own
-own_step : (n r : ℕ) (rest : List ℕ) (same level : Bool) → (same ≡ true → level ≡ true) → (same ≡ false → has_number r rest ≡ true) → has_number (if same then n else r) (if level then n ∷ rest else rest) ≡ true
+own_step : (n r : ℕ) (rest : List ℕ) (same level : Bool) → (same ≡ true → level ≡ true) → (same ≡ false → contains rest r ≡ true) → contains (if level then n ∷ rest else rest) (if same then n else r) ≡ true
 own_step n r rest true true h k = left_true (n == n) _ (eq-eqb n n refl)
 own_step n r rest true false h k = absurd (let x = h refl in cc)
 own_step n r rest false true h k = right_true (n == r) _ (k refl)
 own_step n r rest false false h k = k refl
 
-pub is_own : (n : ℕ) (v : Variable) (us : List Variable) → is_among us v ≡ true → has_number (number_from n v us) (numbers_from n v.1 us) ≡ true
+pub is_own : (n : ℕ) (v : Variable) (us : List Variable) → is_among us v ≡ true → contains (numbers_from n v.1 us) (number_from n v us) ≡ true
 is_own n v [] e = absurd (let x : false ≡ true = e in cc)
 is_own n v (u ∷ us) e =
     own_step n (number_from (n + 1) v us) (numbers_from (n + 1) v.1 us) (same_variable v u) (u.1 == v.1) (λ s. eq-eqb u.1 v.1 (sym (same_level v u s)))

@@ -8,7 +8,6 @@ use Rattle.std.proofs.lemmas.List.{map-append}
 use Rattle.std.proofs.lemmas.List.Concat.{flat_map-append}
 use Rattle.std.proofs.lemmas.List.Folds.{list_all-append}
 use Rattle.query_model.specs.declared.Span.{Span}
-use Rattle.query_model.specs.declared.faults.Fault.{Fault}
 use Rattle.query_model.specs.declared.query.Position.{Position}
 use Rattle.query_model.specs.declared.query.Position.TheVariants.{Component, Source, Target, Risen, Left, Right}
 use Rattle.query_model.specs.declared.query.Term.{Term}
@@ -28,21 +27,22 @@ use Rattle.query_model.specs.Scope.{Occurrence, Sighting, occurrence_of, occurre
 use Rattle.query_model.specs.Numbers.{Variable, has_this, is_this, number_from, numbers_from, understands_this, variable_of, variables}
 use Rattle.query_model.specs.Check.{Known, faults}
 use Rattle.query_model.specs.Query.{Piece, Query, chain_of, checked, parts_read, query_of, checked_equality, checked_query, checked_term, number_of, pieces_of_part, ref_of, source_of, visible_names}
-use Rattle.query_model.specs.Scopes.{has_number, is_in_scope, is_scoped, item_variables, term_variables, uses_scope, variable_in, QueriesAreScoped, QueriesOfTextsAreScoped}
+use Rattle.query_model.specs.Scopes.{contains, is_in_scope, is_scoped, item_variables, term_variables, uses_scope, variable_in, QueriesAreScoped, QueriesOfTextsAreScoped}
+use Rattle.query_model.proofs.SoundTerms.{answered}
 use Rattle.query_model.proofs.Spelling.{tokens_are_spelled}
 use Rattle.query_model.proofs.SyntaxFaults.{parts_are_grammatical}
 use Rattle.query_model.proofs.NumberedVariables.{all_numbered, both, first_of, is_among, is_own, is_visible, left_true, Parted, parted, right_true, second_of, split, this_is_visible}
 
-abbrev outermost_from : (ℕ → Bool) → ℕ → Path → ℕ
+abbrev pub outermost_from : (ℕ → Bool) → ℕ → Path → ℕ
 outermost_from test found path = fold (λ o l. if test l then l else o) found path
 
 -- the outermost level that passes a test is one of the path's, or the one that was found before
-outermost_cases : (test : ℕ → Bool) (path : Path) (found : ℕ) → (outermost_from test found path ≡ found) ⊎ (has_number (outermost_from test found path) path ≡ true)
+pub outermost_cases : (test : ℕ → Bool) (path : Path) (found : ℕ) → (outermost_from test found path ≡ found) ⊎ (contains path (outermost_from test found path) ≡ true)
 outermost_cases test [] found = inl refl
 outermost_cases test (l ∷ ls) found = by (outermost_cases test ls l) (outermost_cases test ls found) (test l)
   where
-    by : (outermost_from test l ls ≡ l) ⊎ (has_number (outermost_from test l ls) ls ≡ true) → (outermost_from test found ls ≡ found) ⊎ (has_number (outermost_from test found ls) ls ≡ true) → (b : Bool)
-        → (outermost_from test (if b then l else found) ls ≡ found) ⊎ (has_number (outermost_from test (if b then l else found) ls) (l ∷ ls) ≡ true)
+    by : (outermost_from test l ls ≡ l) ⊎ (contains ls (outermost_from test l ls) ≡ true) → (outermost_from test found ls ≡ found) ⊎ (contains ls (outermost_from test found ls) ≡ true) → (b : Bool)
+        → (outermost_from test (if b then l else found) ls ≡ found) ⊎ (contains (l ∷ ls) (outermost_from test (if b then l else found) ls) ≡ true)
     by here there true =
         elim here [
           | inl e ↦ inr (left_true (l == outermost_from test l ls) _ (eq-eqb l (outermost_from test l ls) (sym e)))
@@ -54,10 +54,10 @@ outermost_cases test (l ∷ ls) found = by (outermost_cases test ls l) (outermos
           | inr e ↦ inr (right_true (l == outermost_from test found ls) _ e)
         ]
 
-owner_cases : (all : List Sighting) (name : List ℕ) (path : Path) → (owner all name path ≡ 0) ⊎ (has_number (owner all name path) path ≡ true)
+pub owner_cases : (all : List Sighting) (name : List ℕ) (path : Path) → (owner all name path ≡ 0) ⊎ (contains path (owner all name path) ≡ true)
 owner_cases all name path = by (bytes_eq name this) (occurs_in all name 0)
   where
-    by : (a b : Bool) → ((if a then 0 else (if b then 0 else outermost (occurs_in all name) path)) ≡ 0) ⊎ (has_number (if a then 0 else (if b then 0 else outermost (occurs_in all name) path)) path ≡ true)
+    by : (a b : Bool) → ((if a then 0 else (if b then 0 else outermost (occurs_in all name) path)) ≡ 0) ⊎ (contains path (if a then 0 else (if b then 0 else outermost (occurs_in all name) path)) ≡ true)
     by true b = inl refl
     by false true = inl refl
     by false false = outermost_cases (occurs_in all name) path 0
@@ -97,12 +97,12 @@ module _ (k : Known) (all : List Sighting) (vs : List Variable) (visible : ℕ) 
   abbrev around : Path → List (List ℕ)
   around path = map own_of path
 
-  around_own : (path : Path) (l r : ℕ) → has_number l path ≡ true → has_number r (own_of l) ≡ true → list_any (has_number r) (around path) ≡ true
+  around_own : (path : Path) (l r : ℕ) → contains path l ≡ true → contains (own_of l) r ≡ true → list_any (λ ls. contains ls r) (around path) ≡ true
   around_own [] l r e f = absurd (let x : false ≡ true = e in cc)
   around_own (m ∷ ms) l r e f =
-      elim (split (m == l) (has_number l ms) e) [
-        | inl s ↦ left_true (has_number r (own_of m)) _ (ap (λ n. has_number r (own_of n)) (eqb-true m l s) ∙ f)
-        | inr t ↦ right_true (has_number r (own_of m)) _ (around_own ms l r t f)
+      elim (split (m == l) (contains ms l) e) [
+        | inl s ↦ left_true (contains (own_of m) r) _ (ap (λ n. contains (own_of n) r) (eqb-true m l s) ∙ f)
+        | inr t ↦ right_true (contains (own_of m) r) _ (around_own ms l r t f)
       ]
 
   in_scope : (path : Path) (name : List ℕ) → is_among vs (name, owner all name path) ≡ true → is_in_scope visible (around path) (number_of k all vs path name) ≡ true
@@ -167,8 +167,8 @@ module _ (k : Known) (all : List Sighting) (vs : List Variable) (visible : ℕ) 
       let test = is_in_scope visible (around path) in
       let first = variable_in (ref_of k all vs path t.first) in
       let source = variable_in (source_of k all vs path t.source) in
-      all_both test (source ++ first) _ (all_both test source first (source_in path t.source (back_uses path c s two) h) (reference_in path t.first Component (front_uses path c s two)))
-      (target_in path t.target (back_uses path (c ++ s ++ r) g e))
+      all_both test source _ (source_in path t.source (back_uses path c s two) h)
+      (all_both test first _ (reference_in path t.first Component (front_uses path c s two)) (target_in path t.target (back_uses path (c ++ s ++ r) g e)))
 
   -- a part of which a term names no source
   abbrev Understood : List Part → Type 0
@@ -259,12 +259,8 @@ checked_scoped k s h =
     let understood : list_any understands_this s.parts ≡ true → nat_lt 0 visible ≡ true = λ e. lt-ltb 0 visible (this_is_visible (has_this s.parts) owned (right_true (list_any is_this all) _ e)) in
     pieces_in k all vs visible refl (parted (has_this s.parts) owned) 1 [] s.parts (all_numbered (has_this s.parts) owned) understood h
 
-answered : (k : Known) (s : Syntax) (q : Query) (o : Option Fault) → option_map_or Err o (Ok (checked_query k s)) ≡ Ok q → checked_query k s ≡ q
-answered k s q None e = cc
-answered k s q (Some f) e = absurd (cc)
-
 pub queries_are_scoped : QueriesAreScoped
-queries_are_scoped k ts s q (end, is) e = subst (λ (x : Query). is_scoped x ≡ true) (answered k s q (least_from None (faults k s.parts)) e) (checked_scoped k s (items_have_left is refl))
+queries_are_scoped k ts s q (end, is) e = subst (λ (x : Query). is_scoped x ≡ true) (answered k s q (least_from None (faults k s.parts)) e).1 (checked_scoped k s (items_have_left is refl))
 
 ends : (text : List ℕ) (ts : List Token) → IsSpelledBy text ts → EndsInEnd ts
 ends text ts (front, spells, same) = (front, record { start = length text; end = length text }, same)

@@ -1,8 +1,8 @@
 -- The terms of a checked query are sound, since their references have no faults.
-use Rattle.std.specs.Prelude.{◌≡◌, ℕ, ◌+◌, Bool, true, false, not, ◌&&◌, ◌||◌, List, [], ◌∷◌, ◌++◌, map, flat_map, fold, Option, Some, None, is_none, option_map, Result, Ok, Err, if◌then◌else◌}
+use Rattle.std.specs.Prelude.{◌≡◌, ℕ, ◌+◌, Bool, true, false, not, ◌&&◌, ◌||◌, List, [], ◌∷◌, ◌++◌, map, flat_map, Option, Some, None, is_none, option_map, Ok, Err, if◌then◌else◌}
 use Rattle.std.specs.List.{list_all}
 use Rattle.std.specs.Option.{option_map_or}
-use Rattle.std.proofs.Common.{ap, sym, ◌∙◌, refl, subst}
+use Rattle.std.proofs.Common.{ap, sym, ◌∙◌, refl}
 use Rattle.std.proofs.lemmas.List.Folds.{list_all-append}
 use Rattle.std.proofs.lemmas.List.Concat.{flat_map-append}
 use Rattle.query_model.specs.declared.Span.{Span}
@@ -11,20 +11,20 @@ use Rattle.query_model.specs.declared.query.Position.TheVariants.{Component, Sou
 use Rattle.query_model.specs.declared.syntax.Role.TheVariants.{And, Or, Not, Optional}
 use Rattle.query_model.specs.Faults.{is_before, least_from}
 use Rattle.query_model.specs.Syntax.{Spoken, Word, Var, Any, One, Reference, at, TermSyntax, Part, term, opened, closed, equality, Syntax}
-use Rattle.query_model.specs.Levels.{Path, alternatives, followed, path_behind, path_in, placed, placed_parts}
+use Rattle.query_model.specs.Levels.{Path, alternatives, followed, path_behind, path_in, placed}
 use Rattle.query_model.specs.Uses.{Use, risen, uses_of, uses_of_term, written}
 use Rattle.query_model.specs.Scope.{Sighting, sightings}
 use Rattle.query_model.specs.Numbers.{Variable, variables}
 use Rattle.query_model.specs.Check.{Known, faults, faults_of_use}
-use Rattle.query_model.specs.Query.{Piece, Query, chain_of, check_of, checked_equality, checked_query, checked_term, follows, is_a, is_definite_target, is_inherited, pieces_of, pieces_of_part, ref_of, source_of, up_of}
+use Rattle.query_model.specs.Query.{Query, chain_of, checked_equality, checked_query, checked_term, follows, is_a, is_definite_target, is_inherited, pieces_of, pieces_of_part, ref_of, source_of, up_of}
 use Rattle.query_model.specs.Local.{is_name}
 use Rattle.query_model.specs.Sound.{TermsAreSound, has_definite_target, is_definite_ref, is_sound_item, is_sound_piece, is_sound_term}
 
-left_nil : {A : Type 0} (xs ys : List A) → xs ++ ys ≡ [] → xs ≡ []
+pub left_nil : {A : Type 0} (xs ys : List A) → xs ++ ys ≡ [] → xs ≡ []
 left_nil [] ys e = refl
 left_nil (x ∷ xs) ys e = absurd (cc)
 
-right_nil : {A : Type 0} (xs ys : List A) → xs ++ ys ≡ [] → ys ≡ []
+pub right_nil : {A : Type 0} (xs ys : List A) → xs ++ ys ≡ [] → ys ≡ []
 right_nil [] ys e = e
 right_nil (x ∷ xs) ys e = absurd (cc)
 
@@ -32,7 +32,7 @@ some_least : (f : Fault) (fs : List Fault) → least_from (Some f) fs ≡ None �
 some_least f [] e = cc
 some_least f (g ∷ gs) e = some_least (if is_before g f then g else f) gs e
 
-no_faults : (fs : List Fault) → least_from None fs ≡ None → fs ≡ []
+pub no_faults : (fs : List Fault) → least_from None fs ≡ None → fs ≡ []
 no_faults [] e = refl
 no_faults (f ∷ fs) e = absurd (some_least f fs e)
 
@@ -152,7 +152,7 @@ module _ (k : Known) where
   unfolding checked_query
   query_sound s e = pieces_sound (sightings s.parts) (variables s.parts) 1 [] s.parts (first_faults s.parts e)
 
-  answered : (s : Syntax) (q : Query) (o : Option Fault) → option_map_or Err o (Ok (checked_query k s)) ≡ Ok q → (o ≡ None) × (checked_query k s ≡ q)
+  pub answered : (s : Syntax) (q : Query) (o : Option Fault) → option_map_or Err o (Ok (checked_query k s)) ≡ Ok q → (o ≡ None) × (checked_query k s ≡ q)
   answered s q None e = (refl, cc)
   answered s q (Some f) e = absurd (cc)
 

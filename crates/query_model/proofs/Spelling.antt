@@ -16,7 +16,7 @@ use Rattle.query_model.specs.Tokens.{Sign, Name, Variable, Punct, End, spelling,
 
 -- bytes of one kind
 
-letter_is_name_byte : (b : ℕ) → is_letter b ≡ true → is_name_byte b ≡ true
+pub letter_is_name_byte : (b : ℕ) → is_letter b ≡ true → is_name_byte b ≡ true
 letter_is_name_byte b e = grind (arith, nat_tests)
 
 letter_is_no_blank : (b : ℕ) → is_letter b ≡ true → is_query_blank b ≡ false
@@ -48,7 +48,7 @@ one_mark m n e = let h : Some (Punct m) ≡ Some (Punct n) = sym (mark_is_found 
 
 -- a front that passes
 
-front_passes : (p : ℕ → Bool) (xs : List ℕ) → list_all p (take (prefix_len p xs) xs) ≡ true
+pub front_passes : (p : ℕ → Bool) (xs : List ℕ) → list_all p (take (prefix_len p xs) xs) ≡ true
 front_passes p [] = refl
 front_passes p (x ∷ xs) = by_test (p x) refl (front_passes p xs)
   where

@@ -1,5 +1,6 @@
 -- Queries that ask each entity for its own ids alone.
-use Rattle.std.specs.Prelude.{◌==◌, Bool, true, false, not, ◌&&◌, List, [], ◌∷◌, Option, Some, None, is_none, length}
+use Rattle.std.specs.Prelude.{◌==◌, Bool, true, false, not, ◌&&◌, Option, is_none, length}
+use Rattle.std.specs.Option.{option_map_or}
 use Rattle.std.specs.List.{list_any, list_all}
 use Rattle.query_model.specs.declared.query.Ref.{Ref}
 use Rattle.query_model.specs.declared.query.Ref.TheVariants.{Is}
@@ -30,8 +31,7 @@ is_name (Is e) = true
 is_name r = false
 
 abbrev pub is_name_if_written : Option Ref → Bool
-is_name_if_written None = true
-is_name_if_written (Some r) = is_name r
+is_name_if_written r = option_map_or is_name r true
 
 -- whether a term asks it for one id
 abbrev pub asks_one_id : Term → Bool

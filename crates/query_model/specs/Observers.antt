@@ -1,5 +1,6 @@
 -- What the queries of monitors and of event observers must be besides.
-use Rattle.std.specs.Prelude.{ℕ, ◌==◌, Bool, true, false, ◌&&◌, List, [], ◌∷◌, Option, Some, None, is_none, Result, Ok, Err, if◌then◌else◌}
+use Rattle.std.specs.Prelude.{◌==◌, Bool, true, false, ◌&&◌, List, [], ◌∷◌, Option, is_none, Result, Ok, Err, if◌then◌else◌}
+use Rattle.std.specs.Option.{option_map_or}
 use Rattle.query_model.specs.declared.Span.{Span}
 use Rattle.query_model.specs.declared.faults.Fault.{Fault}
 use Rattle.query_model.specs.declared.faults.FaultKind.TheVariants.{NoThis, NotOneTerm}
@@ -21,8 +22,7 @@ is_constant Any = true
 is_constant One = true
 
 abbrev pub is_constant_target : Option Ref → Bool
-is_constant_target None = true
-is_constant_target (Some r) = is_constant r
+is_constant_target r = option_map_or is_constant r true
 
 abbrev pub is_first : Ref → Bool
 is_first (Var v) = v == 0

@@ -1,5 +1,9 @@
 //! What a checked query is made of, and what a reference is to its part.
 
+ghost use Rattle.std.specs.Prelude.{◌≡◌};
+ghost use Rattle.query_model.specs.Local.{asks_first, asks_one_id, is_name};
+ghost use Rattle.query_model.specs.Observers.{is_constant, is_first};
+
 use ecs_id::EntityId;
 
 /// What a reference is to the part in which it stands.
@@ -28,6 +32,28 @@ pub enum Ref {
     One,
 }
 
+impl Ref {
+    /// Whether it is the first variable, which is `$this` where that occurs.
+    pub fn is_first(self) -> bool
+        ensures { result ≡ is_first self }
+    {
+        matches!(self, Ref::Var(0))
+    }
+
+    /// Whether it is no variable.
+    pub fn is_constant(self) -> bool
+        ensures { result ≡ is_constant self }
+    {
+        !matches!(self, Ref::Var(_))
+    }
+
+    pub fn is_name(self) -> bool
+        ensures { result ≡ is_name self }
+    {
+        matches!(self, Ref::Is(_))
+    }
+}
+
 /// A term: it asks for ids of its component, and target if it has one, on its source or on an ancestor of it.
 #[derive(Clone, Copy, Debug, PartialEq, Eq)]
 pub struct Term {
@@ -42,6 +68,22 @@ pub struct Term {
     pub closed: bool,
     /// Whether its fields show values.
     pub valued: bool,
+}
+
+impl Term {
+    /// Whether it asks the first variable itself, for ids that are stored.
+    pub fn asks_first(&self) -> bool
+        ensures { result ≡ asks_first self.now }
+    {
+        self.source.is_first() && self.on_source && self.up.is_none() && !self.closed
+    }
+
+    /// Whether it asks it for one id.
+    pub fn asks_one_id(&self) -> bool
+        ensures { result ≡ asks_one_id self.now }
+    {
+        self.asks_first() && self.first.is_name() && self.target.map_or(true, Ref::is_name)
+    }
 }
 
 /// An entity that a query's text names, and its traits on which the check relied.

@@ -3,6 +3,7 @@ use Rattle.std.proofs.Common.{◌≡◌, ◌↔◌, ◌⊎◌, ℕ, ◌==◌, Bo
 use Rattle.std.specs.List.{Contains, filter, flat_map}
 use Rattle.std.proofs.lemmas.Bool.Decides.{nat_tests}
 use Rattle.std.proofs.lemmas.List.Elements.{Contains-append_left, Contains-push, Contains-push_cases}
+use Rattle.std.proofs.lemmas.Bool.{eqb-true}
 use Rattle.ecs_id.specs.Id.{Id, pair, first_of, target_or_zero}
 use Rattle.ecs_model.specs.World.{Key}
 use Rattle.ecs_model.specs.Cycles.{HasCycle, after_step}
@@ -23,9 +24,6 @@ wider_cycle f g wider c = (c.0, ((c.1).0, wider c.0 (c.1).0 (c.1).1, go (c.1).2)
     go : {x y : ℕ} → Reached f x y → Reached g x y
     go itself = itself
     go (onward {y} {z} r h) = onward (go r) (wider y z h)
-
-same_number : (x y : ℕ) → (x == y) ≡ true → x ≡ y
-same_number x y e = grind (arith, nat_tests)
 
 other_number : (x y : ℕ) → (x == y) ≡ false → ¬ (x ≡ y)
 other_number x y e q = absurd (true≢false (sym (grind (arith, nat_tests, q)) ∙ e))
@@ -138,9 +136,9 @@ module _ (ids : ℕ → List Id) where
                 → Contains (cond here (cond only (t ∷ []) (upward ids c x ++ t ∷ [])) (upward ids c x)) y
             kept false h only o end d m not_gone = m
             kept true h false o end d m not_gone = Contains-append_left (upward ids c x) (t ∷ []) y m
-            kept true h true o true d m not_gone = rw (same_number y t d) (Contains-push [] t)
+            kept true h true o true d m not_gone = rw (eqb-true y t d) (Contains-push [] t)
             kept true h true o false d m not_gone =
-                let at_e = same_number x e h in
+                let at_e = eqb-true x e h in
                 absurd (not_gone ((e, pair c t), is_along ids e (pair r t) (c, p, refl), rw at_e (goes e c t y o d (rw at_e at m))))
 
         out_of : (x y : ℕ) → Contains (stepped x) y → Contains (next x) y
@@ -151,11 +149,11 @@ module _ (ids : ℕ → List Id) where
 
             by : (here : Bool) → (x == e) ≡ here → (only : Bool) → is_exclusive ids c ≡ only → Contains (cond here (cond only (t ∷ []) (upward ids c x ++ t ∷ [])) (upward ids c x)) y → Contains (next x) y
             by false h only o m = stay m (λ q. other_number x e h q.0)
-            by true h true o m = elim (Contains-push_cases [] t y m) [ inl n ↦ absurd (omega (arith, n.1)) | inr q ↦ rw (same_number x e h, ← q) (new_there p) ]
+            by true h true o m = elim (Contains-push_cases [] t y m) [ inl n ↦ absurd (omega (arith, n.1)) | inr q ↦ rw (eqb-true x e h, ← q) (new_there p) ]
             by true h false o m =
                 elim (Contains-push_cases (upward ids c x) t y m) [
                   | inl n ↦ stay n (λ q. true≢false (sym q.1 ∙ o))
-                  | inr q ↦ rw (same_number x e h, ← q) (new_there p)
+                  | inr q ↦ rw (eqb-true x e h, ← q) (new_there p)
                 ]
 
         one_way_closes : ¬ (HasCycle (upward ids c)) → HasCycle next ↔ Reached (upward ids c) t e

@@ -1,8 +1,9 @@
 -- Who forbids that one of some entities is deleted refers to it.
-use Rattle.std.proofs.Common.{◌≡◌, ℕ, ◌+◌, ◌==◌, ◌<◌, ◌≤◌, ◌↔◌, IsTrue, Bool, true, false, ◌&&◌, ◌||◌, not, List, length, get_or, take, take_all, Some, None, refl, sym, ◌∙◌, inl, inr, arith, true≢false}
+use Rattle.std.proofs.Common.{◌≡◌, ℕ, ◌+◌, ◌==◌, ◌<◌, ◌≤◌, ◌↔◌, IsTrue, Bool, true, false, ◌&&◌, ◌||◌, not, List, length, get_or, take, take_all, Some, None, refl, sym, ◌∙◌, inl, inr, arith}
 use Rattle.std.specs.List.{All, Contains, list_any}
 use Rattle.std.proofs.lemmas.List.Folds.{list_any_more}
 use Rattle.std.proofs.lemmas.List.Elements.{Contains-get_or}
+pub use Rattle.std.proofs.lemmas.Bool.{and_left as not_left, and_right as not_right}
 use Rattle.ecs_id.specs.Id.{Id, plain, pair, first_of, second_of, mentioned}
 use Rattle.ecs_model.specs.Links.{AreLinks}
 use Rattle.ecs_model.proofs.Members.{alike, and_true, any_passes, both, eq_itself, eq_same, filtered, from_or, or_left, or_right, passing}
@@ -11,14 +12,6 @@ use Rattle.rel_travel.specs.Outside.{forbids_any}
 use Rattle.ecs_model.specs.traits.Rules.{forbids, forbids_with_sources, forbids_with_users}
 use Rattle.rel_travel.specs.Referring.{is_forbidden, mentions_any, referrers}
 use Rattle.rel_travel.proofs.Growth.{is_among_tells}
-
-pub not_left : (a b : Bool) → a ≡ false → (a && b) ≡ false
-not_left true b e = absurd (true≢false e)
-not_left false b e = refl
-
-pub not_right : (a b : Bool) → b ≡ false → (a && b) ≡ false
-not_right true b e = e
-not_right false b e = refl
 
 module _ (ids : ℕ → List Id) (members : List ℕ) where
   forbids_mentioned : (i : Id) → IsTrue (forbids_any ids members i) → IsTrue (mentions_any members i)

@@ -3,14 +3,14 @@ mod Adding
 pub mod Begun
 mod LedOn
 mod Seeking
-mod Cleanup
+pub mod Cleanup
 mod LineSearch
 pub mod Deepening
-mod Marks
+pub mod Marks
 mod Rows
 mod WorkLists
 mod Pulls
 mod Turns
 pub mod Lists
 mod Mentions
-mod Forbidden
+pub mod Forbidden

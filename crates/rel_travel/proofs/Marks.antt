@@ -78,7 +78,7 @@ mark_stays words y z l apart =
 
 -- ---- one more that is found
 
-or_found : (a b : Bool) → b ≡ true → (a || (b || false)) ≡ true
+pub or_found : (a b : Bool) → b ≡ true → (a || (b || false)) ≡ true
 or_found true b e = refl
 or_found false b e = ap (λ c. c || false) e
 
@@ -131,7 +131,7 @@ blank n i = elim (cases_lt i n) [
   | inr past ↦ get_or_past (replicate n 0) i 0 (rw (length-replicate {A = ℕ} n 0) past)
 ]
 
-read_wider : (words : List ℕ) (n i : ℕ) → get_or (words ++ replicate n 0) i 0 ≡ get_or words i 0
+pub read_wider : (words : List ℕ) (n i : ℕ) → get_or (words ++ replicate n 0) i 0 ≡ get_or words i 0
 read_wider words n i = elim (cases_lt i (length words)) [
   | inl l ↦ get_or_append_left words (replicate n 0) 0 i l
   | inr past ↦ get_or-append_right words (replicate n 0) (length words) i 0 refl past ∙ blank n (i - length words) ∙ sym (get_or_past words i 0 past)

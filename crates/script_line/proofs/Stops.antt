@@ -1,11 +1,12 @@
 -- A text cut before the first byte that may not stand in its first word: the word ends there, or that byte stands in it.
-use Rattle.std.proofs.Common.{◌≡◌, ◌≢◌, ℕ, ◌+◌, ◌==◌, ◌||◌, ◌&&◌, suc, Bool, true, false, not, cond, inl, inr, List, [], ◌∷◌, length, take, drop, Option, Some, None, option_map, refl, ap, ◌∙◌, sym, arith}
+use Rattle.std.proofs.Common.{◌≡◌, ◌≢◌, ℕ, ◌+◌, ◌==◌, ◌||◌, ◌&&◌, Bool, true, false, not, cond, inl, inr, List, [], ◌∷◌, length, take, drop, Option, Some, None, option_map, refl, ap, ◌∙◌, sym, arith}
 use Rattle.std.specs.Prelude.{ℤ, neg_ℤ, pos, nat_le, if◌then◌else◌}
 use Rattle.std.specs.List.{list_all, list_any, prefix_len, position_or_len, before_first}
 use Rattle.std.proofs.lemmas.Bool.{cases_Bool, false_from_ne_true}
 use Rattle.std.proofs.lemmas.Bool.Decides.{nat_tests}
 use Rattle.std.proofs.lemmas.List.Folds.{length-prefix_len}
 use Rattle.query_model.specs.Text.{is_digit}
+pub use Rattle.query_model.proofs.Spelling.{front_passes}
 use Rattle.ecs_model.specs.Text.{is_blank, is_number, number_of}
 use Rattle.ecs_model.specs.Script.{is_apart, reference_of, handle_of, value_of_word}
 use Rattle.ecs_model.specs.Orders.{by_name}
@@ -62,18 +63,6 @@ faulty_word p (b ∷ bs) none h = elim (cases_Bool (p b)) [
   | inr e ↦
       let apart : is_blank b ≡ false = sym (ap is_apart (behind_no p b bs e)) ∙ h in
       ap (list_all p) (front_no is_blank b bs apart) ∙ ap (λ v. v && list_all p (before_first is_blank bs)) e
-]
-
--- all bytes before it pass
-pub front_passes : (p : ℕ → Bool) (bs : List ℕ) → list_all p (take (prefix_len p bs) bs) ≡ true
-front_passes p [] = refl
-front_passes p (b ∷ bs) = elim (cases_Bool (p b)) [
-  | inl e ↦
-      let one : 1 + prefix_len p bs ≡ suc (prefix_len p bs) = omega arith in
-      ap (λ k. list_all p (take k (b ∷ bs))) (len_yes p b bs e ∙ one)
-      ∙ ap (λ v. v && list_all p (take (prefix_len p bs) bs)) e
-      ∙ front_passes p bs
-  | inr e ↦ ap (λ k. list_all p (take k (b ∷ bs))) (len_no p b bs e)
 ]
 
 -- the word that ends at a place

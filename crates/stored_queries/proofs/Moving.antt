@@ -4,13 +4,13 @@ use Rattle.std.specs.Cmp.{nat_cmp_total}
 use Rattle.std.specs.List.{Contains, list_any}
 use Rattle.std.specs.List.Sorted.{IsStrictlyIncreasing}
 use Rattle.std.specs.Ordering.{nat_cmp}
-use Rattle.std.specs.declared.cmp.Ordering.TheVariants.{Equal}
-use Rattle.std.proofs.Common.{refl, sym, ap, subst, arith, get_or, ◌∙◌, inl, inr, true≢false}
+use Rattle.std.proofs.Common.{refl, sym, ap, subst, get_or, ◌∙◌, inl, inr, true≢false}
 use Rattle.std.proofs.lemmas.Bool.{and_from, and_parts, or_cases, or_left, or_right}
-use Rattle.std.proofs.lemmas.Bool.Decides.{nat_tests}
 use Rattle.std.proofs.lemmas.List.Elements.{filter_more}
 use Rattle.std.proofs.lemmas.List.Kept.{IsStrictlyIncreasing-filter}
 use Rattle.std.proofs.lemmas.Map.Keys.{sorted_from_strictly_increasing}
+use Rattle.std.proofs.Math.Bool.{and-not_self}
+use Rattle.query_meaning.proofs.Assignments.{same_from_Equal}
 use Rattle.ecs_model.specs.Command.{Changed}
 use Rattle.ecs_model.specs.World.{WorldState}
 use Rattle.ecs_model.specs.rows.Rows.{rows}
@@ -24,9 +24,6 @@ use Rattle.watch_meaning.specs.Since.{IsAfter}
 use Rattle.stored_queries.specs.Moves.{IsTold, is_among}
 use Rattle.stored_queries.proofs.Locally.{before_ascends}
 
-ties_same : (x y : ℕ) → nat_cmp x y ≡ Equal → x ≡ y
-ties_same x y e = grind (arith, nat_tests)
-
 among : (es : List ℕ) (e : ℕ) → is_among es e ≡ true → Contains es e
 among es e h = let x = passing (λ x. x == e) es h in subst (Contains es) (eq_same x.0 e x.2) x.1
 
@@ -36,7 +33,7 @@ there es e h = any_passes (λ x. x == e) es e h (eq_itself e)
 -- rising lists with the same members are one
 pub same_list : (xs ys : List ℕ) → IsStrictlyIncreasing xs → IsStrictlyIncreasing ys → ((e : ℕ) → is_among xs e ≡ is_among ys e) → xs ≡ ys
 same_list xs ys up above same =
-    one_list nat_cmp nat_cmp_total ties_same xs ys (sorted_from_strictly_increasing xs up) (sorted_from_strictly_increasing ys above)
+    one_list nat_cmp nat_cmp_total same_from_Equal xs ys (sorted_from_strictly_increasing xs up) (sorted_from_strictly_increasing ys above)
     (λ e. (λ h. among ys e (sym (same e) ∙ there xs e h), λ h. among xs e (same e ∙ there ys e h)))
 
 among_filter : (p : ℕ → Bool) (es : List ℕ) (e : ℕ) → is_among (filter p es) e ≡ (is_among es e && p e)
@@ -47,18 +44,14 @@ among_filter p es e =
 
 -- ---- who left and who entered
 
-never : (b : Bool) → (b && not b) ≡ false
-never true = refl
-never false = refl
-
 -- whether it may have moved, was there, is there, and is told to be
 by_left : (m b n l : Bool) → (m ≡ false → b ≡ n) → (m ≡ true → l ≡ n) → (m && (b && not l)) ≡ (b && not n)
 by_left true b n l stays tells = λ i. b && not (tells refl i)
-by_left false b n l stays tells = sym ((λ i. stays refl i && not n) ∙ never n)
+by_left false b n l stays tells = sym ((λ i. stays refl i && not n) ∙ and-not_self n)
 
 by_entered : (m b n l : Bool) → (m ≡ false → b ≡ n) → (m ≡ true → l ≡ n) → (m && (l && not b)) ≡ (n && not b)
 by_entered true b n l stays tells = λ i. tells refl i && not b
-by_entered false b n l stays tells = sym ((λ i. n && not (stays refl i)) ∙ never n)
+by_entered false b n l stays tells = sym ((λ i. n && not (stays refl i)) ∙ and-not_self n)
 
 module _ (w : WorldState) (q : Query) (before all sure asked found : List ℕ) (told : IsTold q w before all sure asked) (up : IsStrictlyIncreasing before)
     (now : List ℕ) (are_now : now ≡ matching (view_of w) q) (now_up : IsStrictlyIncreasing now) (are : found ≡ filter (is_among now) asked) where

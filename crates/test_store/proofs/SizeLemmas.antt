@@ -1,5 +1,5 @@
 -- The ids of the tests keep their sizes over each call.
-use Rattle.std.proofs.Common.{◌≡◌, ℕ, suc, zero, ◌≤◌, ◌==◌, ◌&&◌, Bool, true, false, if◌then◌else◌, [], ◌∷◌, Option, Some, None, IsTrue, IsSome, IfSome, IfOk, OnOk, OnErr, MatchOption, Result, Ok, Err, is_some, not, option_map, slice_get, refl, sym, ap, subst, ◌∙◌, true≢false, arith, inl, inr}
+use Rattle.std.proofs.Common.{◌≡◌, ℕ, suc, zero, ◌≤◌, ◌==◌, ◌&&◌, Bool, true, false, if◌then◌else◌, [], ◌∷◌, Option, Some, None, IsTrue, IsSome, IfSome, IfOk, OnErr, MatchOption, Result, Ok, Err, is_some, not, option_map, slice_get, refl, sym, ap, subst, ◌∙◌, true≢false, arith, inl, inr}
 use Rattle.std.proofs.lemmas.Bool.Decides.{Decides-eqb}
 use Rattle.std.specs.List.{find}
 use Rattle.ecs_id.specs.declared.TableKey.{TableKey}
@@ -11,6 +11,7 @@ use Rattle.test_store.specs.Sizes.{IsOfSizes, IsSized, bytes_of}
 use Rattle.table_store.proofs.Making.{some_of}
 use Rattle.table_store.proofs.Shapes.{both, found_get, get_filtered, get_put}
 use Rattle.table_store.proofs.Slots.{none_is_some, one_some}
+use Rattle.table_store.proofs.Steps.{if_each}
 
 pub at_place : (f : Shape) (j : ℕ) (c : Id × ℕ) → IsOfSizes f → slice_get f j ≡ Some c → c.1 ≡ bytes_of c.0
 at_place [] zero c h e = absurd (none_is_some c e)
@@ -32,10 +33,6 @@ small i = by (packed i == 64)
     by : (a : Bool) → (if a then 4 else 0) ≤ 64
     by true = omega arith
     by false = omega arith
-
-if_each : {X : Type 0} {P : X → Type 0} (o : Option X) → ((x : X) → o ≡ Some x → P x) → IfSome o P
-if_each None h = tt
-if_each (Some x) h = h x refl
 
 pub small_cells : (f : Shape) → IsOfSizes f → (j : ℕ) → IfSome (slice_get f j) (λ c. c.1 ≤ 64)
 small_cells f h j = if_each (slice_get f j) (λ c e. subst (λ n. n ≤ 64) (sym (at_place f j c h e)) (small c.0))

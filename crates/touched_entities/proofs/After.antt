@@ -1,10 +1,11 @@
 -- What has changed by a command, by the world after it alone.
-use Rattle.std.specs.Prelude.{◌≡◌, ℕ, ◌==◌, Bool, true, false, not, List, [], ◌∷◌, ◌++◌, filter, map, Option, Some, None, is_some, option_map, unwrap_or, if◌then◌else◌}
+use Rattle.std.specs.Prelude.{◌≡◌, ℕ, ◌==◌, Bool, true, false, not, List, [], ◌++◌, filter, map, Option, Some, None, is_some, option_map, unwrap_or, if◌then◌else◌}
 use Rattle.std.specs.List.{Contains, dedup, list_any}
 use Rattle.std.specs.List.Sorted.{IsPermutation, IsSorted, IsStrictlySortedBy}
 use Rattle.std.specs.Option.{option_copied, option_eq, option_map_or}
 use Rattle.std.specs.Ordering.{nat_cmp}
-use Rattle.std.proofs.Common.{refl, sym, ap, subst, ◌∙◌, true≢false, arith, Bor}
+use Rattle.std.proofs.Common.{refl, sym, ap, subst, ◌∙◌, true≢false, Bor}
+use Rattle.ecs_links.proofs.Unlinked.{none_in}
 use Rattle.ecs_id.specs.Id.{Id, id_cmp, id_eq}
 use Rattle.ecs_model.specs.Command.{Changed, differences}
 use Rattle.ecs_model.specs.Map.{has_key, value_at}
@@ -32,13 +33,9 @@ new_rise : (w v : WorldState) (written : List Key) → IsWellFormed v → IsStri
 unfolding differences
 new_rise w v written h = left_rise key_cmp v.facts (has_key key_cmp w.facts) (h.in_order).facts
 
-no_items : {X : Type 0} (xs : List X) → ((x : X) → Contains xs x → ⊥) → xs ≡ []
-no_items [] none = refl
-no_items (x ∷ xs) none = absurd (none x (0, omega arith, refl))
-
 -- who doesn't live holds nothing
 none_held : (v : WorldState) → IsWellFormed v → (i : ℕ) → is_live v i ≡ false → ids_of v i ≡ []
-none_held v kept i dead = no_items (ids_of v i) (λ x h. true≢false (sym ((kept.live).facts i x (listed_held v i x h)).0 ∙ dead))
+none_held v kept i dead = none_in (ids_of v i) (λ x h. true≢false (sym ((kept.live).facts i x (listed_held v i x h)).0 ∙ dead))
 
 -- what is held by who may not live
 pub held_or_none : (v : WorldState) → IsWellFormed v → (i : ℕ) → option_map_or (λ is. is) (held_in (view_of v) i) [] ≡ ids_of v i

@@ -3,7 +3,7 @@
 use Rattle.std.specs.Prelude.{◌≡◌, ◌↔◌, ◌||◌, ◌+◌, ◌<◌, ℕ, Bool, true, false, cond, List, [], ◌∷◌, ◌++◌, filter, flat_map, length, map, take, if◌then◌else◌}
 use Rattle.std.specs.List.{Contains}
 use Rattle.std.proofs.Common.{refl, sym, ap, subst, ◌∙◌, append_assoc, arith, get_or}
-use Rattle.std.proofs.lemmas.Bool.{and_parts, not-true, or_left, or_right, true≢false}
+use Rattle.std.proofs.lemmas.Bool.{and_parts, not-true, or_left, or_right, true≢false, or_parts}
 use Rattle.std.proofs.lemmas.List.{map-append}
 use Rattle.std.proofs.lemmas.List.Elements.{Contains-append_left, Contains-append_right, filter_more}
 use Rattle.ecs_id.specs.Id.{Id, plain, pair}
@@ -61,10 +61,6 @@ module _ (q : Query) (w : WorldState) (changed : Changed) where
       }
 
 -- ---- where no fact concerns others or those below
-both_false : (a b : Bool) → (a || b) ≡ false → (a ≡ false) × (b ≡ false)
-both_false false b e = (refl, e)
-both_false true b e = absurd (true≢false e)
-
 fails : (a b : Bool) → (a ≡ true → b ≡ true) → b ≡ false → a ≡ false
 fails true b wider e = absurd (true≢false (sym (wider refl) ∙ e))
 fails false b wider e = refl
@@ -72,7 +68,7 @@ fails false b wider e = refl
 none_with : (p : Key → Bool) (r : Id → Bool) → ((k : Key) → p k ≡ true → r k.1 ≡ true) → (ks : List Key) → any_by r ks ≡ false → map (λ (k : Key). k.0) (filter p ks) ≡ []
 none_with p r wider [] e = refl
 none_with p r wider (k ∷ ks) e =
-    let parts = both_false (r k.1) (any_by r ks) e in
+    let parts = or_parts (r k.1) (any_by r ks) e in
     ap (λ b. map (λ (k : Key). k.0) (cond b (k ∷ filter p ks) (filter p ks))) (fails (p k) (r k.1) (wider k) parts.0)
     ∙ none_with p r wider ks parts.1
 
@@ -81,14 +77,14 @@ none_by p r wider = none_with (λ k. p k.1) r (λ k. wider k.1)
 
 none_of : (p r : Id → Bool) → ((i : Id) → p i ≡ true → r i ≡ true) → (changed : Changed) → (any_by r changed.came || any_by r changed.went) ≡ false → entities_of p changed ≡ []
 none_of p r wider changed e =
-    let parts = both_false (any_by r changed.came) (any_by r changed.went) e in
+    let parts = or_parts (any_by r changed.came) (any_by r changed.went) e in
     (λ i. none_by p r wider changed.came parts.0 i ++ none_by p r wider changed.went parts.1 i)
 
 -- nor is any target among them that links others
 none_to : (p : Key → Id → Bool) (r : Id → Bool) → ((k : Key) (i : Id) → p k i ≡ true → r i ≡ true) → (ks : List Key) → any_by r ks ≡ false → flat_map (λ k. target_of (p k) k.1) ks ≡ []
 none_to p r wider [] e = refl
 none_to p r wider (k ∷ ks) e =
-    let parts = both_false (r k.1) (any_by r ks) e in
+    let parts = or_parts (r k.1) (any_by r ks) e in
     (λ i. no_pair (p k) k.1 (fails (p k k.1) (r k.1) (wider k k.1) parts.0) i ++ none_to p r wider ks parts.1 i)
   where
     no_pair : (p : Id → Bool) (i : Id) → p i ≡ false → target_of p i ≡ []
@@ -101,11 +97,11 @@ no_targets q w changed none = record {
   are_linked = record {
     others = λ tied x h. subst (λ (es : List ℕ). Contains es x) (none_of (concerns_others q) (concerns_beyond q) (λ i t. or_right (concerns_below q i) (concerns_others q i) t) changed none) h;
     busy = λ loose x h.
-        let nobody = both_false (any_by (concerns_beyond q) changed.came) (any_by (concerns_beyond q) changed.went) none in
+        let nobody = or_parts (any_by (concerns_beyond q) changed.came) (any_by (concerns_beyond q) changed.went) none in
         subst (λ (es : List ℕ). Contains es x) (λ j. busy_none changed.came nobody.0 j ++ busy_none changed.went nobody.1 j) h;
     lost = λ loose x h. subst (λ (es : List ℕ). Contains es x)
         (none_to (λ k. links_busily q changed.went (ids_of w k.0)) (concerns_beyond q) (λ k i t. or_right (concerns_below q i) (concerns_others q i) (links_concern_others q i (and_parts _ _ t).0)) changed.went
-        (both_false (any_by (concerns_beyond q) changed.came) (any_by (concerns_beyond q) changed.went) none).1) h;
+        (or_parts (any_by (concerns_beyond q) changed.came) (any_by (concerns_beyond q) changed.went) none).1) h;
     closed = λ loose x y h leads. absurd (omega (arith, h.1));
   };
   among = λ x h. h;
@@ -135,8 +131,8 @@ none_if_nobody p (k ∷ ks) e = by (p k.1) (none_if_nobody p ks) e
 neither : (p r : Id → Bool) (ks : List Key) → any_by p ks ≡ false → any_by r ks ≡ false → any_by (λ i. p i || r i) ks ≡ false
 neither p r [] e f = refl
 neither p r (k ∷ ks) e f =
-    let ps = both_false (p k.1) (any_by p ks) e in
-    let rs = both_false (r k.1) (any_by r ks) f in
+    let ps = or_parts (p k.1) (any_by p ks) e in
+    let rs = or_parts (r k.1) (any_by r ks) f in
     (λ j. (ps.0 j || rs.0 j) || neither p r ks ps.1 rs.1 j)
 
 none_beyond : (q : Query) (changed : Changed) → entities_of (concerns_others q) changed ≡ [] → entities_of (concerns_below q) changed ≡ []

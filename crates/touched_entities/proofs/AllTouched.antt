@@ -7,10 +7,10 @@ use Rattle.std.specs.List.{Contains, cons_option, list_any}
 use Rattle.std.specs.Option.{option_map_or}
 use Rattle.std.specs.Ordering.{nat_cmp, eq_by_cmp}
 use Rattle.std.proofs.Common.{refl, sym, ap, subst, ◌∙◌, inl, inr, true≢false, append_assoc, arith, ◌+◌, ◌<◌, get_or, length, take}
-use Rattle.std.proofs.lemmas.Bool.Decides.{nat_tests}
 use Rattle.std.proofs.lemmas.List.{get_or_default, map_push, take_more}
 use Rattle.std.proofs.lemmas.List.Elements.{Contains-append_cases, Contains-append_left, Contains-append_right}
 use Rattle.std.proofs.lemmas.Map.Views.{Contains-from_any}
+use Rattle.watch_meaning.proofs.Deaths.{ties}
 use Rattle.ecs_id.specs.declared.EntityId.{EntityId}
 use Rattle.ecs_id.specs.Id.{Id}
 use Rattle.ecs_model.specs.Command.{Changed}
@@ -29,9 +29,6 @@ use Rattle.touched_entities.specs.Indexes.{indexes_of, touch_at}
 use Rattle.touched_entities.proofs.IdsBefore.{among, is_among, same_ids}
 use Rattle.touched_entities.proofs.Newborn.{born_fresh, newborn}
 use Rattle.touched_entities.proofs.WorldBefore.{dead, has_died, has_gone, is_new, shown_before}
-
-ties : (i j : ℕ) → eq_by_cmp nat_cmp i j ≡ (j == i)
-ties i j = grind (arith, nat_tests)
 
 -- who is listed lives
 pub listed_lives : (w : WorldState) (i : ℕ) → contains (entities w) i ≡ is_live w i

@@ -1,13 +1,12 @@
 -- Who isn't among those that may have moved stays as before: no fact that concerns the query came or went of its own, nor one that concerns others of somebody with whom it holds a pair,
 -- nor one that concerns those below of somebody above it. Of a linked query no fact that may move others came or went of any with whom it is linked, before or after.
-use Rattle.std.specs.Prelude.{◌≡◌, ◌↔◌, ℕ, suc, ◌==◌, Bool, true, false, not, ◌&&◌, ◌||◌, List, [], ◌∷◌, ◌++◌, filter, length, map, Some, None, is_some, if◌then◌else◌}
+use Rattle.std.specs.Prelude.{◌≡◌, ◌↔◌, ℕ, suc, ◌==◌, Bool, true, false, not, ◌&&◌, ◌||◌, List, [], ◌∷◌, ◌++◌, filter, length, map, if◌then◌else◌}
 use Rattle.std.specs.List.{Contains, list_any}
 use Rattle.std.proofs.Common.{refl, sym, ap, subst, ◌∙◌, inl, inr, arith, cond, true≢false}
-use Rattle.std.proofs.lemmas.Option.{same_Some}
-use Rattle.std.proofs.lemmas.Bool.{and_from, and_parts, cases_Bool, false≢true, not-true, or_left, or_right}
+use Rattle.std.proofs.lemmas.Bool.{and_from, and_parts, cases_Bool, false≢true, not-true, or_left, or_right, not-false}
 use Rattle.std.proofs.lemmas.List.Kept.{IsStrictlySortedBy-filter}
 use Rattle.std.proofs.lemmas.List.Elements.{Contains-append_left, Contains-append_right}
-use Rattle.ecs_id.specs.Id.{Id, plain, pair, id_cmp, id_cmp_same, id_cmp_total, last_index}
+use Rattle.ecs_id.specs.Id.{Id, pair, id_cmp, id_cmp_same, id_cmp_total, last_index}
 use Rattle.ecs_model.specs.Command.{Changed}
 use Rattle.ecs_model.specs.Links.{AreLinks, line, target_under, upward}
 use Rattle.ecs_model.specs.Reach.{HasChain, Reached, itself, onward}
@@ -20,6 +19,7 @@ use Rattle.ecs_model.proofs.Reaching.{chain_reached}
 use Rattle.ecs_model.proofs.traits.Adding.{in_map}
 use Rattle.ecs_model.proofs.traits.Facts.{held_listed, listed_held}
 use Rattle.ecs_model.proofs.traits.Kept.{are_links, refuted}
+use Rattle.ecs_model.proofs.Linked.{of_pair}
 use Rattle.component_index.specs.Patterns.{matches}
 use Rattle.query_model.specs.Query.{Query}
 use Rattle.query_meaning.specs.Sound.{IsSound}
@@ -65,19 +65,7 @@ wider_and false false h = refl
 filter_within : (p r : Id → Bool) → ((i : Id) → p i ≡ true → r i ≡ true) → (is : List Id) → filter p is ≡ filter p (filter r is)
 filter_within p r wider is = sym (filter_twice p r is ∙ (λ j. filter (λ i. wider_and (r i) (p i) (wider i) j) is))
 
-not-false : (b : Bool) → not b ≡ false → b ≡ true
-not-false true h = refl
-not-false false h = absurd (true≢false h)
-
 -- ---- facts
-
-to_pair : (r x : ℕ) (i : Id) → target_under r i ≡ Some x → i ≡ pair r x
-to_pair r x (plain c) h = absurd (false≢true (ap is_some h))
-to_pair r x (pair q t) h = by (q == r) refl h
-  where
-    by : (b : Bool) → (q == r) ≡ b → (if b then Some t else None) ≡ Some x → pair q t ≡ pair r x
-    by true same k = ap (λ s. pair s t) (eq_same q r same) ∙ ap (pair r) (same_Some t x k)
-    by false same k = absurd (false≢true (ap is_some k))
 
 -- whoever isn't listed by a test has no fact among these whose id passes it
 unlisted : (p : Key → Bool) (ks : List Key) (x : ℕ) → (Contains (map (λ k. k.0) (filter p ks)) x → ⊥) → (i : Id) → p (x, i) ≡ true → list_any (key_eq (x, i)) ks ≡ false
@@ -257,13 +245,13 @@ module _ (v : WorldState) (changed : Changed) (kept_now : IsWellFormed v) (after
     itself_leans : (r x : ℕ) → Contains (up r e) x → Contains (leaning (moves_by q) v x) e
     itself_leans r x h =
         let found = from_filter_map (target_under r) (filter (matters e) (ids_of v e)) x h in
-        let f = (filtered (matters e) (ids_of v e) (pair r x)).0 (subst (Contains (filter (matters e) (ids_of v e))) (to_pair r x found.0 found.2) found.1) in
+        let f = (filtered (matters e) (ids_of v e) (pair r x)).0 (subst (Contains (filter (matters e) (ids_of v e))) (of_pair r x found.0 found.2) found.1) in
         holder_leans (moves_by q) e r x f.0 (and_from _ _ (sym (matters_itself (pair r x)) ∙ f.1) fit)
 
     other_leans : (r y x : ℕ) → (y == e) ≡ false → Contains (up r y) x → Contains (leaning (λ ids. concerns_beyond q) v x) y
     other_leans r y x other h =
         let found = from_filter_map (target_under r) (filter (matters y) (ids_of v y)) x h in
-        let f = (filtered (matters y) (ids_of v y) (pair r x)).0 (subst (Contains (filter (matters y) (ids_of v y))) (to_pair r x found.0 found.2) found.1) in
+        let f = (filtered (matters y) (ids_of v y) (pair r x)).0 (subst (Contains (filter (matters y) (ids_of v y))) (of_pair r x found.0 found.2) found.1) in
         holder_leans (λ ids. concerns_beyond q) y r x f.0 (sym (λ j. if other j then concerns q (pair r x) else concerns_beyond q (pair r x)) ∙ f.1)
 
     -- so it leans on whoever is above it, or on somebody below that

@@ -7,6 +7,7 @@ use Rattle.std.specs.Ordering.{eq_by_cmp}
 use Rattle.std.specs.declared.cmp.Ordering.{Ordering}
 use Rattle.std.specs.declared.cmp.Ordering.TheVariants.{Equal}
 use Rattle.std.proofs.Common.{refl, sym, ap, ◌∙◌}
+use Rattle.std.proofs.Math.Bool.{or-false}
 use Rattle.ecs_model.specs.Map.{Map, IsMap, has_key, keys, value_at, without}
 use Rattle.ecs_model.specs.Sets.{Set, with_member}
 use Rattle.ecs_model.proofs.Maps.{IsMap-with_value}
@@ -18,10 +19,6 @@ one_first true true c = refl
 one_first true false c = refl
 one_first false true c = refl
 one_first false false c = refl
-
-or_none : (b : Bool) → (b || false) ≡ b
-or_none true = refl
-or_none false = refl
 
 module _ {K : Type 0} (R : K → K → Ordering) (o : IsTotalOrder R) where
   with_one : (s : Set K) (x k : K) → has_key R (with_member R s x) k ≡ (eq_by_cmp R k x || has_key R s k)
@@ -47,7 +44,7 @@ module _ {K : Type 0} (R : K → K → Ordering) (o : IsTotalOrder R) where
     in_order_are_keys xs h alike =
         let none : Set K = [] in
         same_keys R o same (fold (with_member R) none xs) m (IsMap-with_all xs none refl) h
-        (λ k. with_all xs none k ∙ or_none (list_any (eq_by_cmp R k) xs) ∙ alike k)
+        (λ k. with_all xs none k ∙ or-false (list_any (eq_by_cmp R k) xs) ∙ alike k)
 
     -- those keys of a map that are left
     pub any_without : (test : K → Bool) (k : K) → list_any (eq_by_cmp R k) (keys (without R m test)) ≡ (not (test k) && has_key R m k)

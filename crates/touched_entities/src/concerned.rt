@@ -26,7 +26,7 @@ pub fn is_concerned<A: Allocator>(query: &Query<A>, bonds: Bonds, changes: &Chan
 }
 
 /// Whether somebody was born or died.
-fn has_births_or_deaths<A: Allocator>(changes: &Changes<A>) -> bool
+pub fn has_births_or_deaths<A: Allocator>(changes: &Changes<A>) -> bool
     ensures { result ≡ has_births_or_deaths changes.now }
 {
     changes.born().is_some() || !changes.died().is_empty()

@@ -13,6 +13,6 @@ mod sought;
 mod touching;
 
 pub use bonds::Bonds;
-pub use concerned::is_concerned;
+pub use concerned::{has_births_or_deaths, is_concerned};
 pub use moving::{Moved, who_may_have_moved};
 pub use touching::touched;

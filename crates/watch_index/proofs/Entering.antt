@@ -1,58 +1,18 @@
 -- What the lists of the occasions hold after a step, and after many.
-use Rattle.std.proofs.Common.{◌≡◌, ℕ, zero, suc, ◌≤◌, subst, ◌+◌, ◌<◌, ◌==◌, ◌&&◌, ◌||◌, not, Bool, true, false, cond, true≢false, List, [], ◌∷◌, length, take, arith, Option, Some, None, refl, sym, ap, ◌∙◌, slice_index_or, Result, Ok, Err, OnErr}
+use Rattle.std.proofs.Common.{◌≡◌, ℕ, ◌≤◌, subst, ◌+◌, ◌<◌, ◌==◌, ◌&&◌, ◌||◌, not, Bool, true, false, cond, List, [], ◌∷◌, length, take, arith, Option, Some, None, refl, sym, ap, ◌∙◌, slice_index_or}
 use Rattle.std.specs.Map.{lookup}
 use Rattle.std.specs.Option.{option_map_or}
 use Rattle.std.specs.List.{list_any}
-use Rattle.std.proofs.lemmas.Bool.{and_parts}
+use Rattle.std.proofs.lemmas.Bool.{and_parts, or_right}
 use Rattle.std.proofs.lemmas.Bool.Decides.{Decides-eqb}
 use Rattle.std.proofs.lemmas.List.{take_all}
 use Rattle.std.proofs.lemmas.List.Folds.{list_any_more}
+use Rattle.std.proofs.Math.Bool.{and-false}
+use Rattle.component_index.proofs.ListedLemmas.{or_none, and_all, added_at, dropped_at, apart_from, or_steps, and_steps, gone_twice, any-take}
+pub use Rattle.component_index.proofs.ListedLemmas.{on_err}
 use Rattle.watch_index.specs.declared.occasion.Occasion.{Occasion}
 use Rattle.watch_index.specs.Listed.{Adds, AreSame, Drops, Keeps, Listings, has, is_listed}
 use Rattle.watch_index.specs.SameOccasion.{occasion_eq, same_occasion}
-
-or_none : (b : Bool) → b ≡ (b || false)
-or_none true = refl
-or_none false = refl
-
-and_all : (b : Bool) → b ≡ (b && true)
-and_all true = refl
-and_all false = refl
-
-added_at : (t h : Bool) → cond t true h ≡ (h || t)
-added_at true true = refl
-added_at true false = refl
-added_at false true = refl
-added_at false false = refl
-
-dropped_at : (t h : Bool) → cond t false h ≡ (h && not t)
-dropped_at true true = refl
-dropped_at true false = refl
-dropped_at false true = refl
-dropped_at false false = refl
-
--- outside the wider test is outside the narrower
-apart_from : (c d t : Bool) → (c && t) ≡ false → (d ≡ true → c ≡ true) → (d && t) ≡ false
-apart_from c true t e k = ap (λ x. x && t) (sym (k refl)) ∙ e
-apart_from c false t e k = refl
-
-or_steps : (h a b t : Bool) → ((h || (a && t)) || (b && t)) ≡ (h || ((a || b) && t))
-or_steps true a b t = refl
-or_steps false true true true = refl
-or_steps false true b false = and_false b
-  where
-    and_false : (b : Bool) → (b && false) ≡ false
-    and_false true = refl
-    and_false false = refl
-or_steps false true false true = refl
-or_steps false false b t = refl
-
-and_steps : (h a b t : Bool) → ((h && not (a && t)) && not (b && t)) ≡ (h && not ((a || b) && t))
-and_steps true true b true = refl
-and_steps true true true false = refl
-and_steps true true false false = refl
-and_steps true false b t = refl
-and_steps false a b t = refl
 
 -- whether a list that there may be has the number
 abbrev some_has : Option (List ℕ) → ℕ → Bool
@@ -121,10 +81,6 @@ module _ (m n o : Listings) (a b c : Occasion → Bool) (number : ℕ) where
       let outside : (d : Bool) → (d ≡ true → c p ≡ true) → (d && number == k) ≡ false = λ d dc. apart_from (c p) d (number == k) out dc in
       g p k (outside (b p) (bc p)) ∙ f p k ∙ (λ i. is_listed m p k || outside (a p) (ac p) i) ∙ sym (or_none (is_listed m p k))
 
-gone_twice : {X : Type 0} (b : Bool) (x : X) (o p q : Option X) → p ≡ cond b (Some x) o → q ≡ cond b None p → q ≡ cond b None o
-gone_twice true x o p q f g = g
-gone_twice false x o p q f g = g ∙ f
-
 -- a list that is there no more had the same numbers as one without any
 pub gone_at : (m n o : Listings) (occasion : Occasion) (list : List ℕ) → ((q : Occasion) → lookup (occasion_eq q) n ≡ cond (occasion_eq occasion q) (Some list) (lookup (occasion_eq q) m))
     → ((q : Occasion) → lookup (occasion_eq q) o ≡ cond (occasion_eq occasion q) None (lookup (occasion_eq q) n)) → (q : Occasion) → lookup (occasion_eq q) o ≡ cond (occasion_eq occasion q) None (lookup (occasion_eq q) m)
@@ -138,19 +94,6 @@ pub has_none : (list : List ℕ) → length list ≡ 0 → (k : ℕ) → false �
 has_none list e k = sym (none_in list k e)
 
 -- ---- a step for each of a list
-or_wider : (a b c : Bool) → (b ≡ true → c ≡ true) → (a || b) ≡ true → (a || c) ≡ true
-or_wider true b c f h = refl
-or_wider false b c f h = f h
-
-any-take : {X : Type 0} (f : X → Bool) (xs : List X) (i : ℕ) → list_any f (take i xs) ≡ true → list_any f xs ≡ true
-any-take f xs zero h = absurd (true≢false (sym h))
-any-take f [] (suc i) h = h
-any-take f (x ∷ xs) (suc i) h = or_wider (f x) _ _ (any-take f xs i) h
-
-or_first : (a b : Bool) → b ≡ true → (a || b) ≡ true
-or_first true b h = refl
-or_first false b h = h
-
 module _ {X : Type 0} (test : X → Occasion → Bool) (xs : List X) where
   -- the occasion passes the test of one of the first
   abbrev pub of_first : ℕ → Occasion → Bool
@@ -185,23 +128,14 @@ module _ {X : Type 0} (test : X → Occasion → Bool) (xs : List X) where
       -- where a step is refused, what was added and what was kept is of the whole list
       pub Keeps-more : Adds m n (of_first i) number → Keeps n o (test x) number → Keeps m o of_each number
       Keeps-more f g = Keeps-steps m n o (of_first i) (test x) of_each number (λ p h. any-take (λ y. test y p) xs i h)
-          (λ p h. any-take (λ y. test y p) xs (i + 1) (more p ∙ or_first (of_first i p) _ h)) f g
+          (λ p h. any-take (λ y. test y p) xs (i + 1) (more p ∙ or_right (of_first i p) _ h)) f g
 
 -- ---- what was entered in part, and is taken out again
-and_none : (b : Bool) → (b && false) ≡ false
-and_none true = refl
-and_none false = refl
-
 pub undone : (m n o : Listings) (test : Occasion → Bool) (number : ℕ) → ((p : Occasion) → is_listed m p number ≡ false) → Keeps m n test number → Drops n o test number → AreSame m o
 undone m n o test number free kept dropped p k = by (test p && number == k) refl
   where
     by : (b : Bool) → (test p && number == k) ≡ b → is_listed o p k ≡ is_listed m p k
     by true e =
         let same : number ≡ k = (Decides-eqb number k).0 (and_parts (test p) (number == k) e).1 in
-        dropped p k ∙ (λ i. is_listed n p k && not (e i)) ∙ and_none (is_listed n p k) ∙ sym (ap (is_listed m p) (sym same) ∙ free p)
+        dropped p k ∙ (λ i. is_listed n p k && not (e i)) ∙ and-false (is_listed n p k) ∙ sym (ap (is_listed m p) (sym same) ∙ free p)
     by false e = dropped p k ∙ (λ i. is_listed n p k && not (e i)) ∙ sym (and_all (is_listed n p k)) ∙ kept p k e
-
--- what holds holds of an error
-pub on_err : {X E : Type 0} {P : Type 0} (r : Result X E) → P → OnErr r P
-on_err (Ok x) p = tt
-on_err (Err e) p = p

@@ -1,5 +1,5 @@
 -- Whomever changes may concern looks out for some of them.
-use Rattle.std.specs.Prelude.{◌≡◌, ℕ, ◌==◌, Bool, true, false, not, ◌&&◌, ◌||◌, List, [], ◌∷◌, ◌++◌, flat_map, Option, Some, None, if◌then◌else◌}
+use Rattle.std.specs.Prelude.{◌≡◌, ℕ, Bool, true, false, not, ◌&&◌, ◌||◌, List, [], ◌∷◌, ◌++◌, flat_map, Option, Some, None, if◌then◌else◌}
 use Rattle.std.specs.List.{list_any}
 use Rattle.std.specs.Option.{option_map_or}
 use Rattle.std.proofs.Common.{refl, sym, ap, ◌∙◌, true≢false, ◌⊎◌, inl, inr}
@@ -14,32 +14,32 @@ use Rattle.ecs_model.specs.declared.watches.StoredKind.TheVariants.{Kept, Monito
 use Rattle.ecs_model.specs.rows.Rows.{fits, matches}
 use Rattle.ecs_model.specs.stored.Watches.{matches_term, only_term}
 use Rattle.ecs_model.specs.World.{Key}
+use Rattle.ecs_model.proofs.Members.{eq_itself}
 use Rattle.query_concerns.specs.Anchored.{is_anchored}
-use Rattle.query_concerns.specs.Concerns.{concerns, is_asked_by_all, is_pair_of, item_concerns, leads_up, may_be, may_match, piece_concerns, term_concerns}
+use Rattle.query_concerns.specs.Concerns.{concerns, is_asked_by_all, is_pair_of, leads_up, may_be, may_match, term_concerns}
+use Rattle.query_concerns.proofs.Unasked.{any_wider}
 use Rattle.query_model.specs.declared.query.Ref.{Ref}
 use Rattle.query_model.specs.declared.query.Ref.TheVariants as ref
 use Rattle.query_model.specs.declared.query.Term.{Term}
-use Rattle.query_model.specs.Query.{Item, must, may, either, equal, differ, Piece, item, opening, closing, Query}
+use Rattle.query_model.specs.Query.{must, may, either, equal, differ, Piece, item, opening, closing, Query}
+use Rattle.query_check.specs.Terms.{piece_terms, terms}
 use Rattle.watch_index.specs.declared.occasion.Occasion.{Occasion}
 use Rattle.watch_index.specs.declared.occasion.Occasion.TheVariants.{Life, AskedByAll, Fact}
 use Rattle.watch_index.specs.declared.occasion.Way.{Way}
 use Rattle.watch_index.specs.declared.occasion.Way.TheVariants.{Moves, IsWritten}
 use Rattle.watch_index.specs.Laws.{WhomChangesConcernTheyLeadTo, meets}
 use Rattle.watch_index.specs.Listed.{is_among}
-use Rattle.watch_index.specs.Occasions.{closed_occasions, facts_of, happening, item_occasions, moved, of_all, of_monitors, pairs_of, part_of, pattern_of, piece_occasions, term_occasions, up_occasions}
+use Rattle.watch_index.specs.Occasions.{closed_occasions, facts_of, happening, moved, of_all, of_monitors, pairs_of, part_of, pattern_of, term_occasions, up_occasions}
 use Rattle.component_index.specs.SamePattern.{pattern_eq}
 use Rattle.watch_index.specs.SameOccasion.{occasion_eq, same_occasion}
 
 -- ---- occasions and patterns are themselves
-number_itself : (n : ℕ) → (n == n) ≡ true
-number_itself n = (Decides-eqb n n).1 refl
-
 pattern_itself : (a : Part) (s : Option Part) → pattern_eq (record { first = a; second = s }) (record { first = a; second = s }) ≡ true
-pattern_itself (part.Is n) None = rw (number_itself n) refl
-pattern_itself (part.Is n) (Some (part.Is m)) = rw (number_itself n, number_itself m) refl
-pattern_itself (part.Is n) (Some part.Any) = rw (number_itself n) refl
+pattern_itself (part.Is n) None = rw (eq_itself n) refl
+pattern_itself (part.Is n) (Some (part.Is m)) = rw (eq_itself n, eq_itself m) refl
+pattern_itself (part.Is n) (Some part.Any) = rw (eq_itself n) refl
 pattern_itself part.Any None = refl
-pattern_itself part.Any (Some (part.Is m)) = rw (number_itself m) refl
+pattern_itself part.Any (Some (part.Is m)) = rw (eq_itself m) refl
 pattern_itself part.Any (Some part.Any) = refl
 
 fact_itself : (w : Way) (p : Pattern) → occasion_eq (Fact w p) (Fact w p) ≡ true
@@ -65,22 +65,14 @@ meets_by wanted (x ∷ xs) o w h = by (occasion_eq x o) refl h (meets_by wanted 
     by true e h rest = or_left (is_among wanted x) (meets wanted xs) (ap (is_among wanted) (same_occasion x o e) ∙ w)
     by false e h rest = or_right (is_among wanted x) (meets wanted xs) (rest h)
 
-any_wider : {X : Type 0} (p q : X → Bool) (xs : List X) → ((x : X) → p x ≡ true → q x ≡ true) → list_any p xs ≡ true → list_any q xs ≡ true
-any_wider p q [] wider h = absurd (true≢false (sym h))
-any_wider p q (x ∷ xs) wider h = by (p x) refl h (any_wider p q xs wider)
-  where
-    by : (b : Bool) → p x ≡ b → (b || list_any p xs) ≡ true → (list_any p xs ≡ true → list_any q xs ≡ true) → (q x || list_any q xs) ≡ true
-    by true e h rest = or_left (q x) (list_any q xs) (wider x e)
-    by false e h rest = or_right (q x) (list_any q xs) (rest h)
-
 module _ (happened : List Occasion) where
   meets_left : (os ps : List Occasion) → meets os happened ≡ true → meets (os ++ ps) happened ≡ true
   meets_left os ps h =
-      any_wider (is_among os) (is_among (os ++ ps)) happened
-      (λ o e. list_any-append (λ one. occasion_eq one o) os ps ∙ or_left (is_among os o) (is_among ps o) e) h
+      any_wider (is_among os) (is_among (os ++ ps))
+      (λ o e. list_any-append (λ one. occasion_eq one o) os ps ∙ or_left (is_among os o) (is_among ps o) e) happened h
 
   meets_right : (os ps : List Occasion) → meets ps happened ≡ true → meets (os ++ ps) happened ≡ true
-  meets_right os ps h = any_wider (is_among ps) (is_among (os ++ ps)) happened (λ o e. among_right os ps o e) h
+  meets_right os ps h = any_wider (is_among ps) (is_among (os ++ ps)) (λ o e. among_right os ps o e) happened h
 
   -- of one of some
   meets_flat : {X : Type 0} (f : X → List Occasion) (p : X → Bool) (xs : List X) → ((x : X) → p x ≡ true → meets (f x) happened ≡ true) → list_any p xs ≡ true
@@ -186,18 +178,6 @@ module _ (way : Way) where
           (meets_right (facts_of way i) (up_occasions way t.up) (closed_occasions way t) (closed_meets t i ec))
       by false false false ea eb ec h = absurd (true≢false (sym h))
 
-  item_meets : (x : Item) (i : Id) → item_concerns i x ≡ true → meets (item_occasions way x) (facts_of way i) ≡ true
-  item_meets (must t) i h = term_meets t i h
-  item_meets (may t) i h = term_meets t i h
-  item_meets (either ts) i h = meets_flat (facts_of way i) (term_occasions way) (term_concerns i) ts (λ t e. term_meets t i e) h
-  item_meets (equal v r) i h = absurd (true≢false (sym h))
-  item_meets (differ v r) i h = absurd (true≢false (sym h))
-
-  piece_meets : (p : Piece) (i : Id) → piece_concerns i p ≡ true → meets (piece_occasions way p) (facts_of way i) ≡ true
-  piece_meets (item x) i h = item_meets x i h
-  piece_meets (opening from_term own) i h = absurd (true≢false (sym h))
-  piece_meets closing i h = absurd (true≢false (sym h))
-
   -- ---- an observer's one term
   may_fit : (e : ℕ) (a : Ref) → fits [] e a ≡ true → may_be e a ≡ true
   may_fit e (ref.Is d) h = h
@@ -213,7 +193,7 @@ module _ (way : Way) where
       let parts = and_parts (fits [] r first) (fits [] t target) h in
       rw (may_fit r first parts.0, may_fit t target parts.1) refl
 
-  observed_meets : (ps : List Piece) (i : Id) → option_map_or (λ t. matches [] t.first t.target i) (only_term ps) false ≡ true → meets (flat_map (piece_occasions way) ps) (facts_of way i) ≡ true
+  observed_meets : (ps : List Piece) (i : Id) → option_map_or (λ t. matches [] t.first t.target i) (only_term ps) false ≡ true → meets (flat_map (term_occasions way) (flat_map piece_terms ps)) (facts_of way i) ≡ true
   observed_meets [] i h = absurd (true≢false (sym h))
   observed_meets (item (must t) ∷ []) i h = meets_left (facts_of way i) (term_occasions way t) [] (match_meets t i (may_matches t.first t.target i h))
   observed_meets (item (must t) ∷ p ∷ ps) i h = absurd (true≢false (sym h))
@@ -229,28 +209,28 @@ by_all : (i : Id) → is_asked_by_all i ≡ true → is_among (moved i) AskedByA
 by_all i e = ap (λ b. is_among ((if b then AskedByAll ∷ [] else []) ++ facts_of Moves i) AskedByAll) e
 
 asked_by_all : (q : Query) → is_among (of_monitors q) AskedByAll ≡ true
-asked_by_all q = among_right (flat_map (piece_occasions Moves) q.pieces) (AskedByAll ∷ (if is_anchored q then [] else Life ∷ [])) AskedByAll refl
+asked_by_all q = among_right (flat_map (term_occasions Moves) (terms q)) (AskedByAll ∷ (if is_anchored q then [] else Life ∷ [])) AskedByAll refl
 
 monitor_meets : (q : Query) (i : Id) → concerns q i ≡ true → meets (of_monitors q) (moved i) ≡ true
 unfolding concerns
 monitor_meets q i h = by (is_asked_by_all i) refl h
   where
-    by : (b : Bool) → is_asked_by_all i ≡ b → (b || list_any (piece_concerns i) q.pieces) ≡ true → meets (of_monitors q) (moved i) ≡ true
+    by : (b : Bool) → is_asked_by_all i ≡ b → (b || list_any (term_concerns i) (terms q)) ≡ true → meets (of_monitors q) (moved i) ≡ true
     by true e h = meets_by (of_monitors q) (moved i) AskedByAll (asked_by_all q) (by_all i e)
     by false e h =
         happens_right (of_monitors q) (of_all i) (facts_of Moves i)
-        (meets_left (facts_of Moves i) (flat_map (piece_occasions Moves) q.pieces) (AskedByAll ∷ (if is_anchored q then [] else Life ∷ []))
-        (meets_flat (facts_of Moves i) (piece_occasions Moves) (piece_concerns i) q.pieces (λ p e. piece_meets Moves p i e) h))
+        (meets_left (facts_of Moves i) (flat_map (term_occasions Moves) (terms q)) (AskedByAll ∷ (if is_anchored q then [] else Life ∷ []))
+        (meets_flat (facts_of Moves i) (term_occasions Moves) (term_concerns i) (terms q) (λ t e. term_meets Moves t i e) h))
 
-observer_meets : (q : Query) (i : Id) → matches_term q i ≡ true → meets (flat_map (piece_occasions Moves) q.pieces) (moved i) ≡ true
-observer_meets q i h = happens_right (flat_map (piece_occasions Moves) q.pieces) (of_all i) (facts_of Moves i) (observed_meets Moves q.pieces i h)
+observer_meets : (q : Query) (i : Id) → matches_term q i ≡ true → meets (flat_map (term_occasions Moves) (terms q)) (moved i) ≡ true
+observer_meets q i h = happens_right (flat_map (term_occasions Moves) (terms q)) (of_all i) (facts_of Moves i) (observed_meets Moves q.pieces i h)
 
 lives_meet : (q : Query) (lives : Bool) → (lives && not (is_anchored q)) ≡ true → meets (of_monitors q) (if lives then Life ∷ [] else []) ≡ true
 lives_meet q lives h =
     let parts = and_parts lives (not (is_anchored q)) h in
     let free : is_anchored q ≡ false = not-true (is_anchored q) parts.1 in
     let wanted : is_among (of_monitors q) Life ≡ true =
-    among_right (flat_map (piece_occasions Moves) q.pieces) (AskedByAll ∷ (if is_anchored q then [] else Life ∷ [])) Life
+    among_right (flat_map (term_occasions Moves) (terms q)) (AskedByAll ∷ (if is_anchored q then [] else Life ∷ [])) Life
     (ap (λ b. is_among (AskedByAll ∷ (if b then [] else Life ∷ [])) Life) free) in
     ap (λ b. meets (of_monitors q) (if b then Life ∷ [] else [])) parts.0 ∙ or_left (is_among (of_monitors q) Life) false wanted
 
@@ -297,12 +277,12 @@ whom_changes_concern Monitor q lives came went written h =
         at_went (of_monitors q) lives came went written (happens_flat (of_monitors q) (λ (k : Key). moved k.1) (λ (k : Key). concerns q k.1) went (λ k e. monitor_meets q k.1 e) ec)
     by false false false ea eb ec h = absurd (true≢false (sym h))
 whom_changes_concern OnAdd q lives came went written h =
-    let wanted : List Occasion = flat_map (piece_occasions Moves) q.pieces in
+    let wanted : List Occasion = flat_map (term_occasions Moves) (terms q) in
     at_came wanted lives came went written (happens_flat wanted (λ (k : Key). moved k.1) (λ (k : Key). matches_term q k.1) came (λ k e. observer_meets q k.1 e) h)
 whom_changes_concern OnRemove q lives came went written h =
-    let wanted : List Occasion = flat_map (piece_occasions Moves) q.pieces in
+    let wanted : List Occasion = flat_map (term_occasions Moves) (terms q) in
     at_went wanted lives came went written (happens_flat wanted (λ (k : Key). moved k.1) (λ (k : Key). matches_term q k.1) went (λ k e. observer_meets q k.1 e) h)
 whom_changes_concern OnSet q lives came went written h =
-    let wanted : List Occasion = flat_map (piece_occasions IsWritten) q.pieces in
+    let wanted : List Occasion = flat_map (term_occasions IsWritten) (terms q) in
     at_written wanted lives came went written
     (happens_flat wanted (λ (k : Key). facts_of IsWritten k.1) (λ (k : Key). matches_term q k.1) written (λ k e. observed_meets IsWritten q.pieces k.1 e) h)

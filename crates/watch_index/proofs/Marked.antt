@@ -3,58 +3,27 @@ use Rattle.std.specs.Prelude.{◌==◌, ◌&&◌, ◌||◌, not, bit_and, bit_or
 use Rattle.std.specs.Int.{bit_at}
 use Rattle.std.specs.Map.{lookup}
 use Rattle.std.specs.Option.{option_map_or}
-use Rattle.std.proofs.Common.{◌≡◌, ℕ, zero, suc, ◌+◌, ◌*◌, ◌/◌, ◌%◌, ◌^◌, ◌<◌, ◌≤◌, Bool, true, false, List, [], ◌∷◌, ◌++◌, append-nil, length, get_or, replicate, slice_index_or, set, take, Option, Some, None, sym, ap, ◌∙◌, inl, inr, arith, eq-eqb, w64, refl, true≢false}
-use Rattle.std.proofs.lemmas.Bool.{cases_eq, ne_eqb}
-use Rattle.std.proofs.lemmas.Grind.{get_or-set_at}
-use Rattle.std.proofs.lemmas.List.{get_or-set_other, take_all}
+use Rattle.std.proofs.Common.{◌≡◌, ℕ, zero, suc, ◌+◌, ◌*◌, ◌/◌, ◌%◌, ◌^◌, ◌<◌, ◌≤◌, Bool, true, false, List, [], ◌∷◌, ◌++◌, append-nil, length, get_or, replicate, slice_index_or, set, take, Option, Some, None, sym, ap, ◌∙◌, inl, inr, eq-eqb, refl, true≢false}
+use Rattle.std.proofs.lemmas.Bool.{cases_eq, ne_eqb, or_parts}
+use Rattle.std.proofs.lemmas.List.{take_all}
 use Rattle.std.proofs.lemmas.List.Folds.{list_any_more}
-use Rattle.std.proofs.lemmas.Nat.Bits.{bit_at-zero, bit_at_set_other, bit_at_set_same, shr_and_one}
+use Rattle.std.proofs.lemmas.Nat.Bits.{bit_at-zero, shr_and_one}
+use Rattle.component_index.proofs.ListedLemmas.{or_none}
+use Rattle.ecs_model.proofs.Bits.{set_at, set_other}
 use Rattle.watch_index.specs.declared.occasion.Occasion.{Occasion}
 use Rattle.watch_index.specs.Listed.{Adds, AreMarked, Drops, Keeps, Listings, has as has_number, is_among, is_listed, listed, shares_mark}
 use Rattle.watch_index.specs.Marks.{has, mark_of}
 use Rattle.watch_index.specs.SameOccasion.{occasion_eq, same_occasion}
 
 -- ---- bits in words
-module _ (old new : List ℕ) (k word : ℕ) (within : k / 64 < length old) (is : new ≡ set old (k / 64) word) where
-  at_place : (e : ℕ) → e / 64 ≡ k / 64 → get_or new (e / 64) 0 ≡ word
-  at_place e same = ap (λ xs. get_or xs (e / 64) 0) is ∙ get_or-set_at old (k / 64) (e / 64) word 0 same within
-
-  elsewhere : (e : ℕ) → (e / 64 ≡ k / 64 → ⊥) → get_or new (e / 64) 0 ≡ get_or old (e / 64) 0
-  elsewhere e other = ap (λ xs. get_or xs (e / 64) 0) is ∙ get_or-set_other old (k / 64) (e / 64) word 0 other
-
-other_bit : (e k : ℕ) → (e ≡ k → ⊥) → e / 64 ≡ k / 64 → e % 64 ≡ k % 64 → ⊥
-other_bit e k other place same = other (omega (arith, place, same))
-
-small : (k : ℕ) → k % 64 < 64
-small k = omega arith
-
 -- a bit that is set
 module _ (old new : List ℕ) (k : ℕ) (within : k / 64 < length old) (is : new ≡ set old (k / 64) (bit_or (get_or old (k / 64) 0) (1 * 2 ^ (k % 64) % 2 ^ 64))) where
-  abbrev with_bit : ℕ
-  with_bit = bit_or (get_or old (k / 64) 0) (1 * 2 ^ (k % 64) % 2 ^ 64)
-
-  set_at : (e : ℕ) → e ≡ k → bit_at (get_or new (e / 64) 0) (e % 64) ≡ 1
-  set_at e same =
-      ap (λ n. bit_at (get_or new (n / 64) 0) (n % 64)) same
-      ∙ ap (λ x. bit_at x (k % 64)) (at_place old new k with_bit within is k refl)
-      ∙ bit_at_set_same w64 (get_or old (k / 64) 0) (k % 64) (small k)
-
-  set_other : (e : ℕ) → (e ≡ k → ⊥) → bit_at (get_or new (e / 64) 0) (e % 64) ≡ bit_at (get_or old (e / 64) 0) (e % 64)
-  set_other e other =
-      elim (cases_eq (e / 64) (k / 64)) [
-        | inl place ↦
-            ap (λ x. bit_at x (e % 64)) (at_place old new k with_bit within is e place)
-            ∙ bit_at_set_other w64 (get_or old (k / 64) 0) (k % 64) (small k) (e % 64) (other_bit e k other place)
-            ∙ ap (λ p. bit_at (get_or old p 0) (e % 64)) (sym place)
-        | inr apart ↦ ap (λ x. bit_at x (e % 64)) (elsewhere old new k with_bit within is e apart)
-      ]
-
   pub has_one_more : (e : ℕ) → has new e ≡ (e == k || has old e)
   unfolding has
   has_one_more e =
       elim (cases_eq e k) [
-        | inl same ↦ eq-eqb _ 1 (set_at e same) ∙ sym (ap (λ b. b || (bit_at (get_or old (e / 64) 0) (e % 64) == 1)) (eq-eqb e k same))
-        | inr other ↦ ap (λ b. b == 1) (set_other e other) ∙ sym (ap (λ b. b || (bit_at (get_or old (e / 64) 0) (e % 64) == 1)) (ne_eqb e k other))
+        | inl same ↦ eq-eqb _ 1 (set_at old new k within is e same) ∙ sym (ap (λ b. b || (bit_at (get_or old (e / 64) 0) (e % 64) == 1)) (eq-eqb e k same))
+        | inr other ↦ ap (λ b. b == 1) (set_other old new k within is e other) ∙ sym (ap (λ b. b || (bit_at (get_or old (e / 64) 0) (e % 64) == 1)) (ne_eqb e k other))
       ]
 
 -- the test of a bit
@@ -81,10 +50,6 @@ either_way false true false = refl
 either_way false false true = refl
 either_way false false false = refl
 
-or_none : (b : Bool) → b ≡ (b || false)
-or_none true = refl
-or_none false = refl
-
 -- the marks of the first of these are set, and those that were set before
 abbrev pub AreSet : List ℕ → List ℕ → List Occasion → Type 0
 AreSet old new os = (m : ℕ) → has new m ≡ (has old m || shares_mark os m)
@@ -104,15 +69,11 @@ pub all_added : (old new : List ℕ) (os : List Occasion) (i : ℕ) → length o
 all_added old new os i e h m = h m ∙ ap (λ ps. has old m || shares_mark ps m) (take_all i os e)
 
 -- ---- marks and lists
-neither : (a b : Bool) → (a || b) ≡ false → (a ≡ false) × (b ≡ false)
-neither true b h = absurd (true≢false h)
-neither false b h = (refl, h)
-
 -- an occasion whose mark none of these has is none of them
 none_of_these : (os : List Occasion) (o : Occasion) → shares_mark os (mark_of o) ≡ false → is_among os o ≡ false
 none_of_these [] o h = refl
 none_of_these (one ∷ os) o h =
-    let parts = neither (mark_of o == mark_of one) (shares_mark os (mark_of o)) h in
+    let parts = or_parts (mark_of o == mark_of one) (shares_mark os (mark_of o)) h in
     by (occasion_eq one o) refl parts.0 (none_of_these os o parts.1)
   where
     by : (b : Bool) → occasion_eq one o ≡ b → (mark_of o == mark_of one) ≡ false → is_among os o ≡ false → (b || is_among os o) ≡ false
@@ -122,7 +83,7 @@ none_of_these (one ∷ os) o h =
 module _ (words more : List ℕ) (os : List Occasion) (set_all : AreSet words more os) (ls : Listings) (were : AreMarked words ls) (number : ℕ) where
   unset : (o : Occasion) → has more (mark_of o) ≡ false → (has words (mark_of o) ≡ false) × (is_among os o ≡ false)
   unset o h =
-      let parts = neither (has words (mark_of o)) (shares_mark os (mark_of o)) (sym (set_all (mark_of o)) ∙ h) in
+      let parts = or_parts (has words (mark_of o)) (shares_mark os (mark_of o)) (sym (set_all (mark_of o)) ∙ h) in
       (parts.0, none_of_these os o parts.1)
 
   pub marked_more : (new : Listings) → Adds ls new (is_among os) number → AreMarked more new

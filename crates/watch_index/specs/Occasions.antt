@@ -13,7 +13,8 @@ use Rattle.query_concerns.specs.Concerns.{is_asked_by_all}
 use Rattle.query_model.specs.declared.query.Ref.{Ref}
 use Rattle.query_model.specs.declared.query.Ref.TheVariants as ref
 use Rattle.query_model.specs.declared.query.Term.{Term}
-use Rattle.query_model.specs.Query.{Item, must, may, either, equal, differ, Piece, item, opening, closing, Query}
+use Rattle.query_model.specs.Query.{Query}
+use Rattle.query_check.specs.Terms.{terms}
 use Rattle.watch_index.specs.declared.occasion.Occasion.{Occasion}
 use Rattle.watch_index.specs.declared.occasion.Occasion.TheVariants.{Life, AskedByAll, Fact}
 use Rattle.watch_index.specs.declared.occasion.Way.{Way}
@@ -49,29 +50,17 @@ module _ (way : Way) where
   abbrev pub term_occasions : Term → List Occasion
   term_occasions t = Fact way (pattern_of t.first t.target) ∷ (up_occasions t.up ++ closed_occasions t)
 
-  abbrev pub item_occasions : Item → List Occasion
-  item_occasions (must t) = term_occasions t
-  item_occasions (may t) = term_occasions t
-  item_occasions (either ts) = flat_map term_occasions ts
-  item_occasions (equal v r) = []
-  item_occasions (differ v r) = []
-
-  abbrev pub piece_occasions : Piece → List Occasion
-  piece_occasions (item x) = item_occasions x
-  piece_occasions (opening from_term own) = []
-  piece_occasions closing = []
-
 -- of a monitor: facts that its terms may match or follow, those that concern every query, and lives, unless its query is anchored
 abbrev pub of_monitors : Query → List Occasion
-of_monitors q = flat_map (piece_occasions Moves) q.pieces ++ AskedByAll ∷ (if is_anchored q then [] else Life ∷ [])
+of_monitors q = flat_map (term_occasions Moves) (terms q) ++ AskedByAll ∷ (if is_anchored q then [] else Life ∷ [])
 
 -- of each kind: an observer's one term is judged by its id alone
 abbrev pub occasions_of : StoredKind → Query → List Occasion
 occasions_of Kept q = []
 occasions_of Monitor q = of_monitors q
-occasions_of OnAdd q = flat_map (piece_occasions Moves) q.pieces
-occasions_of OnRemove q = flat_map (piece_occasions Moves) q.pieces
-occasions_of OnSet q = flat_map (piece_occasions IsWritten) q.pieces
+occasions_of OnAdd q = flat_map (term_occasions Moves) (terms q)
+occasions_of OnRemove q = flat_map (term_occasions Moves) (terms q)
+occasions_of OnSet q = flat_map (term_occasions IsWritten) (terms q)
 
 -- ---- what happens
 

@@ -2,7 +2,6 @@
 ghost use Rattle.std.specs.Prelude.{◌≡◌, ◌↔◌, ◌∷◌, ◌++◌, [], ℕ, Contains, OnOk, flat_map, if◌then◌else◌};
 ghost use Rattle.std.specs.List.Sorted.{IsStrictlyIncreasing};
 ghost use Rattle.ecs_id.specs.Id.{IsIndex, pair, plain};
-ghost use Rattle.query_concerns.specs.Concerns.{is_asked_by_all};
 ghost use Rattle.watch_index.specs.Listed.{listed};
 ghost use Rattle.watch_index.specs.Occasions.{facts_of, happening, moved, of_all};
 ghost use Rattle.watch_index.specs.declared.occasion.Occasion.TheVariants.{Fact, Life};
@@ -13,7 +12,7 @@ use crate::occasion::{Occasion, Way};
 use component_index::{Part, Pattern};
 use ecs_id::Id;
 use ecs_model::FactKey;
-use ecs_model::built_ins::{DISABLED, PREFAB, REFLEXIVE, TRANSITIVE};
+use query_concerns::is_asked_by_all;
 use short_list::ShortNumbers;
 use std::alloc::{AllocError, Allocator};
 
@@ -180,16 +179,4 @@ pub(crate) fn put_in_order<A: Allocator>(numbers: &mut ShortNumbers<A>)
     if numbers.as_slice().len() > 1 {
         numbers.put_in_order();
     }
-}
-
-/// Whether an id is a tag that concerns every query.
-#[inline(always)]
-fn is_asked_by_all(id: Id) -> bool
-    ensures { result ≡ is_asked_by_all id }
-{
-    if id.second().is_some() {
-        return false;
-    }
-    let tag = id.first();
-    tag == TRANSITIVE || tag == REFLEXIVE || tag == PREFAB || tag == DISABLED
 }

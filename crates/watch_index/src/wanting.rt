@@ -1,13 +1,13 @@
 //! What a stored query looks out for.
-ghost use Rattle.std.specs.Prelude.{◌≡◌, ◌++◌, IfOk, OnOk, flat_map, map, if◌then◌else◌};
-ghost use Rattle.query_check.specs.Seen.{seen_item, seen_piece};
+ghost use Rattle.std.specs.Prelude.{◌≡◌, ◌++◌, IfOk, OnOk, flat_map, if◌then◌else◌};
+ghost use Rattle.query_check.specs.Terms.{terms};
 ghost use Rattle.query_concerns.specs.Anchored.{is_anchored};
-ghost use Rattle.watch_index.specs.Occasions.{closed_occasions, item_occasions, occasions_of, of_monitors, pairs_of, part_of, pattern_of, piece_occasions, term_occasions, up_occasions};
+ghost use Rattle.watch_index.specs.Occasions.{closed_occasions, occasions_of, of_monitors, pairs_of, part_of, pattern_of, term_occasions, up_occasions};
 
 use crate::occasion::{Occasion, Way};
 use component_index::{Part, Pattern};
 use ecs_model::watches::StoredKind;
-use query_check::{Item, Piece, Query};
+use query_check::Query;
 use query_model::query::{Ref, Term};
 use std::alloc::{AllocError, Allocator};
 
@@ -26,8 +26,8 @@ pub fn occasions_of<A: Allocator>(
     match kind {
         StoredKind::Kept => Ok(Vec::new(alloc)),
         StoredKind::Monitor => of_monitor(alloc, query, anchored),
-        StoredKind::OnAdd | StoredKind::OnRemove => of_pieces(alloc, query, Way::Moves),
-        StoredKind::OnSet => of_pieces(alloc, query, Way::IsWritten),
+        StoredKind::OnAdd | StoredKind::OnRemove => of_terms(alloc, query, Way::Moves),
+        StoredKind::OnSet => of_terms(alloc, query, Way::IsWritten),
     }
 }
 
@@ -40,7 +40,7 @@ fn of_monitor<A: Allocator>(
     requires anchored { anchored ≡ is_anchored query.now }
     ensures { IfOk result (λ found. found.items ≡ of_monitors query.now) }
 {
-    let mut found = of_pieces(alloc, query, Way::Moves)?;
+    let mut found = of_terms(alloc, query, Way::Moves)?;
     found.push(Occasion::AskedByAll)?;
     if !anchored {
         found.push(Occasion::Life)?;
@@ -48,58 +48,17 @@ fn of_monitor<A: Allocator>(
     Ok(found)
 }
 
-/// What the pieces of a query ask.
-fn of_pieces<A: Allocator>(
+/// What the terms of a query ask.
+fn of_terms<A: Allocator>(
     alloc: A,
     query: &Query<A>,
     way: Way,
 ) -> Result<Vec<Occasion, A>, AllocError>
-    ensures { IfOk result (λ found. found.items ≡ flat_map (piece_occasions way) query.now.pieces) }
+    ensures { IfOk result (λ found. found.items ≡ flat_map (term_occasions way) (terms query.now)) }
 {
     let mut found = Vec::new(alloc);
-    push_pieces(query.pieces(), way, &mut found)?;
+    push_terms(query.terms(), way, &mut found)?;
     Ok(found)
-}
-
-/// Adds what pieces ask.
-fn push_pieces<A: Allocator>(
-    pieces: &[Piece<A>],
-    way: Way,
-    found: &mut Vec<Occasion, A>,
-) -> Result<(), AllocError>
-    ensures { OnOk result (found.new.items ≡ found.old.items ++ flat_map (piece_occasions way) (map seen_piece pieces.now)) }
-{
-    for piece in pieces {
-        push_piece(piece, way, found)?;
-    }
-    Ok(())
-}
-
-fn push_piece<A: Allocator>(
-    piece: &Piece<A>,
-    way: Way,
-    found: &mut Vec<Occasion, A>,
-) -> Result<(), AllocError>
-    ensures { OnOk result (found.new.items ≡ found.old.items ++ piece_occasions way (seen_piece piece.now)) }
-{
-    match piece {
-        Piece::Item(item) => push_item(item, way, found),
-        Piece::Opening(_, _) | Piece::Closing => Ok(()),
-    }
-}
-
-fn push_item<A: Allocator>(
-    item: &Item<A>,
-    way: Way,
-    found: &mut Vec<Occasion, A>,
-) -> Result<(), AllocError>
-    ensures { OnOk result (found.new.items ≡ found.old.items ++ item_occasions way (seen_item item.now)) }
-{
-    match item {
-        Item::And(term) | Item::Optional(term) => push_term(term, way, found),
-        Item::Or(terms) => push_terms(terms.as_slice(), way, found),
-        Item::Equal(_, _) | Item::Differ(_, _) => Ok(()),
-    }
 }
 
 fn push_terms<A: Allocator>(

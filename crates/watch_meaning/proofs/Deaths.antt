@@ -12,7 +12,7 @@ use Rattle.ecs_model.proofs.traits.Differences.{with_name}
 use Rattle.watch_meaning.specs.Since.{Dead, died_at}
 
 -- the order of numbers ties where they are one
-ties : (i j : ℕ) → eq_by_cmp nat_cmp i j ≡ (j == i)
+pub ties : (i j : ℕ) → eq_by_cmp nat_cmp i j ≡ (j == i)
 ties i j = grind (arith, nat_tests)
 
 either : (b : Bool) (o : Option Dead) → o ≡ cond b o o

@@ -1,7 +1,9 @@
 -- An observer's one term decides what it is told.
 use Rattle.std.specs.List.{filter}
-use Rattle.std.proofs.Common.{◌≡◌, ℕ, Bool, true, false, not, ◌&&◌, ◌||◌, List, [], ◌∷◌, Some, None, refl, ap, ◌∙◌}
+use Rattle.std.proofs.Common.{◌≡◌, ℕ, Bool, false, not, ◌&&◌, ◌||◌, List, [], ◌∷◌, Some, None, ap, ◌∙◌}
 use Rattle.std.specs.Option.{option_map_or}
+use Rattle.std.proofs.Math.Bool.{or-false}
+use Rattle.ecs_world.proofs.Told.{filter_none}
 use Rattle.ecs_id.specs.Id.{plain}
 use Rattle.query_model.specs.declared.query.Term.{Term}
 use Rattle.query_model.specs.Query.{Piece, item, opening, closing, must, may, either, equal, differ, Query}
@@ -28,10 +30,6 @@ one_piece (item (differ v r) ∷ ps) t e = cc
 one_piece (opening b own ∷ ps) t e = cc
 one_piece (closing ∷ ps) t e = cc
 
-or-false : (b : Bool) → (b || false) ≡ b
-or-false true = refl
-or-false false = refl
-
 mentions_by_term : (q : Query) (t : Term) → only_term q.pieces ≡ Some t → (tag : ℕ) → level_mentions tag (top q) ≡ asks_this tag t
 unfolding top
 mentions_by_term q t e tag = ap (λ ps. level_mentions tag (joined (open_levels ps))) (one_piece q.pieces t e) ∙ or-false (asks_this tag t)
@@ -39,10 +37,6 @@ mentions_by_term q t e tag = ap (λ ps. level_mentions tag (joined (open_levels 
 -- those that one test passes, another that is the same passes
 alike : {X : Type 0} (p q : X → Bool) (xs : List X) → ((x : X) → p x ≡ q x) → filter p xs ≡ filter q xs
 alike p q xs h = λ i. filter (λ x. h x i) xs
-
-none : {X : Type 0} (xs : List X) → filter (λ x. false) xs ≡ []
-none [] = refl
-none (x ∷ xs) = none xs
 
 -- by the world after
 module _ (w : WorldState) (q : Query) (ks : List Key) where
@@ -56,7 +50,7 @@ module _ (w : WorldState) (q : Query) (ks : List Key) where
   none_observed e =
       alike (observes (view_of w) q) (λ k. false) ks
       (λ k. ap (λ o. option_map_or (λ (u : Term). matches [] u.first u.target k.1) o false && not (is_cut (view_of w) q prefab k.0 || is_cut (view_of w) q disabled k.0)) e)
-      ∙ none ks
+      ∙ filter_none ks
 
 -- and by that before
 module _ (v : WorldState) (c : Changed) (q : Query) (ks : List Key) where
@@ -70,4 +64,4 @@ module _ (v : WorldState) (c : Changed) (q : Query) (ks : List Key) where
   none_observed_before e =
       alike (observed_before v c q) (λ k. false) ks
       (λ k. ap (λ o. option_map_or (λ (u : Term). matches [] u.first u.target k.1) o false && not (is_cut_before v c q prefab k.0 || is_cut_before v c q disabled k.0)) e)
-      ∙ none ks
+      ∙ filter_none ks

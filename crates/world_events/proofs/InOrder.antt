@@ -5,21 +5,16 @@ use Rattle.std.specs.Ordering.{is_lt, nat_cmp}
 use Rattle.std.specs.FinMap.{is_sorted}
 use Rattle.std.specs.FinMap.Entries.{below_all, is_sorted-where_key}
 use Rattle.std.specs.declared.cmp.Ordering.{Ordering}
-use Rattle.std.specs.declared.cmp.Ordering.TheVariants.{Less, Equal, Greater}
+use Rattle.std.specs.declared.cmp.Ordering.TheVariants.{Less}
 use Rattle.std.proofs.Common.{◌≡◌, ℕ, Bool, true, not, List, [], ◌∷◌, map, refl, sym, ap, subst, ◌∙◌, Option}
 use Rattle.ecs_model.specs.Command.{Changed, counted, differences}
 use Rattle.ecs_model.specs.Map.{Map, has_key, keys, without}
 use Rattle.ecs_model.specs.World.{WorldState, Key, key_cmp, is_live, name_of}
 use Rattle.ecs_model.specs.traits.Command.{effect, written_by}
 use Rattle.ecs_model.specs.traits.Keeps.{IsWellFormed}
-use Rattle.ecs_model.proofs.Maps.{both_true, from_T, to_T}
+use Rattle.ecs_model.proofs.Maps.{both_true, from_T, to_T, less}
 use Rattle.ecs_model.proofs.traits.Order.{accepted_step}
 use Rattle.watch_meaning.specs.Since.{Dead, IsAfter}
-
-less : (r : Ordering) → is_lt r ≡ true → r ≡ Less
-less Less h = refl
-less Equal h = cc
-less Greater h = cc
 
 module _ {K X : Type 0} (R : K → K → Ordering) where
   below_keys : (x : K) (es : Map K X) → below_all R x es ≡ true → AllByRecursion (λ y. R x y ≡ Less) (keys es)

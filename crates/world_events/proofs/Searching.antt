@@ -14,6 +14,7 @@ use Rattle.std.proofs.lemmas.Bool.{cases_lt}
 use Rattle.std.proofs.lemmas.Bool.Decides.{nat_tests}
 use Rattle.std.proofs.lemmas.List.{map-id}
 use Rattle.std.proofs.lemmas.List.Sorted.{searchable_from_sorted}
+use Rattle.ecs_world.proofs.Ordered.{same_test}
 
 any_front : {X : Type 0} (p : X → Bool) (y : X) (ys : List X) → p y ≡ true → list_any p (y ∷ ys) ≡ true
 any_front p y ys h = ap (λ b. b || list_any p ys) h
@@ -93,17 +94,14 @@ pub searched_among : {K : Type 0} (R : K → K → Ordering) (o : IsTotalOrder R
     → IsBinarySearchResult (λ y. R y x) xs r → is_ok r ≡ list_any (λ y. is_eq (R x y)) xs
 searched_among R o xs x r s = searched R o (λ y. y) xs x r (subst (IsStrictlySortedBy R) (sym (map-id xs)) s)
 
-same_number : (x y : ℕ) → is_eq (nat_cmp x y) ≡ (y == x)
-same_number x y = grind (arith, nat_tests)
-
 -- one of some numbers
 pub searched_number : (xs : List ℕ) (x : ℕ) (r : Result ℕ ℕ) → IsStrictlySortedBy nat_cmp xs → IsSearchInRange r (length xs) → IsBinarySearchResult (λ y. nat_cmp y x) xs r
     → is_ok r ≡ list_any (λ y. y == x) xs
-searched_number xs x r s lt h = searched_among nat_cmp nat_cmp_total xs x r s lt h ∙ (λ i. list_any (λ y. same_number x y i) xs)
+searched_number xs x r s lt h = searched_among nat_cmp nat_cmp_total xs x r s lt h ∙ (λ i. list_any (λ y. same_test x y i) xs)
 
 module _ {X : Type 0} (key : X → ℕ) where
   less_apart : (x y : ℕ) → nat_cmp x y ≡ Less → (x == y) ≡ false
-  less_apart x y e = sym (same_number y x) ∙ less_turned nat_cmp nat_cmp_total (λ n. n) y x e
+  less_apart x y e = sym (same_test y x) ∙ less_turned nat_cmp nat_cmp_total (λ n. n) y x e
 
   equal_number : (x y : ℕ) → x ≡ y → (x == y) ≡ true
   equal_number x y e = grind (arith, nat_tests)
@@ -125,4 +123,4 @@ module _ {X : Type 0} (key : X → ℕ) where
   pub found_nowhere : (xs : List X) (x i : ℕ) → IsStrictlySortedBy nat_cmp (map key xs) → i ≤ length xs → IsBinarySearchResult (λ y. nat_cmp (key y) x) xs (Err i)
       → find (λ y. key y == x) xs ≡ None
   found_nowhere xs x i s lt h =
-      none_found (λ y. key y == x) xs ((λ j. list_any (λ y. sym (same_number x (key y)) j) xs) ∙ sym (searched nat_cmp nat_cmp_total key xs x (Err i) s lt h))
+      none_found (λ y. key y == x) xs ((λ j. list_any (λ y. sym (same_test x (key y)) j) xs) ∙ sym (searched nat_cmp nat_cmp_total key xs x (Err i) s lt h))

@@ -1,11 +1,10 @@
 -- The lists of tables are of the world, so they are equally long in all that is shown of one.
 use Rattle.std.proofs.Common.{◌≡◌, ◌↔◌, length, sym, subst}
-use Rattle.std.specs.Cmp.{IsEquivalence, eq_by_cmp_equiv}
 use Rattle.std.specs.List.{Contains}
 use Rattle.std.proofs.lemmas.Map.Made.{is_member-Decides, length-from_same_keys}
 use Rattle.ecs_id.specs.declared.TableKey.{TableKey}
 use Rattle.component_index.specs.declared.pattern.Pattern.{Pattern}
-use Rattle.component_index.specs.Entered.{eq_by-table_cmp, table_cmp_total, table_eq}
+use Rattle.component_index.proofs.TableLemmas.{table_eq_equiv}
 use Rattle.ecs_archetypes.specs.Scans.{HasMatch}
 use Rattle.ecs_links.specs.Linked.{AreListsOf}
 use Rattle.ecs_model.proofs.Members.{alike}
@@ -19,9 +18,6 @@ lists_tables s same lists = record {
   listed = λ p k. subst (λ store. Contains ((reading_of s).listed p) k ↔ HasMatch store p k) same (lists.listed p k);
   once = lists.once;
 }
-
-table_eq_equiv : IsEquivalence table_eq
-table_eq_equiv = subst IsEquivalence (λ i x y. eq_by-table_cmp x y i) (eq_by_cmp_equiv table_cmp_total)
 
 -- a table that one list has, the other has
 from_list : (a b : Shown) → a.world ≡ b.world → ListsTables a → ListsTables b → (p : Pattern) (k : TableKey) → Contains ((reading_of a).listed p) k → Contains ((reading_of b).listed p) k

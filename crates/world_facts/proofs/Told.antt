@@ -1,13 +1,15 @@
 -- What the calls of a world and of its links tell of what is read.
-use Rattle.std.proofs.Common.{◌≡◌, ◌⊎◌, ℕ, ◌<◌, ◌≤◌, ◌==◌, ◌&&◌, Bool, true, false, List, [], Option, Some, None, is_some, option_map, refl, sym, ap, subst, ◌∙◌, inl, inr, arith}
+use Rattle.std.proofs.Common.{◌≡◌, ◌⊎◌, ℕ, ◌<◌, ◌≤◌, ◌==◌, ◌&&◌, Bool, true, false, List, [], is_some, option_map, refl, sym, ap, subst, ◌∙◌, inl, inr, arith}
 use Rattle.std.specs.Prelude.{find}
 use Rattle.std.specs.List.{Contains, list_any}
 use Rattle.std.specs.Ordering.{nat_cmp}
 use Rattle.std.specs.Cmp.{nat_cmp_total}
 use Rattle.std.specs.FinMap.{nat_cmp-IsAntisymmetric}
+use Rattle.ecs_world.proofs.States.{copied}
 use Rattle.ecs_id.specs.Id.{Id}
 use Rattle.component_index.specs.declared.pattern.Pattern.{Pattern}
 use Rattle.component_index.specs.Patterns.{matches}
+use Rattle.component_index.proofs.ListedLemmas.{and_all}
 use Rattle.ecs_links.specs.Linked.{Linked, ids_at_index, indexes, rows_under, tables_under}
 use Rattle.ecs_model.specs.Links.{AreLinks, IsReached, is_reflexive, is_transitive, line, reaches}
 use Rattle.ecs_model.specs.Map.{Map, has_key, keys, value_at}
@@ -22,20 +24,12 @@ use Rattle.world_facts.specs.Shown.{all_above, all_below}
 use Rattle.world_facts.proofs.Leading.{contains_tells, leads_ends}
 
 -- whether an index is that of a live entity
-mapped_some : {X Y : Type 0} (f : X → Y) (o : Option X) → is_some (option_map f o) ≡ is_some o
-mapped_some f None = refl
-mapped_some f (Some x) = refl
-
 pub live_read : {Y : Type 0} (live : Map ℕ ℕ) (f : ℕ → Y) (i : ℕ) → is_some (option_map f (value_at nat_cmp live i)) ≡ contains (keys live) i
 live_read live f i =
-    mapped_some f (value_at nat_cmp live i)
+    copied f (value_at nat_cmp live i)
     ∙ alike (has_key nat_cmp live i) (contains (keys live) i)
     (λ h. (contains_tells (keys live) i).1 (key_there nat_cmp nat_cmp-IsAntisymmetric live i h))
     (λ h. there_key nat_cmp nat_cmp_total live i ((contains_tells (keys live) i).0 h))
-
-with_true : (a : Bool) → a ≡ (a && true)
-with_true true = refl
-with_true false = refl
 
 with_false : (a : Bool) → false ≡ (a && false)
 with_false true = refl
@@ -64,7 +58,7 @@ module _ {n : ℕ} {live : List ℕ} {ids : ℕ → List Id} (links : AreLinks n
   pub outside_same : (r s t : ℕ) (b : Bool) → (n ≤ s) ⊎ (n ≤ t) → s ≡ t → b ≡ is_reflexive ids r → b ≡ reaches ids live r s t
   outside_same r s t b out same is =
       let test : (s == t) ≡ true = rw same (eq_itself t) in
-      is ∙ with_true (is_reflexive ids r) ∙ ap (λ c. is_reflexive ids r && c) (sym test) ∙ sym (reached_outside r s t out)
+      is ∙ and_all (is_reflexive ids r) ∙ ap (λ c. is_reflexive ids r && c) (sym test) ∙ sym (reached_outside r s t out)
 
   pub outside_apart : (r s t : ℕ) → (n ≤ s) ⊎ (n ≤ t) → (s ≡ t → ⊥) → (s == t) ≡ reaches ids live r s t
   outside_apart r s t out apart = by (s == t) refl ∙ sym (reached_outside r s t out)

@@ -30,12 +30,12 @@ use Rattle.query_model.specs.declared.query.Ref.{Ref}
 use Rattle.query_model.specs.declared.query.Ref.TheVariants.{Is, Var, Any, One}
 use Rattle.query_model.specs.declared.query.Term.{Term}
 use Rattle.query_model.specs.Local.{asks_first, asks_one_id, is_must, is_name, is_name_if_written, is_simple, is_simple_piece}
-use Rattle.query_model.specs.Observers.{is_first}
+use Rattle.query_model.specs.Observers.{is_constant, is_constant_target, is_first}
 use Rattle.query_model.specs.Query.{must, may, either, equal, differ, Piece, item, opening, closing, Query}
 use Rattle.query_plan.proofs.Simple.{simple_queries_are_led}
 use Rattle.query_plan.specs.Plans.{IsPlanned}
 use Rattle.query_plan.specs.Simple.{has_terms, is_leading}
-use Rattle.plan_steps.specs.Actions.{cut, cuts, entry_instructions, hit_test, instructions_of, is_fixed, is_fixed_ref, item_takes_this, moves_of, name_of, pattern_of, simple_of, takes_this, term_test, variable_of, with_cuts}
+use Rattle.plan_steps.specs.Actions.{cut, cuts, entry_instructions, hit_test, instructions_of, is_fixed, item_takes_this, moves_of, name_of, pattern_of, simple_of, takes_this, term_test, variable_of, with_cuts}
 use Rattle.plan_steps.specs.declared.action.Action.TheVariants.{Walk, Match, Keep}
 use Rattle.plan_steps.specs.declared.action.Instruction.{Instruction}
 use Rattle.plan_steps.specs.declared.action.Instruction.TheVariants.{By}
@@ -56,13 +56,13 @@ use Rattle.world_query.specs.Probes.{KeptQueriesStayWithin, SimpleQueriesStayWit
 
 -- ---- terms for one id of `$this`
 
-name_is_fixed : (r : Ref) → is_name r ≡ true → is_fixed_ref r ≡ true
+name_is_fixed : (r : Ref) → is_name r ≡ true → is_constant r ≡ true
 name_is_fixed (Is e) h = refl
 name_is_fixed (Var u) h = absurd (false≢true h)
 name_is_fixed Any h = absurd (false≢true h)
 name_is_fixed One h = absurd (false≢true h)
 
-target_is_fixed : (o : Option Ref) → is_name_if_written o ≡ true → option_map_or is_fixed_ref o true ≡ true
+target_is_fixed : (o : Option Ref) → is_name_if_written o ≡ true → is_constant_target o ≡ true
 target_is_fixed None h = refl
 target_is_fixed (Some r) h = name_is_fixed r h
 

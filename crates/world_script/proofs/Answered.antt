@@ -2,6 +2,7 @@
 use Rattle.std.proofs.Common.{◌≡◌, ◌==◌, ℕ, false, refl, sym, ◌∙◌, ap, subst}
 use Rattle.std.proofs.lemmas.Bool.{eqb-false}
 use Rattle.std.specs.Prelude.{Result, Ok, Err, IsErrAnd, OnErr, OnOk}
+pub use Rattle.ecs_print.proofs.Stops.{on_err_anyway}
 use Rattle.script_streams.specs.declared.streams.Calls.{Calls}
 use Rattle.script_streams.specs.Streams.{IsCalm}
 use Rattle.world_script.specs.declared.errors.RunError.{RunError}
@@ -17,10 +18,6 @@ on_ok_two (Ok x) f p q = f p q
 on_ok_two (Err e) f p q = tt
 
 -- what holds anyway holds of an error
-pub on_err_anyway : {T E P : Type 0} (r : Result T E) → P → OnErr r P
-on_err_anyway (Ok x) p = tt
-on_err_anyway (Err e) p = p
-
 -- calls stay calm where no fault is answered
 pub FaultyAt-ok : {T : Type 0} (error : RunError) (old new : Calls) (answer : T) → FaultyAt error old (Ok answer) new → IsCalm old → IsCalm new
 FaultyAt-ok error old new answer told calm =

@@ -15,6 +15,7 @@ use Rattle.ecs_observe.specs.Answers.{FailsAtSend, SendsKept}
 use Rattle.ecs_observe.specs.Standing.{Standing, session_of}
 use Rattle.ecs_observe.specs.declared.errors.SendRowsError.{SendRowsError}
 use Rattle.ecs_observe.specs.declared.errors.SendRowsError.TheVariants as rows
+use Rattle.ecs_observe.proofs.Sending.{memory_apart}
 use Rattle.ecs_model.specs.declared.faults.SessionRefusal.{SessionRefusal}
 use Rattle.ecs_model.specs.stored.Session.{SessionState, kept_query}
 use Rattle.script_streams.specs.declared.streams.Calls.{Calls}
@@ -44,9 +45,6 @@ IsMemory send.Write = ⊥
 
 ok_apart : {T : Type 0} (x : T) → ¬ (Ok x ≡ Err send.Write)
 ok_apart x is = let P : Result _ SendError → Type 0 = λ r. OnErr r ⊥ in subst P is tt
-
-memory_apart : {T : Type 0} (r : Result T SendError) → r ≡ Err send.Memory → ¬ (r ≡ Err send.Write)
-memory_apart r memory write = let P : Result _ SendError → Type 0 = λ q. IsErrAnd q IsMemory in subst P write (subst P (sym memory) tt)
 
 -- ---- one line
 

@@ -3,6 +3,7 @@ use Rattle.std.specs.List.{All, Contains, list_all, list_any}
 use Rattle.std.proofs.Common.{◌≡◌, ℕ, suc, ◌<◌, Bool, true, false, ◌&&◌, ◌||◌, List, [], ◌∷◌, get_or, is_some, refl, sym, ap, ◌∙◌, inl, inr, arith}
 use Rattle.std.proofs.lemmas.Bool.Decides.{nat_tests}
 use Rattle.std.proofs.lemmas.List.Elements.{Contains-append_right, Contains-get_or}
+pub use Rattle.std.proofs.lemmas.Bool.{false_from_ne_true as refuted}
 use Rattle.ecs_id.specs.Id.{Id, IsIndex, mentioned, last_index}
 use Rattle.ecs_model.specs.Links.{AreLinks}
 use Rattle.ecs_model.specs.World.{WorldState, first_world, is_built_in, is_live, entities, holds, ids_of}
@@ -20,10 +21,6 @@ each_passes p (y ∷ ys) h x c =
 
 all_are : {A : Type 0} (P : A → Type 0) (xs : List A) → ((x : A) → Contains xs x → P x) → All P xs
 all_are P xs f k d l = f (get_or xs k d) (Contains-get_or xs k d l)
-
-pub refuted : (b : Bool) → (b ≡ true → ⊥) → b ≡ false
-refuted true h = absurd (h refl)
-refuted false h = refl
 
 built_in_bounds : (e : ℕ) → is_built_in e ≡ true → IsIndex e
 built_in_bounds e h = (grind (arith, nat_tests), grind (arith, nat_tests))

@@ -10,7 +10,7 @@ pub returns-then-are_visible_bound : goal.returns-then-are_visible_bound
 returns-then-are_visible_bound g c =
     let bond = c.args.bond.now in
     let count = sym (length-map c.variables-visible.result.now (λ n. n.items)) ∙ ap length c.variables-visible.ensures in
-    let is = all_bound_left bond c.args.query.now (map seen_piece c.pieces-pieces.result.now) (length c.variables-visible.result.now) c.pieces-pieces.ensures count in
+    let is = all_bound_left bond c.args.query.now c.terms-terms.result.now (map seen_piece c.pieces-pieces.result.now) (length c.variables-visible.result.now) c.terms-terms.ensures c.pieces-pieces.ensures count in
     (λ k. sym c.if-are_visible_bound.true k && c.are_groups_bound.result) ∙ (λ k. c.are_visible_bound.ensures k && c.are_groups_bound.ensures k) ∙ is
 
 pub returns-else-are_visible_bound : goal.returns-else-are_visible_bound
@@ -18,5 +18,5 @@ returns-else-are_visible_bound g c =
     let bond = c.args.bond.now in
     let pieces = map seen_piece c.pieces-pieces.result.now in
     let count = sym (length-map c.variables-visible.result.now (λ n. n.items)) ∙ ap length c.variables-visible.ensures in
-    let is = all_bound_left bond c.args.query.now pieces (length c.variables-visible.result.now) c.pieces-pieces.ensures count in
-    c.if-are_visible_bound.false ∙ (λ k. (sym c.if-are_visible_bound.false ∙ c.are_visible_bound.ensures) k && groups_from bond pieces pieces) ∙ is
+    let is = all_bound_left bond c.args.query.now c.terms-terms.result.now pieces (length c.variables-visible.result.now) c.terms-terms.ensures c.pieces-pieces.ensures count in
+    c.if-are_visible_bound.false ∙ (λ k. (sym c.if-are_visible_bound.false ∙ c.are_visible_bound.ensures) k && groups_from bond c.terms-terms.result.now pieces) ∙ is

@@ -7,5 +7,5 @@ use Rattle.query_concerns.proofs.bonds.are_bound.Given as goal
 
 abbrev pub invariant-loop-variable : goal.invariant-loop-variable
 invariant-loop-variable g l =
-    list_all (binds_from l.bond (map seen_piece l.all) false (map seen_piece l.pieces)) l.own
-    ≡ list_all (binds_from l.bond (map seen_piece l.all) false (map seen_piece l.pieces)) (drop l.variable-index l.own)
+    list_all (binds_from l.bond l.terms false (map seen_piece l.pieces)) l.own
+    ≡ list_all (binds_from l.bond l.terms false (map seen_piece l.pieces)) (drop l.variable-index l.own)

@@ -7,5 +7,5 @@ use Rattle.query_concerns.proofs.bonds.are_visible_bound.Given as goal
 
 abbrev pub invariant-loop-variable : goal.invariant-loop-variable
 invariant-loop-variable g l =
-    list_all (binds_from l.bond (map seen_piece l.pieces) true (map seen_piece l.pieces)) (range_with_len 0 l.visible)
-    ≡ list_all (binds_from l.bond (map seen_piece l.pieces) true (map seen_piece l.pieces)) (drop l.variable (range_with_len 0 l.visible))
+    list_all (binds_from l.bond l.terms true (map seen_piece l.pieces)) (range_with_len 0 l.visible)
+    ≡ list_all (binds_from l.bond l.terms true (map seen_piece l.pieces)) (drop l.variable (range_with_len 0 l.visible))
