@@ -14,5 +14,5 @@ mod telling;
 
 pub use errors::RunError;
 pub use lines::Summary;
-pub use runs::run;
+pub use runs::{run, run_without_cleanup};
 pub use script_streams::{Calls, FromRead, MOST_BYTES, Sink, Source, Stop, Tape, ToWrite, Turn};
