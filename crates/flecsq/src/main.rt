@@ -11,7 +11,7 @@ use std::fs::File;
 use std::hash::RandomState;
 use std::io::{self, Read, Stderr};
 use std::process::ExitCode;
-use world_script::{FromRead, RunError, Summary, ToWrite, run};
+use world_script::{FromRead, RunError, Summary, ToWrite, run_without_cleanup};
 
 const ABOUT: &str = "Runs a script of commands and queries, and prints rows, events and refusals.";
 
@@ -111,14 +111,14 @@ fn command<'a>(alloc: Global) -> Result<Command<'a>, AllocError> {
         .arg(explain)
 }
 
-/// Runs what the reader gives. `run` reads and writes in pieces, so nothing else is buffered.
+/// Runs what the reader gives. `run_without_cleanup` reads and writes in pieces, so nothing else is buffered.
 fn run_reader<R: Read + Drop>(rt: &HostRuntime, reader: R) -> Result<Summary, Fault> {
     let random = RandomState::new(rt).map_err(|_| Fault::Read)?;
     let mut reader = FromRead::new(reader);
     let output = ToWrite::new(io::writer(rt));
     // The same type of writer as where refusals are explained: what is generic over it stands once in the program.
     let mut writer: Explaining<_, ToWrite<Stderr>> = Explaining::nothing(output);
-    let summary = run(rt.alloc(), random, &mut reader, &mut writer)?;
+    let summary = run_without_cleanup(rt.alloc(), random, &mut reader, &mut writer)?;
     Ok(summary)
 }
 
@@ -134,7 +134,7 @@ fn run_explained<R: Read + Drop>(
     let output = ToWrite::new(io::writer(rt));
     let errors = ToWrite::new(rt.stderr());
     let mut writer = Explaining::new(rt.alloc(), output, errors, &script, file);
-    let summary = run(rt.alloc(), random, &mut reader, &mut writer)?;
+    let summary = run_without_cleanup(rt.alloc(), random, &mut reader, &mut writer)?;
     Ok(summary)
 }
 
