@@ -3,12 +3,10 @@
 use crate::commands::{Fault, add, fresh};
 use ecs_id::{EntityId, Id, LAST_INDEX};
 use ecs_model::FIRST_INDEX;
-use ecs_model::built_ins::{EXCLUSIVE, SYMMETRIC};
+use ecs_model::built_ins::{CHILD_OF, EXCLUSIVE, SYMMETRIC};
 use ecs_world::World;
 use rel_travel::{Graph, Scratch, would_cycle};
 use std::alloc::Global;
-
-const CHILD_OF: u32 = 1;
 
 /// How many entities the pairs are among.
 const PEOPLE: u32 = 100;

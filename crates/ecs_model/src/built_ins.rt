@@ -1,5 +1,8 @@
 //! The indexes of the built-in entities that rules of change, of reach, of deletion, of copying and of queries name.
 
+/// The relationship of children to their parents.
+pub const CHILD_OF: u32 = 1;
+
 /// The relationship that leads from an instance to its base.
 pub const IS_A: u32 = 2;
 

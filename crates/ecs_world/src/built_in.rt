@@ -13,8 +13,8 @@ use ecs_id::{EntityId, Id};
 use ecs_model::LAST_BUILT_IN;
 pub(crate) use ecs_model::built_ins::{COMPONENT, PAIR_IS_TAG};
 use ecs_model::built_ins::{
-    ACYCLIC, DELETE, EXCLUSIVE, IS_A, ON_DELETE, ON_DELETE_TARGET, ON_INSTANTIATE, REFLEXIVE,
-    TRANSITIVE, TRAVERSABLE, WITH,
+    ACYCLIC, CHILD_OF, DELETE, EXCLUSIVE, IS_A, ON_DELETE, ON_DELETE_TARGET, ON_INSTANTIATE,
+    REFLEXIVE, TRANSITIVE, TRAVERSABLE, WITH,
 };
 use name_index::NameIndex;
 use pin_counts::PinCounts;
@@ -48,8 +48,6 @@ const NAMES: [&str; 22] = [
     "Inherit",
     "DontInherit",
 ];
-
-const CHILD_OF: u32 = 1;
 
 /// The counts of the built-in entities, before any query is stored.
 pub(crate) fn pins<A: Allocator>(alloc: A) -> Result<PinCounts<A>, Memory>
