@@ -70,18 +70,6 @@ impl<A: Allocator> ShortNumbers<A> {
         self.spill(alloc, item)
     }
 
-    /// Puts items behind the others.
-    pub fn extend_from_slice(&mut self, alloc: A, items: &[u64]) -> Result<(), AllocError>
-    where
-        A: Copy,
-        ensures { OnOk result (self.new.items ≡ self.old.items ++ items.now) }
-    {
-        for item in items {
-            self.push(alloc, *item)?;
-        }
-        Ok(())
-    }
-
     /// Puts one behind the others, which all move out of the value.
     #[inline(never)]
     fn spill(&mut self, alloc: A, item: u64) -> Result<(), AllocError>
