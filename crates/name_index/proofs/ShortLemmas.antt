@@ -1,8 +1,9 @@
 -- The sixteen bytes of a short name: they are those of one name, and two words tell them apart.
-use Rattle.std.proofs.Common.{◌≡◌, ℕ, zero, suc, ◌+◌, ◌<◌, Bool, true, false, List, [], ◌∷◌, length, get_or, refl, sym, ap, ◌∙◌, arith}
+use Rattle.std.proofs.Common.{◌≡◌, ℕ, zero, suc, ◌+◌, ◌-◌, ◌<◌, ◌≤◌, Bool, true, false, List, [], ◌∷◌, ◌++◌, append_assoc, drop, length, get_or, take, refl, sym, ap, ◌∙◌, arith}
 use Rattle.std.specs.Prelude.{nat_eq, slice_index}
 use Rattle.std.specs.Cmp.Lexicographic.{bytes_decides, pointwise}
-use Rattle.std.proofs.lemmas.List.{ext_get_or}
+use Rattle.std.proofs.lemmas.List.{drop-drop, ext_get_or, length-take-le, take-append-drop, take-append-le, take-take}
+use Rattle.std.proofs.lemmas.Slice.{drop-append-drop}
 use Rattle.std.proofs.lemmas.Bool.Decides.{Decides-eqb}
 use Rattle.std.proofs.lemmas.Nat.{le_bytes_8}
 use Rattle.name_index.specs.Short.{padded, text_in, word_at}
@@ -71,3 +72,13 @@ pub keys_compared : (xs ys : List ℕ) → xs ≡ padded (text_in xs) → ys ≡
 keys_compared xs ys is_a is_b = same_test _ _
     (λ h. (bytes_decides (text_in xs) (text_in ys)).1 (ap text_in ((bytes_decides xs ys).0 h)))
     (λ h. (bytes_decides xs ys).1 (is_a ∙ ap padded ((bytes_decides (text_in xs) (text_in ys)).0 h) ∙ sym is_b))
+
+-- a text that is put over some bytes by its first ones and its last ones, which may overlap
+pub both_ends : (t b : List ℕ) (s l : ℕ) → l + s ≡ length t → l ≤ s
+    → take l (take s t ++ drop s b) ++ (drop l t ++ drop s (drop l (take s t ++ drop s b))) ≡ t ++ drop (length t) b
+both_ends t b s l e le =
+    let short : length (take s t) ≡ s = length-take-le s t (omega arith) in
+    let front : take l (take s t ++ drop s b) ≡ take l t = take-append-le l (take s t) (drop s b) (omega arith) ∙ take-take l s t le in
+    let back : drop s (drop l (take s t ++ drop s b)) ≡ drop (length t) b =
+    drop-drop s l (take s t ++ drop s b) ∙ ap (λ n. drop n (take s t ++ drop s b)) e ∙ drop-append-drop s b (take s t) (length t) (omega arith) short in
+    (λ i. front i ++ (drop l t ++ back i)) ∙ sym (append_assoc (take l t) (drop l t) (drop (length t) b)) ∙ ap (λ xs. xs ++ drop (length t) b) (take-append-drop l t)

@@ -148,8 +148,17 @@ impl<A: Allocator> NameIndex<A> {
     {
         match ShortName::new(name) {
             Some(key) => self.short.get(&key).copied(),
-            None => self.long.get(name).copied(),
+            None => self.find_long(name),
         }
+    }
+
+    // The same of a name that isn't short.
+    #[inline(never)]
+    fn find_long(&self, name: &str) -> Option<EntityId>
+        requires { is_short name.now ≡ false }
+        ensures { result ≡ finite.get self.now name.now }
+    {
+        self.long.get(name).copied()
     }
 
     /// The name of the entity.

@@ -1,5 +1,5 @@
 //! Short names as keys.
-ghost use Rattle.std.specs.Prelude.{◌≡◌, ◌+◌, ◌≤◌, ◌∷◌, [], false, true, length, nat_eq, MatchOption};
+ghost use Rattle.std.specs.Prelude.{◌≡◌, ◌+◌, ◌≤◌, ◌∷◌, ◌++◌, [], drop, false, true, length, nat_eq, MatchOption};
 ghost use Rattle.std.specs.Cmp.{partial_equiv_from_equiv};
 ghost use Rattle.std.specs.Cmp.Lexicographic.{bytes_decides, nat_list_eq_equiv, pointwise};
 ghost use Rattle.std.proofs.Common.{ap};
@@ -41,10 +41,42 @@ impl ShortName {
             return None;
         }
         let mut bytes = [0; 16];
-        bytes[..count].copy_from_slice(text);
+        put_short(text, &mut bytes);
         bytes[MOST] = count as u8;
         Some(ShortName { bytes })
     }
+}
+
+/// Writes a short text over the first bytes. Words are copied, since a call that copies any number of bytes takes longer.
+#[inline(always)]
+fn put_short(text: &[u8], bytes: &mut [u8])
+    requires short { length text.now ≤ 15 }
+    requires room { length text.now ≤ length bytes.old }
+    ensures { bytes.new ≡ text.now ++ drop (length text.now) bytes.old }
+{
+    let count = text.len();
+    if count >= 8 {
+        put_ends(text, 8, bytes);
+    } else if count >= 4 {
+        put_ends(text, 4, bytes);
+    } else if count >= 2 {
+        put_ends(text, 2, bytes);
+    } else if count == 1 {
+        bytes[0] = text[0];
+    }
+}
+
+/// The same of a text of so many bytes to twice as many: the first of them are copied, and then the last.
+#[inline(always)]
+fn put_ends(text: &[u8], size: usize, bytes: &mut [u8])
+    requires least { size ≤ length text.now }
+    requires most { length text.now ≤ size + size }
+    requires room { length text.now ≤ length bytes.old }
+    ensures { bytes.new ≡ text.now ++ drop (length text.now) bytes.old }
+{
+    let last = text.len() - size;
+    bytes[..size].copy_from_slice(&text[..size]);
+    bytes[last..last + size].copy_from_slice(&text[last..last + size]);
 }
 
 impl PartialEq for ShortName {

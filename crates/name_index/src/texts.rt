@@ -112,7 +112,9 @@ fn reach<A: Allocator>(by_index: &mut Vec<Option<Held>, A>, index: u32) -> Resul
     ensures same { (i : ℕ) → slice_index_or by_index.new.items i None ≡ slice_index_or by_index.old.items i None }
 {
     let index = index as usize;
-    if by_index.len() <= index {
+    if by_index.len() == index {
+        by_index.push(None)?;
+    } else if by_index.len() < index {
         by_index.resize(index + 1, None)?;
     }
     Ok(())
