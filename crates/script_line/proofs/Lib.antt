@@ -7,3 +7,4 @@ mod Digits
 mod Stops
 mod Named
 mod Close
+mod Ascii

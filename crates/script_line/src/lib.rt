@@ -3,7 +3,8 @@
 //! Reading takes time linear in the line. Names and texts are slices of the line, and only fields and values are allocated.
 #![tactic(auto)]
 
-ghost use Rattle.std.specs.Prelude.{◌≡◌, IfOk};
+ghost use Rattle.std.specs.Prelude.{◌≡◌, IfOk, IsTrue, MatchOption};
+ghost use Rattle.std.specs.Str.{IsAscii, IsUtf8};
 ghost use Rattle.ecs_model.specs.Script.{form_of};
 ghost use Rattle.script_line.specs.Line.{form_opened, seen};
 
@@ -131,32 +132,49 @@ pub fn line_opened(line: &[u8]) -> Opening<'_>
     if line_forms::says_nothing(line) {
         return Opening::Nothing;
     }
-    match str::from_utf8(line) {
-        Ok(text) => line_forms::text_opened(text),
-        Err(_) => Opening::Bad,
+    match text_of(line) {
+        Some(text) => line_forms::text_opened(text),
+        None => Opening::Bad,
     }
 }
 
-/// Reads a line, which is given without its line feed.
-///
-/// The values of a `set` come into `values`, in place of what stood there, so that one list serves all lines of a script.
-///
-/// A line of more than 4,096 bytes is too long whatever it holds, and a comment may hold any bytes. The only error is that
-/// memory for fields or values was refused.
-pub fn read_line<'a, A: Allocator + Copy>(
-    alloc: A,
-    line: &'a [u8],
-    values: &mut Vec<i128, A>,
-) -> Result<Line<'a, A>, AllocError>
-    ensures { IfOk result (λ l. seen values.new.items l ≡ form_of line.now) }
+/// The text that bytes spell, if they are UTF-8. Most lines are ASCII, which is seen sooner.
+#[inline(always)]
+fn text_of(bytes: &[u8]) -> Option<&str>
+    ensures { MatchOption result (¬ (IsUtf8 bytes.now)) (λ text. (text.now ≡ bytes.now) × IsUtf8 bytes.now) }
 {
-    read_opened(alloc, line_opened(line), values)
+    if are_ascii(bytes) {
+        // SAFETY: what is ASCII is UTF-8.
+        return Some(unsafe { str::from_utf8_unchecked(bytes) });
+    }
+    str::from_utf8(bytes).ok()
+}
+
+/// Whether at least eight bytes are ASCII, which is asked of eight at a time, and then of the last eight. Of fewer it isn't told.
+#[inline(always)]
+fn are_ascii(bytes: &[u8]) -> bool
+    ensures { IsTrue result → IsAscii bytes.now }
+{
+    let Some(last) = bytes.len().checked_sub(8) else {
+        return false;
+    };
+    let mut at = 0;
+    'words: loop {
+        let from = last.min(at);
+        if !bytes[from..from + 8].is_ascii() {
+            return false;
+        }
+        if last <= at {
+            return true;
+        }
+        at += 8;
+    }
 }
 
 /// Reads a line whose first word was read.
 ///
-/// The values of a `set` come into `values`, in place of what stood there. The only error is that memory for fields or values was
-/// refused.
+/// The values of a `set` come into `values`, in place of what stood there, so that one list serves all lines of a script. The only
+/// error is that memory for fields or values was refused.
 pub fn read_opened<'a, A: Allocator + Copy>(
     alloc: A,
     opening: Opening<'a>,

@@ -12,13 +12,13 @@ pub returns-then-says_nothing : goal.returns-then-says_nothing
 returns-then-says_nothing c =
     form_nothing c.args.line.now c.if-line-gt-MAX_LINE.false (sym c.says_nothing.ensures ∙ c.if-says_nothing.true)
 
-pub returns-in-Err : goal.returns-in-Err
-returns-in-Err c =
-    form_no_text c.args.line.now c.if-line-gt-MAX_LINE.false (sym c.says_nothing.ensures ∙ c.if-says_nothing.false) c.in-Err.ensures.cases.0
+pub returns-in-None : goal.returns-in-None
+returns-in-None c =
+    form_no_text c.args.line.now c.if-line-gt-MAX_LINE.false (sym c.says_nothing.ensures ∙ c.if-says_nothing.false) c.in-None.ensures
 
-pub returns-in-Ok : goal.returns-in-Ok
-returns-in-Ok c =
+pub returns-in-Some : goal.returns-in-Some
+returns-in-Some c =
     let line = c.args.line.now in
-    let text = c.in-Ok.ensures.cases in
+    let text = c.in-Some.ensures in
     let silent : says_nothing (trim_front line) ≡ false = sym c.says_nothing.ensures ∙ c.if-says_nothing.false in
     c.text_opened.ensures ∙ ap by_first_word text.0 ∙ form_text line c.if-line-gt-MAX_LINE.false silent text.1
