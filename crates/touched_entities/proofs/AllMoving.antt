@@ -4,6 +4,7 @@ use Rattle.std.specs.Prelude.{◌≡◌, ◌↔◌, ◌||◌, ◌+◌, ◌<◌, 
 use Rattle.std.specs.List.{Contains}
 use Rattle.std.proofs.Common.{refl, sym, ap, subst, ◌∙◌, append_assoc, arith, get_or}
 use Rattle.std.proofs.lemmas.Bool.{and_parts, not-true, or_left, or_right, true≢false, or_parts}
+use Rattle.std.proofs.lemmas.Grind.{flat_map-append}
 use Rattle.std.proofs.lemmas.List.{map-append}
 use Rattle.std.proofs.lemmas.List.Elements.{Contains-append_left, Contains-append_right, filter_more}
 use Rattle.ecs_id.specs.Id.{Id, plain, pair}
@@ -18,12 +19,12 @@ use Rattle.query_concerns.specs.Tied.{is_tied}
 use Rattle.touched_entities.specs.Leaning.{Adds, HasAllBelow, IsClosed, concerns_beyond, leaning, linked_with, links_busily, moves_by, target_of}
 use Rattle.touched_entities.specs.Moving.{AreLinked, AreMoving, AreTargets, any_by, busy_among, entities_by, entities_of, ids_around, is_busy, may_be_this, targets_by}
 use Rattle.touched_entities.proofs.Covered.{busy_concern_others, links_concern_others}
-use Rattle.touched_entities.proofs.Grown.{still}
+use Rattle.touched_entities.proofs.Grown.{and_then, still}
 
 module _ (q : Query) (w : WorldState) (changed : Changed) where
-  pub linked_if_tied : (linked : List ℕ) → linked ≡ entities_of (concerns_others q) changed → is_tied q ≡ true → AreLinked q w changed linked
+  pub linked_if_tied : (linked : List ℕ) → ((e : ℕ) → Contains linked e ↔ Contains (entities_of (concerns_others q) changed) e) → is_tied q ≡ true → AreLinked q w changed linked
   linked_if_tied linked are tied = record {
-    others = λ tied x h. subst (λ (es : List ℕ). Contains es x) (sym are) h;
+    others = λ tied x h. (are x).1 h;
     busy = λ loose x h. absurd (true≢false (sym tied ∙ loose));
     lost = λ loose x h. absurd (true≢false (sym tied ∙ loose));
     closed = λ loose x y h leads. absurd (true≢false (sym tied ∙ loose));
@@ -38,26 +39,30 @@ module _ (q : Query) (w : WorldState) (changed : Changed) where
     closed = λ loose x y h leads. closed.stepped x y h leads;
   }
 
-  pub all_targets : (linked below gathered targets : List ℕ) → AreLinked q w changed linked → HasAllBelow (λ ids. concerns_beyond q) w (entities_of (concerns_below q) changed) below
-      → gathered ≡ linked ++ below → ((e : ℕ) → Contains targets e ↔ Contains gathered e) → AreTargets q w changed targets
-  all_targets linked below gathered targets are_linked all_below are same =
-      let put = λ (e : ℕ) (h : Contains (linked ++ below) e). (same e).1 (subst (λ (es : List ℕ). Contains es e) (sym are) h) in record {
+  all_targets : (linked below targets : List ℕ) → AreLinked q w changed linked → HasAllBelow (λ ids. concerns_beyond q) w (entities_of (concerns_below q) changed) below → targets ≡ linked ++ below → AreTargets q w changed targets
+  all_targets linked below targets are_linked all_below are =
+      let put = λ (e : ℕ) (h : Contains (linked ++ below) e). subst (λ (es : List ℕ). Contains es e) (sym are) h in record {
         linked = linked;
         are_linked = are_linked;
         among = λ x h. put x (Contains-append_left linked below x h);
         below = λ x e h reached. put e (Contains-append_right linked below e (all_below x e h reached));
       }
 
-  pub all_moving : (own targets holders gathered moving : List ℕ) → ((e : ℕ) → Contains own e ↔ Contains (entities_of (concerns q) changed) e) → AreTargets q w changed targets
-      → Adds (flat_map (leaning (moves_by q) w) targets) own holders → gathered ≡ holders ++ filter (may_be_this q w) targets → ((e : ℕ) → Contains moving e ↔ Contains gathered e) → AreMoving q w changed moving
-  all_moving own targets holders gathered moving are_own are_targets adds are same =
-      let fit = filter (may_be_this q w) targets in
-      let put = λ (e : ℕ) (h : Contains (holders ++ fit) e). (same e).1 (subst (λ (es : List ℕ). Contains es e) (sym are) h) in record {
-        own = λ e h. put e (Contains-append_left holders fit e (still (flat_map (leaning (moves_by q) w) targets) own holders adds e ((are_own e).1 h)));
+  -- who moves by a fact of a target is added for those linked first, and then for those below
+  pub all_moving : (own linked below targets between holders gathered moving : List ℕ) → ((e : ℕ) → Contains own e ↔ Contains (entities_of (concerns q) changed) e)
+      → AreLinked q w changed linked → HasAllBelow (λ ids. concerns_beyond q) w (entities_of (concerns_below q) changed) below → targets ≡ linked ++ below
+      → Adds (flat_map (leaning (moves_by q) w) linked) own between → Adds (flat_map (leaning (moves_by q) w) below) between holders → Adds (filter (may_be_this q w) targets) holders gathered
+      → ((e : ℕ) → Contains moving e ↔ Contains gathered e) → AreMoving q w changed moving
+  all_moving own linked below targets between holders gathered moving are_own are_linked all_below are first second fit same =
+      let next = leaning (moves_by q) w in
+      let both = and_then (flat_map next linked) (flat_map next below) own between holders first second in
+      let adds : Adds (flat_map next targets) own holders = subst (λ (a : List ℕ). Adds a own holders) (sym (flat_map-append next linked below) ∙ ap (flat_map next) (sym are)) both in
+      let kept = filter (may_be_this q w) targets in record {
+        own = λ e h. (same e).1 (still kept holders gathered fit e (still (flat_map next targets) own holders adds e ((are_own e).1 h)));
         targets = targets;
-        are_targets = are_targets;
-        themselves = λ x h may. put x (Contains-append_right holders fit x ((filtered (may_be_this q w) targets x).1 (h, may)));
-        held = λ x e h on. put e (Contains-append_left holders fit e (adds.all e (in_flat_map (leaning (moves_by q) w) targets x e h on)));
+        are_targets = all_targets linked below targets are_linked all_below are;
+        themselves = λ x h may. (same x).1 (fit.all x ((filtered (may_be_this q w) targets x).1 (h, may)));
+        held = λ x e h on. (same e).1 (still kept holders gathered fit e (adds.all e (in_flat_map next targets x e h on)));
       }
 
 -- ---- where no fact concerns others or those below

@@ -4,12 +4,13 @@ ghost use Rattle.std.specs.Prelude.{◌≡◌, ◌==◌, ◌∷◌, [], true, fi
 ghost use Rattle.std.specs.List.{list_all, list_any};
 ghost use Rattle.component_index.specs.Patterns.{matches};
 ghost use Rattle.ecs_id.specs.declared.TableKey.{TableKey as Key};
-ghost use Rattle.touched_entities.specs.Leaning.{Adds, AreAlike, HasAllBelow, is_sought, leaning, leans, pairs_to};
+ghost use Rattle.touched_entities.specs.Leaning.{Adds, AreAlike, HasAllBelow, is_sought, leaning, leans, links_busily, moves_by, pairs_to};
 
 use crate::sought::{Sought, is_sought};
 use crate::touching::ids_at;
 use component_index::{Part, Pattern};
 use ecs_id::{EntityId, Id, TableKey};
+use ecs_model::FactKey;
 use ecs_world::World;
 use query_check::Query;
 use rel_travel::Holders;
@@ -92,6 +93,37 @@ pub(crate) fn push_leaning<A: Allocator + Copy, B: Allocator>(
     Ok(found.len() <= MOST)
 }
 
+/// Adds those who are linked with this entity by a pair that they hold with it, where these facts went, to the first list, and those who may move by a
+/// fact of it to the second. False, where either may be too many. The tables with such pairs are looked up and gone through once.
+pub(crate) fn push_linked_and_moving<A: Allocator + Copy, B: Allocator>(
+    alloc: A,
+    query: &Query<B>,
+    went: &[FactKey],
+    world: &World<A>,
+    target: u32,
+    linked: &mut ShortList<A>,
+    moving: &mut ShortList<A>,
+) -> Result<bool, AllocError>
+    ensures linked { IfOk result (λ done. done ≡ true → Adds (leaning (links_busily query.now went.now) world.now.state target) linked.old.items linked.new.items) }
+    ensures moving { IfOk result (λ done. done ≡ true → Adds (leaning (moves_by query.now) world.now.state target) moving.old.items moving.new.items) }
+{
+    let links = world.links();
+    // What is known of each row.
+    let _ = links.tables().store();
+    let pattern = Pattern {
+        first: Part::Any,
+        second: Some(Part::Is(target)),
+    };
+    let tables = links.tables_of(pattern);
+    if !are_few(&links, tables) {
+        return Ok(false);
+    }
+    push_both_from_tables(
+        alloc, query, went, world, &links, tables, target, linked, moving,
+    )?;
+    Ok((linked.len() <= MOST) & (moving.len() <= MOST))
+}
+
 /// Whether few entities stand in these tables, and these are few.
 fn are_few<G: Holders>(graph: &G, tables: &[TableKey]) -> bool {
     if tables.len() > MOST_TABLES {
@@ -136,7 +168,40 @@ fn push_from_tables<G: Holders, A: Allocator + Copy, B: Allocator>(
     Ok(())
 }
 
+/// Adds those in these tables who are linked with an entity, where these facts went, to the first list, and those who may move by a fact of it to the second.
+fn push_both_from_tables<G: Holders, A: Allocator + Copy, B: Allocator>(
+    alloc: A,
+    query: &Query<B>,
+    went: &[FactKey],
+    world: &World<A>,
+    graph: &G,
+    tables: &[TableKey],
+    target: u32,
+    linked: &mut ShortList<A>,
+    moving: &mut ShortList<A>,
+) -> Result<(), AllocError>
+    requires alike { (k : Key) → AreAlike world.now.state (G.rows graph.now k) }
+    ensures linked { OnOk result (Adds (filter (leans (links_busily query.now went.now) world.now.state target) (flat_map (G.rows graph.now) tables.now)) linked.old.items linked.new.items) }
+    ensures moving { OnOk result (Adds (filter (leans (moves_by query.now) world.now.state target) (flat_map (G.rows graph.now) tables.now)) moving.old.items moving.new.items) }
+{
+    for table in tables {
+        let rows = graph.rows(*table);
+        push_from(
+            alloc,
+            query,
+            &Sought::Linked(went),
+            world,
+            rows,
+            target,
+            linked,
+        )?;
+        push_from(alloc, query, &Sought::Moving, world, rows, target, moving)?;
+    }
+    Ok(())
+}
+
 /// Adds those of these entities who lean on another one. They hold the same ids, so all of them do, or nobody does.
+#[inline(always)]
 fn push_from<A: Allocator + Copy, B: Allocator>(
     alloc: A,
     query: &Query<B>,

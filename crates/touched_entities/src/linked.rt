@@ -1,10 +1,10 @@
 //! Who is linked with an entity, from pair to pair: by a pair that links others, which one of two holds with the other as its target.
 
 ghost use Rattle.std.specs.Prelude.{◌≡◌, ◌++◌, true, flat_map, IfOk, OnOk};
-ghost use Rattle.touched_entities.specs.Leaning.{Adds, IsClosed, linked_with, links_busily, target_of, targets_at};
+ghost use Rattle.touched_entities.specs.Leaning.{Adds, IsClosed, leaning, linked_with, links_busily, moves_by, target_of, targets_at};
 ghost use Rattle.touched_entities.specs.Moving.{targets_by};
 
-use crate::leaning::{MOST, push_leaning, push_new};
+use crate::leaning::{MOST, push_linked_and_moving, push_new};
 use crate::sought::{Sought, is_sought};
 use crate::touching::ids_at;
 use ecs_id::Id;
@@ -14,29 +14,32 @@ use query_check::Query;
 use short_list::ShortList;
 use std::alloc::{AllocError, Allocator};
 
-/// Adds those who are linked with one of these, those who are linked with one of those, and so on. False, where these may be too many.
+/// Adds those who are linked with one of these, those who are linked with one of those, and so on; and to the second list whoever may move by a fact of one
+/// of all these. False, where either may be too many.
 pub(crate) fn push_all_linked<A: Allocator + Copy, B: Allocator>(
     alloc: A,
     query: &Query<B>,
     went: &[FactKey],
     world: &World<A>,
     found: &mut ShortList<A>,
+    moving: &mut ShortList<A>,
 ) -> Result<bool, AllocError>
-    ensures { IfOk result (λ done. done ≡ true → IsClosed (linked_with (links_busily query.now went.now) world.now.state) found.old.items found.new.items) }
+    ensures linked { IfOk result (λ done. done ≡ true → IsClosed (linked_with (links_busily query.now went.now) world.now.state) found.old.items found.new.items) }
+    ensures moving { IfOk result (λ done. done ≡ true → Adds (flat_map (leaning (moves_by query.now) world.now.state) found.new.items) moving.old.items moving.new.items) }
 {
     for next in 0..MOST {
         if next >= found.len() {
             return Ok(true);
         }
         let entity = found.as_slice()[next];
-        if !push_linked(alloc, query, went, world, entity, found)? {
+        if !push_linked(alloc, query, went, world, entity, found, moving)? {
             return Ok(false);
         }
     }
     Ok(found.len() <= MOST)
 }
 
-/// Adds those who are linked with this entity. False, where these may be too many.
+/// Adds those who are linked with this entity, and to the second list those who may move by a fact of it. False, where either may be too many.
 fn push_linked<A: Allocator + Copy, B: Allocator>(
     alloc: A,
     query: &Query<B>,
@@ -44,10 +47,12 @@ fn push_linked<A: Allocator + Copy, B: Allocator>(
     world: &World<A>,
     entity: u32,
     found: &mut ShortList<A>,
+    moving: &mut ShortList<A>,
 ) -> Result<bool, AllocError>
-    ensures { IfOk result (λ done. done ≡ true → Adds (linked_with (links_busily query.now went.now) world.now.state entity) found.old.items found.new.items) }
+    ensures linked { IfOk result (λ done. done ≡ true → Adds (linked_with (links_busily query.now went.now) world.now.state entity) found.old.items found.new.items) }
+    ensures moving { IfOk result (λ done. done ≡ true → Adds (leaning (moves_by query.now) world.now.state entity) moving.old.items moving.new.items) }
 {
-    if !push_leaning(alloc, query, &Sought::Linked(went), world, entity, found)? {
+    if !push_linked_and_moving(alloc, query, went, world, entity, found, moving)? {
         return Ok(false);
     }
     push_targets_at(alloc, query, went, ids_at(world, entity), found)?;

@@ -1,18 +1,19 @@
 //! Who may have moved in or out of a query's rows, where few may.
 
-ghost use Rattle.std.specs.Prelude.{◌≡◌, ◌↔◌, ◌++◌, ◌∷◌, [], ℕ, Contains, true, filter, IfOk, IfSome, OnOk, false, if◌then◌else◌};
+ghost use Rattle.std.specs.Prelude.{◌≡◌, ◌↔◌, ◌++◌, ◌∷◌, [], ℕ, Contains, true, filter, flat_map, IfOk, IfSome, OnOk, false, if◌then◌else◌};
 ghost use Rattle.std.specs.List.Sorted.{IsStrictlyIncreasing};
 ghost use Rattle.ecs_model.specs.World.{is_live};
 ghost use Rattle.query_meaning.specs.Sound.{IsSound};
 ghost use Rattle.touched_entities.specs.Bonds.{bonds_of};
 ghost use Rattle.query_concerns.specs.Concerns.{concerns};
 ghost use Rattle.query_concerns.specs.Others.{concerns_below, concerns_others};
+ghost use Rattle.touched_entities.specs.Leaning.{Adds, HasAllBelow, concerns_beyond, leaning, moves_by};
 ghost use Rattle.touched_entities.specs.Moving.{AreFew, AreLinked, AreMoving, AreTargets, TellsMoved, any_concerns_others, busy_among, entities_by, entities_of, is_followed, is_open, is_sure, may_be_this};
 ghost use Rattle.watch_meaning.specs.Since.{IsAfter};
 
 use crate::Bonds;
 use crate::indexes::put_in_order;
-use crate::leaning::{MOST, push_all_below, push_leaning_on_all};
+use crate::leaning::{MOST, is_among, push_all_below, push_leaning_on_all};
 use crate::linked::{push_all, push_all_linked, push_targets};
 use crate::sought::Sought;
 use crate::touching::ids_at;
@@ -237,19 +238,13 @@ fn push_moved_by_others<A: Allocator + Copy, B: Allocator>(
     ensures ascend { IfOk result (λ done. done ≡ true → IsStrictlyIncreasing moving.new.items) }
     ensures all { IfOk result (λ done. done ≡ true → AreMoving query.now world.now.state changes.now moving.new.items) }
 {
-    let Some(targets) = targets(alloc, query, bonds, world, changes, others, below)? else {
+    let Some(mut targets) = linked(alloc, query, bonds, world, changes, others, moving)? else {
         return Ok(false);
     };
-    if !push_leaning_on_all(
-        alloc,
-        query,
-        &Sought::Moving,
-        world,
-        targets.as_slice(),
-        moving,
-    )? {
+    let Some(below) = all_below(alloc, query, world, below, moving)? else {
         return Ok(false);
-    }
+    };
+    push_all(alloc, below.as_slice(), &mut targets)?;
     push_matching(alloc, query, world, targets.as_slice(), moving)?;
     put_in_order(moving);
     Ok(true)
@@ -263,59 +258,91 @@ fn push_matching<A: Allocator + Copy, B: Allocator>(
     entities: &[u32],
     found: &mut ShortList<A>,
 ) -> Result<(), AllocError>
-    ensures { OnOk result (found.new.items ≡ found.old.items ++ filter (may_be_this query.now world.now.state) entities.now) }
+    ensures { OnOk result (Adds (filter (may_be_this query.now world.now.state) entities.now) found.old.items found.new.items) }
 {
     for entity in entities {
-        if !lacks(query, ids_at(world, *entity)) {
-            found.push(alloc, *entity)?;
-        }
+        push_if_matching(alloc, query, world, *entity, found)?;
     }
     Ok(())
 }
 
-/// All with whom somebody holds a pair who may have moved by another one's fact, in order, unless they may be too many: those linked with one of whom
-/// a fact came or went, those of whom one did that concerns those below, and all below these.
-fn targets<A: Allocator + Copy, B: Allocator>(
+/// Adds an entity that isn't there yet, if it doesn't lack what a query asks of `$this` itself.
+fn push_if_matching<A: Allocator + Copy, B: Allocator>(
     alloc: A,
     query: &Query<B>,
-    bonds: Bonds,
     world: &World<A>,
-    changes: &Changes<A>,
-    others: ShortList<A>,
+    entity: u32,
+    found: &mut ShortList<A>,
+) -> Result<(), AllocError>
+    ensures { OnOk result (Adds (filter (may_be_this query.now world.now.state) (entity ∷ [])) found.old.items found.new.items) }
+{
+    if is_among(found.as_slice(), entity) {
+        return Ok(());
+    }
+    if lacks(query, ids_at(world, entity)) {
+        return Ok(());
+    }
+    found.push(alloc, entity)
+}
+
+/// These entities, of whom a fact came or went that concerns those below, and all below them, in order; and added to the list those who may have moved by a
+/// fact of one of these. None, where they may be too many.
+fn all_below<A: Allocator + Copy, B: Allocator>(
+    alloc: A,
+    query: &Query<B>,
+    world: &World<A>,
     mut below: ShortList<A>,
+    moving: &mut ShortList<A>,
 ) -> Result<Option<ShortList<A>>, AllocError>
-    requires bonds { bonds ≡ bonds_of query.now }
-    requires others { others.items ≡ entities_of (concerns_others query.now) changes.now }
-    requires below { below.items ≡ entities_of (concerns_below query.now) changes.now }
-    ensures { IfOk result (λ found. IfSome found (λ targets. AreTargets query.now world.now.state changes.now targets.items)) }
+    ensures below { IfOk result (λ found. IfSome found (λ all. HasAllBelow (λ ids. concerns_beyond query.now) world.now.state below.items all.items)) }
+    ensures moving { IfOk result (λ found. IfSome found (λ all. Adds (flat_map (leaning (moves_by query.now) world.now.state) all.items) moving.old.items moving.new.items)) }
 {
     put_in_order(&mut below);
     if !push_all_below(alloc, query, &Sought::Below, world, &mut below)? {
         return Ok(None);
     }
-    let Some(mut targets) = linked(alloc, query, bonds, world, changes, others)? else {
+    if !push_leaning_on_all(
+        alloc,
+        query,
+        &Sought::Moving,
+        world,
+        below.as_slice(),
+        moving,
+    )? {
         return Ok(None);
-    };
-    push_all(alloc, below.as_slice(), &mut targets)?;
-    put_in_order(&mut targets);
-    Ok(Some(targets))
+    }
+    Ok(Some(below))
 }
 
 /// All of whom a fact that concerns others came or went. Of a query that isn't tied, those of whom one did that may move others, those who had a pair in
-/// common that went, and all who are linked with one of these, from pair to pair, unless they may be too many.
+/// common that went, and all who are linked with one of these, from pair to pair. Adds those to the list who may have moved by a fact of one of these. None,
+/// where they may be too many.
 fn linked<A: Allocator + Copy, B: Allocator>(
     alloc: A,
     query: &Query<B>,
     bonds: Bonds,
     world: &World<A>,
     changes: &Changes<A>,
-    others: ShortList<A>,
+    mut others: ShortList<A>,
+    moving: &mut ShortList<A>,
 ) -> Result<Option<ShortList<A>>, AllocError>
     requires bonds { bonds ≡ bonds_of query.now }
     requires others { others.items ≡ entities_of (concerns_others query.now) changes.now }
-    ensures { IfOk result (λ found. IfSome found (λ linked. AreLinked query.now world.now.state changes.now linked.items)) }
+    ensures linked { IfOk result (λ found. IfSome found (λ linked. AreLinked query.now world.now.state changes.now linked.items)) }
+    ensures moving { IfOk result (λ found. IfSome found (λ linked. Adds (flat_map (leaning (moves_by query.now) world.now.state) linked.items) moving.old.items moving.new.items)) }
 {
     if bonds.tied {
+        put_in_order(&mut others);
+        if !push_leaning_on_all(
+            alloc,
+            query,
+            &Sought::Moving,
+            world,
+            others.as_slice(),
+            moving,
+        )? {
+            return Ok(None);
+        }
         return Ok(Some(others));
     }
     let mut linked = ShortList::new();
@@ -324,7 +351,7 @@ fn linked<A: Allocator + Copy, B: Allocator>(
     push_busy(alloc, query, world, went, went, &mut linked)?;
     push_targets(alloc, query, world, went, went, &mut linked)?;
     put_in_order(&mut linked);
-    if !push_all_linked(alloc, query, went, world, &mut linked)? {
+    if !push_all_linked(alloc, query, went, world, &mut linked, moving)? {
         return Ok(None);
     }
     Ok(Some(linked))

@@ -1,6 +1,11 @@
-use Rattle.touched_entities.specs.Leaning.{linked_with, links_busily}
+use Rattle.std.proofs.Common.{take}
+use Rattle.std.specs.Prelude.{flat_map}
+use Rattle.touched_entities.specs.Leaning.{Adds, leaning, linked_with, links_busily, moves_by}
 use Rattle.touched_entities.proofs.Below.{IsWalked}
 use Rattle.touched_entities.proofs.linked.push_all_linked.Given as goal
 
 abbrev pub invariant-loop-next : goal.invariant-loop-next
-invariant-loop-next g l = IsWalked (linked_with (links_busily l.query l.went) l.world.state) l.initial.found.items l.found.items l.next
+invariant-loop-next g l = record {
+  walked : IsWalked (linked_with (links_busily l.query l.went) l.world.state) l.initial.found.items l.found.items l.next;
+  moving : Adds (flat_map (leaning (moves_by l.query) l.world.state) (take l.next l.found.items)) l.initial.moving.items l.moving.items;
+}
