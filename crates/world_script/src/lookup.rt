@@ -62,6 +62,7 @@ fn is_dead_handle<A: Allocator>(world: &World<A>, reference: Reference<'_>) -> b
 }
 
 /// Whether some reference of an id is the handle of no live entity.
+#[inline(always)]
 fn names_dead_handle<A: Allocator>(world: &World<A>, id: IdReference<'_>) -> bool
     ensures { result ≡ list_any (is_dead_handle world.now.state) (refs_of_id (seen_id id.entry)) }
 {
