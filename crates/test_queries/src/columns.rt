@@ -1,5 +1,6 @@
 //! The values of all entities of a table, set at once.
 use crate::commands::{add_all, component, name_all};
+use crate::worlds::new_world_over;
 use component_index::{Part, Pattern};
 use ecs_id::{Id, TableKey};
 use ecs_model::FactKey;
@@ -66,7 +67,7 @@ fn fill_and_set<'a>(
 #[test]
 fn columns_are_set_without_memory(rt: HostRuntime) -> Result<(), Fail> {
     let heap = Refusing::new(rt.alloc());
-    let mut world = World::new(&heap, RandomState::new(&rt)?)?;
+    let mut world = new_world_over(&heap, RandomState::new(&rt)?)?;
     let done = fill_and_set(&rt, &heap, &mut world);
     drop(world);
     done

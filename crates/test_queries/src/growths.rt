@@ -1,9 +1,10 @@
 //! Each growth of each call is refused in turn.
 use crate::commands::{add_all, component, name_all, set};
 use crate::worked::first_at;
+use crate::worlds::new_world_over;
 use ecs_id::Id;
 use ecs_model::FactKey;
-use ecs_model::built_ins::{EXCLUSIVE, SYMMETRIC, WITH};
+use ecs_model::built_ins::{CHILD_OF, EXCLUSIVE, SYMMETRIC, WITH};
 use ecs_model::faults::CommandError;
 use ecs_world::{Changes, World};
 use refusing_alloc::Refusing;
@@ -11,8 +12,6 @@ use std::alloc::{Allocator, Global};
 use std::hash::RandomState;
 use std::process::Abort;
 use std::test::Fail;
-
-const CHILD_OF: u32 = 1;
 
 /// No call has as many growths.
 const MOST_GROWTHS: u64 = 2000;
@@ -170,7 +169,7 @@ fn is_refused(
     if matches!(call, Call::New) {
         heap.refuse_after(allowed);
     }
-    let made = World::new(heap, random);
+    let made = new_world_over(heap, random);
     heap.refuse_none();
     let Ok(mut world) = made else {
         return Ok(true);
@@ -238,7 +237,7 @@ fn pin_without_memory<'a>(
 #[test]
 fn a_pin_takes_no_memory(rt: HostRuntime) -> Result<(), Fail> {
     let heap = Refusing::new(rt.alloc());
-    let mut world = World::new(&heap, RandomState::new(&rt)?)?;
+    let mut world = new_world_over(&heap, RandomState::new(&rt)?)?;
     let done = pin_without_memory(&rt, &heap, &mut world);
     drop(world);
     done

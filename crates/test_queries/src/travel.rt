@@ -6,15 +6,13 @@ use crate::worlds::new_world;
 use component_index::{Part, Pattern};
 use ecs_id::Id;
 use ecs_model::FactKey;
-use ecs_model::built_ins::IS_A;
+use ecs_model::built_ins::{CHILD_OF, IS_A};
 use ecs_model::faults::{CommandError, Refusal};
 use ecs_world::{Changes, World};
 use rel_travel::{Graph, Scratch};
 use std::alloc::{AllocError, Global};
 use std::process::Abort;
 use std::test::Fail;
-
-const CHILD_OF: u32 = 1;
 
 /// The component, and then the entities in the order of `NAMES`.
 const POSITION: u32 = 64;

@@ -12,6 +12,7 @@ use crate::rows::compare_rows;
 use crate::runs::give_up_anywhere;
 use crate::worlds::new_world;
 use ecs_id::{EntityId, Id, LAST_INDEX};
+use ecs_model::built_ins::{CHILD_OF, DISABLED, IS_A};
 use ecs_model::faults::{CommandError, Refusal};
 use ecs_schema::{Kind, Schema};
 use ecs_world::World;
@@ -43,12 +44,6 @@ pub(crate) struct WorkedRow {
     /// How many orders of its plan's steps are plans, at least.
     pub(crate) plans: usize,
 }
-
-const CHILD_OF: u32 = 1;
-
-const IS_A: u32 = 2;
-
-const DISABLED: u32 = 5;
 
 const POSITION: u32 = 64;
 

@@ -1,6 +1,6 @@
 //! The values of all entities of a table, set at once in a session.
 
-use crate::lines::first_at;
+use crate::lines::{first_at, new_session_over};
 use ecs_id::{Id, TableKey};
 use ecs_model::Value;
 use ecs_model::watches::StoredKind;
@@ -93,7 +93,7 @@ fn expect_both(
 fn each_entity_of_a_table_gets_its_value(rt: HostRuntime) -> Result<(), Fail> {
     let heap = Refusing::new(rt.alloc());
     let random = RandomState::new(&rt)?;
-    let mut session = Session::new(&heap, random)?;
+    let mut session = new_session_over(&heap, random)?;
     let filled = fill(&mut session, &heap);
     let done = expect_both(&rt, &mut session, &heap);
     drop(session);

@@ -2,7 +2,7 @@
 
 ghost use Rattle.std.specs.Prelude.{◌<◌, length};
 
-use crate::lines::{Line, carry_out, print_lines, with_events};
+use crate::lines::{Line, carry_out, new_session_over, print_lines, with_events};
 use crate::scripts::{
     ASKING_MONITOR, DELETED_PARENTS, EACH_CALL, FIRST_ENTITY, INSTANCES, KEPT_QUERY, LOCAL_MONITOR,
     MARRIAGES, MONITOR_OF_PARENTS, NEW_ENTITY, OBSERVERS, Output, QUERY_NAMES, SECOND_QUERIES,
@@ -170,7 +170,7 @@ fn is_refused_beside<'a>(
     growth: &Growth<'_>,
     tried: &mut Session<&'a Refusing<Global>>,
 ) -> Result<bool, Fail> {
-    let mut right = Session::new(heap, random)?;
+    let mut right = new_session_over(heap, random)?;
     let refused = is_refused_in(rt, heap, growth, tried, &mut right);
     drop(right);
     refused
@@ -187,7 +187,7 @@ fn is_refused(
     if matches!(growth.line, Line::New) {
         heap.refuse_after(growth.blocks);
     }
-    let made = Session::new(heap, random);
+    let made = new_session_over(heap, random);
     heap.refuse_none();
     let Ok(mut tried) = made else {
         return Ok(true);
@@ -271,7 +271,7 @@ fn print_script(
     let Some(output) = output else {
         return Ok(());
     };
-    let mut session = Session::new(rt.alloc(), random)?;
+    let mut session = new_session_over(rt.alloc(), random)?;
     let printed = expect_output(rt, rt.alloc(), &mut session, base, lines, output);
     drop(session);
     printed

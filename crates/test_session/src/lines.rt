@@ -45,10 +45,18 @@ pub(crate) enum Line {
 /// What a session answers to a line.
 pub(crate) type Answer = Result<Option<EntityId>, SessionError>;
 
-/// A session without facts of its own. Whoever has it hands it on to what may fail, and drops it by a call in one place.
+/// A session without facts of its own, over a heap. Whoever has it hands it on to what may fail, and drops it by a call in one place.
+pub(crate) fn new_session_over<A: Allocator + Copy>(
+    heap: A,
+    random: RandomState,
+) -> Result<Session<A>, AllocError> {
+    Session::new(heap, random)
+}
+
+/// One over the heap of a test.
 pub(crate) fn new_session(rt: &HostRuntime) -> Result<Session, Fail> {
     let random = RandomState::new(rt)?;
-    Ok(Session::new(rt.alloc(), random)?)
+    Ok(new_session_over(rt.alloc(), random)?)
 }
 
 pub(crate) fn first_at(index: u32) -> EntityId {

@@ -1,7 +1,8 @@
 //! Scripts: worked ones that show most of what a session does, and some that have each call in them.
 use crate::lines::{Line, Named};
 use ecs_model::built_ins::{
-    DISABLED, DONT_INHERIT, EXCLUSIVE, INHERIT, IS_A, ON_INSTANTIATE, PREFAB, SYMMETRIC, WITH,
+    CHILD_OF, DISABLED, DONT_INHERIT, EXCLUSIVE, INHERIT, IS_A, ON_INSTANTIATE, PREFAB, SYMMETRIC,
+    WITH,
 };
 use ecs_model::watches::StoredKind;
 use ecs_schema::Kind;
@@ -27,8 +28,6 @@ const SILENT: Output = Output {
     text: b"",
     compared: 0,
 };
-
-const CHILD_OF: u32 = 1;
 
 pub(crate) const POSITION: u32 = 64;
 

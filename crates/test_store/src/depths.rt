@@ -4,9 +4,9 @@ ghost use Rattle.ecs_model.specs.Links.{depth as depth_in};
 ghost use Rattle.rel_travel.specs.Words.{AreNumbers, NoneNoted};
 ghost use Rattle.test_store.specs.Closed.{live_in, row_at};
 
-use crate::list_graph::{CHILD_OF, ListGraph, empty_rows, give};
+use crate::list_graph::{ListGraph, empty_rows, give};
 use ecs_id::Id;
-use ecs_model::built_ins::IS_A;
+use ecs_model::built_ins::{CHILD_OF, IS_A};
 use rel_travel::{Graph, Scratch, depth, known_depth};
 use std::alloc::{AllocError, Global};
 use std::process::Abort;

@@ -6,11 +6,10 @@ ghost use Rattle.test_store.specs.Closed.{FallBelow, MentionsInside, live_in, ro
 
 use component_index::Pattern;
 use ecs_id::{Id, LAST_INDEX};
+use ecs_model::built_ins::CHILD_OF;
 use rel_travel::{Graph, Scratch, first_up, would_cycle};
 use std::alloc::{AllocError, Global};
 use std::marker::Model;
-
-pub const CHILD_OF: u32 = 1;
 
 /// A graph with entities at all indexes from 1 on.
 #[derive(Drop)]
