@@ -20,7 +20,7 @@ PARTS = [
     ("The contract", r"(world_script|script_streams)/.*"),
     ("Output", r"ecs_model/(Output|Print)"),
     ("Lines", r"ecs_model/(Script|Text)"),
-    ("Notifications", r"ecs_model/stored/.*|watch_meaning/.*"),
+    ("Notifications", r"ecs_model/stored/.*|watch_concerns/Since"),
     ("Rows", r"ecs_model/(rows/.*|Query|Depth|Links|Line|Reach|Cycles)"),
     ("Queries", r"query_model/.*|query_.*"),
     ("Commands", r".*"),

@@ -19,8 +19,8 @@ use Rattle.ecs_archetypes.specs.Archetypes.{IsSound, meaning}
 use Rattle.ecs_archetypes.specs.Holdings.{HoldAlike, Holdings, agrees, cells_at, held_at, holds_id, is_settled, lives, with_cells, with_entity}
 use Rattle.table_store.specs.Rows.{Cells, IsStored, carried, row_at, shape_of_cells}
 use Rattle.table_store.specs.Store.{Store, Shape, find_in, shape_at, with_id, without_id}
-use Rattle.ecs_archetypes.proofs.Carried.{carried_with, carried_without, find_shape, narrower_other, wider_other}
-use Rattle.ecs_archetypes.proofs.Known.{has_size}
+use Rattle.ecs_archetypes.proofs.CarriedCells.{carried_with, carried_without, find_shape, narrower_other, wider_other}
+use Rattle.ecs_archetypes.proofs.KnownIds.{has_size}
 use Rattle.ecs_archetypes.proofs.MapLists.{both, eq_tells, nat_same}
 use Rattle.ecs_archetypes.proofs.Placings.{content}
 use Rattle.ecs_archetypes.proofs.Soundness.{alike_same, cells_alive, dead_nowhere, found_alive, own_row, placed_alive, row_shape, row_sorted}

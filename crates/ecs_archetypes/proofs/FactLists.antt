@@ -7,7 +7,7 @@ use Rattle.std.specs.Ordering.{is_eq, is_lt, ordering_reverse}
 use Rattle.std.specs.declared.cmp.Ordering.{Ordering}
 use Rattle.std.specs.declared.cmp.Ordering.TheVariants.{Less, Equal, Greater}
 use Rattle.std.specs.FinMap.Entries.{put, is_sorted, below_all, by_order}
-use Rattle.ecs_table.proofs.Ordered.{below_less}
+use Rattle.ecs_table.proofs.TableIds.{below_less}
 use Rattle.ecs_id.specs.Id.{Id, id_cmp, id_cmp_total, id_eq, id_eq_itself, id_eq_same}
 use Rattle.ecs_model.proofs.Maps.{both_true, less as lt_less}
 use Rattle.table_store.specs.Store.{Shape}

@@ -25,15 +25,15 @@ use Rattle.ecs_archetypes.specs.Holdings.{AreHoldings, HoldAlike, Holdings, Keep
 use Rattle.ecs_archetypes.specs.Housing.{Housing, IsHoused, holdings_of}
 use Rattle.ecs_archetypes.specs.Moves.{AreReady, IsPlanned, are_apart, are_deletable, moves_to, shape_in, with_all_moved, with_moved, without_each}
 use Rattle.ecs_archetypes.specs.Tables.{HasGrown, one_in}
-use Rattle.ecs_archetypes.proofs.Deleting.{deletable_alike, without_alike}
+use Rattle.ecs_archetypes.proofs.DeathLists.{deletable_alike, without_alike}
 use Rattle.ecs_archetypes.proofs.FactSections.{AreSplit, IsFirst, all_split, all_then, ascend, ascend_from, ascend_split, behind_above, coming_sorted, first_is, front_of, going_sorted, split_there}
 use Rattle.ecs_archetypes.proofs.FactTables.{carried_changed}
-use Rattle.ecs_archetypes.proofs.Known.{room_stands}
+use Rattle.ecs_archetypes.proofs.KnownIds.{room_stands}
 use Rattle.ecs_archetypes.proofs.MapLists.{both, eq_tells, find_mapped, nat_same, sorted_mapped}
-use Rattle.ecs_archetypes.proofs.Moving.{alike_then, moved_alike}
+use Rattle.ecs_archetypes.proofs.TableMoves.{alike_then, moved_alike}
 use Rattle.ecs_archetypes.proofs.Placings.{key_eq-tells}
 use Rattle.ecs_archetypes.proofs.Soundness.{holdings}
-use Rattle.ecs_archetypes.proofs.Standing.{grown_same, grown_then}
+use Rattle.ecs_archetypes.proofs.EnteredTables.{grown_same, grown_then}
 
 -- where no fact comes or goes, cells stay
 none_left : (u : Cells) → filter (λ e. not false) u ≡ u

@@ -21,9 +21,9 @@ use Rattle.ecs_archetypes.specs.FactChanges.{Coming, changed_cells, changed_shap
 use Rattle.ecs_archetypes.specs.Holdings.{AreHoldings, Holdings, KeepsSizes, Sizes, agrees, cells_at, held_at, is_settled, lives, sizes_of}
 use Rattle.ecs_archetypes.specs.Housing.{Housing, IsHoused, holdings_of}
 use Rattle.ecs_archetypes.proofs.ArchetypeCalls.{found_settled}
-use Rattle.ecs_archetypes.proofs.Carried.{carried_self}
+use Rattle.ecs_archetypes.proofs.CarriedCells.{carried_self}
 use Rattle.ecs_archetypes.proofs.FactLists.{put_size}
-use Rattle.ecs_archetypes.proofs.Known.{of_shape}
+use Rattle.ecs_archetypes.proofs.KnownIds.{of_shape}
 use Rattle.ecs_archetypes.proofs.MapLists.{both, list_all_filter, list_all_put, sorted_mapped}
 use Rattle.ecs_archetypes.proofs.Soundness.{alive_found, held_row, holdings, placed_alive, row_shape, row_sorted}
 

@@ -8,3 +8,4 @@ pub mod Moves
 pub mod FactChanges
 pub mod Plans
 pub mod Scans
+pub mod Linked

@@ -15,7 +15,7 @@ use Rattle.ecs_model.specs.Command.{is_spent}
 use Rattle.ecs_model.specs.traits.Keeps.{IsWellFormed, KeepsTraits}
 use Rattle.ecs_model.proofs.Maps.{of_some, if_some, both_true, nat_value_at, IsMap-with_value}
 use Rattle.ecs_model.proofs.Reasons.{IsFree}
-use Rattle.ecs_model.proofs.Typing.{IsTyped, same_type}
+use Rattle.ecs_model.proofs.TypedValues.{IsTyped, same_type}
 use Rattle.ecs_model.proofs.Additions.{not_spent}
 
 -- a name that no entity has is not the name of an entity

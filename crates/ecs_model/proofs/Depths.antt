@@ -8,7 +8,7 @@ use Rattle.ecs_model.specs.Depth.{IsChain, no_step, one_more, IsDepth, greatest,
 use Rattle.ecs_model.specs.Reach.{Reached, itself, onward, HasChain}
 use Rattle.ecs_model.specs.ReachLaws.{DepthsAreOfLongestChains}
 use Rattle.ecs_model.specs.Links.{upward}
-use Rattle.ecs_model.proofs.Linked.{upward_lives}
+use Rattle.ecs_model.proofs.LivePairs.{upward_lives}
 use Rattle.ecs_model.proofs.Members.{among_others, head_or_tail, others, others_fewer}
 use Rattle.ecs_model.proofs.ShortLines.{chain_ends, chain_through, one_step}
 

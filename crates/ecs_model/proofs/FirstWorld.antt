@@ -15,7 +15,7 @@ use Rattle.ecs_model.specs.Text.{is_name}
 use Rattle.ecs_model.specs.World.{Key, key_cmp, first_world, is_live, is_built_in, holds, value_of, name_of, named, ids_of, type_of_id, pair_is_tag}
 use Rattle.ecs_model.specs.traits.Keeps.{IsWellFormed, KeepsTraits}
 use Rattle.ecs_model.proofs.Maps.{if_some, some_of, both_true, key_cmp_same}
-use Rattle.ecs_model.proofs.Typing.{IsTyped}
+use Rattle.ecs_model.proofs.TypedValues.{IsTyped}
 
 -- what each entry passes, an entry that is found passes
 pub entries_pass : {K X : Type 0} (R : K → K → Ordering) → ((x y : K) → R x y ≡ Equal → x ≡ y) → (p : K → X → Bool) (m : Map K X)

@@ -1,12 +1,12 @@
 pub mod Maps
-pub mod Typing
+pub mod TypedValues
 pub mod Reasons
 pub mod RefusalOrder
 pub mod Additions
 pub mod Births
 pub mod Removals
-pub mod Born
-pub mod Answering
+pub mod NewEntity
+pub mod StepAnswers
 pub mod RefusedLines
 pub mod Steps
 pub mod Differences
@@ -14,14 +14,14 @@ pub mod FirstWorld
 mod Computed
 mod ReachComputed
 pub mod Members
-pub mod Linked
+pub mod LivePairs
 pub mod ShortLines
 pub mod Depths
 pub mod LeastSets
-pub mod Reaching
-pub mod Closing
-pub mod Decided
+pub mod ReachSteps
+pub mod ClosedChains
+pub mod ReachTests
 pub mod traits
 mod stored
 pub mod Bits
-pub mod Rising
+pub mod RisingLists

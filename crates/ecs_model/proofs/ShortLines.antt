@@ -5,7 +5,7 @@ use Rattle.std.proofs.lemmas.List.Elements.{Contains-append_right}
 use Rattle.ecs_model.specs.Line.{line_within}
 use Rattle.ecs_model.specs.Reach.{Reached, itself, onward, HasChain}
 use Rattle.ecs_model.specs.ReachLaws.{LinesUnfold}
-use Rattle.ecs_model.proofs.Linked.{upward_lives}
+use Rattle.ecs_model.proofs.LivePairs.{upward_lives}
 use Rattle.ecs_model.specs.Links.{upward}
 use Rattle.ecs_model.proofs.Members.{among_others, others, others_fewer}
 

@@ -12,18 +12,18 @@ use Rattle.std.proofs.lemmas.List.Edits.{get_or-remove_above, get_or-remove_belo
 use Rattle.std.proofs.lemmas.List.Elements.{All-cons, All-head, All-tail}
 use Rattle.std.proofs.lemmas.Option.{slice_get-map}
 use Rattle.std.proofs.lemmas.Simd.{map-map}
-use Rattle.name_order.specs.Order as order
+use Rattle.watch_index.specs.NameOrder as order
 use Rattle.table_store.specs.Store.{Store}
-use Rattle.watch_order.specs.Watched.{Boxed}
-use Rattle.watch_order.specs.declared.watching.Watcher.{Watcher}
-use Rattle.stored_queries.specs.Lists.{HasList}
+use Rattle.watch_index.specs.WatchOrder.{Boxed}
+use Rattle.watch_index.specs.declared.watch_order.Watcher.{Watcher}
+use Rattle.watch_stored.specs.Lists.{HasList}
 use Rattle.ecs_observe.specs.Lists.{HaveLists}
 use Rattle.ecs_observe.specs.Parts.{held_of, with_kept_at}
-use Rattle.stored_queries.specs.Parts.{with_kept}
+use Rattle.watch_stored.specs.Parts.{with_kept}
 use Rattle.ecs_observe.specs.Stored.{entries_in}
-use Rattle.stored_queries.specs.declared.moves.RowsAfter.{RowsAfter}
-use Rattle.stored_queries.specs.declared.stored.StoredQuery.{StoredQuery}
-use Rattle.ecs_observe.proofs.Found.{is_key}
+use Rattle.watch_stored.specs.declared.moves.RowsAfter.{RowsAfter}
+use Rattle.watch_stored.specs.declared.stored.StoredQuery.{StoredQuery}
+use Rattle.ecs_observe.proofs.NamedQueries.{is_key}
 
 -- ---- values that hold others
 module _ {K V W : Type 0} (f : V → W) (test : K → Bool) where

@@ -23,11 +23,11 @@ use Rattle.world_query.specs.declared.sending.SendError.TheVariants as send
 use Rattle.ecs_observe.specs.Answers.{SendsKept, SendsRows}
 use Rattle.ecs_observe.specs.declared.errors.SendRowsError.{SendRowsError}
 use Rattle.ecs_observe.specs.declared.errors.SendRowsError.TheVariants as rows
-use Rattle.stored_queries.specs.declared.stored.StoredQuery.{StoredQuery}
+use Rattle.watch_stored.specs.declared.stored.StoredQuery.{StoredQuery}
 use Rattle.ecs_observe.specs.Parts.{held_of}
-use Rattle.stored_queries.specs.Held.{Held, IsHeld}
+use Rattle.watch_stored.specs.Held.{Held, IsHeld}
 use Rattle.ecs_observe.specs.Standing.{IsSession, Standing, session_of, stored_of}
-use Rattle.ecs_observe.proofs.Found.{holds_of_found, is_key, named, none_found, seen, some_found, stored_is, world_is}
+use Rattle.ecs_observe.proofs.NamedQueries.{holds_of_found, is_key, named, none_found, seen, some_found, stored_is, world_is}
 
 module _ (w : WorldState) (n : List ℕ) (q : Query) where
   of_kind : (k : StoredKind) (p : Query) → IsCurrentIn w p → if_kept k p ≡ Ok q → IsCurrentIn w q

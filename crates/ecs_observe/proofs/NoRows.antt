@@ -8,8 +8,8 @@ use Rattle.ecs_model.specs.rows.Rows.{answers}
 use Rattle.ecs_model.specs.rows.Text.{rows_text}
 use Rattle.ecs_model.specs.rows.View.{view_of}
 use Rattle.query_model.specs.Query.{Query}
-use Rattle.query_answers.proofs.Shown.{none_in_order}
-use Rattle.query_answers.proofs.Whole.{text_is}
+use Rattle.query_answers.proofs.ShownRows.{none_in_order}
+use Rattle.query_answers.proofs.RowLines.{text_is}
 
 pub no_lines : (w : WorldState) (q : Query) → answers (view_of w) q ≡ [] → (start new : List ℕ) → new ≡ start ++ codes "rows 0\n" → new ≡ start ++ rows_text w q
 no_lines w q none start new now =

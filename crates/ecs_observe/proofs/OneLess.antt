@@ -20,16 +20,16 @@ use Rattle.query_cache.specs.Kept.{Kept}
 use Rattle.query_model.specs.Query.{Query}
 use Rattle.query_meaning.specs.Standing.{IsCurrentIn}
 use Rattle.query_meaning.specs.declared.steps.Step.{Step}
-use Rattle.watch_meaning.specs.Mentions.{mentions_index, times, times_in}
-use Rattle.watch_meaning.specs.Since.{IsAfter}
-use Rattle.watch_meaning.proofs.MentionedOnce.{count_by-cons, queries_mention_once}
-use Rattle.watch_meaning.proofs.Pinning.{current_alive, unpinned_counts, unpinned_current, unpinned_once, unpinned_view}
-use Rattle.stored_queries.specs.declared.stored.StoredQuery.{StoredQuery}
+use Rattle.watch_concerns.specs.Mentions.{mentions_index, times, times_in}
+use Rattle.watch_concerns.specs.Since.{IsAfter}
+use Rattle.watch_concerns.proofs.MentionedOnce.{count_by-cons, queries_mention_once}
+use Rattle.watch_concerns.proofs.PinChanges.{current_alive, unpinned_counts, unpinned_current, unpinned_once, unpinned_view}
+use Rattle.watch_stored.specs.declared.stored.StoredQuery.{StoredQuery}
 use Rattle.ecs_observe.specs.Following.{lists_of}
 use Rattle.ecs_observe.specs.Parts.{held_of}
-use Rattle.stored_queries.specs.Held.{Held, IsHeld, IsNow, WasNow, told_to}
+use Rattle.watch_stored.specs.Held.{Held, IsHeld, IsNow, WasNow, told_to}
 use Rattle.ecs_observe.specs.Standing.{IsSession, session_of, stored_of}
-use Rattle.ecs_observe.proofs.Found.{holds_of_found, is_key, named, seen}
+use Rattle.ecs_observe.proofs.NamedQueries.{holds_of_found, is_key, named, seen}
 use Rattle.ecs_observe.proofs.OneMore.{far_from_most, none_waits, queries, still_held, still_now}
 
 abbrev its_list : Held → List ℕ × Option Kept × List Step × ℕ

@@ -9,21 +9,21 @@ use Rattle.std.proofs.Common.{refl, sym, ap, subst, ◌∙◌, arith, get_or}
 use Rattle.std.proofs.lemmas.List.{get_or-map, length-map}
 use Rattle.std.proofs.lemmas.List.Elements.{All-head, All-map, All-tail}
 use Rattle.std.proofs.lemmas.List.Kept.{AllPairs-cons}
-use Rattle.name_order.specs.Order as order
-use Rattle.watch_order.specs.Watched.{Boxed}
-use Rattle.watch_order.specs.declared.watching.Watcher.{Watcher}
+use Rattle.watch_index.specs.NameOrder as order
+use Rattle.watch_index.specs.WatchOrder.{Boxed}
+use Rattle.watch_index.specs.declared.watch_order.Watcher.{Watcher}
 use Rattle.ecs_model.specs.Command.{Changed}
 use Rattle.ecs_model.specs.World.{WorldState}
 use Rattle.query_cache.specs.Kept.{Kept}
 use Rattle.query_meaning.specs.declared.steps.Step.{Step}
-use Rattle.watch_meaning.specs.Mentions.{times}
+use Rattle.watch_concerns.specs.Mentions.{times}
 use Rattle.ecs_observe.specs.Following.{with_list, with_list_at}
 use Rattle.ecs_observe.specs.Parts.{held_of}
-use Rattle.stored_queries.specs.Held.{Held, IsHeld, IsNow, WasNow, told_to}
+use Rattle.watch_stored.specs.Held.{Held, IsHeld, IsNow, WasNow, told_to}
 use Rattle.ecs_observe.specs.Standing.{IsSession, Standing, session_of, stored_of}
 use Rattle.ecs_observe.specs.Stored.{entries_in}
-use Rattle.stored_queries.specs.declared.stored.StoredQuery.{StoredQuery}
-use Rattle.ecs_observe.proofs.Found.{is_key}
+use Rattle.watch_stored.specs.declared.stored.StoredQuery.{StoredQuery}
+use Rattle.ecs_observe.proofs.NamedQueries.{is_key}
 use Rattle.ecs_observe.proofs.OneLess.{AreApart, differs, first_apart, rest_apart}
 
 module _ (n : List ℕ) (l : Option Kept) (st : List Step) (serial : ℕ) where

@@ -7,7 +7,7 @@ use Rattle.std.proofs.lemmas.List.{length-map, length_push, map-append}
 use Rattle.std.proofs.lemmas.List.Elements.{All-push}
 use Rattle.std.proofs.lemmas.List.Quantifiers.{all_pairs_push}
 use Rattle.std.proofs.lemmas.List.Sums.{count_by-le-length, sum_by_push}
-pub use Rattle.name_order.proofs.Placed.{of_ok}
+pub use Rattle.watch_index.proofs.NamesPlaced.{of_ok}
 use Rattle.ecs_model.specs.Command.{Changed}
 use Rattle.ecs_model.specs.Map.{count_at}
 use Rattle.ecs_model.specs.World.{WorldState}
@@ -18,16 +18,16 @@ use Rattle.ecs_model.specs.traits.Pins.{most_pins}
 use Rattle.ecs_world.specs.Standing as world
 use Rattle.query_model.specs.Query.{Query}
 use Rattle.query_meaning.specs.Standing.{IsCurrentIn}
-use Rattle.watch_meaning.specs.Mentions.{mentions_index, times, times_in}
-use Rattle.watch_meaning.specs.Since.{IsAfter}
-use Rattle.watch_meaning.proofs.MentionedOnce.{queries_mention_once}
-use Rattle.watch_meaning.proofs.Pinning.{pinned_counts, pinned_current, pinned_view}
-use Rattle.stored_queries.specs.declared.stored.StoredQuery.{StoredQuery}
+use Rattle.watch_concerns.specs.Mentions.{mentions_index, times, times_in}
+use Rattle.watch_concerns.specs.Since.{IsAfter}
+use Rattle.watch_concerns.proofs.MentionedOnce.{queries_mention_once}
+use Rattle.watch_concerns.proofs.PinChanges.{pinned_counts, pinned_current, pinned_view}
+use Rattle.watch_stored.specs.declared.stored.StoredQuery.{StoredQuery}
 use Rattle.ecs_observe.specs.Parts.{held_of}
-use Rattle.stored_queries.specs.Held.{Held, IsHeld, IsNow, WasNow}
+use Rattle.watch_stored.specs.Held.{Held, IsHeld, IsNow, WasNow}
 use Rattle.ecs_observe.specs.Standing.{IsSession}
 use Rattle.ecs_observe.specs.Storing.{with_held}
-use Rattle.ecs_observe.proofs.Found.{seen}
+use Rattle.ecs_observe.proofs.NamedQueries.{seen}
 
 -- where nothing waits, nothing is told
 pub none_waits : {X Y : Type 0} (o : Option X) → o ≡ None → (f g : X → Y) → option_map f o ≡ option_map g o

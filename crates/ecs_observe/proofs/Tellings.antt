@@ -15,16 +15,16 @@ use Rattle.ecs_model.specs.stored.Watches.{is_told, is_watch, matching, told}
 use Rattle.ecs_model.specs.traits.Command.{Command, step}
 use Rattle.ecs_model.specs.traits.Keeps.{IsWellFormed}
 use Rattle.ecs_model.proofs.Reasons.{neither}
-use Rattle.watch_meaning.specs.Since.{told_since}
+use Rattle.watch_concerns.specs.Since.{told_since}
 use Rattle.ecs_observe.specs.Answers.{AnswersCommand}
 use Rattle.ecs_observe.specs.Parts.{held_of}
-use Rattle.stored_queries.specs.declared.stored.StoredQuery.{StoredQuery}
-use Rattle.stored_queries.specs.Held.{Held, IsNow, rows_before, told_to}
+use Rattle.watch_stored.specs.declared.stored.StoredQuery.{StoredQuery}
+use Rattle.watch_stored.specs.Held.{Held, IsNow, rows_before, told_to}
 use Rattle.ecs_observe.specs.Standing.{stored_of}
 use Rattle.query_model.specs.Local.{is_local}
-use Rattle.touched_entities.specs.Before.{view_before}
-use Rattle.touched_entities.proofs.Unconcerned.{queries_matched_before}
-use Rattle.watch_meaning.proofs.ToldSince.{watches_are_told_since}
+use Rattle.watch_touched.specs.Before.{view_before}
+use Rattle.watch_touched.proofs.UnconcernedCommands.{queries_matched_before}
+use Rattle.watch_concerns.proofs.ToldSince.{watches_are_told_since}
 
 -- whether one is a watch is seen of what is held
 pub any_watch : (hs : List Held) → list_any is_watch (map stored_of hs) ≡ list_any (λ h. is_told h.kind) hs

@@ -8,15 +8,15 @@ use Rattle.std.proofs.lemmas.Bool.Decides.{nat_tests}
 use Rattle.std.proofs.lemmas.List.Elements.{All-set}
 use Rattle.std.proofs.lemmas.List.Folds.{fold-map}
 use Rattle.std.proofs.lemmas.List.Sums.{sum_by-cons, sum_by-remove, sum_by_push}
-use Rattle.name_order.specs.Order.{name_in, number_in}
+use Rattle.watch_index.specs.NameOrder.{name_in, number_in}
 use Rattle.watch_index.specs.Occasions.{occasions_of}
-use Rattle.watch_order.specs.Watched.{Boxed, occasions_in}
-use Rattle.watch_order.specs.declared.watching.Watcher.{Watcher}
-use Rattle.watch_order.proofs.Written.{mapped, still_watched}
+use Rattle.watch_index.specs.WatchOrder.{Boxed, occasions_in}
+use Rattle.watch_index.specs.declared.watch_order.Watcher.{Watcher}
+use Rattle.watch_index.proofs.WatchWritten.{mapped, still_watched}
 use Rattle.ecs_model.specs.stored.Watches.{is_told}
 use Rattle.ecs_observe.specs.Stored.{IsFit, IsOpened, IsStored, entries_in, is_watch_in, made_of}
 use Rattle.ecs_observe.specs.declared.queries.StoredQueries.{StoredQueries}
-use Rattle.stored_queries.specs.declared.stored.StoredQuery.{StoredQuery}
+use Rattle.watch_stored.specs.declared.stored.StoredQuery.{StoredQuery}
 
 -- ---- the count
 pub byte_is : (b : Bool) → bool_byte b ≡ cond b 1 0

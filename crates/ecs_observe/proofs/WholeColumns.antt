@@ -20,7 +20,7 @@ use Rattle.ecs_observe.specs.Columns.{AreSetIn, IsColumnSetIn, set_column_error}
 use Rattle.ecs_observe.specs.Standing.{IsSession, Standing, session_of}
 use Rattle.ecs_observe.specs.declared.errors.SetColumnError.{SetColumnError}
 use Rattle.ecs_observe.specs.declared.errors.SetColumnError.TheVariants.{EventsPending, Watched, OfWorld}
-use Rattle.ecs_observe.proofs.Obeyed.{accepted_answer, accepted_session, left_by, none_waits, refused_session, refused_state}
+use Rattle.ecs_observe.proofs.CommandAnswers.{accepted_answer, accepted_session, left_by, none_waits, refused_session, refused_state}
 
 -- ---- one entity after another
 module _ (i : Id) (fs : Schema) where

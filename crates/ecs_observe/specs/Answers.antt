@@ -13,7 +13,7 @@ use Rattle.ecs_model.specs.stored.Watches.{is_told}
 use Rattle.ecs_model.specs.World.{WorldState}
 use Rattle.ecs_model.specs.traits.Command.{Command}
 use Rattle.ecs_print.specs.Stops.{StopsWithin}
-use Rattle.stored_queries.specs.Held.{Held}
+use Rattle.watch_stored.specs.Held.{Held}
 use Rattle.ecs_observe.specs.Standing.{Standing, session_of}
 use Rattle.script_streams.specs.declared.streams.Calls.{Calls}
 use Rattle.script_streams.specs.Streams.{IsCalm, IsFaulty}
@@ -24,7 +24,7 @@ use Rattle.ecs_observe.specs.declared.errors.SendRowsError.{SendRowsError}
 use Rattle.ecs_observe.specs.declared.errors.SendRowsError.TheVariants as rows
 use Rattle.ecs_observe.specs.declared.errors.SessionError.{SessionError}
 use Rattle.ecs_observe.specs.declared.errors.SessionError.TheVariants.{Refused, Memory}
-use Rattle.stored_queries.specs.declared.stored.StoredQuery.{StoredQuery}
+use Rattle.watch_stored.specs.declared.stored.StoredQuery.{StoredQuery}
 
 -- the answer to a command of the world: none is carried out while events wait
 abbrev pub obeyed : SessionState → Command → Answer

@@ -17,12 +17,12 @@ use Rattle.table_store.specs.Store.{Store}
 use Rattle.world_facts.specs.Kept.{AreTablesOf}
 use Rattle.world_query.specs.Planned.{IsPlannedForKept, IsPlannedIn}
 use Rattle.world_query.specs.Probes.{StaysInTables}
-use Rattle.stored_queries.specs.Held.{Held, IsFitting, IsOutgrown}
+use Rattle.watch_stored.specs.Held.{Held, IsFitting, IsOutgrown}
 use Rattle.ecs_observe.specs.Standing.{Standing, session_of}
 use Rattle.ecs_observe.specs.declared.errors.SessionError.{SessionError}
 use Rattle.ecs_observe.specs.declared.errors.SessionError.TheVariants.{Refused, Memory}
-use Rattle.stored_queries.specs.declared.stored.StoredQuery.{StoredQuery}
-use Rattle.stored_queries.specs.Lists.{IsBlank}
+use Rattle.watch_stored.specs.declared.stored.StoredQuery.{StoredQuery}
+use Rattle.watch_stored.specs.Lists.{IsBlank}
 
 -- ---- one list
 

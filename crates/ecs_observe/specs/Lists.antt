@@ -2,9 +2,9 @@
 use Rattle.std.specs.Prelude.{List, All}
 use Rattle.std.specs.declared.string.String.{String}
 use Rattle.table_store.specs.Store.{Store}
-use Rattle.stored_queries.specs.Held.{Held}
-use Rattle.stored_queries.specs.declared.stored.StoredQuery.{StoredQuery}
-use Rattle.stored_queries.specs.Lists.{HasList, ListsTables}
+use Rattle.watch_stored.specs.Held.{Held}
+use Rattle.watch_stored.specs.declared.stored.StoredQuery.{StoredQuery}
+use Rattle.watch_stored.specs.Lists.{HasList, ListsTables}
 
 -- a kept query, and no other, has a list: its own, which fits a store; as it is seen
 abbrev pub HasItsList : Store → Held → Type 0

@@ -2,11 +2,11 @@
 use Rattle.std.specs.Prelude.{◌≡◌, ℕ, zero, suc, List, [], ◌∷◌, Option, map}
 use Rattle.std.specs.declared.string.String.{String}
 use Rattle.std.specs.String.{string_bytes}
-use Rattle.stored_queries.specs.Held.{Held}
+use Rattle.watch_stored.specs.Held.{Held}
 use Rattle.ecs_observe.specs.Standing.{with_rows}
-use Rattle.stored_queries.specs.declared.moves.RowsAfter.{RowsAfter}
-use Rattle.stored_queries.specs.declared.stored.StoredQuery.{StoredQuery}
-use Rattle.stored_queries.specs.Parts.{held_as, with_kept}
+use Rattle.watch_stored.specs.declared.moves.RowsAfter.{RowsAfter}
+use Rattle.watch_stored.specs.declared.stored.StoredQuery.{StoredQuery}
+use Rattle.watch_stored.specs.Parts.{held_as, with_kept}
 
 -- a stored query under its name
 abbrev pub held_of : {A : Type 0} → String A × StoredQuery A → Held

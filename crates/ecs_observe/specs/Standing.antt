@@ -7,9 +7,9 @@ use Rattle.ecs_model.specs.Map.{count_at}
 use Rattle.ecs_model.specs.stored.Session.{SessionState, most_stored}
 use Rattle.ecs_model.specs.stored.Watches.{Stored}
 use Rattle.ecs_world.specs.Standing as world
-use Rattle.watch_meaning.specs.Mentions.{times}
-use Rattle.watch_meaning.specs.Since.{IsAfter}
-use Rattle.stored_queries.specs.Held.{Held, IsHeld, IsNow, WasNow, is_searched, is_taken_whole, told_to}
+use Rattle.watch_concerns.specs.Mentions.{times}
+use Rattle.watch_concerns.specs.Since.{IsAfter}
+use Rattle.watch_stored.specs.Held.{Held, IsHeld, IsNow, WasNow, is_searched, is_taken_whole, told_to}
 
 -- a session: its world, the stored queries in the order of making, what was changed by a command whose events wait, and how often the whole rows of a monitor were taken
 pub record Standing : Type 0 where

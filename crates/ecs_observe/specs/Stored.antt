@@ -4,12 +4,12 @@ use Rattle.std.specs.List.{All, Contains, count_by}
 use Rattle.std.specs.declared.string.String.{String}
 use Rattle.ecs_model.specs.Command.{Changed}
 use Rattle.ecs_model.specs.stored.Watches.{is_told}
-use Rattle.touched_entities.specs.Concerned.{has_births_or_deaths}
+use Rattle.watch_touched.specs.Concerned.{has_births_or_deaths}
 use Rattle.watch_index.specs.Laws.{may_concern}
 use Rattle.watch_index.specs.Occasions.{occasions_of}
-use Rattle.watch_order.specs.Watched.{Boxed, IsOpen, IsWatched, occasions_in}
+use Rattle.watch_index.specs.WatchOrder.{Boxed, IsOpen, IsWatched, occasions_in}
 use Rattle.ecs_observe.specs.declared.queries.StoredQueries.{StoredQueries}
-use Rattle.stored_queries.specs.declared.stored.StoredQuery.{StoredQuery}
+use Rattle.watch_stored.specs.declared.stored.StoredQuery.{StoredQuery}
 
 -- the boxes of stored queries, in order
 abbrev pub made_of : {A : Type 0} → StoredQueries A → List (Boxed (StoredQuery A) A)

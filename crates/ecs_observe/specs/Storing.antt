@@ -11,7 +11,7 @@ use Rattle.ecs_model.specs.stored.Refusal.{first_session_reason}
 use Rattle.ecs_model.specs.stored.Session.{SessionState, pinned_by, store_reasons, unpinned_by, watched_if_read}
 use Rattle.ecs_model.specs.stored.Watches.{watched}
 use Rattle.ecs_world.specs.Standing as world
-use Rattle.stored_queries.specs.Held.{Held, counted_for}
+use Rattle.watch_stored.specs.Held.{Held, counted_for}
 use Rattle.ecs_observe.specs.Standing.{Standing}
 use Rattle.ecs_observe.specs.declared.errors.SessionError.{SessionError}
 use Rattle.ecs_observe.specs.declared.errors.SessionError.TheVariants.{Refused, Memory}

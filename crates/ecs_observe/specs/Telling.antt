@@ -4,8 +4,8 @@ use Rattle.std.specs.List.{list_any}
 use Rattle.std.specs.Option.{option_map_or}
 use Rattle.std.specs.declared.string.String.{String}
 use Rattle.ecs_observe.specs.Parts.{held_of}
-use Rattle.stored_queries.specs.Held.{is_told_locally}
-use Rattle.stored_queries.specs.declared.stored.StoredQuery.{StoredQuery}
+use Rattle.watch_stored.specs.Held.{is_told_locally}
+use Rattle.watch_stored.specs.declared.stored.StoredQuery.{StoredQuery}
 
 -- whether a monitor at a place is told by the entities that a command touched
 abbrev pub is_locally_at : {A : Type 0} → List (String A × StoredQuery A) → ℕ → Bool

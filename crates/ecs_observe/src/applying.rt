@@ -6,7 +6,7 @@ ghost use Rattle.ecs_model.specs.Orders.{AddTo, DeleteOne, RemoveFrom, SetIn};
 ghost use Rattle.ecs_model.specs.stored.Session.{InWorld, apply};
 ghost use Rattle.ecs_observe.specs.Answers.{AnswersApply};
 ghost use Rattle.ecs_observe.specs.Commands.{CountsApply, FindsIn, FindsOne, ListsApply, answered, order_of, seen_entity, seen_id};
-ghost use Rattle.stored_queries.specs.Held.{is_compared};
+ghost use Rattle.watch_stored.specs.Held.{is_compared};
 ghost use Rattle.ecs_observe.specs.Standing.{session_of};
 ghost use Rattle.ecs_world.specs.Releases.{NoneGo, OnlyForgottenGo};
 ghost use Rattle.table_store.specs.Going.{TablesGoOn};

@@ -21,4 +21,4 @@ pub use applying::{Answer, Command};
 pub use errors::{SendRowsError, SessionError, SetColumnError};
 pub use references::{EntityRef, IdRef};
 pub use session::Session;
-pub use world_events::{Event, write_event};
+pub use watch_events::{Event, write_event};

@@ -11,17 +11,16 @@ ghost use Rattle.ecs_observe.specs.Lists.{KeepLists};
 ghost use Rattle.ecs_observe.specs.Parts.{with_kept_at};
 ghost use Rattle.ecs_observe.specs.Stored.{AreLedTo, IsOpened, IsStored, entries_of, made_of};
 ghost use Rattle.ecs_observe.specs.Telling.{is_locally_at};
-ghost use Rattle.name_order.specs.Order.{IsPlaceOf, is_key};
+ghost use Rattle.watch_index.specs.NameOrder.{IsPlaceOf, is_key};
 
 use ecs_world::Changes;
 use short_list::ShortNumbers;
 use std::alloc::{AllocError, Allocator};
 use std::hash::RandomState;
-use stored_queries::{RowsAfter, StoredQuery, is_told};
-use touched_entities::has_births_or_deaths;
 use watch_index::laws::whom_changes_concern_they_lead_to;
-use watch_index::{Happened, occasions_of};
-use watch_order::{Boxed, WatchOrder, Watcher};
+use watch_index::{Boxed, Happened, WatchOrder, Watcher, occasions_of};
+use watch_stored::{RowsAfter, StoredQuery, is_told};
+use watch_touched::has_births_or_deaths;
 
 /// Stored queries in the order of making, with what each looks out for, and how many of them are told of commands.
 #[derive(Drop)]

@@ -13,7 +13,7 @@ use ecs_world::{Changes, World};
 use std::alloc::{AllocError, Allocator, Global};
 use std::hash::RandomState;
 use std::marker::Model;
-use stored_queries::RowsAfter;
+use watch_stored::RowsAfter;
 
 /// A world, the queries that are stored in it, and what waits to be told to them.
 pub struct Session<A: Allocator = Global> {

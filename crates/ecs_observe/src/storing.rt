@@ -6,9 +6,9 @@ ghost use Rattle.std.specs.String.{string_bytes};
 ghost use Rattle.ecs_model.specs.stored.Session.{Drop, Store, apply, most_stored};
 ghost use Rattle.ecs_observe.specs.Answers.{AnswersApply};
 ghost use Rattle.ecs_observe.specs.Following.{ListsOneLess, ListsOneMore};
-ghost use Rattle.stored_queries.specs.Lists.{HasNewList};
+ghost use Rattle.watch_stored.specs.Lists.{HasNewList};
 ghost use Rattle.ecs_observe.specs.Parts.{held_of};
-ghost use Rattle.stored_queries.specs.Held.{IsHeld, IsNow, is_compared};
+ghost use Rattle.watch_stored.specs.Held.{IsHeld, IsNow, is_compared};
 ghost use Rattle.ecs_observe.specs.Standing.{session_of};
 ghost use Rattle.ecs_observe.specs.Storing.{CountsStored, store_refusal, with_held};
 
@@ -20,7 +20,7 @@ use ecs_model::faults::{Refusal, SessionRefusal};
 use ecs_model::is_name;
 use ecs_model::watches::StoredKind;
 use std::alloc::{AllocError, Allocator};
-use stored_queries::{StoredQuery, stored_query};
+use watch_stored::{StoredQuery, stored_query};
 
 /// How many stored queries a session has at most.
 const MOST_STORED: usize = 1024;

@@ -7,23 +7,23 @@ ghost use Rattle.ecs_model.specs.stored.Session.{after_events, events};
 ghost use Rattle.ecs_observe.specs.Following.{lists_of};
 ghost use Rattle.ecs_observe.specs.Lists.{KeepLists};
 ghost use Rattle.ecs_observe.specs.Parts.{ArePlaced, held_of, with_all_kept};
-ghost use Rattle.stored_queries.specs.Held.{IsHeld, WasNow, is_compared, is_searched, is_taken_whole, rows_put, told_to};
+ghost use Rattle.watch_stored.specs.Held.{IsHeld, WasNow, is_compared, is_searched, is_taken_whole, rows_put, told_to};
 ghost use Rattle.ecs_observe.specs.Standing.{has_searched, searched_in, session_of, taken_in};
 ghost use Rattle.ecs_observe.specs.Stored.{AreLedTo, IsStored, entries_of};
-ghost use Rattle.stored_queries.specs.Telling.{AreTouchedBy};
+ghost use Rattle.watch_stored.specs.Telling.{AreTouchedBy};
 ghost use Rattle.ecs_observe.specs.Telling.{any_locally_at};
-ghost use Rattle.watch_meaning.specs.Since.{IsAfter};
+ghost use Rattle.watch_concerns.specs.Since.{IsAfter};
 
 use crate::Session;
 use crate::queries::StoredQueries;
 use asking_room::AskingRoom;
 use ecs_world::{Changes, World};
-use local_queries::Touched;
+use query_local::Touched;
 use short_list::ShortNumbers;
 use std::alloc::{AllocError, Allocator};
-use stored_queries::{RowsAfter, tell_one};
-use touched_entities::touched;
-use world_events::Event;
+use watch_events::Event;
+use watch_stored::{RowsAfter, tell_one};
+use watch_touched::touched;
 
 impl<A: Allocator + Copy> Session<A> {
     /// The events that wait, of one stored query after another in the order of making. After that none wait.

@@ -7,7 +7,7 @@ use Rattle.std.proofs.lemmas.Fmt.{length-decimal-le}
 use Rattle.std.proofs.lemmas.Int.{ints}
 use Rattle.std.proofs.lemmas.List.{drop-drop}
 use Rattle.ecs_schema.proofs.Words.{first_true}
-use Rattle.ecs_schema.proofs.Packed.{second_true}
+use Rattle.ecs_schema.proofs.NumberPlaces.{second_true}
 use Rattle.ecs_model.specs.declared.Kind.{Kind}
 use Rattle.ecs_model.specs.declared.Kind.TheVariants.{I8, U8, I16, U16, I32, U32, I64, U64}
 use Rattle.ecs_model.specs.Schema.{Schema, all_fit, fits_kind}

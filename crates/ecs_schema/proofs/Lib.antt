@@ -1,4 +1,4 @@
 pub mod Repeats
 pub mod Words
-pub mod Packed
-pub mod Meaning
+pub mod NumberPlaces
+pub mod UnwrittenBytes

@@ -1,8 +1,8 @@
 pub mod ColumnLemmas
 pub mod Soundness
-pub mod Stored
+pub mod TableLists
 pub mod Places
 pub mod Rows
 pub mod Order
-pub mod Ordered
+pub mod TableIds
 pub mod WholeColumns

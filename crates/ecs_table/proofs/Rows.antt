@@ -15,7 +15,7 @@ use Rattle.ecs_id.specs.declared.EntityId.{EntityId}
 use Rattle.ecs_table.proofs.ColumnLemmas.{fitting_same}
 use Rattle.ecs_table.proofs.Places.{get_pushed, get_set, get_swap_removed}
 use Rattle.ecs_table.proofs.Soundness.{columns_paired, sizes_each, sizes_paired, sizes_set, sound_with_item}
-use Rattle.ecs_table.proofs.Stored.{size_found, value_found}
+use Rattle.ecs_table.proofs.TableLists.{size_found, value_found}
 use Rattle.raw_column.specs.Contents.{with_item, with_zero, without_item}
 use Rattle.raw_column.specs.Places.{Values}
 pub use Rattle.raw_column.proofs.RowLemmas.{map_twice as map_fused}

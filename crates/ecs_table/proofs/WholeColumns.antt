@@ -12,7 +12,7 @@ use Rattle.raw_column.specs.Places.{Values, rows}
 use Rattle.raw_column.proofs.PlaceLemmas.{length_rows, rows_get}
 use Rattle.ecs_table.proofs.Rows.{data_says, index_cases, index_says, map_fused, row_past, size_absent, size_kept, value_absent}
 use Rattle.ecs_table.proofs.Soundness.{shaped_changed, sizes_set}
-use Rattle.ecs_table.proofs.Stored.{size_found, value_found}
+use Rattle.ecs_table.proofs.TableLists.{size_found, value_found}
 use Rattle.ecs_table.specs.Archetype.{Archetype, Cells, IsShaped, IsSound, IsStored, cells_of, index_in, no_values, row_of, seen, shape_of, size_of, value_of, values_at, with_bytes_in, with_cell, with_column}
 
 -- the bytes of a value for each row

@@ -21,7 +21,7 @@ use Rattle.ecs_model.proofs.Reasons.{next_is_free}
 use Rattle.name_index.specs.Names.{Names}
 use Rattle.ecs_archetypes.specs.Holdings.{AreHoldings, Cells, HoldAlike, Holdings, KeepsSizes, Sizes, cells_at, holds_id, with_cells, with_entity}
 use Rattle.ecs_archetypes.proofs.ArchetypeCalls.{none_where}
-use Rattle.pin_counts.specs.Counts.{Counts}
+use Rattle.rel_traits.specs.PinCounts.{Counts}
 use Rattle.ecs_world.specs.State.{IsWorld, Parts, parts_of, all_facts, byte_count, is_known_rightly, names_of, state_of, type_of, value_in}
 use Rattle.ecs_world.proofs.Entities.{alive_of}
 use Rattle.ecs_world.proofs.Facts.{bytes_in}

@@ -16,7 +16,7 @@ use Rattle.ecs_model.proofs.Members.{filtered}
 use Rattle.ecs_model.proofs.traits.Deleted.{deleted_is_least}
 use Rattle.ecs_model.proofs.traits.Differences.{with_name}
 use Rattle.ecs_model.proofs.traits.Facts.{listed_live, there_key}
-use Rattle.fact_rules.proofs.Dying.{died_are}
+use Rattle.rel_traits.proofs.DyingEntities.{died_are}
 use Rattle.ecs_world.specs.Changes.{deaths_of, entities_at}
 
 module _ (w : WorldState) where

@@ -9,14 +9,14 @@ use Rattle.std.specs.Ordering.{nat_cmp, eq_by_cmp, is_eq, is_lt, ordering_then}
 use Rattle.std.specs.FinMap.{find, is_sorted}
 use Rattle.std.specs.FinMap.Entries.{below_all, same_entries}
 use Rattle.std.proofs.lemmas.Bool.{and_from}
-use Rattle.pin_counts.proofs.Listed.{tied as nat_self}
+use Rattle.rel_traits.proofs.PinsListed.{tied as nat_self}
 use Rattle.ecs_id.specs.Id.{Id, id_cmp, id_cmp_same}
 use Rattle.ecs_model.specs.Map.{Map, IsMap, value_at, keys}
 use Rattle.ecs_model.specs.Schema.{Schema}
 use Rattle.ecs_model.specs.World.{Key, key_cmp}
 use Rattle.ecs_model.proofs.Maps.{to_T, both_true, key_cmp_total, key_cmp_same, eq_itself, absent_below}
 use Rattle.ecs_archetypes.specs.Holdings.{Cells}
-use Rattle.ecs_archetypes.proofs.Counting.{unequal}
+use Rattle.ecs_archetypes.proofs.MoveCounts.{unequal}
 use Rattle.ecs_world.specs.State.{all_facts, facts_of, value_in}
 
 abbrev pub or_else : {X : Type 0} → Option X → Option X → Option X

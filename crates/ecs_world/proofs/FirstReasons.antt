@@ -13,8 +13,8 @@ use Rattle.ecs_model.specs.traits.Changes.{deleted}
 use Rattle.ecs_model.specs.traits.Command.{Add, SetValue, Remove, Delete, add_reasons, adds_built_in, delete_reasons, reasons, step}
 use Rattle.ecs_model.specs.traits.Rules.{is_trait}
 use Rattle.ecs_world.specs.Changes.{TellsRefusal}
-use Rattle.ecs_model.proofs.Answering.{answers_refused}
-use Rattle.ecs_world.proofs.Refusing.{none_first, told_first}
+use Rattle.ecs_model.proofs.StepAnswers.{answers_refused}
+use Rattle.ecs_world.proofs.RefusalReasons.{none_first, told_first}
 
 module _ (w : WorldState) (e : EntityId) (i : Id) where
   pub add_of_dead : is_dead w e i ≡ true → first_reason (reasons w (Add e i)) ≡ Some Dead

@@ -26,18 +26,18 @@ use Rattle.ecs_model.proofs.traits.Kept.{refuted}
 use Rattle.ecs_archetypes.specs.declared.facts.Found.{Found}
 use Rattle.ecs_archetypes.specs.Holdings.{AreHoldings, Cells, HoldAlike, Holdings, agrees, cells_at, held_at, holds_id, sizes_of, with_cells, with_each_written}
 use Rattle.ecs_archetypes.proofs.MapLists.{list_all_put}
-use Rattle.fact_rules.specs.Additions.{is_of_built_in}
-use Rattle.fact_rules.specs.Simple.{ComesAlone}
+use Rattle.rel_traits.specs.Additions.{is_of_built_in}
+use Rattle.rel_traits.specs.Simple.{ComesAlone}
 use Rattle.ecs_world.specs.Columns.{AreSet, may_bring}
 use Rattle.ecs_world.specs.State.{IsWorld, Parts, byte_count, growth_reasons, no_change, parts_of, state_of, value_in}
-use Rattle.ecs_world.proofs.Accepted.{set_left}
-use Rattle.ecs_world.proofs.Left.{effect-set, facts_held}
-use Rattle.ecs_world.proofs.Quiet.{alone_held, built_in_untyped}
+use Rattle.ecs_world.proofs.AcceptedCommands.{set_left}
+use Rattle.ecs_world.proofs.CommandEffects.{effect-set, facts_held}
+use Rattle.ecs_world.proofs.QuietFacts.{alone_held, built_in_untyped}
 use Rattle.ecs_world.proofs.Ranges.{AreBytes, bytes_behind, bytes_front, length_values, values_fit}
-use Rattle.ecs_world.proofs.Refusing.{growth_told, not_dead, set_grown}
-use Rattle.ecs_world.proofs.Simple.{built_in_alone}
+use Rattle.ecs_world.proofs.RefusalReasons.{growth_told, not_dead, set_grown}
+use Rattle.ecs_world.proofs.SimpleFacts.{built_in_alone}
 use Rattle.ecs_world.proofs.States.{holds_is, size_agrees, size_passes, some_bytes, type_is}
-use Rattle.ecs_world.proofs.Told.{told_set}
+use Rattle.ecs_world.proofs.ToldChanges.{told_set}
 
 -- ---- what is held after one value was written
 module _ (h : Holdings) (whole : AreHoldings h) (e : ℕ) (i : Id) (bytes : List ℕ) (held : holds_id h e i ≡ true) (agree : agrees h.known i (length bytes) ≡ true) where

@@ -14,11 +14,11 @@ use Rattle.ecs_archetypes.specs.Staying.{TablesStay}
 use Rattle.entity_index.specs.Sizes.{live_size}
 use Rattle.table_store.specs.Going.{TablesGoOn}
 use Rattle.table_store.specs.Store.{Store}
-use Rattle.pin_counts.specs.Counts.{Counts}
+use Rattle.rel_traits.specs.PinCounts.{Counts}
 use Rattle.ecs_world.specs.Standing.{IsGraphOf, IsLinksOf, Standing}
 use Rattle.ecs_world.specs.State.{AreFactsOf, IsWorld, Parts, parts_of, state_of}
 use Rattle.ecs_world.proofs.Entities.{generation_of}
-use Rattle.ecs_world.proofs.Seen.{sees}
+use Rattle.ecs_world.proofs.SeenGraph.{sees}
 use Rattle.ecs_world.proofs.States.{bytes_told, ids_is, settled_at}
 
 pub state_is : {s t : Standing} → s ≡ t → s.state ≡ t.state

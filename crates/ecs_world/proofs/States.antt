@@ -13,14 +13,14 @@ use Rattle.ecs_model.specs.Bytes.{size_of, values_in}
 use Rattle.ecs_model.specs.traits.Keeps.{IsWellFormed}
 use Rattle.ecs_model.specs.World.{WorldState, pair_is_tag, holds, value_of, ids_of, is_alive, type_of_id, name_of}
 use Rattle.ecs_model.proofs.Maps.{of_some, some_of, both_true}
-use Rattle.ecs_schema.proofs.Meaning.{values_in-zeros}
+use Rattle.ecs_schema.proofs.UnwrittenBytes.{values_in-zeros}
 use Rattle.name_index.specs.Names.{Names}
 use Rattle.ecs_archetypes.specs.Holdings.{AreHoldings, Cells, HoldAlike, Holdings, KeepsSizes, Sizes, agrees, bytes_at, cells_at, entity_at, held_at, holds_id, is_settled, lives, sizes_of}
 use Rattle.ecs_archetypes.specs.Archetypes.{known_in}
 use Rattle.ecs_archetypes.specs.Housing.{Housing, IsHoused}
-use Rattle.ecs_archetypes.proofs.Known.{of_all_shapes}
+use Rattle.ecs_archetypes.proofs.KnownIds.{of_all_shapes}
 use Rattle.table_store.specs.Store.{shape_at}
-use Rattle.pin_counts.specs.Counts.{Counts}
+use Rattle.rel_traits.specs.PinCounts.{Counts}
 use Rattle.ecs_world.specs.State.{AreFactsOf, IsWorld, Parts, parts_of, byte_count, is_known_rightly, name_in, state_of, type_in, type_of, value_in}
 use Rattle.ecs_world.proofs.Entities.{generation_of}
 use Rattle.ecs_world.proofs.Facts.{find-facts, ids-facts}

@@ -13,12 +13,12 @@ use Rattle.ecs_model.specs.traits.Keeps.{IsWellFormed}
 use Rattle.ecs_model.proofs.traits.Accepted.{accepted_add, accepted_set, add_is_addition, keeps_set}
 use Rattle.ecs_model.proofs.traits.AfterAdd.{differences_of_add, differences_of_set}
 use Rattle.ecs_model.proofs.traits.KeptByAdd.{types_kept}
-use Rattle.fact_rules.specs.Additions.{TellsAddition}
+use Rattle.rel_traits.specs.Additions.{TellsAddition}
 use Rattle.ecs_world.specs.Changes.{with_bytes}
 use Rattle.ecs_world.specs.State.{no_change, value_in}
-use Rattle.ecs_model.proofs.Answering.{answers_accepted}
-use Rattle.ecs_world.proofs.Changed.{before_count}
-use Rattle.ecs_world.proofs.Counting.{types_counted}
+use Rattle.ecs_model.proofs.StepAnswers.{answers_accepted}
+use Rattle.ecs_world.proofs.ChangedWorlds.{before_count}
+use Rattle.ecs_world.proofs.CommandCounts.{types_counted}
 
 module _ (w v : WorldState) (told : Changed) (e : EntityId) (i : Id) {base : Option ℕ} {all copies came went : List Key} (lists : TellsAddition w (e.index, i) base all copies came went) (h : IsWellFormed w) where
   pub addition_told : first_reason (reasons w (Add e i)) ≡ None → v ≡ counted (effect w (Add e i)) → told ≡ record no_change { came = came; went = went } → AnswersStep (Ok told) (step w (Add e i)) w v

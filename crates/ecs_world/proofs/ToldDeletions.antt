@@ -13,7 +13,7 @@ use Rattle.ecs_model.specs.traits.Keeps.{IsWellFormed}
 use Rattle.ecs_model.proofs.traits.Differences.{differences_of_delete}
 use Rattle.ecs_world.specs.Changes.{deaths_of}
 use Rattle.ecs_world.specs.State.{no_change}
-use Rattle.ecs_model.proofs.Answering.{answers_accepted}
+use Rattle.ecs_model.proofs.StepAnswers.{answers_accepted}
 use Rattle.ecs_world.proofs.Deaths.{deaths_told}
 use Rattle.ecs_world.proofs.Entities.{generation_of}
 

@@ -12,7 +12,7 @@ use Rattle.ecs_model.specs.traits.Changes.{removed}
 use Rattle.ecs_model.specs.traits.Command.{Remove, effect, reasons, step}
 use Rattle.ecs_model.proofs.traits.Differences.{differences_of_remove}
 use Rattle.ecs_world.specs.State.{no_change}
-use Rattle.ecs_model.proofs.Answering.{answers_accepted}
+use Rattle.ecs_model.proofs.StepAnswers.{answers_accepted}
 
 pub removal_told : (w v : WorldState) (told : Changed) (e : EntityId) (i : Id) → first_reason (reasons w (Remove e i)) ≡ None → v ≡ counted (effect w (Remove e i))
     → told ≡ record no_change { went = filter (λ k. list_any (key_eq k) (removed w e.index i)) (keys w.facts) } → AnswersStep (Ok told) (step w (Remove e i)) w v

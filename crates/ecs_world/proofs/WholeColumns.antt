@@ -22,7 +22,7 @@ use Rattle.ecs_archetypes.specs.Holdings.{AreHoldings, HoldAlike, Holdings, Keep
 use Rattle.ecs_archetypes.specs.Holdings.{with_each_written}
 use Rattle.ecs_archetypes.specs.Housing.{Housing, holdings_of}
 use Rattle.ecs_archetypes.specs.Scans.{HaveRows}
-use Rattle.ecs_archetypes.proofs.Known.{of_shape}
+use Rattle.ecs_archetypes.proofs.KnownIds.{of_shape}
 use Rattle.ecs_archetypes.proofs.Soundness.{placed_alive}
 use Rattle.ecs_table.specs.Archetype.{Archetype, byte_size}
 use Rattle.ecs_table.proofs.Rows.{found_in_row, found_in_shape}
@@ -30,13 +30,13 @@ use Rattle.name_index.specs.Names.{Names}
 use Rattle.table_store.specs.Rows.{AreValues, Row, cells_of, row_at, rows_in}
 use Rattle.table_store.specs.Store.{find_in, shape_at, shape_of, table_at}
 use Rattle.table_store.proofs.Changes.{row_here, rows_here, shape_here}
-use Rattle.pin_counts.specs.Counts.{Counts}
+use Rattle.rel_traits.specs.PinCounts.{Counts}
 use Rattle.ecs_world.specs.Columns.{AreSet, IsColumnSet, column_fault, column_faults, first_fault, may_bring}
 use Rattle.ecs_world.specs.Standing.{Standing}
 use Rattle.ecs_world.specs.State.{IsWorld, Parts, byte_count, is_known_rightly, parts_of, state_of, type_of}
 use Rattle.ecs_world.specs.declared.columns.ColumnFault.{ColumnFault}
 use Rattle.ecs_world.specs.declared.columns.ColumnFault.TheVariants.{Gone, NotHeld, NoData, Brings, Size, Full}
-use Rattle.ecs_world.proofs.Accepted.{failed}
+use Rattle.ecs_world.proofs.AcceptedCommands.{failed}
 use Rattle.ecs_world.proofs.SetEach.{Ready, each_set}
 use Rattle.ecs_world.proofs.Ranges.{AreBytes}
 use Rattle.ecs_world.proofs.States.{holds_is, type_is}

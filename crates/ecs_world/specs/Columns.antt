@@ -12,7 +12,7 @@ use Rattle.ecs_model.specs.Schema.{Schema}
 use Rattle.ecs_model.specs.World.{WorldState, ids_of, type_of_id}
 use Rattle.ecs_model.specs.traits.Command.{SetValue, step}
 use Rattle.ecs_table.specs.Archetype.{Archetype}
-use Rattle.fact_rules.specs.Simple.{is_unmirrored}
+use Rattle.rel_traits.specs.Simple.{is_unmirrored}
 use Rattle.table_store.specs.Store.{table_at}
 use Rattle.ecs_world.specs.Standing.{Standing}
 use Rattle.ecs_world.specs.State.{byte_count, no_change}

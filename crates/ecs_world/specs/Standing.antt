@@ -7,8 +7,8 @@ use Rattle.entity_index.specs.Sizes.{live_size}
 use Rattle.table_store.specs.Store.{Store}
 use Rattle.ecs_archetypes.specs.Holdings.{held_at, is_settled}
 use Rattle.ecs_archetypes.specs.Housing.{Housing, holdings_of}
-use Rattle.ecs_links.specs.Linked.{Linked, ids_at_index, indexes}
-use Rattle.fact_rules.specs.Sees.{Sees}
+use Rattle.ecs_archetypes.specs.Linked.{Linked, ids_at_index, indexes}
+use Rattle.rel_traits.specs.Sees.{Sees}
 use Rattle.ecs_world.specs.State.{AreFactsOf}
 
 pub record Standing : Type 0 where

@@ -19,7 +19,7 @@ use Rattle.ecs_model.specs.declared.faults.CommandError.TheVariants.{Refused, Me
 use Rattle.ecs_model.specs.World.{WorldState, Key, holds, ids_of, most_ids, pair_is_tag, type_of_id, value_of}
 use Rattle.ecs_model.specs.Command.{Changed}
 use Rattle.name_index.specs.Names.{Names, IsOneToOne, entity_eq}
-use Rattle.pin_counts.specs.Counts.{Counts}
+use Rattle.rel_traits.specs.PinCounts.{Counts}
 use Rattle.ecs_archetypes.specs.declared.facts.Found.{Found}
 use Rattle.ecs_archetypes.specs.Holdings.{AreHoldings, Cells, Holdings, holds_id, lives}
 

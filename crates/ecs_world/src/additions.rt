@@ -14,18 +14,17 @@ ghost use Rattle.ecs_model.specs.traits.Keeps.{IsWellFormed};
 ghost use Rattle.ecs_world.specs.Changes.{AreCopies, facts_with_new, sized_by, with_bytes, with_copies};
 ghost use Rattle.ecs_world.specs.Releases.{NoneGo, gets_no_data};
 ghost use Rattle.ecs_world.specs.State.{byte_count};
-ghost use Rattle.fact_rules.specs.Additions.{TellsAddition};
+ghost use Rattle.rel_traits.specs.Additions.{TellsAddition};
 ghost use Rattle.rel_traits.specs.FactLists.{IsOfLive};
 ghost use Rattle.table_store.specs.Going.{TablesGoOn};
 
 use crate::releases::release_tag_pairs;
 use crate::{Memory, World};
-use ecs_archetypes::SizedFact;
+use ecs_archetypes::{Links, SizedFact};
 use ecs_id::{EntityId, Id};
-use ecs_links::Links;
 use ecs_model::FactKey;
 use ecs_model::faults::Refusal;
-use fact_rules::{Additions, gather_remove, judge_add};
+use rel_traits::{Additions, gather_remove, judge_add};
 use std::alloc::Allocator;
 
 impl<A: Allocator + Copy> World<A> {

@@ -18,7 +18,7 @@ use ecs_id::{EntityId, Id};
 use ecs_model::faults::{CommandError, Refusal};
 use ecs_schema::Schema;
 use name_index::{BindError, NameIndex};
-use pin_counts::PinCounts;
+use rel_traits::PinCounts;
 use std::alloc::Allocator;
 use table_store::SizedId;
 

@@ -17,8 +17,8 @@ use ecs_model::built_ins::{
     REFLEXIVE, TRANSITIVE, TRAVERSABLE, WITH,
 };
 use name_index::NameIndex;
-use pin_counts::PinCounts;
 use raw_column::Memory;
+use rel_traits::PinCounts;
 use std::alloc::Allocator;
 use std::hash::RandomState;
 use table_store::SizedId;

@@ -15,19 +15,19 @@ ghost use Rattle.ecs_model.specs.traits.Changes.{deleted, mentions_gone};
 ghost use Rattle.ecs_model.specs.traits.Command.{Delete, delete_reasons, reasons, step, without_entities};
 ghost use Rattle.ecs_world.specs.Changes.{TellsRefusal, deaths_of, entities_at};
 ghost use Rattle.ecs_world.specs.Releases.{NoneGo, OnlyForgottenGo, mentions_one};
-ghost use Rattle.fact_rules.specs.Deletions.{is_lost};
+ghost use Rattle.rel_traits.specs.Deletions.{is_lost};
 ghost use Rattle.table_store.specs.Going.{TablesGoOn};
 
 use crate::changes::ChangeLists;
 use crate::refusals::is_built_in;
 use crate::releases::release_dead;
 use crate::{Changes, Death, Memory, World};
+use ecs_archetypes::Links;
 use ecs_id::EntityId;
-use ecs_links::Links;
 use ecs_model::faults::{CommandError, Refusal};
 use ecs_schema::Schema;
-use fact_rules::{Deletion, judge_delete};
 use name_index::NameIndex;
+use rel_traits::{Deletion, judge_delete};
 use std::alloc::Allocator;
 use std::collections::BTreeMap;
 

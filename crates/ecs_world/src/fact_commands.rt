@@ -10,7 +10,7 @@ use crate::{Changes, World};
 use ecs_id::{EntityId, Id};
 use ecs_model::FactKey;
 use ecs_model::faults::{CommandError, Refusal};
-use fact_rules::{Additions, Arrival, adds_built_in};
+use rel_traits::{Additions, Arrival, adds_built_in};
 use std::alloc::Allocator;
 
 impl<A: Allocator + Copy> World<A> {

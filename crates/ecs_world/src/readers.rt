@@ -12,9 +12,8 @@ ghost use Rattle.ecs_world.specs.State.{AreFactsOf, byte_count, value_in};
 
 use crate::World;
 use crate::built_in::PAIR_IS_TAG;
-use ecs_archetypes::{EntityFacts, Graph};
+use ecs_archetypes::{EntityFacts, Graph, Links};
 use ecs_id::{EntityId, Id};
-use ecs_links::Links;
 use ecs_model::Value;
 use ecs_schema::Schema;
 use entity_index::Live;

@@ -7,8 +7,8 @@ ghost use Rattle.ecs_model.specs.Command.{birth_reasons, is_spent, name_reasons,
 ghost use Rattle.ecs_model.specs.Refusal.{first_reason};
 ghost use Rattle.ecs_model.specs.World.{holds, ids_of, is_alive, is_built_in, is_live, type_of_id};
 ghost use Rattle.ecs_model.specs.traits.Command.{Add, Remove, SetValue, reasons};
-ghost use Rattle.fact_rules.specs.Additions.{is_of_built_in};
-ghost use Rattle.fact_rules.specs.Simple.{Arrives, ComesAlone, ComesInPlace, is_unmirrored};
+ghost use Rattle.rel_traits.specs.Additions.{is_of_built_in};
+ghost use Rattle.rel_traits.specs.Simple.{Arrives, ComesAlone, ComesInPlace, is_unmirrored};
 ghost use Rattle.ecs_world.specs.State.{IsEncoded, growth_reasons};
 
 use crate::World;
@@ -19,7 +19,7 @@ use ecs_model::built_ins::SYMMETRIC;
 use ecs_model::faults::Refusal;
 use ecs_model::{FactKey, LAST_BUILT_IN, MOST_IDS, is_name};
 use ecs_schema::ValueFault;
-use fact_rules::{Arrival, arrival_of, judge_remove, plain_comes_alone};
+use rel_traits::{Arrival, arrival_of, judge_remove, plain_comes_alone};
 use std::alloc::Allocator;
 
 impl<A: Allocator> World<A> {

@@ -4,7 +4,7 @@ ghost use Rattle.std.specs.Prelude.{◌≡◌, true};
 ghost use Rattle.ecs_model.specs.Command.{AnswersStep};
 ghost use Rattle.ecs_model.specs.World.{ids_of};
 ghost use Rattle.ecs_model.specs.traits.Command.{Add, Remove, SetValue, step};
-ghost use Rattle.fact_rules.specs.Simple.{ComesAlone, ComesInPlace, is_unmirrored};
+ghost use Rattle.rel_traits.specs.Simple.{ComesAlone, ComesInPlace, is_unmirrored};
 ghost use Rattle.ecs_world.specs.Releases.{NoneGo};
 ghost use Rattle.table_store.specs.Going.{TablesGoOn};
 

@@ -14,7 +14,7 @@ use Rattle.entity_index.specs.declared.slot.Slot.{Slot}
 use Rattle.ecs_model.specs.World.{first_index}
 use Rattle.entity_index.specs.Entities.{built_in_entities}
 use Rattle.entity_index.specs.Slots.{unused, slot_at, place_at, first_slot, is_free_slot, meaning, IsSlot, IsSound}
-use Rattle.entity_index.proofs.Waiting.{count_in}
+use Rattle.entity_index.proofs.WaitingIndexes.{count_in}
 
 abbrev first_slots : List Slot
 first_slots = map first_slot (range_with_len 0 64)

@@ -3,11 +3,11 @@ pub mod EntryLists
 pub mod Readings
 pub mod LiveSlots
 pub mod Meanings
-pub mod Waiting
+pub mod WaitingIndexes
 pub mod Soundness
 pub mod FirstSlots
 pub mod NextEntity
-pub mod Created
-pub mod Deleted
+pub mod CreatedIndexes
+pub mod DeletedIndexes
 pub mod NextLaws
 pub mod Tops

@@ -18,7 +18,7 @@ use Rattle.ecs_model.specs.World.{first_index, first_passing, is_free, next_amon
 use Rattle.entity_index.specs.Entities.{Entities, next_entity}
 use Rattle.entity_index.specs.Slots.{unused, slot_at, is_free_slot, is_waiting, meaning}
 use Rattle.entity_index.proofs.Readings.{free_found, count_found}
-use Rattle.entity_index.proofs.Waiting.{count_in, HasWaiting, waiting_parts, is_waiting-free}
+use Rattle.entity_index.proofs.WaitingIndexes.{count_in, HasWaiting, waiting_parts, is_waiting-free}
 
 pub step : (test : ℕ → Bool) (i n : ℕ) (b : Bool) → test i ≡ b → first_passing test (suc n) i ≡ cond b (Some i) (first_passing test n (i + 1))
 step test i n true e = ap (λ b. elim b [ true ↦ Some i | false ↦ first_passing test n (i + 1) ]) e

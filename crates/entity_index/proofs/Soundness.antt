@@ -18,7 +18,7 @@ use Rattle.entity_index.specs.Entities.{IsWellFormed, is_live}
 use Rattle.entity_index.specs.Slots.{unused, slot_at, place_at, generations, generation_of, deletions_of, is_free_slot, is_waiting, meaning, IsSlot, IsSound}
 use Rattle.entity_index.proofs.EntryLists.{Changes, Changes-set, Changes-push, is_sorted-entries}
 use Rattle.entity_index.proofs.Readings.{generation_found, place_found, count_found, live_found}
-use Rattle.entity_index.proofs.Waiting.{count_in, waiting_parts, free_is_dead, is_waiting-taken, is_waiting-live, HasWaiting-pop, HasWaiting-push, HasWaiting-keep, HasWaiting-extend, free_count, free_count-set, not_free, not_below}
+use Rattle.entity_index.proofs.WaitingIndexes.{count_in, waiting_parts, free_is_dead, is_waiting-taken, is_waiting-live, HasWaiting-pop, HasWaiting-push, HasWaiting-keep, HasWaiting-extend, free_count, free_count-set, not_free, not_below}
 
 module _ (old new : List Slot) (places new_places : List (Option Place)) (i : ℕ) (s : Slot) (p : Option Place) (change : Changes unused old new i s) (move : Changes None places new_places i p) where
   each-change : ((q : ℕ) → IsSlot q (slot_at old q) (place_at places q)) → IsSlot i s p → (q : ℕ) → IsSlot q (slot_at new q) (place_at new_places q)

@@ -1,3 +1,3 @@
 pub mod Words
-pub mod Listed
-pub mod Exchanged
+pub mod SetBits
+pub mod SetExchanges

@@ -1,6 +1,8 @@
 pub mod Filters
-pub mod Fitting
-pub mod Suiting
-pub mod Syncing
-pub mod Taking
-pub mod Walking
+pub mod FittingStores
+pub mod ItemPatterns
+pub mod SyncedKeys
+pub mod TakenTables
+pub mod PatternWalks
+pub mod BlockBits
+pub mod BlockTables

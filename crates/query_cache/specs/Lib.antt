@@ -1,3 +1,4 @@
 pub mod Kept
 pub mod Laws
 pub mod Patterns
+pub mod TableList

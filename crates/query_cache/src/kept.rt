@@ -10,13 +10,13 @@ ghost use Rattle.table_store.specs.Store.{Store};
 
 use crate::judge::suits;
 use crate::patterns::patterns_of;
+use crate::{Keep, TableList};
 use component_index::Pattern;
 use ecs_id::TableKey;
 use ecs_world::World;
 use query_check::Query;
 use std::alloc::{AllocError, Allocator, Global};
 use std::marker::Model;
-use table_list::{Keep, TableList};
 use table_store::TableStore;
 
 /// The tables whose ids have a hit for each cacheable item of a query, emptied tables among them, as of the last `sync`.

@@ -19,5 +19,9 @@ mod judge;
 mod kept;
 pub mod laws;
 mod patterns;
+mod table_block;
+mod table_list;
 
 pub use kept::Kept;
+pub use table_block::Keep;
+pub use table_list::TableList;

@@ -17,12 +17,12 @@ use Rattle.query_model.specs.Numbers.{Variable, has_this, is_this, number_from, 
 use Rattle.query_model.specs.Check.{Known, faults, unbound, when}
 use Rattle.query_model.specs.Query.{Piece, Query, checked_query, visible_names}
 use Rattle.query_model.proofs.NumberedVariables.{both, is_among, left_true, parted, right_true, split}
-use Rattle.query_model.proofs.Scoping.{queries_are_scoped}
+use Rattle.query_model.proofs.ScopedVariables.{queries_are_scoped}
 use Rattle.query_model.proofs.FreshVariables.{own_variables_are_new}
 use Rattle.query_model.proofs.SoundTerms.{terms_are_sound}
 use Rattle.query_meaning.specs.Laws.{CheckedQueriesAreSound}
 use Rattle.query_model.proofs.SoundTerms.{left_nil, right_nil}
-use Rattle.query_meaning.proofs.Asked.{asked, checked_faultless}
+use Rattle.query_meaning.proofs.AskedQueries.{asked, checked_faultless}
 use Rattle.query_meaning.proofs.DistinctVariables.{distinct_among, one_variable, this_is_first, this_or_occurs, visible_number}
 use Rattle.query_meaning.proofs.OwnOccur.{mentions, own_of_pieces, pieces_from, Remain, whole_occurs}
 use Rattle.query_meaning.proofs.SoundLevels.{occurs_among, occurs_in_front, own_variables_occur, sound-from_pieces}

@@ -13,7 +13,7 @@ use Rattle.query_model.specs.declared.query.Ref.{Ref}
 use Rattle.query_model.specs.declared.query.Ref.TheVariants.{Is, Var, Any, One}
 use Rattle.query_model.specs.declared.query.Term.{Term}
 use Rattle.query_model.specs.Observers.{is_first}
-use Rattle.query_meaning.proofs.Holding.{has_some}
+use Rattle.query_meaning.proofs.LevelHolding.{has_some}
 
 -- ---- whether a list has an element
 

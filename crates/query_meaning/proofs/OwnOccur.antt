@@ -19,10 +19,10 @@ use Rattle.query_model.specs.Check.{Known}
 use Rattle.query_model.specs.Query.{Item, Piece, item, closing, chain_of, checked_equality, checked_term, may, must, pieces_of_part, ref_of, ref_of_spoken, source_of}
 use Rattle.query_model.proofs.FreshVariables.{Before, each_number}
 use Rattle.query_model.proofs.NumberedVariables.{both, first_of, is_among, left_true, right_true, second_of, split}
-use Rattle.query_model.proofs.Scoping.{outermost_cases, outermost_from, owner_cases}
+use Rattle.query_model.proofs.ScopedVariables.{outermost_cases, outermost_from, owner_cases}
 use Rattle.query_meaning.specs.Variables.{contains, item_variables, term_variables, variable_in}
 use Rattle.query_meaning.proofs.DistinctVariables.{distinct, one_variable, own_number}
-use Rattle.query_meaning.proofs.Holding.{contains-left, contains-right}
+use Rattle.query_meaning.proofs.LevelHolding.{contains-left, contains-right}
 use Rattle.query_meaning.proofs.SoundLevels.{occurs_in_front, own_variables_occur}
 
 -- ---- levels on paths

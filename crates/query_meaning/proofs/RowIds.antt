@@ -8,11 +8,11 @@ use Rattle.std.proofs.lemmas.List.{length-map}
 use Rattle.ecs_id.specs.Id.{Id, pair}
 use Rattle.query_meaning.proofs.Lists.{In, In-from_place, In-filter_from, In-flat_map_from}
 use Rattle.query_meaning.proofs.Assignments.{Extends-from_assignments}
-use Rattle.query_meaning.proofs.Holding.{In-map_from}
+use Rattle.query_meaning.proofs.LevelHolding.{In-map_from}
 use Rattle.query_meaning.proofs.Rows.{IsRegular, same_front, same_rest, first_nonempty-keeps, regular_choices, same_parts, same_keys, Extends-binds}
 use Rattle.ecs_model.specs.Links.{reaches}
 use Rattle.query_meaning.specs.Laws.{RowsAreTheirIds}
-use Rattle.query_meaning.proofs.Ordered.{In-from_ordered}
+use Rattle.query_meaning.proofs.OrderedAssignments.{In-from_ordered}
 use Rattle.ecs_model.specs.rows.Level.{Level, also, done, top, unless}
 use Rattle.ecs_model.specs.rows.Rows.{id_shown, row_of, Assignment, Field, Row, Unset, asked, assignments, candidates, closed_fields, fields_at, fields_of_item, fields_of_term, first_nonempty, hits, meant, ordered, passes_over, product, rows, rows_under, same_entity, shown, shown_fields, solutions, visible}
 use Rattle.ecs_model.specs.rows.View.{HasNoRepeats, View}

@@ -17,9 +17,9 @@ use Rattle.std.proofs.lemmas.Option.{same_Some}
 use Rattle.ecs_id.specs.Id.{Id, pair, id_cmp, rank, first_of, target_or_zero}
 use Rattle.query_meaning.proofs.Lists.{AllPairs-from_Distinct, Distinct-from_AllPairs, In, Distinct, In-filter_from, Distinct-filter, Distinct-flat_map}
 use Rattle.query_meaning.proofs.Assignments.{at, binds, same_from_Equal, Extends, Extends-from_assignments, Distinct-assignments}
-use Rattle.query_meaning.proofs.Named.{repeats-range}
-use Rattle.query_meaning.proofs.Ordered.{Distinct-ordered, In-from_ordered}
-use Rattle.query_meaning.proofs.Holding.{In-map_from}
+use Rattle.query_meaning.proofs.StepNames.{repeats-range}
+use Rattle.query_meaning.proofs.OrderedAssignments.{Distinct-ordered, In-from_ordered}
+use Rattle.query_meaning.proofs.LevelHolding.{In-map_from}
 use Rattle.ecs_model.specs.Links.{reaches}
 use Rattle.ecs_model.specs.Map.{IsMap, Map, keys}
 use Rattle.query_meaning.specs.Laws.{RowsAreDistinct}

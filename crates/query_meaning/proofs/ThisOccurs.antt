@@ -25,7 +25,7 @@ use Rattle.query_model.specs.Check.{Known}
 use Rattle.query_model.specs.Query.{chain_of, checked_equality, checked_term, ref_of, source_of}
 use Rattle.query_model.proofs.NumberedVariables.{both, first_of, left_true, right_true, second_of, split}
 use Rattle.query_meaning.specs.Variables.{contains, item_variables, term_variables, variable_in}
-use Rattle.query_meaning.proofs.Holding.{contains-left, contains-right}
+use Rattle.query_meaning.proofs.LevelHolding.{contains-left, contains-right}
 use Rattle.query_meaning.proofs.OwnOccur.{pieces_from}
 use Rattle.query_meaning.proofs.SoundLevels.{occurs_among}
 

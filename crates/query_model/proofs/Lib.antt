@@ -1,11 +1,11 @@
-pub mod Complete
-mod Sound
+pub mod MachineComplete
+mod MachineSound
 pub mod SyntaxFaults
 pub mod FirstOccurrence
 pub mod Order
 pub mod SoundTerms
 pub mod NumberedVariables
-pub mod Scoping
+pub mod ScopedVariables
 pub mod FreshVariables
-pub mod Spelling
+pub mod TokenSpelling
 mod Computed

@@ -10,8 +10,8 @@ use Rattle.query_model.specs.Syntax.{Spoken, Reference, at, Var, Up, up, flags, 
 use Rattle.query_model.specs.Grammar.{star, IsQuery, BeginsQuery, IsSyntaxFault}
 use Rattle.query_model.specs.Machine.{State, term_next, access_next, behind_access_word, body_next, pair_next, behind_pair_first, target_next, behind_target, behind_flags, behind_along, behind_first, source_next, behind_source, flags_next, behind_self, rise_next, behind_up, along_next, behind_variable, other_side, behind_item, finished, Move, joins, term_step, body_step, step, before_part, before_parts, behind, run, parts_of}
 use Rattle.query_model.specs.Laws.{OneSyntax, EndsInEnd, PartsAreGrammatical}
-use Rattle.query_model.proofs.Complete.{Reads, first_goes, variable_goes, body_begins, term_begins, query_is_read}
-use Rattle.query_model.proofs.Sound.{read_is_query}
+use Rattle.query_model.proofs.MachineComplete.{Reads, first_goes, variable_goes, body_begins, term_begins, query_is_read}
+use Rattle.query_model.proofs.MachineSound.{read_is_query}
 
 -- a list of tokens has at most one syntax
 pub one_syntax : OneSyntax

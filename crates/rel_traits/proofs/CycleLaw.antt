@@ -8,15 +8,15 @@ use Rattle.ecs_model.specs.BuiltIns.{acyclic}
 use Rattle.ecs_model.specs.Cycles.{HasCycle}
 use Rattle.ecs_model.specs.Links.{AreLinks, is_held, target_under, upward}
 use Rattle.ecs_model.specs.Reach.{Reached, itself, onward}
-use Rattle.ecs_model.proofs.Linked.{of_pair, pair_of}
+use Rattle.ecs_model.proofs.LivePairs.{of_pair, pair_of}
 use Rattle.ecs_model.proofs.Maps.{eq_itself, key_cmp_total}
 use Rattle.ecs_model.specs.World.{key_cmp}
 use Rattle.ecs_model.proofs.Members.{any_passes, from_filter_map, in_filter_map, passing}
 use Rattle.ecs_model.proofs.Members.{eq_itself as number_itself}
 use Rattle.rel_traits.specs.After.{AddedFactsClose, ClosesOne, FreshAreAcyclic, HasBannedCycle, IsAfter, IsAfterAdding, IsTurned, TellsCycles}
-use Rattle.rel_traits.proofs.Cycling.{one_way_pairs_close, gone, others_stay_open, wider_cycle}
-use Rattle.rel_traits.proofs.Ordered.{key_eq_same}
-use Rattle.rel_traits.proofs.Spreading.{is_along, is_back, joined, pair_only, plain_only}
+use Rattle.rel_traits.proofs.CyclePairs.{one_way_pairs_close, gone, others_stay_open, wider_cycle}
+use Rattle.rel_traits.proofs.SortedFacts.{key_eq_same}
+use Rattle.rel_traits.proofs.AddedSets.{is_along, is_back, joined, pair_only, plain_only}
 
 pub held_in : (js : List Id) (i : Id) → is_held js i ≡ true → Contains js i
 held_in js i h = let j = passing (λ j. id_eq j i) js h in subst (λ k. Contains js k) (id_eq_same j.0 i j.2) j.1

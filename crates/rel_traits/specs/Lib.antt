@@ -1,3 +1,9 @@
 pub mod TraitBits
 pub mod FactLists
 pub mod After
+pub mod PinCounts
+pub mod Sees
+pub mod Deletions
+pub mod Additions
+pub mod Simple
+pub mod Copies

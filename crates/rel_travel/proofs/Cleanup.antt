@@ -14,7 +14,7 @@ use Rattle.ecs_model.specs.Falls.{deletes_sources, deletes_users, falling, falls
 use Rattle.rel_travel.specs.Holders.{holders, holders_of_pair, sources_falling}
 use Rattle.ecs_model.specs.Links.{AreLinks, target_under, upward}
 use Rattle.ecs_model.proofs.Members.{and_true, any_passes, both, eq_itself, filtered, from_filter_map, from_or, or_left, or_right, passing}
-use Rattle.ecs_model.proofs.Linked.{of_pair, pair_of, target_there}
+use Rattle.ecs_model.proofs.LivePairs.{of_pair, pair_of, target_there}
 use Rattle.ecs_model.proofs.Members.{from_flat_map, in_flat_map}
 
 -- what holds of all pieces holds of one

@@ -1,11 +1,11 @@
 pub mod Growth
-mod Adding
-pub mod Begun
-mod LedOn
-mod Seeking
+mod AddedLists
+pub mod SearchStarts
+mod KnownWays
+mod SearchRounds
 pub mod Cleanup
 mod LineSearch
-pub mod Deepening
+pub mod DepthWalks
 pub mod Marks
 mod Rows
 mod WorkLists
@@ -13,4 +13,4 @@ mod Pulls
 mod Turns
 pub mod Lists
 mod Mentions
-pub mod Forbidden
+pub mod ForbiddenDeletions

@@ -4,7 +4,7 @@ use Rattle.std.specs.List.{Contains, find, flat_map}
 use Rattle.std.proofs.lemmas.List.{append-nil, append_assoc, drop_all, take_all}
 use Rattle.std.proofs.lemmas.List.Elements.{Contains-append_left, Contains-append_right, Contains-push, Contains-push_cases}
 use Rattle.std.proofs.lemmas.List.Folds.{find-append, length-flat_map-take}
-use Rattle.ecs_model.proofs.Linked.{target_there}
+use Rattle.ecs_model.proofs.LivePairs.{target_there}
 use Rattle.rel_travel.proofs.Growth.{targets_more}
 use Rattle.ecs_id.specs.Id.{Id}
 use Rattle.ecs_model.specs.Links.{target_under, targets_in}

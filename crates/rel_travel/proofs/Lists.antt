@@ -8,8 +8,8 @@ use Rattle.ecs_id.specs.declared.TableKey.{TableKey}
 use Rattle.component_index.specs.declared.pattern.Pattern.{Pattern}
 use Rattle.component_index.specs.declared.pattern.Part.TheVariants.{Is}
 use Rattle.ecs_model.specs.Links.{AreLinks, IsReached, is_reflexive, is_transitive, upward}
-use Rattle.ecs_model.proofs.Linked.{upward_below}
-use Rattle.ecs_model.proofs.Reaching.{turned_reach}
+use Rattle.ecs_model.proofs.LivePairs.{upward_below}
+use Rattle.ecs_model.proofs.ReachSteps.{turned_reach}
 use Rattle.rel_travel.specs.Coming.{above_list, below_list, downward}
 use Rattle.rel_travel.specs.Holders.{holders}
 use Rattle.rel_travel.proofs.Cleanup.{holds_upward, pairs_below, upward_holds}

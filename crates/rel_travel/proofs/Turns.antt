@@ -16,8 +16,8 @@ use Rattle.rel_travel.specs.Coming.{after_turn, begun_at, given_in, list_from, w
 use Rattle.rel_travel.specs.Finds.{is_among, with_find}
 use Rattle.rel_travel.specs.Growing.{IsGrownBy}
 use Rattle.rel_travel.specs.Lists.{IsListed}
-use Rattle.rel_travel.proofs.Begun.{begun, begun_alone, begun_by_step}
-use Rattle.rel_travel.proofs.Adding.{grown_finds}
+use Rattle.rel_travel.proofs.SearchStarts.{begun, begun_alone, begun_by_step}
+use Rattle.rel_travel.proofs.AddedLists.{grown_finds}
 use Rattle.rel_travel.proofs.Growth.{is_among_tells}
 use Rattle.rel_travel.proofs.Pulls.{IsSpread, IsTaken, IsTurn, Waits, none_waits, one_taken}
 

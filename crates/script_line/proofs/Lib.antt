@@ -5,6 +5,6 @@ mod Forms
 mod Fronts
 mod Digits
 mod Stops
-mod Named
+mod NamedReferences
 mod Close
 mod Ascii

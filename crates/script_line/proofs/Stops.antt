@@ -6,13 +6,13 @@ use Rattle.std.proofs.lemmas.Bool.{cases_Bool, false_from_ne_true}
 use Rattle.std.proofs.lemmas.Bool.Decides.{nat_tests}
 use Rattle.std.proofs.lemmas.List.Folds.{length-prefix_len}
 use Rattle.query_model.specs.Text.{is_digit}
-pub use Rattle.query_model.proofs.Spelling.{front_passes}
+pub use Rattle.query_model.proofs.TokenSpelling.{front_passes}
 use Rattle.ecs_model.specs.Text.{is_blank, is_number, number_of}
 use Rattle.ecs_model.specs.Script.{is_apart, reference_of, handle_of, value_of_word}
 use Rattle.ecs_model.specs.Orders.{by_name}
 use Rattle.script_line.specs.Line.{ends_reference, followed_by, unsigned_of_word, word_read}
 use Rattle.script_line.proofs.WordLists.{past_one, front_yes, front_no}
-use Rattle.script_line.proofs.Named.{begins_not}
+use Rattle.script_line.proofs.NamedReferences.{begins_not}
 
 -- no blank passes
 abbrev pub TakesNoBlank : (ℕ → Bool) → Type 0

@@ -1,3 +1,3 @@
-mod Kept
-pub mod Appended
+mod KeptLines
+pub mod AppendedBytes
 pub mod Ends

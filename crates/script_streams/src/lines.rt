@@ -90,7 +90,7 @@ impl<A: Allocator> Lines<A> {
     /// Takes the next line whose end has come, and answers whether there is one. Where there is none, what has come is the front of one.
     ///
     /// Of a line that came in more than one piece the first 4,097 bytes are kept.
-    #[tactic(auto, using(crate::proofs::Kept::kept_twice))]
+    #[tactic(auto, using(crate::proofs::KeptLines::kept_twice))]
     pub fn take_line(&mut self) -> Result<bool, AllocError>
         ensures taken { IfOk result (λ is_taken. TakesLine is_taken self.old self.new) }
         ensures read { self.new.read ≡ self.old.read }
@@ -209,7 +209,7 @@ fn find_end<R: Source>(reader: &mut R) -> Result<bool, FillError>
 }
 
 /// Adds bytes to the front of a line, as far as it is kept.
-#[tactic(auto, using(crate::proofs::Kept::kept_added))]
+#[tactic(auto, using(crate::proofs::KeptLines::kept_added))]
 fn keep_front<A: Allocator>(front: &mut Vec<u8, A>, bytes: &[u8]) -> Result<(), AllocError>
     requires { length front.old.items ≤ 4097 }
     ensures added { OnOk result (front.new.items ≡ kept (front.old.items ++ bytes.now)) }

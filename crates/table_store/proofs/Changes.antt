@@ -14,7 +14,7 @@ use Rattle.table_store.specs.Rows.{Row, row_at, row_of, rows_in, IsStored, with_
 use Rattle.table_store.specs.Kept.{ByIds, Held, store_of, standing, IsKept, IsSlot}
 use Rattle.table_store.specs.ByIds.{HasSlot, ids_hash}
 use Rattle.table_store.proofs.Slots.{table_at-slots, table_at-changed, same_key, key_eq_true, listed_in, none_is_some, one_some, same_seen}
-use Rattle.table_store.proofs.Counting.{still_as_many}
+use Rattle.table_store.proofs.TableCounts.{still_as_many}
 use Rattle.table_store.proofs.StoreLemmas.{IsStore-shapes, IsSlot-shapes, IsOrder-shapes, same_ids, stored}
 
 -- what a bound on a table's numbers says of its key

@@ -14,7 +14,7 @@ use Rattle.std.specs.List.{list_any}
 use Rattle.ecs_id.specs.Id.{id_eq}
 use Rattle.ecs_table.specs.Archetype.{Archetype, IsSound, cells_of, moved_into, size_of, value_of, with_cell as with_bytes, with_value as with_value_of, without_row}
 use Rattle.ecs_table.proofs.Rows.{found_in_row, moved_into_row, not_in_shape, row_of_removed, row_of_set}
-use Rattle.ecs_table.proofs.Ordered.{cells_rise, with_cell_put}
+use Rattle.ecs_table.proofs.TableIds.{cells_rise, with_cell_put}
 use Rattle.table_store.specs.Store.{Store, key_eq, shape_at, shape_of, table_at}
 use Rattle.table_store.specs.Rows.{Row, filler, gap_filled, removed_rows, row_at, row_of, same_place, with_cell, without_row_at}
 use Rattle.table_store.specs.Kept.{ByIds, Held, store_of, IsKept, IsSlot}

@@ -19,8 +19,8 @@ use Rattle.table_store.specs.ByIds.{HasSlot, ids_hash}
 use Rattle.table_store.proofs.Slots.{key_eq_true, table_at-slots, same_seen, one_some}
 use Rattle.table_store.proofs.Shapes.{HaveSizes, get_put, get_filtered, small_at, size_of_stored}
 use Rattle.table_store.proofs.Changes.{there, table_here}
-use Rattle.table_store.proofs.Making.{sized_shape, stands_of_shape, some_of}
-use Rattle.table_store.proofs.Putting.{IsMade-found}
+use Rattle.table_store.proofs.MadeTables.{sized_shape, stands_of_shape, some_of}
+use Rattle.table_store.proofs.FoundTables.{IsMade-found}
 
 edge_more : (s : Store) (f : Shape) (id : Id) (to : TableKey) (added : Option ℕ) → IsSome added → to.serial ≤ s.last → shape_at s to ≡ Some (stepped f id added) → IsMore s f id to
 edge_more s f id to None h le e = absurd (true≢false (sym h))

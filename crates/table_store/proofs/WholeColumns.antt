@@ -8,7 +8,7 @@ use Rattle.ecs_id.specs.declared.Place.{Place}
 use Rattle.ecs_id.specs.declared.TableKey.{TableKey}
 use Rattle.ecs_table.specs.Archetype.{Archetype, IsSound, size_of, with_cell as with_bytes, with_column}
 use Rattle.ecs_table.proofs.Rows.{size_from_shape}
-use Rattle.ecs_table.proofs.Ordered.{cells_rise, with_cell_put}
+use Rattle.ecs_table.proofs.TableIds.{cells_rise, with_cell_put}
 use Rattle.ecs_table.proofs.WholeColumns.{row_of_column}
 use Rattle.table_store.specs.declared.store.Slot.{Slot}
 use Rattle.table_store.specs.Kept.{Held, store_of}

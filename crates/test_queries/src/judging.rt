@@ -2,8 +2,8 @@
 
 use crate::ask;
 use ecs_id::Id;
-use local_queries::{Touched, judge, local_told};
 use query_check::Query;
+use query_local::{Touched, judge, local_told};
 use std::alloc::{AllocError, Global};
 use std::process::Abort;
 use std::test::Fail;

@@ -2,7 +2,7 @@
 
 ghost use Rattle.std.specs.Prelude.{◌≡◌, ◌≤◌};
 ghost use Rattle.plan_steps.specs.Actions.{instructions_of};
-ghost use Rattle.row_fields.specs.Fields.{field_items};
+ghost use Rattle.plan_fields.specs.Fields.{field_items};
 ghost use Rattle.plan_steps.specs.Tables.{by_tables};
 ghost use Rattle.whole_rows.specs.WholeRows.{Fits};
 ghost use Rattle.query_meaning.specs.Names.{GoesUpWithoutCycles};
@@ -11,11 +11,11 @@ ghost use Rattle.world_query.specs.Answerable.{IsAsked};
 use crate::lines::expect;
 use crate::worked::WorkedRow;
 use ecs_world::World;
+use plan_fields::ShownFact;
 use plan_steps::Facts;
 use query_check::Query;
 use query_plan::Plan;
 use refusing_alloc::Refusing;
-use row_fields::ShownFact;
 use std::alloc::{AllocError, Allocator, Global};
 use std::process::Abort;
 use std::test::Fail;

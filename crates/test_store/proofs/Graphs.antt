@@ -9,7 +9,7 @@ use Rattle.std.proofs.lemmas.List.Elements.{All-contains, Contains-append_right}
 use Rattle.ecs_id.specs.Id.{Id, last_index, mentioned, second_of}
 use Rattle.ecs_model.specs.Links.{AreLinks, IsAcyclic, target_under, upward}
 use Rattle.ecs_model.specs.Reach.{Reached, itself, onward}
-use Rattle.ecs_model.proofs.Linked.{of_pair}
+use Rattle.ecs_model.proofs.LivePairs.{of_pair}
 use Rattle.ecs_model.proofs.Members.{from_filter_map, head_or_tail}
 use Rattle.std.specs.declared.vec.Vec.{Vec}
 use Rattle.test_store.specs.Closed.{FallBelow, IsClosed, IsInside, MentionsInside, Rows, down_from, live_in, row_at, rows_in}

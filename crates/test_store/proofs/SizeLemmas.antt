@@ -8,7 +8,7 @@ use Rattle.ecs_id.specs.Id.{Id, id_cmp, id_eq, packed, plain}
 use Rattle.ecs_table.specs.Archetype.{Archetype}
 use Rattle.table_store.specs.Store.{HasSize, Shape, Store, find_in, key_eq, shape_at, shape_of, shaped_at, table_at, with_id, without_id}
 use Rattle.test_store.specs.Sizes.{IsOfSizes, IsSized, bytes_of}
-use Rattle.table_store.proofs.Making.{some_of}
+use Rattle.table_store.proofs.MadeTables.{some_of}
 use Rattle.table_store.proofs.Shapes.{both, found_get, get_filtered, get_put}
 use Rattle.table_store.proofs.Slots.{none_is_some, one_some}
 use Rattle.table_store.proofs.Steps.{if_each}

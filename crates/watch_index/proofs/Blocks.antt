@@ -18,7 +18,7 @@ use Rattle.std.proofs.lemmas.List.Sorted.{All-permutation, IsPermutation-insert,
 use Rattle.watch_index.specs.declared.words.Word.{Word}
 use Rattle.watch_index.specs.Listed.{Loses, has}
 use Rattle.watch_index.specs.Words.{AreWords, Fits, IsBefore, IsFull, IsPlaceFor, IsWordOf, numbers_in, numbers_of}
-use Rattle.watch_index.proofs.Listing.{other_block}
+use Rattle.watch_index.proofs.WordNumbers.{other_block}
 
 abbrev block_of : Word → ℕ
 block_of w = w.block

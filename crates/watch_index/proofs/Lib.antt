@@ -1,6 +1,10 @@
 mod Blocks
-mod Entering
-mod Gathered
-mod Led
-mod Listing
-mod Marked
+mod OccasionLists
+mod GatheredNumbers
+mod ConcernedNumbers
+mod WordNumbers
+mod MarkChanges
+pub mod NamesPlaced
+mod IndexedValues
+mod WatchPlaces
+pub mod WatchWritten

@@ -5,8 +5,8 @@ use Rattle.ecs_model.specs.declared.watches.StoredKind.{StoredKind}
 use Rattle.ecs_model.specs.declared.watches.StoredKind.TheVariants.{Kept, Monitor, OnAdd, OnRemove, OnSet}
 use Rattle.ecs_model.specs.stored.Watches.{matches_term}
 use Rattle.ecs_model.specs.World.{Key}
-use Rattle.query_concerns.specs.Anchored.{is_anchored}
-use Rattle.query_concerns.specs.Concerns.{concerns}
+use Rattle.watch_concerns.specs.Anchored.{is_anchored}
+use Rattle.watch_concerns.specs.Concerns.{concerns}
 use Rattle.query_model.specs.Query.{Query}
 use Rattle.watch_index.specs.declared.occasion.Occasion.{Occasion}
 use Rattle.watch_index.specs.Listed.{is_among}

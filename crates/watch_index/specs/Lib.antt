@@ -4,3 +4,5 @@ pub mod Marks
 pub mod Words
 pub mod Listed
 pub mod Laws
+pub mod NameOrder
+pub mod WatchOrder

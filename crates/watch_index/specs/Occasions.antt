@@ -8,8 +8,8 @@ use Rattle.component_index.specs.Listed.{patterns_of}
 use Rattle.ecs_model.specs.declared.watches.StoredKind.{StoredKind}
 use Rattle.ecs_model.specs.declared.watches.StoredKind.TheVariants.{Kept, Monitor, OnAdd, OnRemove, OnSet}
 use Rattle.ecs_model.specs.World.{Key}
-use Rattle.query_concerns.specs.Anchored.{is_anchored}
-use Rattle.query_concerns.specs.Concerns.{is_asked_by_all}
+use Rattle.watch_concerns.specs.Anchored.{is_anchored}
+use Rattle.watch_concerns.specs.Concerns.{is_asked_by_all}
 use Rattle.query_model.specs.declared.query.Ref.{Ref}
 use Rattle.query_model.specs.declared.query.Ref.TheVariants as ref
 use Rattle.query_model.specs.declared.query.Term.{Term}

@@ -12,9 +12,9 @@ use crate::occasion::{Occasion, Way};
 use component_index::{Part, Pattern};
 use ecs_id::Id;
 use ecs_model::FactKey;
-use query_concerns::is_asked_by_all;
 use short_list::ShortNumbers;
 use std::alloc::{AllocError, Allocator};
+use watch_concerns::is_asked_by_all;
 
 /// What a command has changed.
 #[derive(Clone, Copy)]

@@ -1,4 +1,4 @@
-//! Which stored queries may be told of a command, by what they look out for.
+//! Which stored queries may be told of a command, by what they look out for, and in which order they stand.
 //!
 //! ```text
 //! let mut index = WatchIndex::new(rt.alloc(), RandomState::new(&rt)?);
@@ -20,12 +20,16 @@ mod index;
 pub mod laws;
 mod lists;
 mod marks;
+mod name_order;
 mod numbers;
 mod occasion;
 mod wanting;
+mod watch_order;
 mod words;
 
 pub use gathering::Happened;
 pub use index::WatchIndex;
+pub use name_order::{NameOrder, Named};
 pub use occasion::{Occasion, Way};
 pub use wanting::occasions_of;
+pub use watch_order::{Boxed, WatchOrder, Watcher};

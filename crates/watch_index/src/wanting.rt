@@ -1,7 +1,7 @@
 //! What a stored query looks out for.
 ghost use Rattle.std.specs.Prelude.{◌≡◌, ◌++◌, IfOk, OnOk, flat_map, if◌then◌else◌};
 ghost use Rattle.query_check.specs.Terms.{terms};
-ghost use Rattle.query_concerns.specs.Anchored.{is_anchored};
+ghost use Rattle.watch_concerns.specs.Anchored.{is_anchored};
 ghost use Rattle.watch_index.specs.Occasions.{closed_occasions, occasions_of, of_monitors, pairs_of, part_of, pattern_of, term_occasions, up_occasions};
 
 use crate::occasion::{Occasion, Way};

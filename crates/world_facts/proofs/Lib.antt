@@ -1,10 +1,10 @@
-mod Standing
-mod Leading
-mod Factual
-mod Told
-mod Rising
+mod EntityRows
+mod LiveTargets
+mod FactViews
+mod WorldReads
+mod RisingSteps
 mod Tables
 pub mod Lists
 mod Targets
-mod Climbing
-mod Noting
+mod SingleTargets
+mod NotedWays

@@ -6,12 +6,12 @@ use Rattle.ecs_id.specs.declared.TableKey.{TableKey}
 use Rattle.component_index.specs.declared.pattern.Pattern.{Pattern}
 use Rattle.component_index.proofs.TableLemmas.{table_eq_equiv}
 use Rattle.ecs_archetypes.specs.Scans.{HasMatch}
-use Rattle.ecs_links.specs.Linked.{AreListsOf}
+use Rattle.ecs_archetypes.specs.Linked.{AreListsOf}
 use Rattle.ecs_model.proofs.Members.{alike}
 use Rattle.ecs_world.specs.Standing.{Standing}
 use Rattle.world_facts.specs.Lists.{ListsTables}
 use Rattle.world_facts.specs.Shown.{Shown, reading_of}
-use Rattle.world_facts.proofs.Standing.{same_tables}
+use Rattle.world_facts.proofs.EntityRows.{same_tables}
 
 pub lists_tables : (s : Shown) → ((s.links).housing).tables ≡ (s.world).tables → AreListsOf (s.links).housing (s.links).lists → ListsTables s
 lists_tables s same lists = record {

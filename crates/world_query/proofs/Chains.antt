@@ -4,7 +4,7 @@ use Rattle.std.specs.List.{list_all}
 use Rattle.std.proofs.lemmas.Bool.{and_from}
 use Rattle.std.proofs.lemmas.List.Folds.{list_all-append}
 use Rattle.ecs_model.specs.Query.{known_of}
-use Rattle.query_meaning.proofs.Asked.{asked, checked_faultless}
+use Rattle.query_meaning.proofs.AskedQueries.{asked, checked_faultless}
 use Rattle.query_model.specs.Check.{Known}
 use Rattle.query_model.specs.Levels.{Path, followed, placed_parts}
 use Rattle.query_model.specs.Numbers.{Variable, variables}

@@ -6,7 +6,7 @@ use Rattle.std.proofs.lemmas.List.{take-append-drop}
 use Rattle.ecs_print.specs.Stops.{StopsWithin}
 use Rattle.ecs_print.proofs.Stops.{stops_behind, stops_sooner}
 use Rattle.world_query.specs.Lines.{line_end}
-use Rattle.world_query.proofs.Printed.{line_ended, one_more}
+use Rattle.world_query.proofs.PrintedLists.{line_ended, one_more}
 
 pub stops_in_item : {X : Type 0} (f : X → List ℕ) (xs : List X) (i : ℕ) (x : X) (start mid now : List ℕ) → i < length xs → slice_get xs i ≡ Some x → mid ≡ start ++ flat_map f (take i xs) → StopsWithin mid now (f x)
     → StopsWithin start now (flat_map f xs)

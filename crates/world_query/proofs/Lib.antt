@@ -1,15 +1,15 @@
-mod Named
+mod NamedEntities
 mod Texts
-mod Kept
+mod KeptTexts
 mod KeptRows
-mod Printed
-pub mod Asked
-mod Answered
+mod PrintedLists
+pub mod AskedQueries
+mod AnswerLines
 pub mod RowLines
-mod Matched
+mod MatchedEntities
 mod Probes
-mod Planned
+mod PlannedCounts
 mod Chains
 mod Sheets
 pub mod Fronts
-pub mod Sent
+pub mod SentTexts

@@ -32,7 +32,7 @@ use Rattle.query_model.specs.declared.query.Term.{Term}
 use Rattle.query_model.specs.Local.{asks_first, asks_one_id, is_must, is_name, is_name_if_written, is_simple, is_simple_piece}
 use Rattle.query_model.specs.Observers.{is_constant, is_constant_target, is_first}
 use Rattle.query_model.specs.Query.{must, may, either, equal, differ, Piece, item, opening, closing, Query}
-use Rattle.query_plan.proofs.Simple.{simple_queries_are_led}
+use Rattle.query_plan.proofs.SimpleQueries.{simple_queries_are_led}
 use Rattle.query_plan.specs.Plans.{IsPlanned}
 use Rattle.query_plan.specs.Simple.{has_terms, is_leading}
 use Rattle.plan_steps.specs.Actions.{cut, cuts, entry_instructions, hit_test, instructions_of, is_fixed, item_takes_this, moves_of, name_of, pattern_of, simple_of, takes_this, term_test, variable_of, with_cuts}
@@ -49,7 +49,7 @@ use Rattle.plan_steps.specs.TableProbes.{Judged, one, any_of, is_judged_once, ju
 use Rattle.plan_steps.specs.Tables.{by_tables, is_shared_test}
 use Rattle.plan_steps.specs.Variables.{asks_others, is_other}
 use Rattle.plan_steps.specs.Width.{width_of}
-use Rattle.plan_steps.proofs.Nested.{cut_from, split_is}
+use Rattle.plan_steps.proofs.NestedInstructions.{cut_from, split_is}
 use Rattle.plan_steps.proofs.TableProbes.{cut_last}
 use Rattle.world_query.specs.Answerable.{searched_part, searched_pattern, table_counts, tables_of_item, tables_of_piece}
 use Rattle.world_query.specs.Probes.{KeptQueriesStayWithin, SimpleQueriesStayWithin, instructions_by}

@@ -6,7 +6,7 @@ ghost use Rattle.ecs_model.specs.Bytes.{size_of, values_in};
 ghost use Rattle.ecs_model.specs.Print.{field_text, index_text, value_text};
 ghost use Rattle.ecs_model.specs.rows.View.{view_of};
 ghost use Rattle.ecs_print.specs.Stops.{StopsWithin};
-ghost use Rattle.row_fields.specs.Fields.{shown_field};
+ghost use Rattle.plan_fields.specs.Fields.{shown_field};
 ghost use Rattle.world_query.specs.Lines.{AreTexts, IsEntityText, IsKept, IsLabel, IsLabelOf, field_end, label_text, line_end, line_headed, row_alone, started, starts_in, text_of, written};
 
 use crate::labels::{EntityText, Label, Piece, place_of_source, place_of_text};
@@ -15,7 +15,7 @@ use ecs_id::Id;
 use ecs_print::{MOST_TEXT, put_fields};
 use ecs_schema::Schema;
 use ecs_world::World;
-use row_fields::{Fields, ShownFact};
+use plan_fields::{Fields, ShownFact};
 use std::alloc::{AllocError, Allocator};
 
 /// What is kept while the rows of a query are printed: the text of an entity for each place of a row, which are its columns, one for each visible

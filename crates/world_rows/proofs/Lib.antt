@@ -1,9 +1,9 @@
-mod Current
-mod Given
-mod Pulled
-mod Running
-mod Shortest
-mod Starting
-mod Tabled
-mod Typed
+mod CurrentQueries
+mod GivenRows
+mod PulledRows
+mod RowRuns
+mod ShortestLists
+mod RunStarts
+mod ChunkRows
+mod TypedValues
 mod Values

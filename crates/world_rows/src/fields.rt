@@ -5,7 +5,7 @@ ghost use Rattle.ecs_model.specs.Bytes.{size_of};
 ghost use Rattle.ecs_model.specs.World.{WorldState, type_of_id};
 ghost use Rattle.ecs_model.specs.rows.View.{view_of};
 ghost use Rattle.query_chunks.specs.Chunk.{field_at as column_field, seen_column, value_at as column_value};
-ghost use Rattle.row_fields.specs.Fields.{shown_field};
+ghost use Rattle.plan_fields.specs.Fields.{shown_field};
 ghost use Rattle.world_rows.specs.Fields.{HasItsFields, as_field};
 ghost use Rattle.world_rows.specs.Tabled.{HasRow, IsTyped};
 ghost use Rattle.world_rows.specs.Values.{numbers_of};
@@ -14,8 +14,8 @@ use ecs_id::Id;
 use ecs_schema::Schema;
 use ecs_schema::laws::bytes_are_a_value;
 use ecs_world::World;
+use plan_fields::ShownFact;
 use query_chunks::Column;
-use row_fields::ShownFact;
 use std::alloc::Allocator;
 use std::marker::Model;
 

@@ -14,8 +14,8 @@ use Rattle.world_script.specs.declared.lines.Summary.{Summary}
 use Rattle.world_script.specs.Run.{effects_from, printed_by}
 use Rattle.world_script.specs.Running.{HasEnded, IsRunning}
 use Rattle.world_script.specs.Whole.{WroteFront, WroteFull, WroteToEnd, WroteWhole}
-use Rattle.world_script.proofs.Kept.{EndsInFeed-more, cut}
-use Rattle.world_script.proofs.Running.{all_taken}
+use Rattle.world_script.proofs.KeptLines.{EndsInFeed-more, cut}
+use Rattle.world_script.proofs.RunSteps.{all_taken}
 
 -- nothing more was taken
 pub TakesFront-none : (a : Option (List ℕ)) (bytes : List ℕ) → TakesFront a a bytes

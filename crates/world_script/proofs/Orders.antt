@@ -32,7 +32,7 @@ use Rattle.ecs_observe.specs.declared.errors.SessionError.{SessionError}
 use Rattle.ecs_observe.specs.declared.errors.SessionError.TheVariants.{Refused, Memory}
 use Rattle.world_script.specs.Run.{IsDone}
 use Rattle.world_script.specs.Told.{TellsAccepted, TellsRefusal, TellsError, TellsAnswer, TellsBorn, FindsBoth}
-use Rattle.world_script.proofs.Waiting.{waits-none}
+use Rattle.world_script.proofs.WaitingEvents.{waits-none}
 
 -- a line that was refused
 pub IsDone-refused : (s : SessionState) (n : ℕ) (kind before after : List ℕ) (refused : Bool) → TellsRefusal n kind before after refused → IsDone (refused_line s n kind) s before after refused

@@ -12,7 +12,7 @@ use Rattle.ecs_model.specs.World.{WorldState, Key, is_live, entity_at}
 use Rattle.ecs_model.specs.traits.Changes.{deleted}
 use Rattle.ecs_model.specs.traits.Command.{Command, Fresh, Entity, Component, Add, SetValue, Remove, Delete, effect, without_entities, written_by}
 use Rattle.ecs_model.specs.traits.Laws.{BornIsMade, made_by}
-use Rattle.ecs_model.proofs.Born.{born, none_found, none_born, fresh_born, named_born, component_born}
+use Rattle.ecs_model.proofs.NewEntity.{born, none_found, none_born, fresh_born, named_born, component_born}
 use Rattle.ecs_model.proofs.traits.Deletions.{nat_value_at-without, was_there}
 use Rattle.ecs_model.proofs.traits.Facts.{there_key}
 use Rattle.ecs_model.proofs.traits.Kept.{all_pass}

@@ -15,7 +15,7 @@ use Rattle.ecs_model.specs.World.{WorldState, Key, key_cmp, key_eq, is_live, nam
 use Rattle.ecs_model.specs.traits.Changes.{deleted, mentions_gone, facts_after_delete, removed, facts_after_remove}
 use Rattle.ecs_model.specs.traits.Command.{Remove, Delete, effect, without_entities, written_by}
 use Rattle.ecs_model.proofs.Maps.{key_cmp_total}
-use Rattle.ecs_model.proofs.Born.{none_born}
+use Rattle.ecs_model.proofs.NewEntity.{none_born}
 use Rattle.ecs_model.proofs.Removals.{value_at-without}
 use Rattle.ecs_model.proofs.traits.Born.{none_born_left}
 use Rattle.ecs_model.proofs.traits.Deletions.{nat_value_at-without, was_there}

@@ -13,7 +13,7 @@ use Rattle.ecs_id.specs.Id.{Id, pair, id_eq, id_eq_itself, id_eq_same}
 use Rattle.ecs_model.specs.Links.{is_held, upward}
 use Rattle.ecs_model.specs.Map.{Map, has_key, keys}
 use Rattle.ecs_model.specs.World.{WorldState, Key, key_cmp, is_live, entities, holds, ids_of}
-use Rattle.ecs_model.proofs.Linked.{held_leads, leads_held}
+use Rattle.ecs_model.proofs.LivePairs.{held_leads, leads_held}
 use Rattle.ecs_model.proofs.Maps.{key_cmp_same, key_cmp_total}
 use Rattle.ecs_model.proofs.Members.{alike, any_passes, eq_itself, eq_same, from_filter_map, in_filter_map, passing}
 

@@ -6,8 +6,8 @@ use Rattle.query_lexer.specs.declared.Token.{Token}
 use Rattle.query_lexer.specs.Token.{seen}
 use Rattle.query_model.specs.declared.faults.FaultKind.TheVariants.{Lex}
 use Rattle.query_model.specs.Tokens.{IsLexFault, IsSpelledBy, tokens_of}
-use Rattle.query_model.proofs.Spelling.{tokens_are_spelled}
-use Rattle.query_lexer.proofs.Meant.{answer_is_meant}
+use Rattle.query_model.proofs.TokenSpelling.{tokens_are_spelled}
+use Rattle.query_lexer.proofs.AnswerMeanings.{answer_is_meant}
 use Rattle.query_lexer.proofs.lex.Goals as goal
 
 pub loop-tokens-init : goal.loop-tokens-init

@@ -3,7 +3,7 @@ use Rattle.std.proofs.Common.{subst}
 use Rattle.ecs_archetypes.specs.Holdings.{HoldAlike}
 use Rattle.ecs_archetypes.specs.Housing.{holdings_of}
 use Rattle.ecs_archetypes.specs.Moves.{with_all_moved}
-use Rattle.ecs_archetypes.proofs.Moving.{alike_then}
+use Rattle.ecs_archetypes.proofs.TableMoves.{alike_then}
 use Rattle.ecs_archetypes.proofs.Soundness.{holdings}
 use Rattle.ecs_archetypes.proofs.Archetypes.carry_out.Goals as goal
 

@@ -1,5 +1,5 @@
 -- The row moves to the table.
-use Rattle.ecs_archetypes.proofs.Standing.{entered_alike}
+use Rattle.ecs_archetypes.proofs.EnteredTables.{entered_alike}
 use Rattle.ecs_archetypes.proofs.Archetypes.carry_to.Goals as goal
 
 pub invariant_of-self : goal.invariant_of-self

@@ -4,12 +4,12 @@ use Rattle.std.proofs.Common.{◌∙◌}
 use Rattle.ecs_archetypes.specs.Archetypes.{known_in}
 use Rattle.ecs_archetypes.specs.FactChanges.{ids_coming}
 use Rattle.ecs_archetypes.specs.Housing.{holdings_of}
-use Rattle.ecs_archetypes.proofs.Known.{KeepsSizes-then, same_kept}
+use Rattle.ecs_archetypes.proofs.KnownIds.{KeepsSizes-then, same_kept}
 use Rattle.ecs_archetypes.proofs.FactPlanning.{facts_dead, facts_gone}
-use Rattle.ecs_archetypes.proofs.Standing.{goes_on_alike}
+use Rattle.ecs_archetypes.proofs.EnteredTables.{goes_on_alike}
 use Rattle.ecs_archetypes.proofs.Soundness.{holdings}
 use Rattle.ecs_archetypes.specs.Staying.{none_goes, stay_then}
-use Rattle.ecs_archetypes.proofs.Staying.{stay_alike, stay_grown, stay_moved}
+use Rattle.ecs_archetypes.proofs.StandingTables.{stay_alike, stay_grown, stay_moved}
 use Rattle.ecs_archetypes.proofs.Archetypes.change_facts.Goals as goal
 
 pub delete_each-requires : goal.delete_each-requires

@@ -4,10 +4,10 @@ use Rattle.ecs_archetypes.specs.Archetypes.{known_in}
 use Rattle.ecs_archetypes.specs.Holdings.{zero_cells}
 use Rattle.ecs_archetypes.specs.Housing.{holdings_of}
 use Rattle.ecs_archetypes.proofs.ArchetypeCalls.{born_over}
-use Rattle.ecs_archetypes.proofs.Known.{KeepsSizes-then, same_kept}
+use Rattle.ecs_archetypes.proofs.KnownIds.{KeepsSizes-then, same_kept}
 use Rattle.ecs_archetypes.proofs.Soundness.{holdings}
-use Rattle.ecs_archetypes.proofs.Standing.{goes_on_alike}
-use Rattle.ecs_archetypes.proofs.Staying.{stay_grown, stay_moved}
+use Rattle.ecs_archetypes.proofs.EnteredTables.{goes_on_alike}
+use Rattle.ecs_archetypes.proofs.StandingTables.{stay_grown, stay_moved}
 use Rattle.ecs_archetypes.proofs.Archetypes.create.Goals as goal
 
 pub returns-in_err-key-clause-holdings : goal.returns-in_err-key-clause-holdings

@@ -7,7 +7,7 @@ use Rattle.table_store.specs.Store.{shape_at}
 use Rattle.ecs_archetypes.proofs.ArchetypeCalls.{alike_born, born_alive, sound_born}
 use Rattle.ecs_archetypes.proofs.FirstHoldings.{same_next}
 use Rattle.ecs_archetypes.proofs.Soundness.{holdings}
-use Rattle.ecs_archetypes.proofs.Standing.{entered_alike}
+use Rattle.ecs_archetypes.proofs.EnteredTables.{entered_alike}
 use Rattle.ecs_archetypes.proofs.Archetypes.create_in.Goals as goal
 
 pub enter-requires-clause-sound : goal.enter-requires-clause-sound

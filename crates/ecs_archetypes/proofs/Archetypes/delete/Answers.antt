@@ -6,7 +6,7 @@ use Rattle.ecs_archetypes.specs.Holdings.{cells_at, lives}
 use Rattle.ecs_archetypes.specs.Housing.{holdings_of}
 use Rattle.ecs_archetypes.proofs.ArchetypeCalls.{settled_there}
 use Rattle.ecs_archetypes.proofs.MapLists.{both}
-use Rattle.ecs_archetypes.proofs.Standing.{entered_alike}
+use Rattle.ecs_archetypes.proofs.EnteredTables.{entered_alike}
 use Rattle.ecs_model.specs.World.{is_built_in}
 use Rattle.entity_index.specs.Entities.{is_alive}
 use Rattle.ecs_archetypes.proofs.Archetypes.delete.Goals as goal

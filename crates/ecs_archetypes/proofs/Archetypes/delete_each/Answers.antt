@@ -1,7 +1,7 @@
 -- Each deletion leaves the others as they were.
 use Rattle.std.proofs.Common.{arith, refl, subst}
 use Rattle.ecs_archetypes.specs.Housing.{IsHoused}
-use Rattle.ecs_archetypes.proofs.Deleting.{deleted_more, next_deletable, next_settled}
+use Rattle.ecs_archetypes.proofs.DeathLists.{deleted_more, next_deletable, next_settled}
 use Rattle.ecs_archetypes.proofs.Soundness.{holdings}
 use Rattle.ecs_archetypes.proofs.Archetypes.delete_each.Goals as goal
 

@@ -1,5 +1,5 @@
 use Rattle.std.proofs.Common.{drop}
-use Rattle.ecs_archetypes.proofs.Deleting.{AreDeleted}
+use Rattle.ecs_archetypes.proofs.DeathLists.{AreDeleted}
 use Rattle.ecs_archetypes.proofs.Archetypes.delete_each.Given as goal
 
 abbrev pub invariant-loop-entity : goal.invariant-loop-entity

@@ -1,6 +1,6 @@
 -- Each move has the room that was made for it.
 use Rattle.std.proofs.Common.{arith, refl}
-use Rattle.ecs_archetypes.proofs.Moving.{carried_on}
+use Rattle.ecs_archetypes.proofs.TableMoves.{carried_on}
 use Rattle.ecs_archetypes.proofs.Archetypes.move_all.Goals as goal
 
 pub loop-one-preserved : goal.loop-one-preserved

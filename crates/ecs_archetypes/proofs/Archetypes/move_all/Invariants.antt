@@ -1,5 +1,5 @@
 use Rattle.std.proofs.Common.{drop}
-use Rattle.ecs_archetypes.proofs.Moving.{AreCarried}
+use Rattle.ecs_archetypes.proofs.TableMoves.{AreCarried}
 use Rattle.ecs_archetypes.proofs.Archetypes.move_all.Given as goal
 
 abbrev pub invariant-loop-one : goal.invariant-loop-one

@@ -5,10 +5,10 @@ use Rattle.ecs_model.proofs.Maps.{both_true}
 use Rattle.ecs_archetypes.specs.Holdings.{cells_at, lives}
 use Rattle.ecs_archetypes.specs.Housing.{holdings_of}
 use Rattle.ecs_archetypes.proofs.ArchetypeCalls.{settled_there}
-use Rattle.ecs_archetypes.proofs.Moving.{alike_staying, not_false}
+use Rattle.ecs_archetypes.proofs.TableMoves.{alike_staying, not_false}
 use Rattle.ecs_archetypes.proofs.Placings.{key_eq-tells}
 use Rattle.table_store.specs.Store.{shape_at}
-use Rattle.ecs_archetypes.proofs.Standing.{entered_alike}
+use Rattle.ecs_archetypes.proofs.EnteredTables.{entered_alike}
 use Rattle.ecs_archetypes.proofs.Archetypes.move_to.Goals as goal
 
 pub unwrap-place-requires : goal.unwrap-place-requires

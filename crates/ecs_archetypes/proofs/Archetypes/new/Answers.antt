@@ -1,7 +1,7 @@
 -- No entity has a place yet, no table stands, and none is entered.
 use Rattle.ecs_archetypes.proofs.FirstHoldings.{sound_first}
 use Rattle.ecs_archetypes.proofs.Soundness.{holdings}
-use Rattle.ecs_archetypes.proofs.Standing.{entered_first}
+use Rattle.ecs_archetypes.proofs.EnteredTables.{entered_first}
 use Rattle.ecs_archetypes.proofs.Archetypes.new.Goals as goal
 
 pub invariant_of-result : goal.invariant_of-result

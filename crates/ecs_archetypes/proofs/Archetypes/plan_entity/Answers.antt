@@ -8,7 +8,7 @@ use Rattle.ecs_archetypes.specs.Holdings.{held_at}
 use Rattle.ecs_archetypes.specs.Housing.{holdings_of}
 use Rattle.ecs_archetypes.specs.Moves.{AreReady, moves_to}
 use Rattle.ecs_archetypes.proofs.FactTables.{stands_as, stands_at}
-use Rattle.ecs_archetypes.proofs.Planning.{ready_more}
+use Rattle.ecs_archetypes.proofs.MovePlans.{ready_more}
 use Rattle.ecs_archetypes.proofs.Archetypes.plan_entity.Goals as goal
 
 pub unwrap-entity-requires : goal.unwrap-entity-requires

@@ -6,11 +6,11 @@ use Rattle.ecs_archetypes.specs.Archetypes.{known_in}
 use Rattle.ecs_archetypes.specs.Holdings.{KeepsSizes}
 use Rattle.ecs_archetypes.specs.Housing.{holdings_of}
 use Rattle.ecs_archetypes.proofs.ArchetypeCalls.{alike_narrower, apart_narrower, found_lives}
-use Rattle.ecs_archetypes.proofs.Known.{KeepsSizes-then, same_kept}
+use Rattle.ecs_archetypes.proofs.KnownIds.{KeepsSizes-then, same_kept}
 use Rattle.ecs_archetypes.proofs.Soundness.{holdings, own_row, row_stands, sound_same}
-use Rattle.ecs_archetypes.proofs.Standing.{entered_alike, goes_on_alike}
+use Rattle.ecs_archetypes.proofs.EnteredTables.{entered_alike, goes_on_alike}
 use Rattle.ecs_archetypes.specs.Staying.{TablesStay, none_goes}
-use Rattle.ecs_archetypes.proofs.Staying.{stay_grown, stay_moved}
+use Rattle.ecs_archetypes.proofs.StandingTables.{stay_grown, stay_moved}
 use Rattle.ecs_archetypes.proofs.Archetypes.remove.Goals as goal
 
 pub narrower-requires-clause-stands : goal.narrower-requires-clause-stands

@@ -8,11 +8,11 @@ use Rattle.ecs_archetypes.specs.Archetypes.{known_in}
 use Rattle.ecs_archetypes.specs.FactChanges.{changed_shape, is_among}
 use Rattle.ecs_archetypes.specs.Holdings.{KeepsSizes, held_at}
 use Rattle.ecs_archetypes.specs.Housing.{IsHoused, holdings_of}
-use Rattle.ecs_archetypes.proofs.Known.{KeepsSizes-then, same_kept}
-use Rattle.ecs_archetypes.proofs.Replacing.{alike_replaced, apart_replaced, one_rises, stands, stays_settled}
+use Rattle.ecs_archetypes.proofs.KnownIds.{KeepsSizes-then, same_kept}
+use Rattle.ecs_archetypes.proofs.IdReplacements.{alike_replaced, apart_replaced, one_rises, stands, stays_settled}
 use Rattle.ecs_archetypes.proofs.Soundness.{holdings}
-use Rattle.ecs_archetypes.proofs.Standing.{goes_on_alike}
-use Rattle.ecs_archetypes.proofs.Staying.{stay_grown, stay_moved}
+use Rattle.ecs_archetypes.proofs.EnteredTables.{goes_on_alike}
+use Rattle.ecs_archetypes.proofs.StandingTables.{stay_grown, stay_moved}
 use Rattle.ecs_archetypes.proofs.Archetypes.replace.Goals as goal
 
 pub table_after-requires-clause-there : goal.table_after-requires-clause-there

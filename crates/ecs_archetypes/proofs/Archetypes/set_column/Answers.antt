@@ -5,12 +5,12 @@ use Rattle.table_store.specs.Store.{size_in, table_at}
 use Rattle.ecs_archetypes.specs.Archetypes.{known_in, meaning}
 use Rattle.ecs_archetypes.specs.Holdings.{HoldAlike, with_each_written}
 use Rattle.ecs_archetypes.specs.Housing.{holdings_of}
-use Rattle.ecs_archetypes.proofs.Known.{same_kept}
+use Rattle.ecs_archetypes.proofs.KnownIds.{same_kept}
 use Rattle.ecs_archetypes.proofs.Soundness.{holdings}
-use Rattle.ecs_archetypes.proofs.Standing.{entered_alike, goes_on_alike}
+use Rattle.ecs_archetypes.proofs.EnteredTables.{entered_alike, goes_on_alike}
 use Rattle.ecs_archetypes.proofs.WholeColumns.{alike_column, sound_column}
 use Rattle.ecs_archetypes.specs.Staying.{TablesStay, none_goes}
-use Rattle.ecs_archetypes.proofs.Staying.{stay_alike}
+use Rattle.ecs_archetypes.proofs.StandingTables.{stay_alike}
 use Rattle.ecs_archetypes.proofs.Archetypes.set_column.Goals as goal
 
 pub set_column-requires : goal.set_column-requires

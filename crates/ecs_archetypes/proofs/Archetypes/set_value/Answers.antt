@@ -8,12 +8,12 @@ use Rattle.ecs_archetypes.specs.Archetypes.{known_in, meaning}
 use Rattle.ecs_archetypes.specs.Holdings.{HoldAlike, held_at, with_cells}
 use Rattle.ecs_archetypes.specs.Housing.{holdings_of}
 use Rattle.ecs_archetypes.proofs.ArchetypeCalls.{found_lives, held_size, row_here}
-use Rattle.ecs_archetypes.proofs.Known.{same_kept}
+use Rattle.ecs_archetypes.proofs.KnownIds.{same_kept}
 use Rattle.ecs_archetypes.proofs.RowChanges.{alike_written, sound_written}
 use Rattle.ecs_archetypes.proofs.Soundness.{holdings, row_within}
-use Rattle.ecs_archetypes.proofs.Standing.{entered_alike}
+use Rattle.ecs_archetypes.proofs.EnteredTables.{entered_alike}
 use Rattle.ecs_archetypes.specs.Staying.{TablesStay, none_goes}
-use Rattle.ecs_archetypes.proofs.Staying.{stay_alike}
+use Rattle.ecs_archetypes.proofs.StandingTables.{stay_alike}
 use Rattle.ecs_archetypes.proofs.Archetypes.set_value.Goals as goal
 
 pub set_value-requires-clause-there : goal.set_value-requires-clause-there

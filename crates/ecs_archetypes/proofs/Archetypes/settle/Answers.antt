@@ -6,10 +6,10 @@ use Rattle.ecs_archetypes.specs.Holdings.{KeepsSizes}
 use Rattle.ecs_archetypes.specs.Housing.{holdings_of}
 use Rattle.ecs_archetypes.proofs.Soundness.{alike_same, holdings, sound_same}
 use Rattle.ecs_archetypes.proofs.ArchetypeCalls.{alike_with, unsettled_nowhere}
-use Rattle.ecs_archetypes.proofs.Known.{KeepsSizes-then, same_kept}
-use Rattle.ecs_archetypes.proofs.Standing.{entered_alike, goes_on_alike}
+use Rattle.ecs_archetypes.proofs.KnownIds.{KeepsSizes-then, same_kept}
+use Rattle.ecs_archetypes.proofs.EnteredTables.{entered_alike, goes_on_alike}
 use Rattle.ecs_archetypes.specs.Staying.{TablesStay, none_goes}
-use Rattle.ecs_archetypes.proofs.Staying.{stay_grown, stay_moved}
+use Rattle.ecs_archetypes.proofs.StandingTables.{stay_grown, stay_moved}
 use Rattle.ecs_archetypes.proofs.Archetypes.settle.Goals as goal
 
 pub returns-in_err-key-clause-holdings : goal.returns-in_err-key-clause-holdings

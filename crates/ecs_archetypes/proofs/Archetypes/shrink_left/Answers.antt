@@ -1,5 +1,5 @@
 -- Each table that gives memory back stands with its rows.
-use Rattle.ecs_archetypes.proofs.Moving.{shrunk_more}
+use Rattle.ecs_archetypes.proofs.TableMoves.{shrunk_more}
 use Rattle.ecs_archetypes.proofs.Archetypes.shrink_left.Goals as goal
 
 pub loop-one-preserved : goal.loop-one-preserved

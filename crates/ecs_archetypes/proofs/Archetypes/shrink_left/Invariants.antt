@@ -1,4 +1,4 @@
-use Rattle.ecs_archetypes.proofs.Moving.{AreShrunk}
+use Rattle.ecs_archetypes.proofs.TableMoves.{AreShrunk}
 use Rattle.ecs_archetypes.proofs.Archetypes.shrink_left.Given as goal
 
 abbrev pub invariant-loop-one : goal.invariant-loop-one

@@ -1,6 +1,6 @@
 -- Each step takes the least id of those that come, go and are held.
 use Rattle.std.proofs.Common.{◌<◌, ◌≤◌, ◌++◌, ◌∷◌, [], ◌∙◌, length, arith, sym, ap}
-use Rattle.ecs_archetypes.proofs.Merging.{merged_coming, merged_going, merged_ok, merged_staying, merged_unheld}
+use Rattle.ecs_archetypes.proofs.MergedIds.{merged_coming, merged_going, merged_ok, merged_staying, merged_unheld}
 use Rattle.ecs_archetypes.proofs.fact_plan.merge_ids.Goals.{then-not-goes_first+in_ok-push_id, else-not-goes_first}
 use Rattle.ecs_archetypes.proofs.fact_plan.merge_ids.Goals as goal
 

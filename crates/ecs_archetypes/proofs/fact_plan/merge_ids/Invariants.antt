@@ -1,5 +1,5 @@
 use Rattle.std.proofs.Common.{◌+◌, ◌-◌, length}
-use Rattle.ecs_archetypes.proofs.Merging.{IsMerging}
+use Rattle.ecs_archetypes.proofs.MergedIds.{IsMerging}
 use Rattle.ecs_archetypes.proofs.fact_plan.merge_ids.Given as goal
 
 abbrev pub invariant-loop-place : goal.invariant-loop-place

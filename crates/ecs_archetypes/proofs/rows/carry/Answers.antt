@@ -3,8 +3,8 @@ use Rattle.std.proofs.Common.{◌≡◌, ◌∙◌, None, ap, option_map, rules,
 use Rattle.entity_index.specs.Entities.{is_alive}
 use Rattle.table_store.specs.Rows.{filler}
 use Rattle.ecs_archetypes.proofs.RowChanges.{alike_carried, filler_alive, places_alone, places_both, placed_carried, sound_carried}
-use Rattle.ecs_archetypes.proofs.Moving.{moved_room}
-use Rattle.ecs_archetypes.proofs.Known.{room_stands}
+use Rattle.ecs_archetypes.proofs.TableMoves.{moved_room}
+use Rattle.ecs_archetypes.proofs.KnownIds.{room_stands}
 use Rattle.ecs_archetypes.proofs.Soundness.{own_row, placed_alive, row_within, stands_there}
 use Rattle.ecs_archetypes.proofs.rows.carry.Goals as goal
 

@@ -1,6 +1,6 @@
 -- The table that lost the row keeps its rows when it gives memory back.
 use Rattle.std.proofs.Common.{◌∙◌}
-use Rattle.ecs_archetypes.proofs.Known.{shape_stands, shape_there}
+use Rattle.ecs_archetypes.proofs.KnownIds.{shape_stands, shape_there}
 use Rattle.ecs_archetypes.proofs.Soundness.{alike_then, own_row, row_stands}
 use Rattle.ecs_archetypes.proofs.rows.carry_alone.Goals as goal
 

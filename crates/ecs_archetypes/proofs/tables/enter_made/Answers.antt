@@ -2,8 +2,8 @@
 use Rattle.std.proofs.Common.{◌≡◌, ◌∙◌, Some, None, ap, option_map, sym}
 use Rattle.std.proofs.lemmas.Option.{MatchOption-at_some}
 use Rattle.table_store.specs.Store.{table_at}
-use Rattle.ecs_archetypes.proofs.Known.{released_kept}
-use Rattle.ecs_archetypes.proofs.Standing.{entered_made}
+use Rattle.ecs_archetypes.proofs.KnownIds.{released_kept}
+use Rattle.ecs_archetypes.proofs.EnteredTables.{entered_made}
 use Rattle.ecs_archetypes.proofs.tables.enter_made.Goals as goal
 
 pub returns-in_default-clause-sizes : goal.returns-in_default-clause-sizes

@@ -2,8 +2,8 @@
 use Rattle.std.proofs.Common.{◌∙◌, [], ap, sym}
 use Rattle.table_store.specs.Store.{shape_at, without_id}
 use Rattle.ecs_archetypes.specs.Archetypes.{known_in}
-use Rattle.ecs_archetypes.proofs.Known.{KeepsSizes-then, shape_stands, shape_there, shaped_self, narrower_kept}
-use Rattle.ecs_archetypes.proofs.Standing.{made_empty}
+use Rattle.ecs_archetypes.proofs.KnownIds.{KeepsSizes-then, shape_stands, shape_there, shaped_self, narrower_kept}
+use Rattle.ecs_archetypes.proofs.EnteredTables.{made_empty}
 use Rattle.ecs_archetypes.proofs.tables.entered_narrower.Goals as goal
 
 pub enter_made-requires-clause-stands : goal.enter_made-requires-clause-stands

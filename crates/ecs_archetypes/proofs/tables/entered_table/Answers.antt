@@ -1,7 +1,7 @@
 -- The table that is found or made is entered, and all tables keep their sizes.
 use Rattle.std.proofs.Common.{sym}
 use Rattle.ecs_archetypes.specs.Archetypes.{known_in}
-use Rattle.ecs_archetypes.proofs.Known.{KeepsSizes-then, all_small, have_sizes, made_kept}
+use Rattle.ecs_archetypes.proofs.KnownIds.{KeepsSizes-then, all_small, have_sizes, made_kept}
 use Rattle.ecs_archetypes.proofs.tables.entered_table.Goals as goal
 
 pub find_or_make-requires-clause-small : goal.find_or_make-requires-clause-small

@@ -2,8 +2,8 @@
 use Rattle.std.proofs.Common.{◌∙◌, ◌∷◌, [], ap, sym}
 use Rattle.table_store.specs.Store.{shape_at, with_id}
 use Rattle.ecs_archetypes.specs.Archetypes.{known_in}
-use Rattle.ecs_archetypes.proofs.Known.{KeepsSizes-then, has_size, shape_stands, shape_there, shaped_self, wider_kept}
-use Rattle.ecs_archetypes.proofs.Standing.{made_empty}
+use Rattle.ecs_archetypes.proofs.KnownIds.{KeepsSizes-then, has_size, shape_stands, shape_there, shaped_self, wider_kept}
+use Rattle.ecs_archetypes.proofs.EnteredTables.{made_empty}
 use Rattle.ecs_archetypes.proofs.tables.entered_wider.Goals as goal
 
 pub with-requires-clause-sizes : goal.with-requires-clause-sizes

@@ -2,8 +2,8 @@
 use Rattle.std.proofs.Common.{◌∙◌, []}
 use Rattle.table_store.specs.Store.{without_id}
 use Rattle.ecs_archetypes.specs.Archetypes.{known_in}
-use Rattle.ecs_archetypes.proofs.Known.{KeepsSizes-then, room_made, same_kept, shape_stands, shape_there}
-use Rattle.ecs_archetypes.proofs.Standing.{grown_reserved, grown_then}
+use Rattle.ecs_archetypes.proofs.KnownIds.{KeepsSizes-then, room_made, same_kept, shape_stands, shape_there}
+use Rattle.ecs_archetypes.proofs.EnteredTables.{grown_reserved, grown_then}
 use Rattle.ecs_archetypes.proofs.tables.narrower.Goals as goal
 
 pub reserve-requires : goal.reserve-requires

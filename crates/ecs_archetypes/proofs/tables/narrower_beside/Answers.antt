@@ -2,8 +2,8 @@
 use Rattle.std.proofs.Common.{◌∙◌, [], arith, refl}
 use Rattle.table_store.specs.Store.{without_id}
 use Rattle.ecs_archetypes.specs.Archetypes.{known_in}
-use Rattle.ecs_archetypes.proofs.Known.{KeepsSizes-then, same_kept, shape_stands, shape_there}
-use Rattle.ecs_archetypes.proofs.Standing.{grown_reserved, grown_then, room_reserved}
+use Rattle.ecs_archetypes.proofs.KnownIds.{KeepsSizes-then, same_kept, shape_stands, shape_there}
+use Rattle.ecs_archetypes.proofs.EnteredTables.{grown_reserved, grown_then, room_reserved}
 use Rattle.ecs_archetypes.proofs.tables.narrower_beside.Goals as goal
 
 pub reserve-requires : goal.reserve-requires

@@ -1,6 +1,6 @@
 -- All tables keep their sizes where one gets room.
 use Rattle.ecs_archetypes.specs.Archetypes.{known_in}
-use Rattle.ecs_archetypes.proofs.Known.{KeepsSizes-then, same_kept}
+use Rattle.ecs_archetypes.proofs.KnownIds.{KeepsSizes-then, same_kept}
 use Rattle.ecs_archetypes.proofs.tables.table_beside.Goals as goal
 
 pub returns-clause-sizes : goal.returns-clause-sizes

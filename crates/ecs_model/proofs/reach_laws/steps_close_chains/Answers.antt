@@ -1,4 +1,4 @@
-use Rattle.ecs_model.proofs.Closing.{steps_close_chains}
+use Rattle.ecs_model.proofs.ClosedChains.{steps_close_chains}
 use Rattle.ecs_model.proofs.reach_laws.steps_close_chains.Goals as goal
 
 pub returns : goal.returns

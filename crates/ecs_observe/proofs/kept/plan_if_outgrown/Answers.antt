@@ -5,9 +5,9 @@ use Rattle.query_model.specs.Query.{Query}
 use Rattle.query_plan.specs.Plans.{Plan}
 use Rattle.world_facts.specs.Kept.{AreTablesOf}
 use Rattle.world_query.specs.Planned.{IsPlannedForKept}
-use Rattle.stored_queries.specs.Held.{IsFitting, IsOutgrown}
+use Rattle.watch_stored.specs.Held.{IsFitting, IsOutgrown}
 use Rattle.ecs_observe.specs.Following.{IsPlannedNow}
-use Rattle.ecs_observe.proofs.Synced.{follows_itself, follows_sync}
+use Rattle.ecs_observe.proofs.TableSyncs.{follows_itself, follows_sync}
 use Rattle.ecs_observe.proofs.kept.plan_if_outgrown.Goals as goal
 
 pub sync-requires : goal.sync-requires

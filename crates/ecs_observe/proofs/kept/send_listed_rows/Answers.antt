@@ -12,10 +12,10 @@ use Rattle.world_query.specs.Answerable.{IsAnswerable}
 use Rattle.world_query.specs.Lines.{lines_of_rows}
 use Rattle.world_query.specs.Probes.{StaysInTables}
 use Rattle.world_query.specs.Sent.{HoldsAtFault, StopsSending}
-use Rattle.world_query.proofs.Sent.{calm_ok, calm_still, fails_same, fault_memory, fault_same, stops_here}
-use Rattle.stored_queries.proofs.Answering.{asked_is_sound, current_answerable}
+use Rattle.world_query.proofs.SentTexts.{calm_ok, calm_still, fails_same, fault_memory, fault_same, stops_here}
+use Rattle.watch_stored.proofs.AnswerableQueries.{asked_is_sound, current_answerable}
 use Rattle.ecs_observe.specs.Following.{IsUpToDate}
-use Rattle.ecs_observe.proofs.Synced.{follows_again}
+use Rattle.ecs_observe.proofs.TableSyncs.{follows_again}
 use Rattle.ecs_observe.proofs.kept.send_listed_rows.Goals as goal
 
 pub plan_if_outgrown-requires-clause-sound : goal.plan_if_outgrown-requires-clause-sound

@@ -3,11 +3,11 @@ use Rattle.std.proofs.Common.{[], ◌≤◌, append-nil, arith, length, refl, su
 use Rattle.std.specs.Prelude.{codes, max}
 use Rattle.ecs_model.specs.rows.Text.{rows_text}
 use Rattle.ecs_model.specs.rows.View.{view_of}
-use Rattle.query_answers.proofs.Shown.{none_in_order}
+use Rattle.query_answers.proofs.ShownRows.{none_in_order}
 use Rattle.ecs_print.proofs.Stops.{on_err_anyway, stops_before, stops_same}
 use Rattle.world_query.specs.Sent.{IsSent, StopsSending}
 use Rattle.world_query.proofs.RowLines.{none_among}
-use Rattle.world_query.proofs.Sent.{calm_ok, calm_still, fails_same, fault_anyway, fault_memory, sent_here, sent_then, stops_here, stops_then}
+use Rattle.world_query.proofs.SentTexts.{calm_ok, calm_still, fails_same, fault_anyway, fault_memory, sent_here, sent_then, stops_here, stops_then}
 use Rattle.ecs_observe.proofs.NoRows.{no_lines}
 use Rattle.ecs_observe.proofs.kept.send_rows_from.Goals as goal
 

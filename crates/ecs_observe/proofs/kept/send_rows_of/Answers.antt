@@ -1,9 +1,9 @@
 use Rattle.std.specs.Prelude.{is_some}
 use Rattle.std.proofs.Common.{ap, inl, inr, refl, subst, sym, ◌∙◌}
 use Rattle.query_model.specs.Query.{Query}
-use Rattle.stored_queries.specs.Lists.{IsListOf}
-use Rattle.ecs_observe.proofs.Listed.{its_list, kept_kind, not_kept}
-use Rattle.ecs_observe.proofs.Sending.{fails_unsent, refused_calm, sends_stopped, sent_calm}
+use Rattle.watch_stored.specs.Lists.{IsListOf}
+use Rattle.ecs_observe.proofs.KeptLists.{its_list, kept_kind, not_kept}
+use Rattle.ecs_observe.proofs.SentRows.{fails_unsent, refused_calm, sends_stopped, sent_calm}
 use Rattle.ecs_observe.proofs.kept.send_rows_of.Goals as goal
 
 pub returns-in_default-clause-rows : goal.returns-in_default-clause-rows

@@ -1,8 +1,8 @@
 use Rattle.std.specs.Prelude.{is_some}
 use Rattle.std.proofs.Common.{ap, inl, inr, refl, sym, ◌∙◌}
 use Rattle.std.proofs.lemmas.Result.{err_from_is_err_and}
-use Rattle.ecs_observe.proofs.Listed.{its_list, kept_kind, not_kept}
-use Rattle.ecs_observe.proofs.Synced.{follows_sync}
+use Rattle.ecs_observe.proofs.KeptLists.{its_list, kept_kind, not_kept}
+use Rattle.ecs_observe.proofs.TableSyncs.{follows_sync}
 use Rattle.ecs_observe.proofs.kept.sync_list_of.Goals as goal
 
 pub returns-in_default-clause-synced : goal.returns-in_default-clause-synced

@@ -1,6 +1,6 @@
 use Rattle.std.proofs.Common.{false, ◌∙◌, arith}
 use Rattle.query_model.specs.declared.query.Mention.{Mention}
-use Rattle.ecs_observe.proofs.Counted.{one_more_pinned}
+use Rattle.ecs_observe.proofs.MentionCounts.{one_more_pinned}
 use Rattle.ecs_observe.proofs.pinning.pin_all.Goals as goal
 
 -- what stands for an item where there is none

@@ -1,7 +1,7 @@
 use Rattle.std.proofs.Common.{ap, sym, ◌∙◌}
 use Rattle.ecs_observe.specs.Parts.{with_all_kept}
 use Rattle.ecs_observe.specs.Stored.{entries_of}
-use Rattle.ecs_observe.proofs.Retold.{placed_more}
+use Rattle.ecs_observe.proofs.EventEffects.{placed_more}
 use Rattle.ecs_observe.proofs.telling.put_rows.Goals as goal
 
 pub loop-place-preserved : goal.loop-place-preserved

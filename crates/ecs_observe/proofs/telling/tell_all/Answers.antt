@@ -3,16 +3,16 @@ use Rattle.std.specs.Prelude.{flat_map, is_some}
 use Rattle.std.specs.String.{string_bytes}
 use Rattle.std.proofs.Common.{◌+◌, ◌<◌, ◌≤◌, ◌∙◌, ◌++◌, ap, arith, get_or, length, map, refl, subst, sym, true≢false}
 use Rattle.std.proofs.lemmas.List.{length-map, take_all}
-use Rattle.stored_queries.specs.Parts.{held_as, put_in}
+use Rattle.watch_stored.specs.Parts.{held_as, put_in}
 use Rattle.ecs_observe.specs.Parts.{held_of}
-use Rattle.stored_queries.specs.Held.{IsHeld, WasNow, is_searched, is_taken_whole, rows_put, told_to}
-use Rattle.stored_queries.proofs.Staying.{unput_isnt_taken}
+use Rattle.watch_stored.specs.Held.{IsHeld, WasNow, is_searched, is_taken_whole, rows_put, told_to}
+use Rattle.watch_stored.proofs.StayingRows.{unput_isnt_taken}
 use Rattle.ecs_observe.specs.Stored.{entries_of}
-use Rattle.ecs_observe.proofs.Counting.{AreDoneUpTo, all_counted, all_taken, none_done, one_more}
-use Rattle.ecs_observe.proofs.Locally.{none_at, one_told_locally}
-use Rattle.ecs_observe.proofs.Retold.{ArePlacedUpTo, all_at, all_placed, held_at, none_put_there, none_yet, one_placed}
-use Rattle.ecs_observe.proofs.Skipped.{begin, put_here, told_all, told_none}
-use Rattle.ecs_observe.proofs.Untold.{others_silent}
+use Rattle.ecs_observe.proofs.ComparedCounts.{AreDoneUpTo, all_counted, all_taken, none_done, one_more}
+use Rattle.ecs_observe.proofs.LocalMonitors.{none_at, one_told_locally}
+use Rattle.ecs_observe.proofs.EventEffects.{ArePlacedUpTo, all_at, all_placed, held_at, none_put_there, none_yet, one_placed}
+use Rattle.ecs_observe.proofs.PassedPlaces.{begin, put_here, told_all, told_none}
+use Rattle.ecs_observe.proofs.UnconcernedQueries.{others_silent}
 use Rattle.ecs_observe.proofs.telling.tell_all.Goals as goal
 use Rattle.ecs_observe.proofs.telling.tell_all.Goals.{in-Some+in_ok-now+in-Some-now+in_ok-push, in-Some+in_ok-now+in_default-now, in_default}
 

@@ -1,10 +1,10 @@
 use Rattle.std.proofs.Common.{◌≡◌, ◌≤◌, false, map}
 use Rattle.std.specs.List.{list_any}
 use Rattle.ecs_observe.specs.Parts.{held_of}
-use Rattle.stored_queries.specs.Held.{is_searched, is_taken_whole, rows_put, told_to}
+use Rattle.watch_stored.specs.Held.{is_searched, is_taken_whole, rows_put, told_to}
 use Rattle.ecs_observe.specs.Stored.{entries_of}
-use Rattle.ecs_observe.proofs.Counting.{AreDoneUpTo}
-use Rattle.ecs_observe.proofs.Skipped.{AreToldTo}
+use Rattle.ecs_observe.proofs.ComparedCounts.{AreDoneUpTo}
+use Rattle.ecs_observe.proofs.PassedPlaces.{AreToldTo}
 use Rattle.ecs_observe.proofs.telling.tell_all.Given as goal
 
 abbrev pub invariant-loop-place : goal.invariant-loop-place

@@ -1,5 +1,5 @@
 use Rattle.ecs_observe.specs.Stored.{entries_of}
-use Rattle.ecs_observe.proofs.Nobody.{nobody_put, nobody_taken, nobody_told}
+use Rattle.ecs_observe.proofs.UntoldCommands.{nobody_put, nobody_taken, nobody_told}
 use Rattle.std.proofs.Common.{◌∙◌, ap, arith, length, sym}
 use Rattle.std.proofs.lemmas.Bool.Decides.{Decides-eqb}
 use Rattle.ecs_observe.proofs.telling.tell_led.Goals as goal

@@ -5,7 +5,7 @@ use Rattle.std.specs.Prelude.{flat_map}
 use Rattle.std.proofs.lemmas.Int.{to_z-of_z}
 use Rattle.std.proofs.lemmas.List.{drop-set}
 use Rattle.ecs_model.specs.Bytes.{values_in}
-use Rattle.ecs_schema.proofs.Meaning.{length-values_in}
+use Rattle.ecs_schema.proofs.UnwrittenBytes.{length-values_in}
 use Rattle.ecs_print.specs.Values.{behind_comma}
 use Rattle.ecs_print.proofs.Fields.{number_before, number_fits, value_written}
 use Rattle.ecs_print.proofs.facts.put_fields.Goals as goal

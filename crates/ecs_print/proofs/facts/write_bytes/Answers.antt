@@ -4,7 +4,7 @@ use Rattle.std.proofs.lemmas.Bool.Decides.{nat_tests}
 use Rattle.std.specs.Prelude.{codes}
 use Rattle.ecs_print.specs.Values.{ended_text}
 use Rattle.ecs_print.proofs.Fields.{appended}
-use Rattle.ecs_print.proofs.Held.{nothing_printed}
+use Rattle.ecs_print.proofs.HeldFacts.{nothing_printed}
 use Rattle.ecs_print.proofs.facts.write_bytes.Goals as goal
 
 pub returns-then-is_empty : goal.returns-then-is_empty

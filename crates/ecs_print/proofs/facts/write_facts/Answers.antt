@@ -1,7 +1,7 @@
 -- A fact more at each turn.
 use Rattle.ecs_model.proofs.Maps.{of_some}
 use Rattle.ecs_world.specs.State.{AreFactsOf}
-use Rattle.ecs_print.proofs.Held.{fact_more}
+use Rattle.ecs_print.proofs.HeldFacts.{fact_more}
 use Rattle.ecs_print.proofs.facts.write_facts.Goals as goal
 
 pub loop-place-preserved : goal.loop-place-preserved

@@ -1,6 +1,6 @@
 use Rattle.std.proofs.Common.{◌≡◌, ◌∙◌, ap, rules}
 use Rattle.ecs_model.specs.Bytes.{value_bytes, values_in}
-use Rattle.ecs_schema.proofs.Packed.{values_in-value_bytes}
+use Rattle.ecs_schema.proofs.NumberPlaces.{values_in-value_bytes}
 use Rattle.ecs_schema.proofs.Schema.encode.Goals as goal
 
 pub returns-clause-read_back : goal.returns-clause-read_back

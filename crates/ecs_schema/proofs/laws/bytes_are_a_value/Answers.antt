@@ -1,4 +1,4 @@
-use Rattle.ecs_schema.proofs.Meaning.{length-values_in, all_fit-values_in}
+use Rattle.ecs_schema.proofs.UnwrittenBytes.{length-values_in, all_fit-values_in}
 use Rattle.ecs_schema.proofs.laws.bytes_are_a_value.Goals as goal
 
 pub returns : goal.returns

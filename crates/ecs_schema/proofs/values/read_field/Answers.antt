@@ -1,4 +1,4 @@
-use Rattle.ecs_schema.proofs.Packed.{slice_get-read}
+use Rattle.ecs_schema.proofs.NumberPlaces.{slice_get-read}
 use Rattle.ecs_schema.proofs.values.read_field.Goals as goal
 
 pub returns : goal.returns

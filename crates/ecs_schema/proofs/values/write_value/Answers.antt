@@ -7,7 +7,7 @@ use Rattle.std.proofs.lemmas.List.{length_push}
 use Rattle.std.proofs.lemmas.Slice.Zip.{zip_turn, zip_end}
 use Rattle.ecs_model.specs.Schema.{width}
 use Rattle.ecs_model.specs.Bytes.{number_bytes}
-use Rattle.ecs_schema.proofs.Packed.{all_fit-at, size_of-more, size_of-more-le, value_bytes-whole, value_bytes-written}
+use Rattle.ecs_schema.proofs.NumberPlaces.{all_fit-at, size_of-more, size_of-more-le, value_bytes-whole, value_bytes-written}
 use Rattle.ecs_schema.proofs.values.write_value.Goals as goal
 
 pub slice_bounds-write_number-end : goal.slice_bounds-write_number-end

@@ -7,15 +7,15 @@ use Rattle.ecs_model.specs.World.{entities}
 use Rattle.ecs_model.specs.traits.Changes.{facts_after_add}
 use Rattle.ecs_model.specs.traits.Command.{Add, add_reasons, reasons}
 use Rattle.ecs_model.specs.traits.Keeps.{IsWellFormed}
-use Rattle.fact_rules.specs.Additions.{is_of_built_in}
+use Rattle.rel_traits.specs.Additions.{is_of_built_in}
 use Rattle.rel_traits.specs.FactLists.{IsOfLive}
-use Rattle.ecs_world.proofs.Accepted.{on_ok}
-use Rattle.ecs_model.proofs.Answering.{answers_refused}
-use Rattle.ecs_world.proofs.Counting.{counted_state, counted_world}
+use Rattle.ecs_world.proofs.AcceptedCommands.{on_ok}
+use Rattle.ecs_model.proofs.StepAnswers.{answers_refused}
+use Rattle.ecs_world.proofs.CommandCounts.{counted_state, counted_world}
 use Rattle.ecs_world.proofs.FirstReasons.{add_of_dead, add_otherwise, add_to_built_in}
-use Rattle.ecs_world.proofs.Forgotten.{added_stay, going_to}
-use Rattle.ecs_world.proofs.Left.{effect-add}
-use Rattle.ecs_world.proofs.Refusing.{entity_dead, mention_dead, not_dead}
+use Rattle.ecs_world.proofs.ForgottenTables.{added_stay, going_to}
+use Rattle.ecs_world.proofs.CommandEffects.{effect-add}
+use Rattle.ecs_world.proofs.RefusalReasons.{entity_dead, mention_dead, not_dead}
 use Rattle.ecs_world.proofs.Standings.{state_is}
 use Rattle.ecs_world.proofs.ToldAdditions.{addition_told}
 use Rattle.ecs_world.proofs.World.add_all.Goals.{then-not-is_alive-via-then-not-is_alive, then-not-is_alive-via-else-not-is_alive+then-not-mentions_live}

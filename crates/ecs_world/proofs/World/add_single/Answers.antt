@@ -5,15 +5,15 @@ use Rattle.ecs_model.specs.Command.{with_facts}
 use Rattle.ecs_model.specs.traits.Command.{Add}
 use Rattle.ecs_model.specs.traits.Keeps.{IsWellFormed}
 use Rattle.ecs_model.proofs.Additions.{not_spent}
-use Rattle.ecs_model.proofs.Answering.{step-refused}
+use Rattle.ecs_model.proofs.StepAnswers.{step-refused}
 use Rattle.ecs_archetypes.specs.Staying.{none_goes, stay_same}
 use Rattle.table_store.specs.Going.{goes_on_same}
 use Rattle.ecs_world.specs.State.{no_change}
-use Rattle.ecs_world.proofs.Accepted.{added_left, counted_left, failed, fits_there, found_count, found_dead, found_held, on_err, on_ok, size_there}
-use Rattle.ecs_world.proofs.Judged.{judged-add}
-use Rattle.ecs_world.proofs.Left.{effect-add, facts_held}
-use Rattle.ecs_world.proofs.Refusing.{add_dead, entity_dead}
-use Rattle.ecs_world.proofs.Told.{told_add}
+use Rattle.ecs_world.proofs.AcceptedCommands.{added_left, counted_left, failed, fits_there, found_count, found_dead, found_held, on_err, on_ok, size_there}
+use Rattle.ecs_world.proofs.JudgedCommands.{judged-add}
+use Rattle.ecs_world.proofs.CommandEffects.{effect-add, facts_held}
+use Rattle.ecs_world.proofs.RefusalReasons.{add_dead, entity_dead}
+use Rattle.ecs_world.proofs.ToldChanges.{told_add}
 use Rattle.ecs_world.proofs.Standings.{going_on, state_is, staying_on}
 use Rattle.ecs_world.proofs.World.add_single.Goals as goal
 

@@ -1,4 +1,4 @@
-use Rattle.ecs_world.proofs.Seen.{alive_shown, has_counts, linked, mentioned_shown, sees}
+use Rattle.ecs_world.proofs.SeenGraph.{alive_shown, has_counts, linked, mentioned_shown, sees}
 use Rattle.ecs_world.proofs.Standings.{state_is}
 use Rattle.ecs_world.proofs.World.addition_refusal.Goals as goal
 

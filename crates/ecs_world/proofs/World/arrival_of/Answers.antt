@@ -1,7 +1,7 @@
 use Rattle.std.proofs.Common.{sym, ap, subst, ◌∙◌}
-use Rattle.ecs_links.specs.Linked.{ids_at_index}
+use Rattle.ecs_archetypes.specs.Linked.{ids_at_index}
 use Rattle.ecs_model.specs.World.{ids_of}
-use Rattle.fact_rules.specs.Simple.{Arrives}
+use Rattle.rel_traits.specs.Simple.{Arrives}
 use Rattle.ecs_world.proofs.World.arrival_of.Goals as goal
 
 pub returns-then-plain_comes_alone : goal.returns-then-plain_comes_alone

@@ -1,9 +1,9 @@
 use Rattle.std.proofs.Common.{sym, ap, ◌∙◌}
 use Rattle.ecs_model.specs.Command.{with_facts}
 use Rattle.ecs_model.proofs.traits.Copies.{facts_brought}
-use Rattle.ecs_world.proofs.Brought.{unbased}
+use Rattle.ecs_world.proofs.AdditionEffects.{unbased}
 use Rattle.ecs_archetypes.specs.Staying.{stay_all, stay_then}
-use Rattle.ecs_world.proofs.Copied.{copies_left, copies_may}
+use Rattle.ecs_world.proofs.BaseCopies.{copies_left, copies_may}
 use Rattle.ecs_world.proofs.World.bring.Goals as goal
 
 pub write_copies-requires : goal.write_copies-requires

@@ -4,8 +4,8 @@ use Rattle.ecs_archetypes.specs.Housing.{holdings_of}
 use Rattle.ecs_archetypes.specs.Staying.{TablesStay, stay_all, stay_then}
 use Rattle.ecs_world.specs.Changes.{sized_by}
 use Rattle.ecs_world.specs.Releases.{gets_no_data}
-use Rattle.ecs_world.proofs.Brought.{all_agree, all_settled, came_ascend, listed, none_held, state_brought, state_kept, untagged, went_ascend, world_brought, world_kept}
-use Rattle.ecs_world.proofs.Changed.{alike_then, when_err}
+use Rattle.ecs_world.proofs.AdditionEffects.{all_agree, all_settled, came_ascend, listed, none_held, state_brought, state_kept, untagged, went_ascend, world_brought, world_kept}
+use Rattle.ecs_world.proofs.ChangedWorlds.{alike_then, when_err}
 use Rattle.ecs_world.proofs.Standings.{state_is, staying_on}
 use Rattle.ecs_world.proofs.World.bring_new.Goals as goal
 

@@ -2,9 +2,9 @@ use Rattle.std.proofs.Common.{◌||◌, refl, subst, sym, ◌∙◌}
 use Rattle.std.specs.List.{list_any}
 use Rattle.ecs_archetypes.specs.Housing.{holdings_of}
 use Rattle.ecs_archetypes.specs.Staying.{TablesStay, stay_all, stay_then}
-use Rattle.ecs_archetypes.proofs.Moving.{alike_then}
+use Rattle.ecs_archetypes.proofs.TableMoves.{alike_then}
 use Rattle.ecs_world.specs.Releases.{mentions_one}
-use Rattle.ecs_world.proofs.Buried.{buried_is, dead_can_go, losing_rise, losing_settled, none_rise, unburied, unheld, whatever}
+use Rattle.ecs_world.proofs.DeletionEffects.{buried_is, dead_can_go, losing_rise, losing_settled, none_rise, unburied, unheld, whatever}
 use Rattle.ecs_world.proofs.Standings.{state_is, staying_on}
 use Rattle.ecs_world.proofs.World.bury.Goals as goal
 

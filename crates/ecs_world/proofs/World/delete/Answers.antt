@@ -8,11 +8,11 @@ use Rattle.ecs_model.specs.traits.Command.{Delete, reasons, without_entities}
 use Rattle.ecs_model.specs.traits.Keeps.{IsWellFormed}
 use Rattle.ecs_world.specs.Changes.{deaths_of}
 use Rattle.ecs_archetypes.specs.Staying.{stay_all}
-use Rattle.ecs_world.proofs.Accepted.{on_err, on_ok}
-use Rattle.ecs_model.proofs.Answering.{answers_refused}
-use Rattle.ecs_world.proofs.Counting.{counted_state, counted_world}
+use Rattle.ecs_world.proofs.AcceptedCommands.{on_err, on_ok}
+use Rattle.ecs_model.proofs.StepAnswers.{answers_refused}
+use Rattle.ecs_world.proofs.CommandCounts.{counted_state, counted_world}
 use Rattle.ecs_world.proofs.FirstReasons.{answers_undeleted, delete_of_built_in, delete_of_dead, delete_otherwise}
-use Rattle.ecs_world.proofs.Forgotten.{deleted_stay, going_to}
+use Rattle.ecs_world.proofs.ForgottenTables.{deleted_stay, going_to}
 use Rattle.ecs_world.proofs.Standings.{state_is}
 use Rattle.ecs_world.proofs.ToldDeletions.{deletion_told, effect-delete}
 use Rattle.ecs_world.proofs.World.delete.Goals as goal

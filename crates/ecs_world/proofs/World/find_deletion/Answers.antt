@@ -1,6 +1,6 @@
 use Rattle.std.proofs.Common.{sym, ◌∙◌}
-use Rattle.ecs_world.proofs.Accepted.{on_ok}
-use Rattle.ecs_world.proofs.Seen.{alive_shown, has_counts, linked, sees}
+use Rattle.ecs_world.proofs.AcceptedCommands.{on_ok}
+use Rattle.ecs_world.proofs.SeenGraph.{alive_shown, has_counts, linked, sees}
 use Rattle.ecs_world.proofs.Standings.{state_is}
 use Rattle.ecs_world.proofs.World.find_deletion.Goals as goal
 

@@ -1,9 +1,9 @@
 use Rattle.std.proofs.Common.{refl, sym, ◌∙◌}
 use Rattle.ecs_model.specs.traits.Command.{Fresh}
-use Rattle.ecs_model.proofs.Answering.{step-refused}
+use Rattle.ecs_model.proofs.StepAnswers.{step-refused}
 use Rattle.ecs_archetypes.specs.Staying.{none_goes, stay_same}
 use Rattle.table_store.specs.Going.{goes_on_same}
-use Rattle.ecs_world.proofs.Judged.{fresh_refusal}
+use Rattle.ecs_world.proofs.JudgedCommands.{fresh_refusal}
 use Rattle.ecs_world.proofs.World.fresh.Goals as goal
 
 pub returns-in-Some-clause-answers : goal.returns-in-Some-clause-answers

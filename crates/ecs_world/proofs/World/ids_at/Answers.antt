@@ -1,6 +1,6 @@
 use Rattle.std.proofs.Common.{ap, sym, ◌∙◌}
 use Rattle.std.specs.Option.{option_copied}
-use Rattle.ecs_world.proofs.Seen.{these_there, no_ids_there, none_there}
+use Rattle.ecs_world.proofs.SeenGraph.{these_there, no_ids_there, none_there}
 use Rattle.ecs_world.proofs.States.{ids_told}
 use Rattle.ecs_world.proofs.Standings.{state_is}
 use Rattle.ecs_world.proofs.World.ids_at.Goals as goal

@@ -1,7 +1,7 @@
 use Rattle.std.proofs.Common.{None, Some, sym, ◌∙◌}
 use Rattle.std.proofs.lemmas.Result.{err_from_is_err_and}
-use Rattle.ecs_world.proofs.Refusing.{growth_told, mention_dead, not_dead, set_built_in, set_dead, set_grown, set_valued}
-use Rattle.ecs_world.proofs.Simple.{built_in_alone}
+use Rattle.ecs_world.proofs.RefusalReasons.{growth_told, mention_dead, not_dead, set_built_in, set_dead, set_grown, set_valued}
+use Rattle.ecs_world.proofs.SimpleFacts.{built_in_alone}
 use Rattle.ecs_world.proofs.World.judge_single.Goals as goal
 
 pub returns-then-not-mentions_live-clause-refused : goal.returns-then-not-mentions_live-clause-refused

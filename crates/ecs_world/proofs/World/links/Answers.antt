@@ -1,4 +1,4 @@
-use Rattle.ecs_world.proofs.Seen.{linked}
+use Rattle.ecs_world.proofs.SeenGraph.{linked}
 use Rattle.ecs_world.proofs.Standings.{links_told}
 use Rattle.ecs_world.proofs.World.links.Goals as goal
 

@@ -1,6 +1,6 @@
 use Rattle.std.proofs.Common.{sym, ◌∙◌}
-use Rattle.ecs_world.proofs.Accepted.{on_ok}
-use Rattle.ecs_world.proofs.Seen.{alive_shown, linked, mentioned_shown, sees}
+use Rattle.ecs_world.proofs.AcceptedCommands.{on_ok}
+use Rattle.ecs_world.proofs.SeenGraph.{alive_shown, linked, mentioned_shown, sees}
 use Rattle.ecs_world.proofs.Standings.{state_is}
 use Rattle.ecs_world.proofs.World.list_additions.Goals as goal
 

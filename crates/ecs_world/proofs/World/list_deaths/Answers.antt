@@ -2,7 +2,7 @@ use Rattle.std.proofs.Common.{◌≡◌, sym, ap, ◌∙◌, ◌++◌, [], ◌�
 use Rattle.std.specs.Option.{option_copied}
 use Rattle.std.specs.String.{string_bytes}
 use Rattle.ecs_model.specs.World.{name_of}
-use Rattle.ecs_world.proofs.Listed.{at_index, deaths_more, deaths_same, pushed}
+use Rattle.ecs_world.proofs.DeathLists.{at_index, deaths_more, deaths_same, pushed}
 use Rattle.ecs_world.proofs.World.list_deaths.Goals as goal
 use Rattle.ecs_world.proofs.World.list_deaths.Goals.{in-Some+else-is_err, in_default, in-None, in-Some-name_of+in_ok-owned-in-Some-name_of}
 

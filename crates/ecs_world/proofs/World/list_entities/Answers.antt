@@ -1,5 +1,5 @@
 use Rattle.std.proofs.Common.{sym, ap, ◌∙◌, ◌++◌, [], ◌∷◌, Some}
-use Rattle.ecs_world.proofs.Listed.{entities_more, entities_same, pushed}
+use Rattle.ecs_world.proofs.DeathLists.{entities_more, entities_same, pushed}
 use Rattle.ecs_world.proofs.World.list_entities.Goals as goal
 use Rattle.ecs_world.proofs.World.list_entities.Goals.{in-Some+else-is_err, in_default}
 

@@ -4,9 +4,9 @@ use Rattle.ecs_id.specs.Id.{Id}
 use Rattle.ecs_model.specs.Map.{keys}
 use Rattle.ecs_model.specs.World.{Key, WorldState, key_eq}
 use Rattle.ecs_model.specs.traits.Changes.{removed}
-use Rattle.fact_rules.specs.Sees.{Sees}
-use Rattle.ecs_world.proofs.Accepted.{on_ok}
-use Rattle.ecs_world.proofs.Seen.{linked, sees}
+use Rattle.rel_traits.specs.Sees.{Sees}
+use Rattle.ecs_world.proofs.AcceptedCommands.{on_ok}
+use Rattle.ecs_world.proofs.SeenGraph.{linked, sees}
 use Rattle.ecs_world.proofs.Standings.{state_is}
 use Rattle.ecs_world.proofs.World.list_removals.Goals as goal
 

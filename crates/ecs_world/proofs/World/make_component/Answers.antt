@@ -9,13 +9,13 @@ use Rattle.ecs_archetypes.specs.Holdings.{HoldAlike, upcoming, with_cells, with_
 use Rattle.ecs_archetypes.specs.Staying.{none_goes, stay_same}
 use Rattle.table_store.specs.Going.{goes_on_same}
 use Rattle.ecs_world.specs.State.{birth}
-use Rattle.ecs_world.proofs.Accepted.{component_agrees, component_fits, component_left, failed, kept, made_is, next_of, next_plain, next_some, next_unnamed, on_err, on_ok, unchanged}
-use Rattle.ecs_world.proofs.Bound.{none_component, unbound_component}
-use Rattle.ecs_world.proofs.Judged.{births}
+use Rattle.ecs_world.proofs.AcceptedCommands.{component_agrees, component_fits, component_left, failed, kept, made_is, next_of, next_plain, next_some, next_unnamed, on_err, on_ok, unchanged}
+use Rattle.ecs_world.proofs.NameReasons.{none_component, unbound_component}
+use Rattle.ecs_world.proofs.JudgedCommands.{births}
 use Rattle.ecs_world.proofs.NameLists.{freed}
-use Rattle.ecs_world.proofs.Ordered.{insert_put, removed_again}
-use Rattle.ecs_world.proofs.Pinned.{further}
-use Rattle.ecs_world.proofs.Told.{told_component}
+use Rattle.ecs_world.proofs.OrderedMaps.{insert_put, removed_again}
+use Rattle.ecs_world.proofs.PinChanges.{further}
+use Rattle.ecs_world.proofs.ToldChanges.{told_component}
 use Rattle.ecs_world.proofs.Standings.{going_on, state_is, staying_on}
 use Rattle.ecs_world.proofs.World.make_component.Goals as goal
 

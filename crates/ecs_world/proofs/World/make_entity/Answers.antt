@@ -5,12 +5,12 @@ use Rattle.ecs_model.proofs.Additions.{not_spent}
 use Rattle.ecs_archetypes.specs.Holdings.{HoldAlike, upcoming, with_cells, with_entity}
 use Rattle.ecs_archetypes.specs.Staying.{none_goes, stay_same}
 use Rattle.table_store.specs.Going.{goes_on_same}
-use Rattle.ecs_world.proofs.Accepted.{failed, kept, made_is, named_left, next_of, next_some, next_unnamed, on_err, unchanged}
-use Rattle.ecs_world.proofs.Bound.{none_entity, unbound_entity}
-use Rattle.ecs_world.proofs.Judged.{births}
+use Rattle.ecs_world.proofs.AcceptedCommands.{failed, kept, made_is, named_left, next_of, next_some, next_unnamed, on_err, unchanged}
+use Rattle.ecs_world.proofs.NameReasons.{none_entity, unbound_entity}
+use Rattle.ecs_world.proofs.JudgedCommands.{births}
 use Rattle.ecs_world.proofs.NameLists.{freed}
-use Rattle.ecs_world.proofs.Pinned.{further}
-use Rattle.ecs_world.proofs.Told.{told_entity}
+use Rattle.ecs_world.proofs.PinChanges.{further}
+use Rattle.ecs_world.proofs.ToldChanges.{told_entity}
 use Rattle.ecs_world.proofs.Standings.{going_on, state_is, staying_on}
 use Rattle.ecs_world.proofs.World.make_entity.Goals as goal
 

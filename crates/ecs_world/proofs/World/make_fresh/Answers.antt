@@ -5,10 +5,10 @@ use Rattle.ecs_model.proofs.Additions.{not_spent}
 use Rattle.ecs_archetypes.specs.Holdings.{HoldAlike, upcoming, with_cells, with_entity}
 use Rattle.ecs_archetypes.specs.Staying.{none_goes, stay_same}
 use Rattle.table_store.specs.Going.{goes_on_same}
-use Rattle.ecs_world.proofs.Accepted.{failed, fresh_left, made_is, next_of, next_some, on_err}
-use Rattle.ecs_world.proofs.Judged.{births, fresh_refusal}
-use Rattle.ecs_world.proofs.Pinned.{further}
-use Rattle.ecs_world.proofs.Told.{told_fresh}
+use Rattle.ecs_world.proofs.AcceptedCommands.{failed, fresh_left, made_is, next_of, next_some, on_err}
+use Rattle.ecs_world.proofs.JudgedCommands.{births, fresh_refusal}
+use Rattle.ecs_world.proofs.PinChanges.{further}
+use Rattle.ecs_world.proofs.ToldChanges.{told_fresh}
 use Rattle.ecs_world.proofs.Standings.{going_on, state_is, staying_on}
 use Rattle.ecs_world.proofs.World.make_fresh.Goals as goal
 

@@ -4,7 +4,7 @@ use Rattle.ecs_id.specs.Id.{first_of}
 use Rattle.ecs_model.specs.BuiltIns.{with_trait}
 use Rattle.ecs_model.specs.Links.{target_under}
 use Rattle.ecs_model.specs.World.{ids_of}
-use Rattle.fact_rules.specs.Simple.{is_unmirrored}
+use Rattle.rel_traits.specs.Simple.{is_unmirrored}
 use Rattle.ecs_world.proofs.World.may_bring.Goals as goal
 
 pub returns-else-has_with : goal.returns-else-has_with

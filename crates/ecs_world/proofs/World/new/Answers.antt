@@ -1,4 +1,4 @@
-use Rattle.ecs_world.proofs.First.{first_is_world, first_state}
+use Rattle.ecs_world.proofs.FirstBuiltIns.{first_is_world, first_state}
 use Rattle.ecs_world.proofs.World.new.Goals as goal
 
 pub invariant_of-result : goal.invariant_of-result

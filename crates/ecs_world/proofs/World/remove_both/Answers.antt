@@ -2,12 +2,12 @@ use Rattle.std.proofs.Common.{refl, sym, subst, ◌∙◌, arith}
 use Rattle.ecs_model.specs.declared.faults.Refusal.TheVariants.{Dead}
 use Rattle.ecs_model.specs.traits.Command.{Remove}
 use Rattle.ecs_model.specs.traits.Keeps.{IsWellFormed}
-use Rattle.ecs_world.proofs.Accepted.{on_ok}
-use Rattle.ecs_model.proofs.Answering.{answers_refused}
-use Rattle.ecs_world.proofs.Counting.{counted_state, counted_world}
+use Rattle.ecs_world.proofs.AcceptedCommands.{on_ok}
+use Rattle.ecs_model.proofs.StepAnswers.{answers_refused}
+use Rattle.ecs_world.proofs.CommandCounts.{counted_state, counted_world}
 use Rattle.ecs_world.proofs.FirstReasons.{remove_of_dead}
-use Rattle.ecs_world.proofs.Left.{effect-remove}
-use Rattle.ecs_world.proofs.Refusing.{entity_dead}
+use Rattle.ecs_world.proofs.CommandEffects.{effect-remove}
+use Rattle.ecs_world.proofs.RefusalReasons.{entity_dead}
 use Rattle.ecs_world.proofs.Standings.{state_is}
 use Rattle.ecs_world.proofs.ToldRemovals.{removal_told}
 use Rattle.ecs_world.proofs.World.remove_both.Goals as goal

@@ -4,15 +4,15 @@ use Rattle.ecs_model.specs.declared.faults.Refusal.TheVariants.{Dead}
 use Rattle.ecs_model.specs.traits.Command.{Remove}
 use Rattle.ecs_model.specs.traits.Keeps.{IsWellFormed}
 use Rattle.ecs_model.proofs.Additions.{not_spent}
-use Rattle.ecs_model.proofs.Answering.{step-refused}
+use Rattle.ecs_model.proofs.StepAnswers.{step-refused}
 use Rattle.ecs_model.proofs.Reasons.{denied}
 use Rattle.ecs_archetypes.specs.Staying.{none_goes, stay_same}
 use Rattle.table_store.specs.Going.{goes_on_same}
 use Rattle.ecs_world.specs.State.{no_change}
-use Rattle.ecs_world.proofs.Accepted.{counted_left, effect-remove-none, failed, found_dead, found_held, go, on_err, on_ok, refuted}
-use Rattle.ecs_world.proofs.Judged.{judged-remove, remove_dead}
-use Rattle.ecs_world.proofs.Refusing.{entity_dead}
-use Rattle.ecs_world.proofs.Told.{told_remove}
+use Rattle.ecs_world.proofs.AcceptedCommands.{counted_left, effect-remove-none, failed, found_dead, found_held, go, on_err, on_ok, refuted}
+use Rattle.ecs_world.proofs.JudgedCommands.{judged-remove, remove_dead}
+use Rattle.ecs_world.proofs.RefusalReasons.{entity_dead}
+use Rattle.ecs_world.proofs.ToldChanges.{told_remove}
 use Rattle.ecs_world.proofs.Standings.{going_on, state_is, staying_on}
 use Rattle.ecs_world.proofs.World.remove_single.Goals as goal
 

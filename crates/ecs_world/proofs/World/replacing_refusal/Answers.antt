@@ -1,8 +1,8 @@
 use Rattle.std.proofs.Common.{◌∷◌, [], sym, ap, ◌∙◌}
 use Rattle.ecs_model.specs.declared.faults.Refusal.TheVariants.{Full}
 use Rattle.ecs_model.specs.Refusal.{first_reason}
-use Rattle.ecs_world.proofs.Refusing.{add_built_in, add_dead, add_grown, mention_dead, not_dead}
-use Rattle.ecs_world.proofs.Simple.{built_in_only, replacing_fits}
+use Rattle.ecs_world.proofs.RefusalReasons.{add_built_in, add_dead, add_grown, mention_dead, not_dead}
+use Rattle.ecs_world.proofs.SimpleFacts.{built_in_only, replacing_fits}
 use Rattle.ecs_world.proofs.World.replacing_refusal.Goals as goal
 
 pub returns-then-not-mentions_live : goal.returns-then-not-mentions_live

@@ -8,17 +8,17 @@ use Rattle.ecs_model.specs.World.{entities, holds, type_of_id}
 use Rattle.ecs_model.specs.traits.Changes.{facts_after_add}
 use Rattle.ecs_model.specs.traits.Command.{SetValue, Add, add_reasons, reasons}
 use Rattle.ecs_model.specs.traits.Keeps.{IsWellFormed}
-use Rattle.fact_rules.specs.Additions.{is_of_built_in}
+use Rattle.rel_traits.specs.Additions.{is_of_built_in}
 use Rattle.rel_traits.specs.FactLists.{IsOfLive}
 use Rattle.ecs_archetypes.specs.Staying.{stay_all, stay_then}
 use Rattle.table_store.specs.Going.{TablesGoOn, goes_on_then}
 use Rattle.ecs_world.specs.State.{byte_count, value_in}
-use Rattle.ecs_world.proofs.Accepted.{on_err, on_ok}
-use Rattle.ecs_model.proofs.Answering.{answers_refused}
-use Rattle.ecs_world.proofs.Counting.{counted_state, counted_world}
+use Rattle.ecs_world.proofs.AcceptedCommands.{on_err, on_ok}
+use Rattle.ecs_model.proofs.StepAnswers.{answers_refused}
+use Rattle.ecs_world.proofs.CommandCounts.{counted_state, counted_world}
 use Rattle.ecs_world.proofs.FirstReasons.{add_otherwise, set_no_value, set_of_dead, set_on_built_in, set_value}
-use Rattle.ecs_world.proofs.Forgotten.{going_to, set_stay}
-use Rattle.ecs_world.proofs.Refusing.{entity_dead, mention_dead, not_dead}
+use Rattle.ecs_world.proofs.ForgottenTables.{going_to, set_stay}
+use Rattle.ecs_world.proofs.RefusalReasons.{entity_dead, mention_dead, not_dead}
 use Rattle.ecs_world.proofs.Standings.{going_on, state_is}
 use Rattle.ecs_world.proofs.ToldAdditions.{set_held, set_sound, set_state, set_typed, setting_told}
 use Rattle.ecs_world.proofs.World.set_all.Goals.{then-not-is_alive-via-then-not-is_alive, then-not-is_alive-via-else-not-is_alive+then-not-mentions_live}

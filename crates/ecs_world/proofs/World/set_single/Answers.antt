@@ -5,14 +5,14 @@ use Rattle.ecs_model.specs.declared.faults.Refusal.TheVariants.{Dead}
 use Rattle.ecs_model.specs.traits.Command.{SetValue}
 use Rattle.ecs_model.specs.traits.Keeps.{IsWellFormed}
 use Rattle.ecs_model.proofs.Additions.{not_spent}
-use Rattle.ecs_model.proofs.Answering.{step-refused}
+use Rattle.ecs_model.proofs.StepAnswers.{step-refused}
 use Rattle.ecs_archetypes.specs.Staying.{none_goes, stay_same}
 use Rattle.table_store.specs.Going.{goes_on_same}
 use Rattle.ecs_world.specs.State.{no_change}
-use Rattle.ecs_world.proofs.Accepted.{failed, fits_there, found_count, found_dead, found_held, on_err, on_ok, set_left, size_there}
-use Rattle.ecs_world.proofs.Judged.{add_of_set, judged-add}
-use Rattle.ecs_world.proofs.Refusing.{entity_dead, set_dead}
-use Rattle.ecs_world.proofs.Told.{told_set}
+use Rattle.ecs_world.proofs.AcceptedCommands.{failed, fits_there, found_count, found_dead, found_held, on_err, on_ok, set_left, size_there}
+use Rattle.ecs_world.proofs.JudgedCommands.{add_of_set, judged-add}
+use Rattle.ecs_world.proofs.RefusalReasons.{entity_dead, set_dead}
+use Rattle.ecs_world.proofs.ToldChanges.{told_set}
 use Rattle.ecs_world.proofs.Standings.{going_on, state_is, staying_on}
 use Rattle.ecs_world.proofs.World.set_single.Goals.{then-found, else-found}
 use Rattle.ecs_world.proofs.World.set_single.Goals as goal

@@ -1,6 +1,6 @@
 use Rattle.std.proofs.Common.{sym, ◌∙◌}
-use Rattle.ecs_world.proofs.Refusing.{add_built_in, add_dead, add_grown, growth_told, mention_dead, not_dead}
-use Rattle.ecs_world.proofs.Simple.{built_in_alone}
+use Rattle.ecs_world.proofs.RefusalReasons.{add_built_in, add_dead, add_grown, growth_told, mention_dead, not_dead}
+use Rattle.ecs_world.proofs.SimpleFacts.{built_in_alone}
 use Rattle.ecs_world.proofs.World.single_refusal.Goals as goal
 
 pub returns-then-not-mentions_live : goal.returns-then-not-mentions_live

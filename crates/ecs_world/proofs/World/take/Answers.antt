@@ -2,9 +2,9 @@
 use Rattle.std.proofs.Common.{ℕ, [], refl}
 use Rattle.ecs_archetypes.specs.Housing.{holdings_of}
 use Rattle.ecs_model.specs.World.{key_cmp}
-use Rattle.ecs_world.proofs.Changed.{keys_rise}
+use Rattle.ecs_world.proofs.ChangedWorlds.{keys_rise}
 use Rattle.ecs_world.proofs.Standings.{state_is}
-use Rattle.ecs_world.proofs.Taken.{IsTold, left_refused, left_taken, left_world, those_ascend, those_settled}
+use Rattle.ecs_world.proofs.RemovalEffects.{IsTold, left_refused, left_taken, left_world, those_ascend, those_settled}
 use Rattle.ecs_world.proofs.World.take.Goals as goal
 
 pub change_facts-requires-clause-came_ascend : goal.change_facts-requires-clause-came_ascend

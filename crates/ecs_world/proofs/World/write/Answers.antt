@@ -1,7 +1,7 @@
 use Rattle.std.proofs.Common.{◌∙◌}
 use Rattle.ecs_archetypes.specs.Housing.{holdings_of}
 use Rattle.ecs_world.proofs.Standings.{state_is}
-use Rattle.ecs_world.proofs.Written.{alive_settled, held_there, size_there, state_written, world_written}
+use Rattle.ecs_world.proofs.WrittenFacts.{alive_settled, held_there, size_there, state_written, world_written}
 use Rattle.ecs_world.proofs.World.write.Goals as goal
 
 pub unwrap-found-requires : goal.unwrap-found-requires

@@ -2,7 +2,7 @@ use Rattle.std.proofs.Common.{[], ◌∷◌, ap, ◌∙◌, arith}
 use Rattle.ecs_archetypes.specs.Staying.{none_goes, stay_then}
 use Rattle.table_store.specs.Going.{goes_on_then}
 use Rattle.ecs_world.specs.Changes.{with_copies}
-use Rattle.ecs_world.proofs.Copied.{copy_alive, copy_held, copy_next, copy_of_base, copy_sound}
+use Rattle.ecs_world.proofs.BaseCopies.{copy_alive, copy_held, copy_next, copy_of_base, copy_sound}
 use Rattle.ecs_world.proofs.World.write_copies.Goals as goal
 
 pub write_copy-requires-clause-alive : goal.write_copy-requires-clause-alive

@@ -1,7 +1,7 @@
 use Rattle.std.proofs.Common.{◌≡◌, subst, arith}
 use Rattle.ecs_archetypes.specs.Housing.{holdings_of}
 use Rattle.ecs_world.specs.BuiltIn.{IsSettled}
-use Rattle.ecs_world.proofs.First.{first_settled}
+use Rattle.ecs_world.proofs.FirstBuiltIns.{first_settled}
 use Rattle.ecs_world.proofs.built_in.archetypes.Goals as goal
 
 pub loop-settled-init : goal.loop-settled-init

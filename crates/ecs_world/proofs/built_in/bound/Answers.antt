@@ -1,6 +1,6 @@
 use Rattle.std.proofs.Common.{refl, sym, ◌∙◌, arith}
-use Rattle.ecs_world.proofs.Accepted.{on_ok}
-use Rattle.ecs_world.proofs.First.{first_none, first_unnamed, named_all, named_step}
+use Rattle.ecs_world.proofs.AcceptedCommands.{on_ok}
+use Rattle.ecs_world.proofs.FirstBuiltIns.{first_none, first_unnamed, named_all, named_step}
 use Rattle.ecs_world.proofs.built_in.bound.Goals as goal
 
 pub loop-name-init : goal.loop-name-init

@@ -1,7 +1,7 @@
 use Rattle.std.proofs.Common.{◌+◌, refl, arith}
 use Rattle.ecs_archetypes.specs.Housing.{holdings_of}
-use Rattle.ecs_world.proofs.Accepted.{on_ok_all}
-use Rattle.ecs_world.proofs.First.{first_alive, first_unsettled, settled_more, tags_agree, tags_small}
+use Rattle.ecs_world.proofs.AcceptedCommands.{on_ok_all}
+use Rattle.ecs_world.proofs.FirstBuiltIns.{first_alive, first_unsettled, settled_more, tags_agree, tags_small}
 use Rattle.ecs_world.proofs.built_in.put.Goals as goal
 
 pub settle-requires-clause-alive : goal.settle-requires-clause-alive

@@ -1,6 +1,6 @@
 use Rattle.std.proofs.Common.{take, subst, sym}
 use Rattle.std.proofs.lemmas.List.{take_all, take_more}
-use Rattle.ecs_world.proofs.Listed.{AreForgotten, forgotten_more, forgotten_none}
+use Rattle.ecs_world.proofs.DeathLists.{AreForgotten, forgotten_more, forgotten_none}
 use Rattle.ecs_world.proofs.deletion.forget.Goals as goal
 
 pub loop-entity-init : goal.loop-entity-init

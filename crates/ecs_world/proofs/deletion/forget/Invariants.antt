@@ -1,5 +1,5 @@
 use Rattle.std.proofs.Common.{take}
-use Rattle.ecs_world.proofs.Listed.{AreForgotten}
+use Rattle.ecs_world.proofs.DeathLists.{AreForgotten}
 use Rattle.ecs_world.proofs.deletion.forget.Given as goal
 
 abbrev pub invariant-loop-entity : goal.invariant-loop-entity

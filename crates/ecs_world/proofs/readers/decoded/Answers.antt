@@ -3,7 +3,7 @@ use Rattle.std.specs.Int.{w128}
 use Rattle.std.specs.List.{slice_get}
 use Rattle.std.proofs.lemmas.List.{length-set, take_more_set}
 use Rattle.ecs_model.specs.Bytes.{values_in}
-use Rattle.ecs_schema.proofs.Meaning.{length-values_in}
+use Rattle.ecs_schema.proofs.UnwrittenBytes.{length-values_in}
 use Rattle.ecs_world.proofs.readers.decoded.Goals as goal
 
 take_more_get : {X : Type 0} (xs : List X) (i : ℕ) (x : X) → slice_get xs i ≡ Some x → take (i + 1) xs ≡ take i xs ++ x ∷ []

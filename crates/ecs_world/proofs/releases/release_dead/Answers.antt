@@ -1,6 +1,6 @@
 -- What mentions one of the dead goes, death by death.
 use Rattle.std.proofs.Common.{get_or, refl, arith}
-use Rattle.ecs_world.proofs.Released.{AreLeft, left_dead, left_holdings, left_next, mentions}
+use Rattle.ecs_world.proofs.ReleasedTables.{AreLeft, left_dead, left_holdings, left_next, mentions}
 use Rattle.ecs_world.proofs.releases.release_dead.Goals as goal
 
 pub loop-index-preserved : goal.loop-index-preserved

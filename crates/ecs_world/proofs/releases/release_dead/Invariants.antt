@@ -1,4 +1,4 @@
-use Rattle.ecs_world.proofs.Released.{IsLeftTo, mentions}
+use Rattle.ecs_world.proofs.ReleasedTables.{IsLeftTo, mentions}
 use Rattle.ecs_world.proofs.releases.release_dead.Given as goal
 
 abbrev pub invariant-loop-index : goal.invariant-loop-index

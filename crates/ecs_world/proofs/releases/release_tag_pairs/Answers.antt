@@ -1,6 +1,6 @@
 -- The pairs of a relationship to which PairIsTag comes go, fact by fact.
 use Rattle.std.proofs.Common.{◌+◌, ◌∙◌, sym, subst, arith}
-use Rattle.ecs_world.proofs.Released.{IsLeftTo, left_holdings, left_matched, left_next, left_skipped, left_tag, left_tagged, no_rows, other_fact, pairs_of, tag_fact, tags_none, tags_with, unheld_tag}
+use Rattle.ecs_world.proofs.ReleasedTables.{IsLeftTo, left_holdings, left_matched, left_next, left_skipped, left_tag, left_tagged, no_rows, other_fact, pairs_of, tag_fact, tags_none, tags_with, unheld_tag}
 use Rattle.ecs_world.proofs.releases.release_tag_pairs.Goals as goal
 use Rattle.ecs_world.proofs.releases.release_tag_pairs.Goals.{then-eq, else-eq}
 

@@ -1,4 +1,4 @@
-use Rattle.ecs_world.proofs.Released.{IsLeftTo, tags_with}
+use Rattle.ecs_world.proofs.ReleasedTables.{IsLeftTo, tags_with}
 use Rattle.ecs_world.proofs.releases.release_tag_pairs.Given as goal
 
 abbrev pub invariant-loop-fact : goal.invariant-loop-fact

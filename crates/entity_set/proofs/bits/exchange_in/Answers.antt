@@ -3,7 +3,7 @@ use Rattle.std.specs.List.{list_any}
 use Rattle.std.proofs.Common.{◌<◌, ◌*◌, ap, refl, subst, sym, ◌∙◌}
 use Rattle.std.proofs.lemmas.List.{take_all}
 use Rattle.entity_set.specs.Members.{has}
-use Rattle.entity_set.proofs.Listed.{and_all, or_none, puts_one, takes_one}
+use Rattle.entity_set.proofs.SetBits.{and_all, or_none, puts_one, takes_one}
 use Rattle.entity_set.proofs.bits.exchange_in.Goals as goal
 
 pub loop-number-init : goal.loop-number-init

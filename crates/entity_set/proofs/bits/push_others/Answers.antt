@@ -1,7 +1,7 @@
 use Rattle.std.specs.Prelude.{◌++◌, bit_and}
 use Rattle.std.specs.Int.{bit_not}
 use Rattle.std.proofs.Common.{◌≡◌, ◌<◌, ◌^◌, ap, append-nil, arith, get_or, sym, w64, ◌∙◌}
-use Rattle.entity_set.proofs.Listed.{bits_more, word_none, word_whole}
+use Rattle.entity_set.proofs.SetBits.{bits_more, word_none, word_whole}
 use Rattle.entity_set.proofs.bits.push_others.Goals as goal
 
 pub returns-then-others_are_in : goal.returns-then-others_are_in

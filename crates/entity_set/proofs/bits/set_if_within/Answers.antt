@@ -1,4 +1,4 @@
-use Rattle.entity_set.proofs.Exchanged.{set_elsewhere}
+use Rattle.entity_set.proofs.SetExchanges.{set_elsewhere}
 use Rattle.entity_set.proofs.bits.set_if_within.Goals as goal
 
 pub returns-else-place-words-clause-has : goal.returns-else-place-words-clause-has

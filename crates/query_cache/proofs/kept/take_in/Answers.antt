@@ -3,7 +3,7 @@ use Rattle.std.proofs.lemmas.List.{length_push, map-id}
 use Rattle.std.proofs.lemmas.Iterator.Consumers.{YieldsList-end, YieldsList-from_first, YieldsList-turn}
 use Rattle.ecs_id.specs.declared.TableKey.{TableKey}
 use Rattle.query_cache.specs.Kept.{Counts, is_kept as kept_there}
-use Rattle.query_cache.proofs.Taking.{all_taken_in, counts_more, later_one, on_err, on_ok, one_taken, only_before, refused}
+use Rattle.query_cache.proofs.TakenTables.{all_taken_in, counts_more, later_one, on_err, on_ok, one_taken, only_before, refused}
 use Rattle.query_cache.proofs.kept.take_in.Goals as goal
 use Rattle.query_cache.proofs.kept.take_in.Goals.{else-is_kept-via-else-is_kept, else-is_kept-via-then-is_kept+else-is_err}
 

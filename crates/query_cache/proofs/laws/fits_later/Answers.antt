@@ -1,4 +1,4 @@
-use Rattle.query_cache.proofs.Fitting.{fits_later}
+use Rattle.query_cache.proofs.FittingStores.{fits_later}
 use Rattle.query_cache.proofs.laws.fits_later.Goals as goal
 
 pub returns : goal.returns

@@ -1,4 +1,4 @@
-use Rattle.query_cache.proofs.Suiting.{patterns_suffice}
+use Rattle.query_cache.proofs.ItemPatterns.{patterns_suffice}
 use Rattle.query_cache.proofs.laws.patterns_suffice.Goals as goal
 
 pub returns : goal.returns

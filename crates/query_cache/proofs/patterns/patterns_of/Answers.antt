@@ -1,7 +1,7 @@
 -- A piece more at each turn.
 use Rattle.std.proofs.Common.{◌∙◌, ap, subst, sym}
 use Rattle.query_check.specs.Seen.{seen_item, seen_piece}
-use Rattle.query_cache.proofs.Walking.{IsWalking, all_walked, closed_one, item_one, none_walked, opened_one, past_all, piece_at, same_patterns}
+use Rattle.query_cache.proofs.PatternWalks.{IsWalking, all_walked, closed_one, item_one, none_walked, opened_one, past_all, piece_at, same_patterns}
 use Rattle.query_cache.proofs.patterns.patterns_of.Goals as goal
 use Rattle.query_cache.proofs.patterns.patterns_of.Goals.{in-Item+in_ok-add_pattern-in-Item, in-Opening, in-Closing}
 

@@ -1,4 +1,4 @@
-use Rattle.query_cache.proofs.Walking.{IsWalking}
+use Rattle.query_cache.proofs.PatternWalks.{IsWalking}
 use Rattle.query_cache.proofs.patterns.patterns_of.Given as goal
 
 abbrev pub invariant-loop-piece : goal.invariant-loop-piece

@@ -6,8 +6,8 @@ use Rattle.query_check.specs.Seen.{seen_cascading}
 use Rattle.query_model.specs.Cascades.{cascading_in, cascading_part}
 use Rattle.query_model.specs.Levels.{placed_parts}
 use Rattle.query_model.specs.Seen.{seen_part}
-use Rattle.query_check.proofs.Nothing.{no_part}
-use Rattle.query_check.proofs.Referring.{added, none_left, not_added, one_less, part_at, placed-length}
+use Rattle.query_check.proofs.AbsentElements.{no_part}
+use Rattle.query_check.proofs.PartReferences.{added, none_left, not_added, one_less, part_at, placed-length}
 use Rattle.query_check.proofs.cascades.cascades.Goals as goal
 use Rattle.query_check.proofs.cascades.cascades.Goals.{in-Some+in_ok-push, in_default}
 

@@ -3,7 +3,7 @@ use Rattle.query_check.specs.Seen.{seen_cascading}
 use Rattle.query_model.specs.Cascades.{cascading_part}
 use Rattle.query_model.specs.Levels.{placed_parts}
 use Rattle.query_model.specs.Seen.{seen_part}
-use Rattle.query_check.proofs.Referring.{HasLeft}
+use Rattle.query_check.proofs.PartReferences.{HasLeft}
 use Rattle.query_check.proofs.cascades.cascades.Given as goal
 
 abbrev pub invariant-loop-i : goal.invariant-loop-i

@@ -1,7 +1,7 @@
 -- The variables are those of the parts.
 use Rattle.std.proofs.Common.{map}
 use Rattle.query_model.specs.Seen.{seen_part}
-use Rattle.query_check.proofs.Referring.{found_are}
+use Rattle.query_check.proofs.PartReferences.{found_are}
 use Rattle.query_check.proofs.checked.answer.Goals as goal
 
 pub least_fault-requires-clause-occurrences : goal.least_fault-requires-clause-occurrences

@@ -2,7 +2,7 @@
 use Rattle.std.proofs.Common.{map}
 use Rattle.query_check.specs.Seen.{seen_cascading, seen_occurrence, seen_use}
 use Rattle.query_model.specs.Seen.{seen_part}
-use Rattle.query_check.proofs.Judging.{all_kinds_judged}
+use Rattle.query_check.proofs.LeastFaults.{all_kinds_judged}
 use Rattle.query_check.proofs.checked.least_fault.Goals as goal
 
 pub returns : goal.returns

@@ -2,10 +2,10 @@
 use Rattle.std.proofs.Common.{◌<◌, [], get_or, length, map}
 use Rattle.std.proofs.lemmas.List.{get_or-map, length-map}
 use Rattle.query_check.specs.Places.{place_of}
-use Rattle.query_check.proofs.Nothing.{no_part}
+use Rattle.query_check.proofs.AbsentElements.{no_part}
 use Rattle.query_model.specs.Seen.{seen_part}
-use Rattle.query_check.proofs.Referring.{part_at}
-use Rattle.query_check.proofs.Judging.{depth_judged}
+use Rattle.query_check.proofs.PartReferences.{part_at}
+use Rattle.query_check.proofs.LeastFaults.{depth_judged}
 use Rattle.query_check.proofs.faults.of_depth.Goals as goal
 
 pub loop-i-preserved : goal.loop-i-preserved

@@ -2,7 +2,7 @@ use Rattle.std.proofs.Common.{map}
 use Rattle.query_model.specs.Check.{too_deep_part}
 use Rattle.query_model.specs.Levels.{placed_parts}
 use Rattle.query_model.specs.Seen.{seen_part}
-use Rattle.query_check.proofs.Judging.{IsJudging}
+use Rattle.query_check.proofs.LeastFaults.{IsJudging}
 use Rattle.query_check.proofs.faults.of_depth.Given as goal
 
 abbrev pub invariant-loop-i : goal.invariant-loop-i

@@ -6,7 +6,7 @@ use Rattle.query_model.specs.declared.faults.FaultKind.TheVariants.{TooManyVaria
 use Rattle.query_model.specs.Check.{most_names}
 use Rattle.query_model.specs.Faults.{fault_at, least_from}
 use Rattle.query_model.specs.Scope.{Sighting, this}
-use Rattle.query_check.proofs.Counting.{few_names}
+use Rattle.query_check.proofs.ItemCounts.{few_names}
 use Rattle.query_check.proofs.faults.of_names.Goals as goal
 
 pub returns-then-occurrences-le-MOST_NAMES : goal.returns-then-occurrences-le-MOST_NAMES

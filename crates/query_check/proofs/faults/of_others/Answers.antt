@@ -2,7 +2,7 @@
 
 use Rattle.query_check.specs.Seen.{seen_cascading}
 use Rattle.query_model.specs.Check.{cascade_fault}
-use Rattle.query_check.proofs.Judging.{one_seen_judged}
+use Rattle.query_check.proofs.LeastFaults.{one_seen_judged}
 use Rattle.query_check.proofs.faults.of_others.Goals as goal
 
 pub loop-other-preserved : goal.loop-other-preserved

@@ -4,8 +4,8 @@ use Rattle.query_check.specs.declared.scope.Occurrence.{Occurrence}
 use Rattle.query_model.specs.Check.{unbound}
 use Rattle.query_model.specs.Scope.{occurrences}
 use Rattle.query_model.specs.Seen.{seen_part}
-use Rattle.query_check.proofs.Judging.{one_judged}
-use Rattle.query_check.proofs.Rooting.{level_at, no_occurrence, seen_at}
+use Rattle.query_check.proofs.LeastFaults.{one_judged}
+use Rattle.query_check.proofs.VariableRoots.{level_at, no_occurrence, seen_at}
 use Rattle.query_check.proofs.faults.of_unbound.Goals as goal
 
 nobody : Occurrence

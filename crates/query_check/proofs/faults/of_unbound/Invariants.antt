@@ -2,7 +2,7 @@ use Rattle.std.proofs.Common.{map}
 use Rattle.query_model.specs.Check.{unbound}
 use Rattle.query_model.specs.Scope.{occurrences}
 use Rattle.query_model.specs.Seen.{seen_part}
-use Rattle.query_check.proofs.Judging.{IsJudging}
+use Rattle.query_check.proofs.LeastFaults.{IsJudging}
 use Rattle.query_check.proofs.faults.of_unbound.Given as goal
 
 abbrev pub invariant-loop-occurrence : goal.invariant-loop-occurrence

@@ -2,7 +2,7 @@
 use Rattle.std.proofs.Common.{refl}
 use Rattle.query_check.specs.Seen.{seen_use}
 use Rattle.query_model.specs.Check.{faults_of_use}
-use Rattle.query_check.proofs.Judging.{one_seen_judged}
+use Rattle.query_check.proofs.LeastFaults.{one_seen_judged}
 use Rattle.query_check.proofs.faults.of_uses.Goals as goal
 
 pub loop-used-preserved : goal.loop-used-preserved

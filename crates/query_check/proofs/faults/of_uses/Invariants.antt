@@ -1,7 +1,7 @@
 use Rattle.std.proofs.Common.{map}
 use Rattle.query_check.specs.Seen.{seen_use}
 use Rattle.query_model.specs.Check.{faults_of_use}
-use Rattle.query_check.proofs.Judging.{IsJudging}
+use Rattle.query_check.proofs.LeastFaults.{IsJudging}
 use Rattle.query_check.proofs.faults.of_uses.Given as goal
 
 abbrev pub invariant-loop-used : goal.invariant-loop-used

@@ -6,7 +6,7 @@ use Rattle.query_check.specs.Seen.{seen_occurrence}
 use Rattle.query_model.specs.Faults.{fault_at}
 use Rattle.query_model.specs.Scope.{owner}
 use Rattle.query_model.specs.Seen.{seen_part}
-use Rattle.query_check.proofs.Binding.{bound_stays, unbound_counts}
+use Rattle.query_check.proofs.BoundVariables.{bound_stays, unbound_counts}
 use Rattle.query_check.proofs.faults.of_variable.Goals as goal
 
 pub returns-then-is_bound : goal.returns-then-is_bound

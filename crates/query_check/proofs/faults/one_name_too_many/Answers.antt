@@ -5,7 +5,7 @@ use Rattle.std.specs.Prelude.{bytes_eq, ◌+◌}
 use Rattle.std.specs.List.{list_any}
 use Rattle.query_check.specs.declared.scope.Occurrence.{Occurrence}
 use Rattle.query_check.specs.Seen.{seen_occurrence}
-use Rattle.query_check.proofs.Naming.{IsNaming, names_more, one_known, one_new, one_too_many}
+use Rattle.query_check.proofs.VariableNames.{IsNaming, names_more, one_known, one_new, one_too_many}
 use Rattle.query_check.proofs.faults.one_name_too_many.Goals as goal
 use Rattle.query_check.proofs.faults.one_name_too_many.Goals.{then-not-is_among+else-len-gt-MOST_NAMES+in_ok-push-2, else-not-is_among}
 

@@ -4,8 +4,8 @@ use Rattle.std.specs.Prelude.{option_to_list}
 use Rattle.std.proofs.lemmas.List.{get_or-map, length-map}
 use Rattle.query_model.specs.Check.{counted_spans, most_terms}
 use Rattle.query_model.specs.Seen.{seen_part}
-use Rattle.query_check.proofs.Counting.{IsCounting, last_counted, none_counted, none_found, one_counted}
-use Rattle.query_check.proofs.Nothing.{no_part}
+use Rattle.query_check.proofs.ItemCounts.{IsCounting, last_counted, none_counted, none_found, one_counted}
+use Rattle.query_check.proofs.AbsentElements.{no_part}
 use Rattle.query_check.proofs.faults.one_too_many.Goals as goal
 use Rattle.query_check.proofs.faults.one_too_many.Goals.{in-Some+else-left-eq0, in_default}
 

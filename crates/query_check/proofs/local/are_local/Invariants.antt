@@ -1,6 +1,6 @@
 use Rattle.query_check.specs.Seen.{seen_piece}
 use Rattle.query_model.specs.Local.{is_local_piece}
-use Rattle.query_check.proofs.Referring.{AllYet}
+use Rattle.query_check.proofs.PartReferences.{AllYet}
 use Rattle.query_check.proofs.local.are_local.Given as goal
 
 abbrev pub invariant-loop-piece : goal.invariant-loop-piece

@@ -1,6 +1,6 @@
 use Rattle.query_check.specs.Seen.{seen_piece}
 use Rattle.query_model.specs.Local.{is_simple_piece}
-use Rattle.query_check.proofs.Referring.{AllYet}
+use Rattle.query_check.proofs.PartReferences.{AllYet}
 use Rattle.query_check.proofs.local.are_simple.Given as goal
 
 abbrev pub invariant-loop-piece : goal.invariant-loop-piece

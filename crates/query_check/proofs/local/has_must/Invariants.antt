@@ -1,6 +1,6 @@
 use Rattle.query_check.specs.Seen.{seen_piece}
 use Rattle.query_model.specs.Local.{is_must}
-use Rattle.query_check.proofs.Referring.{NoneYet}
+use Rattle.query_check.proofs.PartReferences.{NoneYet}
 use Rattle.query_check.proofs.local.has_must.Given as goal
 
 abbrev pub invariant-loop-piece : goal.invariant-loop-piece

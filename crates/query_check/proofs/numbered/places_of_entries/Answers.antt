@@ -4,7 +4,7 @@ use Rattle.std.proofs.lemmas.List.{length-map}
 use Rattle.query_check.specs.Numbered.{level_around}
 use Rattle.query_check.specs.Seen.{seen_piece}
 use Rattle.query_check.proofs.Entries.{closed_one, item_one, opened_one, same_numbering}
-use Rattle.query_check.proofs.Placing.{seen_at}
+use Rattle.query_check.proofs.PartPlaces.{seen_at}
 use Rattle.query_check.proofs.numbered.places_of_entries.Goals as goal
 use Rattle.query_check.proofs.numbered.places_of_entries.Goals.{in-Item+in_ok-push-in-Item, in-Opening+in_ok-push-in-Opening, in-Closing}
 

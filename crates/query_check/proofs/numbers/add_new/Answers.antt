@@ -5,7 +5,7 @@ use Rattle.std.specs.List.{list_any}
 use Rattle.query_check.specs.declared.numbers.Variable as code
 use Rattle.query_check.specs.Seen.{seen_variable}
 use Rattle.query_model.specs.Numbers.{Variable, same_variable}
-use Rattle.query_check.proofs.Numbering.{IsAdding, known_one, new_one, other_kind}
+use Rattle.query_check.proofs.VariableNumbers.{IsAdding, known_one, new_one, other_kind}
 use Rattle.query_check.proofs.numbers.add_new.Goals as goal
 use Rattle.query_check.proofs.numbers.add_new.Goals.{then-is_whole+then-not-is_among+in_ok-push, else-is_whole, else-is_whole-via-then-is_whole+else-not-is_among, else-is_whole-via-else-is_whole}
 

@@ -1,6 +1,6 @@
 use Rattle.std.proofs.Common.{map}
 use Rattle.query_check.specs.Seen.{seen_variable}
-use Rattle.query_check.proofs.Numbering.{IsAdding}
+use Rattle.query_check.proofs.VariableNumbers.{IsAdding}
 use Rattle.query_check.proofs.numbers.add_new.Given as goal
 
 abbrev pub invariant-loop-variable : goal.invariant-loop-variable

@@ -3,7 +3,7 @@ use Rattle.std.proofs.Common.{◌≡◌, ◌<◌, ◌+◌, ◌∙◌, [], ap, ge
 use Rattle.std.proofs.lemmas.List.{length-map, get_or-map}
 use Rattle.query_check.specs.declared.numbers.Variable as code
 use Rattle.query_check.specs.Seen.{seen_variable}
-use Rattle.query_check.proofs.Numbering.{IsListing, not_listed, one_listed}
+use Rattle.query_check.proofs.VariableNumbers.{IsListing, not_listed, one_listed}
 use Rattle.query_check.proofs.numbers.own_numbers.Goals as goal
 use Rattle.query_check.proofs.numbers.own_numbers.Goals.{then-variable-level+in_ok-push, else-variable-level}
 

@@ -1,6 +1,6 @@
 use Rattle.std.proofs.Common.{map}
 use Rattle.query_check.specs.Seen.{seen_variable}
-use Rattle.query_check.proofs.Numbering.{IsListing}
+use Rattle.query_check.proofs.VariableNumbers.{IsListing}
 use Rattle.query_check.proofs.numbers.own_numbers.Given as goal
 
 abbrev pub invariant-loop-i : goal.invariant-loop-i

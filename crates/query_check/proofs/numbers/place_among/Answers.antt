@@ -3,7 +3,7 @@ use Rattle.std.proofs.Common.{◌∙◌, [], get_or, map, sym}
 use Rattle.std.proofs.lemmas.List.{length-map, get_or-map}
 use Rattle.query_check.specs.declared.numbers.Variable as code
 use Rattle.query_check.specs.Seen.{seen_variable}
-use Rattle.query_check.proofs.Numbering.{is_further, is_there}
+use Rattle.query_check.proofs.VariableNumbers.{is_further, is_there}
 use Rattle.query_check.proofs.numbers.place_among.Goals as goal
 
 abbrev nobody : code.Variable

@@ -5,8 +5,8 @@ use Rattle.query_check.specs.Seen.{seen_variable, seen_occurrence}
 use Rattle.query_model.specs.Scope.{occurrences, owner, sightings}
 use Rattle.query_model.specs.Seen.{seen_part}
 use Rattle.std.proofs.lemmas.List.{map-append}
-use Rattle.query_check.proofs.Numbering.{one_owned, owned_is}
-use Rattle.query_check.proofs.Rooting.{level_at, no_occurrence, seen_at}
+use Rattle.query_check.proofs.VariableNumbers.{one_owned, owned_is}
+use Rattle.query_check.proofs.VariableRoots.{level_at, no_occurrence, seen_at}
 use Rattle.query_check.proofs.numbers.variables.Goals as goal
 
 abbrev nobody : code.Occurrence

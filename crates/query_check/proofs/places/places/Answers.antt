@@ -1,10 +1,10 @@
 -- A part more at each turn.
 use Rattle.std.proofs.Common.{◌<◌, ◌∙◌, ap, map, get_or, length}
 use Rattle.std.proofs.lemmas.List.{get_or-map, length-map}
-use Rattle.query_check.proofs.Nothing.{no_part}
+use Rattle.query_check.proofs.AbsentElements.{no_part}
 use Rattle.query_model.specs.Seen.{seen_part}
-use Rattle.query_check.proofs.Placing.{all_placed, none_placed, one_more, around_depth, around_outer}
-use Rattle.query_check.proofs.Referring.{placed-length}
+use Rattle.query_check.proofs.PartPlaces.{all_placed, none_placed, one_more, around_depth, around_outer}
+use Rattle.query_check.proofs.PartReferences.{placed-length}
 use Rattle.query_check.proofs.places.places.Goals as goal
 
 pub loop-i-init : goal.loop-i-init

@@ -5,8 +5,8 @@ use Rattle.std.proofs.lemmas.List.{get_or-map, length-map}
 use Rattle.query_model.specs.Query.{checked_term}
 use Rattle.query_model.specs.Seen.{seen_part, seen_term}
 use Rattle.query_check.specs.Seen.{seen_occurrence, seen_variable}
-use Rattle.query_check.proofs.Building.{none_asked, one_asked}
-use Rattle.query_check.proofs.Nothing.{no_part}
+use Rattle.query_check.proofs.BuiltPieces.{none_asked, one_asked}
+use Rattle.query_check.proofs.AbsentElements.{no_part}
 use Rattle.query_check.proofs.query.add_alternatives.Goals as goal
 
 pub loop-part-preserved : goal.loop-part-preserved

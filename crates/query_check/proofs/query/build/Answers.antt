@@ -2,7 +2,7 @@
 use Rattle.std.proofs.Common.{◌∙◌, ap, map}
 use Rattle.query_check.specs.Seen.{seen_cascading, seen_occurrence, seen_piece, seen_use, seen_variable, syntax_of}
 use Rattle.query_model.specs.Seen.{seen_part}
-use Rattle.query_check.proofs.Building.{query_built}
+use Rattle.query_check.proofs.BuiltPieces.{query_built}
 use Rattle.query_check.proofs.query.build.Goals as goal
 
 pub returns : goal.returns

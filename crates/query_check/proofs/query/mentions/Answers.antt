@@ -2,7 +2,7 @@
 use Rattle.std.proofs.Common.{map, refl}
 use Rattle.std.proofs.lemmas.List.{length-map}
 use Rattle.query_check.specs.Seen.{seen_use}
-use Rattle.query_check.proofs.Building.{all_mentioned, one_mentioned}
+use Rattle.query_check.proofs.BuiltPieces.{all_mentioned, one_mentioned}
 use Rattle.query_check.proofs.query.mentions.Goals as goal
 
 pub loop-used-init : goal.loop-used-init

@@ -1,6 +1,6 @@
 use Rattle.std.proofs.Common.{map}
 use Rattle.query_check.specs.Seen.{seen_use}
-use Rattle.query_check.proofs.Building.{IsMentioning}
+use Rattle.query_check.proofs.BuiltPieces.{IsMentioning}
 use Rattle.query_check.proofs.query.mentions.Given as goal
 
 abbrev pub invariant-loop-used : goal.invariant-loop-used

@@ -4,10 +4,10 @@ use Rattle.std.proofs.lemmas.List.{get_or-map, length-map}
 use Rattle.query_check.specs.Places.{place_of}
 use Rattle.query_check.specs.Seen.{seen_variable, seen_piece, seen_occurrence}
 use Rattle.query_model.specs.Query.{pieces_of}
-use Rattle.query_check.proofs.Nothing.{no_part}
+use Rattle.query_check.proofs.AbsentElements.{no_part}
 use Rattle.query_model.specs.Seen.{seen_part}
-use Rattle.query_check.proofs.Referring.{behind_seen, followed_at, part_at}
-use Rattle.query_check.proofs.Building.{all_built, part_built}
+use Rattle.query_check.proofs.PartReferences.{behind_seen, followed_at, part_at}
+use Rattle.query_check.proofs.BuiltPieces.{all_built, part_built}
 use Rattle.query_check.proofs.query.pieces.Goals as goal
 
 pub loop-i-preserved : goal.loop-i-preserved

@@ -3,7 +3,7 @@ use Rattle.query_check.specs.Seen.{seen_variable, seen_piece, seen_occurrence}
 use Rattle.query_model.specs.Levels.{followed, placed_parts}
 use Rattle.query_model.specs.Query.{pieces_of_part}
 use Rattle.query_model.specs.Seen.{seen_part}
-use Rattle.query_check.proofs.Referring.{HasLeft}
+use Rattle.query_check.proofs.PartReferences.{HasLeft}
 use Rattle.query_check.proofs.query.pieces.Given as goal
 
 abbrev pub invariant-loop-i : goal.invariant-loop-i

@@ -4,8 +4,8 @@ use Rattle.std.specs.Prelude.{option_map}
 use Rattle.std.proofs.lemmas.List.{get_or-map, length-map}
 use Rattle.query_model.specs.Scope.{names_variable}
 use Rattle.query_model.specs.Seen.{seen_part, seen_term}
-use Rattle.query_check.proofs.Nothing.{no_part}
-use Rattle.query_check.proofs.Referring.{no_more, one_fails, one_passes}
+use Rattle.query_check.proofs.AbsentElements.{no_part}
+use Rattle.query_check.proofs.PartReferences.{no_more, one_fails, one_passes}
 use Rattle.query_check.proofs.scope.alternatives_name.Goals as goal
 
 pub loop-part-preserved : goal.loop-part-preserved

@@ -1,7 +1,7 @@
 use Rattle.std.proofs.Common.{map}
 use Rattle.query_model.specs.Scope.{names_variable}
 use Rattle.query_model.specs.Seen.{seen_part}
-use Rattle.query_check.proofs.Referring.{AlternativesYet}
+use Rattle.query_check.proofs.PartReferences.{AlternativesYet}
 use Rattle.query_check.proofs.scope.alternatives_name.Given as goal
 
 abbrev pub invariant-loop-part : goal.invariant-loop-part

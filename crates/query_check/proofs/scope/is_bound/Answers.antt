@@ -3,8 +3,8 @@ use Rattle.std.proofs.Common.{◌+◌, ◌<◌, ◌∙◌, [], get_or, length, m
 use Rattle.std.proofs.lemmas.List.{get_or-map, length-map}
 use Rattle.query_check.specs.Places.{place_of}
 use Rattle.query_model.specs.Seen.{seen_part}
-use Rattle.query_check.proofs.Nothing.{no_part}
-use Rattle.query_check.proofs.Referring.{behind_seen, followed_at, none_binds, one_binds, this_binds_not, part_at, both, not_first, not_second}
+use Rattle.query_check.proofs.AbsentElements.{no_part}
+use Rattle.query_check.proofs.PartReferences.{behind_seen, followed_at, none_binds, one_binds, this_binds_not, part_at, both, not_first, not_second}
 use Rattle.query_check.proofs.scope.is_bound.Goals as goal
 use Rattle.query_check.proofs.scope.is_bound.Goals.{else-places-i-via-then-places-i+else-binds, else-places-i-via-else-places-i}
 

@@ -2,7 +2,7 @@
 use Rattle.std.proofs.Common.{◌∙◌, [], ap, sym, map}
 use Rattle.std.proofs.lemmas.List.{length-map}
 use Rattle.query_check.specs.Seen.{seen_use, seen_occurrence, sighting_of}
-use Rattle.query_check.proofs.Referring.{added, none_left, not_added, one_seen_less}
+use Rattle.query_check.proofs.PartReferences.{added, none_left, not_added, one_seen_less}
 use Rattle.query_check.proofs.scope.occurrences.Goals as goal
 use Rattle.query_check.proofs.scope.occurrences.Goals.{in-Some+in_ok-push, in_default}
 

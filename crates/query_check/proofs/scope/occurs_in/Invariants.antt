@@ -1,6 +1,6 @@
 use Rattle.query_check.specs.Seen.{seen_occurrence}
 use Rattle.query_model.specs.Scope.{is_sighting_of}
-use Rattle.query_check.proofs.Referring.{NoneYet}
+use Rattle.query_check.proofs.PartReferences.{NoneYet}
 use Rattle.query_check.proofs.scope.occurs_in.Given as goal
 
 abbrev pub invariant-loop-occurrence : goal.invariant-loop-occurrence

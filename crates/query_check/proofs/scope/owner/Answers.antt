@@ -4,7 +4,7 @@ use Rattle.std.specs.Prelude.{if◌then◌else◌}
 use Rattle.query_check.specs.Places.{place_of}
 use Rattle.query_check.specs.Seen.{seen_occurrence}
 use Rattle.query_model.specs.Scope.{occurs_in}
-use Rattle.query_check.proofs.Walking.{walk_on}
+use Rattle.query_check.proofs.LevelWalks.{walk_on}
 use Rattle.query_check.proofs.scope.owner.Goals as goal
 use Rattle.query_check.proofs.scope.owner.Goals.{then-occurs_in-2, else-occurs_in-2}
 

@@ -3,7 +3,7 @@ use Rattle.query_check.specs.Places.{IsRooted}
 use Rattle.query_check.specs.Seen.{seen_occurrence}
 use Rattle.query_model.specs.Levels.{Path, level_of}
 use Rattle.query_model.specs.Scope.{occurs_in}
-use Rattle.query_check.proofs.Walking.{IsWalked}
+use Rattle.query_check.proofs.LevelWalks.{IsWalked}
 use Rattle.query_check.proofs.scope.owner.Given as goal
 
 abbrev pub invariant-loop-inner : goal.invariant-loop-inner

@@ -2,8 +2,8 @@
 use Rattle.std.proofs.Common.{◌<◌, ◌∙◌, ap, length, map}
 use Rattle.std.proofs.lemmas.List.{length-map}
 use Rattle.query_check.specs.Seen.{seen_item, seen_piece}
-use Rattle.query_check.proofs.Placing.{seen_at}
-use Rattle.query_check.proofs.Showing.{closed_one, item_one, opened_one, same_numbers}
+use Rattle.query_check.proofs.PartPlaces.{seen_at}
+use Rattle.query_check.proofs.ShownNumbers.{closed_one, item_one, opened_one, same_numbers}
 use Rattle.query_check.proofs.shown.shown.Goals as goal
 use Rattle.query_check.proofs.shown.shown.Goals.{in-Item+in_ok-add_shown-in-Item, in-Opening, in-Closing}
 

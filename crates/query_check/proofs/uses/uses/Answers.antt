@@ -4,9 +4,9 @@ use Rattle.std.proofs.lemmas.List.{get_or-map, length-map}
 use Rattle.query_check.specs.Places.{place_of}
 use Rattle.query_check.specs.Seen.{level_uses_of, seen_use}
 use Rattle.query_model.specs.Levels.{placed_parts}
-use Rattle.query_check.proofs.Nothing.{no_part}
+use Rattle.query_check.proofs.AbsentElements.{no_part}
 use Rattle.query_model.specs.Seen.{seen_part}
-use Rattle.query_check.proofs.Referring.{all_left, none_left, part_at, part_used, placed-length}
+use Rattle.query_check.proofs.PartReferences.{all_left, none_left, part_at, part_used, placed-length}
 use Rattle.query_check.proofs.uses.uses.Goals as goal
 
 pub loop-i-init : goal.loop-i-init

@@ -3,7 +3,7 @@ use Rattle.query_check.specs.Found.{AreFound}
 use Rattle.query_check.specs.Seen.{level_uses_of, seen_use}
 use Rattle.query_model.specs.Levels.{placed_parts}
 use Rattle.query_model.specs.Seen.{seen_part}
-use Rattle.query_check.proofs.Referring.{HasLeft}
+use Rattle.query_check.proofs.PartReferences.{HasLeft}
 use Rattle.query_check.proofs.uses.uses.Given as goal
 
 abbrev pub invariant-loop-i : goal.invariant-loop-i

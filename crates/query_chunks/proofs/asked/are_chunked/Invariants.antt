@@ -1,5 +1,5 @@
 use Rattle.query_check.specs.Seen.{seen_piece}
-use Rattle.query_check.proofs.Referring.{AllYet}
+use Rattle.query_check.proofs.PartReferences.{AllYet}
 use Rattle.query_chunks.specs.Asked.{is_chunked_piece}
 use Rattle.query_chunks.proofs.asked.are_chunked.Given as goal
 

@@ -1,4 +1,4 @@
-use Rattle.query_meaning.proofs.Mentioned.{asked_queries_are_current}
+use Rattle.query_meaning.proofs.MentionedEntities.{asked_queries_are_current}
 use Rattle.query_meaning.proofs.laws.asked_queries_are_current.Goals as goal
 
 pub returns : goal.returns

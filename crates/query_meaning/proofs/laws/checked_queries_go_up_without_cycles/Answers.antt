@@ -1,4 +1,4 @@
-use Rattle.query_meaning.proofs.Rising.{checked_queries_go_up_without_cycles}
+use Rattle.query_meaning.proofs.RisingQueries.{checked_queries_go_up_without_cycles}
 use Rattle.query_meaning.proofs.laws.checked_queries_go_up_without_cycles.Goals as goal
 
 pub returns : goal.returns

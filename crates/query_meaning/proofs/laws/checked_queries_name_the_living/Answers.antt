@@ -1,4 +1,4 @@
-use Rattle.query_meaning.proofs.NamedLive.{checked_queries_name_the_living}
+use Rattle.query_meaning.proofs.LiveNames.{checked_queries_name_the_living}
 use Rattle.query_meaning.proofs.laws.checked_queries_name_the_living.Goals as goal
 
 pub returns : goal.returns

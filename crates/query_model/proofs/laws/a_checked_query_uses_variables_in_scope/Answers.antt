@@ -1,4 +1,4 @@
-use Rattle.query_model.proofs.Scoping.{queries_are_scoped, queries_of_texts_are_scoped}
+use Rattle.query_model.proofs.ScopedVariables.{queries_are_scoped, queries_of_texts_are_scoped}
 use Rattle.query_model.proofs.laws.a_checked_query_uses_variables_in_scope.Goals as goal
 
 pub returns-clause-of_syntaxes : goal.returns-clause-of_syntaxes

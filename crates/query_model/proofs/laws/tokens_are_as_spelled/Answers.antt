@@ -1,4 +1,4 @@
-use Rattle.query_model.proofs.Spelling.{tokens_are_spelled}
+use Rattle.query_model.proofs.TokenSpelling.{tokens_are_spelled}
 use Rattle.query_model.proofs.laws.tokens_are_as_spelled.Goals as goal
 
 pub returns : goal.returns

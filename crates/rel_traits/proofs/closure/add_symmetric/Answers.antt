@@ -2,7 +2,7 @@ use Rattle.std.proofs.Common.{◌≡◌, ◌∙◌, ◌<◌, ap, rules, arith}
 use Rattle.ecs_id.specs.Id.{first_of}
 use Rattle.ecs_model.specs.Added.{is_symmetric}
 use Rattle.rel_travel.proofs.Growth.{IsGrownBy-none}
-use Rattle.rel_traits.proofs.Spreading.{grown_by_other, grown_by_symmetric}
+use Rattle.rel_traits.proofs.AddedSets.{grown_by_other, grown_by_symmetric}
 use Rattle.rel_traits.proofs.closure.add_symmetric.Goals as goal
 use Rattle.rel_traits.proofs.closure.add_symmetric.Goals.{then-contains, else-contains}
 

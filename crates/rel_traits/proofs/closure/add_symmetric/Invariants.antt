@@ -1,6 +1,6 @@
 use Rattle.std.proofs.Common.{◌≡◌, take}
 use Rattle.rel_travel.specs.Growing.{IsGrownBy}
-use Rattle.rel_traits.proofs.Spreading.{symmetric_of}
+use Rattle.rel_traits.proofs.AddedSets.{symmetric_of}
 use Rattle.rel_traits.proofs.closure.add_symmetric.Given as goal
 
 abbrev pub invariant-loop-fact : goal.invariant-loop-fact

@@ -2,10 +2,10 @@ use Rattle.std.proofs.Common.{refl}
 use Rattle.ecs_id.specs.Id.{IsIndex}
 use Rattle.ecs_model.specs.Added.{brought}
 use Rattle.ecs_model.specs.World.{Key}
-use Rattle.rel_travel.proofs.Begun.{from_one}
+use Rattle.rel_travel.proofs.SearchStarts.{from_one}
 use Rattle.rel_traits.specs.FactLists.{IsOfLive}
-use Rattle.rel_traits.proofs.Ordered.{all_of, all_same}
-use Rattle.rel_traits.proofs.Spreading.{added_live}
+use Rattle.rel_traits.proofs.SortedFacts.{all_of, all_same}
+use Rattle.rel_traits.proofs.AddedSets.{added_live}
 use Rattle.rel_traits.proofs.closure.closure_add.Goals as goal
 
 pub returns-clause-added : goal.returns-clause-added

@@ -1,6 +1,6 @@
-use Rattle.ecs_model.proofs.Linked.{upward_below}
+use Rattle.ecs_model.proofs.LivePairs.{upward_below}
 use Rattle.ecs_model.specs.BuiltIns.{with_trait}
-use Rattle.rel_traits.proofs.Spreading.{lives_along}
+use Rattle.rel_traits.proofs.AddedSets.{lives_along}
 use Rattle.rel_traits.proofs.closure.gather_with.Goals as goal
 
 pub gather-requires : goal.gather-requires

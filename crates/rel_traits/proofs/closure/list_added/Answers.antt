@@ -2,7 +2,7 @@ use Rattle.std.proofs.Common.{◌≡◌, ◌∷◌, [], ◌<◌, Some, None, ref
 use Rattle.std.specs.List.{All, Contains}
 use Rattle.ecs_id.specs.Id.{IsIndex, first_of, pair, second_of}
 use Rattle.ecs_model.specs.World.{Key}
-use Rattle.rel_traits.proofs.Spreading.{All-weaker, closed_at, closed_both_ways, closed_on_itself, facts_below, facts_of_one, facts_of_two, facts_with, one_lives, symmetric_lives}
+use Rattle.rel_traits.proofs.AddedSets.{All-weaker, closed_at, closed_both_ways, closed_on_itself, facts_below, facts_of_one, facts_of_two, facts_with, one_lives, symmetric_lives}
 use Rattle.rel_traits.proofs.closure.list_added.Goals as goal
 
 pub add-requires : goal.add-requires

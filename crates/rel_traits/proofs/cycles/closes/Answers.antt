@@ -2,7 +2,7 @@ use Rattle.std.proofs.Common.{◌≡◌, ◌∙◌, ℕ, Some, false, true≢fal
 use Rattle.std.specs.List.{Contains}
 use Rattle.ecs_id.specs.Id.{first_of, second_of}
 use Rattle.ecs_model.specs.Links.{upward}
-use Rattle.rel_traits.proofs.Closes.{nobody_closes}
+use Rattle.rel_traits.proofs.CycleClosers.{nobody_closes}
 use Rattle.rel_traits.proofs.cycles.closes.Goals as goal
 
 pub returns-then-not-may_be_target-clause-answer : goal.returns-then-not-may_be_target-clause-answer

@@ -1,5 +1,5 @@
 use Rattle.std.proofs.lemmas.List.Filters.{dedup_is}
-use Rattle.rel_traits.proofs.Ordered.{in_order, same_facts}
+use Rattle.rel_traits.proofs.SortedFacts.{in_order, same_facts}
 use Rattle.rel_traits.proofs.fact_lists.put_in_order.Goals as goal
 
 pub returns-clause-ascend : goal.returns-clause-ascend

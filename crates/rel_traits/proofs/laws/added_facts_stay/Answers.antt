@@ -1,4 +1,4 @@
-use Rattle.rel_traits.proofs.Staying.{added_facts_stay}
+use Rattle.rel_traits.proofs.StayingFacts.{added_facts_stay}
 use Rattle.rel_traits.proofs.laws.added_facts_stay.Goals as goal
 
 pub returns : goal.returns

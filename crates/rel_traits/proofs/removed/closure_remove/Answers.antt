@@ -2,7 +2,7 @@ use Rattle.std.proofs.Common.{◌≡◌, List, ◌∷◌, refl}
 use Rattle.std.specs.List.{Contains}
 use Rattle.ecs_model.specs.Added.{mirror}
 use Rattle.ecs_model.specs.World.{Key}
-use Rattle.rel_traits.proofs.Ordered.{held_ones}
+use Rattle.rel_traits.proofs.SortedFacts.{held_ones}
 use Rattle.rel_traits.proofs.removed.closure_remove.Goals as goal
 use Rattle.rel_traits.proofs.removed.closure_remove.Goals.{in-Some+in_ok-push-2, in_default}
 

@@ -1,7 +1,7 @@
 use Rattle.std.proofs.Common.{◌≡◌, ◌∙◌, ap}
 use Rattle.ecs_id.specs.Id.{first_of, second_of}
 use Rattle.ecs_model.specs.Added.{is_symmetric}
-use Rattle.rel_traits.proofs.Giving.{mirrored, not_mirrored}
+use Rattle.rel_traits.proofs.ReplacedFacts.{mirrored, not_mirrored}
 use Rattle.rel_traits.proofs.removed.mirror_of.Goals as goal
 
 pub returns-then-contains : goal.returns-then-contains

@@ -3,7 +3,7 @@ use Rattle.std.proofs.lemmas.List.{append-nil}
 use Rattle.std.specs.Prelude.{OnOk}
 use Rattle.ecs_id.specs.Id.{first_of, second_of}
 use Rattle.ecs_model.specs.Added.{displaced, is_exclusive, is_symmetric, others_of}
-use Rattle.rel_traits.proofs.Giving.{gives_way, nothing_gives_way}
+use Rattle.rel_traits.proofs.ReplacedFacts.{gives_way, nothing_gives_way}
 use Rattle.rel_traits.proofs.replaced.push_displaced.Goals as goal
 
 pub returns-then-contains : goal.returns-then-contains

@@ -1,5 +1,5 @@
 use Rattle.rel_traits.specs.FactLists.{GivesWay}
-use Rattle.rel_traits.proofs.Ordered.{held_ones, ways_given}
+use Rattle.rel_traits.proofs.SortedFacts.{held_ones, ways_given}
 use Rattle.rel_traits.proofs.replaced.replaced_by.Goals as goal
 
 pub returns : goal.returns

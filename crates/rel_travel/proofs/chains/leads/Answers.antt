@@ -1,7 +1,7 @@
 use Rattle.std.proofs.Common.{◌↔◌, ℕ, ◌∙◌, sym}
 use Rattle.ecs_model.specs.Links.{IsReached, reaches, upward}
-use Rattle.ecs_model.proofs.Decided.{reaches_tells}
-use Rattle.ecs_model.proofs.Linked.{upward_below}
+use Rattle.ecs_model.proofs.ReachTests.{reaches_tells}
+use Rattle.ecs_model.proofs.LivePairs.{upward_below}
 use Rattle.ecs_model.proofs.Members.{alike}
 use Rattle.rel_travel.specs.Lists.{IsListed}
 use Rattle.rel_travel.proofs.Growth.{is_among_tells}

@@ -1,8 +1,8 @@
 use Rattle.std.proofs.Common.{◌≡◌, ◌∙◌, [], ◌∷◌, ap, subst, sym}
 use Rattle.ecs_model.specs.Links.{upward}
 use Rattle.ecs_model.specs.Reach.{IsReachedFrom}
-use Rattle.ecs_model.proofs.Linked.{upward_below}
-use Rattle.rel_travel.proofs.Begun.{alone}
+use Rattle.ecs_model.proofs.LivePairs.{upward_below}
+use Rattle.rel_travel.proofs.SearchStarts.{alone}
 use Rattle.rel_travel.proofs.chains.leads_back.Goals as goal
 
 pub gather_until-requires-clause-closed : goal.gather_until-requires-clause-closed

@@ -3,8 +3,8 @@ use Rattle.std.specs.List.{Contains}
 use Rattle.std.proofs.lemmas.List.{take_all}
 use Rattle.std.proofs.lemmas.List.Elements.{All-contains}
 use Rattle.ecs_model.specs.Links.{targets_in}
-use Rattle.ecs_model.proofs.Linked.{target_there}
-use Rattle.rel_travel.proofs.Deepening.{none_known, one_known}
+use Rattle.ecs_model.proofs.LivePairs.{target_there}
+use Rattle.rel_travel.proofs.DepthWalks.{none_known, one_known}
 use Rattle.rel_travel.proofs.depths.first_unknown.Goals as goal
 use Rattle.rel_travel.proofs.depths.first_unknown.Goals.{in-Some+else-known-target-eq0, in_default}
 

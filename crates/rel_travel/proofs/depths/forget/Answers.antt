@@ -2,7 +2,7 @@ use Rattle.std.proofs.Common.{◌≡◌, ◌<◌, get_or, length, subst, sym, ta
 use Rattle.std.specs.List.{Contains}
 use Rattle.std.proofs.lemmas.List.{take_all}
 use Rattle.std.proofs.lemmas.List.Elements.{Contains-get_or}
-use Rattle.rel_travel.proofs.Deepening.{all_forgotten, forgotten_more, still_noted}
+use Rattle.rel_travel.proofs.DepthWalks.{all_forgotten, forgotten_more, still_noted}
 use Rattle.rel_travel.proofs.depths.forget.Goals as goal
 
 pub loop-index-init : goal.loop-index-init

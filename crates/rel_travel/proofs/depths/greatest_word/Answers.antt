@@ -4,8 +4,8 @@ use Rattle.std.proofs.lemmas.List.{take_all}
 use Rattle.std.proofs.lemmas.List.Elements.{All-contains}
 use Rattle.ecs_model.specs.Depth.{greatest}
 use Rattle.ecs_model.specs.Links.{targets_in}
-use Rattle.ecs_model.proofs.Linked.{target_there}
-use Rattle.rel_travel.proofs.Deepening.{none_greater, one_greater}
+use Rattle.ecs_model.proofs.LivePairs.{target_there}
+use Rattle.rel_travel.proofs.DepthWalks.{none_greater, one_greater}
 use Rattle.rel_travel.proofs.depths.greatest_word.Goals as goal
 use Rattle.rel_travel.proofs.depths.greatest_word.Goals.{in-Some+then-word-most, in-Some+else-word-most, in_default}
 

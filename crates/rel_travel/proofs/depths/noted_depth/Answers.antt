@@ -3,10 +3,10 @@ use Rattle.std.specs.List.{Contains}
 use Rattle.std.proofs.lemmas.List.{get_or-set_same, length-set}
 use Rattle.ecs_model.specs.Depth.{greatest}
 use Rattle.ecs_model.specs.Links.{depth, targets_in, upward}
-use Rattle.ecs_model.proofs.Linked.{upward_below}
+use Rattle.ecs_model.proofs.LivePairs.{upward_below}
 use Rattle.rel_travel.specs.Words.{AreNoted, IsNotedOf}
 use Rattle.rel_travel.specs.declared.path.Step.{Step}
-use Rattle.rel_travel.proofs.Deepening.{AreAsked, AreUnknown, IsWay, below_more, depth_is_less, fewer_unknown, more_numbers, noted_of_more, still_asked, still_unknown, way_below, way_from_place, way_is_below, way_is_short, way_leads, word_is}
+use Rattle.rel_travel.proofs.DepthWalks.{AreAsked, AreUnknown, IsWay, below_more, depth_is_less, fewer_unknown, more_numbers, noted_of_more, still_asked, still_unknown, way_below, way_from_place, way_is_below, way_is_short, way_leads, word_is}
 use Rattle.rel_travel.proofs.depths.noted_depth.Goals as goal
 
 pub first_unknown-requires : goal.first_unknown-requires

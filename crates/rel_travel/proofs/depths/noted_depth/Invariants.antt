@@ -2,7 +2,7 @@ use Rattle.std.proofs.Common.{◌≡◌, ◌≢◌, ◌≤◌, ◌<◌, ◌+◌,
 use Rattle.std.specs.List.{Contains, sum_by}
 use Rattle.ecs_model.specs.Links.{depth, upward}
 use Rattle.rel_travel.specs.Words.{AreNumbers, IsNotedOf, NoneNoted}
-use Rattle.rel_travel.proofs.Deepening.{AreAsked, AreUnknown, IsWay, unknown}
+use Rattle.rel_travel.proofs.DepthWalks.{AreAsked, AreUnknown, IsWay, unknown}
 use Rattle.rel_travel.proofs.depths.noted_depth.Given as goal
 
 abbrev pub invariant-loop-step : goal.invariant-loop-step

@@ -1,5 +1,5 @@
 use Rattle.std.proofs.Common.{sym, arith}
-use Rattle.rel_travel.proofs.Forbidden.{mentioned_below}
+use Rattle.rel_travel.proofs.ForbiddenDeletions.{mentioned_below}
 use Rattle.rel_travel.proofs.forbidding.forbids_one.Goals as goal
 
 pub is_forbidding-requires : goal.is_forbidding-requires

@@ -1,5 +1,5 @@
 use Rattle.std.proofs.Common.{◌∙◌, sym, arith}
-use Rattle.rel_travel.proofs.Forbidden.{none_is, one_is, one_forbids, shown}
+use Rattle.rel_travel.proofs.ForbiddenDeletions.{none_is, one_is, one_forbids, shown}
 use Rattle.rel_travel.proofs.forbidding.has_forbidder.Goals as goal
 
 pub returns-then-forbids_one : goal.returns-then-forbids_one

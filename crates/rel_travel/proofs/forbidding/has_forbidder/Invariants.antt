@@ -1,6 +1,6 @@
 use Rattle.std.proofs.Common.{◌≡◌, false, take}
 use Rattle.std.specs.List.{list_any}
-use Rattle.rel_travel.proofs.Forbidden.{one_forbids}
+use Rattle.rel_travel.proofs.ForbiddenDeletions.{one_forbids}
 use Rattle.rel_travel.proofs.forbidding.has_forbidder.Given as goal
 
 abbrev pub invariant-loop-entity : goal.invariant-loop-entity

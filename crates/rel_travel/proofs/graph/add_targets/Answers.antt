@@ -2,8 +2,8 @@ use Rattle.std.proofs.Common.{◌∙◌, ◌<◌, List, sym, arith}
 use Rattle.std.proofs.lemmas.List.Elements.{All-contains}
 use Rattle.ecs_id.specs.Id.{Id}
 use Rattle.ecs_model.specs.Links.{targets_in}
-use Rattle.rel_travel.proofs.Adding.{found_all, found_no_target, found_target}
-use Rattle.ecs_model.proofs.Linked.{target_there}
+use Rattle.rel_travel.proofs.AddedLists.{found_all, found_no_target, found_target}
+use Rattle.ecs_model.proofs.LivePairs.{target_there}
 use Rattle.rel_travel.proofs.graph.add_targets.Goals as goal
 use Rattle.rel_travel.proofs.graph.add_targets.Goals.{in-Some, in_default}
 

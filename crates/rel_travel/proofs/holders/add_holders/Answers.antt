@@ -6,7 +6,7 @@ use Rattle.ecs_id.specs.declared.TableKey.{TableKey}
 use Rattle.std.proofs.lemmas.List.Elements.{All-contains}
 use Rattle.rel_travel.specs.Holders.{holders}
 use Rattle.rel_travel.proofs.Growth.{IsGrownWhere-same}
-use Rattle.rel_travel.proofs.Adding.{found_all, found_table, grown_so}
+use Rattle.rel_travel.proofs.AddedLists.{found_all, found_table, grown_so}
 use Rattle.rel_travel.proofs.Rows.{rows_below}
 use Rattle.rel_travel.proofs.holders.add_holders.Goals as goal
 

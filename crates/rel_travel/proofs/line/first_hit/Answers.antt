@@ -5,7 +5,7 @@ use Rattle.component_index.specs.Patterns.{matches}
 use Rattle.std.specs.List.{list_any}
 use Rattle.ecs_model.specs.Links.{line, upward}
 use Rattle.rel_travel.proofs.Growth.{is_among_tells}
-use Rattle.ecs_model.proofs.Linked.{next_below, upward_lives}
+use Rattle.ecs_model.proofs.LivePairs.{next_below, upward_lives}
 use Rattle.rel_travel.proofs.LineSearch.{IsSearched, IsSearched-begin, IsSearched-enter, IsSearched-hit, IsSearched-leave, IsSearched-seen, IsSearched-skip}
 use Rattle.ecs_model.proofs.ShortLines.{line_unfolds}
 use Rattle.rel_travel.proofs.line.first_hit.Goals as goal

@@ -3,9 +3,9 @@ use Rattle.std.specs.List.{Contains}
 use Rattle.std.proofs.lemmas.List.Elements.{All-contains}
 use Rattle.ecs_model.specs.Links.{IsReached, upward}
 use Rattle.ecs_model.specs.Reach.{Reaches}
-use Rattle.ecs_model.proofs.Linked.{upward_below}
+use Rattle.ecs_model.proofs.LivePairs.{upward_below}
 use Rattle.rel_travel.specs.Coming.{above_list, list_from, with_finds}
-use Rattle.rel_travel.proofs.Begun.{begun}
+use Rattle.rel_travel.proofs.SearchStarts.{begun}
 use Rattle.rel_travel.proofs.Turns.{begun_listed, started_at, turns_alike}
 use Rattle.rel_travel.proofs.scratch.above.Goals as goal
 use Rattle.rel_travel.proofs.scratch.above.Goals.{then-begin_with, else-begin_with}

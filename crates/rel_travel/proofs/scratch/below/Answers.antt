@@ -1,11 +1,11 @@
 use Rattle.std.proofs.Common.{◌≡◌, ◌↔◌, ◌⊎◌, ◌<◌, ◌≤◌, ℕ, true, false, ◌&&◌, not, refl, sym, ap, ◌∙◌, inl, inr, arith}
 use Rattle.ecs_model.specs.Links.{IsReached, upward}
 use Rattle.ecs_model.specs.Reach.{Reaches}
-use Rattle.ecs_model.proofs.Reaching.{turned_reach}
+use Rattle.ecs_model.proofs.ReachSteps.{turned_reach}
 use Rattle.rel_travel.specs.Coming.{below_list, downward, list_from, with_finds}
 use Rattle.rel_travel.specs.Growing.{IsGrownBy}
 use Rattle.rel_travel.specs.Holders.{holders_of_pair}
-use Rattle.rel_travel.proofs.Begun.{begun}
+use Rattle.rel_travel.proofs.SearchStarts.{begun}
 use Rattle.rel_travel.proofs.Cleanup.{holds_upward, pairs_below, upward_holds}
 use Rattle.rel_travel.proofs.Lists.{downward_below}
 use Rattle.rel_travel.proofs.Turns.{started, started_at, turns_alike}

@@ -1,4 +1,4 @@
-use Rattle.ecs_model.proofs.Linked.{upward_below}
+use Rattle.ecs_model.proofs.LivePairs.{upward_below}
 use Rattle.rel_travel.proofs.Cleanup.{pairs_below}
 use Rattle.rel_travel.proofs.scratch.follow.Goals as goal
 

@@ -1,7 +1,7 @@
 use Rattle.std.proofs.Common.{◌≤◌, ◌<◌, ◌∙◌, ℕ, length, arith}
 use Rattle.rel_travel.specs.Holders.{holders_of_pair}
 use Rattle.rel_travel.proofs.Cleanup.{pairs_below}
-use Rattle.rel_travel.proofs.Seeking.{sought_first, sought_more, sought_of}
+use Rattle.rel_travel.proofs.SearchRounds.{sought_first, sought_more, sought_of}
 use Rattle.rel_travel.proofs.ways.go_on_below.Goals as goal
 
 pub returns-then-not-is_from-clause-sought : goal.returns-then-not-is_from-clause-sought

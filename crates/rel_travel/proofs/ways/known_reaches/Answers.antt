@@ -1,7 +1,7 @@
 use Rattle.std.proofs.Common.{ℕ, subst, sym}
 use Rattle.rel_travel.specs.Holders.{holders_of_pair}
 use Rattle.rel_travel.specs.Ways.{IsSought, Known}
-use Rattle.rel_travel.proofs.LedOn.{told_of_other}
+use Rattle.rel_travel.proofs.KnownWays.{told_of_other}
 use Rattle.rel_travel.proofs.ways.known_reaches.Goals as goal
 
 pub leads_to_other-requires-clause-below : goal.leads_to_other-requires-clause-below

@@ -1,9 +1,9 @@
 use Rattle.std.proofs.Common.{◌∷◌, ℕ, arith}
 use Rattle.ecs_model.specs.Links.{upward}
-use Rattle.ecs_model.proofs.Linked.{upward_below}
+use Rattle.ecs_model.proofs.LivePairs.{upward_below}
 use Rattle.rel_travel.specs.Holders.{holders_of_pair}
-use Rattle.rel_travel.proofs.LedOn.{led_from}
-use Rattle.rel_travel.proofs.Seeking.{reached_told, sought_of, sought_on}
+use Rattle.rel_travel.proofs.KnownWays.{led_from}
+use Rattle.rel_travel.proofs.SearchRounds.{reached_told, sought_of, sought_on}
 use Rattle.rel_travel.proofs.ways.leads_to_other.Goals as goal
 
 -- it was known

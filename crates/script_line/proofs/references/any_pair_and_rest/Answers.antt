@@ -1,6 +1,6 @@
 use Rattle.std.proofs.Common.{arith, None}
 use Rattle.std.proofs.lemmas.Str.Pattern.{split_once_first}
-use Rattle.script_line.proofs.Named.{no_bracket}
+use Rattle.script_line.proofs.NamedReferences.{no_bracket}
 use Rattle.script_line.proofs.references.any_pair_and_rest.Goals as goal
 
 pub returns-in_err-inside : goal.returns-in_err-inside

@@ -2,7 +2,7 @@ use Rattle.std.proofs.Common.{◌≡◌, sym, ap, ◌∙◌, None, arith}
 use Rattle.std.proofs.lemmas.Str.Pattern.{strip_prefix_char}
 use Rattle.ecs_model.specs.Script.{id_and_rest}
 use Rattle.ecs_model.specs.Text.{trim_front}
-use Rattle.script_line.proofs.Named.{plain_read}
+use Rattle.script_line.proofs.NamedReferences.{plain_read}
 use Rattle.script_line.proofs.WordLists.{trim_twice}
 use Rattle.script_line.proofs.references.id_and_rest.Goals as goal
 

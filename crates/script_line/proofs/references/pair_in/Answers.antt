@@ -1,6 +1,6 @@
 use Rattle.std.proofs.Common.{arith, None}
 use Rattle.std.proofs.lemmas.Str.Pattern.{split_once_first}
-use Rattle.script_line.proofs.Named.{no_comma}
+use Rattle.script_line.proofs.NamedReferences.{no_comma}
 use Rattle.script_line.proofs.references.pair_in.Goals as goal
 
 pub returns-in_err-relationship : goal.returns-in_err-relationship

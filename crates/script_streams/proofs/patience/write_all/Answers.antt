@@ -1,5 +1,5 @@
 use Rattle.std.proofs.Common.{rules}
-use Rattle.script_streams.proofs.Appended.{Appends-more}
+use Rattle.script_streams.proofs.AppendedBytes.{Appends-more}
 use Rattle.script_streams.proofs.patience.write_all.Goals as goal
 
 pub loop-at-preserved : goal.loop-at-preserved

@@ -5,7 +5,7 @@ use Rattle.ecs_id.specs.Id.{Id, id_cmp, id_eq}
 use Rattle.ecs_table.specs.Archetype.{Archetype}
 use Rattle.table_store.specs.Kept.{stepped}
 use Rattle.table_store.specs.Store.{Shape, byte_size, shape_of, with_id, without_id}
-use Rattle.table_store.proofs.Inserting.{filter_cells, joined, put_between}
+use Rattle.table_store.proofs.InsertedIds.{filter_cells, joined, put_between}
 use Rattle.table_store.proofs.shape.next_shape.Goals as goal
 
 abbrev cell : Archetype → Id → Id × ℕ

@@ -2,7 +2,7 @@ use Rattle.std.proofs.Common.{◌+◌, ◌*◌, ◌≤◌, inr, length, rules, s
 use Rattle.std.proofs.lemmas.Fn.{filter_same}
 use Rattle.slab.specs.Slab.{slab_len}
 use Rattle.table_store.specs.Kept.{is_held}
-use Rattle.table_store.proofs.Counting.{held_few}
+use Rattle.table_store.proofs.TableCounts.{held_few}
 use Rattle.table_store.proofs.store.forget_released.Goals as goal
 
 pub returns-then-len-clause-few : goal.returns-then-len-clause-few

@@ -4,7 +4,7 @@ use Rattle.ecs_id.specs.Id.{Id}
 use Rattle.ecs_table.specs.Archetype.{Archetype, empty_table}
 use Rattle.table_store.specs.Store.{Shape, shaped}
 use Rattle.table_store.proofs.Shapes.{no_sizes, small_sizes}
-use Rattle.table_store.proofs.Putting.{if_ok}
+use Rattle.table_store.proofs.FoundTables.{if_ok}
 use Rattle.table_store.proofs.store.new_table.Goals as goal
 
 of_tags : (f : Shape) (ids : List Id) (t : Archetype) → list_all (λ c. c.1 == 0) f ≡ true → ids ≡ map (λ c. c.0) f → t ≡ empty_table ids (replicate (length ids) 0) → t ≡ shaped f

@@ -1,4 +1,4 @@
-use Rattle.world_query.proofs.Asked.{answerable}
+use Rattle.world_query.proofs.AskedQueries.{answerable}
 use Rattle.test_queries.proofs.diamond.write_asked.Goals as goal
 
 pub write_by_each-requires : goal.write_by_each-requires

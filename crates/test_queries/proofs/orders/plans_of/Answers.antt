@@ -1,7 +1,7 @@
 -- What a text asks in a world has what it needs to be answered there, and so has a copy of it.
 use Rattle.std.proofs.Common.{refl, ◌∙◌}
 use Rattle.ecs_model.specs.rows.View.{view_of}
-use Rattle.world_query.proofs.Asked.{answerable, as_answerable}
+use Rattle.world_query.proofs.AskedQueries.{answerable, as_answerable}
 use Rattle.test_queries.proofs.orders.plans_of.Goals as goal
 
 pub plan_in-requires : goal.plan_in-requires

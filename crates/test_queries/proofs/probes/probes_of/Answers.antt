@@ -13,7 +13,7 @@ use Rattle.query_meaning.specs.declared.steps.Step.{Step}
 use Rattle.query_model.specs.Query.{Query}
 use Rattle.world_facts.specs.Shown.{Shown, reading_of}
 use Rattle.world_query.specs.Answerable.{table_counts}
-use Rattle.world_query.proofs.Asked.{answerable, as_answerable}
+use Rattle.world_query.proofs.AskedQueries.{answerable, as_answerable}
 use Rattle.test_queries.proofs.probes.probes_of.Goals as goal
 
 pub plan_in-requires : goal.plan_in-requires

@@ -2,7 +2,7 @@
 use Rattle.std.proofs.Common.{ap}
 use Rattle.ecs_model.specs.rows.View.{view_of}
 use Rattle.ecs_world.specs.Standing.{Standing}
-use Rattle.world_query.proofs.Asked.{answerable, as_answerable}
+use Rattle.world_query.proofs.AskedQueries.{answerable, as_answerable}
 use Rattle.test_queries.proofs.runs.run_query.Goals as goal
 
 pub plan_in-requires : goal.plan_in-requires

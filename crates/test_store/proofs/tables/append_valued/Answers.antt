@@ -1,7 +1,7 @@
 use Rattle.std.proofs.Common.{◌≡◌, [], ◌∷◌, cond, ap, sym, ◌∙◌, true, false, Some, None}
 use Rattle.std.proofs.lemmas.Option.{none-some, same_Some}
 use Rattle.ecs_id.specs.Id.{Id, id_eq, id_eq_itself}
-use Rattle.ecs_table.proofs.Ordered.{size_of_new}
+use Rattle.ecs_table.proofs.TableIds.{size_of_new}
 use Rattle.ecs_table.proofs.Rows.{equal_sizes_from, size_of_appended, size_of_set}
 use Rattle.ecs_table.specs.Archetype.{Archetype, HaveEqualSizes, empty_table, no_entity, size_of}
 use Rattle.test_store.proofs.tables.append_valued.Goals as goal

@@ -2,7 +2,7 @@ use Rattle.std.specs.Prelude.{flat_map, if◌then◌else◌}
 use Rattle.std.proofs.Common.{[], ◌∷◌, ◌++◌, ap, ◌∙◌}
 use Rattle.watch_index.specs.Listed.{listed}
 use Rattle.watch_index.specs.declared.occasion.Occasion.TheVariants.{Life}
-use Rattle.watch_index.proofs.Gathered.{all_gathered}
+use Rattle.watch_index.proofs.GatheredNumbers.{all_gathered}
 use Rattle.watch_index.proofs.gathering.gather.Goals as goal
 
 pub returns : goal.returns

@@ -5,7 +5,7 @@ use Rattle.secret_hashing.specs.declared.Hashing.{Hashing}
 use Rattle.watch_index.specs.declared.occasion.Occasion.{Occasion}
 use Rattle.watch_index.specs.SameOccasion.{occasion_eq}
 use Rattle.watch_index.specs.Listed.{has}
-use Rattle.watch_index.proofs.Entering.{Adds-one, Same-one, on_err}
+use Rattle.watch_index.proofs.OccasionLists.{Adds-one, Same-one, on_err}
 use Rattle.watch_index.proofs.Blocks.{one_has}
 use Rattle.watch_index.proofs.lists.list.Goals as goal
 

@@ -1,6 +1,6 @@
 use Rattle.std.proofs.Common.{arith, refl}
 use Rattle.watch_index.specs.SameOccasion.{occasion_eq}
-use Rattle.watch_index.proofs.Entering.{Adds-begin, Adds-end, Adds-more, Keeps-more, on_err}
+use Rattle.watch_index.proofs.OccasionLists.{Adds-begin, Adds-end, Adds-more, Keeps-more, on_err}
 use Rattle.watch_index.proofs.lists.list_all.Goals as goal
 
 pub loop-occasion-init : goal.loop-occasion-init

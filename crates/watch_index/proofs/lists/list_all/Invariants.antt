@@ -1,6 +1,6 @@
 use Rattle.watch_index.specs.Listed.{Adds}
 use Rattle.watch_index.specs.SameOccasion.{occasion_eq}
-use Rattle.watch_index.proofs.Entering.{of_first}
+use Rattle.watch_index.proofs.OccasionLists.{of_first}
 use Rattle.watch_index.proofs.lists.list_all.Given as goal
 
 abbrev pub invariant-loop-occasion : goal.invariant-loop-occasion

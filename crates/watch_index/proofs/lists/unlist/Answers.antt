@@ -1,7 +1,7 @@
 use Rattle.std.proofs.Common.{rules, ◌≡◌, Some, None, sym, ◌∙◌}
 use Rattle.std.specs.Map.{lookup}
 use Rattle.watch_index.specs.SameOccasion.{occasion_eq}
-use Rattle.watch_index.proofs.Entering.{Drops-one, gone_at, has_none}
+use Rattle.watch_index.proofs.OccasionLists.{Drops-one, gone_at, has_none}
 use Rattle.watch_index.proofs.lists.unlist.Goals as goal
 
 pub returns-else-is_empty : goal.returns-else-is_empty

@@ -1,6 +1,6 @@
 use Rattle.std.proofs.Common.{arith, refl}
 use Rattle.watch_index.specs.SameOccasion.{occasion_eq}
-use Rattle.watch_index.proofs.Entering.{Drops-begin, Drops-end, Drops-more}
+use Rattle.watch_index.proofs.OccasionLists.{Drops-begin, Drops-end, Drops-more}
 use Rattle.watch_index.proofs.lists.unlist_all.Goals as goal
 
 pub loop-occasion-init : goal.loop-occasion-init

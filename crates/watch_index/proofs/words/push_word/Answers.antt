@@ -2,7 +2,7 @@ use Rattle.std.proofs.Common.{◌+◌, ◌*◌, arith, rules, w64}
 use Rattle.std.specs.Int.{trailing_zeros}
 use Rattle.std.proofs.lemmas.Nat.Bits.{bit_at-trailing_zeros}
 use Rattle.watch_index.specs.Words.{numbers_of}
-use Rattle.watch_index.proofs.Listing.{all_listed, cleared_less, one_listed}
+use Rattle.watch_index.proofs.WordNumbers.{all_listed, cleared_less, one_listed}
 use Rattle.watch_index.proofs.words.push_word.Goals as goal
 
 pub bits-smaller : goal.bits-smaller

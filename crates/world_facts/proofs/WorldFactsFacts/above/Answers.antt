@@ -1,9 +1,9 @@
 use Rattle.std.proofs.Common.{◌≡◌, ◌≤◌, true, sym, subst, ◌∙◌, arith}
-use Rattle.ecs_links.specs.Linked.{rows_under, tables_under}
+use Rattle.ecs_archetypes.specs.Linked.{rows_under, tables_under}
 use Rattle.ecs_model.specs.World.{entities}
 use Rattle.query_meaning.specs.Variables.{contains}
 use Rattle.world_facts.specs.Shown.{Shown}
-use Rattle.world_facts.proofs.Told.{above_all, live_below, lives_same}
+use Rattle.world_facts.proofs.WorldReads.{above_all, live_below, lives_same}
 use Rattle.world_facts.proofs.WorldFactsFacts.above.Goals as goal
 
 pub above-requires-clause-inside : goal.above-requires-clause-inside

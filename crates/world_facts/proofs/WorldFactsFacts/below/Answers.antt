@@ -2,7 +2,7 @@ use Rattle.std.proofs.Common.{◌≡◌, ◌≤◌, true, sym, subst, ◌∙◌,
 use Rattle.ecs_model.specs.World.{entities}
 use Rattle.query_meaning.specs.Variables.{contains}
 use Rattle.world_facts.specs.Shown.{Shown}
-use Rattle.world_facts.proofs.Told.{below_all, live_below, lives_same}
+use Rattle.world_facts.proofs.WorldReads.{below_all, live_below, lives_same}
 use Rattle.world_facts.proofs.WorldFactsFacts.below.Goals as goal
 
 pub below-requires-clause-inside : goal.below-requires-clause-inside

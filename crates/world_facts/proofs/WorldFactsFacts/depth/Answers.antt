@@ -1,10 +1,10 @@
 use Rattle.std.proofs.Common.{subst, sym}
-use Rattle.ecs_links.specs.Linked.{indexes}
+use Rattle.ecs_archetypes.specs.Linked.{indexes}
 use Rattle.ecs_model.specs.Links.{IsAcyclic, depth}
 use Rattle.ecs_model.specs.World.{ids_of}
 use Rattle.rel_travel.specs.Words.{AreNumbers}
 use Rattle.world_facts.specs.Shown.{Shown, reading_of}
-use Rattle.world_facts.proofs.Told.{ids_same}
+use Rattle.world_facts.proofs.WorldReads.{ids_same}
 use Rattle.world_facts.proofs.WorldFactsFacts.depth.Goals as goal
 
 pub known_depth-requires-clause-acyclic : goal.known_depth-requires-clause-acyclic

@@ -1,6 +1,6 @@
 use Rattle.std.proofs.Common.{ℕ, ap, is_some, ◌∙◌}
 use Rattle.ecs_id.specs.declared.EntityId.{EntityId}
-use Rattle.world_facts.proofs.Told.{live_read}
+use Rattle.world_facts.proofs.WorldReads.{live_read}
 use Rattle.world_facts.proofs.WorldFactsFacts.is_live.Goals as goal
 
 pub returns : goal.returns

@@ -1,5 +1,5 @@
 use Rattle.world_facts.specs.Shown.{Shown}
-use Rattle.world_facts.proofs.Factual.{factual}
+use Rattle.world_facts.proofs.FactViews.{factual}
 use Rattle.world_facts.proofs.WorldFactsFacts.keeps.Goals as goal
 
 pub returns : goal.returns

@@ -1,9 +1,9 @@
 use Rattle.std.proofs.Common.{subst, sym}
-use Rattle.ecs_links.specs.Linked.{indexes}
+use Rattle.ecs_archetypes.specs.Linked.{indexes}
 use Rattle.ecs_model.specs.World.{ids_of}
 use Rattle.rel_travel.specs.Ways.{AreWays}
 use Rattle.world_facts.specs.Shown.{Shown, reading_of}
-use Rattle.world_facts.proofs.Told.{ids_same}
+use Rattle.world_facts.proofs.WorldReads.{ids_same}
 use Rattle.world_facts.proofs.WorldFactsFacts.known_reaches.Goals as goal
 
 pub known_reaches-requires-clause-ways : goal.known_reaches-requires-clause-ways

@@ -2,7 +2,7 @@ use Rattle.std.proofs.Common.{◌≡◌, ◌⊎◌, ◌≤◌, sym, subst, inl, 
 use Rattle.ecs_model.specs.Links.{is_reflexive}
 use Rattle.ecs_model.specs.World.{ids_of}
 use Rattle.world_facts.specs.Shown.{Shown}
-use Rattle.world_facts.proofs.Told.{outside_apart, outside_same, world_links}
+use Rattle.world_facts.proofs.WorldReads.{outside_apart, outside_same, world_links}
 use Rattle.world_facts.proofs.WorldFactsFacts.reaches.Goals as goal
 
 pub returns-then-source-target-clause-reaches : goal.returns-then-source-target-clause-reaches

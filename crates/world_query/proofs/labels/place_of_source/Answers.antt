@@ -1,6 +1,6 @@
 -- The first text may be the entity's.
 use Rattle.std.proofs.Common.{arith}
-use Rattle.world_query.proofs.Kept.{found_at}
+use Rattle.world_query.proofs.KeptTexts.{found_at}
 use Rattle.world_query.proofs.labels.place_of_source.Goals as goal
 
 pub returns-then-is_of-clause-place : goal.returns-then-is_of-clause-place

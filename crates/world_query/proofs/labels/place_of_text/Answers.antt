@@ -4,7 +4,7 @@ use Rattle.std.proofs.lemmas.List.{get_or_default}
 use Rattle.std.proofs.lemmas.List.Elements.{All-set}
 use Rattle.world_query.specs.Lines.{IsKept}
 use Rattle.world_query.specs.declared.labels.EntityText.{EntityText}
-use Rattle.world_query.proofs.Kept.{asked_anew, asked_known, found_at, kept_whole, looked_up_at}
+use Rattle.world_query.proofs.KeptTexts.{asked_anew, asked_known, found_at, kept_whole, looked_up_at}
 use Rattle.world_query.proofs.labels.place_of_text.Goals as goal
 
 pub returns-then-is_of-clause-place : goal.returns-then-is_of-clause-place

@@ -1,4 +1,4 @@
-use Rattle.world_query.proofs.Planned.{planned_queries_stay_within}
+use Rattle.world_query.proofs.PlannedCounts.{planned_queries_stay_within}
 use Rattle.world_query.proofs.laws.planned_queries_stay_within_their_probes.Goals as goal
 
 pub returns : goal.returns

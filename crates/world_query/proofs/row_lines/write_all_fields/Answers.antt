@@ -9,11 +9,11 @@ use Rattle.ecs_print.specs.Stops.{StopsWithin}
 use Rattle.ecs_print.proofs.Stops.{on_err_anyway}
 use Rattle.ecs_model.specs.Print.{field_text}
 use Rattle.ecs_model.specs.rows.View.{view_of}
-use Rattle.row_fields.specs.declared.field_places.ShownFact.{ShownFact}
-use Rattle.row_fields.specs.Fields.{shown_field}
+use Rattle.plan_fields.specs.declared.field_places.ShownFact.{ShownFact}
+use Rattle.plan_fields.specs.Fields.{shown_field}
 use Rattle.world_query.specs.Lines.{IsLabel, line_end, written}
-use Rattle.world_query.proofs.Kept.{texts_lent}
-use Rattle.world_query.proofs.Printed.{line_ended, line_goes_on}
+use Rattle.world_query.proofs.KeptTexts.{texts_lent}
+use Rattle.world_query.proofs.PrintedLists.{line_ended, line_goes_on}
 use Rattle.world_query.proofs.Fronts.{stops_in_line}
 use Rattle.world_query.proofs.row_lines.write_all_fields.Goals as goal
 

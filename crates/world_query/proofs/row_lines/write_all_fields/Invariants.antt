@@ -2,7 +2,7 @@ use Rattle.std.proofs.Common.{◌≡◌, ◌<◌, ◌≤◌, ◌++◌, take, len
 use Rattle.std.specs.Prelude.{codes, flat_map}
 use Rattle.ecs_model.specs.Print.{field_text}
 use Rattle.ecs_model.specs.rows.View.{view_of}
-use Rattle.row_fields.specs.Fields.{shown_field}
+use Rattle.plan_fields.specs.Fields.{shown_field}
 use Rattle.world_query.specs.Lines.{AreTexts, written}
 use Rattle.world_query.proofs.row_lines.write_all_fields.Given as goal
 

@@ -4,7 +4,7 @@ use Rattle.std.proofs.lemmas.Result.{on_err_weaker, on_ok_weaker}
 use Rattle.ecs_print.specs.Stops.{StopsWithin}
 use Rattle.ecs_print.proofs.Stops.{on_err_anyway, stops_before}
 use Rattle.world_query.specs.Lines.{written}
-use Rattle.world_query.proofs.Kept.{binding_put}
+use Rattle.world_query.proofs.KeptTexts.{binding_put}
 use Rattle.world_query.proofs.row_lines.write_binding.Goals as goal
 
 pub put_pair-requires : goal.put_pair-requires

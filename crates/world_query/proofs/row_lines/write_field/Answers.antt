@@ -8,8 +8,8 @@ use Rattle.ecs_model.specs.World.{WorldState}
 use Rattle.ecs_model.specs.Print.{field_text, index_text, value_text}
 use Rattle.ecs_model.specs.rows.Rows.{Shown}
 use Rattle.ecs_model.specs.rows.View.{view_of}
-use Rattle.row_fields.specs.declared.field_places.ShownFact.{ShownFact}
-use Rattle.row_fields.specs.Fields.{shown_field}
+use Rattle.plan_fields.specs.declared.field_places.ShownFact.{ShownFact}
+use Rattle.plan_fields.specs.Fields.{shown_field}
 use Rattle.world_query.specs.Lines.{field_end, label_text, line_end, written}
 use Rattle.world_query.proofs.row_lines.write_field.Goals as goal
 

@@ -7,9 +7,9 @@ use Rattle.ecs_print.specs.Stops.{StopsWithin}
 use Rattle.ecs_print.proofs.Stops.{on_err_anyway, stops_behind, stops_sooner}
 use Rattle.ecs_model.specs.Print.{field_text}
 use Rattle.ecs_model.specs.rows.View.{view_of}
-use Rattle.row_fields.specs.Fields.{shown_field}
+use Rattle.plan_fields.specs.Fields.{shown_field}
 use Rattle.world_query.specs.Lines.{row_alone, started, starts_in, written}
-use Rattle.world_query.proofs.Kept.{texts_lent}
+use Rattle.world_query.proofs.KeptTexts.{texts_lent}
 use Rattle.world_query.proofs.row_lines.write_row.Goals as goal
 
 pub write_all_fields-requires : goal.write_all_fields-requires

@@ -3,7 +3,7 @@ use Rattle.std.proofs.Common.{refl, subst}
 use Rattle.std.specs.Io.KnownBytes.{Appends}
 use Rattle.ecs_print.proofs.Stops.{on_err_anyway}
 use Rattle.script_streams.specs.Streams.{TakesFront}
-use Rattle.world_query.proofs.Sent.{sent_off, stops_off}
+use Rattle.world_query.proofs.SentTexts.{sent_off, stops_off}
 use Rattle.world_query.proofs.sending.send_list.Goals as goal
 
 pub returns-clause-sent : goal.returns-clause-sent

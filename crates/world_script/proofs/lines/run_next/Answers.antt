@@ -1,8 +1,8 @@
 -- The line is counted, and what was sent of it stays sent.
 use Rattle.std.proofs.Common.{arith}
 use Rattle.std.proofs.lemmas.Grind.{common_steps}
-use Rattle.world_query.proofs.Sent.{calm_ok, calm_still, fails_same}
-use Rattle.world_script.proofs.Answered.{on_err_anyway}
+use Rattle.world_query.proofs.SentTexts.{calm_ok, calm_still, fails_same}
+use Rattle.world_script.proofs.AnswerWays.{on_err_anyway}
 use Rattle.world_script.proofs.lines.run_next.Goals as goal
 
 pub returns-then-is_refused-clause-ran : goal.returns-then-is_refused-clause-ran

@@ -1,8 +1,8 @@
 use Rattle.std.proofs.Common.{◌≡◌, ap, sym}
 use Rattle.std.specs.Prelude.{Err}
-use Rattle.world_script.proofs.Answered.{FaultyAt-same, err_is}
+use Rattle.world_script.proofs.AnswerWays.{FaultyAt-same, err_is}
 use Rattle.world_script.proofs.Faults.{WroteFront-none}
-use Rattle.world_script.proofs.Running.{IsRunning-start}
+use Rattle.world_script.proofs.RunSteps.{IsRunning-start}
 use Rattle.world_script.proofs.runs.run_without_cleanup.Goals as goal
 
 pub returns-in_err-runner-clause-memory : goal.returns-in_err-runner-clause-memory

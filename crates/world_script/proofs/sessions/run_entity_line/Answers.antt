@@ -2,7 +2,7 @@ use Rattle.ecs_model.specs.Orders.{MakeEntity}
 use Rattle.ecs_model.specs.Script.{Obey, one_word}
 use Rattle.ecs_model.specs.Text.{words}
 use Rattle.ecs_model.specs.stored.Session.{InWorld}
-use Rattle.world_script.proofs.Read.{does_bad}
+use Rattle.world_script.proofs.ReadLines.{does_bad}
 use Rattle.world_script.proofs.sessions.run_entity_line.Goals as goal
 
 pub returns-in-None : goal.returns-in-None

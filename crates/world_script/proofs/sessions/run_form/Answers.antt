@@ -3,7 +3,7 @@ use Rattle.std.proofs.Common.{refl}
 use Rattle.std.specs.Prelude.{Ok, false}
 use Rattle.ecs_observe.specs.Standing.{session_of}
 use Rattle.world_script.proofs.Orders.{IsDone-nothing, IfOk-long, IfOk-bad}
-use Rattle.world_script.proofs.Sent.{does_as}
+use Rattle.world_script.proofs.SentFronts.{does_as}
 use Rattle.world_script.proofs.sessions.run_form.Goals as goal
 
 pub returns-in-Nothing : goal.returns-in-Nothing

@@ -3,7 +3,7 @@ use Rattle.ecs_model.specs.Output.{effect_of}
 use Rattle.ecs_model.specs.Script.{Form}
 use Rattle.ecs_observe.specs.Standing.{session_of}
 use Rattle.world_script.specs.Run.{Does}
-use Rattle.world_script.proofs.Sent.{none_waits-sent}
+use Rattle.world_script.proofs.SentFronts.{none_waits-sent}
 use Rattle.world_script.proofs.sessions.run_line.Goals as goal
 
 pub returns-clause-none_wait : goal.returns-clause-none_wait

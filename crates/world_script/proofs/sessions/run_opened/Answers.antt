@@ -1,5 +1,5 @@
 -- The usual lines send nothing.
-use Rattle.world_script.proofs.Sent.{does_as}
+use Rattle.world_script.proofs.SentFronts.{does_as}
 use Rattle.world_script.proofs.sessions.run_opened.Goals as goal
 
 pub returns-in-Set : goal.returns-in-Set

@@ -2,8 +2,8 @@ use Rattle.std.proofs.Common.{refl}
 use Rattle.std.specs.Prelude.{Err}
 use Rattle.world_query.specs.declared.sending.SendError.TheVariants.{Memory}
 use Rattle.world_script.proofs.Orders.{IsDone-rows, IfOk-fault}
-use Rattle.world_query.proofs.Sent.{calm_ok, calm_still, fails_same}
-use Rattle.world_script.proofs.Sent.{asked_stops, does_as, does_err, does_memory}
+use Rattle.world_query.proofs.SentTexts.{calm_ok, calm_still, fails_same}
+use Rattle.world_script.proofs.SentFronts.{asked_stops, does_as, does_err, does_memory}
 use Rattle.world_script.proofs.sessions.run_query.Goals as goal
 
 pub returns-in-Err-Fault : goal.returns-in-Err-Fault

@@ -1,5 +1,5 @@
 -- Where memory is refused nothing is sent.
-use Rattle.world_script.proofs.Sent.{does_memory}
+use Rattle.world_script.proofs.SentFronts.{does_memory}
 use Rattle.world_script.proofs.sessions.run_rarer.Goals as goal
 
 pub returns-in_err-form : goal.returns-in_err-form

@@ -2,7 +2,7 @@ use Rattle.ecs_model.specs.Orders.{RemoveFrom}
 use Rattle.ecs_model.specs.Script.{Obey, fact_line, nothing_more}
 use Rattle.ecs_model.specs.stored.Session.{InWorld}
 use Rattle.script_line.specs.Line.{seen_id, seen_reference}
-use Rattle.world_script.proofs.Read.{does_bad, does_same}
+use Rattle.world_script.proofs.ReadLines.{does_bad, does_same}
 use Rattle.world_script.proofs.sessions.run_remove_line.Goals as goal
 
 pub returns-in-Some : goal.returns-in-Some

@@ -4,9 +4,9 @@ use Rattle.ecs_observe.specs.Answers.{SendsKept}
 use Rattle.ecs_observe.specs.Standing.{session_of}
 use Rattle.ecs_observe.specs.declared.errors.SendRowsError.TheVariants as rows
 use Rattle.ecs_observe.specs.declared.errors.SessionError.TheVariants.{Refused}
-use Rattle.world_query.proofs.Sent.{calm_ok}
+use Rattle.world_query.proofs.SentTexts.{calm_ok}
 use Rattle.world_script.proofs.Orders.{IsDone-kept, IfOk-unkept}
-use Rattle.world_script.proofs.Sent.{does_nothing_as, refused_calm, rows_calm, rows_fail, rows_stop}
+use Rattle.world_script.proofs.SentFronts.{does_nothing_as, refused_calm, rows_calm, rows_fail, rows_stop}
 use Rattle.world_script.proofs.sessions.run_rows.Goals as goal
 
 pub returns-in-Ok : goal.returns-in-Ok

@@ -1,8 +1,8 @@
 -- A line of more or less than one word is bad.
 use Rattle.ecs_model.specs.Script.{AskKept, one_word}
 use Rattle.ecs_model.specs.Text.{words}
-use Rattle.world_script.proofs.Read.{does_bad}
-use Rattle.world_script.proofs.Sent.{does_as}
+use Rattle.world_script.proofs.ReadLines.{does_bad}
+use Rattle.world_script.proofs.SentFronts.{does_as}
 use Rattle.world_script.proofs.sessions.run_rows_line.Goals as goal
 
 pub returns-in-None : goal.returns-in-None

@@ -3,7 +3,7 @@ use Rattle.ecs_model.specs.Orders.{SetIn}
 use Rattle.ecs_model.specs.Script.{Obey, fact_line, form_or_bad, set_line}
 use Rattle.ecs_model.specs.stored.Session.{InWorld}
 use Rattle.script_line.specs.Line.{seen_id, seen_reference}
-use Rattle.world_script.proofs.Read.{does_bad}
+use Rattle.world_script.proofs.ReadLines.{does_bad}
 use Rattle.world_script.proofs.sessions.run_set_line.Goals as goal
 
 pub returns-in-None : goal.returns-in-None

@@ -1,7 +1,7 @@
 use Rattle.std.proofs.Common.{◌++◌, append-nil, ap, sym, ◌∙◌}
 use Rattle.std.specs.Prelude.{flat_map}
 use Rattle.ecs_model.specs.stored.Watches.{event_text}
-use Rattle.world_script.proofs.Waiting.{as_after_events, no_events}
+use Rattle.world_script.proofs.WaitingEvents.{as_after_events, no_events}
 use Rattle.world_script.proofs.telling.tell_events.Goals as goal
 
 pub returns-then-not-has_events-clause-printed : goal.returns-then-not-has_events-clause-printed

@@ -2,7 +2,7 @@ use Rattle.std.proofs.Common.{◌↔◌, Contains, subst}
 use Rattle.ecs_id.specs.declared.TableKey.{TableKey}
 use Rattle.component_index.specs.Listings.{listed_in}
 use Rattle.ecs_archetypes.specs.Scans.{HasMatch, HaveHolders}
-use Rattle.ecs_archetypes.proofs.Scanning.{all_holders, all_listed}
+use Rattle.ecs_archetypes.proofs.TableScans.{all_holders, all_listed}
 use Rattle.ecs_archetypes.proofs.graph.Graph.listings.Goals as goal
 
 pub returns-clause-listed : goal.returns-clause-listed

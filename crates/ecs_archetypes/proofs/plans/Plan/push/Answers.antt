@@ -2,7 +2,7 @@
 use Rattle.std.proofs.Common.{◌≡◌, ◌≤◌, ◌+◌, ◌++◌, ◌∷◌, [], length, rules, subst, sym}
 use Rattle.ecs_archetypes.specs.Moves.{moves_to}
 use Rattle.ecs_archetypes.specs.Plans.{AreCounted}
-use Rattle.ecs_archetypes.proofs.Counting.{counted_more}
+use Rattle.ecs_archetypes.proofs.MoveCounts.{counted_more}
 use Rattle.ecs_archetypes.proofs.plans.Plan.push.Goals as goal
 
 pub invariant_of-self-2 : goal.invariant_of-self-2

@@ -4,7 +4,7 @@ use Rattle.std.proofs.Common.{ap, false, inl, inr, sym, true≢false, ◌∙◌}
 use Rattle.std.proofs.lemmas.Bool.{cases_lt}
 use Rattle.std.proofs.lemmas.Option.{slice_get_past}
 use Rattle.ecs_observe.specs.Parts.{held_of}
-use Rattle.stored_queries.specs.Held.{is_told_locally}
+use Rattle.watch_stored.specs.Held.{is_told_locally}
 use Rattle.ecs_observe.specs.Stored.{entries_of}
 use Rattle.ecs_observe.proofs.queries.StoredQueries.is_told_locally_at.Goals as goal
 

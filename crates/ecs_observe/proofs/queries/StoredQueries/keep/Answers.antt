@@ -1,16 +1,16 @@
 -- The stored query at the place is written, if there is one.
 use Rattle.std.specs.Box.{with_value}
 use Rattle.std.proofs.Common.{◌<◌, ◌∙◌, ap, arith, length, refl}
-use Rattle.name_order.specs.declared.order.Named.{Named}
-use Rattle.name_order.specs.Order.{name_in}
-use Rattle.watch_order.specs.Watched.{Boxed}
-use Rattle.watch_order.specs.declared.watching.Watcher.{Watcher}
-use Rattle.stored_queries.specs.Parts.{with_kept}
+use Rattle.watch_index.specs.declared.name_order.Named.{Named}
+use Rattle.watch_index.specs.NameOrder.{name_in}
+use Rattle.watch_index.specs.WatchOrder.{Boxed}
+use Rattle.watch_index.specs.declared.watch_order.Watcher.{Watcher}
+use Rattle.watch_stored.specs.Parts.{with_kept}
 use Rattle.ecs_observe.specs.Stored.{made_of}
-use Rattle.stored_queries.specs.declared.stored.StoredQuery.{StoredQuery}
+use Rattle.watch_stored.specs.declared.stored.StoredQuery.{StoredQuery}
 use Rattle.ecs_observe.proofs.Entries.{entry_past, lists_written}
-use Rattle.ecs_observe.proofs.Listed.{list_kept}
-use Rattle.ecs_observe.proofs.Rewritten.{here_as, kept_entries, list_there, query_in}
+use Rattle.ecs_observe.proofs.KeptLists.{list_kept}
+use Rattle.ecs_observe.proofs.WrittenQueries.{here_as, kept_entries, list_there, query_in}
 use Rattle.ecs_observe.proofs.Watches.{still_stored}
 use Rattle.ecs_observe.proofs.queries.StoredQueries.keep.Goals as goal
 

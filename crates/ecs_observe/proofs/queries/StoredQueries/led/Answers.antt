@@ -2,7 +2,7 @@ use Rattle.std.specs.Prelude.{All}
 use Rattle.std.proofs.Common.{◌<◌, subst, sym}
 use Rattle.ecs_observe.specs.Stored.{made_of}
 use Rattle.ecs_observe.proofs.Entries.{as_many}
-use Rattle.ecs_observe.proofs.LedTo.{led_to}
+use Rattle.ecs_observe.proofs.ConcernedPlaces.{led_to}
 use Rattle.ecs_observe.proofs.queries.StoredQueries.led.Goals as goal
 
 pub returns-clause-within : goal.returns-clause-within

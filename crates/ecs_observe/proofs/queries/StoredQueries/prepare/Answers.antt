@@ -4,10 +4,10 @@ use Rattle.std.specs.List.{count_by}
 use Rattle.std.proofs.Common.{ap, subst, sym, ◌∙◌}
 use Rattle.std.proofs.lemmas.Result.{IfOk-weaker, on_err_weaker}
 use Rattle.watch_index.specs.Occasions.{occasions_of}
-use Rattle.watch_order.specs.Watched.{IsOpen}
-use Rattle.watch_order.specs.declared.watching.Watcher.{Watcher}
+use Rattle.watch_index.specs.WatchOrder.{IsOpen}
+use Rattle.watch_index.specs.declared.watch_order.Watcher.{Watcher}
 use Rattle.ecs_observe.specs.Stored.{IsFit, entries_in, is_watch_in}
-use Rattle.stored_queries.specs.declared.stored.StoredQuery.{StoredQuery}
+use Rattle.watch_stored.specs.declared.stored.StoredQuery.{StoredQuery}
 use Rattle.ecs_observe.proofs.Watches.{fits_as}
 use Rattle.ecs_observe.proofs.queries.StoredQueries.prepare.Goals as goal
 

@@ -5,12 +5,12 @@ use Rattle.std.specs.List.{count_by}
 use Rattle.std.proofs.Common.{[], ◌∷◌, ap, subst, sym, ◌∙◌}
 use Rattle.std.proofs.lemmas.List.{map-append}
 use Rattle.std.proofs.lemmas.List.Elements.{All-push}
-use Rattle.name_order.specs.declared.order.Named.{Named}
-use Rattle.watch_order.specs.Watched.{Boxed}
-use Rattle.watch_order.specs.declared.watching.Watcher.{Watcher}
+use Rattle.watch_index.specs.declared.name_order.Named.{Named}
+use Rattle.watch_index.specs.WatchOrder.{Boxed}
+use Rattle.watch_index.specs.declared.watch_order.Watcher.{Watcher}
 use Rattle.ecs_model.specs.stored.Watches.{is_told}
 use Rattle.ecs_observe.specs.Stored.{IsFit, entries_in, is_watch_in, made_of}
-use Rattle.stored_queries.specs.declared.stored.StoredQuery.{StoredQuery}
+use Rattle.watch_stored.specs.declared.stored.StoredQuery.{StoredQuery}
 use Rattle.ecs_observe.proofs.Entries.{none_stored}
 use Rattle.ecs_observe.proofs.Watches.{byte_is, counted_behind}
 use Rattle.ecs_observe.proofs.queries.StoredQueries.put.Goals as goal

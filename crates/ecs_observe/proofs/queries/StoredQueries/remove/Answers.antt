@@ -2,10 +2,10 @@
 use Rattle.std.specs.Prelude.{All, cond, option_map}
 use Rattle.std.specs.List.{count_by}
 use Rattle.std.proofs.Common.{ap, subst, sym, ◌∙◌}
-use Rattle.name_order.specs.declared.order.Named.{Named}
-use Rattle.watch_order.specs.declared.watching.Watcher.{Watcher}
+use Rattle.watch_index.specs.declared.name_order.Named.{Named}
+use Rattle.watch_index.specs.declared.watch_order.Watcher.{Watcher}
 use Rattle.ecs_model.specs.stored.Watches.{is_told}
-use Rattle.stored_queries.specs.declared.stored.StoredQuery.{StoredQuery}
+use Rattle.watch_stored.specs.declared.stored.StoredQuery.{StoredQuery}
 use Rattle.ecs_observe.specs.Stored.{IsFit, is_watch_in, made_of}
 use Rattle.ecs_observe.proofs.Entries.{all_left, less_stored, look_stored, stored_in}
 use Rattle.ecs_observe.proofs.Watches.{byte_is, count_below, count_less, counted_left}

@@ -5,18 +5,18 @@ use Rattle.ecs_model.specs.stored.Session.{unpinned_by, without_stored}
 use Rattle.query_cache.specs.Kept.{Kept}
 use Rattle.query_meaning.specs.declared.steps.Step.{Step}
 use Rattle.query_model.specs.Query.{Query}
-use Rattle.name_order.specs.declared.order.Named.{Named}
-use Rattle.watch_order.specs.declared.watching.Watcher.{Watcher}
-use Rattle.stored_queries.specs.declared.stored.StoredQuery.{StoredQuery}
+use Rattle.watch_index.specs.declared.name_order.Named.{Named}
+use Rattle.watch_index.specs.declared.watch_order.Watcher.{Watcher}
+use Rattle.watch_stored.specs.declared.stored.StoredQuery.{StoredQuery}
 use Rattle.ecs_observe.specs.Following.{lists_of}
 use Rattle.ecs_observe.specs.Lists.{HaveLists}
 use Rattle.ecs_observe.specs.Standing.{Standing, session_of, stored_of}
-use Rattle.ecs_observe.proofs.Found.{named, none_found, some_found, waits}
+use Rattle.ecs_observe.proofs.NamedQueries.{named, none_found, some_found, waits}
 use Rattle.ecs_observe.proofs.KeptFound.{stored_there}
-use Rattle.ecs_observe.proofs.Listed.{lists_less}
+use Rattle.ecs_observe.proofs.KeptLists.{lists_less}
 use Rattle.ecs_observe.proofs.OneLess.{lists_left, one_less_seen, without_seen}
 use Rattle.ecs_observe.proofs.OneMore.{same_seen}
-use Rattle.ecs_observe.proofs.Orders.{drop_done, drop_pending, drop_unknown, none_there}
+use Rattle.ecs_observe.proofs.StoringAnswers.{drop_done, drop_pending, drop_unknown, none_there}
 use Rattle.ecs_observe.specs.Stored.{entries_of}
 use Rattle.ecs_observe.proofs.session.Session.drop_stored.Goals as goal
 

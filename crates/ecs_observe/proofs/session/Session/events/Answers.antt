@@ -3,9 +3,9 @@ use Rattle.std.specs.List.{list_any}
 use Rattle.std.specs.Prelude.{IfSome}
 use Rattle.ecs_observe.specs.Parts.{held_of}
 use Rattle.ecs_observe.specs.Standing.{Standing}
-use Rattle.stored_queries.specs.Held.{WasNow, is_compared}
-use Rattle.ecs_observe.proofs.Retold.{none_for, none_taken_for, none_waits_after, none_waits_told, put_told, retold_after, retold_lists, retold_session, searched_for, taken_for, told_waits}
-use Rattle.ecs_observe.proofs.Staying.{none_searched}
+use Rattle.watch_stored.specs.Held.{WasNow, is_compared}
+use Rattle.ecs_observe.proofs.EventEffects.{none_for, none_taken_for, none_waits_after, none_waits_told, put_told, retold_after, retold_lists, retold_session, searched_for, taken_for, told_waits}
+use Rattle.ecs_observe.proofs.StayingRows.{none_searched}
 use Rattle.ecs_observe.specs.Stored.{entries_of}
 use Rattle.ecs_observe.proofs.session.Session.events.Goals as goal
 

@@ -2,8 +2,8 @@ use Rattle.std.proofs.Common.{Err, Ok, ap, subst, sym, ◌∙◌}
 use Rattle.ecs_model.specs.World.{WorldState}
 use Rattle.ecs_observe.specs.Commands.{FindsBoth, seen_entity, seen_id}
 use Rattle.ecs_observe.specs.Standing.{Standing, session_of}
-use Rattle.ecs_observe.proofs.Found.{waits, world_is}
-use Rattle.ecs_observe.proofs.Ordered.{both_found, pending_both, refused_both}
+use Rattle.ecs_observe.proofs.NamedQueries.{waits, world_is}
+use Rattle.ecs_observe.proofs.CommandForms.{both_found, pending_both, refused_both}
 use Rattle.ecs_observe.proofs.session.Session.found_both.Goals as goal
 
 pub returns-then-has_events : goal.returns-then-has_events

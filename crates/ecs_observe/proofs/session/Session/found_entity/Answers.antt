@@ -2,8 +2,8 @@ use Rattle.std.proofs.Common.{ap, sym, ◌∙◌}
 use Rattle.ecs_model.specs.Orders.{entity_found}
 use Rattle.ecs_observe.specs.Commands.{seen_entity}
 use Rattle.ecs_observe.specs.Standing.{Standing, session_of}
-use Rattle.ecs_observe.proofs.Found.{waits, world_is}
-use Rattle.ecs_observe.proofs.Ordered.{one_found, pending_one, refused_one}
+use Rattle.ecs_observe.proofs.NamedQueries.{waits, world_is}
+use Rattle.ecs_observe.proofs.CommandForms.{one_found, pending_one, refused_one}
 use Rattle.ecs_observe.proofs.session.Session.found_entity.Goals as goal
 
 pub returns-then-has_events : goal.returns-then-has_events

@@ -3,22 +3,22 @@ use Rattle.std.proofs.Common.{List, ◌≡◌, ◌≢◌, ◌<◌, ◌++◌, [],
 use Rattle.std.specs.Map.{lookup}
 use Rattle.std.specs.declared.string.String.{String}
 use Rattle.std.specs.String.{string_bytes}
-use Rattle.name_order.specs.declared.order.Named.{Named}
-use Rattle.name_order.specs.Order.{is_key}
-use Rattle.watch_order.specs.declared.watching.Watcher.{Watcher}
+use Rattle.watch_index.specs.declared.name_order.Named.{Named}
+use Rattle.watch_index.specs.NameOrder.{is_key}
+use Rattle.watch_index.specs.declared.watch_order.Watcher.{Watcher}
 use Rattle.ecs_model.specs.stored.Session.{most_stored, pinned_by}
 use Rattle.query_model.specs.Query.{Query}
-use Rattle.watch_meaning.proofs.Pinning.{AreAlive, current_alive}
+use Rattle.watch_concerns.proofs.PinChanges.{AreAlive, current_alive}
 use Rattle.ecs_observe.specs.Lists.{HaveLists}
 use Rattle.ecs_observe.specs.Parts.{held_of}
-use Rattle.stored_queries.specs.Held.{IsHeld, IsNow}
+use Rattle.watch_stored.specs.Held.{IsHeld, IsNow}
 use Rattle.ecs_observe.specs.Standing.{IsSession, Standing}
 use Rattle.ecs_observe.specs.Stored.{entries_of}
 use Rattle.ecs_observe.specs.Storing.{with_held}
-use Rattle.stored_queries.specs.declared.stored.StoredQuery.{StoredQuery}
+use Rattle.watch_stored.specs.declared.stored.StoredQuery.{StoredQuery}
 use Rattle.ecs_observe.proofs.Entries.{none_of_name}
-use Rattle.ecs_observe.proofs.Found.{seen}
-use Rattle.ecs_observe.proofs.Listed.{lists_more}
+use Rattle.ecs_observe.proofs.NamedQueries.{seen}
+use Rattle.ecs_observe.proofs.KeptLists.{lists_more}
 use Rattle.ecs_observe.proofs.OneMore.{one_more_seen, with_held_seen}
 use Rattle.ecs_observe.proofs.Watches.{opened_as}
 use Rattle.ecs_observe.proofs.session.Session.hold.Goals as goal

@@ -3,7 +3,7 @@ use Rattle.ecs_observe.specs.Lists.{HasItsList}
 use Rattle.ecs_observe.specs.Standing.{IsSession, Standing}
 use Rattle.ecs_observe.specs.Stored.{entries_of}
 use Rattle.ecs_observe.proofs.KeptFound.{kept_current}
-use Rattle.ecs_observe.proofs.Listed.{lists_seen}
+use Rattle.ecs_observe.proofs.KeptLists.{lists_seen}
 use Rattle.ecs_observe.proofs.session.Session.keeps.Goals as goal
 
 pub returns-clause-session : goal.returns-clause-session

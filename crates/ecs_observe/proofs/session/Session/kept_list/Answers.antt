@@ -2,11 +2,11 @@
 use Rattle.std.specs.Prelude.{option_and_then}
 use Rattle.std.proofs.Common.{ap, sym, ◌∙◌}
 use Rattle.ecs_observe.specs.Following.{list_at}
-use Rattle.stored_queries.specs.Held.{Held}
+use Rattle.watch_stored.specs.Held.{Held}
 use Rattle.ecs_observe.specs.Standing.{Standing}
 use Rattle.ecs_observe.specs.Stored.{entries_of}
 use Rattle.ecs_observe.proofs.KeptFound.{none_kept, other_kind}
-use Rattle.ecs_observe.proofs.Listed.{list_found, not_kept}
+use Rattle.ecs_observe.proofs.KeptLists.{list_found, not_kept}
 use Rattle.ecs_observe.proofs.OneLess.{first_named}
 use Rattle.ecs_observe.proofs.session.Session.kept_list.Goals as goal
 

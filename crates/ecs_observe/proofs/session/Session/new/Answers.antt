@@ -1,7 +1,7 @@
 use Rattle.std.proofs.Common.{map, refl, ap}
 use Rattle.ecs_observe.specs.Parts.{held_of}
-use Rattle.ecs_observe.proofs.Listed.{none_lists}
-use Rattle.ecs_observe.proofs.First.{first_is_first, first_is_session}
+use Rattle.ecs_observe.proofs.KeptLists.{none_lists}
+use Rattle.ecs_observe.proofs.FirstSession.{first_is_first, first_is_session}
 use Rattle.ecs_observe.proofs.session.Session.new.Goals as goal
 
 pub invariant_of-result : goal.invariant_of-result

@@ -8,7 +8,7 @@ use Rattle.ecs_observe.specs.Standing.{session_of}
 use Rattle.ecs_observe.specs.declared.applying.Command.{Command}
 use Rattle.ecs_archetypes.specs.Staying.{TablesStay, stay_all, stay_same}
 use Rattle.table_store.specs.Going.{goes_on_same, TablesGoOn}
-use Rattle.ecs_observe.proofs.Ordered.{as_obeyed}
+use Rattle.ecs_observe.proofs.CommandForms.{as_obeyed}
 use Rattle.ecs_observe.proofs.session.Session.obey.Goals as goal
 
 pub returns-in-New-clause-answers : goal.returns-in-New-clause-answers

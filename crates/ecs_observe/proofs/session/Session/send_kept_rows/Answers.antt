@@ -3,20 +3,20 @@ use Rattle.std.specs.Prelude.{option_map}
 use Rattle.std.specs.Box.{with_value}
 use Rattle.std.specs.Vec.{with_item}
 use Rattle.std.proofs.Common.{Some, ap, inl, refl, subst, sym, ◌∙◌}
-use Rattle.name_order.specs.declared.order.Named.{Named}
-use Rattle.watch_order.specs.Watched.{Boxed}
-use Rattle.watch_order.specs.declared.watching.Watcher.{Watcher}
+use Rattle.watch_index.specs.declared.name_order.Named.{Named}
+use Rattle.watch_index.specs.WatchOrder.{Boxed}
+use Rattle.watch_index.specs.declared.watch_order.Watcher.{Watcher}
 use Rattle.ecs_observe.specs.Following.{FollowsIfSome, StaysOrIsPlanned}
-use Rattle.stored_queries.specs.Lists.{HasList}
-use Rattle.stored_queries.specs.Held.{IsHeld}
+use Rattle.watch_stored.specs.Lists.{HasList}
+use Rattle.watch_stored.specs.Held.{IsHeld}
 use Rattle.ecs_observe.specs.Stored.{entries_of, made_of}
 use Rattle.ecs_observe.specs.declared.queries.StoredQueries.{StoredQueries}
-use Rattle.stored_queries.specs.declared.stored.StoredQuery.{StoredQuery}
+use Rattle.watch_stored.specs.declared.stored.StoredQuery.{StoredQuery}
 use Rattle.ecs_observe.proofs.Entries.{look_stored, stored_in}
-use Rattle.ecs_observe.proofs.Found.{holds_of_found}
+use Rattle.ecs_observe.proofs.NamedQueries.{holds_of_found}
 use Rattle.ecs_observe.proofs.KeptFound.{none_kept, sends_answered}
-use Rattle.ecs_observe.proofs.Rewritten.{finds_then, fitting_then, follows_then, here_as, list_there, planned_then, query_in, reads_then, rewritten_session, same_then, still_lists}
-use Rattle.ecs_observe.proofs.Sending.{refused_calm}
+use Rattle.ecs_observe.proofs.WrittenQueries.{finds_then, fitting_then, follows_then, here_as, list_there, planned_then, query_in, reads_then, rewritten_session, same_then, still_lists}
+use Rattle.ecs_observe.proofs.SentRows.{refused_calm}
 use Rattle.ecs_observe.proofs.Watches.{still_stored}
 use Rattle.ecs_observe.proofs.session.Session.send_kept_rows.Goals as goal
 

@@ -1,7 +1,7 @@
 use Rattle.std.proofs.Common.{subst}
 use Rattle.ecs_model.specs.traits.Command.{SetValue}
-use Rattle.ecs_observe.proofs.Listed.{lists_later}
-use Rattle.ecs_observe.proofs.Obeyed.{answer_left, pending_now, session_left}
+use Rattle.ecs_observe.proofs.KeptLists.{lists_later}
+use Rattle.ecs_observe.proofs.CommandAnswers.{answer_left, pending_now, session_left}
 use Rattle.ecs_observe.specs.Standing.{Standing}
 use Rattle.ecs_observe.specs.Stored.{entries_of}
 use Rattle.ecs_archetypes.specs.Staying.{stay_same}

@@ -8,7 +8,7 @@ use Rattle.ecs_world.specs.Columns.{column_fault}
 use Rattle.ecs_observe.specs.Standing.{Standing}
 use Rattle.ecs_observe.specs.Stored.{entries_of}
 use Rattle.ecs_observe.specs.declared.errors.SetColumnError.TheVariants.{OfWorld}
-use Rattle.ecs_observe.proofs.Listed.{lists_later}
+use Rattle.ecs_observe.proofs.KeptLists.{lists_later}
 use Rattle.ecs_observe.proofs.Tellings.{any_value}
 use Rattle.ecs_observe.proofs.WholeColumns.{column_left, tells_of_world, tells_watched}
 use Rattle.ecs_observe.proofs.session.Session.set_column.Goals as goal

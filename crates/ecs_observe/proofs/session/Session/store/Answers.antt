@@ -9,13 +9,13 @@ use Rattle.query_model.specs.Query.{Query}
 use Rattle.world_query.specs.Planned.{IsPlannedIn}
 use Rattle.ecs_observe.specs.Following.{plan_of}
 use Rattle.ecs_observe.specs.Parts.{held_of}
-use Rattle.stored_queries.specs.Held.{Held, IsHeld, IsNow, counted_for, is_compared, is_monitor}
+use Rattle.watch_stored.specs.Held.{Held, IsHeld, IsNow, counted_for, is_compared, is_monitor}
 use Rattle.ecs_observe.specs.Standing.{Standing, session_of}
 use Rattle.ecs_observe.specs.Storing.{AnswersWatched, with_held}
-use Rattle.ecs_observe.proofs.Found.{same_but_compared}
-use Rattle.ecs_observe.proofs.Locally.{last_isnt}
-use Rattle.ecs_observe.proofs.Orders.{has_room, is_idle, is_new, new_held, new_now, still_fits, store_done, store_refused, told_fault}
-use Rattle.query_meaning.proofs.Mentioned.{asked_queries_are_current}
+use Rattle.ecs_observe.proofs.NamedQueries.{same_but_compared}
+use Rattle.ecs_observe.proofs.LocalMonitors.{last_isnt}
+use Rattle.ecs_observe.proofs.StoringAnswers.{has_room, is_idle, is_new, new_held, new_now, still_fits, store_done, store_refused, told_fault}
+use Rattle.query_meaning.proofs.MentionedEntities.{asked_queries_are_current}
 use Rattle.ecs_observe.proofs.session.Session.store.Goals as goal
 
 pub returns-in-Some-clause-answers : goal.returns-in-Some-clause-answers

@@ -2,7 +2,7 @@ use Rattle.std.proofs.Common.{◌<◌, ◌≤◌, true, false, sym, ◌∙◌, r
 use Rattle.std.proofs.lemmas.Bool.Decides.{nat_tests}
 use Rattle.std.specs.Prelude.{length}
 use Rattle.ecs_model.specs.stored.Session.{most_stored}
-use Rattle.ecs_observe.proofs.Found.{told_refusal}
+use Rattle.ecs_observe.proofs.NamedQueries.{told_refusal}
 use Rattle.ecs_observe.specs.Stored.{entries_of}
 use Rattle.ecs_observe.proofs.session.Session.store_refusal.Goals as goal
 

@@ -3,17 +3,17 @@ use Rattle.std.specs.Prelude.{option_map}
 use Rattle.std.specs.Box.{with_value}
 use Rattle.std.specs.Vec.{with_item}
 use Rattle.std.proofs.Common.{ap, inl, refl, subst, sym, ◌∙◌}
-use Rattle.name_order.specs.declared.order.Named.{Named}
-use Rattle.watch_order.specs.Watched.{Boxed}
-use Rattle.watch_order.specs.declared.watching.Watcher.{Watcher}
+use Rattle.watch_index.specs.declared.name_order.Named.{Named}
+use Rattle.watch_index.specs.WatchOrder.{Boxed}
+use Rattle.watch_index.specs.declared.watch_order.Watcher.{Watcher}
 use Rattle.ecs_observe.specs.Following.{FollowsIfSome, SyncsList}
-use Rattle.stored_queries.specs.Lists.{HasList}
+use Rattle.watch_stored.specs.Lists.{HasList}
 use Rattle.ecs_observe.specs.Stored.{entries_of, made_of}
 use Rattle.ecs_observe.specs.declared.queries.StoredQueries.{StoredQueries}
-use Rattle.stored_queries.specs.declared.stored.StoredQuery.{StoredQuery}
+use Rattle.watch_stored.specs.declared.stored.StoredQuery.{StoredQuery}
 use Rattle.ecs_observe.proofs.Entries.{look_stored, stored_in}
 use Rattle.ecs_observe.proofs.KeptFound.{none_kept}
-use Rattle.ecs_observe.proofs.Rewritten.{follows_then, here_as, list_there, refused_then, rewritten_session, same_plan, same_then, still_lists, synced_then}
+use Rattle.ecs_observe.proofs.WrittenQueries.{follows_then, here_as, list_there, refused_then, rewritten_session, same_plan, same_then, still_lists, synced_then}
 use Rattle.ecs_observe.proofs.Watches.{still_stored}
 use Rattle.ecs_observe.proofs.session.Session.sync_kept.Goals as goal
 

@@ -1,8 +1,8 @@
 -- All is written where nothing can be sent.
 use Rattle.world_query.specs.Sent.{most_usize}
-use Rattle.world_query.proofs.Sent.{sent_nowhere}
+use Rattle.world_query.proofs.SentTexts.{sent_nowhere}
 use Rattle.ecs_observe.specs.Standing.{session_of}
-use Rattle.ecs_observe.proofs.Sending.{refused_nowhere, stopped_nowhere}
+use Rattle.ecs_observe.proofs.SentRows.{refused_nowhere, stopped_nowhere}
 use Rattle.ecs_observe.proofs.session.Session.write_kept_rows.Goals as goal
 
 pub returns-in-Ok-clause-rows : goal.returns-in-Ok-clause-rows

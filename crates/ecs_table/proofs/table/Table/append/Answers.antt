@@ -1,6 +1,6 @@
 use Rattle.std.proofs.Common.{◌≡◌, ◌+◌, ◌<◌, ◌++◌, ◌∷◌, [], length, ap, sym, subst, ◌∙◌}
 use Rattle.std.proofs.lemmas.List.{length_push}
-use Rattle.ecs_table.proofs.Stored.{seen_row, stored_row}
+use Rattle.ecs_table.proofs.TableLists.{seen_row, stored_row}
 use Rattle.ecs_table.specs.Archetype.{Archetype, with_row}
 use Rattle.ecs_table.proofs.table.Table.append.Goals as goal
 

@@ -1,5 +1,5 @@
 use Rattle.std.proofs.Common.{◌≡◌, ◌<◌, ap, sym, subst, ◌∙◌, Some}
-use Rattle.ecs_table.proofs.Stored.{column_found, stored_paired}
+use Rattle.ecs_table.proofs.TableLists.{column_found, stored_paired}
 use Rattle.ecs_table.specs.Archetype.{Archetype, column_of, index_in, seen}
 use Rattle.ecs_table.proofs.table.Table.column.Goals as goal
 

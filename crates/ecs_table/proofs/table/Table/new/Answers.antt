@@ -1,7 +1,7 @@
 use Rattle.std.proofs.Common.{ℕ, ◌<◌, ◌≤◌, List, length, slice_index, ap, sym, subst, ◌∙◌}
 use Rattle.raw_column.specs.Contents.{empty_contents}
 use Rattle.ecs_table.proofs.ColumnLemmas.{sized_small}
-use Rattle.ecs_table.proofs.Stored.{seen_new, stored_new}
+use Rattle.ecs_table.proofs.TableLists.{seen_new, stored_new}
 use Rattle.ecs_table.proofs.table.Table.new.Goals as goal
 
 pub new-requires : goal.new-requires

@@ -1,7 +1,7 @@
 use Rattle.std.proofs.Common.{length, replicate, ap, sym, ◌∙◌}
 use Rattle.std.proofs.lemmas.List.{length-replicate}
 use Rattle.raw_column.specs.Contents.{empty_contents}
-use Rattle.ecs_table.proofs.Stored.{no_data_ids, no_data_sizes, seen_new, stored_new, tags_small}
+use Rattle.ecs_table.proofs.TableLists.{no_data_ids, no_data_sizes, seen_new, stored_new, tags_small}
 use Rattle.ecs_table.proofs.table.Table.of_tags.Goals as goal
 
 pub invariant_of-result : goal.invariant_of-result

@@ -5,7 +5,7 @@ use Rattle.ecs_id.specs.declared.EntityId.{EntityId}
 use Rattle.raw_column.specs.Contents.{Contents, with_zero, with_zeros}
 use Rattle.raw_column.specs.Places.{Values}
 use Rattle.ecs_table.proofs.ColumnLemmas.{replaced_zeros}
-use Rattle.ecs_table.proofs.Stored.{seen_moved, stored_moved, stored_paired}
+use Rattle.ecs_table.proofs.TableLists.{seen_moved, stored_moved, stored_paired}
 use Rattle.ecs_table.proofs.Rows.{value_kept, value_zeros}
 use Rattle.ecs_table.specs.Archetype.{Archetype, IsSound, entity_at, no_entity, replaced, value_of, with_last, with_moved}
 use Rattle.ecs_table.proofs.table.Table.push_row.Goals as goal

@@ -2,7 +2,7 @@ use Rattle.std.proofs.Common.{◌≡◌, List, ◌<◌, length, ap, sym, subst, 
 use Rattle.std.specs.List.{swap_remove}
 use Rattle.ecs_id.specs.declared.EntityId.{EntityId}
 use Rattle.ecs_table.proofs.Soundness.{copied_is, length_without, moved_is, swap_remove_default}
-use Rattle.ecs_table.proofs.Stored.{seen_without, stored_without}
+use Rattle.ecs_table.proofs.TableLists.{seen_without, stored_without}
 use Rattle.ecs_table.specs.Archetype.{Archetype, no_entity, seen, without_row}
 use Rattle.ecs_table.proofs.table.Table.remove_row.Goals as goal
 

@@ -1,6 +1,6 @@
 use Rattle.std.proofs.Common.{◌≡◌, ◌*◌, ◌<◌, IfSome, length, ap, sym, subst, ◌∙◌, Some}
 use Rattle.raw_column.specs.Contents.{Contents, column_at}
-use Rattle.ecs_table.proofs.Stored.{size_found, stored_paired}
+use Rattle.ecs_table.proofs.TableLists.{size_found, stored_paired}
 use Rattle.ecs_table.proofs.WholeColumns.{seen_bytes, stored_bytes}
 use Rattle.ecs_table.specs.Archetype.{Archetype, index_in, seen, size_of, with_column}
 use Rattle.ecs_table.proofs.table.Table.set_column.Goals as goal

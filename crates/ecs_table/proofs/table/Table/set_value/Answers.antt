@@ -1,7 +1,7 @@
 use Rattle.std.proofs.Common.{◌≡◌, ◌<◌, length, ap, sym, subst, ◌∙◌, Some}
 use Rattle.std.proofs.lemmas.Option.{same_Some}
 use Rattle.raw_column.specs.Contents.{Contents, column_at}
-use Rattle.ecs_table.proofs.Stored.{size_found, stored_item, stored_paired}
+use Rattle.ecs_table.proofs.TableLists.{size_found, stored_item, stored_paired}
 use Rattle.ecs_table.specs.Archetype.{Archetype, index_in, seen, size_of, with_item_in, with_value}
 use Rattle.ecs_table.proofs.table.Table.set_value.Goals as goal
 

@@ -1,5 +1,5 @@
 use Rattle.std.proofs.Common.{◌≡◌, ◌<◌, ap, sym, subst, ◌∙◌, Some, unwrap_or}
-use Rattle.ecs_table.proofs.Stored.{size_found, stored_paired}
+use Rattle.ecs_table.proofs.TableLists.{size_found, stored_paired}
 use Rattle.ecs_table.specs.Archetype.{Archetype, byte_size, index_in, seen}
 use Rattle.ecs_table.proofs.table.Table.size.Goals as goal
 

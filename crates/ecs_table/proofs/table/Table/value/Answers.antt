@@ -1,5 +1,5 @@
 use Rattle.std.proofs.Common.{◌≡◌, ◌<◌, length, ap, sym, subst, ◌∙◌, Some}
-use Rattle.ecs_table.proofs.Stored.{size_found, stored_paired, value_found}
+use Rattle.ecs_table.proofs.TableLists.{size_found, stored_paired, value_found}
 use Rattle.ecs_table.specs.Archetype.{Archetype, index_in}
 use Rattle.ecs_table.proofs.table.Table.value.Goals as goal
 

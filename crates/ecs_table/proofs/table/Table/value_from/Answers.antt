@@ -1,5 +1,5 @@
 use Rattle.std.proofs.Common.{◌≡◌, ℕ, ◌<◌, length, IfSome, Option, Some, ap, sym, subst, ◌∙◌}
-use Rattle.ecs_table.proofs.Stored.{stored_paired, value_found}
+use Rattle.ecs_table.proofs.TableLists.{stored_paired, value_found}
 use Rattle.ecs_table.specs.Archetype.{Archetype, index_in}
 use Rattle.ecs_table.proofs.table.Table.value_from.Goals as goal
 

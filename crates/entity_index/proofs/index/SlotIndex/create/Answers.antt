@@ -4,7 +4,7 @@ use Rattle.ecs_id.specs.declared.EntityId.{EntityId}
 use Rattle.ecs_model.specs.World.{first_index}
 use Rattle.entity_index.specs.Entities.{next_entity, IsWellFormed}
 use Rattle.entity_index.specs.Slots.{meaning}
-use Rattle.entity_index.proofs.Created.{popped_fits, popped_next, popped_born, popped_sound, fresh_next, fresh_none, fresh_born, fresh_well, refused_well, no_place_after, full_is_none, ok_is_some, memory_is_some, push_failed, push_done}
+use Rattle.entity_index.proofs.CreatedIndexes.{popped_fits, popped_next, popped_born, popped_sound, fresh_next, fresh_none, fresh_born, fresh_well, refused_well, no_place_after, full_is_none, ok_is_some, memory_is_some, push_failed, push_done}
 use Rattle.entity_index.proofs.NextLaws.{IsNext-from_next, full_where_none}
 use Rattle.entity_index.proofs.Soundness.{IsWellFormed-sound}
 use Rattle.entity_index.proofs.index.SlotIndex.create.Goals as goal

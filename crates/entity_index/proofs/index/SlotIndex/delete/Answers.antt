@@ -4,7 +4,7 @@ use Rattle.entity_index.specs.Entities.{is_alive}
 use Rattle.entity_index.specs.Slots.{meaning, IsSound}
 use Rattle.entity_index.proofs.Readings.{alive_within}
 use Rattle.entity_index.proofs.Soundness.{IsWellFormed-sound}
-use Rattle.entity_index.proofs.Deleted.{deleted_fits, deleted_room, deleted_means, deleted_sound, retired_sound}
+use Rattle.entity_index.proofs.DeletedIndexes.{deleted_fits, deleted_room, deleted_means, deleted_sound, retired_sound}
 use Rattle.entity_index.proofs.index.SlotIndex.delete.Goals as goal
 use Rattle.entity_index.proofs.index.SlotIndex.delete.Goals.{then-slot-lt-GENERATIONS, else-slot-lt-GENERATIONS}
 

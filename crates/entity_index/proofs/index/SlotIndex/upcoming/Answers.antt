@@ -8,7 +8,7 @@ use Rattle.entity_index.specs.Entities.{IsFull, IsNext}
 use Rattle.entity_index.proofs.NextLaws.{next_entity-tells}
 use Rattle.entity_index.proofs.NextEntity.{next-least, next-fresh, next-none, top_waits, none_waits, none_waits_below, length_of_none}
 use Rattle.ecs_id.specs.declared.EntityId.{EntityId}
-use Rattle.entity_index.proofs.Waiting.{waiting_parts, free_is_dead}
+use Rattle.entity_index.proofs.WaitingIndexes.{waiting_parts, free_is_dead}
 use Rattle.entity_index.proofs.index.SlotIndex.upcoming.Goals as goal
 
 pub index-requires : goal.index-requires

@@ -2,7 +2,7 @@ use Rattle.std.specs.Prelude.{◌==◌}
 use Rattle.std.specs.List.{list_any}
 use Rattle.std.proofs.Common.{ap, sym, ◌∙◌}
 use Rattle.entity_set.specs.Members.{has}
-use Rattle.entity_set.proofs.Listed.{any_members}
+use Rattle.entity_set.proofs.SetBits.{any_members}
 use Rattle.entity_set.proofs.set.EntitySet.contains.Goals as goal
 
 pub returns : goal.returns

@@ -1,6 +1,6 @@
 use Rattle.std.proofs.Common.{ap, ◌∙◌}
 use Rattle.entity_set.specs.Members.{exchanged}
-use Rattle.entity_set.proofs.Exchanged.{exchanged_bits}
+use Rattle.entity_set.proofs.SetExchanges.{exchanged_bits}
 use Rattle.entity_set.proofs.set.EntitySet.exchange.Goals as goal
 
 pub returns : goal.returns

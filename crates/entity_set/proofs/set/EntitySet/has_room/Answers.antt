@@ -1,6 +1,6 @@
 use Rattle.std.specs.Prelude.{◌↔◌, All, IsTrue}
 use Rattle.std.proofs.Common.{◌≡◌, ◌<◌, ◌*◌, ap, length, subst, ◌∙◌}
-use Rattle.entity_set.proofs.Exchanged.{members_low}
+use Rattle.entity_set.proofs.SetExchanges.{members_low}
 use Rattle.entity_set.proofs.set.EntitySet.has_room.Goals as goal
 
 pub returns-clause-all : goal.returns-clause-all

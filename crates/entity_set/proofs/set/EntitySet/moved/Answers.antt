@@ -3,7 +3,7 @@ use Rattle.std.specs.List.{list_any}
 use Rattle.std.proofs.Common.{◌≤◌, ap, length, subst, sym, ◌∙◌}
 use Rattle.std.proofs.lemmas.List.{take_all}
 use Rattle.entity_set.specs.Members.{has}
-use Rattle.entity_set.proofs.Listed.{and_all, any_members, members_rise, or_none, puts_one, takes_one}
+use Rattle.entity_set.proofs.SetBits.{and_all, any_members, members_rise, or_none, puts_one, takes_one}
 use Rattle.entity_set.proofs.set.EntitySet.moved.Goals as goal
 
 pub loop-entity-init : goal.loop-entity-init

@@ -1,6 +1,6 @@
 use Rattle.std.proofs.Common.{ap, ◌∙◌}
 use Rattle.entity_set.specs.Members.{members}
-use Rattle.entity_set.proofs.Listed.{none_members}
+use Rattle.entity_set.proofs.SetBits.{none_members}
 use Rattle.entity_set.proofs.set.EntitySet.new.Goals as goal
 
 pub returns : goal.returns

@@ -4,7 +4,7 @@ use Rattle.std.proofs.Common.{◌≡◌, [], ap, arith, false, length, refl, ◌
 use Rattle.std.proofs.lemmas.List.{take_all}
 use Rattle.entity_set.specs.Members.{has}
 use Rattle.entity_set.proofs.Words.{has_none}
-use Rattle.entity_set.proofs.Listed.{any_members, members_rise, puts_one}
+use Rattle.entity_set.proofs.SetBits.{any_members, members_rise, puts_one}
 use Rattle.entity_set.proofs.set.EntitySet.of.Goals as goal
 
 pub loop-entity-init : goal.loop-entity-init

@@ -2,7 +2,7 @@ use Rattle.std.specs.Prelude.{◌==◌, filter, not}
 use Rattle.std.specs.List.{list_any, range_with_len}
 use Rattle.std.proofs.Common.{◌≡◌, ◌*◌, arith, ap, length, sym, ◌∙◌}
 use Rattle.entity_set.specs.Members.{has_else}
-use Rattle.entity_set.proofs.Listed.{others_are, others_more}
+use Rattle.entity_set.proofs.SetBits.{others_are, others_more}
 use Rattle.entity_set.proofs.set.EntitySet.without.Goals as goal
 
 pub loop-place-preserved : goal.loop-place-preserved

@@ -1,5 +1,5 @@
 use Rattle.std.proofs.Common.{refl}
-use Rattle.query_cache.proofs.Fitting.{new_fits}
+use Rattle.query_cache.proofs.FittingStores.{new_fits}
 use Rattle.query_cache.proofs.kept.Kept.new.Goals as goal
 
 pub returns-clause-fits : goal.returns-clause-fits

@@ -1,7 +1,7 @@
 use Rattle.std.proofs.Common.{refl, sym, ap, subst, ◌∙◌}
 use Rattle.query_cache.specs.Kept.{Fits, IsSynced, Kept}
-use Rattle.query_cache.proofs.Suiting.{are_listed}
-use Rattle.query_cache.proofs.Syncing.{Leaves, fits_still, leaves, unjudged}
+use Rattle.query_cache.proofs.ItemPatterns.{are_listed}
+use Rattle.query_cache.proofs.SyncedKeys.{Leaves, fits_still, leaves, unjudged}
 use Rattle.query_cache.proofs.kept.Kept.sync.Given.{Over}
 use Rattle.query_cache.proofs.kept.Kept.sync.Goals as goal
 

@@ -2,7 +2,7 @@ use Rattle.std.proofs.Common.{map, None, Some, option_map, slice_get, ap, subst,
 use Rattle.query_check.specs.Seen.{seen_item, seen_piece}
 use Rattle.query_chunks.specs.Chunk.{AreWhole, Matching, chunk_in, seen_column}
 use Rattle.query_chunks.proofs.Columns.{column_there}
-use Rattle.query_chunks.proofs.Whole.{whole_there}
+use Rattle.query_chunks.proofs.WholeChunks.{whole_there}
 use Rattle.query_chunks.proofs.chunk.MatchingTable.column.Goals as goal
 
 pub returns-in_err-item-clause-column : goal.returns-in_err-item-clause-column

@@ -1,5 +1,5 @@
 use Rattle.ecs_model.specs.Links.{targets_in}
-use Rattle.rel_travel.proofs.Adding.{grown_so}
+use Rattle.rel_travel.proofs.AddedLists.{grown_so}
 use Rattle.rel_travel.proofs.graph.UpwardRule.follow.Goals as goal
 
 pub returns-clause-grown : goal.returns-clause-grown

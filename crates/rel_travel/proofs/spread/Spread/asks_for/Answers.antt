@@ -1,6 +1,6 @@
 use Rattle.std.proofs.Common.{◌∙◌, sym, inl, inr}
 use Rattle.std.proofs.lemmas.Bool.{not-true}
-use Rattle.rel_travel.proofs.Seeking.{sought_for}
+use Rattle.rel_travel.proofs.SearchRounds.{sought_for}
 use Rattle.rel_travel.proofs.spread.Spread.asks_for.Goals as goal
 
 pub returns-then-self-clause-sought : goal.returns-then-self-clause-sought

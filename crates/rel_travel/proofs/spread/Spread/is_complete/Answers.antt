@@ -1,6 +1,6 @@
 use Rattle.std.proofs.Common.{◌∙◌, arith, sym}
 use Rattle.std.proofs.lemmas.Bool.{leb-true}
-use Rattle.rel_travel.proofs.Seeking.{complete}
+use Rattle.rel_travel.proofs.SearchRounds.{complete}
 use Rattle.rel_travel.proofs.spread.Spread.is_complete.Goals as goal
 
 pub returns-then-is_some : goal.returns-then-is_some

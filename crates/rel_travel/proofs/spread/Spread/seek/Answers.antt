@@ -1,5 +1,5 @@
 use Rattle.std.proofs.Common.{◌∙◌, sym}
-use Rattle.rel_travel.proofs.Seeking.{sought_behind, sought_first}
+use Rattle.rel_travel.proofs.SearchRounds.{sought_behind, sought_first}
 use Rattle.rel_travel.proofs.spread.Spread.seek.Goals as goal
 
 -- it goes on

@@ -1,5 +1,5 @@
 use Rattle.std.proofs.Common.{◌∙◌, arith, refl, sym, true≢false}
-use Rattle.rel_travel.proofs.Seeking.{found_reached, lacking_not_reached}
+use Rattle.rel_travel.proofs.SearchRounds.{found_reached, lacking_not_reached}
 use Rattle.rel_travel.proofs.spread.Spread.tells.Goals as goal
 
 -- it is found

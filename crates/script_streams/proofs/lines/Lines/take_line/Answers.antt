@@ -1,6 +1,6 @@
 use Rattle.std.proofs.Common.{rules}
 use Rattle.script_streams.specs.Lines.{part}
-use Rattle.script_streams.proofs.Kept.{kept_joined}
+use Rattle.script_streams.proofs.KeptLines.{kept_joined}
 use Rattle.script_streams.proofs.lines.Lines.take_line.Goals as goal
 
 pub returns-in_ok-keep_front-2-clause-taken : goal.returns-in_ok-keep_front-2-clause-taken

@@ -1,5 +1,5 @@
 use Rattle.table_store.specs.Kept.{IsMade}
-use Rattle.table_store.proofs.Putting.{if_ok, put_rows}
+use Rattle.table_store.proofs.FoundTables.{if_ok, put_rows}
 use Rattle.table_store.proofs.store.TableStore.find_or_make.Goals as goal
 
 pub find_or_put-requires-clause-ascend : goal.find_or_put-requires-clause-ascend

@@ -7,7 +7,7 @@ use Rattle.table_store.specs.Rows.{moved_rows, row_at}
 use Rattle.table_store.proofs.Changes.{contains, rows_here, with_room, with_rows}
 use Rattle.table_store.proofs.RowCalls.{filled_is}
 use Rattle.table_store.proofs.Slots.{one_some}
-use Rattle.table_store.proofs.Moving.{moved_kept, moved_row, moved_shapes, moved_stored, moved_tables, sizes_equal, source_is, still_room, target_is, target_there, vacant_there}
+use Rattle.table_store.proofs.RowMoves.{moved_kept, moved_row, moved_shapes, moved_stored, moved_tables, sizes_equal, source_is, still_room, target_is, target_there, vacant_there}
 use Rattle.table_store.proofs.store.TableStore.move_row.Goals as goal
 
 pub remove-source-requires : goal.remove-source-requires

@@ -1,6 +1,6 @@
 use Rattle.table_store.specs.Kept.{store_of}
 use Rattle.std.proofs.Common.{refl}
-use Rattle.table_store.proofs.Listing.{empty_kept}
+use Rattle.table_store.proofs.EmptyStores.{empty_kept}
 use Rattle.table_store.proofs.StoreLemmas.{stored}
 use Rattle.table_store.proofs.store.TableStore.new.Goals as goal
 

@@ -6,7 +6,7 @@ use Rattle.ecs_id.specs.declared.TableKey.{TableKey}
 use Rattle.table_store.specs.Store.{ids_at}
 use Rattle.table_store.specs.ByIds.{HasSlot, has_ids, ids_hash}
 use Rattle.table_store.proofs.Indexes.{some_held}
-use Rattle.table_store.proofs.Putting.{IsKept-grown, found_known, is_refused, is_kept, is_put, not_there, put_kept}
+use Rattle.table_store.proofs.FoundTables.{IsKept-grown, found_known, is_refused, is_kept, is_put, not_there, put_kept}
 use Rattle.table_store.proofs.store.TableStore.put_by.Goals as goal
 
 pub returns-in_default : goal.returns-in_default

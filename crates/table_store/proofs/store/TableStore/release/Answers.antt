@@ -1,6 +1,6 @@
 use Rattle.std.proofs.Common.{sym, ◌∙◌}
 use Rattle.table_store.proofs.StoreLemmas.{stored}
-use Rattle.table_store.proofs.Releasing.{not_standing, released, released_rows, released_kept, released_stored}
+use Rattle.table_store.proofs.ReleasedTables.{not_standing, released, released_rows, released_kept, released_stored}
 use Rattle.table_store.proofs.store.TableStore.release.Goals as goal
 
 pub returns-then-not-stands-clause-tables : goal.returns-then-not-stands-clause-tables

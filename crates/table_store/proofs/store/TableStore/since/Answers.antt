@@ -1,6 +1,6 @@
 use Rattle.std.proofs.Common.{sym, subst}
 use Rattle.table_store.specs.Kept.{is_held, IsOrder}
-use Rattle.table_store.proofs.Counting.{exactly_held}
+use Rattle.table_store.proofs.TableCounts.{exactly_held}
 use Rattle.table_store.proofs.Order.{IsRising, rising_filter}
 use Rattle.table_store.proofs.StoreLemmas.{stored}
 use Rattle.table_store.proofs.store.TableStore.since.Goals as goal

@@ -8,7 +8,7 @@ use Rattle.raw_column.specs.declared.block.Memory.{Memory}
 use Rattle.table_store.proofs.Slots.{one_some}
 use Rattle.table_store.proofs.Shapes.{HaveSizes}
 use Rattle.table_store.proofs.Changes.{there, contains}
-use Rattle.table_store.proofs.Putting.{is_kept}
+use Rattle.table_store.proofs.FoundTables.{is_kept}
 use Rattle.table_store.proofs.Steps.{shape_there, sorted_there, sorted_next, small_next, sizes_next, still_there, made_leads, refused_too}
 use Rattle.table_store.proofs.store.TableStore.step_by.Goals as goal
 

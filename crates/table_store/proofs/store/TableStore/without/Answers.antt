@@ -2,7 +2,7 @@ use Rattle.std.proofs.Common.{option_map, ap}
 use Rattle.table_store.specs.Store.{table_at, shape_of, without_id}
 use Rattle.table_store.specs.Kept.{IsMade}
 use Rattle.table_store.proofs.Changes.{there}
-use Rattle.table_store.proofs.Putting.{if_ok, put_rows}
+use Rattle.table_store.proofs.FoundTables.{if_ok, put_rows}
 use Rattle.table_store.proofs.store.TableStore.without.Goals as goal
 
 pub returns-clause-made : goal.returns-clause-made

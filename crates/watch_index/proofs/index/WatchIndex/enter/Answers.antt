@@ -1,4 +1,4 @@
-use Rattle.watch_index.proofs.Marked.{marked_more, marked_still}
+use Rattle.watch_index.proofs.MarkChanges.{marked_more, marked_still}
 use Rattle.watch_index.proofs.index.WatchIndex.enter.Goals as goal
 
 pub invariant_of-self : goal.invariant_of-self

@@ -1,4 +1,4 @@
-use Rattle.watch_index.proofs.Marked.{none_marked}
+use Rattle.watch_index.proofs.MarkChanges.{none_marked}
 use Rattle.watch_index.proofs.index.WatchIndex.new.Goals as goal
 
 pub invariant_of-result : goal.invariant_of-result

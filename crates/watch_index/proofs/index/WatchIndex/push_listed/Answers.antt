@@ -1,5 +1,5 @@
 use Rattle.std.proofs.Common.{sym, ◌∙◌}
-use Rattle.watch_index.proofs.Marked.{none_pushed}
+use Rattle.watch_index.proofs.MarkChanges.{none_pushed}
 use Rattle.watch_index.proofs.index.WatchIndex.push_listed.Goals as goal
 
 pub returns : goal.returns

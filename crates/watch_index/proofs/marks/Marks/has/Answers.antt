@@ -1,6 +1,6 @@
 use Rattle.std.proofs.Common.{ap, ◌∙◌}
 use Rattle.watch_index.specs.Marks.{has}
-use Rattle.watch_index.proofs.Marked.{has_tests}
+use Rattle.watch_index.proofs.MarkChanges.{has_tests}
 use Rattle.watch_index.proofs.marks.Marks.has.Goals as goal
 
 pub returns : goal.returns

@@ -1,5 +1,5 @@
 use Rattle.watch_index.specs.Marks.{mark_of}
-use Rattle.watch_index.proofs.Marked.{none_set}
+use Rattle.watch_index.proofs.MarkChanges.{none_set}
 use Rattle.watch_index.proofs.marks.Marks.none.Goals as goal
 
 pub returns : goal.returns

@@ -1,5 +1,5 @@
 use Rattle.std.proofs.Common.{arith, refl}
-use Rattle.watch_index.proofs.Marked.{all_added, none_added, one_added}
+use Rattle.watch_index.proofs.MarkChanges.{all_added, none_added, one_added}
 use Rattle.watch_index.proofs.marks.Marks.set_all.Goals as goal
 
 pub loop-occasion-init : goal.loop-occasion-init

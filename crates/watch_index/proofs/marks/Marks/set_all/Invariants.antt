@@ -1,5 +1,5 @@
 use Rattle.std.proofs.Common.{take}
-use Rattle.watch_index.proofs.Marked.{AreSet}
+use Rattle.watch_index.proofs.MarkChanges.{AreSet}
 use Rattle.watch_index.proofs.marks.Marks.set_all.Given as goal
 
 abbrev pub invariant-loop-occasion : goal.invariant-loop-occasion

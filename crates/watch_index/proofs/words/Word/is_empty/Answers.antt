@@ -1,5 +1,5 @@
 use Rattle.std.proofs.Common.{arith, eq-eqb, eqb-true}
-use Rattle.watch_index.proofs.Listing.{no_bits, some_bits}
+use Rattle.watch_index.proofs.WordNumbers.{no_bits, some_bits}
 use Rattle.watch_index.proofs.words.Word.is_empty.Goals as goal
 
 pub returns : goal.returns

@@ -1,4 +1,4 @@
-use Rattle.watch_index.proofs.Listing.{one_more}
+use Rattle.watch_index.proofs.WordNumbers.{one_more}
 use Rattle.watch_index.proofs.words.Word.with.Goals as goal
 
 pub returns-clause-numbers : goal.returns-clause-numbers

@@ -1,4 +1,4 @@
-use Rattle.watch_index.proofs.Listing.{one_less}
+use Rattle.watch_index.proofs.WordNumbers.{one_less}
 use Rattle.watch_index.proofs.words.Word.without.Goals as goal
 
 pub returns-clause-numbers : goal.returns-clause-numbers

@@ -1,5 +1,5 @@
 use Rattle.std.proofs.Common.{[], None, refl}
-use Rattle.world_rows.proofs.Tabled.{four_of}
+use Rattle.world_rows.proofs.ChunkRows.{four_of}
 use Rattle.world_rows.proofs.columns.FirstColumns.none.Goals as goal
 
 pub returns : goal.returns

@@ -1,6 +1,6 @@
 use Rattle.std.proofs.Common.{option_map}
 use Rattle.query_chunks.specs.Chunk.{chunk_in, seen_column}
-use Rattle.world_rows.proofs.Tabled.{four_of}
+use Rattle.world_rows.proofs.ChunkRows.{four_of}
 use Rattle.world_rows.proofs.columns.FirstColumns.of.Goals as goal
 
 pub returns : goal.returns

@@ -1,4 +1,4 @@
-use Rattle.world_script.proofs.Waiting.{none_waits-first}
+use Rattle.world_script.proofs.WaitingEvents.{none_waits-first}
 use Rattle.world_script.proofs.runners.Runner.new.Goals as goal
 
 pub returns-clause-none_wait : goal.returns-clause-none_wait

@@ -1,10 +1,10 @@
 use Rattle.std.proofs.Common.{◌∙◌}
 use Rattle.std.proofs.lemmas.Result.{on_err_weaker}
-use Rattle.world_script.proofs.Answered.{FaultyAt-ok, FaultyAt-same, on_err_anyway, on_ok_two}
+use Rattle.world_script.proofs.AnswerWays.{FaultyAt-ok, FaultyAt-same, on_err_anyway, on_ok_two}
 use Rattle.world_script.proofs.Faults.{TakesFront-none, WroteFront-at}
-use Rattle.world_script.proofs.Running.{IsRunning-front, IsRunning-line, IsRunning-written, few-line, room-line}
-use Rattle.world_query.proofs.Sent.{calm_still}
-use Rattle.world_script.proofs.Sent.{FaultyAt-send, IsRunning-sent, WroteFront-line, send_fault}
+use Rattle.world_script.proofs.RunSteps.{IsRunning-front, IsRunning-line, IsRunning-written, few-line, room-line}
+use Rattle.world_query.proofs.SentTexts.{calm_still}
+use Rattle.world_script.proofs.SentFronts.{FaultyAt-send, IsRunning-sent, WroteFront-line, send_fault}
 use Rattle.world_script.proofs.runners.Runner.run_ended.Goals as goal
 
 pub returns-in_err-take_line-clause-front : goal.returns-in_err-take_line-clause-front

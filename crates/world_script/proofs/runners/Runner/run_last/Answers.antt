@@ -1,9 +1,9 @@
 use Rattle.std.proofs.Common.{refl, sym, ◌∙◌}
 use Rattle.std.proofs.lemmas.Bool.{eqb-false}
 use Rattle.std.proofs.lemmas.Result.{on_ok_weaker}
-use Rattle.world_query.proofs.Sent.{calm_ok}
-use Rattle.world_script.proofs.Ended.{HasEnded-line}
-use Rattle.world_script.proofs.Sent.{HasEnded-sent}
+use Rattle.world_query.proofs.SentTexts.{calm_ok}
+use Rattle.world_script.proofs.RunEnds.{HasEnded-line}
+use Rattle.world_script.proofs.SentFronts.{HasEnded-sent}
 use Rattle.world_script.proofs.runners.Runner.run_last.Goals as goal
 
 pub returns-clause-ended : goal.returns-clause-ended

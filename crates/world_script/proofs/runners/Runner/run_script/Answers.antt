@@ -2,12 +2,12 @@ use Rattle.std.proofs.Common.{◌≡◌, ap, inl, inr}
 use Rattle.std.specs.Prelude.{Err, Ok}
 use Rattle.std.proofs.lemmas.Result.{on_ok_weaker}
 use Rattle.world_script.specs.Running.{run_error}
-use Rattle.world_script.proofs.Answered.{FaultyAt-ok, err_is, fill_read, fill_too_long, on_err_at}
-use Rattle.world_script.proofs.Ended.{IsCount-ended, IsOutput-ended}
+use Rattle.world_script.proofs.AnswerWays.{FaultyAt-ok, err_is, fill_read, fill_too_long, on_err_at}
+use Rattle.world_script.proofs.RunEnds.{IsCount-ended, IsOutput-ended}
 use Rattle.world_script.proofs.Faults.{TakesFront-none, WroteFront-at, WroteFull-at, WroteToEnd-at, WroteWhole-at}
-use Rattle.world_script.proofs.Running.{IsRunning-filled}
-use Rattle.world_script.proofs.Sent.{FaultyAt-send, send_not_read, send_not_too_long}
-use Rattle.world_query.proofs.Sent.{calm_still}
+use Rattle.world_script.proofs.RunSteps.{IsRunning-filled}
+use Rattle.world_script.proofs.SentFronts.{FaultyAt-send, send_not_read, send_not_too_long}
+use Rattle.world_query.proofs.SentTexts.{calm_still}
 use Rattle.world_script.proofs.runners.Runner.run_script.Goals as goal
 
 pub returns-in_err-has_more-clause-read : goal.returns-in_err-has_more-clause-read

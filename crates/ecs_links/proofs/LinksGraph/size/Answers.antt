@@ -1,4 +1,0 @@
-use Rattle.ecs_links.proofs.LinksGraph.size.Goals as goal
-
-pub returns-clause-links : goal.returns-clause-links
-returns-clause-links g c = rw (← c.self.view_is) c.self.invariant.linked

@@ -1,6 +1,0 @@
-use Rattle.std.proofs.Common.{◌≡◌, ◌++◌, take}
-use Rattle.std.specs.Prelude.{flat_map, map}
-use Rattle.fact_rules.proofs.deletion.list_dead.Given as goal
-
-abbrev pub invariant-loop-entity : goal.invariant-loop-entity
-invariant-loop-entity g l = l.facts.items ≡ l.initial.facts.items ++ flat_map (λ y. map (λ i. (y, i)) (g.G.Graph.ids l.graph y)) (take l.entity-index l.scratch.found)

@@ -1,0 +1,215 @@
+-- What a bit that is set or cleared changes of a block's tables.
+use Rattle.std.specs.Prelude.{◌==◌, ◌&&◌, bit_and, bit_or, filter}
+use Rattle.std.specs.Int.{bit_at, bit_not}
+use Rattle.std.specs.List.{range_with_len}
+use Rattle.std.proofs.Common.{◌≡◌, ℕ, zero, suc, ◌+◌, ◌-◌, ◌*◌, ◌%◌, ◌^◌, ◌<◌, ◌≤◌, Bool, true, false, cond, List, [], ◌∷◌, ◌++◌, append-nil, append_assoc, map, sym, ap, ◌∙◌, inl, inr, arith, eq-eqb, refl, true≢false, w64}
+use Rattle.std.proofs.lemmas.Bool.{cases_lt}
+use Rattle.std.proofs.lemmas.List.{map-append}
+use Rattle.std.proofs.lemmas.List.Elements.{filter-append}
+use Rattle.std.proofs.lemmas.Nat.Bits.{bit_at-zero, bit_at_above, bit_at_clear_other, bit_at_clear_same, bit_at_set_other, bit_at_set_same}
+use Rattle.ecs_id.specs.declared.TableKey.{TableKey}
+use Rattle.query_cache.specs.declared.table_block.Block.{Block}
+use Rattle.query_cache.specs.TableList.{IsBlock, key_at, keys_of}
+
+-- ---- lists
+pub ranges_join : (a m n : ℕ) → range_with_len a (m + n) ≡ range_with_len a m ++ range_with_len (a + m) n
+ranges_join a zero n =
+    let none : zero + n ≡ n = omega arith in
+    let still : a ≡ a + zero = omega arith in
+    ap (range_with_len a) none ∙ ap (λ b. range_with_len b n) still
+ranges_join a (suc m) n =
+    let more : suc m + n ≡ suc (m + n) = omega arith in
+    let next : a + 1 + m ≡ a + suc m = omega arith in
+    ap (range_with_len a) more ∙ ap (λ xs. a ∷ xs) (ranges_join (a + 1) m n ∙ ap (λ b. range_with_len (a + 1) m ++ range_with_len b n) next)
+
+filter_alike : (p q : ℕ → Bool) (a n : ℕ) → ((k : ℕ) → a ≤ k → k < a + n → p k ≡ q k) → filter p (range_with_len a n) ≡ filter q (range_with_len a n)
+filter_alike p q a zero same = refl
+filter_alike p q a (suc n) same =
+    let first : p a ≡ q a = same a (omega arith) (omega arith) in
+    let rest : filter p (range_with_len (a + 1) n) ≡ filter q (range_with_len (a + 1) n) = filter_alike p q (a + 1) n (λ k low high. same k (omega arith) (omega arith)) in
+    λ i. cond (first i) (a ∷ rest i) (rest i)
+
+none_between : (p : ℕ → Bool) (a n : ℕ) → ((k : ℕ) → a ≤ k → k < a + n → p k ≡ false) → filter p (range_with_len a n) ≡ []
+none_between p a zero none = refl
+none_between p a (suc n) none =
+    ap (λ b. cond b (a ∷ filter p (range_with_len (a + 1) n)) (filter p (range_with_len (a + 1) n))) (none a (omega arith) (omega arith))
+    ∙ none_between p (a + 1) n (λ k low high. none k (omega arith) (omega arith))
+
+pub number_more : (p : ℕ → Bool) (a n : ℕ) → filter p (range_with_len a (n + 1)) ≡ filter p (range_with_len a n) ++ cond (p (a + n)) ((a + n) ∷ []) []
+number_more p a n = ap (filter p) (ranges_join a n 1) ∙ filter-append p (range_with_len a n) (range_with_len (a + n) 1)
+
+filter_twice : (p q : ℕ → Bool) (xs : List ℕ) → filter q (filter p xs) ≡ filter (λ x. p x && q x) xs
+filter_twice p q [] = refl
+filter_twice p q (x ∷ xs) =
+    elim (p x) as (λ b. filter q (cond b (x ∷ filter p xs) (filter p xs)) ≡ cond (b && q x) (x ∷ filter (λ x. p x && q x) xs) (filter (λ x. p x && q x) xs)) [
+      | true ↦ ap (λ ys. cond (q x) (x ∷ ys) ys) (filter_twice p q xs)
+      | false ↦ filter_twice p q xs
+    ]
+
+filter_mapped : {X Y : Type 0} (f : X → Y) (q : Y → Bool) (xs : List X) → filter q (map f xs) ≡ map f (filter (λ x. q (f x)) xs)
+filter_mapped f q [] = refl
+filter_mapped f q (x ∷ xs) =
+    elim (q (f x)) as (λ b. cond b (f x ∷ filter q (map f xs)) (filter q (map f xs)) ≡ map f (cond b (x ∷ filter (λ x. q (f x)) xs) (filter (λ x. q (f x)) xs))) [
+      | true ↦ ap (λ ys. f x ∷ ys) (filter_mapped f q xs)
+      | false ↦ filter_mapped f q xs
+    ]
+
+-- ---- the tables of the first bits of a block
+abbrev pub keys_up_to : Block → ℕ → List TableKey
+keys_up_to b n = map (key_at b) (filter (λ k. bit_at b.bits k == 1) (range_with_len 0 n))
+
+pub none_yet : (b : Block) → [] ≡ keys_up_to b 0
+none_yet b = refl
+
+pub one_more : (b : Block) (n : ℕ) (had : Bool) (start found more : List TableKey) → had ≡ (bit_at b.bits n == 1) → found ≡ start ++ keys_up_to b n
+    → more ≡ found ++ cond had (key_at b n ∷ []) [] → more ≡ start ++ keys_up_to b (n + 1)
+one_more b n had start found more bit so is =
+    let p : ℕ → Bool = λ k. bit_at b.bits k == 1 in
+    let at : 0 + n ≡ n = omega arith in
+    let last : (c : Bool) → cond c (key_at b n ∷ []) [] ≡ map (key_at b) (cond c (n ∷ []) [])
+    = λ c. elim c as (λ c. cond c (key_at b n ∷ []) [] ≡ map (key_at b) (cond c (n ∷ []) [])) [ true ↦ refl | false ↦ refl ] in
+    is
+    ∙ ap (λ xs. xs ++ cond had (key_at b n ∷ []) []) so
+    ∙ append_assoc start (keys_up_to b n) (cond had (key_at b n ∷ []) [])
+    ∙ ap (λ xs. start ++ xs) (
+    ap (λ ys. keys_up_to b n ++ ys) (last had ∙ ap (λ c. map (key_at b) (cond c (n ∷ []) [])) bit ∙ ap (λ m. map (key_at b) (cond (p m) (m ∷ []) [])) (sym at))
+    ∙ sym (map-append (key_at b) (filter p (range_with_len 0 n)) (cond (p (0 + n)) ((0 + n) ∷ []) []))
+    ∙ ap (map (key_at b)) (sym (number_more p 0 n))
+    )
+
+pub all_of : (b : Block) (n : ℕ) → n ≡ b.width → keys_up_to b n ≡ keys_of b
+unfolding keys_of
+all_of b n same = ap (keys_up_to b) same
+
+-- ---- a bit that is set behind all others
+module _ (b : Block) (is : IsBlock b) (n : ℕ) (low : b.width ≤ n) (small : n < 64) where
+  abbrev set_bits : ℕ
+  set_bits = bit_or b.bits (1 * 2 ^ n % 2 ^ 64)
+
+  abbrev with_one : Block
+  with_one = record b { bits = set_bits; width = n + 1 }
+
+  before : (k : ℕ) → k < n → (bit_at set_bits k == 1) ≡ (bit_at b.bits k == 1)
+  before k less = ap (λ x. x == 1) (bit_at_set_other w64 b.bits n small k (λ e. omega (arith, less, e)))
+
+  pub set_behind : keys_of with_one ≡ keys_of b ++ key_at b n ∷ []
+  unfolding keys_of
+  set_behind =
+      let p : ℕ → Bool = λ k. bit_at b.bits k == 1 in
+      let q : ℕ → Bool = λ k. bit_at set_bits k == 1 in
+      let at : 0 + n ≡ n = omega arith in
+      let sum : n ≡ b.width + (n - b.width) = omega (arith, low) in
+      let set : q (0 + n) ≡ true = ap q at ∙ eq-eqb _ 1 (bit_at_set_same w64 b.bits n small) in
+      let rest : filter p (range_with_len 0 n) ≡ filter p (range_with_len 0 b.width)
+      = ap (λ m. filter p (range_with_len 0 m)) sum
+      ∙ ap (filter p) (ranges_join 0 b.width (n - b.width))
+      ∙ filter-append p (range_with_len 0 b.width) (range_with_len (0 + b.width) (n - b.width))
+      ∙ ap (λ xs. filter p (range_with_len 0 b.width) ++ xs) (none_between p (0 + b.width) (n - b.width) (λ k above below. ap (λ x. x == 1) (is.behind k (omega (arith, above)) (omega (arith, below, low, small)))))
+      ∙ append-nil (filter p (range_with_len 0 b.width)) in
+      ap (map (key_at b)) (
+      number_more q 0 n
+      ∙ ap (λ c. filter q (range_with_len 0 n) ++ cond c ((0 + n) ∷ []) []) set
+      ∙ ap (λ m. filter q (range_with_len 0 n) ++ m ∷ []) at
+      ∙ ap (λ xs. xs ++ n ∷ []) (filter_alike q p 0 n (λ k above below. before k (omega (arith, below))) ∙ rest)
+      )
+      ∙ map-append (key_at b) (filter p (range_with_len 0 b.width)) (n ∷ [])
+
+  pub set_block : b.slot + n < 2 ^ 32 → b.serial + n < 2 ^ 128 → IsBlock with_one
+  set_block slot serial = record {
+    width = omega (arith, small);
+    slots = omega (arith, slot);
+    serials = omega (arith, serial);
+    behind = λ k above top. bit_at_set_other w64 b.bits n small k (λ e. omega (arith, above, e)) ∙ is.behind k (omega (arith, above, low)) top;
+  }
+
+-- ---- bits that are cleared
+-- of the first bits of a block those are left whose tables stay, and of the others all
+pub record AreLeft (b : Block) (keep : TableKey → Bool) (n bits : ℕ) : Type 0 where
+  pub gone : (k : ℕ) → k < n → (bit_at bits k == 1) ≡ ((bit_at b.bits k == 1) && keep (key_at b k))
+  pub rest : (k : ℕ) → n ≤ k → k < 64 → bit_at bits k ≡ bit_at b.bits k
+
+pub begun : (b : Block) (keep : TableKey → Bool) → AreLeft b keep 0 b.bits
+begun b keep = record { gone = λ k low. absurd (omega (arith, low)); rest = λ k above top. refl }
+
+and_kept : (x y : Bool) → y ≡ true → x ≡ (x && y)
+and_kept true true h = refl
+and_kept false true h = refl
+and_kept true false h = absurd (true≢false (sym h))
+and_kept false false h = refl
+
+and_gone : (x y : Bool) → y ≡ false → false ≡ (x && y)
+and_gone true true h = absurd (true≢false h)
+and_gone false true h = refl
+and_gone true false h = refl
+and_gone false false h = refl
+
+module _ (b : Block) (keep : TableKey → Bool) (n bits : ℕ) (small : n < 64) (left : AreLeft b keep n bits) where
+  pub one_stays : keep (key_at b n) ≡ true → AreLeft b keep (n + 1) bits
+  one_stays stays = record {
+    gone = λ k below.
+        elim (cases_lt k n) [
+          | inl earlier ↦ left.gone k earlier
+          | inr late ↦
+              let same : k ≡ n = omega (arith, below, late) in
+              ap (λ x. x == 1) (left.rest k (omega (arith, late)) (omega (arith, same, small))) ∙ and_kept (bit_at b.bits k == 1) (keep (key_at b k)) (ap (λ m. keep (key_at b m)) same ∙ stays)
+        ];
+    rest = λ k above top. left.rest k (omega (arith, above)) top;
+  }
+
+  abbrev cleared : ℕ
+  cleared = bit_and bits (bit_not w64 (1 * 2 ^ n % 2 ^ 64))
+
+  pub one_goes : keep (key_at b n) ≡ false → AreLeft b keep (n + 1) cleared
+  one_goes goes = record {
+    gone = λ k below.
+        elim (cases_lt k n) [
+          | inl earlier ↦ ap (λ x. x == 1) (bit_at_clear_other w64 bits n small k (omega (arith, earlier, small)) (λ e. omega (arith, earlier, e))) ∙ left.gone k earlier
+          | inr late ↦
+              let same : k ≡ n = omega (arith, below, late) in
+              ap (λ m. bit_at cleared m == 1) same ∙ ap (λ x. x == 1) (bit_at_clear_same w64 bits n small)
+              ∙ and_gone (bit_at b.bits k == 1) (keep (key_at b k)) (ap (λ m. keep (key_at b m)) same ∙ goes)
+        ];
+    rest = λ k above top. bit_at_clear_other w64 bits n small k top (λ e. omega (arith, above, e)) ∙ left.rest k (omega (arith, above)) top;
+  }
+
+pub left_keys : (b : Block) (keep : TableKey → Bool) (bits : ℕ) → AreLeft b keep b.width bits → keys_of (record b { bits = bits }) ≡ filter keep (keys_of b)
+unfolding keys_of
+left_keys b keep bits left =
+    let p : ℕ → Bool = λ k. bit_at b.bits k == 1 in
+    ap (map (key_at b)) (
+    filter_alike (λ k. bit_at bits k == 1) (λ k. p k && keep (key_at b k)) 0 b.width (λ k above below. left.gone k (omega (arith, below)))
+    ∙ sym (filter_twice p (λ k. keep (key_at b k)) (range_with_len 0 b.width))
+    )
+    ∙ sym (filter_mapped (key_at b) keep (filter p (range_with_len 0 b.width)))
+
+pub left_block : (b : Block) (keep : TableKey → Bool) (bits : ℕ) → AreLeft b keep b.width bits → IsBlock b → IsBlock (record b { bits = bits })
+left_block b keep bits left is = record {
+  width = is.width;
+  slots = is.slots;
+  serials = is.serials;
+  behind = λ k above top. left.rest k above top ∙ is.behind k above top;
+}
+
+pub no_bits : (b : Block) → b.bits ≡ 0 → keys_of b ≡ []
+unfolding keys_of
+no_bits b none = ap (map (key_at b)) (none_between (λ k. bit_at b.bits k == 1) 0 b.width (λ k above below. ap (λ x. bit_at x k == 1) none ∙ ap (λ x. x == 1) (bit_at-zero k)))
+
+-- ---- a block of one table
+module _ (k : TableKey) where
+  abbrev one : Block
+  one = record { serial = k.serial; bits = 1; slot = k.slot; width = 1 }
+
+  pub one_key : keys_of one ≡ k ∷ []
+  unfolding keys_of
+  one_key =
+      let slot : k.slot + 0 ≡ k.slot = omega arith in
+      let serial : k.serial + 0 ≡ k.serial = omega arith in
+      λ i. record { slot = slot i; serial = serial i } ∷ []
+
+  pub one_block : k.slot < 2 ^ 32 → k.serial < 2 ^ 128 → IsBlock one
+  one_block slot serial = record {
+    width = omega arith;
+    slots = omega (arith, slot);
+    serials = omega (arith, serial);
+    behind = λ n above top. bit_at_above 1 1 n (omega arith) above;
+  }

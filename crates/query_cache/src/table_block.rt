@@ -1,0 +1,147 @@
+//! Tables whose serials and slots go side by side, a bit for each.
+
+ghost use Rattle.std.specs.Prelude.{◌≡◌, ◌<◌, ◌≤◌, ◌==◌, ◌++◌, ◌∷◌, [], IfSome, IsTrue, OnOk, filter, if◌then◌else◌, is_some};
+ghost use Rattle.std.specs.Int.{bit_at};
+ghost use Rattle.query_cache.specs.TableList.{IsBlock, key_at, keeps, keys_of};
+ghost use Rattle.table_store.specs.Store.{table_at};
+
+use ecs_id::TableKey;
+use std::alloc::{AllocError, Allocator, Global};
+use table_store::TableStore;
+
+/// Which tables stay in a list.
+#[derive(Drop)]
+pub enum Keep<'s, A: Allocator = Global> {
+    /// Those that stand in a store.
+    Standing(&'s TableStore<A>),
+    /// Those of serials up to this one.
+    UpTo(u128),
+}
+
+impl<A: Allocator> Keep<'_, A> {
+    #[inline(always)]
+    fn keeps(&self, key: TableKey) -> bool
+        ensures { result ≡ keeps self.now key }
+    {
+        match self {
+            Keep::Standing(tables) => tables.get(key).is_some(),
+            Keep::UpTo(serial) => key.serial <= *serial,
+        }
+    }
+}
+
+/// Tables whose serials and slots are by some number up to 63 greater than those of the first.
+#[derive(Clone, Copy)]
+pub(crate) struct Block {
+    /// Of the first.
+    pub(crate) serial: u128,
+    /// Bit `n` is set where the table is listed that is by `n` behind the first.
+    pub(crate) bits: u64,
+    /// Of the first.
+    pub(crate) slot: u32,
+    /// No bit is set from here on.
+    pub(crate) width: u32,
+}
+
+impl Block {
+    /// Of one table.
+    pub(crate) fn of(key: TableKey) -> Block
+        ensures keys { keys_of result ≡ key ∷ [] }
+        ensures block { IsBlock result }
+    {
+        Block {
+            serial: key.serial,
+            bits: 1,
+            slot: key.slot,
+            width: 1,
+        }
+    }
+
+    /// Puts a table behind the others, and tells whether it has a bit here for that.
+    pub(crate) fn put(&mut self, key: TableKey) -> bool
+        requires block { IsBlock self.old }
+        ensures keys { keys_of self.new ≡ keys_of self.old ++ (if result then key ∷ [] else []) }
+        ensures block { IsBlock self.new }
+    {
+        let Some(bit) = self.bit_behind(key) else {
+            return false;
+        };
+        self.bits |= 1u64 << bit;
+        self.width = bit + 1;
+        true
+    }
+
+    /// The bit of a table, if it has one behind all others.
+    fn bit_behind(&self, key: TableKey) -> Option<u32>
+        ensures { IfSome result (λ bit. (self.now.width ≤ bit) × (bit < 64) × (key_at self.now bit ≡ key)) }
+    {
+        let behind = key.serial.checked_sub(self.serial)?;
+        if behind >= 64 || u64::from(key.slot) != u64::from(self.slot) + behind as u64 {
+            return None;
+        }
+        let bit = behind as u32;
+        if bit < self.width {
+            return None;
+        }
+        Some(bit)
+    }
+
+    /// Puts the tables behind those of a list.
+    pub(crate) fn push_onto<A: Allocator>(
+        &self,
+        keys: &mut Vec<TableKey, A>,
+    ) -> Result<(), AllocError>
+        requires block { IsBlock self.now }
+        ensures { OnOk result (keys.new.items ≡ keys.old.items ++ keys_of self.now) }
+    {
+        for bit in 0..self.width {
+            self.push_one(bit, keys)?;
+        }
+        Ok(())
+    }
+
+    /// Puts the table of a bit behind those of a list, if it is set.
+    #[inline(always)]
+    fn push_one<A: Allocator>(
+        &self,
+        bit: u32,
+        keys: &mut Vec<TableKey, A>,
+    ) -> Result<(), AllocError>
+        requires block { IsBlock self.now }
+        requires within { bit < self.now.width }
+        ensures { OnOk result (keys.new.items ≡ keys.old.items ++ (if bit_at self.now.bits bit == 1 then key_at self.now bit ∷ [] else [])) }
+    {
+        if self.bits >> bit & 1 == 1 {
+            keys.push(self.key_at(bit))?;
+        }
+        Ok(())
+    }
+
+    /// Leaves those that are to stay.
+    pub(crate) fn retain<A: Allocator>(&mut self, keep: &Keep<'_, A>)
+        requires block { IsBlock self.old }
+        ensures keys { keys_of self.new ≡ filter (keeps keep.now) (keys_of self.old) }
+        ensures block { IsBlock self.new }
+    {
+        let mut kept = self.bits;
+        for bit in 0..self.width {
+            if !keep.keeps(self.key_at(bit)) {
+                kept &= !(1u64 << bit);
+            }
+        }
+        self.bits = kept;
+    }
+
+    /// The table of a bit.
+    #[inline(always)]
+    fn key_at(&self, bit: u32) -> TableKey
+        requires block { IsBlock self.now }
+        requires within { bit < self.now.width }
+        ensures { result ≡ key_at self.now bit }
+    {
+        TableKey {
+            slot: self.slot + bit,
+            serial: self.serial + u128::from(bit),
+        }
+    }
+}

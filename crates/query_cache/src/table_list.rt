@@ -1,0 +1,96 @@
+//! The list.
+
+ghost use Rattle.std.specs.Prelude.{◌≡◌, ◌++◌, ◌∷◌, [], All, OnErr, OnOk, filter, if◌then◌else◌, length};
+ghost use Rattle.query_cache.specs.TableList.{IsBlock, keeps, keys_in};
+
+use crate::table_block::{Block, Keep};
+use ecs_id::TableKey;
+use std::alloc::{AllocError, Allocator, Global};
+use std::marker::Model;
+
+/// A list of tables. It takes 32 bytes for each 64 tables that were made one after another in new slots, and never more than 32 bytes a table.
+#[derive(Drop)]
+pub struct TableList<A: Allocator = Global> {
+    blocks: Vec<Block, A>,
+}
+
+impl<A: Allocator> Model for TableList<A> {
+    ghost use Rattle.std.specs.Prelude.{All};
+    ghost use Rattle.query_cache.specs.TableList.{IsBlock, Tables, keys_in};
+
+    ghost Value = { Tables };
+
+    ghost view = { λ list. record { items = keys_in list.blocks.items } };
+
+    ghost invariant = { λ list. All IsBlock list.blocks.items };
+}
+
+impl<A: Allocator> TableList<A> {
+    /// Of nothing. It takes no memory before the first table.
+    pub fn new(alloc: A) -> Self
+        ensures { result.items ≡ [] }
+    {
+        TableList {
+            blocks: Vec::new(alloc),
+        }
+    }
+
+    /// Puts a table behind the others.
+    ///
+    /// Where memory is refused, the list stays as it was.
+    pub fn push(&mut self, key: TableKey) -> Result<(), AllocError>
+        ensures pushed { OnOk result (self.new.items ≡ self.old.items ++ key ∷ []) }
+        ensures refused { OnErr result (self.new.items ≡ self.old.items) }
+    {
+        if put_in_last(self.blocks.as_mut_slice(), key) {
+            return Ok(());
+        }
+        self.blocks.push(Block::of(key))?;
+        Ok(())
+    }
+
+    /// Leaves those that are to stay, in their order. It takes no memory.
+    pub fn retain<B: Allocator>(&mut self, keep: &Keep<'_, B>)
+        ensures { self.new.items ≡ filter (keeps keep.now) self.old.items }
+    {
+        retain_in(self.blocks.as_mut_slice(), keep);
+        self.blocks.retain(|block| block.bits != 0);
+    }
+
+    /// Puts the tables behind those of another list.
+    ///
+    /// Fails where memory is refused.
+    pub fn push_onto<B: Allocator>(&self, keys: &mut Vec<TableKey, B>) -> Result<(), AllocError>
+        ensures { OnOk result (keys.new.items ≡ keys.old.items ++ self.now.items) }
+    {
+        for block in &self.blocks {
+            block.push_onto(keys)?;
+        }
+        Ok(())
+    }
+}
+
+/// Puts a table into the last of some blocks, and tells whether it has a bit there.
+fn put_in_last(blocks: &mut [Block], key: TableKey) -> bool
+    requires blocks { All IsBlock blocks.old }
+    ensures keys { keys_in blocks.new ≡ keys_in blocks.old ++ (if result then key ∷ [] else []) }
+    ensures length { length blocks.new ≡ length blocks.old }
+    ensures blocks { All IsBlock blocks.new }
+{
+    let Some(last) = blocks.len().checked_sub(1) else {
+        return false;
+    };
+    blocks[last].put(key)
+}
+
+/// Leaves of some blocks the tables that are to stay.
+fn retain_in<A: Allocator>(blocks: &mut [Block], keep: &Keep<'_, A>)
+    requires blocks { All IsBlock blocks.old }
+    ensures keys { keys_in blocks.new ≡ filter (keeps keep.now) (keys_in blocks.old) }
+    ensures length { length blocks.new ≡ length blocks.old }
+    ensures blocks { All IsBlock blocks.new }
+{
+    for place in 0..blocks.len() {
+        blocks[place].retain(keep);
+    }
+}

@@ -1,5 +1,0 @@
-use Rattle.query_concerns.proofs.OwnFacts.{match_by_own_facts}
-use Rattle.query_concerns.proofs.laws.anchored_queries_match_by_own_facts.Goals as goal
-
-pub returns : goal.returns
-returns c = match_by_own_facts

@@ -1,5 +1,0 @@
-use Rattle.query_concerns.proofs.WhoeverLives.{match_whoever_else_lives}
-use Rattle.query_concerns.proofs.laws.anchored_queries_match_whoever_else_lives.Goals as goal
-
-pub returns : goal.returns
-returns c = match_whoever_else_lives

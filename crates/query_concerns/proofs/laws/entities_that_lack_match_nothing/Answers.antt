@@ -1,5 +1,0 @@
-use Rattle.query_concerns.proofs.Lacking.{lacking_match_nothing}
-use Rattle.query_concerns.proofs.laws.entities_that_lack_match_nothing.Goals as goal
-
-pub returns : goal.returns
-returns c = lacking_match_nothing

@@ -1,5 +1,0 @@
-use Rattle.query_concerns.proofs.Tied.{match_by_ties}
-use Rattle.query_concerns.proofs.laws.tied_queries_match_by_facts_of_their_targets.Goals as goal
-
-pub returns : goal.returns
-returns c = match_by_ties

@@ -1,6 +1,0 @@
-pub mod Answering
-pub mod KeptRows
-pub mod Locally
-pub mod Moving
-pub mod Nobody
-pub mod Staying

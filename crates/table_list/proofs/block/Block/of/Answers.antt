@@ -1,9 +1,0 @@
-use Rattle.std.proofs.Common.{arith}
-use Rattle.table_list.proofs.Bits.{one_block, one_key}
-use Rattle.table_list.proofs.block.Block.of.Goals as goal
-
-pub returns-clause-keys : goal.returns-clause-keys
-returns-clause-keys c = one_key c.args.key
-
-pub returns-clause-block : goal.returns-clause-block
-returns-clause-block c = one_block c.args.key (omega (arith, c.well_formed)) (omega (arith, c.well_formed))

@@ -1,6 +1,0 @@
-use Rattle.std.proofs.Common.{◌≡◌, ◌++◌}
-use Rattle.table_list.proofs.Bits.{keys_up_to}
-use Rattle.table_list.proofs.block.Block.push_onto.Given as goal
-
-abbrev pub invariant-loop-bit : goal.invariant-loop-bit
-invariant-loop-bit g l = l.keys.items ≡ l.initial.keys.items ++ keys_up_to l.self l.bit

@@ -1,8 +1,0 @@
-use Rattle.std.proofs.Common.{◌∙◌}
-use Rattle.touched_entities.proofs.Searching.{searched}
-use Rattle.touched_entities.proofs.facts.is_among.Goals as goal
-
-pub returns : goal.returns
-returns c =
-    c.is_ok.ensures.value
-    ∙ searched c.args.facts.now c.requires c.args.fact c.binary_search.result c.binary_search.ensures.bound c.binary_search.ensures.position

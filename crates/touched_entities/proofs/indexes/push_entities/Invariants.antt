@@ -1,5 +1,0 @@
-use Rattle.std.proofs.Common.{◌≡◌, ◌++◌, take, map}
-use Rattle.touched_entities.proofs.indexes.push_entities.Given as goal
-
-abbrev pub invariant-loop-fact : goal.invariant-loop-fact
-invariant-loop-fact g l = l.indexes.items ≡ l.initial.indexes.items ++ map (λ k. k.0) (take l.fact-index l.facts)

@@ -1,7 +1,0 @@
-use Rattle.std.proofs.Common.{take}
-use Rattle.std.specs.Prelude.{map}
-use Rattle.touched_entities.specs.Leaning.{Adds}
-use Rattle.touched_entities.proofs.leaning.push_each.Given as goal
-
-abbrev pub invariant-loop-entity : goal.invariant-loop-entity
-invariant-loop-entity g l = Adds (map (λ e. e.index) (take l.entity-index l.entities)) l.initial.found.items l.found.items

@@ -1,0 +1,5 @@
+use Rattle.watch_concerns.proofs.MentionedOnce.{queries_mention_once}
+use Rattle.watch_concerns.proofs.told_laws.queries_mention_once.Goals as goal
+
+pub returns : goal.returns
+returns c = queries_mention_once

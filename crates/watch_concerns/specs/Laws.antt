@@ -1,0 +1,67 @@
+-- The laws of what concerns a query, as statements.
+use Rattle.std.specs.Prelude.{◌≡◌, ◌↔◌, ℕ, Bool, true, List, filter, not}
+use Rattle.std.specs.List.{Contains}
+use Rattle.ecs_id.specs.Id.{Id, pair}
+use Rattle.query_model.specs.Query.{Query}
+use Rattle.ecs_model.specs.Links.{AreLinks, line}
+use Rattle.ecs_model.specs.rows.View.{View}
+use Rattle.ecs_model.specs.stored.Watches.{matching}
+use Rattle.watch_concerns.specs.Anchored.{is_anchored}
+use Rattle.watch_concerns.specs.Concerns.{concerns}
+use Rattle.watch_concerns.specs.Idle.{is_idle}
+use Rattle.watch_concerns.specs.Linked.{HasLinked, is_linked}
+use Rattle.watch_concerns.specs.Others.{concerns_below, concerns_others}
+use Rattle.watch_concerns.specs.OwnIds.{lacks, meets}
+use Rattle.watch_concerns.specs.Tied.{is_tied}
+use Rattle.query_meaning.specs.Sound.{IsSound}
+
+-- the same entities live in two views, and each holds the same ids of those that concern a query
+pub record AreAlikeFor (q : Query) (w v : View) : Type 0 where
+  pub entities : w.entities ≡ v.entities
+  pub ids : (e : ℕ) → filter (concerns q) (w.ids e) ≡ filter (concerns q) (v.ids e)
+
+-- whatever values there are, the same entities are `$this` of the query's rows then
+abbrev pub MatchByWhatConcerns : Type 0
+MatchByWhatConcerns = (w v : View) (q : Query) → AreAlikeFor q w v → matching w q ≡ matching v q
+
+-- and of an anchored query it doesn't matter who else lives, where facts are of the living alone
+abbrev pub MatchWhoeverElseLives : Type 0
+MatchWhoeverElseLives = (m n : ℕ) (w v : View) (q : Query) → AreLinks m w.entities w.ids → AreLinks n v.entities v.ids → is_anchored q ≡ true
+    → ((e : ℕ) → filter (concerns q) (w.ids e) ≡ filter (concerns q) (v.ids e))
+    → (e : ℕ) → Contains (matching w q) e ↔ Contains (matching v q) e
+
+-- nor what others hold of ids that concern it for their holders alone. An entity is `$this` of a row in both views or in neither, if it holds the same of all ids that concern the query,
+-- and its ancestors hold the same of those that concern it for whoever is below them
+abbrev pub MatchByOwnFacts : Type 0
+MatchByOwnFacts = (m n : ℕ) (w v : View) (q : Query) → AreLinks m w.entities w.ids → AreLinks n v.entities v.ids → IsSound q → is_anchored q ≡ true
+    → ((x : ℕ) → filter (concerns_others q) (w.ids x) ≡ filter (concerns_others q) (v.ids x))
+    → (e : ℕ) → filter (concerns q) (w.ids e) ≡ filter (concerns q) (v.ids e)
+    → ((r x : ℕ) → Contains (line v.ids v.entities r e) x → filter (concerns_below q) (w.ids x) ≡ filter (concerns_below q) (v.ids x))
+    → Contains (matching w q) e ↔ Contains (matching v q) e
+
+-- of a tied query the others who matter are those alone with whom the entity holds a pair that concerns it: they hold the same of ids that concern it for others
+abbrev pub MatchByTies : Type 0
+MatchByTies = (m n : ℕ) (w v : View) (q : Query) → AreLinks m w.entities w.ids → AreLinks n v.entities v.ids → IsSound q → is_anchored q ≡ true → is_tied q ≡ true
+    → (e : ℕ) → filter (concerns q) (w.ids e) ≡ filter (concerns q) (v.ids e)
+    → ((r x : ℕ) → Contains (line v.ids v.entities r e) x → filter (concerns_below q) (w.ids x) ≡ filter (concerns_below q) (v.ids x))
+    → ((r x : ℕ) → Contains (v.ids e) (pair r x) → concerns q (pair r x) ≡ true → filter (concerns_others q) (w.ids x) ≡ filter (concerns_others q) (v.ids x))
+    → Contains (matching w q) e ↔ Contains (matching v q) e
+
+-- of a linked query they are among any who are near, with whom all are near that are linked with them in one of the views, and the entity itself; and of their facts those matter that
+-- aren't idle by ids that they hold in either view
+abbrev pub MatchByLinks : Type 0
+MatchByLinks = (m n : ℕ) (w v : View) (q : Query) → AreLinks m w.entities w.ids → AreLinks n v.entities v.ids → IsSound q → is_anchored q ≡ true → is_linked q ≡ true
+    → (e : ℕ) → filter (concerns q) (w.ids e) ≡ filter (concerns q) (v.ids e)
+    → ((r x : ℕ) → Contains (line v.ids v.entities r e) x → filter (concerns_below q) (w.ids x) ≡ filter (concerns_below q) (v.ids x))
+    → (all : ℕ → List Id) → ((x : ℕ) (i : Id) → Contains (w.ids x) i → Contains (all x) i) → ((x : ℕ) (i : Id) → Contains (v.ids x) i → Contains (all x) i)
+    → (near : ℕ → Bool) → near e ≡ true → HasLinked q all w e near → HasLinked q all v e near
+    → ((x : ℕ) → near x ≡ true → filter (λ i. not (is_idle q (all x) i)) (w.ids x) ≡ filter (λ i. not (is_idle q (all x) i)) (v.ids x))
+    → Contains (matching w q) e ↔ Contains (matching v q) e
+
+-- who lacks what a query asks of `$this` itself is `$this` of no row
+abbrev pub LackingMatchNothing : Type 0
+LackingMatchNothing = (w : View) (q : Query) (e : ℕ) → lacks q (w.ids e) ≡ true → Contains (matching w q) e → ⊥
+
+-- and who meets all that it asks by its own ids is `$this` of a row
+abbrev pub MeetingMatch : Type 0
+MeetingMatch = (w : View) (q : Query) → IsSound q → (e : ℕ) → Contains w.entities e → meets q (w.ids e) ≡ true → Contains (matching w q) e

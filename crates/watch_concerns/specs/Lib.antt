@@ -1,0 +1,14 @@
+pub mod Concerns
+pub mod Bonds
+pub mod Anchored
+pub mod Others
+pub mod Whom
+pub mod OwnIds
+pub mod Tied
+pub mod Idle
+pub mod Linked
+pub mod FromLeft
+pub mod Laws
+pub mod Since
+pub mod Mentions
+pub mod ToldLaws

@@ -1,0 +1,35 @@
+-- Which ids concern a query for others than the entity that holds them.
+use Rattle.std.specs.Prelude.{◌==◌, Bool, false, not, ◌&&◌, ◌||◌, is_some}
+use Rattle.std.specs.List.{list_any}
+use Rattle.ecs_id.specs.Id.{Id, plain, pair}
+use Rattle.ecs_model.specs.BuiltIns.{transitive, reflexive}
+use Rattle.query_model.specs.declared.query.Term.{Term}
+use Rattle.query_model.specs.Observers.{is_first}
+use Rattle.query_model.specs.Query.{Query}
+use Rattle.query_check.specs.Terms.{terms}
+use Rattle.watch_concerns.specs.Concerns.{term_concerns}
+
+-- whether a term asks `$this`, itself or its ancestors, for ids that are stored
+abbrev pub asks_this : Term → Bool
+asks_this t = is_first t.source && not t.closed
+
+-- whether an id concerns a term that asks somebody else
+abbrev pub term_concerns_others : Id → Term → Bool
+term_concerns_others i t = not (asks_this t) && term_concerns i t
+
+-- the tags that say how far a relationship reaches
+abbrev pub says_how_far : Id → Bool
+says_how_far (plain c) = c == transitive || c == reflexive
+says_how_far (pair r t) = false
+
+-- whether an id concerns a query for others than its holder and those whose ancestor it is, terms inside groups too
+unfoldable pub concerns_others : Query → Id → Bool
+concerns_others q i = says_how_far i || list_any (term_concerns_others i) (terms q)
+
+-- whether an id concerns a term that asks the ancestors of `$this`
+abbrev pub term_concerns_below : Id → Term → Bool
+term_concerns_below i t = asks_this t && is_some t.up && term_concerns i t
+
+-- whether an id concerns a query for those whose ancestor its holder is, terms inside groups too
+unfoldable pub concerns_below : Query → Id → Bool
+concerns_below q i = list_any (term_concerns_below i) (terms q)

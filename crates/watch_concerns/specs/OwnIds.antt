@@ -1,0 +1,53 @@
+-- What an entity's ids alone tell of whether it is `$this` of a row.
+use Rattle.std.specs.Prelude.{◌==◌, Bool, true, false, not, ◌&&◌, ◌||◌, List, [], ◌∷◌, length, if◌then◌else◌}
+use Rattle.std.specs.List.{list_any}
+use Rattle.ecs_id.specs.Id.{Id, plain}
+use Rattle.ecs_model.specs.Links.{is_held}
+use Rattle.ecs_model.specs.traits.Rules.{prefab, disabled}
+use Rattle.query_model.specs.Observers.{is_constant, is_constant_target}
+use Rattle.query_model.specs.declared.query.Term.{Term}
+use Rattle.query_model.specs.Local.{asks_first}
+use Rattle.query_model.specs.Query.{Item, must, may, either, equal, differ, Piece, item, opening, closing, Query}
+use Rattle.watch_concerns.specs.Concerns.{may_match}
+
+-- ---- surely not
+
+-- whether these ids lack what a term asks of `$this` itself that must match
+abbrev pub item_lacks : List Id → Item → Bool
+item_lacks ids (must t) = asks_first t && not (list_any (may_match t.first t.target) ids)
+item_lacks ids x = false
+
+-- whether they lack it for an item in front of all groups
+abbrev pub lacks_from : List Id → List Piece → Bool
+lacks_from ids [] = false
+lacks_from ids (item x ∷ ps) = item_lacks ids x || lacks_from ids ps
+lacks_from ids (opening from_term own ∷ ps) = false
+lacks_from ids (closing ∷ ps) = false
+
+-- so an entity with these ids is `$this` of no row
+unfoldable pub lacks : Query → List Id → Bool
+lacks q ids = lacks_from ids q.pieces
+
+-- ---- surely
+
+-- whether one of these ids is what a term without variables asks of `$this` itself
+abbrev pub term_is_met : List Id → Term → Bool
+term_is_met ids t = asks_first t && is_constant t.first && is_constant_target t.target && list_any (may_match t.first t.target) ids
+
+abbrev pub item_is_met : List Id → Item → Bool
+item_is_met ids (must t) = term_is_met ids t
+item_is_met ids (may t) = true
+item_is_met ids (either ts) = list_any (term_is_met ids) ts
+item_is_met ids (equal v r) = false
+item_is_met ids (differ v r) = false
+
+-- whether the ids meet all items outside groups, and lack what some item of each group asks. A group may be open, and have such an item; groups in groups aren't judged
+abbrev pub meets_from : List Id → Bool → Bool → List Piece → Bool
+meets_from ids inside failed [] = not inside || failed
+meets_from ids inside failed (item x ∷ ps) = if inside then meets_from ids true (failed || item_lacks ids x) ps else item_is_met ids x && meets_from ids false false ps
+meets_from ids inside failed (opening from_term own ∷ ps) = not inside && meets_from ids true false ps
+meets_from ids inside failed (closing ∷ ps) = inside && failed && meets_from ids false false ps
+
+-- so a live entity with these ids is `$this` of a row
+unfoldable pub meets : Query → List Id → Bool
+meets q ids = not (length q.variables == 0) && not (is_held ids (plain prefab)) && not (is_held ids (plain disabled)) && meets_from ids false false q.pieces

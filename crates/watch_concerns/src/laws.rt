@@ -1,0 +1,40 @@
+//! What is proved of the definitions alone: each function's contract is a law, and its body does nothing.
+
+ghost use Rattle.watch_concerns.specs.Laws.{LackingMatchNothing, MatchByLinks, MatchByOwnFacts, MatchByTies, MatchByWhatConcerns, MatchWhoeverElseLives, MeetingMatch};
+
+/// Law: where the same entities live and each holds the same ids of those that concern a query, the same entities are `$this` of its rows.
+pub fn queries_match_by_what_concerns_them()
+    ensures { MatchByWhatConcerns }
+{}
+
+/// Law: and of an anchored query it doesn't matter who else lives, where facts are of the living and mention them alone.
+pub fn anchored_queries_match_whoever_else_lives()
+    ensures { MatchWhoeverElseLives }
+{}
+
+/// Law: nor does it matter what others hold of ids that concern an anchored query for their holders alone, or what those hold that aren't ancestors of
+/// an entity of ids that concern the query for whoever is below them.
+pub fn anchored_queries_match_by_own_facts()
+    ensures { MatchByOwnFacts }
+{}
+
+/// Law: of an anchored query that is tied, the others who matter are those alone with whom an entity holds a pair that concerns the query, besides
+/// its ancestors.
+pub fn tied_queries_match_by_facts_of_their_targets()
+    ensures { MatchByTies }
+{}
+
+/// Law: of an anchored query that is linked, they are among the entity and all who are linked with it, over any number of pairs.
+pub fn linked_queries_match_by_facts_of_those_near()
+    ensures { MatchByLinks }
+{}
+
+/// Law: who lacks what a query asks of `$this` itself is `$this` of no row.
+pub fn entities_that_lack_match_nothing()
+    ensures { LackingMatchNothing }
+{}
+
+/// Law: and a live entity that meets all that a query asks by its own ids alone is `$this` of a row.
+pub fn entities_that_meet_match()
+    ensures { MeetingMatch }
+{}

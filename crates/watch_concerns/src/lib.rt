@@ -1,0 +1,24 @@
+//! Which ids concern a query: where only facts of others come and go, its rows are of the same entities. What stored queries are told of commands, as
+//! definitions in `specs/`, with the laws that are proved of them.
+#![tactic(auto)]
+
+mod anchoring;
+mod bonds;
+mod concerning;
+mod idle;
+pub mod laws;
+mod linking;
+mod others;
+mod own_ids;
+mod ties;
+pub mod told_laws;
+mod whom;
+
+pub use anchoring::is_anchored;
+pub use concerning::{concerns, is_asked_by_all};
+pub use idle::is_idle;
+pub use linking::{is_linked, links_others};
+pub use others::{concerns_below, concerns_others};
+pub use own_ids::{lacks, meets};
+pub use ties::is_tied;
+pub use whom::{Concern, concern_of};

@@ -1,0 +1,75 @@
+//! Whether a query asks nobody but `$this`, its ancestors, and those with whom `$this` itself holds a pair.
+
+ghost use Rattle.std.specs.Prelude.{◌≡◌};
+ghost use Rattle.std.specs.List.{list_all, list_any};
+ghost use Rattle.query_check.specs.Seen.{seen_item};
+ghost use Rattle.watch_concerns.specs.Tied.{asks_near, is_tied, item_ties, needs_no_tie, term_asks, term_ties};
+
+use crate::anchoring::{is_variable, may_be_variable};
+use crate::bonds::{Bond, are_all_bound};
+use crate::others::asks_this;
+use query_check::{Item, Query};
+use query_model::query::Term;
+use std::alloc::Allocator;
+
+/// Whether each term of a query asks `$this` or its ancestors, or the entity of a variable itself with whom `$this` itself holds a pair: an item
+/// directly in the level that the variable belongs to holds only where that is so. Then a fact of somebody else moves only those in or out of the
+/// query's rows who hold a pair with that as the target, besides those below it.
+///
+/// Takes no memory, and time in the square of the pieces at most.
+#[tactic(auto, unfolding(crate::specs::Tied::is_tied))]
+pub fn is_tied<A: Allocator>(query: &Query<A>) -> bool
+    ensures { result ≡ is_tied query.now }
+{
+    all_ask_near(query.terms()) && are_all_bound(query, &Bond::Tie)
+}
+
+pub(crate) fn all_ask_near(terms: &[Term]) -> bool
+    ensures { result ≡ list_all asks_near terms.now }
+{
+    terms.iter().all(|term| asks_near(term))
+}
+
+/// Whether a term asks `$this` or its ancestors, or a variable's entity itself, for ids that are stored.
+fn asks_near(term: &Term) -> bool
+    ensures { result ≡ asks_near term.now }
+{
+    asks_this(term) || (!term.source.is_constant() && term.up.is_none() && !term.closed)
+}
+
+/// Whether a variable is `$this`, or one whose entity none of these terms asks.
+pub(crate) fn needs_no_tie(terms: &[Term], variable: usize) -> bool
+    ensures { result ≡ needs_no_tie terms.now variable }
+{
+    variable == 0 || !any_asks(terms, variable)
+}
+
+fn any_asks(terms: &[Term], variable: usize) -> bool
+    ensures { result ≡ list_any (term_asks variable) terms.now }
+{
+    terms.iter().any(|term| is_variable(term.source, variable))
+}
+
+/// Whether an item holds only where `$this` itself holds a pair with the entity of a variable as its target.
+pub(crate) fn item_ties<A: Allocator>(item: &Item<A>, variable: usize) -> bool
+    ensures { result ≡ item_ties variable (seen_item item.now) }
+{
+    match item {
+        Item::And(term) => term_ties(term, variable),
+        Item::Or(terms) => all_tie(terms.as_slice(), variable),
+        Item::Optional(_) | Item::Equal(_, _) | Item::Differ(_, _) => false,
+    }
+}
+
+fn all_tie(terms: &[Term], variable: usize) -> bool
+    ensures { result ≡ list_all (term_ties variable) terms.now }
+{
+    terms.iter().all(|term| term_ties(term, variable))
+}
+
+/// Whether a term that matches shows that `$this` itself holds such a pair.
+fn term_ties(term: &Term, variable: usize) -> bool
+    ensures { result ≡ term_ties variable term.now }
+{
+    term.asks_first() && may_be_variable(term.target, variable)
+}

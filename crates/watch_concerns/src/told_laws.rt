@@ -1,0 +1,14 @@
+//! What is proved of the definitions alone: each function's contract is a law, and its body does nothing.
+
+ghost use Rattle.watch_concerns.specs.ToldLaws.{QueriesMentionOnce, TellsSince};
+
+/// Law: what a stored query is told of a command follows from the world after it and from what has changed, and of a monitor from the
+/// entities of its rows before.
+pub fn watches_are_told_since()
+    ensures { TellsSince }
+{}
+
+/// Law: a query that a text asks mentions no entity twice.
+pub fn queries_mention_once()
+    ensures { QueriesMentionOnce }
+{}

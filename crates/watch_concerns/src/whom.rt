@@ -1,0 +1,80 @@
+//! For whom an id concerns a query.
+
+ghost use Rattle.std.specs.Prelude.{◌≡◌};
+ghost use Rattle.watch_concerns.specs.Whom.{concern_of, joined, term_concern, terms_concern};
+
+use crate::concerning::{is_asked_by_all, term_concerns};
+use crate::others::{asks_this, says_how_far};
+use ecs_id::Id;
+use query_check::Query;
+use query_model::query::Term;
+use std::alloc::Allocator;
+
+/// For whom an id concerns a query.
+#[derive(Clone, Copy)]
+pub struct Concern {
+    /// For its holder, or for somebody else.
+    pub anyone: bool,
+    /// For others than its holder and those below that.
+    pub others: bool,
+    /// For those below its holder.
+    pub below: bool,
+}
+
+const NOBODY: Concern = Concern {
+    anyone: false,
+    others: false,
+    below: false,
+};
+
+/// For whom an id concerns a query: what `concerns`, `concerns_others` and `concerns_below` tell, by one pass.
+///
+/// Takes no memory, and time in the terms of the query.
+#[tactic(auto, unfolding(crate::specs::Concerns::concerns, crate::specs::Others::concerns_others, crate::specs::Others::concerns_below))]
+pub fn concern_of<A: Allocator>(query: &Query<A>, id: Id) -> Concern
+    ensures { result ≡ concern_of query.now id }
+{
+    let of_tags = Concern {
+        anyone: is_asked_by_all(id),
+        others: says_how_far(id),
+        below: false,
+    };
+    joined(of_tags, of_terms(query.terms(), id))
+}
+
+/// For whom either does.
+#[inline(always)]
+fn joined(one: Concern, other: Concern) -> Concern
+    ensures { result ≡ joined one other }
+{
+    Concern {
+        anyone: one.anyone | other.anyone,
+        others: one.others | other.others,
+        below: one.below | other.below,
+    }
+}
+
+fn of_terms(terms: &[Term], id: Id) -> Concern
+    ensures { result ≡ terms_concern id terms.now }
+{
+    let mut found = NOBODY;
+    for term in terms {
+        found = joined(found, of_term(term, id));
+    }
+    found
+}
+
+#[inline(always)]
+fn of_term(term: &Term, id: Id) -> Concern
+    ensures { result ≡ term_concern id term.now }
+{
+    if !term_concerns(term, id) {
+        return NOBODY;
+    }
+    let this = asks_this(term);
+    Concern {
+        anyone: true,
+        others: !this,
+        below: this && term.up.is_some(),
+    }
+}

@@ -1,0 +1,183 @@
+//! Events, and their lines.
+
+ghost use Rattle.std.specs.Prelude.{◌≡◌, ◌++◌, ◌∷◌, [], OnErr, OnOk, Some, flat_map};
+ghost use Rattle.std.specs.Fmt.{signed_decimal};
+ghost use Rattle.ecs_model.specs.Print.{value_text};
+ghost use Rattle.ecs_model.specs.stored.Watches.{event_id_text, event_text, event_word};
+ghost use Rattle.watch_events.specs.Values.{behind_comma};
+
+use crate::text::Text;
+use ecs_id::{EntityId, Id};
+use ecs_model::Value;
+use ecs_model::watches::EventKind;
+use itoa::Buffer;
+use std::alloc::{AllocError, Allocator, Global};
+use std::marker::Model;
+
+/// What a stored query is told: that an entity left or entered its rows, or that a fact was added, removed or set.
+#[derive(Drop)]
+pub struct Event<A: Allocator = Global> {
+    pub(crate) kind: EventKind,
+    pub(crate) entity: EntityId,
+    pub(crate) id: Option<Id>,
+    pub(crate) value: Option<Value>,
+    pub(crate) watch: Text<A>,
+    pub(crate) entity_text: Text<A>,
+    pub(crate) id_text: Vec<u8, A>,
+}
+
+impl<A: Allocator> Model for Event<A> {
+    ghost use Rattle.ecs_model.specs.stored.Watches as model;
+
+    ghost Value = { model.Event };
+
+    ghost view = { λ e. record {
+      watch = e.watch;
+      kind = e.kind;
+      entity = e.entity;
+      id = e.id;
+      value = e.value;
+      entity_text = e.entity_text;
+      id_text = e.id_text.items;
+    } };
+}
+
+impl<A: Allocator> Event<A> {
+    /// The name of the stored query that is told.
+    pub fn watch(&self) -> &[u8]
+        ensures { result.now ≡ (self.now).watch }
+    {
+        self.watch.as_slice()
+    }
+
+    /// What has happened.
+    pub fn kind(&self) -> EventKind
+        ensures { result ≡ (self.now).kind }
+    {
+        self.kind
+    }
+
+    /// The entity that it happened to.
+    pub fn entity(&self) -> EntityId
+        ensures { result ≡ (self.now).entity }
+    {
+        self.entity
+    }
+
+    /// The id of the fact, if it is about one.
+    pub fn id(&self) -> Option<Id>
+        ensures { result ≡ (self.now).id }
+    {
+        self.id
+    }
+
+    /// The value that was set, if one was: empty where the id has no fields.
+    pub fn value(&self) -> Option<Value>
+        ensures { result ≡ (self.now).value }
+    {
+        self.value
+    }
+
+    /// The text by which the entity prints: that of before the command where it has left or lost the fact, else that of after it.
+    pub fn entity_text(&self) -> &[u8]
+        ensures { result.now ≡ (self.now).entity_text }
+    {
+        self.entity_text.as_slice()
+    }
+
+    /// The text by which the id prints, and nothing where there is none.
+    pub fn id_text(&self) -> &[u8]
+        ensures { result.now ≡ (self.now).id_text }
+    {
+        self.id_text.as_slice()
+    }
+}
+
+/// Puts an event behind others. Most commands tell one alone, for which no more room is made.
+#[inline(always)]
+pub(crate) fn push_event<A: Allocator>(
+    event: Event<A>,
+    events: &mut Vec<Event<A>, A>,
+) -> Result<(), AllocError>
+    ensures told { OnOk result (events.new.items ≡ events.old.items ++ event ∷ []) }
+    ensures kept { OnErr result (events.new.items ≡ events.old.items) }
+{
+    if events.is_empty() {
+        events.reserve_exact(1)?;
+    }
+    events.push(event)?;
+    Ok(())
+}
+
+/// Writes the line of an event: its word, the name of the stored query, the entity, and the fact with the value that was set.
+///
+/// Fails where memory is refused, and then a front of the line may be written.
+pub fn write_event<A: Allocator>(event: &Event<A>, out: &mut Vec<u8, A>) -> Result<(), AllocError>
+    ensures { OnOk result (out.new.items ≡ out.old.items ++ event_text event.now) }
+{
+    out.extend_from_slice(word(event.kind))?;
+    out.extend_from_slice(event.watch.as_slice())?;
+    out.extend_from_slice(b" ")?;
+    out.extend_from_slice(event.entity_text.as_slice())?;
+    write_event_id(event, out)?;
+    out.extend_from_slice(b"\n")
+}
+
+/// The word of a kind, with the space behind it.
+fn word(kind: EventKind) -> &'static [u8]
+    ensures { result.now ≡ event_word kind }
+{
+    match kind {
+        EventKind::Left => b"leave ",
+        EventKind::Entered => b"enter ",
+        EventKind::Added => b"add ",
+        EventKind::Removed => b"remove ",
+        EventKind::Written => b"set ",
+    }
+}
+
+/// Writes the fact of an event with the value that was set, and nothing where it is about none.
+fn write_event_id<A: Allocator>(event: &Event<A>, out: &mut Vec<u8, A>) -> Result<(), AllocError>
+    ensures { OnOk result (out.new.items ≡ out.old.items ++ event_id_text event.now) }
+{
+    if event.id.is_none() {
+        return Ok(());
+    }
+    out.extend_from_slice(b" ")?;
+    out.extend_from_slice(event.id_text.as_slice())?;
+    match &event.value {
+        Some(value) => write_numbers(value.as_slice(), out),
+        None => Ok(()),
+    }
+}
+
+/// Writes the numbers of a value: `=` and the numbers with commas between, or nothing where there are none.
+fn write_numbers<A: Allocator>(numbers: &[i128], out: &mut Vec<u8, A>) -> Result<(), AllocError>
+    ensures { OnOk result (out.new.items ≡ out.old.items ++ value_text (Some numbers.now)) }
+{
+    let Some((first, others)) = numbers.split_first() else {
+        return Ok(());
+    };
+    out.extend_from_slice(b"=")?;
+    write_integer(first, out)?;
+    write_others(others, out)
+}
+
+/// Writes numbers, each behind a comma.
+fn write_others<A: Allocator>(numbers: &[i128], out: &mut Vec<u8, A>) -> Result<(), AllocError>
+    ensures { OnOk result (out.new.items ≡ out.old.items ++ flat_map behind_comma numbers.now) }
+{
+    for number in numbers {
+        out.extend_from_slice(b",")?;
+        write_integer(number, out)?;
+    }
+    Ok(())
+}
+
+/// Writes a whole number in decimal.
+fn write_integer<A: Allocator>(number: &i128, out: &mut Vec<u8, A>) -> Result<(), AllocError>
+    ensures { OnOk result (out.new.items ≡ out.old.items ++ signed_decimal number.now) }
+{
+    let mut buffer = Buffer::new();
+    out.extend_from_slice(buffer.format(*number).as_bytes())
+}

@@ -1,0 +1,53 @@
+//! Whether stored queries may be told of a command, by the ids of what has changed.
+
+ghost use Rattle.std.specs.Prelude.{◌≡◌, List, [], ℕ, false};
+ghost use Rattle.std.specs.List.{list_any};
+ghost use Rattle.ecs_model.specs.World.{WorldState};
+ghost use Rattle.ecs_model.specs.rows.Rows.{matches};
+ghost use Rattle.watch_concerns.specs.Since.{told_since};
+ghost use Rattle.watch_events.specs.Hits.{any_matches, may_tell};
+
+use crate::terms::{matches, only_term};
+use ecs_model::FactKey;
+use ecs_model::watches::StoredKind;
+use ecs_world::Changes;
+use query_check::Query;
+use query_model::query::Term;
+use std::alloc::Allocator;
+
+/// Whether a stored query may be told of a command. An event observer may if its term matches the id of a fact that it would be told of, a monitor
+/// always, and a kept query never.
+///
+/// Takes no memory, and a few steps for each fact that has changed.
+pub fn may_tell<A: Allocator>(kind: StoredKind, query: &Query<A>, changes: &Changes<A>) -> bool
+    ensures may { result ≡ may_tell changes.now kind query.now }
+    ensures nothing { result ≡ false
+        → (after : WorldState) (name old : List ℕ) → told_since after changes.now name kind query.now old ≡ [] }
+{
+    match kind {
+        StoredKind::Kept => false,
+        StoredKind::Monitor => true,
+        StoredKind::OnAdd => any_matches(query, changes.came()),
+        StoredKind::OnRemove => any_matches(query, changes.went()),
+        StoredKind::OnSet => any_matches(query, changes.written()),
+    }
+}
+
+/// Whether an observer's term matches the id of one of these facts.
+#[inline(always)]
+fn any_matches<A: Allocator>(query: &Query<A>, facts: &[FactKey]) -> bool
+    ensures { result ≡ any_matches query.now facts.now }
+{
+    match only_term(query) {
+        Some(term) => any_fits(term, facts),
+        None => false,
+    }
+}
+
+/// Whether a term matches the id of one of these facts.
+#[inline(always)]
+fn any_fits(term: &Term, facts: &[FactKey]) -> bool
+    ensures { result ≡ list_any (λ k. matches [] term.now.first term.now.target k.1) facts.now }
+{
+    facts.iter().any(|fact| matches(term, fact.id()))
+}

@@ -1,3 +1,0 @@
-pub mod Since
-pub mod Mentions
-pub mod Laws

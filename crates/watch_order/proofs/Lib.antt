@@ -1,3 +1,0 @@
-mod Indexed
-mod Places
-pub mod Written

@@ -1,0 +1,6 @@
+pub mod AnswerableQueries
+pub mod KeptRows
+pub mod LocalMonitors
+pub mod MovedEntities
+pub mod RowlessQueries
+pub mod StayingRows

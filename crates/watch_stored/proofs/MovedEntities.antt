@@ -1,0 +1,127 @@
+-- Of those who may have moved, who left a monitor's rows and who entered them; and the rows with these moves.
+use Rattle.std.specs.Prelude.{◌≡◌, ℕ, ◌+◌, ◌<◌, ◌==◌, ◌&&◌, ◌||◌, Bool, true, false, cond, not, List, [], ◌∷◌, ◌++◌, filter, length, take, Result, Ok, Err, IfOk}
+use Rattle.std.specs.Cmp.{nat_cmp_total}
+use Rattle.std.specs.List.{Contains, list_any}
+use Rattle.std.specs.List.Sorted.{IsStrictlyIncreasing}
+use Rattle.std.specs.Ordering.{nat_cmp}
+use Rattle.std.proofs.Common.{refl, sym, ap, subst, get_or, ◌∙◌, inl, inr, true≢false}
+use Rattle.std.proofs.lemmas.Bool.{and_from, and_parts, or_cases, or_left, or_right}
+use Rattle.std.proofs.lemmas.List.Elements.{filter_more}
+use Rattle.std.proofs.lemmas.List.Kept.{IsStrictlyIncreasing-filter}
+use Rattle.std.proofs.lemmas.Map.Keys.{sorted_from_strictly_increasing}
+use Rattle.std.proofs.Math.Bool.{and-not_self}
+use Rattle.query_meaning.proofs.Assignments.{same_from_Equal}
+use Rattle.ecs_model.specs.Command.{Changed}
+use Rattle.ecs_model.specs.World.{WorldState}
+use Rattle.ecs_model.specs.rows.Rows.{rows}
+use Rattle.ecs_model.specs.rows.View.{view_of}
+use Rattle.ecs_model.specs.stored.Watches.{is_this, matching, missing_from}
+use Rattle.ecs_model.proofs.Members.{alike, any_passes, eq_itself, eq_same, filtered, passing}
+use Rattle.query_model.specs.Query.{Query}
+use Rattle.watch_touched.specs.Before.{view_before}
+use Rattle.watch_touched.proofs.RisingIds.{one_list}
+use Rattle.watch_concerns.specs.Since.{IsAfter}
+use Rattle.watch_stored.specs.Moves.{IsTold, is_among}
+use Rattle.watch_stored.proofs.LocalMonitors.{before_ascends}
+
+among : (es : List ℕ) (e : ℕ) → is_among es e ≡ true → Contains es e
+among es e h = let x = passing (λ x. x == e) es h in subst (Contains es) (eq_same x.0 e x.2) x.1
+
+there : (es : List ℕ) (e : ℕ) → Contains es e → is_among es e ≡ true
+there es e h = any_passes (λ x. x == e) es e h (eq_itself e)
+
+-- rising lists with the same members are one
+pub same_list : (xs ys : List ℕ) → IsStrictlyIncreasing xs → IsStrictlyIncreasing ys → ((e : ℕ) → is_among xs e ≡ is_among ys e) → xs ≡ ys
+same_list xs ys up above same =
+    one_list nat_cmp nat_cmp_total same_from_Equal xs ys (sorted_from_strictly_increasing xs up) (sorted_from_strictly_increasing ys above)
+    (λ e. (λ h. among ys e (sym (same e) ∙ there xs e h), λ h. among xs e (same e ∙ there ys e h)))
+
+among_filter : (p : ℕ → Bool) (es : List ℕ) (e : ℕ) → is_among (filter p es) e ≡ (is_among es e && p e)
+among_filter p es e =
+    alike (is_among (filter p es) e) (is_among es e && p e)
+    (λ t. let both = (filtered p es e).0 (among (filter p es) e t) in and_from (is_among es e) (p e) (there es e both.0) both.1)
+    (λ t. let both = and_parts (is_among es e) (p e) t in there (filter p es) e ((filtered p es e).1 (among es e both.0, both.1)))
+
+-- ---- who left and who entered
+
+-- whether it may have moved, was there, is there, and is told to be
+by_left : (m b n l : Bool) → (m ≡ false → b ≡ n) → (m ≡ true → l ≡ n) → (m && (b && not l)) ≡ (b && not n)
+by_left true b n l stays tells = λ i. b && not (tells refl i)
+by_left false b n l stays tells = sym ((λ i. stays refl i && not n) ∙ and-not_self n)
+
+by_entered : (m b n l : Bool) → (m ≡ false → b ≡ n) → (m ≡ true → l ≡ n) → (m && (l && not b)) ≡ (n && not b)
+by_entered true b n l stays tells = λ i. tells refl i && not b
+by_entered false b n l stays tells = sym ((λ i. n && not (stays refl i)) ∙ and-not_self n)
+
+module _ (w : WorldState) (q : Query) (before all sure asked found : List ℕ) (told : IsTold q w before all sure asked) (up : IsStrictlyIncreasing before)
+    (now : List ℕ) (are_now : now ≡ matching (view_of w) q) (now_up : IsStrictlyIncreasing now) (are : found ≡ filter (is_among now) asked) where
+  abbrev is_told : ℕ → Bool
+  is_told e = is_among sure e || is_among found e
+
+  others_same : (e : ℕ) → is_among all e ≡ false → is_among before e ≡ is_among now e
+  others_same e far =
+      let stay = (told.2).others_stay e (λ h. true≢false (sym (there all e h) ∙ far)) in
+      alike (is_among before e) (is_among now e)
+      (λ t. there now e (subst (λ xs. Contains xs e) (sym are_now) (stay.0 (subst (λ xs. Contains xs e) told.1 (among before e t)))))
+      (λ t. there before e (subst (λ xs. Contains xs e) (sym told.1) (stay.1 (subst (λ xs. Contains xs e) are_now (among now e t)))))
+
+  told_same : (e : ℕ) → is_among all e ≡ true → is_told e ≡ is_among now e
+  told_same e mine =
+      alike (is_told e) (is_among now e)
+      (λ t. elim (or_cases (is_among sure e) (is_among found e) t) [
+        | inl s ↦ there now e (subst (λ xs. Contains xs e) (sym are_now) ((told.2).sure_match e (among sure e s)))
+        | inr f ↦ ((filtered (is_among now) asked e).0 (subst (λ xs. Contains xs e) are (among found e f))).1
+      ])
+      (λ t. elim ((told.2).covered e (among all e mine) (subst (λ xs. Contains xs e) are_now (among now e t))) [
+        | inl s ↦ or_left (is_among sure e) (is_among found e) (there sure e s)
+        | inr a ↦ or_right (is_among sure e) (is_among found e) (there found e (subst (λ xs. Contains xs e) (sym are) ((filtered (is_among now) asked e).1 (a, t))))
+      ])
+
+  pub left_are : filter (λ e. is_among before e && not (is_told e)) all ≡ missing_from before now
+  left_are =
+      same_list (filter (λ e. is_among before e && not (is_told e)) all) (missing_from before now)
+      (IsStrictlyIncreasing-filter (λ e. is_among before e && not (is_told e)) all (told.2).all_ascend) (IsStrictlyIncreasing-filter (λ e. not (is_among now e)) before up)
+      (λ e. among_filter (λ e. is_among before e && not (is_told e)) all e
+      ∙ by_left (is_among all e) (is_among before e) (is_among now e) (is_told e) (others_same e) (told_same e)
+      ∙ sym (among_filter (λ e. not (is_among now e)) before e))
+
+  pub entered_are : filter (λ e. is_told e && not (is_among before e)) all ≡ missing_from now before
+  entered_are =
+      same_list (filter (λ e. is_told e && not (is_among before e)) all) (missing_from now before)
+      (IsStrictlyIncreasing-filter (λ e. is_told e && not (is_among before e)) all (told.2).all_ascend) (IsStrictlyIncreasing-filter (λ e. not (is_among before e)) now now_up)
+      (λ e. among_filter (λ e. is_told e && not (is_among before e)) all e
+      ∙ by_entered (is_among all e) (is_among before e) (is_among now e) (is_told e) (others_same e) (told_same e)
+      ∙ sym (among_filter (λ e. not (is_among before e)) now e))
+
+-- ---- the rows with these moves
+
+moved_is : (b n : Bool) → ((b && not (b && not n)) || (n && not b)) ≡ n
+moved_is true true = refl
+moved_is true false = refl
+moved_is false true = refl
+moved_is false false = refl
+
+pub moved_are : (before now left entered set : List ℕ) → left ≡ missing_from before now → entered ≡ missing_from now before → IsStrictlyIncreasing set → IsStrictlyIncreasing now
+    → ((e : ℕ) → is_among set e ≡ ((is_among before e && not (is_among left e)) || is_among entered e)) → set ≡ now
+moved_are before now left entered set gone come up above same =
+    same_list set now up above
+    (λ e. same e
+    ∙ (λ i. (is_among before e && not (is_among (gone i) e)) || is_among (come i) e)
+    ∙ (λ i. (is_among before e && not (among_filter (λ e. not (is_among now e)) before e i)) || among_filter (λ e. not (is_among before e)) now e i)
+    ∙ moved_is (is_among before e) (is_among now e))
+
+-- ---- rows before a command ascend, too
+pub rows_before_ascend : (w : WorldState) (changed : Changed) (q : Query) → IsAfter w changed → IsStrictlyIncreasing (matching (view_before w changed) q)
+unfolding matching
+rows_before_ascend w changed q after = IsStrictlyIncreasing-filter (λ e. list_any (is_this e) (rows (view_before w changed) q)) (view_before w changed).entities (before_ascends w changed after)
+
+-- what two clauses say of a value together
+pub if_ok_both : {T E : Type 0} (r : Result T E) {P Q R : T → Type 0} → ((x : T) → P x → Q x → R x) → IfOk r P → IfOk r Q → IfOk r R
+if_ok_both (Ok x) both p q = both x p q
+if_ok_both (Err e) both p q = tt
+
+-- one entity more of a list, where it passes
+pub one_more : (p : ℕ → Bool) (xs : List ℕ) (k : ℕ) (old new : List ℕ) (b : Bool) → k < length xs → old ≡ filter p (take k xs) → b ≡ p (get_or xs k 0) → new ≡ old ++ cond b (get_or xs k 0 ∷ []) []
+    → new ≡ filter p (take (k + 1) xs)
+one_more p xs k old new b low before is now =
+    now ∙ ap (λ ys. ys ++ cond b (get_or xs k 0 ∷ []) []) before ∙ ap (λ t. filter p (take k xs) ++ cond t (get_or xs k 0 ∷ []) []) is ∙ sym (filter_more p xs k 0 low)

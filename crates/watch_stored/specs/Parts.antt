@@ -1,0 +1,26 @@
+-- What is seen of the parts of a stored query.
+use Rattle.std.specs.Prelude.{ℕ, List, Option, option_map}
+use Rattle.std.specs.Option.{option_map_or}
+use Rattle.entity_set.specs.Members.{Entities, exchanged}
+use Rattle.watch_stored.specs.Held.{Held}
+use Rattle.watch_stored.specs.declared.moves.RowsAfter.{RowsAfter}
+use Rattle.watch_stored.specs.declared.stored.StoredQuery.{StoredQuery}
+
+-- a stored query of this name
+abbrev pub held_as : {A : Type 0} → List ℕ → StoredQuery A → Held
+held_as name q = record { name = name; kind = q.kind; query = (q.plan).query; these = (q.these).items; list = q.list; steps = (q.plan).steps; planned_at = q.planned_at }
+
+-- the entities of a monitor's rows after a command: a set that was made of them, or else those before it, of whom some have left and to whom others have come
+unfoldable pub kept_set : Option Entities → List ℕ → List ℕ → Entities → Entities
+kept_set set left entered these = option_map_or (λ s. s) set (exchanged left entered these)
+
+abbrev pub kept_rows : {A : Type 0} → RowsAfter A → Entities → Entities
+kept_rows rows these = kept_set rows.these rows.left.items rows.entered.items these
+
+-- what they are, if any are put in the place of these
+abbrev pub put_in : {A : Type 0} → Option (RowsAfter A) → Entities → Option (List ℕ)
+put_in rows these = option_map (λ r. (kept_rows r these).items) rows
+
+-- a stored query whose rows they are
+abbrev pub with_kept : {A : Type 0} → RowsAfter A → StoredQuery A → StoredQuery A
+with_kept rows q = record q { these = kept_rows rows q.these }

@@ -1,0 +1,16 @@
+pub mod OrderedMembers
+pub mod Newborn
+pub mod WorldBefore
+pub mod FactSearches
+pub mod RisingIds
+pub mod IdsBefore
+pub mod AllTouched
+pub mod CommandChanges
+pub mod UnconcernedCommands
+pub mod GrownLists
+pub mod LowerWalks
+pub mod TableMates
+pub mod AllMoving
+pub mod CoveredConcerns
+pub mod StayingEntities
+pub mod AskedEntities

@@ -1,0 +1,20 @@
+-- Whether what a command has changed concerns a query.
+use Rattle.std.specs.Prelude.{◌==◌, Bool, not, ◌&&◌, ◌||◌, List, length, is_some}
+use Rattle.std.specs.List.{list_any}
+use Rattle.ecs_model.specs.Command.{Changed}
+use Rattle.ecs_model.specs.World.{Key}
+use Rattle.watch_concerns.specs.Anchored.{is_anchored}
+use Rattle.watch_concerns.specs.Concerns.{concerns}
+use Rattle.query_model.specs.Query.{Query}
+
+-- whether one of these facts does, by its id
+abbrev pub any_concerns : Query → List Key → Bool
+any_concerns q ks = list_any (λ k. concerns q k.1) ks
+
+-- whether somebody was born or died
+abbrev pub has_births_or_deaths : Changed → Bool
+has_births_or_deaths changed = is_some changed.born || not (length changed.died == 0)
+
+-- whether a fact came or went that does, or somebody was born or died and the query isn't anchored
+unfoldable pub is_concerned : Query → Changed → Bool
+is_concerned q changed = (has_births_or_deaths changed && not (is_anchored q)) || any_concerns q changed.came || any_concerns q changed.went

@@ -1,0 +1,14 @@
+-- Which entities a command touches, and what is told of each.
+use Rattle.std.specs.Prelude.{ℕ, List, ◌++◌, map, option_map}
+use Rattle.std.specs.List.{cons_option}
+use Rattle.ecs_model.specs.Command.{Changed}
+use Rattle.ecs_model.specs.rows.View.{View}
+use Rattle.query_local.specs.Touched.{Touch, held_in}
+
+-- the indexes of who was born, of who died, and of whose facts came and went
+abbrev pub indexes_of : Changed → List ℕ
+indexes_of c = cons_option (option_map (λ e. e.index) c.born) (map (λ d. (d.0).index) c.died ++ (map (λ k. k.0) c.came ++ map (λ k. k.0) c.went))
+
+-- what two views show of an entity
+abbrev pub touch_at : View → View → ℕ → Touch
+touch_at before after i = record { index = i; before = held_in before i; after = held_in after i }

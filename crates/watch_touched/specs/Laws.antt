@@ -1,0 +1,35 @@
+-- The laws of what queries saw before a command, as statements.
+use Rattle.std.specs.Prelude.{◌≡◌, ◌↔◌, ℕ, List, true, false, Ok}
+use Rattle.std.specs.List.{Contains}
+use Rattle.query_model.specs.Query.{Query}
+use Rattle.ecs_model.specs.Command.{Changed}
+use Rattle.ecs_model.specs.World.{WorldState}
+use Rattle.ecs_model.specs.rows.View.{view_of}
+use Rattle.ecs_model.specs.stored.Watches.{matching}
+use Rattle.ecs_model.specs.traits.Command.{Command, step}
+use Rattle.ecs_model.specs.traits.Keeps.{IsWellFormed}
+use Rattle.watch_touched.specs.Before.{view_before}
+use Rattle.watch_touched.specs.Concerned.{is_concerned}
+use Rattle.watch_touched.specs.Moving.{AreMoving, is_followed}
+use Rattle.query_meaning.specs.Sound.{IsSound}
+use Rattle.watch_concerns.specs.Since.{IsAfter}
+
+-- by the world after a command and what has changed, the same entities lived before with the same ids as in the world before
+abbrev pub ShowsWorldBefore : Type 0
+ShowsWorldBefore = (w v : WorldState) (c : Command) (changed : Changed) → IsWellFormed w → step w c ≡ Ok (v, changed)
+    → ((view_before v changed).entities ≡ (view_of w).entities) × ((e : ℕ) → (view_before v changed).ids e ≡ (view_of w).ids e)
+
+-- and a query had rows of the same entities
+abbrev pub QueriesMatchedBefore : Type 0
+QueriesMatchedBefore = (w v : WorldState) (c : Command) (changed : Changed) (q : Query) → IsWellFormed w → step w c ≡ Ok (v, changed)
+    → matching (view_before v changed) q ≡ matching (view_of w) q
+
+-- one that a command doesn't concern has rows of the same entities after it
+abbrev pub UnconcernedQueriesMatchOn : Type 0
+UnconcernedQueriesMatchOn = (v : WorldState) (changed : Changed) (q : Query) → IsWellFormed v → IsAfter v changed → is_concerned q changed ≡ false
+    → matching (view_before v changed) q ≡ matching (view_of v) q
+
+-- where all who may move can be found, and are among some entities, all others that were in its rows stay there, and none of them enters
+abbrev pub OthersThanMovingStay : Type 0
+OthersThanMovingStay = (v : WorldState) (changed : Changed) (q : Query) → IsWellFormed v → IsAfter v changed → IsSound q → is_followed q changed ≡ true
+    → (es : List ℕ) → AreMoving q v changed es → (e : ℕ) → (Contains es e → ⊥) → Contains (matching (view_before v changed) q) e ↔ Contains (matching (view_of v) q) e

@@ -1,0 +1,80 @@
+-- Who leans on an entity: who holds a pair with it that passes a test, which may ask for the holder's other ids too; and who is linked with it, by holding one or by being its target.
+use Rattle.std.specs.Prelude.{◌≡◌, ℕ, Bool, ◌&&◌, ◌||◌, List, [], ◌∷◌, ◌++◌, Some, filter, flat_map, map, not, if◌then◌else◌}
+use Rattle.std.specs.List.{Contains, list_any}
+use Rattle.component_index.specs.Patterns.{matches}
+use Rattle.component_index.specs.declared.pattern.Part.TheVariants.{Is, Any}
+use Rattle.component_index.specs.declared.pattern.Pattern.{Pattern}
+use Rattle.ecs_id.specs.Id.{Id, plain, pair}
+use Rattle.ecs_model.specs.Reach.{Reached}
+use Rattle.ecs_model.specs.World.{WorldState, Key, entities, ids_of}
+use Rattle.watch_concerns.specs.Concerns.{concerns}
+use Rattle.watch_concerns.specs.Idle.{is_idle}
+use Rattle.watch_concerns.specs.Linked.{links_others}
+use Rattle.watch_concerns.specs.Others.{concerns_below, concerns_others}
+use Rattle.watch_concerns.specs.OwnIds.{lacks}
+use Rattle.query_model.specs.Query.{Query}
+use Rattle.watch_touched.specs.declared.sought.Sought.{Sought}
+use Rattle.watch_touched.specs.declared.sought.Sought.TheVariants.{Moving, Below, Linked}
+
+-- whether an id concerns a query for somebody else than its holder
+abbrev pub concerns_beyond : Query → Id → Bool
+concerns_beyond q i = concerns_below q i || concerns_others q i
+
+-- whether whoever holds these ids may move by a fact of the target of one of them, a pair: it concerns the query, and the ids don't lack what that asks of `$this` itself
+abbrev pub moves_by : Query → List Id → Id → Bool
+moves_by q ids i = concerns q i && not (lacks q ids)
+
+-- whether it is linked with the target, where these facts went: the pair links others, and isn't idle
+abbrev pub links_busily : Query → List Key → List Id → Id → Bool
+links_busily q went ids i = links_others q i && not (is_idle q (ids ++ map (λ k. k.1) went) i)
+
+-- whether it is looked for
+abbrev pub is_sought : Sought → Query → List Id → Id → Bool
+is_sought Moving q ids i = moves_by q ids i
+is_sought Below q ids i = concerns_beyond q i
+is_sought (Linked went) q ids i = links_busily q went.now ids i
+
+-- the pairs with this entity as their target
+abbrev pub pairs_to : ℕ → Pattern
+pairs_to x = record { first = Any; second = Some (Is x) }
+
+-- the target of a pair that passes
+abbrev pub target_of : (Id → Bool) → Id → List ℕ
+target_of p (plain c) = []
+target_of p (pair r x) = if p (pair r x) then x ∷ [] else []
+
+module _ (p : List Id → Id → Bool) (w : WorldState) where
+  -- whether an entity holds a pair that passes, by its ids, with x as its target
+  abbrev pub leans : ℕ → ℕ → Bool
+  leans x e = list_any (λ i. matches (pairs_to x) i && p (ids_of w e) i) (ids_of w e)
+
+  -- all who do
+  abbrev pub leaning : ℕ → List ℕ
+  leaning x = filter (leans x) (entities w)
+
+  -- the targets of the pairs that an entity holds
+  abbrev pub targets_at : ℕ → List ℕ
+  targets_at e = flat_map (target_of (p (ids_of w e))) (ids_of w e)
+
+  -- all with whom an entity has a pair in common
+  abbrev pub linked_with : ℕ → List ℕ
+  linked_with x = leaning x ++ targets_at x
+
+  -- among these are all who lean on one of those, who lean on one of these, and so on
+  abbrev pub HasAllBelow : List ℕ → List ℕ → Type 0
+  HasAllBelow start all = (x e : ℕ) → Contains start x → Reached leaning x e → Contains all e
+
+-- all of these hold the same ids
+abbrev pub AreAlike : WorldState → List ℕ → Type 0
+AreAlike w es = (x y : ℕ) → Contains es x → Contains es y → ids_of w x ≡ ids_of w y
+
+-- among these are those, and with each of these all to whom a step leads
+pub record IsClosed (next : ℕ → List ℕ) (start all : List ℕ) : Type 0 where
+  pub begun : (x : ℕ) → Contains start x → Contains all x
+  pub stepped : (x y : ℕ) → Contains all x → Contains (next x) y → Contains all y
+
+-- a list has more behind it than before, and has all that are wanted
+pub record Adds (wanted before after : List ℕ) : Type 0 where
+  pub more : List ℕ
+  pub behind : after ≡ before ++ more
+  pub all : (e : ℕ) → Contains wanted e → Contains after e

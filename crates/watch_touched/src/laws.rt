@@ -1,0 +1,23 @@
+//! What is proved of the definitions alone: each function's contract is a law, and its body does nothing.
+
+ghost use Rattle.watch_touched.specs.Laws.{OthersThanMovingStay, QueriesMatchedBefore, ShowsWorldBefore, UnconcernedQueriesMatchOn};
+
+/// Law: by the world after a command and what has changed, the same entities lived before, with the same ids, as in the world before.
+pub fn view_before_shows_the_world_before()
+    ensures { ShowsWorldBefore }
+{}
+
+/// Law: and a query had rows of the same entities.
+pub fn queries_matched_before()
+    ensures { QueriesMatchedBefore }
+{}
+
+/// Law: a query that a command doesn't concern has rows of the same entities after it.
+pub fn unconcerned_queries_match_on()
+    ensures { UnconcernedQueriesMatchOn }
+{}
+
+/// Law: where all who may move in or out of a query's rows by a command can be found, all others stay where they are.
+pub fn others_than_moving_stay()
+    ensures { OthersThanMovingStay }
+{}

@@ -1,0 +1,297 @@
+//! Who leans on an entity: who holds a pair with it that concerns a query.
+
+ghost use Rattle.std.specs.Prelude.{◌≡◌, ◌==◌, ◌∷◌, [], true, filter, flat_map, map, IfOk, OnOk};
+ghost use Rattle.std.specs.List.{list_all, list_any};
+ghost use Rattle.component_index.specs.Patterns.{matches};
+ghost use Rattle.ecs_id.specs.declared.TableKey.{TableKey as Key};
+ghost use Rattle.watch_touched.specs.Leaning.{Adds, AreAlike, HasAllBelow, is_sought, leaning, leans, links_busily, moves_by, pairs_to};
+
+use crate::sought::{Sought, is_sought};
+use crate::touching::ids_at;
+use component_index::{Part, Pattern};
+use ecs_id::{EntityId, Id, TableKey};
+use ecs_model::FactKey;
+use ecs_world::World;
+use query_check::Query;
+use rel_travel::Holders;
+use short_list::ShortList;
+use std::alloc::{AllocError, Allocator};
+
+/// How many entities are found at most, and how many are looked at for one of them: if there are more, all rows are found in less time.
+pub(crate) const MOST: usize = 64;
+
+/// How many tables are gone through for one of them. Most may be empty.
+const MOST_TABLES: usize = 256;
+
+/// Adds those who lean on one of these entities by a pair that concerns a query so. False, where these may be too many: then not all are added.
+pub(crate) fn push_leaning_on_all<A: Allocator + Copy, B: Allocator>(
+    alloc: A,
+    query: &Query<B>,
+    sought: &Sought<'_>,
+    world: &World<A>,
+    targets: &[u32],
+    found: &mut ShortList<A>,
+) -> Result<bool, AllocError>
+    ensures { IfOk result (λ done. done ≡ true → Adds (flat_map (leaning (is_sought sought.now query.now) world.now.state) targets.now) found.old.items found.new.items) }
+{
+    if targets.len() > MOST {
+        return Ok(false);
+    }
+    for target in targets {
+        if !push_leaning(alloc, query, sought, world, *target, found)? {
+            return Ok(false);
+        }
+    }
+    Ok(true)
+}
+
+/// Adds those who lean on one of these, those who lean on one of those, and so on. False, where these may be too many.
+pub(crate) fn push_all_below<A: Allocator + Copy, B: Allocator>(
+    alloc: A,
+    query: &Query<B>,
+    sought: &Sought<'_>,
+    world: &World<A>,
+    found: &mut ShortList<A>,
+) -> Result<bool, AllocError>
+    ensures { IfOk result (λ done. done ≡ true → HasAllBelow (is_sought sought.now query.now) world.now.state found.old.items found.new.items) }
+{
+    for next in 0..MOST {
+        if next >= found.len() {
+            return Ok(true);
+        }
+        let target = found.as_slice()[next];
+        if !push_leaning(alloc, query, sought, world, target, found)? {
+            return Ok(false);
+        }
+    }
+    Ok(found.len() <= MOST)
+}
+
+/// Adds those who lean on this entity. False, where these may be too many.
+pub(crate) fn push_leaning<A: Allocator + Copy, B: Allocator>(
+    alloc: A,
+    query: &Query<B>,
+    sought: &Sought<'_>,
+    world: &World<A>,
+    target: u32,
+    found: &mut ShortList<A>,
+) -> Result<bool, AllocError>
+    ensures { IfOk result (λ done. done ≡ true → Adds (leaning (is_sought sought.now query.now) world.now.state target) found.old.items found.new.items) }
+{
+    let links = world.links();
+    // What is known of each row.
+    let _ = links.tables().store();
+    let pattern = Pattern {
+        first: Part::Any,
+        second: Some(Part::Is(target)),
+    };
+    let tables = links.tables_of(pattern);
+    if !are_few(&links, tables) {
+        return Ok(false);
+    }
+    push_from_tables(alloc, query, sought, world, &links, tables, target, found)?;
+    Ok(found.len() <= MOST)
+}
+
+/// Adds those who are linked with this entity by a pair that they hold with it, where these facts went, to the first list, and those who may move by a
+/// fact of it to the second. False, where either may be too many. The tables with such pairs are looked up and gone through once.
+pub(crate) fn push_linked_and_moving<A: Allocator + Copy, B: Allocator>(
+    alloc: A,
+    query: &Query<B>,
+    went: &[FactKey],
+    world: &World<A>,
+    target: u32,
+    linked: &mut ShortList<A>,
+    moving: &mut ShortList<A>,
+) -> Result<bool, AllocError>
+    ensures linked { IfOk result (λ done. done ≡ true → Adds (leaning (links_busily query.now went.now) world.now.state target) linked.old.items linked.new.items) }
+    ensures moving { IfOk result (λ done. done ≡ true → Adds (leaning (moves_by query.now) world.now.state target) moving.old.items moving.new.items) }
+{
+    let links = world.links();
+    // What is known of each row.
+    let _ = links.tables().store();
+    let pattern = Pattern {
+        first: Part::Any,
+        second: Some(Part::Is(target)),
+    };
+    let tables = links.tables_of(pattern);
+    if !are_few(&links, tables) {
+        return Ok(false);
+    }
+    push_both_from_tables(
+        alloc, query, went, world, &links, tables, target, linked, moving,
+    )?;
+    Ok((linked.len() <= MOST) & (moving.len() <= MOST))
+}
+
+/// Whether few entities stand in these tables, and these are few.
+fn are_few<G: Holders>(graph: &G, tables: &[TableKey]) -> bool {
+    if tables.len() > MOST_TABLES {
+        return false;
+    }
+    let mut free = MOST;
+    for table in tables {
+        let count = graph.rows(*table).len();
+        if count > free {
+            return false;
+        }
+        free -= count;
+    }
+    true
+}
+
+/// Adds those in these tables who lean on an entity. All in a table hold the same ids.
+fn push_from_tables<G: Holders, A: Allocator + Copy, B: Allocator>(
+    alloc: A,
+    query: &Query<B>,
+    sought: &Sought<'_>,
+    world: &World<A>,
+    graph: &G,
+    tables: &[TableKey],
+    target: u32,
+    found: &mut ShortList<A>,
+) -> Result<(), AllocError>
+    requires alike { (k : Key) → AreAlike world.now.state (G.rows graph.now k) }
+    ensures { OnOk result (Adds (filter (leans (is_sought sought.now query.now) world.now.state target) (flat_map (G.rows graph.now) tables.now)) found.old.items found.new.items) }
+{
+    for table in tables {
+        push_from(
+            alloc,
+            query,
+            sought,
+            world,
+            graph.rows(*table),
+            target,
+            found,
+        )?;
+    }
+    Ok(())
+}
+
+/// Adds those in these tables who are linked with an entity, where these facts went, to the first list, and those who may move by a fact of it to the second.
+fn push_both_from_tables<G: Holders, A: Allocator + Copy, B: Allocator>(
+    alloc: A,
+    query: &Query<B>,
+    went: &[FactKey],
+    world: &World<A>,
+    graph: &G,
+    tables: &[TableKey],
+    target: u32,
+    linked: &mut ShortList<A>,
+    moving: &mut ShortList<A>,
+) -> Result<(), AllocError>
+    requires alike { (k : Key) → AreAlike world.now.state (G.rows graph.now k) }
+    ensures linked { OnOk result (Adds (filter (leans (links_busily query.now went.now) world.now.state target) (flat_map (G.rows graph.now) tables.now)) linked.old.items linked.new.items) }
+    ensures moving { OnOk result (Adds (filter (leans (moves_by query.now) world.now.state target) (flat_map (G.rows graph.now) tables.now)) moving.old.items moving.new.items) }
+{
+    for table in tables {
+        let rows = graph.rows(*table);
+        push_from(
+            alloc,
+            query,
+            &Sought::Linked(went),
+            world,
+            rows,
+            target,
+            linked,
+        )?;
+        push_from(alloc, query, &Sought::Moving, world, rows, target, moving)?;
+    }
+    Ok(())
+}
+
+/// Adds those of these entities who lean on another one. They hold the same ids, so all of them do, or nobody does.
+#[inline(always)]
+fn push_from<A: Allocator + Copy, B: Allocator>(
+    alloc: A,
+    query: &Query<B>,
+    sought: &Sought<'_>,
+    world: &World<A>,
+    entities: &[EntityId],
+    target: u32,
+    found: &mut ShortList<A>,
+) -> Result<(), AllocError>
+    requires alike { AreAlike world.now.state (map (λ e. e.index) entities.now) }
+    ensures { OnOk result (Adds (filter (leans (is_sought sought.now query.now) world.now.state target) (map (λ e. e.index) entities.now)) found.old.items found.new.items) }
+{
+    let Some(first) = entities.first() else {
+        return Ok(());
+    };
+    // who is there already needn't be judged
+    if are_among(found.as_slice(), entities) {
+        return Ok(());
+    }
+    if !leans(query, sought, world, target, first.index) {
+        return Ok(());
+    }
+    push_each(alloc, entities, found)
+}
+
+/// Adds those of these entities that aren't there yet.
+fn push_each<A: Allocator + Copy>(
+    alloc: A,
+    entities: &[EntityId],
+    found: &mut ShortList<A>,
+) -> Result<(), AllocError>
+    ensures { OnOk result (Adds (map (λ e. e.index) entities.now) found.old.items found.new.items) }
+{
+    for entity in entities {
+        push_new(alloc, entity.index, found)?;
+    }
+    Ok(())
+}
+
+/// Adds an entity that isn't there yet.
+pub(crate) fn push_new<A: Allocator + Copy>(
+    alloc: A,
+    entity: u32,
+    found: &mut ShortList<A>,
+) -> Result<(), AllocError>
+    ensures { OnOk result (Adds (entity ∷ []) found.old.items found.new.items) }
+{
+    if !is_among(found.as_slice(), entity) {
+        found.push(alloc, entity)?;
+    }
+    Ok(())
+}
+
+pub(crate) fn is_among(entities: &[u32], entity: u32) -> bool
+    ensures { result ≡ list_any (λ x. x == entity) entities.now }
+{
+    entities.iter().any(|x| *x == entity)
+}
+
+/// Whether all of these are among those that are there.
+fn are_among(found: &[u32], entities: &[EntityId]) -> bool
+    ensures { result ≡ list_all (λ e. list_any (λ x. x == e.index) found.now) entities.now }
+{
+    entities.iter().all(|entity| is_among(found, entity.index))
+}
+
+/// Whether an entity leans on this target.
+fn leans<A: Allocator, B: Allocator>(
+    query: &Query<B>,
+    sought: &Sought<'_>,
+    world: &World<A>,
+    target: u32,
+    entity: u32,
+) -> bool
+    ensures { result ≡ leans (is_sought sought.now query.now) world.now.state target entity }
+{
+    let ids = ids_at(world, entity);
+    for id in ids {
+        if is_pair_to(*id, target) && is_sought(query, sought, ids, *id) {
+            return true;
+        }
+    }
+    false
+}
+
+fn is_pair_to(id: Id, target: u32) -> bool
+    ensures { result ≡ matches (pairs_to target) id }
+{
+    match id.second() {
+        Some(second) => second == target,
+        None => false,
+    }
+}

@@ -1,5 +1,0 @@
-use Rattle.world_events.proofs.InOrder.{died_rises}
-use Rattle.world_events.proofs.before.entity_before.Goals as goal
-
-pub death_at-requires : goal.death_at-requires
-death_at-requires g c = died_rises c.args.world.now.state c.args.changes.now c.requires

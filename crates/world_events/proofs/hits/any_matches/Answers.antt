@@ -1,7 +1,0 @@
-use Rattle.std.specs.Prelude.{None}
-use Rattle.std.proofs.Common.{◌∙◌}
-use Rattle.world_events.proofs.Missing.{by_term, none_match}
-use Rattle.world_events.proofs.hits.any_matches.Goals as goal
-
-pub returns-in-None : goal.returns-in-None
-returns-in-None g c = none_match c.args.facts.now ∙ by_term c.args.query.now None c.args.facts.now c.in-None.ensures
