@@ -14,8 +14,10 @@ use Rattle.component_index.specs.declared.pattern.Pattern.{Pattern}
 use Rattle.component_index.specs.Patterns.{matches}
 use Rattle.component_index.specs.Entered.{Entered, IsMatched, table_cmp, table_eq, table_cmp_total, eq_by-table_cmp, same_table}
 use Rattle.component_index.specs.Listed.{is_listed, is_matched, Adds, Drops, AreListed, IsNewest}
+use Rattle.component_index.specs.Mentions.{AreMarked, Keeps, may_match}
 use Rattle.component_index.specs.TableList.{has}
 use Rattle.component_index.specs.SamePattern.{pattern_eq}
+use Rattle.component_index.proofs.MentionLemmas.{match_kept}
 use Rattle.component_index.proofs.TableLemmas.{table_eq_equiv}
 
 -- ---- the lists beside it
@@ -90,6 +92,29 @@ pub AreListed-empty : {S : Type 0} (tables : Entered) (lists : HashMap Pattern (
 AreListed-empty tables lists none no_lists p k =
     (λ i. option_map_or (λ list. has list k) (lookup (pattern_eq p) (no_lists i)) false)
     ∙ sym (ap (λ t. is_matched t p k) none ∙ ap (matched_in p) (finite.get-empty table_cmp k))
+
+-- ---- the marks beside it
+pub AreMarked-empty : (marks : List Bool) (tables : Entered) → tables ≡ finite.empty → AreMarked marks tables
+AreMarked-empty marks tables none p k h = absurd (true≢false (sym h ∙ ap (λ t. is_matched t p k) none ∙ ap (matched_in p) (finite.get-empty table_cmp k)))
+
+pub AreMarked-kept : (old new : List Bool) (tables : Entered) → AreMarked old tables → Keeps old new → AreMarked new tables
+AreMarked-kept old new tables marked kept p k h = match_kept old new kept p (marked p k h)
+
+module _ (was is : Entered) (key : TableKey) where
+  pub AreMarked-enter : (old new : List Bool) (ids : List Id) → AreMarked old was → Keeps old new → ((p : Pattern) → list_any (matches p) ids ≡ true → may_match new p ≡ true) → is ≡ finite.insert was key ids → AreMarked new is
+  AreMarked-enter old new ids marked kept noted changed p k h =
+      by (table_eq key k) refl (sym (matched-insert was key ids p k) ∙ ap (λ t. is_matched t p k) (sym changed) ∙ h)
+    where
+      by : (b : Bool) → table_eq key k ≡ b → cond (table_eq key k) (list_any (matches p) ids) (is_matched was p k) ≡ true → may_match new p ≡ true
+      by true e g = noted p (sym (λ i. cond (e i) (list_any (matches p) ids) (is_matched was p k)) ∙ g)
+      by false e g = match_kept old new kept p (marked p k (sym (λ i. cond (e i) (list_any (matches p) ids) (is_matched was p k)) ∙ g))
+
+  pub AreMarked-leave : (marks : List Bool) → AreMarked marks was → is ≡ finite.remove was key → AreMarked marks is
+  AreMarked-leave marks marked changed p k h = by (table_eq key k) refl (sym (matched-remove was key p k) ∙ ap (λ t. is_matched t p k) (sym changed) ∙ h)
+    where
+      by : (b : Bool) → table_eq key k ≡ b → cond (table_eq key k) false (is_matched was p k) ≡ true → may_match marks p ≡ true
+      by true e g = absurd (true≢false (sym g ∙ (λ i. cond (e i) false (is_matched was p k))))
+      by false e g = marked p k (sym (λ i. cond (e i) false (is_matched was p k)) ∙ g)
 
 -- ---- what `tables_of` tells
 matched : (p : Pattern) (o : Option (List Id)) → matched_in p o ≡ true → (ids : List Id) × (o ≡ Some ids) × (list_any (matches p) ids ≡ true)

@@ -1,5 +1,6 @@
 mod EnteredLemmas
 pub mod ListedLemmas
 mod ListingLemmas
+mod MentionLemmas
 pub mod TableLemmas
 mod Walks

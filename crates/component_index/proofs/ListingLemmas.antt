@@ -1,6 +1,7 @@
 -- The lists of tables, each of which has a table once.
-use Rattle.std.proofs.Common.{◌≡◌, ◌⊎◌, ◌↔◌, Bool, true, false, cond, List, [], ◌∷◌, ◌++◌, Option, Some, None, Contains, refl, sym, ap, ◌∙◌, inl, inr, arith}
+use Rattle.std.proofs.Common.{◌≡◌, ◌⊎◌, ◌↔◌, ◌||◌, Bool, true, false, true≢false, cond, List, [], ◌∷◌, ◌++◌, Option, Some, None, Contains, refl, sym, ap, ◌∙◌, inl, inr, arith}
 use Rattle.std.specs.Prelude.{unwrap_or}
+use Rattle.std.specs.Option.{option_map_or}
 use Rattle.std.specs.List.{IsDistinct, list_any}
 use Rattle.std.specs.HashMap.{HashMap, get}
 use Rattle.std.specs.Map.{lookup}
@@ -13,8 +14,10 @@ use Rattle.component_index.specs.declared.pattern.Pattern.{Pattern}
 use Rattle.component_index.specs.Entered.{Entered, IsMatched, same_table, table_eq}
 use Rattle.component_index.specs.Listed.{AreListed}
 use Rattle.component_index.specs.Listings.{Lists, ListsEntered, listed_in, lists_of}
+use Rattle.component_index.specs.Mentions.{MayBeListed, may_match}
 use Rattle.component_index.specs.SamePattern.{pattern_eq}
-use Rattle.component_index.proofs.EnteredLemmas.{in_list, in_no_list}
+use Rattle.component_index.specs.TableList.{has}
+use Rattle.component_index.proofs.EnteredLemmas.{in_list, in_no_list, none_distinct}
 use Rattle.component_index.proofs.TableLemmas.{distinct_key, none_once, table_eq_equiv}
 
 -- ---- keys that are put in, one after another
@@ -80,3 +83,18 @@ lists_entered {S} was lists right tables view p k = by (get pattern_eq lists p) 
         let same = each_once list k in
         let holds = in_list was lists right tables view p list is list refl k in
         rw (read_of lists p (Some list) is) (λ h. holds.0 (same.0 h), λ h. same.1 (holds.1 h))
+
+-- ---- a list that is told by marks
+none_had : (list : List TableKey) → ((k : TableKey) → has list k ≡ true → ⊥) → list ≡ []
+none_had [] f = refl
+none_had (x ∷ list) f = absurd (f x (λ i. table_eq_equiv.refl x i || list_any (table_eq x) list))
+
+-- a pattern that can't match has an empty list, or none
+pub none_listed : {S : Type 0} (marks : List Bool) (lists : HashMap Pattern (List TableKey) S) → MayBeListed marks lists → (p : Pattern) → may_match marks p ≡ false → [] ≡ listed_in (lists_of lists) p
+none_listed {S} marks lists marked p unmet = by (get pattern_eq lists p) refl
+  where
+    by : (o : Option (List TableKey)) → get pattern_eq lists p ≡ o → [] ≡ listed_in (lists_of lists) p
+    by None is = read_none lists p is
+    by (Some list) is =
+        let empty : list ≡ [] = none_had list (λ k h. true≢false (sym (marked p k (ap (λ o. option_map_or (λ l. has l k) o false) is ∙ h)) ∙ unmet)) in
+        sym empty ∙ read_some lists p list is (none_distinct list empty)

@@ -2,6 +2,7 @@ pub mod Changed
 pub mod Entered
 pub mod Listed
 pub mod Listings
+pub mod Mentions
 pub mod Patterns
 pub mod SamePattern
 pub mod TableList

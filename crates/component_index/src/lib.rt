@@ -11,12 +11,14 @@ ghost use Rattle.component_index.specs.declared.pattern.Pattern.{Pattern as Aske
 
 mod listings;
 mod lists;
+mod mentions;
 mod pattern;
 mod places;
 mod register;
 mod table_list;
 
 use crate::lists::{Lists, list_all, unlist_all};
+use crate::mentions::{Marks, note_all};
 use crate::places::Places;
 use crate::register::{Change, Register};
 use ecs_id::{Id, TableKey};
@@ -31,12 +33,13 @@ use std::marker::Model;
 /// For each pattern, the tables that have an id that it matches.
 ///
 /// But for growth, `enter` and `leave` take time in the number of the table's ids, and not in that of the tables; `tables_of` takes
-/// constant time. So it is whichever ids the tables have, since nobody who chooses them knows the random keys. Only `enter` takes
-/// memory.
+/// constant time. So it is whichever ids the tables have, since nobody who chooses them knows the random keys. A list of an entity that
+/// no table ever mentioned is told to be empty without a look-up. Only `enter` takes memory.
 #[derive(Drop)]
 pub struct ComponentIndex<A: Allocator = Global> {
     entered: Register,
     lists: Lists<A>,
+    mentioned: Marks<A>,
     places: Places<A>,
 }
 
@@ -46,6 +49,7 @@ impl<A: Allocator> Model for ComponentIndex<A> {
     ghost use Rattle.ecs_id.specs.Id.{id_code};
     ghost use Rattle.component_index.specs.Entered.{Entered as Tables, table_code};
     ghost use Rattle.component_index.specs.Listed.{AreListed};
+    ghost use Rattle.component_index.specs.Mentions.{AreMarked};
 
     ghost Value = { Tables };
 
@@ -53,7 +57,7 @@ impl<A: Allocator> Model for ComponentIndex<A> {
 
     ghost view = { λ s. s.entered.tables };
 
-    ghost invariant = { λ s. AreListed s.entered.tables s.lists };
+    ghost invariant = { λ s. AreListed s.entered.tables s.lists × AreMarked s.mentioned.items s.entered.tables };
 }
 
 impl<A: Allocator + Copy> ComponentIndex<A> {
@@ -64,6 +68,7 @@ impl<A: Allocator + Copy> ComponentIndex<A> {
         ComponentIndex {
             entered: Register::new(),
             lists: IndexMap::with_hasher(alloc, Hashing::new(random)),
+            mentioned: Vec::new(alloc),
             places: Places::new(alloc),
         }
     }
@@ -76,6 +81,7 @@ impl<A: Allocator + Copy> ComponentIndex<A> {
         ensures entered { OnOk result (self.new ≡ finite.insert self.old key ids.now) }
         ensures refused { OnErr result (self.new ≡ self.old) }
     {
+        note_all(&mut self.mentioned, ids)?;
         if let Err(error) = list_all(&mut self.lists, &mut self.places, ids, key) {
             unlist_all(&mut self.lists, &mut self.places, ids, key);
             self.places.forget(key);
@@ -100,7 +106,7 @@ impl<A: Allocator> ComponentIndex<A> {
         ensures entered { ListsEntered self.now result }
         ensures once { (pattern : Asked) → IsDistinct table_eq (listed_in result pattern) }
     {
-        Listings::new(&self.lists)
+        Listings::new(&self.lists, &self.mentioned)
     }
 
     /// Takes out a table that was entered with these ids.

@@ -1,0 +1,9 @@
+use Rattle.std.proofs.Common.{◌≡◌, true, take}
+use Rattle.std.specs.List.{list_any}
+use Rattle.component_index.specs.declared.pattern.Pattern.{Pattern}
+use Rattle.component_index.specs.Mentions.{Keeps, may_match}
+use Rattle.component_index.specs.Patterns.{matches}
+use Rattle.component_index.proofs.mentions.note_all.Given as goal
+
+abbrev pub invariant-loop-id : goal.invariant-loop-id
+invariant-loop-id g l = ((p : Pattern) → list_any (matches p) (take l.id-index l.ids) ≡ true → may_match l.marks.items p ≡ true) × Keeps l.initial.marks.items l.marks.items
