@@ -151,3 +151,17 @@ pub pairs_below : {n : ℕ} {entities : List ℕ} {ids : ℕ → List Id} → Ar
 pairs_below {entities = entities} {ids = ids} links r m l x k d in' =
     let there = (filtered (λ z. list_any (matches (record { first = Is r; second = Some (Is x) })) (ids z)) entities (get_or (holders_of_pair entities ids x r) k d)).0 (Contains-get_or (holders_of_pair entities ids x r) k d in') in
     omega (arith, links.below _ there.0)
+
+-- an id with a target is one with that target of any relationship
+any_pair : (r t : ℕ) (i : Id) → IsTrue (matches (record { first = Is r; second = Some (Is t) }) i) → IsTrue (matches (record { first = Any; second = Some (Is t) }) i)
+any_pair r t (plain c) m = absurd (true≢false (sym m))
+any_pair r t (pair q u) m = (both (q == r) (u == t) m).1
+
+-- who falls with a target holds a pair with it
+pub sources_any : (entities : List ℕ) (ids : ℕ → List Id) (t y : ℕ) → Contains (sources_falling entities ids t) y → Contains (holders entities ids (record { first = Any; second = Some (Is t) })) y
+sources_any entities ids t y h =
+    let r = from_flat_map (holders_of_pair entities ids t) (holders_of_pair entities ids 17 15) y h in
+    let holds = (filtered (λ z. list_any (matches (record { first = Is r.0; second = Some (Is t) })) (ids z)) entities y).0 r.2 in
+    let i = passing (matches (record { first = Is r.0; second = Some (Is t) })) (ids y) holds.1 in
+    (filtered (λ z. list_any (matches (record { first = Any; second = Some (Is t) })) (ids z)) entities y).1
+    (holds.0, any_passes (matches (record { first = Any; second = Some (Is t) })) (ids y) i.0 i.1 (any_pair r.0 t i.0 i.2))

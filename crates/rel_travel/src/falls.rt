@@ -54,12 +54,19 @@ impl<G: Holders> Rule for Falling<'_, G> {
     }
 }
 
-/// Adds the sources of pairs with this target whose relationship deletes them.
+/// Adds the sources of pairs with this target whose relationship deletes them. Most entities are no target, which one look tells.
 fn add_sources<G: Holders, A: Allocator>(graph: &G, target: u32, found: &mut Found<A>)
     requires { All (λ y. y < found.old.size) (sources_falling (G.entities graph.now) (G.ids graph.now) target) }
     ensures size { found.new.size ≡ found.old.size }
     ensures grown { IsGrownBy (sources_falling (G.entities graph.now) (G.ids graph.now) target) found.old.items found.new.items }
 {
+    let any = Pattern {
+        first: Part::Any,
+        second: Some(Part::Is(target)),
+    };
+    if graph.tables_of(any).is_empty() {
+        return;
+    }
     let deleting = Pattern {
         first: Part::Is(ON_DELETE_TARGET),
         second: Some(Part::Is(DELETE)),

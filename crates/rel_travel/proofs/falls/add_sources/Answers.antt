@@ -5,10 +5,31 @@ use Rattle.ecs_id.specs.declared.EntityId.{EntityId}
 use Rattle.ecs_id.specs.declared.TableKey.{TableKey}
 use Rattle.rel_travel.specs.Holders.{holders_of_pair}
 use Rattle.rel_travel.specs.Growing.{IsGrownBy}
-use Rattle.rel_travel.proofs.Cleanup.{All-alike, flat_map_alike, flat_map_twice, one_of_all}
-use Rattle.rel_travel.proofs.Growth.{IsGrownWhere-same}
+use Rattle.std.proofs.lemmas.Bool.Decides.{nat_tests}
+use Rattle.std.proofs.lemmas.Grind.{common_steps}
+use Rattle.ecs_model.proofs.Members.{from_flat_map}
+use Rattle.rel_travel.proofs.Cleanup.{All-alike, flat_map_alike, flat_map_twice, one_of_all, sources_any}
+use Rattle.rel_travel.proofs.Growth.{IsGrownBy-none, IsGrownWhere-same}
 use Rattle.rel_travel.proofs.Rows.{table_added}
 use Rattle.rel_travel.proofs.falls.add_sources.Goals as goal
+
+pub returns-then-is_empty-clause-grown : goal.returns-then-is_empty-clause-grown
+returns-then-is_empty-clause-grown g c =
+    let entities = g.G.Graph.entities c.args.graph.now in
+    let ids = g.G.Graph.ids c.args.graph.now in
+    let tables = c.tables_of.result.now in
+    IsGrownWhere-same c.args.found.now.items c.args.found.now.items
+    (λ y. (
+      λ none. absurd (omega (arith, none.1)),
+      λ h.
+          let held = (c.tables_of.ensures.holders y).1 (sources_any entities ids c.args.target y h) in
+          let t = from_flat_map (g.G.Holders.rows c.args.graph.now) tables y held in
+          let inside = t.1.1 in
+          let empty = c.is_empty.ensures in
+          let is = c.if-is_empty.true in
+          absurd (grind (arith, common_steps, nat_tests)),
+    ))
+    (IsGrownBy-none c.args.found.now.items)
 
 pub add_pairs-requires : goal.add_pairs-requires
 add_pairs-requires g c =
