@@ -161,6 +161,10 @@ module _ {Y R S : Type 0} (names : Names) (s : HashMap (List ℕ) EntityId R) (l
       or_none None = refl
       or_none (Some x) = refl
 
+  -- what the map of short names has at a key, by the text of that
+  pub found_at : (k q : List ℕ) → k ≡ q → is_short q ≡ true → (o : Option EntityId) → get (pointwise nat_eq) s k ≡ o → finite.get names q ≡ o
+  found_at k q same is o there = found_short q is ∙ ap (get (pointwise nat_eq) s) (sym same) ∙ there
+
   pub found_long : (q : List ℕ) → is_short q ≡ false → finite.get names q ≡ get_by_text l q
   found_long q is = ap (λ m. finite.get m q) (sym view) ∙ get-names_in s l q ∙ ap (λ o. option_or o (get_by_text l q)) (kept.apart.shorts q is)
 
@@ -188,6 +192,9 @@ module _ (names : Names) (bs : List ℕ) (e : EntityId) where
       other_at (bytes_eq q bs) _ _ (Some e) None e f (finite.get-insert nat_list_cmp_total names bs e q ∙ (λ i. cond (is_eq-slice_cmp q bs i) (Some e) (finite.get names q)))
       (get-at q None free) (λ h. differs (let same : e ≡ f = cc in sym same)) (λ h. let no : None ≡ Some f = h in cc)
 
+  pub others_bound : finite.get names bs ≡ None → (bound : Names) → bound ≡ finite.insert names bs e → OthersKeepTheirs names bound e
+  others_bound free bound is = subst (λ m. OthersKeepTheirs names m e) (sym is) (OthersKeepTheirs-insert free)
+
   -- an entity's name goes
   pub OthersKeepTheirs-remove : finite.get names bs ≡ Some e → OthersKeepTheirs names (finite.remove names bs) e
   OthersKeepTheirs-remove is q f differs =
@@ -208,17 +215,14 @@ is_none_of None h = refl
 is_none_of (Some x) h = absurd (true≢false h)
 
 -- after a short name is bound
-module _ {Y R S : Type 0} (names : Names) (s s1 s' : HashMap (List ℕ) EntityId R) (l : HashMap (String Y) EntityId S) (old : Texts Y) (view : names_in s l ≡ names) (kept : AreKept s l old)
-    (bs n : List ℕ) (named : bs ≡ n) (e : EntityId) (same : s1.entries ≡ s.entries) (u : Updates (pointwise nat_eq) s1 s' bs (Some e)) where
+module _ {Y R S : Type 0} (names : Names) (s s' : HashMap (List ℕ) EntityId R) (l : HashMap (String Y) EntityId S) (old : Texts Y) (view : names_in s l ≡ names) (kept : AreKept s l old)
+    (bs n : List ℕ) (named : bs ≡ n) (e : EntityId) (u : Updates (pointwise nat_eq) s s' bs (Some e)) where
   pub bound_short : names_in s' l ≡ finite.insert names n e
-  bound_short = insert_short s1 s' l l bs e u ∙ (λ i. finite.insert ((names_unchanged s s1 l l same refl ∙ view) i) (named i) e)
+  bound_short = insert_short s s' l l bs e u ∙ (λ i. finite.insert (view i) (named i) e)
 
   pub kept_short : (new : Texts Y) → is_short n ≡ true → finite.get names n ≡ None → IsUnnamed names e → ((f : EntityId) → text_of new f ≡ cond (entity_eq e f) (Some n) (text_of old f)) → AreKept s' l new
   kept_short new is free un t = record {
-    apart = record {
-      shorts = short_stays s1 s' l l bs (Some e) (ap is_short named ∙ is) u (λ q past. ap (lookup (pointwise nat_eq q)) same ∙ kept.apart.shorts q past);
-      longs = kept.apart.longs;
-    };
+    apart = record { shorts = short_stays s s' l l bs (Some e) (ap is_short named ∙ is) u kept.apart.shorts; longs = kept.apart.longs };
     at = λ q f. subst (λ m. (text_of new f ≡ Some q) ↔ (finite.get m q ≡ Some f)) (sym bound_short)
         (kept_inserted names old new n e (at_names names s l old view kept) free (no_text names s l old view kept e un) t q f);
   }

@@ -21,6 +21,7 @@ use ecs_id::EntityId;
 use ecs_model::is_name;
 pub use error::BindError;
 use indexmap::IndexMap;
+use indexmap::map::Entry;
 use std::alloc::{Allocator, Global};
 use std::hash::RandomState;
 use std::marker::Model;
@@ -107,13 +108,17 @@ impl<A: Allocator + Copy> NameIndex<A> {
         ensures memory { IsErrOf result BindError.Memory → finite.get self.old name.now ≡ None }
         ensures refused { OnErr result (self.new ≡ self.old) }
     {
-        if self.has_short(&key) {
-            return Err(BindError::NameTaken);
+        let Ok(place) = self.short.entry(key) else {
+            return Err(BindError::Memory);
+        };
+        match place {
+            Entry::Occupied(_) => Err(BindError::NameTaken),
+            Entry::Vacant(place) => {
+                self.texts.set(entity, name)?;
+                place.insert(entity);
+                Ok(())
+            }
         }
-        self.short.reserve(1)?;
-        self.texts.set(entity, name)?;
-        self.short.insert(key, entity).unwrap();
-        Ok(())
     }
 
     // Binds a name that isn't short.
@@ -183,16 +188,6 @@ impl<A: Allocator> NameIndex<A> {
         };
         take_out(&mut self.short, &mut self.long, name);
         self.texts.remove(entity);
-    }
-
-    // Whether an entity has the short name.
-    #[inline(always)]
-    fn has_short(&self, name: &ShortName) -> bool
-        requires { is_short name.now ≡ true }
-        ensures taken { result ≡ true → IsSome (finite.get self.now name.now) }
-        ensures free { result ≡ false → finite.get self.now name.now ≡ None }
-    {
-        self.short.contains_key(name)
     }
 
     // Whether an entity has the name, which isn't short.

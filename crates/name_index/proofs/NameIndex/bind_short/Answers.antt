@@ -1,22 +1,66 @@
-use Rattle.std.proofs.Common.{◌≡◌, None, sym, ap, subst, ◌∙◌, rules}
+use Rattle.std.proofs.Common.{◌≡◌, None, is_some, refl, ap, ◌∙◌, rules}
 use Rattle.std.specs.FinMap as finite
-use Rattle.name_index.specs.Names.{OthersKeepTheirs}
-use Rattle.name_index.proofs.NamesLemmas.{no_text, bound_short, kept_short, OthersKeepTheirs-insert}
+use Rattle.indexmap.specs.declared.map.entry.Entry.TheVariants.{Vacant}
+use Rattle.indexmap.specs.Entry.{map_with_value}
+use Rattle.name_index.proofs.NamesLemmas.{no_text, bound_short, kept_short, found_at, others_bound}
 use Rattle.name_index.proofs.NameIndex.bind_short.Goals as goal
 
 pub set-requires : goal.set-requires
 set-requires g c = no_text c.args.self.now c.self.inside.short c.self.inside.long c.self.inside.texts c.self.view_is c.self.invariant c.args.entity c.requires.unnamed
 
-pub invariant_of-self-2 : goal.invariant_of-self-2
-invariant_of-self-2 g c =
-    let free : finite.get c.args.self.now c.args.name.now ≡ None = ap (finite.get c.args.self.now) (sym c.requires.key) ∙ c.has_short.ensures.free c.if-has_short.false in
-    kept_short c.args.self.now c.self.inside.short c.reserve.new.self c.insert.new.self c.self.inside.long c.self.inside.texts c.self.view_is c.self.invariant c.args.key c.args.name.now c.requires.key c.args.entity (search rules) (search rules) c.set.new.self c.requires.short free c.requires.unnamed c.in_ok-set.ensures.kept
+pub returns-in_default-clause-memory : goal.returns-in_default-clause-memory
+returns-in_default-clause-memory g c = λ _. found_at c.args.self.now c.self.inside.short c.self.inside.long c.self.inside.texts c.self.view_is c.self.invariant c.args.key c.args.name.now c.requires.key c.requires.short None c.in_default.ensures.absent
 
-pub returns-clause-bound : goal.returns-clause-bound
-returns-clause-bound g c = bound_short c.args.self.now c.self.inside.short c.reserve.new.self c.insert.new.self c.self.inside.long c.self.inside.texts c.self.view_is c.self.invariant c.args.key c.args.name.now c.requires.key c.args.entity (search rules) (search rules)
+pub returns-in_default-clause-name_taken : goal.returns-in_default-clause-name_taken
+returns-in_default-clause-name_taken g c =
+    let free : finite.get c.args.self.now c.args.name.now ≡ None = found_at c.args.self.now c.self.inside.short c.self.inside.long c.self.inside.texts c.self.view_is c.self.invariant c.args.key c.args.name.now c.requires.key c.requires.short None c.in_default.ensures.absent in
+    search (rules, free)
 
-pub returns-clause-others : goal.returns-clause-others
-returns-clause-others g c =
-    let free : finite.get c.args.self.now c.args.name.now ≡ None = ap (finite.get c.args.self.now) (sym c.requires.key) ∙ c.has_short.ensures.free c.if-has_short.false in
-    subst (λ m. OthersKeepTheirs c.args.self.now m c.args.entity) (sym (bound_short c.args.self.now c.self.inside.short c.reserve.new.self c.insert.new.self c.self.inside.long c.self.inside.texts c.self.view_is c.self.invariant c.args.key c.args.name.now c.requires.key c.args.entity (search rules) (search rules)))
-    (OthersKeepTheirs-insert c.args.self.now c.args.name.now c.args.entity free)
+pub returns-in-Occupied-clause-name_taken : goal.returns-in-Occupied-clause-name_taken
+returns-in-Occupied-clause-name_taken g c =
+    let there = rw c.in-Occupied.is at c.in-Ok.ensures.found in
+    let taken = ap is_some (found_at c.args.self.now c.self.inside.short c.self.inside.long c.self.inside.texts c.self.view_is c.self.invariant c.args.key c.args.name.now c.requires.key c.requires.short _ refl) ∙ there.0 in
+    (λ _. taken, λ _. refl)
+
+pub returns-in_ok-set-in-Vacant-clause-name_taken : goal.returns-in_ok-set-in-Vacant-clause-name_taken
+returns-in_ok-set-in-Vacant-clause-name_taken g c =
+    let absent = rw c.in-Vacant.is at c.in-Ok.ensures.found in
+    let free : finite.get c.args.self.now c.args.name.now ≡ None = found_at c.args.self.now c.self.inside.short c.self.inside.long c.self.inside.texts c.self.view_is c.self.invariant c.args.key c.args.name.now c.requires.key c.requires.short None absent in
+    search (rules, free)
+
+pub returns-in_err-set-in-Vacant-clause-name_taken : goal.returns-in_err-set-in-Vacant-clause-name_taken
+returns-in_err-set-in-Vacant-clause-name_taken g c =
+    let absent = rw c.in-Vacant.is at c.in-Ok.ensures.found in
+    let free : finite.get c.args.self.now c.args.name.now ≡ None = found_at c.args.self.now c.self.inside.short c.self.inside.long c.self.inside.texts c.self.view_is c.self.invariant c.args.key c.args.name.now c.requires.key c.requires.short None absent in
+    search (rules, free)
+
+pub returns-in_ok-set-in-Vacant-clause-free : goal.returns-in_ok-set-in-Vacant-clause-free
+returns-in_ok-set-in-Vacant-clause-free g c =
+    let absent = rw c.in-Vacant.is at c.in-Ok.ensures.found in
+    found_at c.args.self.now c.self.inside.short c.self.inside.long c.self.inside.texts c.self.view_is c.self.invariant c.args.key c.args.name.now c.requires.key c.requires.short None absent
+
+pub returns-in_err-set-in-Vacant-clause-memory : goal.returns-in_err-set-in-Vacant-clause-memory
+returns-in_err-set-in-Vacant-clause-memory g c =
+    let absent = rw c.in-Vacant.is at c.in-Ok.ensures.found in
+    λ _. found_at c.args.self.now c.self.inside.short c.self.inside.long c.self.inside.texts c.self.view_is c.self.invariant c.args.key c.args.name.now c.requires.key c.requires.short None absent
+
+pub returns-in_ok-set-in-Vacant-clause-bound : goal.returns-in_ok-set-in-Vacant-clause-bound
+returns-in_ok-set-in-Vacant-clause-bound g c =
+    let put = rw c.in-Vacant.is at (c.in-Ok.ensures.update.0 c.args.entity) in
+    let bound = bound_short c.args.self.now c.self.inside.short (map_with_value (Vacant c.in-Vacant.place) c.args.entity) c.self.inside.long c.self.inside.texts c.self.view_is c.self.invariant c.args.key c.args.name.now c.requires.key c.args.entity put in
+    search (rules, bound)
+
+pub returns-in_ok-set-in-Vacant-clause-others : goal.returns-in_ok-set-in-Vacant-clause-others
+returns-in_ok-set-in-Vacant-clause-others g c =
+    let absent = rw c.in-Vacant.is at c.in-Ok.ensures.found in
+    let put = rw c.in-Vacant.is at (c.in-Ok.ensures.update.0 c.args.entity) in
+    let free : finite.get c.args.self.now c.args.name.now ≡ None = found_at c.args.self.now c.self.inside.short c.self.inside.long c.self.inside.texts c.self.view_is c.self.invariant c.args.key c.args.name.now c.requires.key c.requires.short None absent in
+    let bound = bound_short c.args.self.now c.self.inside.short (map_with_value (Vacant c.in-Vacant.place) c.args.entity) c.self.inside.long c.self.inside.texts c.self.view_is c.self.invariant c.args.key c.args.name.now c.requires.key c.args.entity put in
+    others_bound c.args.self.now c.args.name.now c.args.entity free _ (search (rules, bound))
+
+pub invariant_of-self-in-Vacant : goal.invariant_of-self-in-Vacant
+invariant_of-self-in-Vacant g c =
+    let absent = rw c.in-Vacant.is at c.in-Ok.ensures.found in
+    let put = rw c.in-Vacant.is at (c.in-Ok.ensures.update.0 c.args.entity) in
+    let free : finite.get c.args.self.now c.args.name.now ≡ None = found_at c.args.self.now c.self.inside.short c.self.inside.long c.self.inside.texts c.self.view_is c.self.invariant c.args.key c.args.name.now c.requires.key c.requires.short None absent in
+    kept_short c.args.self.now c.self.inside.short _ c.self.inside.long c.self.inside.texts c.self.view_is c.self.invariant c.args.key c.args.name.now c.requires.key c.args.entity (search (rules, put)) c.set.new.self c.requires.short free c.requires.unnamed c.in_ok-set-in-Vacant.ensures.kept

@@ -1,4 +1,4 @@
-use Rattle.std.proofs.Common.{◌≡◌, ◌∙◌, ◌++◌, ◌+◌, ◌-◌, arith, drop, length, take, ap, ℕ}
+use Rattle.std.proofs.Common.{◌≡◌, ◌∙◌, ◌++◌, ◌+◌, ◌-◌, arith, drop, length, take, ℕ}
 use Rattle.std.proofs.lemmas.List.{length-drop, take_all}
 use Rattle.name_index.proofs.ShortLemmas.{both_ends}
 use Rattle.name_index.proofs.short.put_ends.Goals as goal
