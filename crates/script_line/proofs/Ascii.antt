@@ -1,8 +1,11 @@
 -- Bytes that are tested for ASCII eight at a time.
-use Rattle.std.proofs.Common.{◌≡◌, ℕ, ◌+◌, ◌-◌, ◌<◌, ◌≤◌, inl, inr, Bool, true, false, List, drop, get_or, length, take, ap, ◌∙◌, subst, arith}
+use Rattle.std.proofs.Common.{◌≡◌, ℕ, zero, suc, ◌+◌, ◌-◌, ◌<◌, ◌≤◌, inl, inr, Bool, true, false, List, [], ◌∷◌, drop, get_or, length, take, ap, ◌∙◌, subst, arith}
+use Rattle.std.specs.Prelude.{nat_lt}
 use Rattle.std.specs.Bool.{MatchBool}
+use Rattle.std.specs.List.{list_all}
 use Rattle.std.specs.Str.{IsAscii, IsNotAscii}
-use Rattle.std.proofs.lemmas.Bool.{cases_lt}
+use Rattle.std.proofs.lemmas.Bool.{and_parts, cases_lt}
+use Rattle.std.proofs.lemmas.Bool.Decides.{nat_tests}
 use Rattle.std.proofs.lemmas.List.{get_or-drop, get_or-take}
 use Rattle.std.proofs.lemmas.Str.Ascii.{IsAscii-from_reads}
 
@@ -31,3 +34,9 @@ eight_at bs from at true same said told =
     let eight : from + 8 - from ≡ 8 = omega arith in
     subst (λ f. IsAscii (take 8 (drop f bs))) same (subst (λ n. IsAscii (take n (drop from bs))) eight told)
 eight_at bs from at false same said told = absurd cc
+
+-- bytes that were tested one by one
+pub ascii_each : (bs : List ℕ) → list_all (λ b. nat_lt b 128) bs ≡ true → IsAscii bs
+ascii_each [] h i = omega arith
+ascii_each (c ∷ cs) h zero = let here = (and_parts (nat_lt c 128) (list_all (λ b. nat_lt b 128) cs) h).0 in grind (arith, nat_tests)
+ascii_each (c ∷ cs) h (suc i) = ascii_each cs (and_parts (nat_lt c 128) (list_all (λ b. nat_lt b 128) cs) h).1 i

@@ -1,8 +1,8 @@
 -- Lines that begin with one of the words that most lines begin with, before a space.
 use Rattle.std.proofs.Common.{◌≡◌, ℕ, ◌≤◌, List, [], ◌∷◌, drop, get_or, length, sym, ap, ◌∙◌, arith}
-use Rattle.ecs_model.specs.Orders.{AddTo, MakeEntity, RemoveFrom}
+use Rattle.ecs_model.specs.Orders.{AddTo, DeleteOne, MakeEntity, MakeFresh, RemoveFrom}
 use Rattle.ecs_model.specs.Text.{words}
-use Rattle.ecs_model.specs.Script.{Obey, fact_line, forms, nothing_more, one_word, set_line}
+use Rattle.ecs_model.specs.Script.{Obey, entity_line, fact_line, forms, nothing_more, one_word, set_line}
 use Rattle.ecs_model.specs.stored.Session.{InWorld}
 use Rattle.script_line.specs.Line.{by_first_word}
 
@@ -48,3 +48,20 @@ module _ (bs rest : List ℕ) (behind : rest ≡ drop 6 bs) (long : 7 ≤ length
   unfolding forms
   opened_entity e f g h j k l = let is : bs ≡ 101 ∷ 110 ∷ 116 ∷ 105 ∷ 116 ∷ 121 ∷ 32 ∷ drop 7 bs = seven bs 101 110 116 105 116 121 32 long e f g h j k l in
       ap (λ r. one_word (λ n. Obey (InWorld (MakeEntity n))) (words r)) (behind ∙ ap (drop 6) is) ∙ sym (ap by_first_word is)
+
+  pub opened_delete : get_or bs 0 0 ≡ 100 → get_or bs 1 0 ≡ 101 → get_or bs 2 0 ≡ 108 → get_or bs 3 0 ≡ 101 → get_or bs 4 0 ≡ 116 → get_or bs 5 0 ≡ 101 → get_or bs 6 0 ≡ 32
+      → entity_line (λ r. Obey (InWorld (DeleteOne r))) rest ≡ by_first_word bs
+  unfolding forms
+  opened_delete e f g h j k l = let is : bs ≡ 100 ∷ 101 ∷ 108 ∷ 101 ∷ 116 ∷ 101 ∷ 32 ∷ drop 7 bs = seven bs 100 101 108 101 116 101 32 long e f g h j k l in
+      ap (entity_line (λ r. Obey (InWorld (DeleteOne r)))) (behind ∙ ap (drop 6) is) ∙ sym (ap by_first_word is)
+
+three : (bs : List ℕ) (a b c : ℕ) → length bs ≡ 3 → get_or bs 0 0 ≡ a → get_or bs 1 0 ≡ b → get_or bs 2 0 ≡ c → bs ≡ a ∷ b ∷ c ∷ []
+three [] a b c n e f g = absurd (omega (arith, n))
+three (x ∷ []) a b c n e f g = absurd (omega (arith, n))
+three (x ∷ y ∷ []) a b c n e f g = absurd (omega (arith, n))
+three (x ∷ y ∷ z ∷ []) a b c n e f g = λ i. e i ∷ f i ∷ g i ∷ []
+three (x ∷ y ∷ z ∷ w ∷ r) a b c n e f g = absurd (omega (arith, n))
+
+pub opened_new : (bs : List ℕ) → length bs ≡ 3 → get_or bs 0 0 ≡ 110 → get_or bs 1 0 ≡ 101 → get_or bs 2 0 ≡ 119 → Obey (InWorld MakeFresh) ≡ by_first_word bs
+unfolding forms
+opened_new bs n e f g = sym (ap by_first_word (three bs 110 101 119 n e f g))

@@ -7,7 +7,7 @@ use Rattle.ecs_model.specs.declared.Kind.{Kind}
 use Rattle.ecs_model.specs.Schema.{Field}
 use Rattle.ecs_model.specs.Text.{is_blank, is_number, number_of, words}
 use Rattle.ecs_model.specs.Orders.{EntityRef, by_name, by_handle, IdRef, plain_of, pair_of, MakeFresh, MakeEntity, AddTo, SetIn, RemoveFrom, DeleteOne}
-use Rattle.ecs_model.specs.Script.{Form, LongLine, BadLine, Obey, Define, Ask, AskKept, fact_line, form_or_bad, forms, looked_up, nothing_more, one_word, set_line, word_and_rest}
+use Rattle.ecs_model.specs.Script.{Form, LongLine, BadLine, Obey, Define, Ask, AskKept, entity_line, fact_line, form_or_bad, forms, looked_up, nothing_more, one_word, set_line, word_and_rest}
 use Rattle.ecs_model.specs.Script
 use Rattle.ecs_model.specs.stored.Session.{InWorld}
 use Rattle.ecs_model.specs.stored.Session
@@ -102,4 +102,6 @@ form_opened (opening.Add rest) = fact_line (λ r i. nothing_more (Obey (InWorld 
 form_opened (opening.Remove rest) = fact_line (λ r i. nothing_more (Obey (InWorld (RemoveFrom r i)))) rest.now
 form_opened (opening.Entity rest) = one_word (λ n. Obey (InWorld (MakeEntity n))) (words rest.now)
 form_opened (opening.Rows rest) = one_word AskKept (words rest.now)
+form_opened (opening.Delete rest) = entity_line (λ r. Obey (InWorld (DeleteOne r))) rest.now
+form_opened opening.New = Obey (InWorld MakeFresh)
 form_opened (opening.Other text) = by_first_word text.now

@@ -3,7 +3,8 @@
 //! Reading takes time linear in the line. Names and texts are slices of the line, and only fields and values are allocated.
 #![tactic(auto)]
 
-ghost use Rattle.std.specs.Prelude.{◌≡◌, IfOk, IsTrue, MatchOption};
+ghost use Rattle.std.specs.Prelude.{◌≡◌, IfOk, IsTrue, MatchOption, nat_lt};
+ghost use Rattle.std.specs.List.{list_all};
 ghost use Rattle.std.specs.Str.{IsAscii, IsUtf8};
 ghost use Rattle.ecs_model.specs.Script.{form_of};
 ghost use Rattle.script_line.specs.Line.{form_opened, seen};
@@ -16,7 +17,7 @@ mod words;
 
 use ecs_model::Kind;
 use ecs_model::watches::StoredKind;
-pub use line_forms::{bare_fact, only_word, valued_fact};
+pub use line_forms::{bare_fact, only_entity, only_word, valued_fact};
 pub use references::{IdReference, Reference};
 use std::alloc::{AllocError, Allocator, Global};
 use std::str;
@@ -108,6 +109,10 @@ pub enum Opening<'a> {
     Entity { rest: &'a str },
     /// `rows ..`
     Rows { rest: &'a str },
+    /// `delete ..`
+    Delete { rest: &'a str },
+    /// `new`, and nothing behind it.
+    New,
     /// Any other line, from its start.
     Other { text: &'a str },
 }
@@ -150,13 +155,13 @@ fn text_of(bytes: &[u8]) -> Option<&str>
     str::from_utf8(bytes).ok()
 }
 
-/// Whether at least eight bytes are ASCII, which is asked of eight at a time, and then of the last eight. Of fewer it isn't told.
+/// Whether bytes are ASCII, which is asked of eight at a time, and then of the last eight; of fewer one by one.
 #[inline(always)]
 fn are_ascii(bytes: &[u8]) -> bool
     ensures { IsTrue result → IsAscii bytes.now }
 {
     let Some(last) = bytes.len().checked_sub(8) else {
-        return false;
+        return are_few_ascii(bytes);
     };
     let mut at = 0;
     'words: loop {
@@ -169,6 +174,14 @@ fn are_ascii(bytes: &[u8]) -> bool
         }
         at += 8;
     }
+}
+
+/// Whether each of a few bytes is ASCII.
+#[inline(always)]
+fn are_few_ascii(bytes: &[u8]) -> bool
+    ensures { result ≡ list_all (λ b. nat_lt b 128) bytes.now }
+{
+    bytes.iter().all(|byte| *byte < 128)
 }
 
 /// Reads a line whose first word was read.
@@ -191,6 +204,8 @@ pub fn read_opened<'a, A: Allocator + Copy>(
         Opening::Remove { rest } => Ok(line_forms::remove_line(rest)),
         Opening::Entity { rest } => Ok(line_forms::entity_line(rest)),
         Opening::Rows { rest } => Ok(line_forms::rows_line(rest)),
+        Opening::Delete { rest } => Ok(line_forms::delete_line(rest)),
+        Opening::New => Ok(Line::New),
         Opening::Other { text } => line_forms::read_form(alloc, text, values),
     }
 }

@@ -7,7 +7,7 @@ ghost use Rattle.ecs_model.specs.stored.Session.{Drop, InWorld};
 ghost use Rattle.script_line.specs.Line.{by_first_word, by_rarer_word, form_opened, seen, seen_field, seen_id, seen_reference};
 
 use crate::blanks::{blanks_at_front, next_word, trim_front, trimmed, word_and_rest, word_start};
-use crate::references::{id_and_rest, reference_and_rest, reference_of};
+use crate::references::{Reference, id_and_rest, reference_and_rest, reference_of};
 use crate::words::{event_of_word, field_of_word, value_and_rest};
 use crate::{Fact, Line, Opening};
 use ecs_model::Kind;
@@ -37,7 +37,7 @@ pub(crate) fn text_opened(text: &str) -> Opening<'_>
     }
 }
 
-/// Reads the first word of a line where that stands at its front, before a space, and is one that most lines begin with.
+/// Reads the first word of a line where that stands at its front, before a space, and is one that most lines begin with; and the line `new`.
 // A few bytes are compared at once then, and none is looked at twice.
 #[inline(always)]
 #[tactic(auto, unfolding(ecs_model::specs::Script::forms))]
@@ -55,7 +55,7 @@ fn opened_at_once(text: &str) -> Option<Opening<'_>>
     }
 }
 
-/// The same of the longer words.
+/// The same of the longer words, and of the line `new`.
 #[inline(always)]
 #[tactic(auto, unfolding(ecs_model::specs::Script::forms))]
 fn longer_opened_at_once(text: &str) -> Option<Opening<'_>>
@@ -72,6 +72,12 @@ fn longer_opened_at_once(text: &str) -> Option<Opening<'_>>
                 rest: behind(text, 6),
             })
         }
+        [b'd', b'e', b'l', b'e', b't', b'e', b' ', ..] => {
+            Some(Opening::Delete {
+                rest: behind(text, 6),
+            })
+        }
+        [b'n', b'e', b'w'] => Some(Opening::New),
         _ => None,
     }
 }
@@ -156,10 +162,10 @@ pub(crate) fn entity_line<'a, A: Allocator>(rest: &'a str) -> Line<'a, A>
 }
 
 /// Reads what stands behind `delete`: an entity.
-fn delete_line<'a, A: Allocator>(rest: &'a str) -> Line<'a, A>
+pub(crate) fn delete_line<'a, A: Allocator>(rest: &'a str) -> Line<'a, A>
     ensures { (values : List ℤ) → seen values result ≡ entity_line (λ r. Obey (InWorld (DeleteOne r))) rest.now }
 {
-    match only_word(rest).and_then(|word| reference_of(word)) {
+    match only_entity(rest) {
         Some(entity) => Line::Delete { entity },
         None => Line::Bad,
     }
@@ -169,7 +175,7 @@ fn delete_line<'a, A: Allocator>(rest: &'a str) -> Line<'a, A>
 fn show_line<'a, A: Allocator>(rest: &'a str) -> Line<'a, A>
     ensures { (values : List ℤ) → seen values result ≡ entity_line Show rest.now }
 {
-    match only_word(rest).and_then(|word| reference_of(word)) {
+    match only_entity(rest) {
         Some(entity) => Line::Show { entity },
         None => Line::Bad,
     }
@@ -229,6 +235,17 @@ pub fn only_word(text: &str) -> Option<&str>
     match next_word(text) {
         Some((word, behind)) if word_start(behind).is_none() => Some(word),
         _ => None,
+    }
+}
+
+/// The entity of a text of one word.
+#[inline(always)]
+pub fn only_entity(text: &str) -> Option<Reference<'_>>
+    ensures { (f : EntityRef → Form) → entity_line f text.now ≡ form_or_bad (λ r. f (seen_reference r)) result }
+{
+    match only_word(text) {
+        Some(word) => reference_of(word),
+        None => None,
     }
 }
 
