@@ -2,7 +2,7 @@
 ghost use Rattle.std.specs.Prelude.{◌≡◌, map, IfOk, None, Ok, OnOk};
 ghost use Rattle.ecs_model.specs.Text.{words};
 ghost use Rattle.ecs_model.specs.Orders.{EntityRef, IdRef, MakeFresh, MakeEntity, AddTo, SetIn, RemoveFrom, DeleteOne};
-ghost use Rattle.ecs_model.specs.Script.{Obey, Define, Show, Ask, AskKept, fact_line, nothing_more, one_word, set_line};
+ghost use Rattle.ecs_model.specs.Script.{Obey, Define, Show, Ask, AskKept, entity_line, fact_line, nothing_more, one_word, set_line};
 ghost use Rattle.ecs_model.specs.Output.{effect_of};
 ghost use Rattle.ecs_model.specs.stored.Session.{Drop, InWorld, Store};
 ghost use Rattle.ecs_observe.specs.Standing.{session_of};
@@ -23,8 +23,8 @@ use ecs_observe::{SendRowsError, Session, SessionError};
 use ecs_schema::{Schema, SchemaError};
 use query_model::faults::QueryFault;
 use script_line::{
-    IdReference, Line, Opening, Reference, bare_fact, line_opened, only_word, read_opened,
-    valued_fact,
+    IdReference, Line, Opening, Reference, bare_fact, line_opened, only_entity, only_word,
+    read_opened, valued_fact,
 };
 use script_streams::Sink;
 use std::alloc::{AllocError, Allocator};
@@ -79,6 +79,8 @@ fn run_opened<A: Allocator + Copy, W: Sink>(
         Opening::Remove { rest } => unsent(run_remove_line(session, number, rest, output)),
         Opening::Entity { rest } => unsent(run_entity_line(session, number, rest, output)),
         Opening::Rows { rest } => run_rows_line(session, number, rest, output, most, writer),
+        Opening::Delete { rest } => unsent(run_delete_line(session, number, rest, output)),
+        Opening::New => unsent(run_new(session, number, output)),
         _ => run_rarer(
             alloc, session, number, opening, values, output, most, writer,
         ),
@@ -191,6 +193,24 @@ fn run_entity_line<A: Allocator + Copy>(
     }
 }
 
+/// A line behind its `delete`.
+#[inline(never)]
+fn run_delete_line<A: Allocator + Copy>(
+    session: &mut Session<A>,
+    number: usize,
+    rest: &str,
+    output: &mut Vec<u8, A>,
+) -> Result<bool, AllocError>
+    requires none_wait { session.old.waiting ≡ None }
+    ensures { IfOk result (IsDone (effect_of (session_of session.old) number (entity_line (λ r. Obey (InWorld (DeleteOne r))) rest.now))
+        (session_of session.new) output.old.items output.new.items) }
+{
+    match only_entity(rest) {
+        Some(entity) => run_delete(session, number, entity, output),
+        None => refuse(number, "BadLine", output),
+    }
+}
+
 /// A line behind its `rows`.
 #[inline(never)]
 fn run_rows_line<A: Allocator + Copy, W: Sink>(
@@ -259,6 +279,7 @@ fn unsent(answer: Result<bool, AllocError>) -> Result<bool, SendError>
 }
 
 /// `new`
+#[inline(never)]
 fn run_new<A: Allocator + Copy>(
     session: &mut Session<A>,
     number: usize,

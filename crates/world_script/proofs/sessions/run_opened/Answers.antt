@@ -13,3 +13,9 @@ returns-in-Remove g c = rw c.in-Remove.is (does_as _ _ _ _ _ _ _ _ c.run_remove_
 
 pub returns-in-Entity : goal.returns-in-Entity
 returns-in-Entity g c = rw c.in-Entity.is (does_as _ _ _ _ _ _ _ _ c.run_entity_line.result _ c.unsent-in-Entity.ensures c.run_entity_line.ensures)
+
+pub returns-in-Delete : goal.returns-in-Delete
+returns-in-Delete g c = rw c.in-Delete.is (does_as _ _ _ _ _ _ _ _ c.run_delete_line.result _ c.unsent-in-Delete.ensures c.run_delete_line.ensures)
+
+pub returns-in-New : goal.returns-in-New
+returns-in-New g c = rw c.in-New.is (does_as _ _ _ _ _ _ _ _ c.run_new.result _ c.unsent-in-New.ensures c.run_new.ensures)
