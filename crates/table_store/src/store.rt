@@ -122,11 +122,30 @@ impl<A: Allocator + Copy> TableStore<A> {
         requires sizes { (j : ℕ) → IfSome (slice_get cells.now j) (λ c. HasSize self.old c.0 c.1) }
         ensures { IsPut self.old cells.now result self.new }
     {
+        if let Some(bare) = self.bare(cells) {
+            return Ok(bare);
+        }
         let mut ids = mem::replace(&mut self.ids, Vec::new(self.alloc));
         let put = self.put_by(&mut ids, cells);
         self.ids = ids;
         self.recent = slot_or(&put, self.recent);
         put
+    }
+
+    // The table of no ids, where these are none, and it was found or made last: so it mostly is where entities are made.
+    #[inline(always)]
+    fn bare(&self, cells: &[SizedId]) -> Option<TableKey>
+        requires { (j : ℕ) → IfSome (slice_get cells.now j) (λ c. HasSize self.now c.0 c.1) }
+        ensures { IfSome result (λ key. IsMade self.now cells.now key self.now × IsStored self.now) }
+    {
+        if 0 < cells.len() {
+            return None;
+        }
+        if has_ids(&self.tables, self.recent, &[]) {
+            Some(key_in(&self.tables, self.recent))
+        } else {
+            None
+        }
     }
 
     // `find_or_put`, with a list for the ids of the table: the table that has them, or a new one.

@@ -10,3 +10,6 @@ returns g c =
     let ended : store_of c.self-2.inside.tables c.self-2.inside.last ≡ c.put_by-put.new.self = c.self-2.view_is in
     subst (λ (s : Store). IsPut {E = Memory} s c.args.cells.now c.put_by-put.result (store_of c.self-2.inside.tables c.self-2.inside.last)) begun
     (subst (λ (n : Store). IsPut {E = Memory} (store_of c.self.inside.tables c.self.inside.last) c.args.cells.now c.put_by-put.result n) (sym ended) c.put_by-put.ensures)
+
+pub returns-in-Some : goal.returns-in-Some
+returns-in-Some g c = record { ok = c.in-Some.ensures.0; err = tt; whole = c.in-Some.ensures.1 }
