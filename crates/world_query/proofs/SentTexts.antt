@@ -1,6 +1,6 @@
 -- A text more behind what was sent and what is still to be.
-use Rattle.std.proofs.Common.{◌≡◌, ◌≤◌, ℕ, List, [], ◌∷◌, ◌++◌, length, take, drop, refl, sym, ap, ◌∙◌, subst, append_assoc, append-nil, arith}
-use Rattle.std.specs.Prelude.{Contains, Option, Some, Result, Ok, Err, IsErrAnd, OnErr, ⊤}
+use Rattle.std.proofs.Common.{◌≡◌, ◌≤◌, ℕ, List, [], ◌∷◌, ◌++◌, length, take, drop, refl, sym, ap, ◌∙◌, subst, append_assoc, arith}
+use Rattle.std.specs.Prelude.{Contains, Option, Some, Result, Ok, Err, IsErrAnd, OnErr}
 use Rattle.std.specs.Io.{StartsWith}
 use Rattle.std.specs.Io.KnownBytes.{Appends}
 use Rattle.std.proofs.KnownBytes.{Appends-nil, Appends-trans}
@@ -11,27 +11,28 @@ use Rattle.script_streams.specs.declared.streams.Calls.{Calls}
 use Rattle.script_streams.specs.Streams.{IsCalm, TakesFront}
 use Rattle.world_query.specs.declared.sending.SendError.{SendError}
 use Rattle.world_query.specs.declared.sending.SendError.TheVariants.{Memory, Write}
-use Rattle.world_query.specs.Sent.{FailsAtWrite, HoldsAtFault, HoldsOneLine, IsSent, StopsSending}
+use Rattle.world_query.specs.Sent.{FailsAtWrite, HoldsAtFault, HoldsOneLine, IsMemory, IsRefused, IsSent, StopsSending}
 
 -- nothing is sent
 pub sent_here : (c : Option (List ℕ)) (before after text : List ℕ) → after ≡ before ++ text → IsSent c c before after text
 sent_here c before after text is = record { sent = []; wrote = Appends-nil c; whole = is }
 
-pub stops_here : (c : Option (List ℕ)) (before after text : List ℕ) → StopsWithin before after text → StopsSending c c before after text
-stops_here c before after text stops = record { sent = []; part = []; unsent = after; wrote = Appends-nil c; held = refl; stops = stops }
+pub stops_here : {P : Type 0} (c : Option (List ℕ)) (before after text : List ℕ) → StopsWithin before after text → StopsSending P c c before after text
+stops_here c before after text stops = record { sent = []; part = []; unsent = after; wrote = Appends-nil c; held = refl; none = λ _. refl; stops = stops }
 
 -- all that is written is sent
 pub sent_off : (a b : Option (List ℕ)) (before after : List ℕ) → Appends a b before → after ≡ [] → IsSent a b before after []
 sent_off a b before after wrote none = record { sent = before; wrote = wrote; whole = ap (λ t. before ++ t) none }
 
 -- or a front of it
-pub stops_off : (a b : Option (List ℕ)) (before after text : List ℕ) → TakesFront a b before → after ≡ before → StopsSending a b before after text
-stops_off a b before after text front same = record {
+pub stops_off : {P : Type 0} (a b : Option (List ℕ)) (before after text : List ℕ) → (P → ⊥) → TakesFront a b before → after ≡ before → StopsSending P a b before after text
+stops_off a b before after text wrote front same = record {
   sent = [];
   part = take front.0 before;
   unsent = drop front.0 before;
   wrote = front.2;
   held = same ∙ sym (take-append-drop front.0 before);
+  none = λ refused. absurd (wrote refused);
   stops = stops_same before after text same;
 }
 
@@ -47,7 +48,7 @@ sent_then a b c x y z t u first second = record {
   whole = through first.sent second.sent x y z t u first.whole second.whole;
 }
 
-pub stops_then : (a b c : Option (List ℕ)) (x y z t u : List ℕ) → IsSent a b x y t → StopsSending b c y z u → StopsSending a c x z (t ++ u)
+pub stops_then : {P : Type 0} (a b c : Option (List ℕ)) (x y z t u : List ℕ) → IsSent a b x y t → StopsSending P b c y z u → StopsSending P a c x z (t ++ u)
 stops_then a b c x y z t u first second =
     let s = first.sent in
     let assoc : (s ++ second.sent) ++ second.part ≡ s ++ (second.sent ++ second.part) = append_assoc s second.sent second.part in
@@ -57,42 +58,45 @@ stops_then a b c x y z t u first second =
       unsent = second.unsent;
       wrote = subst (Appends a c) (sym assoc) (Appends-trans a b c s (second.sent ++ second.part) first.wrote second.wrote);
       held = second.held;
+      none = second.none;
       stops = subst (λ l. StopsWithin x l (t ++ u)) (sym (append_assoc s second.sent z))
           (stops_behind x t (s ++ y) (s ++ (second.sent ++ z)) u first.whole (stops_past s y (second.sent ++ z) u second.stops));
     }
 
 -- the same as the front of a text
-pub stops_within : (a b : Option (List ℕ)) (x y t more all : List ℕ) → all ≡ t ++ more → StopsSending a b x y t → StopsSending a b x y all
+pub stops_within : {P : Type 0} (a b : Option (List ℕ)) (x y t more all : List ℕ) → all ≡ t ++ more → StopsSending P a b x y t → StopsSending P a b x y all
 stops_within a b x y t more all is so = record {
   sent = so.sent;
   part = so.part;
   unsent = so.unsent;
   wrote = so.wrote;
   held = so.held;
+  none = so.none;
   stops = subst (StopsWithin x (so.sent ++ y)) (sym is) (stops_sooner x (so.sent ++ y) t more so.stops);
 }
 
 -- where a text is put down whose front was sent and kept
-pub stops_at : (a b : Option (List ℕ)) (x y z t more all : List ℕ) → all ≡ t ++ more → StopsWithin y z more → IsSent a b x y t → StopsSending a b x z all
-stops_at a b x y z t more all is stops sent = subst (StopsSending a b x z) (sym is) (stops_then a b b x y z t more sent (stops_here b y z more stops))
+pub stops_at : {P : Type 0} (a b : Option (List ℕ)) (x y z t more all : List ℕ) → all ≡ t ++ more → StopsWithin y z more → IsSent a b x y t → StopsSending P a b x z all
+stops_at {P} a b x y z t more all is stops sent = subst (StopsSending P a b x z) (sym is) (stops_then a b b x y z t more sent (stops_here b y z more stops))
 
 -- the same of lists that are the same
 pub sent_as : (a b : Option (List ℕ)) (x y t before after : List ℕ) → before ≡ x → after ≡ y → IsSent a b x y t → IsSent a b before after t
 sent_as a b x y t before after first last so =
     record { sent = so.sent; wrote = so.wrote; whole = ap (λ l. so.sent ++ l) last ∙ so.whole ∙ ap (λ l. l ++ t) (sym first) }
 
-pub stops_as : (a b : Option (List ℕ)) (x y t before after : List ℕ) → before ≡ x → after ≡ y → StopsSending a b x y t → StopsSending a b before after t
+pub stops_as : {P : Type 0} (a b : Option (List ℕ)) (x y t before after : List ℕ) → before ≡ x → after ≡ y → StopsSending P a b x y t → StopsSending P a b before after t
 stops_as a b x y t before after first last so = record {
   sent = so.sent;
   part = so.part;
   unsent = so.unsent;
   wrote = so.wrote;
   held = last ∙ so.held;
+  none = so.none;
   stops = subst (λ l. StopsWithin l (so.sent ++ after) t) (sym first) (subst (λ l. StopsWithin x (so.sent ++ l) t) (sym last) so.stops);
 }
 
 -- what the writer has taken is a front of all
-pub taken_front : (a b : Option (List ℕ)) (before after text : List ℕ) (so : StopsSending a b before after text) → before ++ text ≡ (so.sent ++ so.part) ++ (so.unsent ++ so.stops.rest)
+pub taken_front : {P : Type 0} (a b : Option (List ℕ)) (before after text : List ℕ) (so : StopsSending P a b before after text) → before ++ text ≡ (so.sent ++ so.part) ++ (so.unsent ++ so.stops.rest)
 taken_front a b before after text so =
     ap (λ l. before ++ l) so.stops.front ∙ sym (append_assoc before so.stops.more so.stops.rest) ∙ ap (λ l. l ++ so.stops.rest) (sym so.stops.holds)
     ∙ ap (λ l. (so.sent ++ l) ++ so.stops.rest) so.held ∙ ap (λ l. l ++ so.stops.rest) (sym (append_assoc so.sent so.part so.unsent))
@@ -106,10 +110,10 @@ none_sent (x ∷ s) part none = absurd (omega (arith, ap length none))
 pub sent_nowhere : (before after text : List ℕ) → IsSent (Some []) (Some []) before after text → after ≡ before ++ text
 sent_nowhere before after text so = ap (λ s. s ++ after) so.wrote ∙ so.whole
 
-pub stops_unsent : (before after text : List ℕ) → StopsSending (Some []) (Some []) before after text → StopsWithin before after text
+pub stops_unsent : {P : Type 0} (before after text : List ℕ) → StopsSending P (Some []) (Some []) before after text → StopsWithin before after text
 stops_unsent before after text so = subst (λ s. StopsWithin before (s ++ after) text) (none_sent so.sent so.part so.wrote) so.stops
 
-pub stops_nowhere : (before after text : List ℕ) → StopsSending (Some []) (Some []) before after text → StartsWith after before
+pub stops_nowhere : {P : Type 0} (before after text : List ℕ) → StopsSending P (Some []) (Some []) before after text → StartsWith after before
 stops_nowhere before after text so = stops_front before after text (stops_unsent before after text so)
 
 -- calls stay calm where no fault is answered
@@ -135,10 +139,6 @@ pub fails_after : {T : Type 0} (old mid new : Calls) (r : Result T SendError) �
 fails_after old mid new r before told = λ calm. told (before calm)
 
 -- and where nothing was written, or all of it
-abbrev IsMemory : SendError → Type 0
-IsMemory Memory = ⊤
-IsMemory Write = ⊥
-
 pub calm_memory : {T : Type 0} (old new : Calls) (r : Result T SendError) → (IsCalm old → IsCalm new) → IsErrAnd r (λ x. x ≡ Memory) → FailsAtWrite old r new
 calm_memory old new (Ok x) calm is = absurd is
 calm_memory old new (Err d) calm is = λ was. (
@@ -151,6 +151,20 @@ calm_ok old new x calm = λ was. (
   λ write. let P : Result _ SendError → Type 0 = λ r. OnErr r ⊥ in absurd (subst P write tt),
   λ _. calm was,
 )
+
+-- what was told of a write that failed isn't that memory was refused
+pub no_memory : {T : Type 0} (r : Result T SendError) → IsErrAnd r (λ x. x ≡ Write) → IsRefused r → ⊥
+no_memory (Ok x) is told = absurd is
+no_memory (Err d) is told = subst IsMemory is told
+
+-- an error that is passed on is the one that was told
+pub passed_on : {U : Type 0} (e : SendError) (r : Result U SendError) → IsErrAnd r (λ x. x ≡ e) → IsRefused r → IsMemory e
+passed_on e (Ok x) is told = absurd is
+passed_on e (Err d) is told = subst IsMemory is told
+
+-- so where it stopped is told by it
+pub stops_by : {P Q : Type 0} (a b : Option (List ℕ)) (x y t : List ℕ) → (Q → P) → StopsSending P a b x y t → StopsSending Q a b x y t
+stops_by a b x y t passed so = record { sent = so.sent; part = so.part; unsent = so.unsent; wrote = so.wrote; held = so.held; none = λ told. so.none (passed told); stops = so.stops }
 
 -- ---- what a list holds where a write failed
 

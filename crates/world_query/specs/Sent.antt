@@ -1,5 +1,5 @@
 -- What has become of a text where a writer takes what stands in a list before it is whole.
-use Rattle.std.specs.Prelude.{◌≡◌, ◌≤◌, ⊤, ℕ, List, ◌++◌, length, Contains, Option, Result, Ok, Err}
+use Rattle.std.specs.Prelude.{◌≡◌, ◌≤◌, ⊤, ℕ, List, [], ◌++◌, length, Contains, Option, Result, Ok, Err, IsErrAnd}
 use Rattle.std.specs.Io.KnownBytes.{Appends}
 use Rattle.ecs_print.specs.Stops.{StopsWithin}
 use Rattle.script_streams.specs.declared.streams.Calls.{Calls}
@@ -13,13 +13,22 @@ pub record IsSent (old new : Option (List ℕ)) (before after text : List ℕ) :
   pub wrote : Appends old new sent
   pub whole : sent ++ after ≡ before ++ text
 
--- a front of the text was put behind what the list held. The writer has taken some of that, which has left the list, and in a write that failed a part more, with which the list begins
-pub record StopsSending (old new : Option (List ℕ)) (before after text : List ℕ) : Type 0 where
+-- memory was refused, and no write failed
+abbrev pub IsMemory : SendError → Type 0
+IsMemory Memory = ⊤
+IsMemory Write = ⊥
+
+abbrev pub IsRefused : {T : Type 0} → Result T SendError → Type 0
+IsRefused r = IsErrAnd r IsMemory
+
+-- a front of the text was put behind what the list held. The writer has taken some of that, which has left the list, and in a write that failed a part more, with which the list begins: none where memory was refused
+pub record StopsSending (refused : Type 0) (old new : Option (List ℕ)) (before after text : List ℕ) : Type 0 where
   pub sent : List ℕ
   pub part : List ℕ
   pub unsent : List ℕ
   pub wrote : Appends old new (sent ++ part)
   pub held : after ≡ part ++ unsent
+  pub none : refused → part ≡ []
   pub stops : StopsWithin before (sent ++ after) text
 
 -- where the calls of a writer were calm, they are faulty after a fault of a write, and calm after any other answer

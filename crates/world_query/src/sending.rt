@@ -2,7 +2,7 @@
 
 ghost use Rattle.std.specs.Prelude.{◌≡◌, ◌≤◌, ℕ, List, [], OnErr, OnOk, length};
 ghost use Rattle.world_query.specs.Lines.{written};
-ghost use Rattle.world_query.specs.Sent.{FailsAtWrite, IsSent, StopsSending, most_usize};
+ghost use Rattle.world_query.specs.Sent.{FailsAtWrite, IsRefused, IsSent, StopsSending, most_usize};
 
 use script_streams::{Fault, Sink, Stop, write_all};
 use std::alloc::{AllocError, Allocator};
@@ -67,7 +67,7 @@ pub fn send_list<A: Allocator, W: Sink>(
 ) -> Result<(), SendError>
     ensures sent { OnOk result (IsSent (W.contents writer.old) (W.contents writer.new) out.old.items out.new.items []) }
     ensures unsent { OnOk result (length out.new.items ≤ most) }
-    ensures front { (text : List ℕ) → OnErr result (StopsSending (W.contents writer.old) (W.contents writer.new) out.old.items out.new.items text) }
+    ensures front { (text : List ℕ) → OnErr result (StopsSending (IsRefused result) (W.contents writer.old) (W.contents writer.new) out.old.items out.new.items text) }
     ensures same { OnErr result (out.new.items ≡ out.old.items) }
     ensures writes { FailsAtWrite (W.calls writer.old) result (W.calls writer.new) }
     ensures kept { most ≡ most_usize → writer.new ≡ writer.old }
@@ -90,7 +90,7 @@ pub(crate) fn send_beyond<A: Allocator, W: Sink>(
 ) -> Result<(), SendError>
     ensures sent { OnOk result (IsSent (W.contents writer.old) (W.contents writer.new) (written sheet.now end.old) (written sheet.now end.new) []) }
     ensures unsent { OnOk result (length (written sheet.now end.new) ≤ most) }
-    ensures front { (text : List ℕ) → OnErr result (StopsSending (W.contents writer.old) (W.contents writer.new) (written sheet.now end.old) (written sheet.now end.new) text) }
+    ensures front { (text : List ℕ) → OnErr result (StopsSending (IsRefused result) (W.contents writer.old) (W.contents writer.new) (written sheet.now end.old) (written sheet.now end.new) text) }
     ensures same { OnErr result (end.new ≡ end.old) }
     ensures writes { FailsAtWrite (W.calls writer.old) result (W.calls writer.new) }
     ensures kept { most ≡ most_usize → writer.new ≡ writer.old }
@@ -110,7 +110,7 @@ fn send<A: Allocator, W: Sink>(
 ) -> Result<(), SendError>
     ensures sent { OnOk result (IsSent (W.contents writer.old) (W.contents writer.new) (written sheet.now end.old) (written sheet.now end.new) []) }
     ensures none { OnOk result (end.new ≡ 0) }
-    ensures front { (text : List ℕ) → OnErr result (StopsSending (W.contents writer.old) (W.contents writer.new) (written sheet.now end.old) (written sheet.now end.new) text) }
+    ensures front { (text : List ℕ) → OnErr result (StopsSending (IsRefused result) (W.contents writer.old) (W.contents writer.new) (written sheet.now end.old) (written sheet.now end.new) text) }
     ensures same { OnErr result (end.new ≡ end.old) }
     ensures writes { FailsAtWrite (W.calls writer.old) result (W.calls writer.new) }
 {
