@@ -1,5 +1,5 @@
 -- The counts of a list as a map: what stands at each index, and that the indexes rise.
-use Rattle.std.proofs.Common.{◌≡◌, ◌≢◌, ◌⊎◌, ℕ, zero, suc, ◌+◌, ◌<◌, ◌≤◌, ◌==◌, Bool, true, false, cond, not, ◌&&◌, List, [], ◌∷◌, filter, length, nat_lt, get_or, set, Option, Some, None, unwrap_or, refl, sym, ap, ◌∙◌, inl, inr, arith}
+use Rattle.std.proofs.Common.{◌≡◌, ◌≢◌, ◌⊎◌, ℕ, zero, suc, ◌+◌, ◌<◌, ◌≤◌, ◌==◌, Bool, true, false, cond, not, ◌&&◌, List, [], ◌∷◌, ◌++◌, filter, length, nat_lt, get_or, set, Option, Some, None, unwrap_or, refl, sym, ap, ◌∙◌, inl, inr, arith}
 use Rattle.std.proofs.lemmas.Bool.{cases_eq, cases_lt, ne_eqb}
 use Rattle.std.proofs.lemmas.Bool.Decides.{nat_tests, Decides-eqb}
 use Rattle.std.proofs.lemmas.Grind.{get_or-set_at}
@@ -93,6 +93,12 @@ same_grown old new m n before after same more wider = same_counts old new (λ k.
     by k (inl low) (inr past) = absurd (omega (arith, low, past, wider))
     by k (inr beyond) (inl within) = more k 0 beyond within ∙ sym (get_or_past old k 0 (omega (arith, before, beyond)))
     by k (inr beyond) (inr past) = get_or_past new k 0 (omega (arith, after, past)) ∙ sym (get_or_past old k 0 (omega (arith, before, beyond)))
+
+-- a list behind which a count of 0 comes
+pub same_behind : (a : ℕ) (counts : List ℕ) → counts_from a (counts ++ 0 ∷ []) ≡ counts_from a counts
+same_behind a [] = refl
+same_behind a (zero ∷ counts) = same_behind (a + 1) counts
+same_behind a (suc n ∷ counts) = counts_more a n (counts ++ 0 ∷ []) ∙ ap (λ m. (a, suc n) ∷ m) (same_behind (a + 1) counts) ∙ sym (counts_more a n counts)
 
 pub IsMap-with_count : (m : Map ℕ ℕ) (i n : ℕ) → IsMap nat_cmp m → IsMap nat_cmp (with_count m i n)
 IsMap-with_count m i zero h = nat_IsMap-without m (λ j. j == i) h

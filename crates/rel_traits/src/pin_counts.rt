@@ -41,11 +41,17 @@ impl<A: Allocator> PinCounts<A> {
         ensures covers { OnOk result (index < self.new.reach) }
         ensures err { OnErr result (self.new ≡ self.old) }
     {
-        let reach = index as usize + 1;
-        if reach <= self.counts.len() {
+        let place = index as usize;
+        let reach = self.counts.len();
+        if place < reach {
             return Ok(());
         }
-        self.counts.resize(reach, 0)?;
+        if place == reach {
+            // So it is for each entity that is made.
+            self.counts.push(0)?;
+            return Ok(());
+        }
+        self.counts.resize(place + 1, 0)?;
         Ok(())
     }
 
