@@ -1,5 +1,5 @@
 -- The kept query of a name, as a session holds it.
-use Rattle.std.specs.Prelude.{◌≡◌, ◌≢◌, ℕ, All, Bool, true, false, cond, List, [], ◌∷◌, length, map, max, bytes_eq, Option, None, Some, Result, Ok, Err}
+use Rattle.std.specs.Prelude.{◌≡◌, ◌≢◌, ⊤, ℕ, All, Bool, true, false, cond, List, [], ◌∷◌, length, map, max, bytes_eq, Option, None, Some, Result, Ok, Err}
 use Rattle.std.specs.List.{find}
 use Rattle.std.specs.Option.{option_map_or}
 use Rattle.std.specs.Map.{lookup}
@@ -94,10 +94,10 @@ module _ {A : Type 0} (self : Standing) (w : world.Standing) (es : List (String 
     sends_answered most (Ok x) o p before after done = ((s.plan).query, kept_found done.0, subst (λ v. IsSent o p before after (rows_text v (s.plan).query)) seen_world done.1)
     sends_answered most (Err (rows.Refused reason)) o p before after refused = (other_kind refused.0 ∙ ap Err (sym refused.1), refused.2, refused.3)
     sends_answered most (Err (rows.Unsent send.Memory)) o p before after stopped =
-        ((s.plan).query, kept_found stopped.0, subst (λ v. StopsSending o p before after (rows_text v (s.plan).query)) seen_world stopped.1)
+        ((s.plan).query, kept_found stopped.0, subst (λ v. StopsSending ⊤ o p before after (rows_text v (s.plan).query)) seen_world stopped.1)
     sends_answered most (Err (rows.Unsent send.Write)) o p before after stopped = (
       (s.plan).query,
       kept_found stopped.0,
-      subst (λ v. StopsSending o p before after (rows_text v (s.plan).query)) seen_world stopped.1,
+      subst (λ v. StopsSending ⊥ o p before after (rows_text v (s.plan).query)) seen_world stopped.1,
       subst (λ v. HoldsOneLine (max most (length before)) (lines_of_rows v (s.plan).query) after) seen_world stopped.2,
     )

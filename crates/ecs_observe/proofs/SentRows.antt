@@ -8,7 +8,7 @@ use Rattle.ecs_model.specs.rows.Text.{rows_text}
 use Rattle.ecs_model.specs.stored.Session.{SessionState}
 use Rattle.script_streams.specs.declared.streams.Calls.{Calls}
 use Rattle.world_query.specs.Lines.{lines_of_rows}
-use Rattle.world_query.specs.Sent.{FailsAtWrite, HoldsAtFault, StopsSending}
+use Rattle.world_query.specs.Sent.{FailsAtWrite, HoldsAtFault, IsMemory, StopsSending}
 use Rattle.world_query.specs.declared.sending.SendError.{SendError}
 use Rattle.world_query.specs.declared.sending.SendError.TheVariants as send
 use Rattle.world_query.proofs.SentTexts.{calm_still, stops_unsent}
@@ -24,10 +24,6 @@ abbrev IsWrite : SendRowsError → Type 0
 IsWrite (rows.Refused reason) = ⊥
 IsWrite (rows.Unsent send.Memory) = ⊥
 IsWrite (rows.Unsent send.Write) = ⊤
-
-abbrev IsMemory : SendError → Type 0
-IsMemory send.Memory = ⊤
-IsMemory send.Write = ⊥
 
 -- the answer of a call whose write did not fail
 other : {T : Type 0} (r : Result T SendRowsError) → ¬ IsErrAnd r IsWrite → ¬ (r ≡ Err (rows.Unsent send.Write))
@@ -61,13 +57,13 @@ fails_unsent {T} {U} e old new given (Err x) was passed told = let P : SendRowsE
 -- ---- the rows
 
 module _ {A : Type 0} (most : ℕ) where
-  stopped : (T U : Type 0) (e : SendError) (q : StoredQuery A) (w : WorldState) (o p : Option (List ℕ)) (before after : List ℕ) → q.kind ≡ Kept → StopsSending o p before after (rows_text w (q.plan).query)
+  stopped : (T U : Type 0) (e : SendError) (q : StoredQuery A) (w : WorldState) (o p : Option (List ℕ)) (before after : List ℕ) → q.kind ≡ Kept → StopsSending (IsMemory e) o p before after (rows_text w (q.plan).query)
       → HoldsAtFault {T = T} (max most (length before)) (lines_of_rows w (q.plan).query) (Err e) after → SendsRows {A = A} {T = U} most (Err (rows.Unsent e)) q w o p before after
   stopped T U send.Memory q w o p before after kind stops holds = (kind, stops)
   stopped T U send.Write q w o p before after kind stops holds = (kind, stops, holds)
 
   pub sends_stopped : {T U : Type 0} (e : SendError) (given : Result T SendError) (r : Result U SendRowsError) (q : StoredQuery A) (w : WorldState) (o p : Option (List ℕ)) (before after : List ℕ) → given ≡ Err e
-      → IsErrAnd r (λ x. x ≡ rows.Unsent e) → q.kind ≡ Kept → StopsSending o p before after (rows_text w (q.plan).query)
+      → IsErrAnd r (λ x. x ≡ rows.Unsent e) → q.kind ≡ Kept → StopsSending (IsMemory e) o p before after (rows_text w (q.plan).query)
       → HoldsAtFault (max most (length before)) (lines_of_rows w (q.plan).query) given after → SendsRows most r q w o p before after
   sends_stopped {T} {U} e given (Ok x) q w o p before after was passed kind stops holds = absurd passed
   sends_stopped {T} {U} e given (Err x) q w o p before after was passed kind stops holds =

@@ -68,11 +68,11 @@ abbrev pub FindsOne : SessionState → orders.EntityRef → Result EntityId Sess
 FindsOne s r (Ok e) = obeyed s (world.Delete e) ≡ apply s (InWorld (DeleteOne r))
 FindsOne s r (Err reason) = apply s (InWorld (DeleteOne r)) ≡ Err reason
 
--- what becomes of the lists of kept queries
+-- what becomes of the lists of kept queries, and of the tables where a query is stored or dropped: they stay
 abbrev pub ListsApply : {T E : Type 0} → SessionOrder → Result T E → Standing → Standing → Type 0
 ListsApply (InWorld order) r old new = new.stored ≡ old.stored
-ListsApply (session.Store kind n text) r old new = ListsOneMore r n old new
-ListsApply (session.Drop n) r old new = ListsOneLess r n old new
+ListsApply (session.Store kind n text) r old new = ListsOneMore r n old new × ((new.world).tables ≡ (old.world).tables)
+ListsApply (session.Drop n) r old new = ListsOneLess r n old new × ((new.world).tables ≡ (old.world).tables)
 
 -- how often whole rows were taken
 abbrev pub CountsApply : {T E : Type 0} → SessionOrder → Result T E → Standing → Standing → Type 0

@@ -83,7 +83,7 @@ does_memory contents calls writer most e s before after (Err error) is = record 
 }
 
 -- a front of the rows is sent
-pub takes_stopped : (a b : Option (List ℕ)) (before after text : List ℕ) → StopsSending a b before after text → TakesFront a b (before ++ text)
+pub takes_stopped : {P : Type 0} (a b : Option (List ℕ)) (before after text : List ℕ) → StopsSending P a b before after text → TakesFront a b (before ++ text)
 takes_stopped a b before after text so =
     let taken = so.sent ++ so.part in
     let rest = so.unsent ++ so.stops.rest in
@@ -100,15 +100,15 @@ does_err error e s old new before after (Ok x) is front = absurd is
 does_err error e s old new before after (Err x) is front = front
 
 -- so the rows of a query that a text asks are sent
-pub asked_stops : (s : Standing) (n : ℕ) (a b : Option (List ℕ)) (before after : List ℕ) (w : World) (text : List ℕ) (q : Query) → w ≡ s.world → query_of w.state text ≡ Ok q
-    → StopsSending a b before after (rows_text w.state q) → TakesFront a b (before ++ (effect_of (session_of s) n (Ask text)).printed)
+pub asked_stops : {P : Type 0} (s : Standing) (n : ℕ) (a b : Option (List ℕ)) (before after : List ℕ) (w : World) (text : List ℕ) (q : Query) → w ≡ s.world → query_of w.state text ≡ Ok q
+    → StopsSending P a b before after (rows_text w.state q) → TakesFront a b (before ++ (effect_of (session_of s) n (Ask text)).printed)
 asked_stops s n a b before after w text q same asked stops =
     let done = IsDone-rows s n before (before ++ rows_text w.state q) w text q same asked refl in
     subst (TakesFront a b) done.printed (takes_stopped a b before after (rows_text w.state q) stops)
 
 -- and those of a kept query
-pub kept_stops : (s : Standing) (n : ℕ) (a b : Option (List ℕ)) (before after name : List ℕ) (q : Query) → kept_query (session_of s) name ≡ Ok q
-    → StopsSending a b before after (rows_text (session_of s).world q) → TakesFront a b (before ++ (effect_of (session_of s) n (AskKept name)).printed)
+pub kept_stops : {P : Type 0} (s : Standing) (n : ℕ) (a b : Option (List ℕ)) (before after name : List ℕ) (q : Query) → kept_query (session_of s) name ≡ Ok q
+    → StopsSending P a b before after (rows_text (session_of s).world q) → TakesFront a b (before ++ (effect_of (session_of s) n (AskKept name)).printed)
 kept_stops s n a b before after name q asked stops =
     let done = IsDone-kept s n before (before ++ rows_text (session_of s).world q) name q asked refl in
     subst (TakesFront a b) done.printed (takes_stopped a b before after (rows_text (session_of s).world q) stops)

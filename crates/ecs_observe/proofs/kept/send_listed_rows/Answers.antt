@@ -12,7 +12,7 @@ use Rattle.world_query.specs.Answerable.{IsAnswerable}
 use Rattle.world_query.specs.Lines.{lines_of_rows}
 use Rattle.world_query.specs.Probes.{StaysInTables}
 use Rattle.world_query.specs.Sent.{HoldsAtFault, StopsSending}
-use Rattle.world_query.proofs.SentTexts.{calm_ok, calm_still, fails_same, fault_memory, fault_same, stops_here}
+use Rattle.world_query.proofs.SentTexts.{calm_ok, calm_still, fails_same, fault_memory, fault_same, passed_on, stops_by, stops_here}
 use Rattle.watch_stored.proofs.AnswerableQueries.{asked_is_sound, current_answerable}
 use Rattle.ecs_observe.specs.Following.{IsUpToDate}
 use Rattle.ecs_observe.proofs.TableSyncs.{follows_again}
@@ -105,7 +105,7 @@ returns-in_err-send_rows_from-clause-follows g c =
 pub returns-in_err-send_planned_rows-clause-front : goal.returns-in_err-send_planned_rows-clause-front
 returns-in_err-send_planned_rows-clause-front g c =
     let same = ap (λ (p : Plan). p.query) c.plan.ensures ∙ c.plan_if_outgrown.ensures.query in
-    on_err_anyway _ (subst (StopsSending _ _ _ _) (ap (rows_text c.args.world.now.state) same) c.in_err-send_planned_rows.ensures.front)
+    on_err_anyway _ (stops_by _ _ _ _ _ (passed_on _ _ c.from_residual-in_err-send_planned_rows.ensures.1) (subst (StopsSending _ _ _ _ _) (ap (rows_text c.args.world.now.state) same) c.in_err-send_planned_rows.ensures.front))
 
 pub returns-in_err-send_planned_rows-clause-held : goal.returns-in_err-send_planned_rows-clause-held
 returns-in_err-send_planned_rows-clause-held g c =
@@ -121,7 +121,7 @@ returns-in_err-send_planned_rows-clause-writes g c =
 pub returns-in_err-send_rows_from-clause-front : goal.returns-in_err-send_rows_from-clause-front
 returns-in_err-send_rows_from-clause-front g c =
     let same = ap (λ (p : Plan). p.query) c.plan-2.ensures ∙ c.plan_if_outgrown.ensures.query in
-    on_err_anyway _ (subst (StopsSending _ _ _ _) (ap (rows_text c.args.world.now.state) same) c.in_err-send_rows_from.ensures.front)
+    on_err_anyway _ (stops_by _ _ _ _ _ (passed_on _ _ c.from_residual-in_err-send_rows_from.ensures.1) (subst (StopsSending _ _ _ _ _) (ap (rows_text c.args.world.now.state) same) c.in_err-send_rows_from.ensures.front))
 
 pub returns-in_err-send_rows_from-clause-held : goal.returns-in_err-send_rows_from-clause-held
 returns-in_err-send_rows_from-clause-held g c =

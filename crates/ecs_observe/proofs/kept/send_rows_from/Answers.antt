@@ -1,5 +1,5 @@
 -- A query that nobody answers prints its count alone.
-use Rattle.std.proofs.Common.{[], ◌≤◌, append-nil, arith, length, refl, subst, sym, ◌∙◌}
+use Rattle.std.proofs.Common.{[], ◌≤◌, append-nil, arith, length, refl, rules, subst, sym, ◌∙◌}
 use Rattle.std.specs.Prelude.{codes, max}
 use Rattle.ecs_model.specs.rows.Text.{rows_text}
 use Rattle.ecs_model.specs.rows.View.{view_of}
@@ -7,7 +7,7 @@ use Rattle.query_answers.proofs.ShownRows.{none_in_order}
 use Rattle.ecs_print.proofs.Stops.{on_err_anyway, stops_before, stops_same}
 use Rattle.world_query.specs.Sent.{IsSent, StopsSending}
 use Rattle.world_query.proofs.RowLines.{none_among}
-use Rattle.world_query.proofs.SentTexts.{calm_ok, calm_still, fails_same, fault_anyway, fault_memory, sent_here, sent_then, stops_here, stops_then}
+use Rattle.world_query.proofs.SentTexts.{calm_ok, calm_still, fails_same, fault_anyway, fault_memory, passed_on, sent_here, sent_then, stops_by, stops_here, stops_then}
 use Rattle.ecs_observe.proofs.NoRows.{no_lines}
 use Rattle.ecs_observe.proofs.kept.send_rows_from.Goals as goal
 
@@ -29,7 +29,8 @@ pub returns-in_err-send_list-clause-front : goal.returns-in_err-send_list-clause
 returns-in_err-send_list-clause-front g c =
     let text = rows_text c.args.world.now.state (c.args.plan.now).query in
     let is = no_lines c.args.world.now.state (c.args.plan.now).query (c.has_nobody.ensures.none c.if-has_nobody.true) c.args.out.now.items c.extend_from_slice.new.self.items c.in_ok-extend_from_slice.ensures.items in
-    on_err_anyway _ (subst (StopsSending _ _ _ _) (append-nil text) (stops_then _ _ _ _ _ _ text [] (sent_here _ _ _ _ is) (c.in_err-send_list.ensures.front [])))
+    on_err_anyway _ (stops_by _ _ _ _ _ (passed_on _ _ c.from_residual-in_err-send_list.ensures.1)
+    (subst (StopsSending _ _ _ _ _) (append-nil text) (stops_then _ _ _ _ _ _ text [] (sent_here _ _ _ _ is) (c.in_err-send_list.ensures.front []))))
 
 pub returns-in_err-send_list-clause-held : goal.returns-in_err-send_list-clause-held
 returns-in_err-send_list-clause-held g c =
@@ -61,4 +62,4 @@ returns-then-has_nobody-clause-writes g c = calm_ok _ _ _ (calm_still _ _ _ c.in
 
 -- no probe was made where nobody stands there
 pub returns-then-has_nobody-clause-probes : goal.returns-then-has_nobody-clause-probes
-returns-then-has_nobody-clause-probes g c = record { shown = c.new-facts.result; world = c.new-facts.ensures; within = omega arith }
+returns-then-has_nobody-clause-probes g c = record { shown = c.new-facts.result; world = c.new-facts.ensures; links = search rules; lists = c.keeps_lists.ensures; within = omega arith }
