@@ -1,5 +1,5 @@
 //! Numbers in decimal.
-ghost use Rattle.std.specs.Prelude.{◌≡◌, ◌+◌, ◌^◌, ◌<◌, ◌≤◌, ◌++◌, OnOk, decimal, drop, length, unsigned_abs};
+ghost use Rattle.std.specs.Prelude.{◌≡◌, ◌+◌, ◌^◌, ◌<◌, ◌≤◌, ◌∷◌, ◌++◌, OnOk, decimal, drop, length, unsigned_abs};
 ghost use Rattle.std.specs.Fmt.{signed_decimal};
 ghost use Rattle.ecs_print.specs.Values.{behind_comma};
 
@@ -12,6 +12,30 @@ pub fn write_number<A: Allocator>(number: usize, out: &mut Vec<u8, A>) -> Result
 {
     let mut buffer = Buffer::new();
     out.extend_from_slice(buffer.format(number).as_bytes())
+}
+
+/// Writes a byte and a whole number right before `end`, and answers where they start.
+pub(crate) fn write_marked(mark: u8, number: u64, text: &mut [u8], end: usize) -> usize
+    requires room { 21 ≤ end }
+    requires within { end ≤ length text.old }
+    ensures room { end ≤ result + 21 }
+    ensures some { result < end }
+    ensures written { drop result text.new ≡ mark ∷ (decimal number ++ drop end text.old) }
+{
+    let start = write_whole(number, text, end) - 1;
+    text[start] = mark;
+    start
+}
+
+/// Writes a whole number right before `end`, and answers where it starts.
+fn write_whole(number: u64, text: &mut [u8], end: usize) -> usize
+    requires room { 21 ≤ end }
+    requires within { end ≤ length text.old }
+    ensures room { end ≤ result + 20 }
+    ensures within { result ≤ end }
+    ensures written { drop result text.new ≡ decimal number ++ drop end text.old }
+{
+    write_digits(number, text, end)
 }
 
 /// Writes a comma and a number of a value right before `end`, and answers where they start.

@@ -1,20 +1,45 @@
 //! Entities and ids, by name or by handle.
-ghost use Rattle.std.specs.Prelude.{◌≡◌, ◌++◌, OnOk};
+ghost use Rattle.std.specs.Prelude.{◌≡◌, ◌≤◌, ◌++◌, OnOk, codes, drop, length};
 ghost use Rattle.ecs_model.specs.Print.{entity_text, handle_text, id_text, index_text};
 
-use crate::digits::write_number;
+use crate::digits::write_marked;
 use ecs_id::{EntityId, Id};
 use ecs_world::World;
 use std::alloc::{AllocError, Allocator};
+
+/// A handle takes at most so many bytes: two numbers of up to twenty digits, each with a mark before it.
+const MOST_HANDLE: usize = 42;
 
 /// Writes the handle of an entity: `#index.generation`.
 pub fn write_handle<A: Allocator>(entity: EntityId, out: &mut Vec<u8, A>) -> Result<(), AllocError>
     ensures { OnOk result (out.new.items ≡ out.old.items ++ handle_text entity) }
 {
-    out.extend_from_slice(b"#")?;
-    write_number(entity.index as usize, out)?;
-    out.extend_from_slice(b".")?;
-    write_number(usize::from(entity.generation), out)
+    let mut text = [0; MOST_HANDLE];
+    let start = put_handle(entity, &mut text, MOST_HANDLE);
+    out.extend_from_slice(&text[start..])
+}
+
+/// Writes the handle of an entity, and a line feed.
+pub fn write_handle_line<A: Allocator>(
+    entity: EntityId,
+    out: &mut Vec<u8, A>,
+) -> Result<(), AllocError>
+    ensures { OnOk result (out.new.items ≡ out.old.items ++ handle_text entity ++ codes "\n") }
+{
+    let mut text = [b'\n'; MOST_HANDLE + 1];
+    let start = put_handle(entity, &mut text, MOST_HANDLE);
+    out.extend_from_slice(&text[start..])
+}
+
+/// Writes the handle of an entity right before `end`, and answers where it starts.
+fn put_handle(entity: EntityId, text: &mut [u8], end: usize) -> usize
+    requires room { 42 ≤ end }
+    requires within { end ≤ length text.old }
+    ensures within { result ≤ end }
+    ensures written { drop result text.new ≡ handle_text entity ++ drop end text.old }
+{
+    let middle = write_marked(b'.', u64::from(entity.generation), text, end);
+    write_marked(b'#', u64::from(entity.index), text, middle)
 }
 
 /// Writes an entity: its name, or its handle where it has none.

@@ -8,5 +8,5 @@ mod entities;
 mod facts;
 
 pub use digits::write_number;
-pub use entities::{write_entity, write_handle, write_id, write_index};
+pub use entities::{write_entity, write_handle, write_handle_line, write_id, write_index};
 pub use facts::{MOST_TEXT, put_fields, write_fact, write_facts, write_value};
