@@ -1,12 +1,12 @@
 //! What an accepted command has changed.
 
-ghost use Rattle.std.specs.Prelude.{◌≡◌, [], ◌∷◌, option_map, IfOk};
+ghost use Rattle.std.specs.Prelude.{◌≡◌, [], ◌∷◌, IfOk};
 ghost use Rattle.std.specs.Option.{option_copied};
-ghost use Rattle.std.specs.String.{string_bytes};
 ghost use Rattle.ecs_world.specs.Changes.{changed_in, replaced_in};
 ghost use Rattle.ecs_world.specs.State.{birth, no_change};
 
 use crate::Memory;
+use crate::death_names::DeathName;
 use ecs_id::{EntityId, Id};
 use ecs_model::FactKey;
 use std::alloc::{Allocator, Global};
@@ -17,22 +17,21 @@ use std::slice;
 #[derive(Drop)]
 pub struct Death<A: Allocator = Global> {
     entity: EntityId,
-    name: Option<String<A>>,
+    name: Option<DeathName<A>>,
 }
 
 impl<A: Allocator> Model for Death<A> {
-    ghost use Rattle.std.specs.Prelude.{ℕ, List, Option, option_map};
-    ghost use Rattle.std.specs.String.{string_bytes};
+    ghost use Rattle.std.specs.Prelude.{ℕ, List, Option};
     ghost use Rattle.ecs_id.specs.declared.EntityId.{EntityId};
 
     ghost Value = { EntityId × Option (List ℕ) };
 
-    ghost view = { λ d. (d.entity, option_map string_bytes d.name) };
+    ghost view = { λ d. (d.entity, d.name) };
 }
 
 impl<A: Allocator> Death<A> {
-    pub(crate) fn new(entity: EntityId, name: Option<String<A>>) -> Self
-        ensures { result ≡ (entity, option_map string_bytes name) }
+    pub(crate) fn new(entity: EntityId, name: Option<DeathName<A>>) -> Self
+        ensures { result ≡ (entity, name) }
     {
         Death { entity, name }
     }

@@ -1,9 +1,8 @@
 //! `delete`, with all who fall with an entity and all facts that mention these.
 
-ghost use Rattle.std.specs.Prelude.{◌≡◌, ◌==◌, ◌↔◌, ℕ, List, None, Some, true, Contains, IfErr, IfOk, OnErr, OnOk, filter};
+ghost use Rattle.std.specs.Prelude.{◌≡◌, ◌==◌, ◌↔◌, ℕ, List, None, Some, true, Contains, IfErr, OnErr, OnOk, filter};
 ghost use Rattle.std.specs.List.{list_any};
 ghost use Rattle.std.specs.Ordering.{nat_cmp};
-ghost use Rattle.std.specs.String.{string_bytes};
 ghost use Rattle.std.specs.FinMap as finite;
 ghost use Rattle.ecs_archetypes.specs.Staying.{TablesStay};
 ghost use Rattle.ecs_id.specs.declared.EntityId.{EntityId};
@@ -19,6 +18,7 @@ ghost use Rattle.rel_traits.specs.Deletions.{is_lost};
 ghost use Rattle.table_store.specs.Going.{TablesGoOn};
 
 use crate::changes::ChangeLists;
+use crate::death_names::DeathName;
 use crate::refusals::is_built_in;
 use crate::releases::release_dead;
 use crate::{Changes, Death, Memory, World};
@@ -30,6 +30,7 @@ use name_index::NameIndex;
 use rel_traits::{Deletion, judge_delete};
 use std::alloc::Allocator;
 use std::collections::BTreeMap;
+use std::slice;
 
 impl<A: Allocator + Copy> World<A> {
     /// Deletes an entity, and with it all who fall by the cleanup rules of what they hold: OnDelete and OnDeleteTarget with Delete. All facts
@@ -107,7 +108,7 @@ impl<A: Allocator + Copy> World<A> {
             if let Some(entity) = self.at(*index) {
                 let name = match self.name_of(*index) {
                     None => None,
-                    Some(name) => Some(owned(self.alloc, name)?),
+                    Some(name) => Some(DeathName::copied(self.alloc, name)?),
                 };
                 if died.push(Death::new(entity, name)).is_err() {
                     return Err(Memory);
@@ -128,13 +129,38 @@ impl<A: Allocator + Copy> World<A> {
         ensures stay { OnOk result (TablesStay (list_any (mentions_one deletion.now.dead.items)) self.old.tables self.new.tables) }
         ensures kept { OnErr result (NoneGo self.old self.new) }
     {
-        let _ = entity;
+        if let [index] = deletion.dead.as_slice()
+            && let Some(only) = self.at(*index)
+        {
+            return self.bury_each(entity, deletion, slice::from_ref(&only));
+        }
         let mut dead = Vec::new(self.alloc);
         self.list_entities(&deletion.dead, &mut dead)?;
+        self.bury_each(entity, deletion, &dead)
+    }
+
+    /// The same, by the entities that were found.
+    fn bury_each(
+        &mut self,
+        entity: EntityId,
+        deletion: &Deletion<A>,
+        dead: &[EntityId],
+    ) -> Result<(), Memory>
+        requires judged { first_reason (reasons self.old.state (Delete entity)) ≡ None }
+        requires dead { deletion.now.dead.items ≡ keys (deleted self.old.state entity.index) }
+        requires lost { deletion.now.lost.items ≡ filter (is_lost self.old.state entity.index) (keys self.old.state.facts) }
+        requires listed { dead.now ≡ entities_at self.old.state deletion.now.dead.items }
+        ensures buried { OnOk result (self.new.state ≡ without_entities self.old.state (deleted self.old.state entity.index)) }
+        ensures refused { OnErr result (self.new.state ≡ self.old.state) }
+        ensures goes_on { TablesGoOn self.old.tables self.new.tables }
+        ensures stay { OnOk result (TablesStay (list_any (mentions_one deletion.now.dead.items)) self.old.tables self.new.tables) }
+        ensures kept { OnErr result (NoneGo self.old self.new) }
+    {
+        let _ = entity;
         self.archetypes
-            .change_facts(&mut self.plan, &[], &deletion.lost, &dead)?;
+            .change_facts(&mut self.plan, &[], &deletion.lost, dead)?;
         release_dead(&mut self.archetypes, &deletion.dead);
-        forget(&mut self.names, &mut self.schemas, &dead);
+        forget(&mut self.names, &mut self.schemas, dead);
         Ok(())
     }
 
@@ -152,17 +178,6 @@ impl<A: Allocator + Copy> World<A> {
         }
         Ok(())
     }
-}
-
-/// A copy of a name.
-fn owned<A: Allocator + Copy>(alloc: A, name: &str) -> Result<String<A>, Memory>
-    ensures { IfOk result (λ copy. string_bytes copy ≡ name.now) }
-{
-    let mut copy = String::new(alloc);
-    if copy.push_str(name).is_err() {
-        return Err(Memory);
-    }
-    Ok(copy)
 }
 
 /// Forgets the names of the dead, and the fields of those that were components.

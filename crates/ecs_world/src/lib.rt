@@ -35,6 +35,7 @@ mod birth_commands;
 mod built_in;
 mod changes;
 mod columns;
+mod death_names;
 mod deletion;
 mod fact_commands;
 mod pins;
