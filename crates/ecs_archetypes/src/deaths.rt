@@ -13,25 +13,13 @@ ghost use Rattle.ecs_model.specs.World.{is_built_in};
 ghost use Rattle.table_store.specs.Rows.{rows_in};
 
 use crate::Archetypes;
-use crate::rows::leave;
+use crate::rows::leave_alone;
 use crate::tables::release_matched;
 use component_index::Pattern;
 use ecs_id::{EntityId, TableKey};
 use std::alloc::Allocator;
 
 impl<A: Allocator + Copy> Archetypes<A> {
-    // Deletes an entity with its row. Its table keeps its memory: see `shrink`.
-    fn delete(&mut self, entity: EntityId)
-        requires settled { IsTrue (is_settled (holdings_of self.old) entity) }
-        requires deletable { is_built_in entity.index ≡ false }
-        ensures held { HoldAlike (holdings_of self.new) (without_entity (holdings_of self.old) entity.index) }
-        ensures alike { StandAlike self.old.tables self.new.tables }
-        ensures whole { IsHoused self.new }
-    {
-        let place = self.entities.place(entity).unwrap();
-        leave(&mut self.entities, &mut self.tables, entity, place);
-    }
-
     // Deletes entities with their rows, one after another. Each time the table gives memory back.
     pub(crate) fn delete_each(&mut self, dead: &[EntityId])
         requires deletable { IsTrue (are_deletable (holdings_of self.old) dead.now) }
@@ -46,18 +34,15 @@ impl<A: Allocator + Copy> Archetypes<A> {
         let _ = &self.entities;
     }
 
-    // `delete`, after which the table gives memory back.
+    // Deletes an entity with its row. Its table gives memory back.
     fn delete_alone(&mut self, entity: EntityId)
         requires settled { IsTrue (is_settled (holdings_of self.old) entity) }
         requires deletable { is_built_in entity.index ≡ false }
         ensures held { HoldAlike (holdings_of self.new) (without_entity (holdings_of self.old) entity.index) }
         ensures alike { StandAlike self.old.tables self.new.tables }
     {
-        let left = self.table_of(entity);
-        self.delete(entity);
-        if let Some(key) = left {
-            self.shrink(key);
-        }
+        let place = self.entities.place(entity).unwrap();
+        leave_alone(&mut self.entities, &mut self.tables, entity, place);
     }
 
     /// Takes each table that has an id that the pattern matches away, and their keys for good. None of them has rows.

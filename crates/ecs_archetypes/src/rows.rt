@@ -108,6 +108,24 @@ pub fn leave<A: Allocator>(
     }
 }
 
+/// `leave`, after which the table that lost the row gives back the memory that its rows left behind.
+pub fn leave_alone<A: Allocator + Copy>(
+    entities: &mut EntityIndex<A>,
+    tables: &mut TableStore<A>,
+    entity: EntityId,
+    place: Place,
+)
+    requires sound { IsSound entities.old tables.old }
+    requires there { place_of entities.old entity ≡ Some place }
+    requires deletable { IsTrue (is_deletable entities.old entity) }
+    ensures sound { IsSound entities.new tables.new }
+    ensures held { HoldAlike (meaning entities.new tables.new) (without_entity (meaning entities.old tables.old) entity.index) }
+    ensures alike { StandAlike tables.old tables.new }
+{
+    leave(entities, tables, entity, place);
+    tables.shrink_to(place.table, 0);
+}
+
 /// The bytes of an id's value at a row of a table: none for a tag.
 pub fn value_in<A: Allocator>(table: &Table<A>, row: usize, id: Id) -> Option<&[u8]>
     requires { row < length table.now.entities }

@@ -9,7 +9,7 @@ use Rattle.ecs_archetypes.proofs.MapLists.{both}
 use Rattle.ecs_archetypes.proofs.EnteredTables.{entered_alike}
 use Rattle.ecs_model.specs.World.{is_built_in}
 use Rattle.entity_index.specs.Entities.{is_alive}
-use Rattle.ecs_archetypes.proofs.Archetypes.delete.Goals as goal
+use Rattle.ecs_archetypes.proofs.Archetypes.delete_alone.Goals as goal
 
 pub unwrap-place-requires : goal.unwrap-place-requires
 unwrap-place-requires g c =
@@ -17,9 +17,9 @@ unwrap-place-requires g c =
     subst IsSome (sym c.place.ensures) (settled_there c.self.inside.entities c.self.inside.tables c.self.invariant.sound (holdings_of c.args.self.now) (ap holdings_of c.self.view_is) c.args.entity h.0 h.1)
 
 pub invariant_of-self : goal.invariant_of-self
-invariant_of-self g c = record { sound = c.leave.ensures.sound; entered = entered_alike c.self.inside.tables c.leave.new.tables c.self.inside.components c.leave.ensures.alike.shapes c.self.invariant.entered }
+invariant_of-self g c = record { sound = c.leave_alone.ensures.sound; entered = entered_alike c.self.inside.tables c.leave_alone.new.tables c.self.inside.components c.leave_alone.ensures.alike.shapes c.self.invariant.entered }
 
-pub leave-requires-clause-deletable : goal.leave-requires-clause-deletable
-leave-requires-clause-deletable g c =
+pub leave_alone-requires-clause-deletable : goal.leave_alone-requires-clause-deletable
+leave_alone-requires-clause-deletable g c =
     let h = both_true (lives (holdings_of c.args.self.now) c.args.entity) (is_some (cells_at (holdings_of c.args.self.now) c.args.entity.index)) c.requires.settled in
     both (is_alive c.self.inside.entities c.args.entity) (not (is_built_in c.args.entity.index)) (ap (λ z. lives (holdings_of z) c.args.entity) c.self.view_is ∙ h.0) (ap not c.requires.deletable)
