@@ -11,7 +11,7 @@ ghost use Rattle.world_script.specs.Told.{refused_text, TellsAnswer, TellsBorn, 
 use ecs_id::EntityId;
 use ecs_model::faults::{Refusal, SchemaFault, SessionRefusal};
 use ecs_observe::{Event, Session, SessionError, write_event};
-use ecs_print::{write_handle, write_number};
+use ecs_print::{write_handle_line, write_number};
 use query_model::faults::{Fault, FaultKind};
 use std::alloc::{AllocError, Allocator};
 
@@ -102,8 +102,7 @@ pub(crate) fn tell_born<A: Allocator + Copy>(
         Err(error) => return tell_error(number, error, output),
     };
     if let Some(entity) = born {
-        write_handle(entity, output)?;
-        output.extend_from_slice(b"\n")?;
+        write_handle_line(entity, output)?;
     }
     tell_events(session, output)?;
     Ok(false)
