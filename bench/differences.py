@@ -106,6 +106,8 @@ def in_teams(leaders, count):
         number = number * 7919 % count
         entity = f"E{number - number % 10 if leaders else number}"
         moves += [f"add {entity} Stunned", f"remove {entity} Stunned"]
+    # all are given once before, so that none makes a table
+    world += moves
     return [(1, world + moves), (-1, world)], COMMANDS
 
 
