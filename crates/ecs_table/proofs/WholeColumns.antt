@@ -8,7 +8,7 @@ use Rattle.ecs_id.specs.Id.{Id, id_eq, id_eq_same, id_eq_itself}
 use Rattle.ecs_id.specs.declared.EntityId.{EntityId}
 use Rattle.ecs_table.specs.EntityList.{Entities}
 use Rattle.raw_column.specs.Contents.{Contents, column_at, with_bytes, with_column as with_column_at}
-use Rattle.raw_column.specs.Places.{Values, rows}
+use Rattle.raw_column.specs.Places.{Values}
 use Rattle.raw_column.proofs.PlaceLemmas.{length_rows, rows_get}
 use Rattle.ecs_table.proofs.Rows.{data_says, index_cases, index_says, map_fused, row_past, size_absent, size_kept, value_absent}
 use Rattle.ecs_table.proofs.Soundness.{shaped_changed, sizes_set}

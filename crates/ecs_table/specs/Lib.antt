@@ -1,3 +1,4 @@
 pub mod Archetype
 pub mod EntityList
 pub mod IdList
+pub mod TableData

@@ -6,5 +6,6 @@ mod data_ids;
 mod entity_list;
 mod id_list;
 mod table;
+mod table_data;
 
 pub use table::Table;

@@ -5,10 +5,9 @@ ghost use Rattle.raw_column.specs.Contents.{column_at};
 ghost use Rattle.ecs_id.specs.Id.{Id};
 ghost use Rattle.ecs_table.specs.Archetype.{byte_size, column_of, empty_table, moved_into, replaced, size_of, value_of, values_at, with_column, with_moved, with_row, with_value, without_row, HaveEqualSizes, IsSound};
 
-use crate::columns::{ids_with_data, sizes_with_data};
-use crate::data_ids::DataIds;
 use crate::entity_list::EntityList;
 use crate::id_list::IdList;
+use crate::table_data::TableData;
 use ecs_id::{EntityId, Id};
 use raw_column::{Block, Memory};
 use std::alloc::{Allocator, Global};
@@ -26,24 +25,25 @@ const ENTITY_BYTES: usize = 8;
 /// gives it back.
 #[derive(Drop)]
 pub struct Table<A: Allocator = Global> {
-    // First what is read where tables are gone through: whether any stands in one, and its ids.
-    entities: EntityList<A>,
+    // First what is read where tables are gone through: its ids, and whether any entity stands in it.
     ids: IdList<A>,
+    entities: EntityList<A>,
     // how many more rows fit, with their values
     room: usize,
     // a column for each id with data
-    columns: Block<A>,
-    data_ids: DataIds<A>,
+    values: TableData<A>,
 }
+
+const _: () = prove!(size_of::<Table<Global>>() == 112);
 
 impl<A: Allocator> Model for Table<A> {
     ghost use Rattle.ecs_table.specs.Archetype.{Archetype, seen, IsStored};
 
     ghost Value = { Archetype };
 
-    ghost view = { λ t. seen t.ids t.data_ids t.columns t.entities.items t.room };
+    ghost view = { λ t. seen t.ids t.values.ids t.values.block t.entities.items t.room };
 
-    ghost invariant = { λ t. IsStored t.ids t.data_ids t.columns t.entities t.room };
+    ghost invariant = { λ t. IsStored t.ids t.values.ids t.values.block t.entities t.room };
 }
 
 impl<A: Allocator + Copy> Table<A> {
@@ -53,12 +53,9 @@ impl<A: Allocator + Copy> Table<A> {
         requires small { (k : ℕ) → k < length sizes.now → slice_index sizes.now k ≤ 64 }
         ensures { IfOk result (λ table. table ≡ empty_table ids.now sizes.now) }
     {
-        let sized = sizes_with_data(&alloc, sizes)?;
-        let columns = Block::new(alloc, sized.as_slice())?;
         Ok(Table {
             ids: IdList::from_slice(alloc, ids)?,
-            data_ids: DataIds::new(ids_with_data(alloc, ids, sizes)?),
-            columns,
+            values: TableData::new(alloc, ids, sizes)?,
             entities: EntityList::new(alloc),
             room: 0,
         })
@@ -71,8 +68,7 @@ impl<A: Allocator + Copy> Table<A> {
         let room = 0;
         Ok(Table {
             ids: IdList::from_slice(alloc, ids)?,
-            data_ids: DataIds::new(Vec::new(alloc)),
-            columns: Block::new(alloc, &[])?,
+            values: TableData::of_tags(),
             entities: EntityList::new(alloc),
             room,
         })
@@ -88,7 +84,7 @@ impl<A: Allocator + Copy> Table<A> {
             return Ok(());
         }
         self.entities.reserve(additional)?;
-        self.columns.reserve(additional)?;
+        self.values.reserve(additional)?;
         self.room = additional;
         Ok(())
     }
@@ -102,18 +98,18 @@ impl<A: Allocator + Copy> Table<A> {
     {
         self.room = self.room.min(room);
         let rows = self.entities.len();
-        let capacity = rows + self.columns.room();
+        let capacity = rows + self.values.room();
         if 0 < rows && capacity - capacity / 4 <= rows {
             return;
         }
-        let few = FEW_BYTES / (self.columns.row_size() + ENTITY_BYTES);
+        let few = FEW_BYTES / (self.values.row_size() + ENTITY_BYTES);
         if capacity <= few {
             return;
         }
         // Places for an eighth more rows stay, so that giving back and growing again are a constant for a row.
         let kept = (rows + rows / 8).max(rows + self.room).max(few);
         self.entities.shrink_to(kept);
-        self.columns.shrink_to(kept);
+        self.values.shrink_to(kept);
     }
 }
 
@@ -146,9 +142,9 @@ impl<A: Allocator> Table<A> {
     pub fn size(&self, id: Id) -> usize
         ensures { result ≡ byte_size self.now id }
     {
-        match self.data_ids.find(id) {
+        match self.values.find(id) {
             None => 0,
-            Some(column) => self.columns.size(column),
+            Some(column) => self.values.size(column),
         }
     }
 
@@ -158,7 +154,7 @@ impl<A: Allocator> Table<A> {
         ensures { self.new ≡ with_row self.old entity }
     {
         self.entities.push(entity);
-        self.columns.push_zero();
+        self.values.push_zero();
         self.room -= 1;
     }
 
@@ -168,7 +164,7 @@ impl<A: Allocator> Table<A> {
         ensures value { MatchOption result (value_of self.now row id ≡ None) (λ bytes. value_of self.now row id ≡ Some bytes.now) }
         ensures size { IfSome result (λ bytes. size_of self.now id ≡ Some (length bytes.now)) }
     {
-        match self.data_ids.find(id) {
+        match self.values.find(id) {
             None => None,
             Some(column) => Some(self.value_in(column, row)),
         }
@@ -178,9 +174,9 @@ impl<A: Allocator> Table<A> {
     pub fn column(&self, id: Id) -> Option<&[u8]>
         ensures { MatchOption result (column_of self.now id ≡ None) (λ bytes. column_of self.now id ≡ Some bytes.now) }
     {
-        match self.data_ids.find(id) {
+        match self.values.find(id) {
             None => None,
-            Some(index) => Some(self.columns.column(index)),
+            Some(index) => Some(self.values.column(index)),
         }
     }
 
@@ -189,7 +185,7 @@ impl<A: Allocator> Table<A> {
         requires { row < length self.now.entities }
         ensures { MatchOption result.1 (value_of self.now row id ≡ None) (λ bytes. value_of self.now row id ≡ Some bytes.now) }
     {
-        let (next, found) = self.data_ids.find_from(from, id);
+        let (next, found) = self.values.find_from(from, id);
         match found {
             None => (next, None),
             Some(column) => (next, Some(self.value_in(column, row))),
@@ -203,7 +199,7 @@ impl<A: Allocator> Table<A> {
         ensures value { slice_get (values_at self.now.columns column).items row ≡ Some result.now }
         ensures size { length result.now ≡ (values_at self.now.columns column).size }
     {
-        self.columns.get(column, row)
+        self.values.get(column, row)
     }
 
     /// Overwrites the value of an id with data at a row, with as many bytes.
@@ -212,8 +208,8 @@ impl<A: Allocator> Table<A> {
         requires size { size_of self.old id ≡ Some (length value.now) }
         ensures { self.new ≡ with_value self.old row id value.now }
     {
-        if let Some(column) = self.data_ids.find(id) {
-            self.columns.set(column, row, value);
+        if let Some(column) = self.values.find(id) {
+            self.values.set(column, row, value);
         }
     }
 
@@ -222,8 +218,8 @@ impl<A: Allocator> Table<A> {
         requires { IfSome (size_of self.old id) (λ size. length bytes.now ≡ length self.old.entities * size) }
         ensures { self.new ≡ with_column self.old id bytes.now }
     {
-        if let Some(column) = self.data_ids.find(id) {
-            self.columns.set_column(column, bytes);
+        if let Some(column) = self.values.find(id) {
+            self.values.set_column(column, bytes);
         }
     }
 
@@ -234,7 +230,7 @@ impl<A: Allocator> Table<A> {
         ensures moved { result ≡ moved_into self.old row }
     {
         self.entities.swap_remove(row);
-        self.columns.swap_remove(row);
+        self.values.swap_remove(row);
         self.room += 1;
         self.entities.as_slice().get(row).copied()
     }
@@ -270,14 +266,19 @@ impl<A: Allocator> Table<A> {
         ensures zeros { (i : Id) → value_of source.now row i ≡ None → value_of self.new (length self.old.entities) i ≡ option_map (λ n. replicate n 0) (size_of self.old i) }
     {
         self.entities.push(source.entities.at(row));
-        self.columns.push_zero();
-        copy_values(&mut self.columns, self.data_ids.as_slice(), source, row);
+        self.values.push_zero();
+        self.values.copy_row(source, row);
         self.room -= 1;
     }
 }
 
 /// Copies the values of a row of a table over those in the last row of these columns, where the table has data of a column's id.
-fn copy_values<A: Allocator>(columns: &mut Block<A>, ids: &[Id], source: &Table<A>, row: usize)
+pub(crate) fn copy_values<A: Allocator>(
+    columns: &mut Block<A>,
+    ids: &[Id],
+    source: &Table<A>,
+    row: usize,
+)
     requires row { row < length source.now.entities }
     requires last { 0 < columns.old.len }
     requires paired { length ids.now ≡ length columns.old.columns }

@@ -6,7 +6,7 @@ use Rattle.ecs_table.proofs.table.Table.value.Goals as goal
 pub value_in-requires-clause-column : goal.value_in-requires-clause-column
 value_in-requires-clause-column g c =
     let a = c.self.inside in
-    subst (λ n. c.in-Some.column < n) (stored_paired a.ids a.data_ids a.columns a.entities a.room c.self.invariant ∙ ap (λ (t : Archetype). length t.columns) c.self.view_is) c.in-Some.ensures.within
+    subst (λ n. c.in-Some.column < n) (stored_paired a.ids a.values.ids a.values.block a.entities a.room c.self.invariant ∙ ap (λ (t : Archetype). length t.columns) c.self.view_is) c.in-Some.ensures.within
 
 pub returns-in-Some-clause-value : goal.returns-in-Some-clause-value
 returns-in-Some-clause-value g c =

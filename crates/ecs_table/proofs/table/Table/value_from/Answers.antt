@@ -5,8 +5,8 @@ use Rattle.ecs_table.proofs.table.Table.value_from.Goals as goal
 
 pub value_in-requires-clause-column : goal.value_in-requires-clause-column
 value_in-requires-clause-column g c =
-    let a = c.self.inside in let within : c.in-Some.column < length a.data_ids = subst (λ (o : Option ℕ). IfSome o (λ k. k < length a.data_ids)) c.in-Some.is c.find_from-next.ensures.within in
-    subst (λ n. c.in-Some.column < n) (stored_paired a.ids a.data_ids a.columns a.entities a.room c.self.invariant ∙ ap (λ (t : Archetype). length t.columns) c.self.view_is) within
+    let a = c.self.inside in let within : c.in-Some.column < length a.values.ids = subst (λ (o : Option ℕ). IfSome o (λ k. k < length a.values.ids)) c.in-Some.is c.find_from-next.ensures.within in
+    subst (λ n. c.in-Some.column < n) (stored_paired a.ids a.values.ids a.values.block a.entities a.room c.self.invariant ∙ ap (λ (t : Archetype). length t.columns) c.self.view_is) within
 
 pub returns-in-Some : goal.returns-in-Some
 returns-in-Some g c =
