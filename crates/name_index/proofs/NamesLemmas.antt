@@ -1,34 +1,28 @@
 -- What an index of names says of its fields, and what a change does to its names.
-use Rattle.std.proofs.Common.{◌≡◌, ◌≢◌, ℕ, ◌==◌, Bool, true, false, cond, List, [], ◌∷◌, ◌++◌, Some, None, Option, is_some, true≢false, map, bytes_eq, ◌↔◌, refl, sym, ap, subst, ◌∙◌}
+pub use Rattle.name_index.proofs.EntityLemmas.{same_entity, entity_eq_true}
+use Rattle.std.proofs.Common.{◌≡◌, ◌≢◌, ◌⊎◌, inl, inr, ⊎_elim, IfSome, get_or, length, option_map, position, slice_get, ℕ, Bool, true, false, cond, List, [], ◌∷◌, ◌++◌, Some, None, Option, is_some, true≢false, map, bytes_eq, ◌↔◌, refl, sym, ap, subst, ◌∙◌}
 use Rattle.std.specs.Prelude.{nat_eq}
 use Rattle.std.specs.Option.{option_or}
 use Rattle.std.specs.declared.string.String.{String}
 use Rattle.std.specs.String.{string_bytes, string_eq}
 use Rattle.std.specs.Ordering.{nat_cmp}
 use Rattle.std.specs.Cmp.Lexicographic.{pointwise, slice_cmp, nat_list_cmp_total, nat_list_eq_equiv}
-use Rattle.std.specs.HashMap.{HashMap, get, get_by_text, Updates, UpdatesBy}
-use Rattle.std.specs.Map.{lookup}
+use Rattle.std.specs.HashMap.{HashMap, IsUnique, get, get_by_text, Updates, UpdatesBy}
+use Rattle.std.specs.Map.{keys_of, lookup}
 use Rattle.std.specs.FinMap as finite
 use Rattle.std.specs.FinMap.{find, slice_cmp-IsAntisymmetric, nat_cmp-IsAntisymmetric}
-use Rattle.std.specs.Cmp.Derive.{both_true}
 use Rattle.std.proofs.lemmas.Map.Text.{is_eq-slice_cmp, hash_map_updates_text}
 use Rattle.std.proofs.lemmas.Slice.Eq.{bytes_eq-Decides}
-use Rattle.std.proofs.lemmas.Bool.Decides.{Decides-eqb}
-use Rattle.std.proofs.lemmas.Bool.{and_parts}
 use Rattle.ecs_id.specs.declared.EntityId.{EntityId}
 use Rattle.name_index.specs.declared.texts.Texts.{Texts}
-use Rattle.name_index.specs.Names.{Names, names_in, entity_eq, IsUnnamed, IsOneToOne, OthersKeepTheirs, AreApart, AreKept}
+use Rattle.name_index.specs.Names.{Names, Tells, names_in, entity_eq, IsUnnamed, IsOneToOne, OthersKeepTheirs, AreApart, AreKept}
 use Rattle.name_index.specs.Short.{is_short}
-use Rattle.name_index.specs.Texts.{text_of}
-
--- the test of entities tells whether they are one
-pub same_entity : (x y : EntityId) → entity_eq x y ≡ true → x ≡ y
-same_entity x y h =
-    let tests = and_parts (x.index == y.index) (x.generation == y.generation) h in
-    λ i. record { index = (Decides-eqb x.index y.index).0 tests.0 i; generation = (Decides-eqb x.generation y.generation).0 tests.1 i }
-
-pub entity_eq_true : (x y : EntityId) → x ≡ y → entity_eq x y ≡ true
-entity_eq_true x y e = both_true ((Decides-eqb x.index y.index).1 (ap (λ v. v.index) e)) ((Decides-eqb x.generation y.generation).1 (ap (λ v. v.generation) e))
+use Rattle.name_index.specs.Texts.{IsKept, entry_of, first_in, first_of, is_of, other_of, text_of}
+use Rattle.std.proofs.lemmas.Option.{get_or_from_slice_get, none-some, same_Some, slice_get-get_or, slice_get-map, slice_get_cases}
+use Rattle.std.proofs.lemmas.List.Quantifiers.{position-Some}
+use Rattle.std.proofs.lemmas.Map.Entries.{hash_map_get_place}
+use Rattle.name_index.proofs.TellsLemmas.{Tells-insert, Tells-remove, told_names, told_once}
+use Rattle.name_index.proofs.PlacesLemmas.{back_placed, back_unplaced, forth_placed, forth_unplaced, here_placed, place_of}
 
 -- an answer that is changed under a test, beside another that comes before or after it
 or_early : {X : Type 0} (b : Bool) (x : X) (o r : Option X) → option_or (cond b (Some x) o) r ≡ cond b (Some x) (option_or o r)
@@ -105,54 +99,13 @@ module _ {Y R S : Type 0} where
   pub names_unchanged : (s s' : HashMap (List ℕ) EntityId R) (l l' : HashMap (String Y) EntityId S) → s'.entries ≡ s.entries → l'.entries ≡ l.entries → names_in s' l' ≡ names_in s l
   names_unchanged s s' l l' e f = λ i. finite.from_entries (map (λ p. (p.0, p.1)) (e i) ++ map (λ p. (string_bytes p.0, p.1)) (f i))
 
--- which names are kept with entities, after a name is bound and after one goes
-module _ {Y : Type 0} (names : Names) (old new : Texts Y) (bs : List ℕ) (e : EntityId) where
-  at_insert : (b c : Bool) (q : List ℕ) (f : EntityId) → (b ≡ true → e ≡ f) → (e ≡ f → b ≡ true) → (c ≡ true → q ≡ bs) → (q ≡ bs → c ≡ true) → (n : Option EntityId)
-      → ((text_of old f ≡ Some q) ↔ (finite.get names q ≡ Some f)) → ((text_of old f ≡ Some bs) ↔ (finite.get names bs ≡ Some f)) → finite.get names bs ≡ None → text_of old e ≡ None
-      → text_of new f ≡ cond b (Some bs) (text_of old f) → n ≡ cond c (Some e) (finite.get names q) → (text_of new f ≡ Some q) ↔ (n ≡ Some f)
-  at_insert true true q f bf fb cq qc n at here free none t is = (λ h. is ∙ ap Some (bf refl), λ h. t ∙ ap Some (sym (cq refl)))
-  at_insert true false q f bf fb cq qc n at here free none t is = (
-    λ h. let same : Some bs ≡ Some q = sym t ∙ h in let one : bs ≡ q = cc in absurd (true≢false (sym (qc (sym one)))),
-    λ h. let was : text_of old f ≡ Some q = at.1 (sym is ∙ h) in let no : None ≡ Some q = sym none ∙ ap (text_of old) (bf refl) ∙ was in cc,
-  )
-  at_insert false true q f bf fb cq qc n at here free none t is = (
-    λ h. let text : text_of old f ≡ Some bs = sym t ∙ h ∙ ap Some (cq refl) in let no : None ≡ Some f = sym free ∙ here.0 text in cc,
-    λ h. let same : Some e ≡ Some f = sym is ∙ h in let one : e ≡ f = cc in absurd (true≢false (sym (fb one))),
-  )
-  at_insert false false q f bf fb cq qc n at here free none t is = (λ h. is ∙ at.0 (sym t ∙ h), λ h. t ∙ at.1 (sym is ∙ h))
-
-  pub kept_inserted : ((q : List ℕ) (f : EntityId) → (text_of old f ≡ Some q) ↔ (finite.get names q ≡ Some f)) → finite.get names bs ≡ None → text_of old e ≡ None
-      → ((f : EntityId) → text_of new f ≡ cond (entity_eq e f) (Some bs) (text_of old f)) → (q : List ℕ) (f : EntityId) → (text_of new f ≡ Some q) ↔ (finite.get (finite.insert names bs e) q ≡ Some f)
-  kept_inserted at free none t q f = at_insert (entity_eq e f) (bytes_eq q bs) q f (same_entity e f) (entity_eq_true e f) (bytes_eq-Decides q bs).0 (bytes_eq-Decides q bs).1 _ (at q f) (at bs f) free none (t f)
-      (finite.get-insert nat_list_cmp_total names bs e q ∙ (λ i. cond (is_eq-slice_cmp q bs i) (Some e) (finite.get names q)))
-
-  at_remove : (b c : Bool) (q : List ℕ) (f : EntityId) → (b ≡ true → e ≡ f) → (e ≡ f → b ≡ true) → (c ≡ true → q ≡ bs) → (q ≡ bs → c ≡ true) → (n : Option EntityId)
-      → ((text_of old f ≡ Some q) ↔ (finite.get names q ≡ Some f)) → ((text_of old f ≡ Some bs) ↔ (finite.get names bs ≡ Some f)) → finite.get names bs ≡ Some e → text_of old e ≡ Some bs
-      → text_of new f ≡ cond b None (text_of old f) → n ≡ cond c None (finite.get names q) → (text_of new f ≡ Some q) ↔ (n ≡ Some f)
-  at_remove true true q f bf fb cq qc n at here is_e had t is = (λ h. let no : None ≡ Some q = sym t ∙ h in cc, λ h. let no : None ≡ Some f = sym is ∙ h in cc)
-  at_remove true false q f bf fb cq qc n at here is_e had t is = (
-    λ h. let no : None ≡ Some q = sym t ∙ h in cc,
-    λ h. let was : text_of old f ≡ Some q = at.1 (sym is ∙ h) in let same : Some bs ≡ Some q = sym had ∙ ap (text_of old) (bf refl) ∙ was in let one : bs ≡ q = cc in absurd (true≢false (sym (qc (sym one)))),
-  )
-  at_remove false true q f bf fb cq qc n at here is_e had t is = (
-    λ h. let text : text_of old f ≡ Some bs = sym t ∙ h ∙ ap Some (cq refl) in let same : Some e ≡ Some f = sym is_e ∙ here.0 text in let one : e ≡ f = cc in absurd (true≢false (sym (fb one))),
-    λ h. let no : None ≡ Some f = sym is ∙ h in cc,
-  )
-  at_remove false false q f bf fb cq qc n at here is_e had t is = (λ h. is ∙ at.0 (sym t ∙ h), λ h. t ∙ at.1 (sym is ∙ h))
-
-  pub kept_removed : ((q : List ℕ) (f : EntityId) → (text_of old f ≡ Some q) ↔ (finite.get names q ≡ Some f)) → finite.get names bs ≡ Some e
-      → ((f : EntityId) → text_of new f ≡ cond (entity_eq e f) None (text_of old f)) → (q : List ℕ) (f : EntityId) → (text_of new f ≡ Some q) ↔ (finite.get (finite.remove names bs) q ≡ Some f)
-  kept_removed at is_e t q f = at_remove (entity_eq e f) (bytes_eq q bs) q f (same_entity e f) (entity_eq_true e f) (bytes_eq-Decides q bs).0 (bytes_eq-Decides q bs).1 _ (at q f) (at bs f) is_e ((at bs e).1 is_e) (t f)
-      (finite.get-remove nat_list_cmp_total names bs q ∙ (λ i. cond (is_eq-slice_cmp q bs i) None (finite.get names q)))
-
 -- what the index says of its fields
-none_if : {X : Type 0} (o : Option X) → ((x : X) → o ≡ Some x → ⊥) → o ≡ None
-none_if None k = refl
-none_if (Some x) k = absurd (k x refl)
-
 module _ {Y R S : Type 0} (names : Names) (s : HashMap (List ℕ) EntityId R) (l : HashMap (String Y) EntityId S) (texts : Texts Y) (view : names_in s l ≡ names) (kept : AreKept s l texts) where
-  pub at_names : (q : List ℕ) (e : EntityId) → (text_of texts e ≡ Some q) ↔ (finite.get names q ≡ Some e)
-  at_names q e = (λ h. ap (λ m. finite.get m q) (sym view) ∙ (kept.at q e).0 h, λ h. (kept.at q e).1 (ap (λ m. finite.get m q) view ∙ h))
+  pub tells : Tells (first_of texts s.entries) (other_of texts) names
+  tells = subst (Tells (first_of texts s.entries) (other_of texts)) view kept.tells
+
+  pub at_names : (q : List ℕ) (e : EntityId) → (text_of texts s.entries e ≡ Some q) ↔ (finite.get names q ≡ Some e)
+  at_names = told_names names (first_of texts s.entries) (other_of texts) tells
 
   pub found_short : (q : List ℕ) → is_short q ≡ true → finite.get names q ≡ get (pointwise nat_eq) s q
   found_short q is = ap (λ m. finite.get m q) (sym view) ∙ get-names_in s l q ∙ ap (option_or (get (pointwise nat_eq) s q)) (kept.apart.longs q is) ∙ or_none (get (pointwise nat_eq) s q)
@@ -168,14 +121,11 @@ module _ {Y R S : Type 0} (names : Names) (s : HashMap (List ℕ) EntityId R) (l
   pub found_long : (q : List ℕ) → is_short q ≡ false → finite.get names q ≡ get_by_text l q
   found_long q is = ap (λ m. finite.get m q) (sym view) ∙ get-names_in s l q ∙ ap (λ o. option_or o (get_by_text l q)) (kept.apart.shorts q is)
 
-  pub unnamed : (e : EntityId) → text_of texts e ≡ None → IsUnnamed names e
+  pub unnamed : (e : EntityId) → text_of texts s.entries e ≡ None → IsUnnamed names e
   unnamed e none q h = let no : None ≡ Some q = sym none ∙ (at_names q e).1 h in cc
 
-  pub no_text : (e : EntityId) → IsUnnamed names e → text_of texts e ≡ None
-  no_text e k = none_if (text_of texts e) (λ q h. k q ((at_names q e).0 h))
-
   pub one_to_one : IsOneToOne names
-  one_to_one p q e h k = let same : Some p ≡ Some q = sym ((at_names p e).1 h) ∙ (at_names q e).1 k in cc
+  one_to_one = told_once names (first_of texts s.entries) (other_of texts) tells
 
 -- what q names for another entity f, once bs names e where it named nothing, or nothing where it named e. b says whether q is bs
 other_at : (b : Bool) (o new w was : Option EntityId) (e f : EntityId) → new ≡ cond b w o → (b ≡ true → o ≡ was) → (w ≡ Some f → ⊥) → (was ≡ Some f → ⊥) → (new ≡ Some f) ↔ (o ≡ Some f)
@@ -214,48 +164,139 @@ pub is_none_of : {X : Type 0} (o : Option X) → is_some o ≡ false → o ≡ N
 is_none_of None h = refl
 is_none_of (Some x) h = absurd (true≢false h)
 
+-- what is kept apart, once it has one more name
+module _ (e : EntityId) (n : List ℕ) (old new : EntityId → Option (List ℕ)) (kept : (q : EntityId) → new q ≡ cond (entity_eq e q) (Some n) (old q)) where
+  at_test : (f : EntityId) (b : Bool) → entity_eq e f ≡ b → new f ≡ cond b (Some n) (old f)
+  at_test f b is = kept f ∙ ap (λ b. cond b (Some n) (old f)) is
+
+  back_by : (q : List ℕ) (f : EntityId) (b : Bool) → entity_eq e f ≡ b → new f ≡ Some q → (old f ≡ Some q) ⊎ ((q ≡ n) × (f ≡ e))
+  back_by q f true is h = inr (sym (same_Some n q (sym (at_test f true is) ∙ h)), sym (same_entity e f is))
+  back_by q f false is h = inl (sym (at_test f false is) ∙ h)
+
+  pub back_under : (q : List ℕ) (f : EntityId) → new f ≡ Some q → (old f ≡ Some q) ⊎ ((q ≡ n) × (f ≡ e))
+  back_under q f h = back_by q f (entity_eq e f) refl h
+
+  forth_by : ((q : List ℕ) → old e ≡ Some q → ⊥) → (q : List ℕ) (f : EntityId) (b : Bool) → entity_eq e f ≡ b → old f ≡ Some q → new f ≡ Some q
+  forth_by none q f true is h = absurd (none q (ap old (same_entity e f is) ∙ h))
+  forth_by none q f false is h = at_test f false is ∙ h
+
+  pub forth_under : ((q : List ℕ) → old e ≡ Some q → ⊥) → (q : List ℕ) (f : EntityId) → old f ≡ Some q → new f ≡ Some q
+  forth_under none q f h = forth_by none q f (entity_eq e f) refl h
+
+  pub here_under : new e ≡ Some n
+  here_under = at_test e true (entity_eq_true e e refl)
+
+some_early : (a b : Option (List ℕ)) (n : List ℕ) → a ≡ Some n → is_some (option_or a b) ≡ true
+some_early a b n h = ap (λ o. is_some (option_or o b)) h
+
+some_late : (a b : Option (List ℕ)) (n : List ℕ) → b ≡ Some n → is_some (option_or a b) ≡ true
+some_late None b n h = ap is_some h
+some_late (Some x) b n h = refl
+
+not_apart : {Y R S : Type 0} (names : Names) (s : HashMap (List ℕ) EntityId R) (l : HashMap (String Y) EntityId S) (texts : Texts Y) → names_in s l ≡ names → AreKept s l texts
+    → (e : EntityId) → IsUnnamed names e → (q : List ℕ) → other_of texts e ≡ Some q → ⊥
+not_apart names s l texts view kept e un q h = un q ((tells names s l texts view kept).apart q e h)
+
 -- after a short name is bound
 module _ {Y R S : Type 0} (names : Names) (s s' : HashMap (List ℕ) EntityId R) (l : HashMap (String Y) EntityId S) (old : Texts Y) (view : names_in s l ≡ names) (kept : AreKept s l old)
     (bs n : List ℕ) (named : bs ≡ n) (e : EntityId) (u : Updates (pointwise nat_eq) s s' bs (Some e)) where
   pub bound_short : names_in s' l ≡ finite.insert names n e
   bound_short = insert_short s s' l l bs e u ∙ (λ i. finite.insert (view i) (named i) e)
 
-  pub kept_short : (new : Texts Y) → is_short n ≡ true → finite.get names n ≡ None → IsUnnamed names e → ((f : EntityId) → text_of new f ≡ cond (entity_eq e f) (Some n) (text_of old f)) → AreKept s' l new
-  kept_short new is free un t = record {
-    apart = record { shorts = short_stays s s' l l bs (Some e) (ap is_short named ∙ is) u kept.apart.shorts; longs = kept.apart.longs };
-    at = λ q f. subst (λ m. (text_of new f ≡ Some q) ↔ (finite.get m q ≡ Some f)) (sym bound_short)
-        (kept_inserted names old new n e (at_names names s l old view kept) free (no_text names s l old view kept e un) t q f);
-  }
+  module _ (new : Texts Y) (is : is_short n ≡ true) (free : finite.get names n ≡ None) (un : IsUnnamed names e) (more : s'.entries ≡ s.entries ++ (bs, e) ∷ []) where
+    more_named : s'.entries ≡ s.entries ++ (n, e) ∷ []
+    more_named = more ∙ ap (λ t. s.entries ++ (t, e) ∷ []) named
+
+    told_short : (place : Option ℕ) → IfSome place (λ at. (at ≡ length s.entries) × (is_of e.index (entry_of old s.entries e.index) ≡ false)) → IsKept old new e n place
+        → Tells (first_of new (s.entries ++ (n, e) ∷ [])) (other_of new) (finite.insert names n e)
+    told_short None free_place k = Tells-insert names n e (first_of old s.entries) (other_of old) (first_of new (s.entries ++ (n, e) ∷ [])) (other_of new) (tells names s l old view kept) free un
+        (back_unplaced old.places.items new.places.items s.entries n e k.0) (forth_unplaced old.places.items new.places.items s.entries n e k.0)
+        (back_under e n (other_of old) (other_of new) k.1) (forth_under e n (other_of old) (other_of new) k.1 (not_apart names s l old view kept e un))
+        (some_late (first_of new (s.entries ++ (n, e) ∷ []) e) (other_of new e) n (here_under e n (other_of old) (other_of new) k.1))
+    told_short (Some at) p k = Tells-insert names n e (first_of old s.entries) (other_of old) (first_of new (s.entries ++ (n, e) ∷ [])) (other_of new) (tells names s l old view kept) free un
+        (back_placed old.places.items new.places.items s.entries n e at p.0 k.0) (forth_placed old.places.items new.places.items s.entries n e at p.0 k.0 p.1)
+        (λ q f h. inl (sym (k.1 f) ∙ h)) (λ q f h. k.1 f ∙ h)
+        (some_early (first_of new (s.entries ++ (n, e) ∷ []) e) (other_of new e) n (here_placed old.places.items new.places.items s.entries n e at p.0 k.0))
+
+    pub kept_short : IsUnique (pointwise nat_eq) s' → (place : Option ℕ) → IfSome place (λ at. (at ≡ length s.entries) × (is_of e.index (entry_of old s.entries e.index) ≡ false)) → IsKept old new e n place → AreKept s' l new
+    kept_short unique place p k = record {
+      apart = record { shorts = short_stays s s' l l bs (Some e) (ap is_short named ∙ is) u kept.apart.shorts; longs = kept.apart.longs };
+      unique = unique;
+      tells = subst (Tells (first_of new s'.entries) (other_of new)) (sym bound_short) (subst (λ es. Tells (first_of new es) (other_of new) (finite.insert names n e)) (sym more_named) (told_short place p k));
+    }
 
 -- after a long one is
 module _ {Y R S : Type 0} (names : Names) (s : HashMap (List ℕ) EntityId R) (l l1 l' : HashMap (String Y) EntityId S) (old : Texts Y) (view : names_in s l ≡ names) (kept : AreKept s l old)
-    (k : String Y) (n : List ℕ) (named : string_bytes k ≡ n) (is : is_short n ≡ false) (e : EntityId) (same : l1.entries ≡ l.entries) (u : Updates string_eq l1 l' k (Some e)) where
+    (k0 : String Y) (n : List ℕ) (named : string_bytes k0 ≡ n) (is : is_short n ≡ false) (e : EntityId) (same : l1.entries ≡ l.entries) (u : Updates string_eq l1 l' k0 (Some e)) where
   pub bound_long : names_in s l' ≡ finite.insert names n e
-  bound_long = insert_long s s l1 l' (string_bytes k) e (kept.apart.shorts (string_bytes k) (ap is_short named ∙ is)) u ∙ (λ i. finite.insert ((names_unchanged s s l l1 refl same ∙ view) i) (named i) e)
+  bound_long = insert_long s s l1 l' (string_bytes k0) e (kept.apart.shorts (string_bytes k0) (ap is_short named ∙ is)) u ∙ (λ i. finite.insert ((names_unchanged s s l l1 refl same ∙ view) i) (named i) e)
 
-  pub kept_long : (new : Texts Y) → finite.get names n ≡ None → IsUnnamed names e → ((f : EntityId) → text_of new f ≡ cond (entity_eq e f) (Some n) (text_of old f)) → AreKept s l' new
-  kept_long new free un t = record {
+  pub kept_long : (new : Texts Y) → finite.get names n ≡ None → IsUnnamed names e → IsKept old new e n None → AreKept s l' new
+  kept_long new free un k = record {
     apart = record {
       shorts = kept.apart.shorts;
-      longs = long_stays s s l1 l' (string_bytes k) (Some e) (ap is_short named ∙ is) u (λ q fits. ap (lookup (λ x. bytes_eq q (string_bytes x))) same ∙ kept.apart.longs q fits);
+      longs = long_stays s s l1 l' (string_bytes k0) (Some e) (ap is_short named ∙ is) u (λ q fits. ap (lookup (λ x. bytes_eq q (string_bytes x))) same ∙ kept.apart.longs q fits);
     };
-    at = λ q f. subst (λ m. (text_of new f ≡ Some q) ↔ (finite.get m q ≡ Some f)) (sym bound_long)
-        (kept_inserted names old new n e (at_names names s l old view kept) free (no_text names s l old view kept e un) t q f);
+    unique = kept.unique;
+    tells = subst (Tells (first_of new s.entries) (other_of new)) (sym bound_long)
+        (Tells-insert names n e (first_of old s.entries) (other_of old) (first_of new s.entries) (other_of new) (tells names s l old view kept) free un
+        (λ q f h. inl (ap (λ ps. first_in ps s.entries f) (sym k.0) ∙ h)) (λ q f h. ap (λ ps. first_in ps s.entries f) k.0 ∙ h)
+        (back_under e n (other_of old) (other_of new) k.1) (forth_under e n (other_of old) (other_of new) k.1 (not_apart names s l old view kept e un))
+        (some_late (first_of new s.entries e) (other_of new e) n (here_under e n (other_of old) (other_of new) k.1)));
   }
+
+-- after an entry of a short name is taken out
+module _ {Y R S : Type 0} (s s' : HashMap (List ℕ) EntityId R) (l : HashMap (String Y) EntityId S) (apart : AreApart s l) (place : ℕ) (n : List ℕ) (e : EntityId)
+    (has : get (pointwise nat_eq) s n ≡ Some e) (u : Updates (pointwise nat_eq) s s' n None) where
+  fits : (b : Bool) → is_short n ≡ b → is_short n ≡ true
+  fits true is = is
+  fits false is = absurd (none-some e (sym (apart.shorts n is) ∙ has))
+
+  pub taken : names_in s' l ≡ finite.remove (names_in s l) n
+  taken = remove_short s s' l l n (apart.longs n (fits (is_short n) refl)) u
+
+  pub apart_taken : AreApart s' l
+  apart_taken = record { shorts = short_stays s s' l l n None (fits (is_short n) refl) u apart.shorts; longs = apart.longs }
+
+-- a short name that the names have is in its map
+pub held_short : {Y R S : Type 0} (s : HashMap (List ℕ) EntityId R) (l : HashMap (String Y) EntityId S) (n : List ℕ) → AreApart s l → is_short n ≡ true
+    → is_some (finite.get (names_in s l) n) ≡ true → is_some (get (pointwise nat_eq) s n) ≡ true
+held_short s l n apart short held = some_of (get (pointwise nat_eq) s n) (sym (ap is_some (get-names_in s l n ∙ ap (option_or (get (pointwise nat_eq) s n)) (apart.longs n short))) ∙ held)
+  where
+    some_of : (o : Option EntityId) → is_some (option_or o None) ≡ true → is_some o ≡ true
+    some_of None h = h
+    some_of (Some x) h = refl
+
+-- the entry where a key was found
+pub found_entry : (test : List ℕ → Bool) (es : List (List ℕ × EntityId)) (i : ℕ) → position test (keys_of es) ≡ Some i → (p : List ℕ × EntityId) × (slice_get es i ≡ Some p) × (test p.0 ≡ true)
+found_entry test es i h =
+    let at = position-Some test (keys_of es) i [] h in
+    ⊎_elim
+    (λ x. (x.0, x.2, ap test (sym (get_or_from_slice_get (keys_of es) i x.0.0 [] (slice_get-map (λ p. p.0) es i ∙ ap (option_map (λ p. p.0)) x.2))) ∙ at.1))
+    (λ x. absurd (none-some (get_or (keys_of es) i []) (sym (slice_get-map (λ p. p.0) es i ∙ ap (option_map (λ p. p.0)) x.1) ∙ slice_get-get_or (keys_of es) i [] at.0)))
+    (slice_get_cases es i).1
 
 -- after a name goes
 module _ {Y R S : Type 0} (names : Names) (s s' : HashMap (List ℕ) EntityId R) (l l' : HashMap (String Y) EntityId S) (old : Texts Y) (view : names_in s l ≡ names) (kept : AreKept s l old)
-    (n : List ℕ) (e : EntityId) (had : text_of old e ≡ Some n) (gone : names_in s' l' ≡ finite.remove (names_in s l) n) where
+    (n : List ℕ) (e : EntityId) (is_e : finite.get names n ≡ Some e) (gone : names_in s' l' ≡ finite.remove (names_in s l) n) where
   left : names_in s' l' ≡ finite.remove names n
   left = gone ∙ ap (λ m. finite.remove m n) view
 
-  is_e : finite.get names n ≡ Some e
-  is_e = (at_names names s l old view kept n e).0 had
+  -- an entry of the map is what the names have
+  placed_left : IsUnique (pointwise nat_eq) s' → (new : Texts Y) → (q : List ℕ) (f : EntityId) → first_of new s'.entries f ≡ Some q → finite.get (finite.remove names n) q ≡ Some f
+  placed_left unique new q f h =
+      let p = place_of new.places.items s'.entries f q h in
+      ap (λ m. finite.get m q) (sym left) ∙ get-names_in s' l' q
+      ∙ ap (λ o. option_or o (get_by_text l' q)) (hash_map_get_place nat_list_eq_equiv s' p.0 q f unique p.2)
 
-  pub kept_left : (new : Texts Y) → AreApart s' l' → ((f : EntityId) → text_of new f ≡ cond (entity_eq e f) None (text_of old f)) → AreKept s' l' new
-  kept_left new apart t = record {
+  pub kept_left : (new : Texts Y) → AreApart s' l' → IsUnique (pointwise nat_eq) s'
+      → ((q : List ℕ) (f : EntityId) → q ≢ n → first_of old s.entries f ≡ Some q → first_of new s'.entries f ≡ Some q)
+      → ((f : EntityId) → other_of new f ≡ cond (entity_eq e f) None (other_of old f)) → AreKept s' l' new
+  kept_left new apart unique stay rest = record {
     apart = apart;
-    at = λ q f. subst (λ m. (text_of new f ≡ Some q) ↔ (finite.get m q ≡ Some f)) (sym left) (kept_removed names old new n e (at_names names s l old view kept) is_e t q f);
+    unique = unique;
+    tells = subst (Tells (first_of new s'.entries) (other_of new)) (sym left)
+        (Tells-remove names n e (first_of old s.entries) (other_of old) (first_of new s'.entries) (other_of new) (tells names s l old view kept) is_e (placed_left unique new) stay rest);
   }
 
   pub freed : IsUnnamed (names_in s' l') e
@@ -278,8 +319,13 @@ module _ {Y R S : Type 0} (s : HashMap (List ℕ) EntityId R) (l : HashMap (Stri
   pub unnamed_all : (e : EntityId) → IsUnnamed (names_in s l) e
   unnamed_all e q h = let no : None ≡ Some e = sym (none_at_all q) ∙ h in cc
 
-  pub kept_none : (texts : Texts Y) → ((q : EntityId) → text_of texts q ≡ None) → AreKept s l texts
-  kept_none texts none = record {
+  pub kept_none : (texts : Texts Y) → IsUnique (pointwise nat_eq) s → ((q : EntityId) → first_of texts s.entries q ≡ None) → ((q : EntityId) → other_of texts q ≡ None) → AreKept s l texts
+  kept_none texts unique first other = record {
     apart = record { shorts = λ q _. ap (lookup (pointwise nat_eq q)) no_short; longs = λ q _. ap (lookup (λ k. bytes_eq q (string_bytes k))) no_long };
-    at = λ q e. (λ h. let no : None ≡ Some q = sym (none e) ∙ h in cc, λ h. let no : None ≡ Some e = sym (none_at_all q) ∙ h in cc);
+    unique = unique;
+    tells = record {
+      placed = λ q e h. absurd (none-some q (sym (first e) ∙ h));
+      apart = λ q e h. absurd (none-some q (sym (other e) ∙ h));
+      told = λ q e h. absurd (none-some e (sym (none_at_all q) ∙ h));
+    };
   }

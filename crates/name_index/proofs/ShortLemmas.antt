@@ -1,12 +1,13 @@
 -- The sixteen bytes of a short name: they are those of one name, and two words tell them apart.
-use Rattle.std.proofs.Common.{◌≡◌, ℕ, zero, suc, ◌+◌, ◌<◌, ◌≤◌, Bool, true, false, List, [], ◌∷◌, ◌++◌, append_assoc, drop, length, get_or, take, refl, sym, ap, ◌∙◌, arith}
+use Rattle.std.proofs.Common.{◌≡◌, ℕ, zero, suc, ◌+◌, ◌-◌, ◌<◌, ◌≤◌, Bool, true, false, List, [], ◌∷◌, ◌++◌, append_assoc, drop, length, length-append, get_or, replicate, take, refl, sym, ap, subst, ◌∙◌, arith}
 use Rattle.std.specs.Prelude.{nat_eq, slice_index}
 use Rattle.std.specs.Cmp.Lexicographic.{bytes_decides, pointwise}
-use Rattle.std.proofs.lemmas.List.{drop-drop, ext_get_or, length-take-le, take-append-drop, take-append-le, take-take}
+use Rattle.std.proofs.lemmas.List.{drop-drop, ext_get_or, length-replicate, length-take-le, take-append-drop, take-append-le, take-take, take_all}
 use Rattle.std.proofs.lemmas.Slice.{drop-append-drop}
 use Rattle.std.proofs.lemmas.Bool.Decides.{Decides-eqb}
 use Rattle.std.proofs.lemmas.Nat.{le_bytes_8}
-use Rattle.name_index.specs.Short.{padded, text_in, word_at}
+use Rattle.std.specs.Str.{IsUtf8}
+use Rattle.name_index.specs.Short.{IsKey, padded, text_in, word_at}
 
 eight : (bs : List ℕ) (at : ℕ) → List ℕ
 eight bs at = slice_index bs at ∷ slice_index bs (at + 1) ∷ slice_index bs (at + 2) ∷ slice_index bs (at + 3) ∷ slice_index bs (at + 4) ∷ slice_index bs (at + 5) ∷ slice_index bs (at + 6) ∷ slice_index bs (at + 7) ∷ []
@@ -82,3 +83,28 @@ both_ends t b s l e le =
     let back : drop s (drop l (take s t ++ drop s b)) ≡ drop (length t) b =
     drop-drop s l (take s t ++ drop s b) ∙ ap (λ n. drop n (take s t ++ drop s b)) e ∙ drop-append-drop s b (take s t) (length t) (omega arith) short in
     (λ i. front i ++ (drop l t ++ back i)) ∙ sym (append_assoc (take l t) (drop l t) (drop (length t) b)) ∙ ap (λ xs. xs ++ drop (length t) b) (take-append-drop l t)
+
+-- the key of a text
+last_at : (xs : List ℕ) (x k : ℕ) → length xs ≡ k → get_or (xs ++ x ∷ []) k 0 ≡ x
+last_at [] x zero h = refl
+last_at [] x (suc k) h = absurd (omega (arith, h))
+last_at (y ∷ xs) x zero h = absurd (omega (arith, h))
+last_at (y ∷ xs) x (suc k) h = last_at xs x k (omega (arith, h))
+
+module _ (t : List ℕ) (short : length t ≤ 15) where
+  filled : length (t ++ replicate (15 - length t) 0) ≡ 15
+  filled = length-append t (replicate (15 - length t) 0) ∙ ap (λ n. length t + n) (length-replicate (15 - length t) 0) ∙ omega arith
+
+  count_of : slice_index (padded t) 15 ≡ length t
+  count_of = last_at (t ++ replicate (15 - length t) 0) (length t) 15 filled
+
+  pub text_in-padded : text_in (padded t) ≡ t
+  text_in-padded = ap (λ n. take n (padded t)) count_of ∙ take-append-le (length t) (t ++ replicate (15 - length t) 0) (length t ∷ []) (omega (arith, filled)) ∙ take-append-le (length t) t (replicate (15 - length t) 0) (omega arith)
+      ∙ take_all (length t) t (omega arith)
+
+  pub key_of : IsUtf8 t → (bytes : List ℕ) → bytes ≡ padded t → IsKey bytes
+  key_of text bytes e = subst IsKey (sym e) (record {
+    whole = ap padded (sym text_in-padded);
+    count = subst (λ n. n ≤ 15) (sym count_of) short;
+    utf8 = subst IsUtf8 (sym text_in-padded) text;
+  })

@@ -1,16 +1,17 @@
 -- The names of entities: a finite map from the bytes of a name to the entity that has it.
-use Rattle.std.specs.Prelude.{◌≡◌, ◌≢◌, ℕ, ◌==◌, ◌&&◌, ◌++◌, Bool, true, false, List, ◌↔◌, Some, None, map, nat_eq, refl}
+use Rattle.std.specs.Prelude.{Option, ◌≡◌, ◌≢◌, ℕ, ◌==◌, ◌&&◌, ◌++◌, Bool, true, false, List, ◌↔◌, Some, None, map, nat_eq, refl}
 use Rattle.std.specs.Ordering.{nat_cmp}
 use Rattle.std.specs.Cmp.Lexicographic.{pointwise, slice_cmp}
+use Rattle.std.specs.Option.{option_or}
 use Rattle.std.specs.Coded.{Coded, code_by, coded×, coded_ℕ}
 use Rattle.std.specs.declared.string.String.{String}
 use Rattle.std.specs.String.{string_bytes}
-use Rattle.std.specs.HashMap.{HashMap, get, get_by_text}
+use Rattle.std.specs.HashMap.{HashMap, IsUnique, get, get_by_text}
 use Rattle.std.specs.FinMap as finite
 use Rattle.ecs_id.specs.declared.EntityId.{EntityId}
 use Rattle.name_index.specs.declared.texts.Texts.{Texts}
 use Rattle.name_index.specs.Short.{is_short}
-use Rattle.name_index.specs.Texts.{text_of}
+use Rattle.name_index.specs.Texts.{first_of, other_of}
 
 abbrev pub Names : Type 0
 Names = finite.FinMap (slice_cmp nat_cmp) EntityId
@@ -46,7 +47,14 @@ pub record AreApart {Y R S : Type 0} (short : HashMap (List ℕ) EntityId R) (lo
   pub shorts : (q : List ℕ) → is_short q ≡ false → get (pointwise nat_eq) short q ≡ None
   pub longs : (q : List ℕ) → is_short q ≡ true → get_by_text long q ≡ None
 
+-- two ways to an entity's name tell of all the names, and of no others
+pub record Tells (first other : EntityId → Option (List ℕ)) (names : Names) : Type 0 where
+  pub placed : (q : List ℕ) (e : EntityId) → first e ≡ Some q → finite.get names q ≡ Some e
+  pub apart : (q : List ℕ) (e : EntityId) → other e ≡ Some q → finite.get names q ≡ Some e
+  pub told : (q : List ℕ) (e : EntityId) → finite.get names q ≡ Some e → option_or (first e) (other e) ≡ Some q
+
 -- and each entity that has a name is kept with it
 pub record AreKept {Y R S : Type 0} (short : HashMap (List ℕ) EntityId R) (long : HashMap (String Y) EntityId S) (texts : Texts Y) : Type 0 where
   pub apart : AreApart short long
-  pub at : (q : List ℕ) (e : EntityId) → (text_of texts e ≡ Some q) ↔ (finite.get (names_in short long) q ≡ Some e)
+  pub unique : IsUnique (pointwise nat_eq) short
+  pub tells : Tells (first_of texts short.entries) (other_of texts) (names_in short long)

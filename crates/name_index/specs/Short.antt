@@ -1,6 +1,7 @@
 -- Short names as keys: sixteen bytes, of which the last is the length.
-use Rattle.std.specs.Prelude.{ℕ, ◌+◌, ◌-◌, Bool, List, [], ◌∷◌, ◌++◌, length, nat_le, replicate, slice_index, take}
+use Rattle.std.specs.Prelude.{◌≡◌, ℕ, ◌+◌, ◌-◌, ◌≤◌, Bool, List, [], ◌∷◌, ◌++◌, length, nat_le, replicate, slice_index, take}
 use Rattle.std.specs.Int.{w64, from_le_bytes}
+use Rattle.std.specs.Str.{IsUtf8}
 
 -- whether a text is one of at most 15 bytes
 abbrev pub is_short : List ℕ → Bool
@@ -13,6 +14,12 @@ padded text = text ++ replicate (15 - length text) 0 ++ length text ∷ []
 -- the text of a key
 abbrev pub text_in : List ℕ → List ℕ
 text_in bytes = take (slice_index bytes 15) bytes
+
+-- sixteen bytes that are the key of a text
+pub record IsKey (bytes : List ℕ) : Type 0 where
+  pub whole : bytes ≡ padded (text_in bytes)
+  pub count : slice_index bytes 15 ≤ 15
+  pub utf8 : IsUtf8 (text_in bytes)
 
 -- eight bytes as a number
 abbrev pub word_at : List ℕ → ℕ → ℕ

@@ -1,13 +1,16 @@
 //! The names of entities, one to one: no two entities have one name, and no entity has two.
 #![tactic(auto)]
 
-ghost use Rattle.std.specs.Prelude.{◌≡◌, ◌≢◌, ◌↔◌, ℕ, List, false, true, None, Some, IsSome, IfNone, OnOk, OnErr, IsErrOf};
+ghost use Rattle.std.specs.Prelude.{◌≡◌, ◌≢◌, ◌↔◌, ℕ, List, false, nat_eq, true, None, Some, IsSome, IfNone, OnOk, OnErr, IsErrOf};
+ghost use Rattle.std.specs.Cmp.Lexicographic.{pointwise};
+ghost use Rattle.std.specs.HashMap.{IsUnique};
 ghost use Rattle.std.specs.Option.{option_copied};
 ghost use Rattle.std.specs.FinMap as finite;
 ghost use Rattle.ecs_id.specs.declared.EntityId.{EntityId};
 ghost use Rattle.ecs_model.specs.Text.{is_name};
 ghost use Rattle.name_index.specs.Names.{AreApart, IsOneToOne, IsUnnamed, OthersKeepTheirs, names_in};
 ghost use Rattle.name_index.specs.Short.{is_short};
+ghost use Rattle.name_index.specs.Texts.{first_of, other_of};
 
 mod error;
 mod keyed;
@@ -108,14 +111,15 @@ impl<A: Allocator + Copy> NameIndex<A> {
         ensures memory { IsErrOf result BindError.Memory → finite.get self.old name.now ≡ None }
         ensures refused { OnErr result (self.new ≡ self.old) }
     {
-        let Ok(place) = self.short.entry(key) else {
+        let place = self.texts.place_for(&self.short, entity);
+        let Ok(entry) = self.short.entry(key) else {
             return Err(BindError::Memory);
         };
-        match place {
+        match entry {
             Entry::Occupied(_) => Err(BindError::NameTaken),
-            Entry::Vacant(place) => {
-                self.texts.set(entity, name)?;
-                place.insert(entity);
+            Entry::Vacant(vacant) => {
+                self.texts.set(entity, name, place)?;
+                vacant.insert(entity);
                 Ok(())
             }
         }
@@ -139,7 +143,7 @@ impl<A: Allocator + Copy> NameIndex<A> {
         }
         let key = String::from_str(*self.long.allocator(), name)?;
         self.long.reserve(1)?;
-        self.texts.set(entity, name)?;
+        self.texts.set_apart(entity, name)?;
         self.long.insert(key, entity).unwrap();
         Ok(())
     }
@@ -172,7 +176,7 @@ impl<A: Allocator> NameIndex<A> {
             → (option_copied result ≡ Some name) ↔ (finite.get self.now name ≡ Some entity) }
         ensures unnamed { IfNone result (IsUnnamed self.now entity) }
     {
-        self.texts.get(entity)
+        self.texts.get(&self.short, entity)
     }
 
     /// Frees the name of the entity. Of an entity without a name it does nothing.
@@ -183,11 +187,24 @@ impl<A: Allocator> NameIndex<A> {
             → finite.get self.old name ≡ Some entity → self.new ≡ finite.remove self.old name }
         ensures unnamed { IsUnnamed self.old entity → self.new ≡ self.old }
     {
-        let Some(name) = self.texts.get(entity) else {
-            return;
-        };
-        take_out(&mut self.short, &mut self.long, name);
-        self.texts.remove(entity);
+        match self.texts.find(&self.short, entity) {
+            Some(found) => {
+                let place = found.0;
+                self.texts.take(&mut self.short, place);
+                self.texts.forget(entity);
+            }
+            None => {
+                let Some(name) = self.texts.remove(entity) else {
+                    return;
+                };
+                take_out(
+                    &mut self.short,
+                    &mut self.long,
+                    &mut self.texts,
+                    name.as_str(),
+                );
+            }
+        }
     }
 
     // Whether an entity has the name, which isn't short.
@@ -200,15 +217,27 @@ impl<A: Allocator> NameIndex<A> {
     }
 }
 
-// Takes a name out of its map.
-fn take_out<A: Allocator>(short: &mut ByShort<A>, long: &mut ByLong<A>, name: &str)
-    requires { AreApart short.old long.old }
+// Takes a name out of its map, which has it.
+fn take_out<A: Allocator>(
+    short: &mut ByShort<A>,
+    long: &mut ByLong<A>,
+    texts: &mut Texts<A>,
+    name: &str,
+)
+    requires apart { AreApart short.old long.old }
+    requires unique { IsUnique (pointwise nat_eq) short.old }
+    requires held { IsSome (finite.get (names_in short.old long.old) name.now) }
     ensures removed { names_in short.new long.new ≡ finite.remove (names_in short.old long.old) name.now }
     ensures apart { AreApart short.new long.new }
+    ensures unique { IsUnique (pointwise nat_eq) short.new }
+    ensures stay { (q : List ℕ) (e : EntityId) → q ≢ name.now → first_of texts.old short.old.entries e ≡ Some q → first_of texts.new short.new.entries e ≡ Some q }
+    ensures others { (e : EntityId) → other_of texts.new e ≡ other_of texts.old e }
 {
     match ShortName::new(name) {
         Some(key) => {
-            short.swap_remove(&key);
+            if let Some(place) = short.get_index_of(&key) {
+                texts.take(short, place);
+            }
         }
         None => {
             long.swap_remove(name);

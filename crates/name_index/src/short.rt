@@ -7,26 +7,32 @@ ghost use Rattle.name_index.specs.Short.{is_short, padded, word_at};
 
 use std::hash::{Hash, Hasher};
 use std::marker::Model;
+use std::str;
 
 /// So many bytes a short name has at most.
 pub(crate) const MOST: usize = 15;
 
 /// A name of at most 15 bytes, as a key that takes no block and is compared as two words.
-#[derive(Drop)]
+#[derive(Clone, Copy)]
 pub struct ShortName {
     /// Those of the name, zeros, and the length.
     bytes: [u8; 16],
 }
 
 impl Model for ShortName {
-    ghost use Rattle.std.specs.Prelude.{◌≡◌, List, ℕ};
-    ghost use Rattle.name_index.specs.Short.{padded, text_in};
+    ghost use Rattle.std.specs.Prelude.{List, ℕ};
+    ghost use Rattle.std.proofs.Common.{ap, sym};
+    ghost use Rattle.name_index.specs.Short.{IsKey, padded, text_in};
 
     ghost Value = { List ℕ };
 
     ghost view = { λ k. text_in k.bytes };
 
-    ghost invariant = { λ k. k.bytes ≡ padded (text_in k.bytes) };
+    ghost inverse = { λ text. record { bytes = padded text } };
+
+    ghost inverse_ok = { λ k h. ap (λ bytes. record { bytes = bytes }) (sym h.whole) };
+
+    ghost invariant = { λ k. IsKey k.bytes };
 }
 
 impl ShortName {
@@ -35,16 +41,34 @@ impl ShortName {
     pub(crate) fn new(text: &str) -> Option<ShortName>
         ensures { MatchOption result (is_short text.now ≡ false) (λ k. (k ≡ text.now) × (is_short text.now ≡ true)) }
     {
-        let text = text.as_bytes();
-        let count = text.len();
-        if count > MOST {
+        if text.len() > MOST {
             return None;
         }
-        let mut bytes = [0; 16];
-        put_short(text, &mut bytes);
-        bytes[MOST] = count as u8;
-        Some(ShortName { bytes })
+        Some(ShortName {
+            bytes: key_bytes(text.as_bytes()),
+        })
     }
+
+    /// The text.
+    pub(crate) fn as_str(&self) -> &str
+        ensures { result.now ≡ self.now }
+    {
+        let count = usize::from(self.bytes[MOST]);
+        // SAFETY: these bytes were those of a text.
+        unsafe { str::from_utf8_unchecked(&self.bytes[..count]) }
+    }
+}
+
+/// The bytes of the key of a short text.
+#[inline(always)]
+fn key_bytes(text: &[u8]) -> [u8; 16]
+    requires { length text.now ≤ 15 }
+    ensures { result ≡ padded text.now }
+{
+    let mut bytes = [0; 16];
+    put_short(text, &mut bytes);
+    bytes[MOST] = text.len() as u8;
+    bytes
 }
 
 /// Writes a short text over the first bytes. Words are copied, since a call that copies any number of bytes takes longer.
