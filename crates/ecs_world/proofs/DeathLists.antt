@@ -1,6 +1,6 @@
 -- Lists of the dead, and what is forgotten of them, one after another.
-use Rattle.std.proofs.Common.{◌≡◌, ◌≢◌, ◌↔◌, ◌⊎◌, ℕ, ◌+◌, ◌<◌, ◌==◌, Bool, true, false, ◌||◌, List, [], ◌∷◌, ◌++◌, length, get_or, take, Option, Some, None, option_map, is_some, Result, Ok, Err, is_ok, is_err, if◌then◌else◌, refl, sym, ap, ◌∙◌, inl, inr, arith, true≢false}
-use Rattle.std.specs.Prelude.{map}
+use Rattle.std.proofs.Common.{◌≡◌, ◌≢◌, ◌↔◌, ◌⊎◌, ℕ, ◌+◌, ◌<◌, ◌==◌, Bool, true, false, ◌||◌, List, [], ◌∷◌, ◌++◌, length, get_or, take, Option, Some, None, Result, Ok, Err, is_ok, is_err, if◌then◌else◌, refl, sym, ap, ◌∙◌, inl, inr, arith, true≢false}
+use Rattle.std.specs.Prelude.{map, slice_get}
 use Rattle.std.proofs.lemmas.List.{take_more}
 use Rattle.std.proofs.lemmas.List.Elements.{Contains-append_left, Contains-append_right, Contains-push_cases, filter_map-append}
 use Rattle.std.proofs.lemmas.List.Folds.{list_any-append}
@@ -12,7 +12,7 @@ use Rattle.std.specs.Ordering.{nat_cmp}
 use Rattle.std.proofs.Math.Bool.{or-false}
 use Rattle.rel_traits.proofs.DeletedSets.{flipped}
 use Rattle.ecs_id.specs.declared.EntityId.{EntityId}
-use Rattle.ecs_model.specs.Map.{IsMap, Map, value_at, without}
+use Rattle.ecs_model.specs.Map.{IsMap, Map, without}
 use Rattle.ecs_model.specs.World.{WorldState, entity_at, name_of}
 use Rattle.ecs_model.proofs.traits.Deletions.{nat_IsMap-without}
 use Rattle.name_index.specs.Names.{IsUnnamed, Names, OthersKeepTheirs, entity_eq}
@@ -54,6 +54,12 @@ entities_same w is k d inside at = entities_more w is k d inside None at ∙ non
 
 pub deaths_same : (w : WorldState) (is : List ℕ) (k d : ℕ) → k < length is → None ≡ entity_at w (get_or is k d) → deaths_of w (take (k + 1) is) ≡ deaths_of w (take k is)
 deaths_same w is k d inside at = deaths_more w is k d inside None at ∙ none_more (deaths_of w (take k is))
+
+-- the first of a list of one fact at most
+pub few_listed : {X : Type 0} (xs : List X) → length xs < 2 → listed (slice_get xs 0) ≡ xs
+few_listed [] few = refl
+few_listed (x ∷ []) few = refl
+few_listed (x ∷ y ∷ xs) few = absurd (omega arith)
 
 -- the names and fields of these entities are forgotten, and no others
 pub record AreForgotten {X : Type 0} (old new : Names) (fields left : Map ℕ X) (dead : List EntityId) : Type 0 where
@@ -102,11 +108,3 @@ forgotten_more {X} old mid new fields between left dead e so_far freed others ta
         same i =
             ap (λ b. list_any (λ e. e.index == i) dead || b) (flipped i e.index ∙ sym (or-false (e.index == i)))
             ∙ sym (list_any-append (λ e. e.index == i) dead (e ∷ []))
-
--- the entity at an index has it
-pub at_index : (w : WorldState) (i : ℕ) (e : EntityId) → Some e ≡ entity_at w i → e.index ≡ i
-at_index w i e at = by (value_at nat_cmp w.live i) at
-  where
-    by : (o : Option ℕ) → Some e ≡ option_map (λ g. record { index = i; generation = g }) o → e.index ≡ i
-    by None p = absurd (true≢false (ap is_some p))
-    by (Some g) p = let same : e ≡ record { index = i; generation = g } = cc in ap (λ f. f.index) same

@@ -24,6 +24,10 @@ use Rattle.ecs_world.proofs.States.{bytes_told, ids_is, settled_at}
 pub state_is : {s t : Standing} → s ≡ t → s.state ≡ t.state
 state_is is = ap (λ u. u.state) is
 
+-- what is so of two worlds, is so of those that they are seen as
+pub seen_as : {s t u v : Standing} (P : Standing → Standing → Type 0) → s ≡ t → u ≡ v → P s v → P t u
+seen_as {s} {t} {u} {v} P begun ended p = subst (λ x. P x u) begun (subst (P s) (sym ended) p)
+
 -- the tables go on from those that were seen
 pub going_on : {s t : Standing} {n : Store} → s ≡ t → TablesGoOn s.tables n → TablesGoOn t.tables n
 going_on {n = n} is on = subst (λ u. TablesGoOn u.tables n) is on

@@ -2,8 +2,8 @@
 
 ghost use Rattle.std.specs.Prelude.{◌≡◌, [], ◌∷◌, IfOk};
 ghost use Rattle.std.specs.Option.{option_copied};
-ghost use Rattle.ecs_world.specs.Changes.{changed_in, replaced_in};
-ghost use Rattle.ecs_world.specs.State.{birth, no_change};
+ghost use Rattle.ecs_world.specs.Changes.{changed_in, fallen_in, replaced_in};
+ghost use Rattle.ecs_world.specs.State.{birth, listed, no_change};
 
 use crate::Memory;
 use crate::death_names::DeathName;
@@ -140,6 +140,35 @@ impl<A: Allocator> Replacement<A> {
     }
 }
 
+/// Entities that died, and the fact that went with them.
+#[derive(Drop)]
+struct Fallen<A: Allocator> {
+    died: Vec<Death<A>, A>,
+    went: Option<FactKey>,
+}
+
+/// Deaths with which one fact went at most, so that it takes no list. A command makes them before it changes its world.
+#[derive(Drop)]
+pub(crate) struct Deaths<A: Allocator> {
+    fallen: Box<Fallen<A>, A>,
+}
+
+impl<A: Allocator> Deaths<A> {
+    /// Entities that die, by ascending index, and the fact that goes.
+    pub(crate) fn new(
+        alloc: A,
+        died: Vec<Death<A>, A>,
+        went: Option<FactKey>,
+    ) -> Result<Self, Memory>
+        ensures { IfOk result (λ deaths. fallen_in deaths ≡ record no_change { died = died.items; went = listed went }) }
+    {
+        match Box::new(alloc, Fallen { died, went }) {
+            Ok(fallen) => Ok(Deaths { fallen }),
+            Err(_) => Err(Memory),
+        }
+    }
+}
+
 /// What a command tells, which most of them tell of one fact or one entity without memory.
 #[derive(Drop)]
 enum Told<A: Allocator> {
@@ -153,6 +182,7 @@ enum Told<A: Allocator> {
     Written(FactKey),
     /// A fact came and its value was set.
     CameWritten(FactKey),
+    Died(Deaths<A>),
     Lists(ChangeLists<A>),
 }
 
@@ -191,6 +221,7 @@ impl<A: Allocator> Changes<A> {
         ensures { result.now ≡ self.now.died }
     {
         match &self.told {
+            Told::Died(deaths) => deaths.fallen.died.as_slice(),
             Told::Lists(changes) => changes.lists.died.as_slice(),
             _ => &[],
         }
@@ -217,6 +248,7 @@ impl<A: Allocator> Changes<A> {
         match &self.told {
             Told::Went(fact) => slice::from_ref(fact),
             Told::Replaced(replacement) => slice::from_ref(&replacement.facts.went),
+            Told::Died(deaths) => deaths.fallen.went.as_slice(),
             Told::Lists(changes) => changes.lists.went.as_slice(),
             _ => &[],
         }
@@ -303,6 +335,14 @@ impl<A: Allocator> Changes<A> {
     {
         Changes {
             told: Told::CameWritten(key),
+        }
+    }
+
+    pub(crate) fn of_deaths(deaths: Deaths<A>) -> Changes<A>
+        ensures { result ≡ fallen_in deaths }
+    {
+        Changes {
+            told: Told::Died(deaths),
         }
     }
 

@@ -1,6 +1,6 @@
 //! `delete`, with all who fall with an entity and all facts that mention these.
 
-ghost use Rattle.std.specs.Prelude.{◌≡◌, ◌==◌, ◌↔◌, ℕ, List, None, Some, true, Contains, IfErr, OnErr, OnOk, filter};
+ghost use Rattle.std.specs.Prelude.{◌≡◌, ◌==◌, ◌↔◌, ◌<◌, ℕ, List, None, Some, false, true, Contains, IfErr, IfOk, OnErr, OnOk, filter, length};
 ghost use Rattle.std.specs.List.{list_any};
 ghost use Rattle.std.specs.Ordering.{nat_cmp};
 ghost use Rattle.std.specs.FinMap as finite;
@@ -9,28 +9,30 @@ ghost use Rattle.ecs_id.specs.declared.EntityId.{EntityId};
 ghost use Rattle.ecs_model.specs.Command.{AnswersStep};
 ghost use Rattle.ecs_model.specs.Map.{IsMap, keys, without};
 ghost use Rattle.ecs_model.specs.Refusal.{first_reason};
-ghost use Rattle.ecs_model.specs.World.{is_alive};
+ghost use Rattle.ecs_model.specs.World.{is_alive, is_built_in as is_built_in_index, name_of};
 ghost use Rattle.ecs_model.specs.traits.Changes.{deleted, mentions_gone};
 ghost use Rattle.ecs_model.specs.traits.Command.{Delete, delete_reasons, reasons, step, without_entities};
 ghost use Rattle.ecs_world.specs.Changes.{TellsRefusal, deaths_of, entities_at};
+ghost use Rattle.ecs_world.specs.State.{listed, no_change};
 ghost use Rattle.ecs_world.specs.Releases.{NoneGo, OnlyForgottenGo, mentions_one};
 ghost use Rattle.rel_traits.specs.Deletions.{is_lost};
 ghost use Rattle.table_store.specs.Going.{TablesGoOn};
 
-use crate::changes::ChangeLists;
+use crate::changes::{ChangeLists, Deaths};
 use crate::death_names::DeathName;
 use crate::refusals::is_built_in;
 use crate::releases::release_dead;
 use crate::{Changes, Death, Memory, World};
 use ecs_archetypes::Links;
 use ecs_id::EntityId;
+use ecs_model::FactKey;
 use ecs_model::faults::{CommandError, Refusal};
 use ecs_schema::Schema;
 use name_index::NameIndex;
 use rel_traits::{Deletion, judge_delete};
 use std::alloc::Allocator;
 use std::collections::BTreeMap;
-use std::slice;
+use std::{mem, slice};
 
 impl<A: Allocator + Copy> World<A> {
     /// Deletes an entity, and with it all who fall by the cleanup rules of what they hold: OnDelete and OnDeleteTarget with Delete. All facts
@@ -46,21 +48,35 @@ impl<A: Allocator + Copy> World<A> {
         if is_built_in(entity.index) {
             return Err(CommandError::Refused(Refusal::BuiltIn));
         }
-        let mut deletion = Deletion::new(self.alloc);
-        self.find_deletion(entity, &mut deletion)?;
-        let mut died = Vec::new(self.alloc);
-        if self.list_deaths(&deletion.dead, &mut died).is_err() {
-            return Err(CommandError::Memory);
-        }
-        let Ok(lists) = ChangeLists::new(self.alloc) else {
+        // Its lists are lent by the world, so that not every deletion takes some.
+        let mut deletion = mem::replace(&mut self.deletion, Deletion::new(self.alloc));
+        let changes = self.delete_with(entity, &mut deletion);
+        self.deletion = deletion;
+        changes
+    }
+
+    /// Deletes a live entity that isn't built in, with all who fall with it.
+    fn delete_with(
+        &mut self,
+        entity: EntityId,
+        deletion: &mut Deletion<A>,
+    ) -> Result<Changes<A>, CommandError>
+        requires alive { is_alive self.old.state entity ≡ true }
+        requires own { is_built_in_index entity.index ≡ false }
+        ensures answers { AnswersStep result (step self.old.state (Delete entity)) self.old.state self.new.state }
+        ensures goes_on { TablesGoOn self.old.tables self.new.tables }
+        ensures stay { OnlyForgottenGo self.old self.new }
+    {
+        self.keeps();
+        self.find_deletion(entity, deletion)?;
+        let Ok(changes) = self.tell_deletion(deletion) else {
             return Err(CommandError::Memory);
         };
-        if self.bury(entity, &deletion).is_err() {
+        if self.bury(entity, deletion).is_err() {
             return Err(CommandError::Memory);
         }
         self.accepted += 1;
-        let lists = lists.with_facts(Vec::new(self.alloc), deletion.went);
-        Ok(Changes::of_lists(lists.with_died(died)))
+        Ok(changes)
     }
 
     /// Finds all who are deleted with an entity and what goes with them, or why they can't be deleted. The world stays as it is.
@@ -99,6 +115,24 @@ impl<A: Allocator + Copy> World<A> {
         Ok(())
     }
 
+    /// What a deletion will have changed. All memory that this takes is got here.
+    fn tell_deletion(&self, deletion: &mut Deletion<A>) -> Result<Changes<A>, Memory>
+        ensures told { IfOk result (λ changes. changes ≡ record no_change { died = deaths_of self.now.state deletion.old.dead.items; went = deletion.old.went.items }) }
+        ensures dead { deletion.new.dead ≡ deletion.old.dead }
+        ensures lost { deletion.new.lost ≡ deletion.old.lost }
+    {
+        let mut died = Vec::new(self.alloc);
+        self.list_deaths(&deletion.dead, &mut died)?;
+        if deletion.went.len() < 2 {
+            let deaths = Deaths::new(self.alloc, died, only_of(&deletion.went))?;
+            return Ok(Changes::of_deaths(deaths));
+        }
+        let lists = ChangeLists::new(self.alloc)?;
+        let went = mem::replace(&mut deletion.went, Vec::new(self.alloc));
+        let lists = lists.with_facts(Vec::new(self.alloc), went);
+        Ok(Changes::of_lists(lists.with_died(died)))
+    }
+
     /// Lists the live entities of these indexes with their names.
     fn list_deaths(&self, indexes: &[u32], died: &mut Vec<Death<A>, A>) -> Result<(), Memory>
         ensures { OnOk result (died.new.items ≡ deaths_of self.now.state indexes.now) }
@@ -106,16 +140,24 @@ impl<A: Allocator + Copy> World<A> {
         died.clear();
         for index in indexes {
             if let Some(entity) = self.at(*index) {
-                let name = match self.name_of(*index) {
-                    None => None,
-                    Some(name) => Some(DeathName::copied(self.alloc, name)?),
-                };
-                if died.push(Death::new(entity, name)).is_err() {
+                let death = self.death_of(entity)?;
+                if died.push(death).is_err() {
                     return Err(Memory);
                 }
             }
         }
         Ok(())
+    }
+
+    /// The death of an entity, with its name.
+    fn death_of(&self, entity: EntityId) -> Result<Death<A>, Memory>
+        ensures { IfOk result (λ death. death ≡ (entity, name_of self.now.state entity.index)) }
+    {
+        let name = match self.name_of(entity.index) {
+            None => None,
+            Some(name) => Some(DeathName::copied(self.alloc, name)?),
+        };
+        Ok(Death::new(entity, name))
     }
 
     /// Deletes the entities that were found, with all facts that mention them. The command is not counted yet.
@@ -178,6 +220,14 @@ impl<A: Allocator + Copy> World<A> {
         }
         Ok(())
     }
+}
+
+/// The fact of a list that has one at most.
+fn only_of(facts: &[FactKey]) -> Option<FactKey>
+    requires { length facts.now < 2 }
+    ensures { listed result ≡ facts.now }
+{
+    facts.first().copied()
 }
 
 /// Forgets the names of the dead, and the fields of those that were components.

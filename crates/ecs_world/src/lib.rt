@@ -52,7 +52,7 @@ pub use ecs_model::FactKey;
 use ecs_schema::Schema;
 use name_index::NameIndex;
 pub use raw_column::Memory;
-use rel_traits::PinCounts;
+use rel_traits::{Deletion, PinCounts};
 use rel_travel::Scratch;
 use std::alloc::{Allocator, Global};
 use std::collections::BTreeMap;
@@ -73,6 +73,8 @@ pub struct World<A: Allocator = Global> {
     scratch: Scratch<A>,
     /// Room for the moves of one command.
     plan: FactPlan<A>,
+    /// Room for the lists of one deletion.
+    deletion: Deletion<A>,
     alloc: A,
 }
 
@@ -87,6 +89,7 @@ impl<A: Allocator> Drop for World<A> {
             accepted: _,
             scratch: _,
             plan: _,
+            deletion: _,
             alloc: _,
         } = self;
     }
@@ -122,6 +125,7 @@ impl<A: Allocator + Copy> World<A> {
             accepted: 0,
             scratch: Scratch::new(alloc),
             plan: FactPlan::new(alloc),
+            deletion: Deletion::new(alloc),
             alloc,
         })
     }

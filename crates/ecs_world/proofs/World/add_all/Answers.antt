@@ -9,7 +9,8 @@ use Rattle.ecs_model.specs.traits.Command.{Add, add_reasons, reasons}
 use Rattle.ecs_model.specs.traits.Keeps.{IsWellFormed}
 use Rattle.rel_traits.specs.Additions.{is_of_built_in}
 use Rattle.rel_traits.specs.FactLists.{IsOfLive}
-use Rattle.ecs_world.proofs.AcceptedCommands.{on_ok}
+use Rattle.ecs_archetypes.specs.Staying.{stay_all}
+use Rattle.ecs_world.proofs.AcceptedCommands.{on_err, on_ok}
 use Rattle.ecs_model.proofs.StepAnswers.{answers_refused}
 use Rattle.ecs_world.proofs.CommandCounts.{counted_state, counted_world}
 use Rattle.ecs_world.proofs.FirstReasons.{add_of_dead, add_otherwise, add_to_built_in}
@@ -107,3 +108,7 @@ returns-clause-stay g c =
     let brought_stay = on_ok c.bring.result c.bring.ensures.stay (sym c.is_err-2.ensures.value ∙ c.if-is_err-2.false) in
     going_to (c.addition_refusal.ensures.same ∙ c.list_additions.ensures.same) c.bring.new.self (sym (ap (λ s. s.tables) c.self-3.view_is))
     (added_stay c.args.self.now.state _ c.args.entity c.args.id lists sound c.addition_refusal.new.self.state c.addition_refusal.new.self.tables c.bring.new.self.tables brought_stay none left)
+
+pub returns-then-is_err-2-clause-stay : goal.returns-then-is_err-2-clause-stay
+returns-then-is_err-2-clause-stay g c =
+    going_to (c.addition_refusal.ensures.same ∙ c.list_additions.ensures.same) c.bring.new.self refl (stay_all (on_err c.bring.result c.bring.ensures.kept (sym c.is_err-2.ensures.value ∙ c.if-is_err-2.true)))
