@@ -1,0 +1,2 @@
+pub mod IdleFromLeft
+pub mod Asks

@@ -1,0 +1,14 @@
+use Rattle.std.proofs.Common.{append-nil, ap, ◌∙◌}
+use Rattle.std.specs.Prelude.{not}
+use Rattle.watch_concerns.specs.OwnIds.{lacks}
+use Rattle.watch_asked.specs.Asked.{have_all}
+use Rattle.watch_asked.proofs.Asks.{lacks_told}
+use Rattle.watch_asked.proofs.asked_query.AskedQuery.lacks.Goals as goal
+
+pub returns : goal.returns
+returns g c =
+    let q = (c.self.inside).query.now in
+    let ids = c.args.ids.now in
+    ap not (c.have_all.ensures ∙ (λ k. have_all ((c.as_slice.ensures.value ∙ c.self.invariant.this) k) (append-nil ids k)))
+    ∙ lacks_told ids q
+    ∙ ap (λ a. lacks a ids) c.self.view_is

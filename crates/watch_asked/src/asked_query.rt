@@ -1,0 +1,181 @@
+//! A query with what it asks, as it is judged.
+
+ghost use Rattle.std.specs.Prelude.{◌≡◌, ◌++◌, map, not};
+ghost use Rattle.watch_concerns.specs.Concerns.{concerns};
+ghost use Rattle.watch_concerns.specs.Idle.{is_idle};
+ghost use Rattle.watch_concerns.specs.Linked.{links_others};
+ghost use Rattle.watch_concerns.specs.Others.{concerns_below, concerns_others, says_how_far};
+ghost use Rattle.watch_concerns.specs.OwnIds.{lacks, meets};
+ghost use Rattle.watch_concerns.specs.Whom.{concern_of, joined};
+ghost use Rattle.watch_asked.specs.Asked.{IsAskedBy, any_counts, asked_concern, one_concern};
+
+use crate::asked::{AskedOf, AskedTerm, AskedTerms};
+use crate::asked_id::{any_asked, have_all};
+use ecs_id::Id;
+use ecs_model::FactKey;
+use ecs_model::built_ins::{REFLEXIVE, TRANSITIVE};
+use query_check::Query;
+use std::alloc::Allocator;
+use std::marker::Model;
+use watch_concerns::{
+    Concern, concerns_below, concerns_others, is_asked_by_all, links_others, meets,
+};
+
+const NOBODY: Concern = Concern {
+    anyone: false,
+    others: false,
+    below: false,
+};
+
+/// A query with what it asks.
+#[derive(Drop)]
+pub struct AskedQuery<'q, A: Allocator> {
+    query: &'q Query<A>,
+    terms: &'q AskedTerms<A>,
+}
+
+impl<'q, A: Allocator> Model for AskedQuery<'q, A> {
+    ghost use Rattle.query_model.specs.Query as queries;
+    ghost use Rattle.watch_asked.specs.Asked.{IsAskedBy};
+
+    ghost Value = { queries.Query };
+
+    ghost view = { λ asked. asked.query.now };
+
+    ghost invariant = { λ asked. IsAskedBy asked.query.now asked.terms.now };
+}
+
+impl<'q, A: Allocator> AskedQuery<'q, A> {
+    /// A query with what it asks.
+    pub fn new(query: &'q Query<A>, terms: &'q AskedTerms<A>) -> Self
+        requires asked { IsAskedBy query.now terms.now }
+        ensures { result ≡ query.now }
+    {
+        AskedQuery { query, terms }
+    }
+
+    /// Whether an id concerns it.
+    #[inline(always)]
+    pub fn concerns(&self, id: Id) -> bool
+        ensures { result ≡ concerns self.now id }
+    {
+        self.concern_of(id).anyone
+    }
+
+    /// For whom an id concerns it.
+    #[tactic(auto, unfolding(watch_concerns::specs::Concerns::concerns, watch_concerns::specs::Others::concerns_others, watch_concerns::specs::Others::concerns_below))]
+    pub fn concern_of(&self, id: Id) -> Concern
+        ensures { result ≡ concern_of self.now id }
+    {
+        let of_tags = Concern {
+            anyone: is_asked_by_all(id),
+            others: says_how_far(id),
+            below: false,
+        };
+        joined(of_tags, of_terms(self.terms.terms.as_slice(), id))
+    }
+
+    /// Whether an id concerns it for others than its holder and those below that.
+    pub fn concerns_others(&self, id: Id) -> bool
+        ensures { result ≡ concerns_others self.now id }
+    {
+        concerns_others(self.query, id)
+    }
+
+    /// Whether an id concerns it for those below its holder.
+    pub fn concerns_below(&self, id: Id) -> bool
+        ensures { result ≡ concerns_below self.now id }
+    {
+        concerns_below(self.query, id)
+    }
+
+    /// Whether it links others by an id.
+    pub fn links_others(&self, id: Id) -> bool
+        ensures { result ≡ links_others self.now id }
+    {
+        links_others(self.query, id)
+    }
+
+    /// Whether an entity with these ids lacks what it asks of `$this` itself.
+    #[inline(always)]
+    pub fn lacks(&self, ids: &[Id]) -> bool
+        ensures { result ≡ lacks self.now ids.now }
+    {
+        !have_all(self.terms.this.as_slice(), ids, &[])
+    }
+
+    /// Whether an entity with these ids meets all that it asks, by these ids alone.
+    #[inline(always)]
+    pub fn meets(&self, ids: &[Id]) -> bool
+        ensures { result ≡ meets self.now ids.now }
+    {
+        self.terms.may_meet && meets(self.query, ids)
+    }
+
+    /// Whether a fact of an id is busy: of somebody who has held no other ids than these, and those of these facts, it isn't idle.
+    pub fn is_busy(&self, ids: &[Id], facts: &[FactKey], id: Id) -> bool
+        ensures { result ≡ not (is_idle self.now (ids.now ++ map (λ k. k.1) facts.now) id) }
+    {
+        any_counts(self.terms.others.as_slice(), ids, facts, id)
+    }
+}
+
+/// Whether an id is a tag that says how far a relationship reaches.
+#[inline(always)]
+fn says_how_far(id: Id) -> bool
+    ensures { result ≡ says_how_far id }
+{
+    if id.second().is_some() {
+        return false;
+    }
+    let tag = id.first();
+    tag == TRANSITIVE || tag == REFLEXIVE
+}
+
+/// For whom either does.
+#[inline(always)]
+fn joined(one: Concern, other: Concern) -> Concern
+    ensures { result ≡ joined one other }
+{
+    Concern {
+        anyone: one.anyone | other.anyone,
+        others: one.others | other.others,
+        below: one.below | other.below,
+    }
+}
+
+fn of_terms(terms: &[AskedTerm], id: Id) -> Concern
+    ensures { result ≡ asked_concern id terms.now }
+{
+    let mut found = NOBODY;
+    for term in terms {
+        found = joined(found, of_term(term, id));
+    }
+    found
+}
+
+#[inline(always)]
+fn of_term(term: &AskedTerm, id: Id) -> Concern
+    ensures { result ≡ one_concern id term.now }
+{
+    if !term.asked.matches(id) {
+        return NOBODY;
+    }
+    Concern {
+        anyone: true,
+        others: !term.this,
+        below: term.below,
+    }
+}
+
+/// Whether somebody who has held no other ids than these, and those of these facts, is asked for an id as one for whom a variable may stand.
+fn any_counts<A: Allocator>(others: &[AskedOf<A>], ids: &[Id], facts: &[FactKey], id: Id) -> bool
+    ensures { result ≡ any_counts others.now (ids.now ++ map (λ k. k.1) facts.now) id }
+{
+    for asked in others {
+        if any_asked(asked.asks.as_slice(), id) && have_all(asked.needs.as_slice(), ids, facts) {
+            return true;
+        }
+    }
+    false
+}

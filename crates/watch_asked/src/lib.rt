@@ -1,0 +1,9 @@
+//! What a query asks, as patterns of ids with tests of words, by which ids are judged.
+#![tactic(auto)]
+
+mod asked;
+mod asked_id;
+mod asked_query;
+
+pub use asked::AskedTerms;
+pub use asked_query::AskedQuery;
