@@ -1,6 +1,6 @@
 -- What is kept of what a query asks tells what is asked of the query.
-use Rattle.std.proofs.Common.{◌≡◌, ℕ, ◌+◌, ◌<◌, ◌≤◌, Bool, true, false, List, [], ◌∷◌, ◌++◌, append-nil, length, map, refl, sym, take, ap, arith, ◌∙◌}
-use Rattle.std.specs.Prelude.{◌==◌, ◌&&◌, ◌||◌, not, flat_map, Option, Some, None, is_none, is_some, option_map, if◌then◌else◌}
+use Rattle.std.proofs.Common.{◌≡◌, ℕ, ◌+◌, ◌<◌, ◌≤◌, Bool, true, false, List, [], ◌∷◌, ◌++◌, length, map, refl, sym, take, ap, arith, ◌∙◌}
+use Rattle.std.specs.Prelude.{◌==◌, ◌&&◌, ◌||◌, not, flat_map, Option, Some, None, is_none, is_some, if◌then◌else◌}
 use Rattle.std.specs.List.{list_all, list_any, range_with_len}
 use Rattle.std.proofs.lemmas.Bool.{true≢false}
 use Rattle.std.proofs.lemmas.Bool.Decides.{nat_tests}
@@ -8,8 +8,6 @@ use Rattle.std.proofs.lemmas.List.{take_all}
 use Rattle.std.proofs.lemmas.List.Folds.{list_all-append, list_any-append, list_any_more}
 use Rattle.std.proofs.lemmas.List.FromFn.{get_or-range_with_len, length-range_with_len}
 use Rattle.component_index.specs.Patterns.{matches, takes}
-use Rattle.component_index.specs.declared.pattern.Part.{Part}
-use Rattle.component_index.specs.declared.pattern.Part.TheVariants as part
 use Rattle.component_index.specs.declared.pattern.Pattern.{Pattern}
 use Rattle.ecs_id.specs.Id.{Id, plain, pair}
 use Rattle.ecs_model.specs.Links.{is_held}
@@ -18,7 +16,7 @@ use Rattle.query_check.specs.Terms.{terms}
 use Rattle.watch_concerns.specs.Anchored.{is_variable}
 use Rattle.watch_concerns.specs.Concerns.{concerns, is_asked_by_all, is_pair_of, leads_up, may_be, may_match, term_concerns}
 use Rattle.watch_concerns.specs.FromLeft.{depth_behind, is_end, passes_from, piece_passes}
-use Rattle.watch_concerns.specs.Idle.{asks_for, asks_itself, is_idle, item_lacks_of, term_asks_for}
+use Rattle.watch_concerns.specs.Idle.{asks_for, asks_itself, is_idle, item_lacks_of}
 use Rattle.watch_concerns.specs.Others.{asks_this, concerns_below, concerns_others, says_how_far, term_concerns_below, term_concerns_others}
 use Rattle.watch_concerns.specs.OwnIds.{item_is_met, item_lacks, lacks, lacks_from as lacks_before, meets, meets_from}
 use Rattle.watch_concerns.specs.Whom.{concern_of, joined, terms_concern}
@@ -28,7 +26,7 @@ use Rattle.query_model.specs.declared.query.Ref.{Ref}
 use Rattle.query_model.specs.declared.query.Ref.TheVariants.{Is, Var, Any, One}
 use Rattle.query_model.specs.declared.query.Term.{Term}
 use Rattle.query_model.specs.Query.{Item, must, may, either, equal, differ, Piece, item, opening, closing, Query}
-use Rattle.watch_asked.specs.Asked.{any_asked, any_counts, asked_by, asked_concern, asked_term, asked_terms, asks_by, asks_of, counts, group_idle, groups_idle, have_all, is_idle_from, item_needs, may_be_met, may_meet, needs_from, needs_in_front, pairs_of, part_of, piece_needs, up_asks}
+use Rattle.watch_asked.specs.Asked.{any_asked, any_counts, asked_by, asked_concern, asked_term, asked_terms, asks_by, asks_of, counts, groups_idle, have_all, is_idle_from, item_needs, may_be_met, may_meet, needs_from, needs_in_front, pairs_of, part_of, piece_needs, up_asks}
 use Rattle.watch_asked.specs.declared.asked.AskedOf.{AskedOf}
 use Rattle.watch_asked.specs.declared.asked.AskedTerm.{AskedTerm}
 use Rattle.watch_asked.proofs.IdleFromLeft.{idle_left}

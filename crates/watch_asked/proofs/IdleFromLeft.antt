@@ -13,7 +13,7 @@ use Rattle.watch_concerns.specs.Bonds.{groups_are_bound, has_directly}
 use Rattle.watch_concerns.specs.FromLeft.{depth_behind, is_end, passes_from, piece_passes}
 use Rattle.watch_concerns.specs.Idle.{asks_for, is_idle, is_idle_for, item_lacks_of}
 use Rattle.watch_concerns.proofs.UnaskedVariables.{idle_by_variables}
-use Rattle.watch_asked.specs.Asked.{group_idle, groups_idle, is_idle_from}
+use Rattle.watch_asked.specs.Asked.{groups_idle, is_idle_from}
 
 -- the level in which items count: the whole query's, or that of the group that is open, behind so many inner ones
 abbrev left : Bool → ℕ → List Level → Level

@@ -1,7 +1,8 @@
 //! A query with what it asks, as it is judged.
 
-ghost use Rattle.std.specs.Prelude.{◌≡◌, ◌++◌, map, not};
-ghost use Rattle.watch_concerns.specs.Concerns.{concerns};
+ghost use Rattle.std.specs.Prelude.{◌≡◌, ◌++◌, IfSome, List, false, map, not};
+ghost use Rattle.ecs_id.specs.Id as id_specs;
+ghost use Rattle.watch_concerns.specs.Concerns.{concerns, is_asked_by_all};
 ghost use Rattle.watch_concerns.specs.Idle.{is_idle};
 ghost use Rattle.watch_concerns.specs.Linked.{links_others};
 ghost use Rattle.watch_concerns.specs.Others.{concerns_below, concerns_others, says_how_far};
@@ -18,7 +19,8 @@ use query_check::Query;
 use std::alloc::Allocator;
 use std::marker::Model;
 use watch_concerns::{
-    Concern, concerns_below, concerns_others, is_asked_by_all, links_others, meets,
+    Concern, concern_of, concerns_below, concerns_others, is_asked_by_all, is_idle, lacks,
+    links_others, meets,
 };
 
 const NOBODY: Concern = Concern {
@@ -27,14 +29,15 @@ const NOBODY: Concern = Concern {
     below: false,
 };
 
-/// A query with what it asks.
+/// A query with what it asks, if that is kept. If not, each term is asked anew.
 #[derive(Drop)]
 pub struct AskedQuery<'q, A: Allocator> {
     query: &'q Query<A>,
-    terms: &'q AskedTerms<A>,
+    terms: Option<&'q AskedTerms<A>>,
 }
 
 impl<'q, A: Allocator> Model for AskedQuery<'q, A> {
+    ghost use Rattle.std.specs.Prelude.{IfSome};
     ghost use Rattle.query_model.specs.Query as queries;
     ghost use Rattle.watch_asked.specs.Asked.{IsAskedBy};
 
@@ -42,13 +45,13 @@ impl<'q, A: Allocator> Model for AskedQuery<'q, A> {
 
     ghost view = { λ asked. asked.query.now };
 
-    ghost invariant = { λ asked. IsAskedBy asked.query.now asked.terms.now };
+    ghost invariant = { λ asked. IfSome asked.terms (λ terms. IsAskedBy asked.query.now terms.now) };
 }
 
 impl<'q, A: Allocator> AskedQuery<'q, A> {
-    /// A query with what it asks.
-    pub fn new(query: &'q Query<A>, terms: &'q AskedTerms<A>) -> Self
-        requires asked { IsAskedBy query.now terms.now }
+    /// A query with what it asks, if that is kept.
+    pub fn new(query: &'q Query<A>, terms: Option<&'q AskedTerms<A>>) -> Self
+        requires asked { IfSome terms (λ terms. IsAskedBy query.now terms.now) }
         ensures { result ≡ query.now }
     {
         AskedQuery { query, terms }
@@ -63,16 +66,13 @@ impl<'q, A: Allocator> AskedQuery<'q, A> {
     }
 
     /// For whom an id concerns it.
-    #[tactic(auto, unfolding(watch_concerns::specs::Concerns::concerns, watch_concerns::specs::Others::concerns_others, watch_concerns::specs::Others::concerns_below))]
     pub fn concern_of(&self, id: Id) -> Concern
         ensures { result ≡ concern_of self.now id }
     {
-        let of_tags = Concern {
-            anyone: is_asked_by_all(id),
-            others: says_how_far(id),
-            below: false,
-        };
-        joined(of_tags, of_terms(self.terms.terms.as_slice(), id))
+        match self.terms {
+            Some(terms) => of_asked(terms, id),
+            None => concern_of(self.query, id),
+        }
     }
 
     /// Whether an id concerns it for others than its holder and those below that.
@@ -101,7 +101,10 @@ impl<'q, A: Allocator> AskedQuery<'q, A> {
     pub fn lacks(&self, ids: &[Id]) -> bool
         ensures { result ≡ lacks self.now ids.now }
     {
-        !have_all(self.terms.this.as_slice(), ids, &[])
+        match self.terms {
+            Some(terms) => !have_all(terms.this.as_slice(), ids, &[]),
+            None => lacks(self.query, ids),
+        }
     }
 
     /// Whether an entity with these ids meets all that it asks, by these ids alone.
@@ -109,15 +112,41 @@ impl<'q, A: Allocator> AskedQuery<'q, A> {
     pub fn meets(&self, ids: &[Id]) -> bool
         ensures { result ≡ meets self.now ids.now }
     {
-        self.terms.may_meet && meets(self.query, ids)
+        self.may_meet() && meets(self.query, ids)
+    }
+
+    /// Whether ids may meet it, as far as that is kept.
+    #[inline(always)]
+    fn may_meet(&self) -> bool
+        ensures { result ≡ false → (ids : List id_specs.Id) → meets self.now ids ≡ false }
+    {
+        match self.terms {
+            Some(terms) => terms.may_meet,
+            None => true,
+        }
     }
 
     /// Whether a fact of an id is busy: of somebody who has held no other ids than these, and those of these facts, it isn't idle.
     pub fn is_busy(&self, ids: &[Id], facts: &[FactKey], id: Id) -> bool
         ensures { result ≡ not (is_idle self.now (ids.now ++ map (λ k. k.1) facts.now) id) }
     {
-        any_counts(self.terms.others.as_slice(), ids, facts, id)
+        match self.terms {
+            Some(terms) => any_counts(terms.others.as_slice(), ids, facts, id),
+            None => !is_idle(self.query, ids, facts, id),
+        }
     }
+}
+
+/// For whom an id concerns a query that asks this.
+fn of_asked<A: Allocator>(asked: &AskedTerms<A>, id: Id) -> Concern
+    ensures { result ≡ joined (record { anyone = is_asked_by_all id; others = says_how_far id; below = false }) (asked_concern id asked.now.terms.items) }
+{
+    let of_tags = Concern {
+        anyone: is_asked_by_all(id),
+        others: says_how_far(id),
+        below: false,
+    };
+    joined(of_tags, of_terms(asked.terms.as_slice(), id))
 }
 
 /// Whether an id is a tag that says how far a relationship reaches.

@@ -1,16 +1,22 @@
-use Rattle.std.proofs.Common.{◌≡◌, false, ap, ◌∙◌}
+use Rattle.std.proofs.Common.{ap, false, ◌∙◌}
 use Rattle.query_check.specs.Terms.{terms}
-use Rattle.watch_concerns.specs.Whom.{concern_of, joined, terms_concern}
+use Rattle.watch_concerns.specs.Concerns.{is_asked_by_all}
+use Rattle.watch_concerns.specs.Others.{says_how_far}
+use Rattle.watch_concerns.specs.Whom.{concern_of, joined}
 use Rattle.watch_asked.specs.Asked.{asked_concern}
 use Rattle.watch_asked.proofs.Asks.{concern_is, concern_told}
 use Rattle.watch_asked.proofs.asked_query.AskedQuery.concern_of.Goals as goal
 
-pub returns : goal.returns
-returns g c =
+pub returns-in-Some : goal.returns-in-Some
+returns-in-Some g c =
     let q = (c.self.inside).query.now in
     let i = c.args.id in
-    let told : c.of_terms.result ≡ terms_concern i (terms q) = c.of_terms.ensures ∙ ap (asked_concern i) (c.as_slice.ensures.value ∙ c.self.invariant.terms) ∙ concern_told i (terms q) in
-    c.joined.ensures
-    ∙ (λ k. joined (record { anyone = c.is_asked_by_all.ensures k; others = c.says_how_far.ensures k; below = false }) (told k))
+    let kept = rw c.in-Some.is at c.self.invariant in
+    let told = ap (asked_concern i) kept.terms ∙ concern_told i (terms q) in
+    c.of_asked.ensures
+    ∙ (λ k. joined (record { anyone = is_asked_by_all i; others = says_how_far i; below = false }) (told k))
     ∙ concern_is i q
     ∙ ap (λ a. concern_of a i) c.self.view_is
+
+pub returns-in-None : goal.returns-in-None
+returns-in-None g c = c.concern_of.ensures ∙ ap (λ a. concern_of a c.args.id) c.self.view_is
