@@ -1,6 +1,6 @@
 -- Those who stand in one table hold the same ids, so all of them lean on an entity, or nobody does.
-use Rattle.std.proofs.Common.{◌≡◌, ℕ, ◌<◌, ◌==◌, ◌&&◌, Bool, true, false, true≢false, List, [], ◌∷◌, length, get_or, map, Option, Some, None, refl, sym, ap, subst, ◌∙◌, arith}
-use Rattle.std.specs.Prelude.{filter, slice_get, unwrap_or}
+use Rattle.std.proofs.Common.{◌≡◌, ℕ, ◌+◌, ◌<◌, ◌==◌, ◌&&◌, Bool, true, false, true≢false, List, [], ◌∷◌, length, get_or, map, take, Option, Some, None, refl, sym, ap, subst, ◌∙◌, arith}
+use Rattle.std.specs.Prelude.{filter, flat_map, option_map, slice_get, unwrap_or}
 use Rattle.std.specs.List.{Contains, list_all, list_any}
 use Rattle.std.specs.Option.{option_map_or}
 use Rattle.std.proofs.lemmas.Option.{slice_get-get_or}
@@ -21,8 +21,8 @@ use Rattle.ecs_model.proofs.traits.Kept.{each_passes}
 use Rattle.ecs_table.specs.Archetype.{Archetype}
 use Rattle.table_store.specs.Rows.{Row, cells_of, row_at}
 use Rattle.table_store.specs.Store.{Store, ids_at, table_at}
-use Rattle.watch_touched.specs.Leaning.{Adds, AreAlike, leans, pairs_to}
-use Rattle.watch_touched.proofs.GrownLists.{already, fewer}
+use Rattle.watch_touched.specs.Leaning.{Adds, AreAlike, HoldAll, HoldTheirs, leans, pairs_to, standing_in}
+use Rattle.watch_touched.proofs.GrownLists.{already, fewer, given_within}
 
 row_under : (s : Store) (k : TableKey) (t : Archetype) (j : ℕ) (d : EntityId) → table_at s k ≡ Some t → j < length t.entities → row_at s (record { table = k; row = j }) ≡ Some (get_or t.entities j d, cells_of t j)
 unfolding row_at
@@ -47,6 +47,11 @@ module _ (l : Linked) (rows : HaveRows l.housing) where
   pub alike_by_tables : (w : WorldState) → ((e : ℕ) → ids_of w e ≡ ids_at_index l e) → (k : TableKey) → AreAlike w (rows_under l k)
   alike_by_tables w are k x y a b = are x ∙ has_ids k x a ∙ sym (has_ids k y b) ∙ sym (are y)
 
+  pub theirs_by_tables : (w : WorldState) → ((e : ℕ) → ids_of w e ≡ ids_at_index l e) → HoldTheirs w (l.housing).tables
+  theirs_by_tables w are k t at e there =
+      let within : Contains (rows_under l k) e = subst (λ (o : Option Archetype). Contains (option_map_or (λ u. map (λ (x : EntityId). x.index) u.entities) o []) e) (sym at) there in
+      are e ∙ has_ids k e within ∙ ap (λ (o : Option Archetype). unwrap_or (option_map (λ u. u.ids) o) []) at
+
 -- ---- where all hold the same ids
 
 module _ (p : List Id → Id → Bool) (w : WorldState) (x : ℕ) (entities : List EntityId) (found : List ℕ) where
@@ -69,20 +74,40 @@ module _ (p : List Id → Id → Bool) (w : WorldState) (x : ℕ) (entities : Li
       let same = passing (λ z. z == (e.0).index) found (each_passes (λ (e : EntityId). list_any (λ y. y == e.index) found) entities are e.0 e.1) in
       subst (Contains found) (eq_same same.0 (e.0).index same.2 ∙ e.2) same.1)
 
-  -- where the first doesn't lean, nobody does
-  pub nobody_leans : AreAlike w indexes → (first : EntityId) → slice_get entities 0 ≡ Some first → leans p w x first.index ≡ false → Adds (filter (leans p w x) indexes) found found
-  nobody_leans alike first is fails =
-      already (filter (leans p w x) indexes) found
-      (λ y m.
-      let kept = (filtered (leans p w x) indexes y).0 m in
-      let there : Contains indexes first.index = in_map (λ (e : EntityId). e.index) entities first (first_in entities is) in
-      let same : leans p w x y ≡ leans p w x first.index = ap (λ (ids : List Id). list_any (λ i. matches (pairs_to x) i && p ids i) ids) (alike y first.index kept.0 there) in
-      absurd (true≢false (sym kept.1 ∙ same ∙ fails)))
+  -- who holds the ids of the first is told by these
+  pub all_hold : AreAlike w indexes → (first : EntityId) → slice_get entities 0 ≡ Some first → (ids : List Id) → ids ≡ ids_of w first.index → HoldAll w ids indexes
+  all_hold alike first is ids of_first e there = alike e first.index there (in_map (λ (e : EntityId). e.index) entities first (first_in entities is)) ∙ sym of_first
     where
       first_in : (es : List EntityId) → slice_get es 0 ≡ Some first → Contains es first
       first_in [] h = absurd cc
       first_in (e ∷ es) h = (0, omega arith, let same : e ≡ first = cc in same)
 
+  -- where these ids tell that nobody leans, nobody does
+  pub nobody_by : (ids : List Id) → HoldAll w ids indexes → list_any (λ i. matches (pairs_to x) i && p ids i) ids ≡ false → Adds (filter (leans p w x) indexes) found found
+  nobody_by ids all fails =
+      already (filter (leans p w x) indexes) found
+      (λ y m.
+      let kept = (filtered (leans p w x) indexes y).0 m in
+      let same : leans p w x y ≡ false = ap (λ (held : List Id). list_any (λ i. matches (pairs_to x) i && p held i) held) (all y kept.0) ∙ fails in
+      absurd (true≢false (sym kept.1 ∙ same)))
+
   -- more may be added than those who lean
   pub all_added : (after : List ℕ) → Adds indexes found after → Adds (filter (leans p w x) indexes) found after
   all_added after adds = fewer indexes (filter (leans p w x) indexes) found after adds (λ e m. ((filtered (leans p w x) indexes e).0 m).0)
+
+-- ---- one table more
+
+module _ (p : List Id → Id → Bool) (w : WorldState) (x : ℕ) (s : Store) (tables : List TableKey) (i : ℕ) (inside : i < length tables) (d : TableKey) (before found : List ℕ)
+    (so_far : Adds (filter (leans p w x) (flat_map (standing_in s) (take i tables))) before found) where
+  pub no_table : table_at s (get_or tables i d) ≡ None → Adds (filter (leans p w x) (flat_map (standing_in s) (take (i + 1) tables))) before found
+  no_table none =
+      let nobody : Adds (filter (leans p w x) (standing_in s (get_or tables i d))) found found =
+      subst (λ (o : Option Archetype). Adds (filter (leans p w x) (option_map_or (λ t. map (λ (e : EntityId). e.index) t.entities) o [])) found found) (sym none) (already [] found (λ e m. absurd (omega (arith, m.1)))) in
+      given_within (leans p w x) (standing_in s) tables i inside d before found found so_far nobody
+
+  pub its_rows : (t : Archetype) → table_at s (get_or tables i d) ≡ Some t → (after : List ℕ) → Adds (filter (leans p w x) (map (λ (e : EntityId). e.index) t.entities)) found after
+      → Adds (filter (leans p w x) (flat_map (standing_in s) (take (i + 1) tables))) before after
+  its_rows t there after adds =
+      let these : Adds (filter (leans p w x) (standing_in s (get_or tables i d))) found after =
+      subst (λ (o : Option Archetype). Adds (filter (leans p w x) (option_map_or (λ u. map (λ (e : EntityId). e.index) u.entities) o [])) found after) (sym there) adds in
+      given_within (leans p w x) (standing_in s) tables i inside d before found after so_far these

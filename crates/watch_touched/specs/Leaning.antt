@@ -1,18 +1,22 @@
 -- Who leans on an entity: who holds a pair with it that passes a test, which may ask for the holder's other ids too; and who is linked with it, by holding one or by being its target.
 use Rattle.std.specs.Prelude.{◌≡◌, ℕ, Bool, ◌&&◌, ◌||◌, List, [], ◌∷◌, ◌++◌, Some, filter, flat_map, map, not, if◌then◌else◌}
 use Rattle.std.specs.List.{Contains, list_any}
+use Rattle.std.specs.Option.{option_map_or}
 use Rattle.component_index.specs.Patterns.{matches}
 use Rattle.component_index.specs.declared.pattern.Part.TheVariants.{Is, Any}
 use Rattle.component_index.specs.declared.pattern.Pattern.{Pattern}
 use Rattle.ecs_id.specs.Id.{Id, plain, pair}
+use Rattle.ecs_id.specs.declared.TableKey.{TableKey}
 use Rattle.ecs_model.specs.Reach.{Reached}
 use Rattle.ecs_model.specs.World.{WorldState, Key, entities, ids_of}
+use Rattle.ecs_table.specs.Archetype.{Archetype}
 use Rattle.watch_concerns.specs.Concerns.{concerns}
 use Rattle.watch_concerns.specs.Idle.{is_idle}
 use Rattle.watch_concerns.specs.Linked.{links_others}
 use Rattle.watch_concerns.specs.Others.{concerns_below, concerns_others}
 use Rattle.watch_concerns.specs.OwnIds.{lacks}
 use Rattle.query_model.specs.Query.{Query}
+use Rattle.table_store.specs.Store.{Store, table_at}
 use Rattle.watch_touched.specs.declared.sought.Sought.{Sought}
 use Rattle.watch_touched.specs.declared.sought.Sought.TheVariants.{Moving, Below, Linked}
 
@@ -67,6 +71,17 @@ module _ (p : List Id → Id → Bool) (w : WorldState) where
 -- all of these hold the same ids
 abbrev pub AreAlike : WorldState → List ℕ → Type 0
 AreAlike w es = (x y : ℕ) → Contains es x → Contains es y → ids_of w x ≡ ids_of w y
+
+-- each of these holds these ids
+abbrev pub HoldAll : WorldState → List Id → List ℕ → Type 0
+HoldAll w ids es = (e : ℕ) → Contains es e → ids_of w e ≡ ids
+
+-- who stands in a table, and that they hold its ids
+abbrev pub standing_in : Store → TableKey → List ℕ
+standing_in s k = option_map_or (λ t. map (λ e. e.index) t.entities) (table_at s k) []
+
+abbrev pub HoldTheirs : WorldState → Store → Type 0
+HoldTheirs w s = (k : TableKey) (t : Archetype) → table_at s k ≡ Some t → HoldAll w t.ids (map (λ e. e.index) t.entities)
 
 -- among these are those, and with each of these all to whom a step leads
 pub record IsClosed (next : ℕ → List ℕ) (start all : List ℕ) : Type 0 where

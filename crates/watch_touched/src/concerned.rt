@@ -7,16 +7,19 @@ ghost use Rattle.watch_touched.specs.Concerned.{any_concerns, has_births_or_deat
 use crate::Bonds;
 use ecs_model::FactKey;
 use ecs_world::Changes;
-use query_check::Query;
 use std::alloc::Allocator;
-use watch_concerns::concerns;
+use watch_asked::AskedQuery;
 
 /// Whether a command concerns a query: a fact came or went whose id concerns it, or somebody was born or died and it isn't anchored. If not, the
 /// query has rows of the same entities as before.
 ///
 /// Takes no memory, and time in the facts that came and went and in the terms of the query.
 #[tactic(auto, unfolding(crate::specs::Concerned::is_concerned))]
-pub fn is_concerned<A: Allocator>(query: &Query<A>, bonds: Bonds, changes: &Changes<A>) -> bool
+pub fn is_concerned<A: Allocator>(
+    query: &AskedQuery<'_, A>,
+    bonds: Bonds,
+    changes: &Changes<A>,
+) -> bool
     requires bonds { bonds ≡ bonds_of query.now }
     ensures { result ≡ is_concerned query.now changes.now }
 {
@@ -33,11 +36,11 @@ pub fn has_births_or_deaths<A: Allocator>(changes: &Changes<A>) -> bool
 }
 
 /// Whether one of these facts concerns a query.
-fn any_concerns<A: Allocator>(query: &Query<A>, facts: &[FactKey]) -> bool
+fn any_concerns<A: Allocator>(query: &AskedQuery<'_, A>, facts: &[FactKey]) -> bool
     ensures { result ≡ any_concerns query.now facts.now }
 {
     for fact in facts {
-        if concerns(query, fact.id()) {
+        if query.concerns(fact.id()) {
             return true;
         }
     }

@@ -1,10 +1,11 @@
 //! Who leans on an entity: who holds a pair with it that concerns a query.
 
-ghost use Rattle.std.specs.Prelude.{◌≡◌, ◌==◌, ◌∷◌, [], true, filter, flat_map, map, IfOk, OnOk};
+ghost use Rattle.std.specs.Prelude.{◌≡◌, ◌==◌, ◌&&◌, ◌∷◌, [], true, filter, flat_map, map, IfOk, OnOk};
 ghost use Rattle.std.specs.List.{list_all, list_any};
 ghost use Rattle.component_index.specs.Patterns.{matches};
 ghost use Rattle.ecs_id.specs.declared.TableKey.{TableKey as Key};
-ghost use Rattle.watch_touched.specs.Leaning.{Adds, AreAlike, HasAllBelow, is_sought, leaning, leans, links_busily, moves_by, pairs_to};
+ghost use Rattle.ecs_model.specs.World.{WorldState};
+ghost use Rattle.watch_touched.specs.Leaning.{Adds, AreAlike, HasAllBelow, HoldAll, HoldTheirs, is_sought, leaning, leans, links_busily, moves_by, pairs_to, standing_in};
 
 use crate::sought::{Sought, is_sought};
 use crate::touching::ids_at;
@@ -12,10 +13,11 @@ use component_index::{Part, Pattern};
 use ecs_id::{EntityId, Id, TableKey};
 use ecs_model::FactKey;
 use ecs_world::World;
-use query_check::Query;
 use rel_travel::Holders;
 use short_list::ShortList;
 use std::alloc::{AllocError, Allocator};
+use table_store::TableStore;
+use watch_asked::AskedQuery;
 
 /// How many entities are found at most, and how many are looked at for one of them: if there are more, all rows are found in less time.
 pub(crate) const MOST: usize = 64;
@@ -26,7 +28,7 @@ const MOST_TABLES: usize = 256;
 /// Adds those who lean on one of these entities by a pair that concerns a query so. False, where these may be too many: then not all are added.
 pub(crate) fn push_leaning_on_all<A: Allocator + Copy, B: Allocator>(
     alloc: A,
-    query: &Query<B>,
+    query: &AskedQuery<'_, B>,
     sought: &Sought<'_>,
     world: &World<A>,
     targets: &[u32],
@@ -48,7 +50,7 @@ pub(crate) fn push_leaning_on_all<A: Allocator + Copy, B: Allocator>(
 /// Adds those who lean on one of these, those who lean on one of those, and so on. False, where these may be too many.
 pub(crate) fn push_all_below<A: Allocator + Copy, B: Allocator>(
     alloc: A,
-    query: &Query<B>,
+    query: &AskedQuery<'_, B>,
     sought: &Sought<'_>,
     world: &World<A>,
     found: &mut ShortList<A>,
@@ -70,7 +72,7 @@ pub(crate) fn push_all_below<A: Allocator + Copy, B: Allocator>(
 /// Adds those who lean on this entity. False, where these may be too many.
 pub(crate) fn push_leaning<A: Allocator + Copy, B: Allocator>(
     alloc: A,
-    query: &Query<B>,
+    query: &AskedQuery<'_, B>,
     sought: &Sought<'_>,
     world: &World<A>,
     target: u32,
@@ -97,7 +99,7 @@ pub(crate) fn push_leaning<A: Allocator + Copy, B: Allocator>(
 /// fact of it to the second. False, where either may be too many. The tables with such pairs are looked up and gone through once.
 pub(crate) fn push_linked_and_moving<A: Allocator + Copy, B: Allocator>(
     alloc: A,
-    query: &Query<B>,
+    query: &AskedQuery<'_, B>,
     went: &[FactKey],
     world: &World<A>,
     target: u32,
@@ -108,19 +110,18 @@ pub(crate) fn push_linked_and_moving<A: Allocator + Copy, B: Allocator>(
     ensures moving { IfOk result (λ done. done ≡ true → Adds (leaning (moves_by query.now) world.now.state target) moving.old.items moving.new.items) }
 {
     let links = world.links();
-    // What is known of each row.
-    let _ = links.tables().store();
+    let store = links.tables().store();
     let pattern = Pattern {
         first: Part::Any,
         second: Some(Part::Is(target)),
     };
     let tables = links.tables_of(pattern);
-    if !are_few(&links, tables) {
+    if tables.len() > MOST_TABLES {
         return Ok(false);
     }
-    push_both_from_tables(
-        alloc, query, went, world, &links, tables, target, linked, moving,
-    )?;
+    if !push_both_from_tables(alloc, query, went, store, tables, target, linked, moving)? {
+        return Ok(false);
+    }
     Ok((linked.len() <= MOST) & (moving.len() <= MOST))
 }
 
@@ -143,7 +144,7 @@ fn are_few<G: Holders>(graph: &G, tables: &[TableKey]) -> bool {
 /// Adds those in these tables who lean on an entity. All in a table hold the same ids.
 fn push_from_tables<G: Holders, A: Allocator + Copy, B: Allocator>(
     alloc: A,
-    query: &Query<B>,
+    query: &AskedQuery<'_, B>,
     sought: &Sought<'_>,
     world: &World<A>,
     graph: &G,
@@ -168,43 +169,51 @@ fn push_from_tables<G: Holders, A: Allocator + Copy, B: Allocator>(
     Ok(())
 }
 
-/// Adds those in these tables who are linked with an entity, where these facts went, to the first list, and those who may move by a fact of it to the second.
-fn push_both_from_tables<G: Holders, A: Allocator + Copy, B: Allocator>(
+/// Adds those in these tables who are linked with an entity, where these facts went, to the first list, and those who may move by a fact of it to the second. False,
+/// where more are looked at than few, and then not all are added.
+fn push_both_from_tables<A: Allocator + Copy, B: Allocator>(
     alloc: A,
-    query: &Query<B>,
+    query: &AskedQuery<'_, B>,
     went: &[FactKey],
-    world: &World<A>,
-    graph: &G,
+    store: &TableStore<A>,
     tables: &[TableKey],
     target: u32,
     linked: &mut ShortList<A>,
     moving: &mut ShortList<A>,
-) -> Result<(), AllocError>
-    requires alike { (k : Key) → AreAlike world.now.state (G.rows graph.now k) }
-    ensures linked { OnOk result (Adds (filter (leans (links_busily query.now went.now) world.now.state target) (flat_map (G.rows graph.now) tables.now)) linked.old.items linked.new.items) }
-    ensures moving { OnOk result (Adds (filter (leans (moves_by query.now) world.now.state target) (flat_map (G.rows graph.now) tables.now)) moving.old.items moving.new.items) }
+) -> Result<bool, AllocError>
+    ensures linked { IfOk result (λ done. done ≡ true → (w : WorldState) → HoldTheirs w store.now → Adds (filter (leans (links_busily query.now went.now) w target) (flat_map (standing_in store.now) tables.now)) linked.old.items linked.new.items) }
+    ensures moving { IfOk result (λ done. done ≡ true → (w : WorldState) → HoldTheirs w store.now → Adds (filter (leans (moves_by query.now) w target) (flat_map (standing_in store.now) tables.now)) moving.old.items moving.new.items) }
 {
-    for table in tables {
-        let rows = graph.rows(*table);
-        push_from(
+    let mut free = MOST;
+    'tables: for key in tables {
+        let Some(table) = store.get(*key) else {
+            continue 'tables;
+        };
+        let rows = table.rows();
+        if rows.len() > free {
+            return Ok(false);
+        }
+        free -= rows.len();
+        let ids = table.ids();
+        push_alike(
             alloc,
             query,
             &Sought::Linked(went),
-            world,
+            ids,
             rows,
             target,
             linked,
         )?;
-        push_from(alloc, query, &Sought::Moving, world, rows, target, moving)?;
+        push_alike(alloc, query, &Sought::Moving, ids, rows, target, moving)?;
     }
-    Ok(())
+    Ok(true)
 }
 
-/// Adds those of these entities who lean on another one. They hold the same ids, so all of them do, or nobody does.
+/// Adds those of these entities who lean on another one. They hold the same ids.
 #[inline(always)]
 fn push_from<A: Allocator + Copy, B: Allocator>(
     alloc: A,
-    query: &Query<B>,
+    query: &AskedQuery<'_, B>,
     sought: &Sought<'_>,
     world: &World<A>,
     entities: &[EntityId],
@@ -217,11 +226,28 @@ fn push_from<A: Allocator + Copy, B: Allocator>(
     let Some(first) = entities.first() else {
         return Ok(());
     };
+    let ids = ids_at(world, first.index);
+    push_alike(alloc, query, sought, ids, entities, target, found)
+}
+
+/// Adds these entities, of whom each holds these ids, if they lean on another one: all of them do, or nobody does.
+#[inline(always)]
+fn push_alike<A: Allocator + Copy, B: Allocator>(
+    alloc: A,
+    query: &AskedQuery<'_, B>,
+    sought: &Sought<'_>,
+    ids: &[Id],
+    entities: &[EntityId],
+    target: u32,
+    found: &mut ShortList<A>,
+) -> Result<(), AllocError>
+    ensures { OnOk result ((w : WorldState) → HoldAll w ids.now (map (λ e. e.index) entities.now) → Adds (filter (leans (is_sought sought.now query.now) w target) (map (λ e. e.index) entities.now)) found.old.items found.new.items) }
+{
     // who is there already needn't be judged
     if are_among(found.as_slice(), entities) {
         return Ok(());
     }
-    if !leans(query, sought, world, target, first.index) {
+    if !lean(query, sought, target, ids) {
         return Ok(());
     }
     push_each(alloc, entities, found)
@@ -268,17 +294,15 @@ fn are_among(found: &[u32], entities: &[EntityId]) -> bool
     entities.iter().all(|entity| is_among(found, entity.index))
 }
 
-/// Whether an entity leans on this target.
-fn leans<A: Allocator, B: Allocator>(
-    query: &Query<B>,
+/// Whether those who hold these ids lean on this target.
+fn lean<B: Allocator>(
+    query: &AskedQuery<'_, B>,
     sought: &Sought<'_>,
-    world: &World<A>,
     target: u32,
-    entity: u32,
+    ids: &[Id],
 ) -> bool
-    ensures { result ≡ leans (is_sought sought.now query.now) world.now.state target entity }
+    ensures { result ≡ list_any (λ i. matches (pairs_to target) i && is_sought sought.now query.now ids.now i) ids.now }
 {
-    let ids = ids_at(world, entity);
     for id in ids {
         if is_pair_to(*id, target) && is_sought(query, sought, ids, *id) {
             return true;

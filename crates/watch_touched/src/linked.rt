@@ -10,15 +10,15 @@ use crate::touching::ids_at;
 use ecs_id::Id;
 use ecs_model::FactKey;
 use ecs_world::World;
-use query_check::Query;
 use short_list::ShortList;
 use std::alloc::{AllocError, Allocator};
+use watch_asked::AskedQuery;
 
 /// Adds those who are linked with one of these, those who are linked with one of those, and so on; and to the second list whoever may move by a fact of one
 /// of all these. False, where either may be too many.
 pub(crate) fn push_all_linked<A: Allocator + Copy, B: Allocator>(
     alloc: A,
-    query: &Query<B>,
+    query: &AskedQuery<'_, B>,
     went: &[FactKey],
     world: &World<A>,
     found: &mut ShortList<A>,
@@ -42,7 +42,7 @@ pub(crate) fn push_all_linked<A: Allocator + Copy, B: Allocator>(
 /// Adds those who are linked with this entity, and to the second list those who may move by a fact of it. False, where either may be too many.
 fn push_linked<A: Allocator + Copy, B: Allocator>(
     alloc: A,
-    query: &Query<B>,
+    query: &AskedQuery<'_, B>,
     went: &[FactKey],
     world: &World<A>,
     entity: u32,
@@ -62,7 +62,7 @@ fn push_linked<A: Allocator + Copy, B: Allocator>(
 /// Adds the targets of those of an entity's ids that are pairs that link others, and aren't idle.
 fn push_targets_at<A: Allocator + Copy, B: Allocator>(
     alloc: A,
-    query: &Query<B>,
+    query: &AskedQuery<'_, B>,
     went: &[FactKey],
     ids: &[Id],
     found: &mut ShortList<A>,
@@ -78,7 +78,7 @@ fn push_targets_at<A: Allocator + Copy, B: Allocator>(
 /// Adds the targets of those facts that are pairs that link others, and aren't idle, where these facts went.
 pub(crate) fn push_targets<A: Allocator + Copy, B: Allocator>(
     alloc: A,
-    query: &Query<B>,
+    query: &AskedQuery<'_, B>,
     world: &World<A>,
     went: &[FactKey],
     facts: &[FactKey],
@@ -96,7 +96,7 @@ pub(crate) fn push_targets<A: Allocator + Copy, B: Allocator>(
 /// Adds the target of a pair that links others, and isn't idle for one who holds these ids.
 fn push_target<A: Allocator + Copy, B: Allocator>(
     alloc: A,
-    query: &Query<B>,
+    query: &AskedQuery<'_, B>,
     went: &[FactKey],
     ids: &[Id],
     id: Id,

@@ -19,10 +19,9 @@ use crate::sought::Sought;
 use crate::touching::ids_at;
 use ecs_model::FactKey;
 use ecs_world::{Changes, World};
-use query_check::Query;
 use short_list::ShortList;
 use std::alloc::{AllocError, Allocator};
-use watch_concerns::{concern_of, concerns_others, is_idle, lacks, meets};
+use watch_asked::AskedQuery;
 
 /// Who may have moved in or out of a query's rows by a command; those of them whose ids tell that they are `$this` of a row now; and those of whom a search
 /// has to tell. All ascend.
@@ -41,7 +40,7 @@ pub fn who_may_have_moved<A: Allocator + Copy, B: Allocator>(
     alloc: A,
     world: &World<A>,
     changes: &Changes<A>,
-    query: &Query<B>,
+    query: &AskedQuery<'_, B>,
     bonds: Bonds,
 ) -> Result<Option<Moved<A>>, AllocError>
     requires bonds { bonds ≡ bonds_of query.now }
@@ -70,7 +69,7 @@ pub fn who_may_have_moved<A: Allocator + Copy, B: Allocator>(
 /// Of some entities, adds those to the sure whose ids tell that they are `$this` of a row, and those to the asked whose ids don't tell.
 fn push_by_ids<A: Allocator + Copy, B: Allocator>(
     alloc: A,
-    query: &Query<B>,
+    query: &AskedQuery<'_, B>,
     world: &World<A>,
     entities: &[u32],
     sure: &mut ShortList<A>,
@@ -81,8 +80,8 @@ fn push_by_ids<A: Allocator + Copy, B: Allocator>(
 {
     for entity in entities {
         let ids = ids_at(world, *entity);
-        if lives(world, *entity) && !lacks(query, ids) {
-            if meets(query, ids) {
+        if lives(world, *entity) && !query.lacks(ids) {
+            if query.meets(ids) {
                 sure.push(alloc, *entity)?;
             } else {
                 asked.push(alloc, *entity)?;
@@ -101,7 +100,7 @@ fn lives<A: Allocator>(world: &World<A>, entity: u32) -> bool
 /// Whether all who may have moved can be found: births and deaths don't matter, and what came and went concerns a query for no others than the
 /// entities whose facts these are and those below, or for those alone who hold a pair with one of these, or are linked with one from pair to pair.
 fn is_followed<A: Allocator, B: Allocator>(
-    query: &Query<B>,
+    query: &AskedQuery<'_, B>,
     bonds: Bonds,
     changes: &Changes<A>,
 ) -> bool
@@ -116,11 +115,11 @@ fn is_followed<A: Allocator, B: Allocator>(
 }
 
 /// Whether one of these facts concerns a query for others than its own entity and those below that.
-fn any_concerns_others<B: Allocator>(query: &Query<B>, facts: &[FactKey]) -> bool
+fn any_concerns_others<B: Allocator>(query: &AskedQuery<'_, B>, facts: &[FactKey]) -> bool
     ensures { result ≡ any_concerns_others query.now facts.now }
 {
     for fact in facts {
-        if concerns_others(query, fact.id()) {
+        if query.concerns_others(fact.id()) {
             return true;
         }
     }
@@ -130,7 +129,7 @@ fn any_concerns_others<B: Allocator>(query: &Query<B>, facts: &[FactKey]) -> boo
 /// All who may have moved, in order, unless they may be too many.
 fn moving<A: Allocator + Copy, B: Allocator>(
     alloc: A,
-    query: &Query<B>,
+    query: &AskedQuery<'_, B>,
     bonds: Bonds,
     world: &World<A>,
     changes: &Changes<A>,
@@ -181,7 +180,7 @@ fn moving<A: Allocator + Copy, B: Allocator>(
 /// concern it for those below to the third. The id of each fact is judged once.
 fn push_concerned<A: Allocator + Copy, B: Allocator>(
     alloc: A,
-    query: &Query<B>,
+    query: &AskedQuery<'_, B>,
     facts: &[FactKey],
     own: &mut ShortList<A>,
     others: &mut ShortList<A>,
@@ -192,7 +191,7 @@ fn push_concerned<A: Allocator + Copy, B: Allocator>(
     ensures below { OnOk result (below.new.items ≡ below.old.items ++ entities_by (concerns_below query.now) facts.now) }
 {
     for fact in facts {
-        let concern = concern_of(query, fact.id());
+        let concern = query.concern_of(fact.id());
         let entity = fact.entity();
         push_if(alloc, concern.anyone, entity, own)?;
         push_if(alloc, concern.others, entity, others)?;
@@ -223,7 +222,7 @@ fn push_if<A: Allocator>(
 #[inline(never)]
 fn push_moved_by_others<A: Allocator + Copy, B: Allocator>(
     alloc: A,
-    query: &Query<B>,
+    query: &AskedQuery<'_, B>,
     bonds: Bonds,
     world: &World<A>,
     changes: &Changes<A>,
@@ -253,7 +252,7 @@ fn push_moved_by_others<A: Allocator + Copy, B: Allocator>(
 /// Adds those of these entities who don't lack what a query asks of `$this` itself.
 fn push_matching<A: Allocator + Copy, B: Allocator>(
     alloc: A,
-    query: &Query<B>,
+    query: &AskedQuery<'_, B>,
     world: &World<A>,
     entities: &[u32],
     found: &mut ShortList<A>,
@@ -269,7 +268,7 @@ fn push_matching<A: Allocator + Copy, B: Allocator>(
 /// Adds an entity that isn't there yet, if it doesn't lack what a query asks of `$this` itself.
 fn push_if_matching<A: Allocator + Copy, B: Allocator>(
     alloc: A,
-    query: &Query<B>,
+    query: &AskedQuery<'_, B>,
     world: &World<A>,
     entity: u32,
     found: &mut ShortList<A>,
@@ -279,7 +278,7 @@ fn push_if_matching<A: Allocator + Copy, B: Allocator>(
     if is_among(found.as_slice(), entity) {
         return Ok(());
     }
-    if lacks(query, ids_at(world, entity)) {
+    if query.lacks(ids_at(world, entity)) {
         return Ok(());
     }
     found.push(alloc, entity)
@@ -289,7 +288,7 @@ fn push_if_matching<A: Allocator + Copy, B: Allocator>(
 /// fact of one of these. None, where they may be too many.
 fn all_below<A: Allocator + Copy, B: Allocator>(
     alloc: A,
-    query: &Query<B>,
+    query: &AskedQuery<'_, B>,
     world: &World<A>,
     mut below: ShortList<A>,
     moving: &mut ShortList<A>,
@@ -319,7 +318,7 @@ fn all_below<A: Allocator + Copy, B: Allocator>(
 /// where they may be too many.
 fn linked<A: Allocator + Copy, B: Allocator>(
     alloc: A,
-    query: &Query<B>,
+    query: &AskedQuery<'_, B>,
     bonds: Bonds,
     world: &World<A>,
     changes: &Changes<A>,
@@ -361,7 +360,7 @@ fn linked<A: Allocator + Copy, B: Allocator>(
 /// might stand for.
 fn push_busy<A: Allocator + Copy, B: Allocator>(
     alloc: A,
-    query: &Query<B>,
+    query: &AskedQuery<'_, B>,
     world: &World<A>,
     went: &[FactKey],
     facts: &[FactKey],
@@ -371,7 +370,7 @@ fn push_busy<A: Allocator + Copy, B: Allocator>(
 {
     for fact in facts {
         let entity = fact.entity();
-        if !is_idle(query, ids_at(world, entity), went, fact.id()) {
+        if query.is_busy(ids_at(world, entity), went, fact.id()) {
             found.push(alloc, entity)?;
         }
     }

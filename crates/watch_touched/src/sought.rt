@@ -5,9 +5,8 @@ ghost use Rattle.watch_touched.specs.Leaning.{is_sought};
 
 use ecs_id::Id;
 use ecs_model::FactKey;
-use query_check::Query;
 use std::alloc::Allocator;
-use watch_concerns::{concerns, concerns_below, concerns_others, is_idle, lacks, links_others};
+use watch_asked::AskedQuery;
 
 /// Who is looked for among those that hold a pair with an entity.
 #[derive(Clone, Copy, Drop)]
@@ -23,7 +22,7 @@ pub(crate) enum Sought<'a> {
 /// Whether one who holds these ids is looked for, by a pair among them.
 #[inline(always)]
 pub(crate) fn is_sought<B: Allocator>(
-    query: &Query<B>,
+    query: &AskedQuery<'_, B>,
     sought: &Sought<'_>,
     ids: &[Id],
     id: Id,
@@ -31,8 +30,8 @@ pub(crate) fn is_sought<B: Allocator>(
     ensures { result ≡ is_sought sought.now query.now ids.now id }
 {
     match sought {
-        Sought::Moving => concerns(query, id) && !lacks(query, ids),
-        Sought::Below => concerns_below(query, id) || concerns_others(query, id),
-        Sought::Linked(went) => links_others(query, id) && !is_idle(query, ids, *went, id),
+        Sought::Moving => !query.lacks(ids) && query.concerns(id),
+        Sought::Below => query.concerns_below(id) || query.concerns_others(id),
+        Sought::Linked(went) => query.is_busy(ids, *went, id) && query.links_others(id),
     }
 }

@@ -1,26 +1,39 @@
 use Rattle.std.specs.Prelude.{filter}
-use Rattle.std.proofs.Common.{subst, sym}
-use Rattle.watch_touched.specs.Leaning.{Adds, AreAlike, leans, links_busily, moves_by}
-use Rattle.watch_touched.proofs.GrownLists.{given_within}
+use Rattle.std.specs.List.{Contains}
+use Rattle.std.proofs.Common.{List, map, subst, sym, ◌∙◌}
+use Rattle.ecs_id.specs.declared.EntityId.{EntityId}
+use Rattle.watch_touched.specs.Leaning.{Adds, leans, links_busily, moves_by}
+use Rattle.watch_touched.proofs.TableMates.{its_rows, no_table}
 use Rattle.watch_touched.proofs.leaning.push_both_from_tables.Goals as goal
 
-pub push_from-requires : goal.push_from-requires
-push_from-requires g c = record { alike = subst (AreAlike c.args.world.now.state) (sym c.rows-rows.ensures) (c.requires.alike _) }
-
-pub push_from-requires-in-loop-table : goal.push_from-requires-in-loop-table
-push_from-requires-in-loop-table g c = record { alike = subst (AreAlike c.args.world.now.state) (sym c.rows-rows.ensures) (c.requires.alike _) }
-
-pub loop-table-preserved : goal.loop-table-preserved
-loop-table-preserved g c =
-    let links = leans (links_busily c.args.query.now c.args.went.now) c.args.world.now.state c.args.target in
-    let moves = leans (moves_by c.args.query.now) c.args.world.now.state c.args.target in
-    let linked = c.loop-table.linked.items in
-    let moving = c.loop-table.moving.items in
-    let more = c.push_from.new.found.items in
-    let movers = c.push_from-in-loop-table.new.found.items in
+pub tables-preserved-in_default : goal.tables-preserved-in_default
+tables-preserved-in_default g c =
+    let links = links_busily c.args.query.now c.args.went.now in
+    let moves = moves_by c.args.query.now in
+    let k = c.tables.key-index in
     record {
-      linked = given_within links (g.G.Holders.rows c.args.graph.now) c.args.tables.now c.loop-table.table-index c.loop-table-test.true _ c.args.linked.now.items linked more c.loop-table.invariant.linked
-          (subst (λ rows. Adds (filter links rows) linked more) c.rows-rows.ensures c.in_ok-push_from.ensures);
-      moving = given_within moves (g.G.Holders.rows c.args.graph.now) c.args.tables.now c.loop-table.table-index c.loop-table-test.true _ c.args.moving.now.items moving movers c.loop-table.invariant.moving
-          (subst (λ rows. Adds (filter moves rows) moving movers) c.rows-rows.ensures c.in_ok-push_from-2.ensures);
+      linked = λ w holds. no_table links w c.args.target c.args.store.now c.args.tables.now k c.tables-test.true _ c.args.linked.now.items c.tables.linked.items (c.tables.invariant.linked w holds) c.in_default.ensures.table;
+      moving = λ w holds. no_table moves w c.args.target c.args.store.now c.args.tables.now k c.tables-test.true _ c.args.moving.now.items c.tables.moving.items (c.tables.invariant.moving w holds) c.in_default.ensures.table;
+    }
+
+pub tables-preserved : goal.tables-preserved
+tables-preserved g c =
+    let links = links_busily c.args.query.now c.args.went.now in
+    let moves = moves_by c.args.query.now in
+    let k = c.tables.key-index in
+    let t = c.in-Some.table.now in
+    let there = c.in-Some.ensures.table in
+    let rows_are = c.rows-rows.ensures.value in
+    let ids_are = c.ids-ids.ensures.value in
+    let linked = c.tables.linked.items in
+    let moving = c.tables.moving.items in
+    let more = c.push_alike.new.found.items in
+    let movers = c.push_alike-in-tables.new.found.items in
+    record {
+      linked = λ w holds. its_rows links w c.args.target c.args.store.now c.args.tables.now k c.tables-test.true _ c.args.linked.now.items linked (c.tables.invariant.linked w holds) t there more
+          (subst (λ (es : List EntityId). Adds (filter (leans links w c.args.target) (map (λ e. e.index) es)) linked more) rows_are
+          (c.in_ok-push_alike.ensures w (λ e m. holds _ t there e (subst (λ (es : List EntityId). Contains (map (λ x. x.index) es) e) rows_are m) ∙ sym ids_are)));
+      moving = λ w holds. its_rows moves w c.args.target c.args.store.now c.args.tables.now k c.tables-test.true _ c.args.moving.now.items moving (c.tables.invariant.moving w holds) t there movers
+          (subst (λ (es : List EntityId). Adds (filter (leans moves w c.args.target) (map (λ e. e.index) es)) moving movers) rows_are
+          (c.in_ok-push_alike-2.ensures w (λ e m. holds _ t there e (subst (λ (es : List EntityId). Contains (map (λ x. x.index) es) e) rows_are m) ∙ sym ids_are)));
     }

@@ -1,8 +1,0 @@
-use Rattle.std.proofs.Common.{◌≡◌, ◌&&◌, drop}
-use Rattle.std.specs.List.{list_any}
-use Rattle.component_index.specs.Patterns.{matches}
-use Rattle.watch_touched.specs.Leaning.{is_sought, leans, pairs_to}
-use Rattle.watch_touched.proofs.leaning.leans.Given as goal
-
-abbrev pub invariant-loop-id : goal.invariant-loop-id
-invariant-loop-id g l = leans (is_sought l.sought l.query) l.world.state l.target l.entity ≡ list_any (λ i. matches (pairs_to l.target) i && is_sought l.sought l.query l.ids i) (drop l.id-index l.ids)
