@@ -53,7 +53,7 @@ pub(crate) fn rows_after<A: Allocator + Copy>(
     ensures few { compared.new ≤ compared.old + 1 }
 {
     let bonds = query.plan.bonds();
-    match who_may_have_moved(alloc, world, changes, query.plan.query(), bonds)? {
+    match who_may_have_moved(alloc, world, changes, &query.plan.asked(), bonds)? {
         Some(moved) => rows_by_asking(alloc, world, query, room, &moved),
         None => rows_by_all(alloc, world, query, compared),
     }

@@ -84,7 +84,7 @@ fn tell_compared<A: Allocator + Copy>(
 {
     world.keeps();
     let bonds = query.plan.bonds();
-    if !is_concerned(query.plan.query(), bonds, changes) {
+    if !is_concerned(&query.plan.asked(), bonds, changes) {
         return Ok(None);
     }
     let rows = rows_after(alloc, world, changes, query, room, compared)?;

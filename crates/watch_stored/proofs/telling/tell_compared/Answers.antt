@@ -13,7 +13,7 @@ pub returns-then-not-is_concerned-clause-told : goal.returns-then-not-is_concern
 returns-then-not-is_concerned-clause-told g c =
     let changed = c.args.changes.now in
     let h = held_as (string_bytes c.args.name.now) c.args.query.now in
-    let spared = ap (λ q. is_concerned q changed) (sym c.query.ensures) ∙ (sym c.is_concerned.ensures ∙ c.if-not-is_concerned.true) in
+    let spared = ap (λ q. is_concerned q changed) (sym c.asked.ensures) ∙ (sym c.is_concerned.ensures ∙ c.if-not-is_concerned.true) in
     sym (ap (λ es. c.args.events.now.items ++ es) (nothing_told c.args.world.now.state changed h c.keeps.ensures c.requires.after c.requires.was c.requires.compared spared)
     ∙ append-nil c.args.events.now.items)
 
@@ -50,7 +50,7 @@ pub returns-then-not-is_concerned-clause-counted : goal.returns-then-not-is_conc
 returns-then-not-is_concerned-clause-counted g c = λ whole.
     let changed = c.args.changes.now in
     let h = held_as (string_bytes c.args.name.now) c.args.query.now in
-    let spared = ap (λ q. is_concerned q changed) (sym c.query.ensures) ∙ (sym c.is_concerned.ensures ∙ c.if-not-is_concerned.true) in
+    let spared = ap (λ q. is_concerned q changed) (sym c.asked.ensures) ∙ (sym c.is_concerned.ensures ∙ c.if-not-is_concerned.true) in
     absurd (spared_isnt_taken changed h (ap (λ b. b && is_concerned h.query changed) c.requires.compared ∙ spared) whole)
 
 pub returns-clause-counted : goal.returns-clause-counted
