@@ -1,24 +1,19 @@
--- Of those that may have moved, ids tell who is in the rows, but for those who have to be asked.
-use Rattle.std.specs.Prelude.{◌≡◌, ◌≤◌, ◌↔◌, ◌⊎◌, ℕ, suc, Bool, ◌==◌, true, false, cond, not, List, [], ◌∷◌, filter, length}
+-- Ids tell whether an entity is in the rows of a query, but for those who have to be asked.
+use Rattle.std.specs.Prelude.{◌≡◌, ◌||◌, ℕ, Bool, ◌==◌, true, false, not, List, None, Some, is_none, if◌then◌else◌}
 use Rattle.std.specs.List.{Contains, list_any}
-use Rattle.std.specs.List.Sorted.{IsStrictlyIncreasing}
-use Rattle.std.proofs.Common.{arith, sym, ap, subst, ◌∙◌, inl, inr}
-use Rattle.std.proofs.lemmas.Bool.{and_from, and_parts, cases_Bool}
-use Rattle.std.proofs.lemmas.List.Kept.{IsStrictlyIncreasing-filter}
-use Rattle.ecs_model.specs.Command.{Changed}
+use Rattle.std.proofs.Common.{refl, sym, ap, subst, ◌∙◌, true≢false}
+use Rattle.std.proofs.lemmas.Bool.{false_from_ne_true}
 use Rattle.ecs_model.specs.World.{WorldState, entities, ids_of, is_live}
 use Rattle.ecs_model.specs.rows.Rows.{rows}
 use Rattle.ecs_model.specs.rows.View.{view_of}
 use Rattle.ecs_model.specs.stored.Watches.{is_this, matching}
 use Rattle.ecs_model.proofs.Members.{any_passes, eq_itself, eq_same, filtered, passing}
-use Rattle.ecs_model.proofs.traits.Kept.{refuted}
 use Rattle.query_model.specs.Query.{Query}
 use Rattle.query_meaning.specs.Sound.{IsSound}
 use Rattle.watch_concerns.specs.OwnIds.{lacks, meets}
 use Rattle.watch_concerns.proofs.LackedIds.{lacking_match_nothing}
 use Rattle.watch_concerns.proofs.MetIds.{meeting_match}
-use Rattle.watch_touched.specs.Before.{view_before}
-use Rattle.watch_touched.specs.Moving.{AreFew, TellsMoved, is_open, is_sure, most_moving}
+use Rattle.watch_touched.specs.Moving.{told_by_ids}
 use Rattle.watch_touched.proofs.AllTouched.{listed_lives}
 
 -- who lives is listed
@@ -32,47 +27,37 @@ in_rows_lives : (v : WorldState) (q : Query) (e : ℕ) → Contains (matching (v
 unfolding matching
 in_rows_lives v q e h = sym (listed_lives v e) ∙ any_passes (λ u. u == e) (entities v) e ((filtered (λ e. list_any (is_this e) (rows (view_of v) q)) (entities v) e).0 h).0 (eq_itself e)
 
-module _ (v : WorldState) (changed : Changed) (q : Query) (sound : IsSound q) (es : List ℕ) (ascend : IsStrictlyIncreasing es)
-    (stay : (e : ℕ) → (Contains es e → ⊥) → Contains (matching (view_before v changed) q) e ↔ Contains (matching (view_of v) q) e) where
-  module _ (all sure asked : List ℕ) (are_all : all ≡ es) (are_sure : sure ≡ filter (is_sure q v) es) (are_open : asked ≡ filter (is_open q v) es) where
-    -- whoever of them is in the rows is sure or asked
-    covers : (e : ℕ) → Contains all e → Contains (matching (view_of v) q) e → Contains sure e ⊎ Contains asked e
-    covers e there h =
-        let mine = subst (λ xs. Contains xs e) are_all there in
-        let has : lacks q (ids_of v e) ≡ false = refuted (lacks q (ids_of v e)) (λ l. lacking_match_nothing (view_of v) q e l h) in
-        let here = and_from (is_live v e) (not (lacks q (ids_of v e))) (in_rows_lives v q e h) (ap not has) in
-        elim (cases_Bool (meets q (ids_of v e))) [
-          | inl met ↦ inl (subst (λ xs. Contains xs e) (sym are_sure) ((filtered (is_sure q v) es e).1 (mine, and_from _ _ here met)))
-          | inr unmet ↦ inr (subst (λ xs. Contains xs e) (sym are_open) ((filtered (is_open q v) es e).1 (mine, and_from _ _ here (ap not unmet))))
-        ]
+among : (es : List ℕ) (e : ℕ) → list_any (λ x. x == e) es ≡ true → Contains es e
+among es e h = let x = passing (λ x. x == e) es h in subst (Contains es) (eq_same x.0 e x.2) x.1
 
-    pub told_moved : TellsMoved q v changed all sure asked
-    told_moved =
-        let sure_at = λ (e : ℕ) (h : Contains sure e). (filtered (is_sure q v) es e).0 (subst (λ xs. Contains xs e) are_sure h) in
-        let open_at = λ (e : ℕ) (h : Contains asked e). (filtered (is_open q v) es e).0 (subst (λ xs. Contains xs e) are_open h) in
-        record {
-          all_ascend = subst IsStrictlyIncreasing (sym are_all) ascend;
-          sure_ascend = subst IsStrictlyIncreasing (sym are_sure) (IsStrictlyIncreasing-filter (is_sure q v) es ascend);
-          asked_ascend = subst IsStrictlyIncreasing (sym are_open) (IsStrictlyIncreasing-filter (is_open q v) es ascend);
-          others_stay = λ e far. stay e (λ h. far (subst (λ xs. Contains xs e) (sym are_all) h));
-          asked_live = λ e h. listed v e (and_parts _ _ (and_parts _ _ (open_at e h).1).0).0;
-          sure_match = λ e h. let both = and_parts _ _ (sure_at e h).1 in meeting_match (view_of v) q sound e (listed v e (and_parts _ _ both.0).0) both.1;
-          covered = covers;
-        }
+module _ (v : WorldState) (q : Query) (e : ℕ) where
+  -- whether it is in the rows
+  pub dead_are_out : is_live v e ≡ false → false ≡ list_any (λ x. x == e) (matching (view_of v) q)
+  dead_are_out dead = sym (false_from_ne_true _ (λ h. true≢false (sym (in_rows_lives v q e (among (matching (view_of v) q) e h)) ∙ dead)))
 
--- those of some that pass a test are no more than they
-no_more : {X : Type 0} (p : X → Bool) (xs : List X) → length (filter p xs) ≤ length xs
-no_more p [] = omega arith
-no_more p (x ∷ xs) = by (p x) (no_more p xs)
-  where
-    by : (b : Bool) → length (filter p xs) ≤ length xs → length (cond b (x ∷ filter p xs) (filter p xs)) ≤ suc (length xs)
-    by true few = omega (arith, few)
-    by false few = omega (arith, few)
+  pub lacking_are_out : lacks q (ids_of v e) ≡ true → false ≡ list_any (λ x. x == e) (matching (view_of v) q)
+  lacking_are_out lacking = sym (false_from_ne_true _ (λ h. lacking_match_nothing (view_of v) q e lacking (among (matching (view_of v) q) e h)))
 
--- where all are few, so are those of them who are sure, and those who are asked
-pub few_moved : (p q : ℕ → Bool) (es all sure asked : List ℕ) → all ≡ es → sure ≡ filter p es → asked ≡ filter q es → length es ≤ most_moving → AreFew all sure asked
-few_moved p q es all sure asked are_all are_sure are_open few = record {
-  all_few = subst (λ (xs : List ℕ). length xs ≤ most_moving) (sym are_all) few;
-  sure_few = subst (λ (xs : List ℕ). length xs ≤ most_moving) (sym are_sure) (omega (arith, no_more p es, few));
-  asked_few = subst (λ (xs : List ℕ). length xs ≤ most_moving) (sym are_open) (omega (arith, no_more q es, few));
-}
+  pub meeting_are_in : IsSound q → is_live v e ≡ true → meets q (ids_of v e) ≡ true → true ≡ list_any (λ x. x == e) (matching (view_of v) q)
+  meeting_are_in sound live met = sym (any_passes (λ x. x == e) (matching (view_of v) q) e (meeting_match (view_of v) q sound e (listed v e live) met) (eq_itself e))
+
+  -- what its ids tell
+  pub told_dead : is_live v e ≡ false → Some false ≡ told_by_ids q v e
+  told_dead dead = sym (ap (λ b. if not b || lacks q (ids_of v e) then Some false else (if meets q (ids_of v e) then Some true else None)) dead)
+
+  pub told_lacking : is_live v e ≡ true → lacks q (ids_of v e) ≡ true → Some false ≡ told_by_ids q v e
+  told_lacking live lacking = sym (λ i. if not (live i) || lacking i then Some false else (if meets q (ids_of v e) then Some true else None))
+
+  pub told_met : (met : Bool) → is_live v e ≡ true → lacks q (ids_of v e) ≡ false → meets q (ids_of v e) ≡ met → (if met then Some true else None) ≡ told_by_ids q v e
+  told_met met live has is = sym (λ i. if not (live i) || has i then Some false else (if is i then Some true else None))
+
+  -- of whom they don't tell it, lives
+  pub untold_lives : is_none (told_by_ids q v e) ≡ true → Contains (entities v) e
+  untold_lives untold = by (is_live v e) refl
+    where
+      by : (b : Bool) → is_live v e ≡ b → Contains (entities v) e
+      by true live = listed v e live
+      by false dead = absurd (true≢false (sym untold ∙ ap is_none (sym (told_dead dead))))
+
+  pub lives_here : is_live v e ≡ true → Contains (entities v) e
+  lives_here live = listed v e live

@@ -25,6 +25,11 @@ nothing_behind (x ∷ xs) = ap (λ ys. x ∷ ys) (nothing_behind xs)
 pub already : (a x : List ℕ) → ((e : ℕ) → Contains a e → Contains x e) → Adds a x x
 already a x there = record { more = []; behind = nothing_behind x; all = there }
 
+-- of nobody nothing is wanted
+pub nothing_wanted : (next : ℕ → List ℕ) (xs x : List ℕ) → length xs ≡ 0 → Adds (flat_map next xs) x x
+nothing_wanted next [] x none = already [] x (λ e m. absurd (omega (arith, m.1)))
+nothing_wanted next (y ∷ ys) x none = absurd (omega (arith, none))
+
 -- it grows in two steps
 pub and_then : (a b x y z : List ℕ) → Adds a x y → Adds b y z → Adds (a ++ b) x z
 and_then a b x y z h k = record {
@@ -95,6 +100,10 @@ module _ (p : ℕ → Bool) where
   given_kept xs i inside d x y z h k =
       subst (λ a. Adds a x z) (sym (ap (filter p) (take_more xs i d inside) ∙ filter-append p (take i xs) (get_or xs i d ∷ [])))
       (and_then (filter p (take i xs)) (filter p (get_or xs i d ∷ [])) x y z h k)
+
+  -- of one list, and then of another
+  pub kept_of_both : (a b x y z : List ℕ) → Adds (filter p a) x y → Adds (filter p b) y z → Adds (filter p (a ++ b)) x z
+  kept_of_both a b x y z h k = subst (λ wanted. Adds wanted x z) (sym (filter-append p a b)) (and_then (filter p a) (filter p b) x y z h k)
 
   -- one alone, whether it passes or not
   pub kept_of_one : (e : ℕ) (x y : List ℕ) → Adds (e ∷ []) x y → Adds (filter p (e ∷ [])) x y

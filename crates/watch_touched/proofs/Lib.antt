@@ -11,6 +11,7 @@ pub mod GrownLists
 pub mod LowerWalks
 pub mod TableMates
 pub mod AllMoving
+pub mod CountedConcerns
 pub mod CoveredConcerns
 pub mod StayingEntities
 pub mod AskedEntities

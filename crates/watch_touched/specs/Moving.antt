@@ -1,10 +1,10 @@
--- Who may move in or out of a query's rows by a command, and what is told of them but for those who have to be asked.
-use Rattle.std.specs.Prelude.{◌≡◌, ◌≤◌, ◌⊎◌, ◌↔◌, ℕ, Bool, true, false, not, ◌&&◌, ◌||◌, List, ◌++◌, filter, flat_map, length, map}
+-- Who may move in or out of a query's rows by a command, and whether ids tell that one is in them.
+use Rattle.std.specs.Prelude.{◌≡◌, ◌↔◌, ℕ, Bool, true, false, not, ◌&&◌, ◌||◌, List, ◌++◌, Option, None, Some, filter, flat_map, map, if◌then◌else◌}
 use Rattle.std.specs.List.{Contains, list_any}
 use Rattle.std.specs.List.Sorted.{IsStrictlyIncreasing}
 use Rattle.ecs_id.specs.Id.{Id}
 use Rattle.ecs_model.specs.Command.{Changed}
-use Rattle.ecs_model.specs.World.{WorldState, Key, entities, ids_of, is_live}
+use Rattle.ecs_model.specs.World.{WorldState, Key, ids_of, is_live}
 use Rattle.ecs_model.specs.rows.View.{view_of}
 use Rattle.ecs_model.specs.stored.Watches.{matching}
 use Rattle.watch_concerns.specs.Anchored.{is_anchored}
@@ -84,30 +84,15 @@ module _ (q : Query) (w : WorldState) where
     pub themselves : (x : ℕ) → Contains targets x → may_be_this q w x ≡ true → Contains es x
     pub held : (x e : ℕ) → Contains targets x → Contains (leaning (moves_by q) w x) e → Contains es e
 
-  -- whether an entity's ids tell that it is `$this` of a row
-  abbrev pub is_sure : ℕ → Bool
-  is_sure e = is_live w e && not (lacks q (ids_of w e)) && meets q (ids_of w e)
+  -- whether an entity is `$this` of a row, as its ids tell: nobody is who doesn't live, or lacks what is asked of `$this` itself; and whoever meets all that is asked by its ids alone is. Of others they don't tell
+  abbrev pub told_by_ids : ℕ → Option Bool
+  told_by_ids e = if not (is_live w e) || lacks q (ids_of w e) then Some false else (if meets q (ids_of w e) then Some true else None)
 
-  -- whether they don't tell whether it is
-  abbrev pub is_open : ℕ → Bool
-  is_open e = is_live w e && not (lacks q (ids_of w e)) && not (meets q (ids_of w e))
-
-  -- some entities, those of them who are in the rows for sure, and those of them who are to be asked: whoever else is in the rows was in them before the command, and the other way round
-  pub record TellsMoved (changed : Changed) (all sure asked : List ℕ) : Type 0 where
-    pub all_ascend : IsStrictlyIncreasing all
-    pub sure_ascend : IsStrictlyIncreasing sure
-    pub asked_ascend : IsStrictlyIncreasing asked
+  -- among some entities are all that have moved: whoever else is in the rows was in them before the command, and the other way round
+  pub record AreAllMoved (changed : Changed) (all : List ℕ) : Type 0 where
+    pub ascend : IsStrictlyIncreasing all
     pub others_stay : (e : ℕ) → (Contains all e → ⊥) → Contains (matching (view_before w changed) q) e ↔ Contains (matching (view_of w) q) e
-    pub asked_live : (e : ℕ) → Contains asked e → Contains (entities w) e
-    pub sure_match : (e : ℕ) → Contains sure e → Contains (matching (view_of w) q) e
-    pub covered : (e : ℕ) → Contains all e → Contains (matching (view_of w) q) e → Contains sure e ⊎ Contains asked e
 
 -- so many are told at most
 abbrev pub most_moving : ℕ
 most_moving = 64
-
--- whether few are told: of all who may move, of those who are in the rows for sure, and of those who are to be asked
-pub record AreFew (all sure asked : List ℕ) : Type 0 where
-  pub all_few : length all ≤ most_moving
-  pub sure_few : length sure ≤ most_moving
-  pub asked_few : length asked ≤ most_moving

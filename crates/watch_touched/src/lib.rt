@@ -13,6 +13,6 @@ mod sought;
 mod touching;
 
 pub use bonds::Bonds;
-pub use concerned::{has_births_or_deaths, is_concerned};
-pub use moving::{Moved, who_may_have_moved};
+pub use concerned::has_births_or_deaths;
+pub use moving::{Moved, told_by_ids, who_may_have_moved};
 pub use touching::touched;

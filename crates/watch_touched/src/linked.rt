@@ -1,6 +1,6 @@
 //! Who is linked with an entity, from pair to pair: by a pair that links others, which one of two holds with the other as its target.
 
-ghost use Rattle.std.specs.Prelude.{◌≡◌, ◌++◌, true, flat_map, IfOk, OnOk};
+ghost use Rattle.std.specs.Prelude.{◌≡◌, true, flat_map, IfOk, OnOk};
 ghost use Rattle.watch_touched.specs.Leaning.{Adds, IsClosed, leaning, linked_with, links_busily, moves_by, target_of, targets_at};
 ghost use Rattle.watch_touched.specs.Moving.{targets_by};
 
@@ -111,19 +111,4 @@ fn push_target<A: Allocator + Copy, B: Allocator>(
         return Ok(());
     }
     push_new(alloc, target, found)
-}
-
-/// Adds these entities.
-#[inline(always)]
-pub(crate) fn push_all<A: Allocator + Copy>(
-    alloc: A,
-    entities: &[u32],
-    found: &mut ShortList<A>,
-) -> Result<(), AllocError>
-    ensures { OnOk result (found.new.items ≡ found.old.items ++ entities.now) }
-{
-    for entity in entities {
-        found.push(alloc, *entity)?;
-    }
-    Ok(())
 }

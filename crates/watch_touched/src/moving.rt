@@ -1,20 +1,26 @@
 //! Who may have moved in or out of a query's rows, where few may.
 
-ghost use Rattle.std.specs.Prelude.{◌≡◌, ◌↔◌, ◌++◌, ◌∷◌, [], ℕ, Contains, true, filter, flat_map, IfOk, IfSome, OnOk, false, if◌then◌else◌};
+ghost use Rattle.std.specs.Prelude.{◌≡◌, ◌↔◌, ◌++◌, ◌∷◌, ◌==◌, ◌≤◌, ◌&&◌, ◌||◌, [], ℕ, Contains, true, filter, flat_map, length, not, IfNone, IfOk, IfSome, OnOk, false, if◌then◌else◌};
+ghost use Rattle.std.specs.List.{list_any};
 ghost use Rattle.std.specs.List.Sorted.{IsStrictlyIncreasing};
 ghost use Rattle.ecs_model.specs.World.{is_live};
+ghost use Rattle.ecs_model.specs.rows.View.{view_of};
+ghost use Rattle.ecs_model.specs.stored.Watches.{matching};
 ghost use Rattle.query_meaning.specs.Sound.{IsSound};
 ghost use Rattle.watch_touched.specs.Bonds.{bonds_of};
 ghost use Rattle.watch_concerns.specs.Concerns.{concerns};
 ghost use Rattle.watch_concerns.specs.Others.{concerns_below, concerns_others};
+ghost use Rattle.watch_touched.specs.Concerned.{has_births_or_deaths, is_concerned};
 ghost use Rattle.watch_touched.specs.Leaning.{Adds, HasAllBelow, concerns_beyond, leaning, moves_by};
-ghost use Rattle.watch_touched.specs.Moving.{AreFew, AreLinked, AreMoving, AreTargets, TellsMoved, any_concerns_others, busy_among, entities_by, entities_of, is_followed, is_open, is_sure, may_be_this};
+ghost use Rattle.watch_touched.specs.Moving.{AreAllMoved, AreLinked, AreMoving, busy_among, entities_by, entities_of, is_followed, may_be_this, most_moving, told_by_ids};
+ghost use Rattle.watch_touched.specs.declared.moving.Moved.TheVariants.{Few, Nobody, Unknown};
 ghost use Rattle.watch_concerns.specs.Since.{IsAfter};
 
 use crate::Bonds;
+use crate::concerned::has_births_or_deaths;
 use crate::indexes::put_in_order;
 use crate::leaning::{MOST, is_among, push_all_below, push_leaning_on_all};
-use crate::linked::{push_all, push_all_linked, push_targets};
+use crate::linked::{push_all_linked, push_targets};
 use crate::sought::Sought;
 use crate::touching::ids_at;
 use ecs_model::FactKey;
@@ -23,18 +29,21 @@ use short_list::ShortList;
 use std::alloc::{AllocError, Allocator};
 use watch_asked::AskedQuery;
 
-/// Who may have moved in or out of a query's rows by a command; those of them whose ids tell that they are `$this` of a row now; and those of whom a search
-/// has to tell. All ascend.
-#[derive(Drop)]
-pub struct Moved<A: Allocator> {
-    pub all: ShortList<A>,
-    pub sure: ShortList<A>,
-    pub asked: ShortList<A>,
+/// What is told of who may have moved in or out of a query's rows by a command.
+#[derive(Clone, Copy)]
+pub enum Moved {
+    /// The command doesn't concern the query, so nobody has.
+    Nobody,
+    /// Those in a list, and nobody else.
+    Few,
+    /// Anybody may have.
+    Unknown,
 }
 
-/// Who may have moved in or out of a query's rows by a command. All others are in them or out of them as before.
+/// Who may have moved in or out of a query's rows by a command, if it concerns the query. These are put into a list, in which nobody is yet. All others are in
+/// the rows or out of them as before.
 ///
-/// None, where that can't be told: of a query that isn't anchored, where a fact concerns others than its entity and the query is neither tied nor linked, or where
+/// Unknown, where that can't be told: of a query that isn't anchored, where a fact concerns others than its entity and the query is neither tied nor linked, or where
 /// more than 64 may have moved. Takes time in what has changed, and for each that may have moved. Fails where memory is refused.
 pub fn who_may_have_moved<A: Allocator + Copy, B: Allocator>(
     alloc: A,
@@ -42,53 +51,86 @@ pub fn who_may_have_moved<A: Allocator + Copy, B: Allocator>(
     changes: &Changes<A>,
     query: &AskedQuery<'_, B>,
     bonds: Bonds,
-) -> Result<Option<Moved<A>>, AllocError>
+    moving: &mut ShortList<A>,
+) -> Result<Moved, AllocError>
     requires bonds { bonds ≡ bonds_of query.now }
     requires after { IsAfter world.now.state changes.now }
     requires sound { IsSound query.now }
-    ensures told { IfOk result (λ found. IfSome found (λ moved. TellsMoved query.now world.now.state changes.now moved.all.items moved.sure.items moved.asked.items)) }
-    ensures few { IfOk result (λ found. IfSome found (λ moved. AreFew moved.all.items moved.sure.items moved.asked.items)) }
-    ensures unknown { is_followed query.now changes.now ≡ false → IfOk result (λ found. found ≡ None) }
+    requires none { moving.old.items ≡ [] }
+    ensures nobody { is_concerned query.now changes.now ≡ false → IfOk result (λ moved. moved ≡ Nobody) }
+    ensures concerned { IfOk result (λ moved. moved ≡ Nobody → is_concerned query.now changes.now ≡ false) }
+    ensures all { IfOk result (λ moved. moved ≡ Few → AreAllMoved query.now world.now.state changes.now moving.new.items) }
+    ensures few { IfOk result (λ moved. moved ≡ Few → length moving.new.items ≤ most_moving) }
+    ensures unknown { is_followed query.now changes.now ≡ false → is_concerned query.now changes.now ≡ true → IfOk result (λ moved. moved ≡ Unknown) }
 {
     world.keeps();
-    if !is_followed(query, bonds, changes) {
-        return Ok(None);
+    let mut others = ShortList::new();
+    let mut below = ShortList::new();
+    push_all_concerned(alloc, query, changes, moving, &mut others, &mut below)?;
+    if is_nobody(bonds, changes, moving.len()) {
+        return Ok(Moved::Nobody);
     }
-    let Some(all) = moving(alloc, query, bonds, world, changes)? else {
-        return Ok(None);
-    };
-    if all.len() > MOST {
-        return Ok(None);
+    if !are_followed(bonds, others.len()) {
+        return Ok(Moved::Unknown);
     }
-    let mut sure = ShortList::new();
-    let mut asked = ShortList::new();
-    push_by_ids(alloc, query, world, all.as_slice(), &mut sure, &mut asked)?;
-    Ok(Some(Moved { all, sure, asked }))
+    if !push_all_moving(
+        alloc,
+        query,
+        bonds,
+        world,
+        changes,
+        &mut others,
+        &mut below,
+        moving,
+    )? {
+        return Ok(Moved::Unknown);
+    }
+    if moving.len() > MOST {
+        return Ok(Moved::Unknown);
+    }
+    Ok(Moved::Few)
 }
 
-/// Of some entities, adds those to the sure whose ids tell that they are `$this` of a row, and those to the asked whose ids don't tell.
-fn push_by_ids<A: Allocator + Copy, B: Allocator>(
-    alloc: A,
+/// Whether nobody may have moved, where of so many a fact that concerns the query came or went.
+#[inline(always)]
+fn is_nobody<A: Allocator>(bonds: Bonds, changes: &Changes<A>, own: usize) -> bool
+    ensures { result ≡ ((own == 0) && (bonds.anchored || not (has_births_or_deaths changes.now))) }
+{
+    own == 0 && (bonds.anchored || !has_births_or_deaths(changes))
+}
+
+/// Whether all who may have moved can be found: births and deaths don't matter, and what came and went concerns a query for no others than the
+/// entities whose facts these are and those below, or for those alone who hold a pair with one of these, or are linked with one from pair to pair.
+/// Of so many a fact came or went that concerns others.
+#[inline(always)]
+fn are_followed(bonds: Bonds, others: usize) -> bool
+    ensures { result ≡ (bonds.anchored && (bonds.tied || bonds.linked || (others == 0))) }
+{
+    bonds.anchored && (bonds.tied || bonds.linked || others == 0)
+}
+
+/// Whether an entity is `$this` of a row of a query, as its ids tell. None, where they don't: then it lives.
+pub fn told_by_ids<A: Allocator, B: Allocator>(
     query: &AskedQuery<'_, B>,
     world: &World<A>,
-    entities: &[u32],
-    sure: &mut ShortList<A>,
-    asked: &mut ShortList<A>,
-) -> Result<(), AllocError>
-    ensures sure { OnOk result (sure.new.items ≡ sure.old.items ++ filter (is_sure query.now world.now.state) entities.now) }
-    ensures asked { OnOk result (asked.new.items ≡ asked.old.items ++ filter (is_open query.now world.now.state) entities.now) }
+    entity: u32,
+) -> Option<bool>
+    requires sound { IsSound query.now }
+    ensures by_ids { result ≡ told_by_ids query.now world.now.state entity }
+    ensures told { IfSome result (λ is. is ≡ list_any (λ x. x == entity) (matching (view_of world.now.state) query.now)) }
+    ensures untold { IfNone result (Contains (view_of world.now.state).entities entity) }
 {
-    for entity in entities {
-        let ids = ids_at(world, *entity);
-        if lives(world, *entity) && !query.lacks(ids) {
-            if query.meets(ids) {
-                sure.push(alloc, *entity)?;
-            } else {
-                asked.push(alloc, *entity)?;
-            }
-        }
+    if !lives(world, entity) {
+        return Some(false);
     }
-    Ok(())
+    let ids = ids_at(world, entity);
+    if query.lacks(ids) {
+        return Some(false);
+    }
+    if query.meets(ids) {
+        return Some(true);
+    }
+    None
 }
 
 fn lives<A: Allocator>(world: &World<A>, entity: u32) -> bool
@@ -97,83 +139,47 @@ fn lives<A: Allocator>(world: &World<A>, entity: u32) -> bool
     world.at(entity).is_some()
 }
 
-/// Whether all who may have moved can be found: births and deaths don't matter, and what came and went concerns a query for no others than the
-/// entities whose facts these are and those below, or for those alone who hold a pair with one of these, or are linked with one from pair to pair.
-fn is_followed<A: Allocator, B: Allocator>(
-    query: &AskedQuery<'_, B>,
-    bonds: Bonds,
-    changes: &Changes<A>,
-) -> bool
-    requires bonds { bonds ≡ bonds_of query.now }
-    ensures { result ≡ is_followed query.now changes.now }
-{
-    bonds.anchored
-        && (bonds.tied
-            || bonds.linked
-            || (!any_concerns_others(query, changes.came())
-                && !any_concerns_others(query, changes.went())))
-}
-
-/// Whether one of these facts concerns a query for others than its own entity and those below that.
-fn any_concerns_others<B: Allocator>(query: &AskedQuery<'_, B>, facts: &[FactKey]) -> bool
-    ensures { result ≡ any_concerns_others query.now facts.now }
-{
-    for fact in facts {
-        if query.concerns_others(fact.id()) {
-            return true;
-        }
-    }
-    false
-}
-
-/// All who may have moved, in order, unless they may be too many.
-fn moving<A: Allocator + Copy, B: Allocator>(
+/// Adds all who may have moved by another one's fact to those of whom one that concerns the query came or went, and puts all in order. False, where they may be
+/// too many.
+fn push_all_moving<A: Allocator + Copy, B: Allocator>(
     alloc: A,
     query: &AskedQuery<'_, B>,
     bonds: Bonds,
     world: &World<A>,
     changes: &Changes<A>,
-) -> Result<Option<ShortList<A>>, AllocError>
+    others: &mut ShortList<A>,
+    below: &mut ShortList<A>,
+    moving: &mut ShortList<A>,
+) -> Result<bool, AllocError>
     requires bonds { bonds ≡ bonds_of query.now }
-    ensures ascend { IfOk result (λ found. IfSome found (λ moving. IsStrictlyIncreasing moving.items)) }
-    ensures all { IfOk result (λ found. IfSome found (λ moving. AreMoving query.now world.now.state changes.now moving.items)) }
+    requires own { moving.old.items ≡ entities_of (concerns query.now) changes.now }
+    requires others { others.old.items ≡ entities_of (concerns_others query.now) changes.now }
+    requires below { below.old.items ≡ entities_of (concerns_below query.now) changes.now }
+    ensures ascend { IfOk result (λ done. done ≡ true → IsStrictlyIncreasing moving.new.items) }
+    ensures all { IfOk result (λ done. done ≡ true → AreMoving query.now world.now.state changes.now moving.new.items) }
 {
-    let mut moving = ShortList::new();
-    let mut others = ShortList::new();
-    let mut below = ShortList::new();
-    push_concerned(
-        alloc,
-        query,
-        changes.came(),
-        &mut moving,
-        &mut others,
-        &mut below,
-    )?;
-    push_concerned(
-        alloc,
-        query,
-        changes.went(),
-        &mut moving,
-        &mut others,
-        &mut below,
-    )?;
-    put_in_order(&mut moving);
     if others.len() == 0 && below.len() == 0 {
-        return Ok(Some(moving));
+        put_in_order(moving);
+        return Ok(true);
     }
-    if !push_moved_by_others(
-        alloc,
-        query,
-        bonds,
-        world,
-        changes,
-        others,
-        below,
-        &mut moving,
-    )? {
-        return Ok(None);
-    }
-    Ok(Some(moving))
+    push_moved_by_others(alloc, query, bonds, world, changes, others, below, moving)
+}
+
+/// Adds the entities of all facts that came and went, as `push_concerned` does.
+fn push_all_concerned<A: Allocator + Copy, B: Allocator>(
+    alloc: A,
+    query: &AskedQuery<'_, B>,
+    changes: &Changes<A>,
+    own: &mut ShortList<A>,
+    others: &mut ShortList<A>,
+    below: &mut ShortList<A>,
+) -> Result<(), AllocError>
+    ensures own { OnOk result (own.new.items ≡ own.old.items ++ entities_of (concerns query.now) changes.now) }
+    ensures others { OnOk result (others.new.items ≡ others.old.items ++ entities_of (concerns_others query.now) changes.now) }
+    ensures below { OnOk result (below.new.items ≡ below.old.items ++ entities_of (concerns_below query.now) changes.now) }
+{
+    push_concerned(alloc, query, changes.came(), own, others, below)?;
+    push_concerned(alloc, query, changes.went(), own, others, below)
 }
 
 /// Adds the entities of those facts that concern a query to the first list, of those that concern it for others to the second, and of those that
@@ -216,7 +222,7 @@ fn push_if<A: Allocator>(
     Ok(())
 }
 
-/// Adds all who may have moved by another one's fact to those of whom one that concerns the query came or went, and puts all in order. Takes those of
+/// Adds all who may have moved by another one's fact to those of whom one that concerns the query came or went, and puts all in order. Begins with those of
 /// whom one did that concerns others, and that concerns those below. False, where they may be too many.
 // (the facts of most commands concern their own entities alone)
 #[inline(never)]
@@ -226,25 +232,25 @@ fn push_moved_by_others<A: Allocator + Copy, B: Allocator>(
     bonds: Bonds,
     world: &World<A>,
     changes: &Changes<A>,
-    others: ShortList<A>,
-    below: ShortList<A>,
+    others: &mut ShortList<A>,
+    below: &mut ShortList<A>,
     moving: &mut ShortList<A>,
 ) -> Result<bool, AllocError>
     requires bonds { bonds ≡ bonds_of query.now }
     requires own { (e : ℕ) → Contains moving.old.items e ↔ Contains (entities_of (concerns query.now) changes.now) e }
-    requires others { others.items ≡ entities_of (concerns_others query.now) changes.now }
-    requires below { below.items ≡ entities_of (concerns_below query.now) changes.now }
+    requires others { others.old.items ≡ entities_of (concerns_others query.now) changes.now }
+    requires below { below.old.items ≡ entities_of (concerns_below query.now) changes.now }
     ensures ascend { IfOk result (λ done. done ≡ true → IsStrictlyIncreasing moving.new.items) }
     ensures all { IfOk result (λ done. done ≡ true → AreMoving query.now world.now.state changes.now moving.new.items) }
 {
-    let Some(mut targets) = linked(alloc, query, bonds, world, changes, others, moving)? else {
+    if !push_linked_to(alloc, query, bonds, world, changes, others, moving)? {
         return Ok(false);
-    };
-    let Some(below) = all_below(alloc, query, world, below, moving)? else {
+    }
+    if !push_below(alloc, query, world, below, moving)? {
         return Ok(false);
-    };
-    push_all(alloc, below.as_slice(), &mut targets)?;
-    push_matching(alloc, query, world, targets.as_slice(), moving)?;
+    }
+    push_matching(alloc, query, world, others.as_slice(), moving)?;
+    push_matching(alloc, query, world, below.as_slice(), moving)?;
     put_in_order(moving);
     Ok(true)
 }
@@ -284,21 +290,24 @@ fn push_if_matching<A: Allocator + Copy, B: Allocator>(
     found.push(alloc, entity)
 }
 
-/// These entities, of whom a fact came or went that concerns those below, and all below them, in order; and added to the list those who may have moved by a
-/// fact of one of these. None, where they may be too many.
-fn all_below<A: Allocator + Copy, B: Allocator>(
+/// Adds to these entities, of whom a fact came or went that concerns those below, all below them; and to the second list those who may have moved by a
+/// fact of one of these. False, where they may be too many.
+fn push_below<A: Allocator + Copy, B: Allocator>(
     alloc: A,
     query: &AskedQuery<'_, B>,
     world: &World<A>,
-    mut below: ShortList<A>,
+    below: &mut ShortList<A>,
     moving: &mut ShortList<A>,
-) -> Result<Option<ShortList<A>>, AllocError>
-    ensures below { IfOk result (λ found. IfSome found (λ all. HasAllBelow (λ ids. concerns_beyond query.now) world.now.state below.items all.items)) }
-    ensures moving { IfOk result (λ found. IfSome found (λ all. Adds (flat_map (leaning (moves_by query.now) world.now.state) all.items) moving.old.items moving.new.items)) }
+) -> Result<bool, AllocError>
+    ensures below { IfOk result (λ done. done ≡ true → HasAllBelow (λ ids. concerns_beyond query.now) world.now.state below.old.items below.new.items) }
+    ensures moving { IfOk result (λ done. done ≡ true → Adds (flat_map (leaning (moves_by query.now) world.now.state) below.new.items) moving.old.items moving.new.items) }
 {
-    put_in_order(&mut below);
-    if !push_all_below(alloc, query, &Sought::Below, world, &mut below)? {
-        return Ok(None);
+    if below.len() == 0 {
+        return Ok(true);
+    }
+    put_in_order(below);
+    if !push_all_below(alloc, query, &Sought::Below, world, below)? {
+        return Ok(false);
     }
     if !push_leaning_on_all(
         alloc,
@@ -308,30 +317,30 @@ fn all_below<A: Allocator + Copy, B: Allocator>(
         below.as_slice(),
         moving,
     )? {
-        return Ok(None);
+        return Ok(false);
     }
-    Ok(Some(below))
+    Ok(true)
 }
 
-/// All of whom a fact that concerns others came or went. Of a query that isn't tied, those of whom one did that may move others, those who had a pair in
-/// common that went, and all who are linked with one of these, from pair to pair. Adds those to the list who may have moved by a fact of one of these. None,
-/// where they may be too many.
-fn linked<A: Allocator + Copy, B: Allocator>(
+/// Makes of those of whom a fact that concerns others came or went all who may move by them or have others move: of a tied query they themselves; of others those of
+/// whom one did that may move others, those who had a pair in common that went, and all who are linked with one of these, from pair to pair. Adds those to the second list
+/// who may have moved by a fact of one of these. False, where they may be too many.
+fn push_linked_to<A: Allocator + Copy, B: Allocator>(
     alloc: A,
     query: &AskedQuery<'_, B>,
     bonds: Bonds,
     world: &World<A>,
     changes: &Changes<A>,
-    mut others: ShortList<A>,
+    others: &mut ShortList<A>,
     moving: &mut ShortList<A>,
-) -> Result<Option<ShortList<A>>, AllocError>
+) -> Result<bool, AllocError>
     requires bonds { bonds ≡ bonds_of query.now }
-    requires others { others.items ≡ entities_of (concerns_others query.now) changes.now }
-    ensures linked { IfOk result (λ found. IfSome found (λ linked. AreLinked query.now world.now.state changes.now linked.items)) }
-    ensures moving { IfOk result (λ found. IfSome found (λ linked. Adds (flat_map (leaning (moves_by query.now) world.now.state) linked.items) moving.old.items moving.new.items)) }
+    requires others { others.old.items ≡ entities_of (concerns_others query.now) changes.now }
+    ensures linked { IfOk result (λ done. done ≡ true → AreLinked query.now world.now.state changes.now others.new.items) }
+    ensures moving { IfOk result (λ done. done ≡ true → Adds (flat_map (leaning (moves_by query.now) world.now.state) others.new.items) moving.old.items moving.new.items) }
 {
     if bonds.tied {
-        put_in_order(&mut others);
+        put_in_order(others);
         if !push_leaning_on_all(
             alloc,
             query,
@@ -340,20 +349,20 @@ fn linked<A: Allocator + Copy, B: Allocator>(
             others.as_slice(),
             moving,
         )? {
-            return Ok(None);
+            return Ok(false);
         }
-        return Ok(Some(others));
+        return Ok(true);
     }
-    let mut linked = ShortList::new();
+    *others = ShortList::new();
     let went = changes.went();
-    push_busy(alloc, query, world, went, changes.came(), &mut linked)?;
-    push_busy(alloc, query, world, went, went, &mut linked)?;
-    push_targets(alloc, query, world, went, went, &mut linked)?;
-    put_in_order(&mut linked);
-    if !push_all_linked(alloc, query, went, world, &mut linked, moving)? {
-        return Ok(None);
+    push_busy(alloc, query, world, went, changes.came(), others)?;
+    push_busy(alloc, query, world, went, went, others)?;
+    push_targets(alloc, query, world, went, went, others)?;
+    put_in_order(others);
+    if !push_all_linked(alloc, query, went, world, others, moving)? {
+        return Ok(false);
     }
-    Ok(Some(linked))
+    Ok(true)
 }
 
 /// Adds the entities of those facts that may move others, where these facts went: whose holder has, or had, what else the query asks of somebody whom it

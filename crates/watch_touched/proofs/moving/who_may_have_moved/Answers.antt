@@ -1,35 +1,74 @@
-use Rattle.std.specs.Prelude.{◌≡◌, ◌++◌, IfSome, Option, filter, length}
-use Rattle.std.specs.List.Sorted.{IsStrictlyIncreasing}
-use Rattle.std.proofs.Common.{ap, arith, subst, sym, ◌∙◌}
-use Rattle.short_list.specs.Items.{Items}
-use Rattle.watch_touched.specs.Moving.{AreMoving, is_open, is_sure}
-use Rattle.watch_touched.proofs.AskedEntities.{few_moved, told_moved}
+use Rattle.std.specs.Prelude.{◌≡◌, ◌++◌, List, ℕ, length, true}
+use Rattle.std.proofs.Common.{arith, sym, true≢false, ◌∙◌}
+use Rattle.watch_concerns.specs.Concerns.{concerns}
+use Rattle.watch_concerns.specs.Others.{concerns_below, concerns_others}
+use Rattle.watch_touched.specs.Moving.{entities_of, is_followed}
+use Rattle.watch_touched.proofs.CountedConcerns.{all_followed, none_concerned, somebody_concerned}
 use Rattle.watch_touched.proofs.StayingEntities.{stay_put}
 use Rattle.watch_touched.proofs.moving.who_may_have_moved.Goals as goal
 
-pub returns-clause-told : goal.returns-clause-told
-returns-clause-told g c =
+pub push_all_moving-requires-clause-own : goal.push_all_moving-requires-clause-own
+push_all_moving-requires-clause-own g c = c.in_ok-push_all_concerned.ensures.own ∙ (λ i. c.requires.none i ++ entities_of (concerns c.args.query.now) c.args.changes.now)
+
+pub push_all_moving-requires-clause-others : goal.push_all_moving-requires-clause-others
+push_all_moving-requires-clause-others g c = c.in_ok-push_all_concerned.ensures.others ∙ (λ i. c.new-others.ensures i ++ entities_of (concerns_others c.args.query.now) c.args.changes.now)
+
+pub push_all_moving-requires-clause-below : goal.push_all_moving-requires-clause-below
+push_all_moving-requires-clause-below g c = c.in_ok-push_all_concerned.ensures.below ∙ (λ i. c.new-below.ensures i ++ entities_of (concerns_below c.args.query.now) c.args.changes.now)
+
+pub returns-then-is_nobody-clause-concerned : goal.returns-then-is_nobody-clause-concerned
+returns-then-is_nobody-clause-concerned g c same =
+    let own = c.in_ok-push_all_concerned.ensures.own ∙ (λ i. c.requires.none i ++ entities_of (concerns c.args.query.now) c.args.changes.now) in
+    none_concerned c.args.query.now c.args.changes.now c.args.bonds c.requires.bonds c.len.result c.push_all_concerned.new.own.items own c.len.ensures c.is_nobody.result c.is_nobody.ensures c.if-is_nobody.true
+
+-- where somebody may have moved, the command concerns the query
+pub returns-then-not-are_followed-clause-nobody : goal.returns-then-not-are_followed-clause-nobody
+returns-then-not-are_followed-clause-nobody g c none =
+    let own = c.in_ok-push_all_concerned.ensures.own ∙ (λ i. c.requires.none i ++ entities_of (concerns c.args.query.now) c.args.changes.now) in
+    absurd (somebody_concerned c.args.query.now c.args.changes.now c.args.bonds c.requires.bonds c.len.result c.push_all_concerned.new.own.items own c.len.ensures c.is_nobody.result c.is_nobody.ensures c.if-is_nobody.false none)
+
+pub returns-then-not-branch-clause-nobody : goal.returns-then-not-branch-clause-nobody
+returns-then-not-branch-clause-nobody g c none =
+    let own = c.in_ok-push_all_concerned.ensures.own ∙ (λ i. c.requires.none i ++ entities_of (concerns c.args.query.now) c.args.changes.now) in
+    absurd (somebody_concerned c.args.query.now c.args.changes.now c.args.bonds c.requires.bonds c.len.result c.push_all_concerned.new.own.items own c.len.ensures c.is_nobody.result c.is_nobody.ensures c.if-is_nobody.false none)
+
+pub returns-then-len-gt-MOST-clause-nobody : goal.returns-then-len-gt-MOST-clause-nobody
+returns-then-len-gt-MOST-clause-nobody g c none =
+    let own = c.in_ok-push_all_concerned.ensures.own ∙ (λ i. c.requires.none i ++ entities_of (concerns c.args.query.now) c.args.changes.now) in
+    absurd (somebody_concerned c.args.query.now c.args.changes.now c.args.bonds c.requires.bonds c.len.result c.push_all_concerned.new.own.items own c.len.ensures c.is_nobody.result c.is_nobody.ensures c.if-is_nobody.false none)
+
+pub returns-clause-nobody : goal.returns-clause-nobody
+returns-clause-nobody g c none =
+    let own = c.in_ok-push_all_concerned.ensures.own ∙ (λ i. c.requires.none i ++ entities_of (concerns c.args.query.now) c.args.changes.now) in
+    absurd (somebody_concerned c.args.query.now c.args.changes.now c.args.bonds c.requires.bonds c.len.result c.push_all_concerned.new.own.items own c.len.ensures c.is_nobody.result c.is_nobody.ensures c.if-is_nobody.false none)
+
+pub returns-clause-all : goal.returns-clause-all
+returns-clause-all g c same =
     let w = c.args.world.now.state in
     let q = c.args.query.now in
     let changed = c.args.changes.now in
-    let followed = sym c.is_followed.ensures ∙ c.if-not-is_followed.false in
-    let es = c.as_slice.result.now in
-    let same : c.in-Some.all.items ≡ es = sym c.as_slice.ensures in
-    let ascend = subst (λ (o : Option Items). IfSome o (λ moving. IsStrictlyIncreasing moving.items)) c.in-Some.is c.in_ok-all.ensures.ascend in
-    let all = subst (λ (o : Option Items). IfSome o (λ moving. AreMoving q w changed moving.items)) c.in-Some.is c.in_ok-all.ensures.all in
-    let stay = stay_put w changed c.keeps.ensures c.requires.after q c.requires.sound followed es (subst (AreMoving q w changed) same all) in
-    told_moved w changed q c.requires.sound es (subst IsStrictlyIncreasing same ascend) stay
-    c.in-Some.all.items c.push_by_ids.new.sure.items c.push_by_ids.new.asked.items same
-    (c.in_ok-push_by_ids.ensures.sure ∙ (λ i. c.new-sure.ensures i ++ filter (is_sure q w) es))
-    (c.in_ok-push_by_ids.ensures.asked ∙ (λ i. c.new-asked.ensures i ++ filter (is_open q w) es))
+    let others = c.in_ok-push_all_concerned.ensures.others ∙ (λ i. c.new-others.ensures i ++ entities_of (concerns_others q) changed) in
+    let followed : is_followed q changed ≡ true = sym (all_followed q changed c.args.bonds c.requires.bonds c.len-2.result c.push_all_concerned.new.others.items others c.len-2.ensures)
+    ∙ sym c.are_followed.ensures ∙ c.if-not-are_followed.false in
+    record {
+      ascend = c.in_ok-push_all_moving.ensures.ascend c.if-not-branch.false;
+      others_stay = stay_put w changed c.keeps.ensures c.requires.after q c.requires.sound followed c.push_all_moving.new.moving.items (c.in_ok-push_all_moving.ensures.all c.if-not-branch.false);
+    }
 
 -- they are no more than are told
 pub returns-clause-few : goal.returns-clause-few
-returns-clause-few g c =
-    let w = c.args.world.now.state in
+returns-clause-few g c same = omega (arith, c.len-3.ensures, c.if-len-gt-MOST.false)
+
+pub returns-clause-unknown : goal.returns-clause-unknown
+returns-clause-unknown g c loose concerned =
     let q = c.args.query.now in
-    let es = c.as_slice.result.now in
-    few_moved (is_sure q w) (is_open q w) es c.in-Some.all.items c.push_by_ids.new.sure.items c.push_by_ids.new.asked.items (sym c.as_slice.ensures)
-    (c.in_ok-push_by_ids.ensures.sure ∙ (λ i. c.new-sure.ensures i ++ filter (is_sure q w) es))
-    (c.in_ok-push_by_ids.ensures.asked ∙ (λ i. c.new-asked.ensures i ++ filter (is_open q w) es))
-    (omega (arith, ap length c.as_slice.ensures, c.len.ensures, c.if-len-gt-MOST.false))
+    let changed = c.args.changes.now in
+    let others = c.in_ok-push_all_concerned.ensures.others ∙ (λ i. c.new-others.ensures i ++ entities_of (concerns_others q) changed) in
+    let followed : is_followed q changed ≡ true = sym (all_followed q changed c.args.bonds c.requires.bonds c.len-2.result c.push_all_concerned.new.others.items others c.len-2.ensures)
+    ∙ sym c.are_followed.ensures ∙ c.if-not-are_followed.false in
+    absurd (true≢false (sym followed ∙ loose))
+
+pub returns-then-is_nobody-clause-unknown : goal.returns-then-is_nobody-clause-unknown
+returns-then-is_nobody-clause-unknown g c loose concerned =
+    let own = c.in_ok-push_all_concerned.ensures.own ∙ (λ i. c.requires.none i ++ entities_of (concerns c.args.query.now) c.args.changes.now) in
+    absurd (true≢false (sym concerned ∙ none_concerned c.args.query.now c.args.changes.now c.args.bonds c.requires.bonds c.len.result c.push_all_concerned.new.own.items own c.len.ensures c.is_nobody.result c.is_nobody.ensures c.if-is_nobody.true))
