@@ -1,11 +1,16 @@
 -- The rows of a stored query after a command: in a set that was made of them, or exchanged in its own.
-use Rattle.std.specs.Prelude.{◌≡◌, ℕ, List, Some, None}
+use Rattle.std.specs.Prelude.{◌≡◌, ℕ, List, Option, Some, None}
 use Rattle.std.specs.Option.{option_map_or}
-use Rattle.std.proofs.Common.{sym, ◌∙◌}
+use Rattle.std.proofs.Common.{ap, sym, ◌∙◌}
 use Rattle.entity_set.specs.Members.{Entities, exchanged}
 use Rattle.watch_stored.specs.Parts.{kept_set, with_kept}
 use Rattle.watch_stored.specs.declared.moves.RowsAfter.{RowsAfter}
 use Rattle.watch_stored.specs.declared.stored.StoredQuery.{StoredQuery}
+
+-- where no set was made
+pub kept_none : (set : Option Entities) (left entered : List ℕ) (these : Entities) → set ≡ None → exchanged left entered these ≡ kept_set set left entered these
+unfolding kept_set
+kept_none set left entered these none = sym (ap (λ o. option_map_or (λ s. s) o (exchanged left entered these)) none)
 
 module _ {A : Type 0} (rows : RowsAfter A) (q : StoredQuery A) where
   pub kept_made : (set : Entities) → rows.these ≡ Some set → record q { these = set } ≡ with_kept rows q

@@ -4,8 +4,8 @@ use Rattle.std.specs.Cmp.{nat_cmp_total}
 use Rattle.std.specs.List.{Contains, list_any}
 use Rattle.std.specs.List.Sorted.{IsStrictlyIncreasing}
 use Rattle.std.specs.Ordering.{nat_cmp}
-use Rattle.std.proofs.Common.{refl, sym, ap, subst, get_or, ◌∙◌, inl, inr, true≢false}
-use Rattle.std.proofs.lemmas.Bool.{and_from, and_parts, or_cases, or_left, or_right}
+use Rattle.std.proofs.Common.{refl, sym, ap, append_assoc, subst, get_or, ◌∙◌, true≢false}
+use Rattle.std.proofs.lemmas.Bool.{and_from, and_parts}
 use Rattle.std.proofs.lemmas.List.Elements.{filter_more}
 use Rattle.std.proofs.lemmas.List.Kept.{IsStrictlyIncreasing-filter}
 use Rattle.std.proofs.lemmas.Map.Keys.{sorted_from_strictly_increasing}
@@ -19,9 +19,11 @@ use Rattle.ecs_model.specs.stored.Watches.{is_this, matching, missing_from}
 use Rattle.ecs_model.proofs.Members.{alike, any_passes, eq_itself, eq_same, filtered, passing}
 use Rattle.query_model.specs.Query.{Query}
 use Rattle.watch_touched.specs.Before.{view_before}
+use Rattle.watch_touched.specs.declared.moving.Moved.{Moved}
+use Rattle.watch_touched.specs.declared.moving.Moved.TheVariants.{Nobody}
 use Rattle.watch_touched.proofs.RisingIds.{one_list}
 use Rattle.watch_concerns.specs.Since.{IsAfter}
-use Rattle.watch_stored.specs.Moves.{IsTold, is_among}
+use Rattle.watch_stored.specs.Moves.{IsTold, enters, is_among, leaves}
 use Rattle.watch_stored.proofs.LocalMonitors.{before_ascends}
 
 among : (es : List ℕ) (e : ℕ) → is_among es e ≡ true → Contains es e
@@ -44,54 +46,46 @@ among_filter p es e =
 
 -- ---- who left and who entered
 
--- whether it may have moved, was there, is there, and is told to be
-by_left : (m b n l : Bool) → (m ≡ false → b ≡ n) → (m ≡ true → l ≡ n) → (m && (b && not l)) ≡ (b && not n)
-by_left true b n l stays tells = λ i. b && not (tells refl i)
-by_left false b n l stays tells = sym ((λ i. stays refl i && not n) ∙ and-not_self n)
+-- whether it may have moved, was there, and is there
+by_left : (m b n : Bool) → (m ≡ false → b ≡ n) → (m && (b && not n)) ≡ (b && not n)
+by_left true b n stays = refl
+by_left false b n stays = sym ((λ i. stays refl i && not n) ∙ and-not_self n)
 
-by_entered : (m b n l : Bool) → (m ≡ false → b ≡ n) → (m ≡ true → l ≡ n) → (m && (l && not b)) ≡ (n && not b)
-by_entered true b n l stays tells = λ i. tells refl i && not b
-by_entered false b n l stays tells = sym ((λ i. n && not (stays refl i)) ∙ and-not_self n)
+by_entered : (m b n : Bool) → (m ≡ false → b ≡ n) → (m && (n && not b)) ≡ (n && not b)
+by_entered true b n stays = refl
+by_entered false b n stays = sym ((λ i. n && not (stays refl i)) ∙ and-not_self n)
 
-module _ (w : WorldState) (q : Query) (before all sure asked found : List ℕ) (told : IsTold q w before all sure asked) (up : IsStrictlyIncreasing before)
-    (now : List ℕ) (are_now : now ≡ matching (view_of w) q) (now_up : IsStrictlyIncreasing now) (are : found ≡ filter (is_among now) asked) where
-  abbrev is_told : ℕ → Bool
-  is_told e = is_among sure e || is_among found e
-
-  others_same : (e : ℕ) → is_among all e ≡ false → is_among before e ≡ is_among now e
+module _ (w : WorldState) (q : Query) (before moving : List ℕ) (told : IsTold q w before moving) (up : IsStrictlyIncreasing before)
+    (now : List ℕ) (are_now : now ≡ matching (view_of w) q) (now_up : IsStrictlyIncreasing now) where
+  others_same : (e : ℕ) → is_among moving e ≡ false → is_among before e ≡ is_among now e
   others_same e far =
-      let stay = (told.2).others_stay e (λ h. true≢false (sym (there all e h) ∙ far)) in
+      let stay = (told.2).others_stay e (λ h. true≢false (sym (there moving e h) ∙ far)) in
       alike (is_among before e) (is_among now e)
       (λ t. there now e (subst (λ xs. Contains xs e) (sym are_now) (stay.0 (subst (λ xs. Contains xs e) told.1 (among before e t)))))
       (λ t. there before e (subst (λ xs. Contains xs e) (sym told.1) (stay.1 (subst (λ xs. Contains xs e) are_now (among now e t)))))
 
-  told_same : (e : ℕ) → is_among all e ≡ true → is_told e ≡ is_among now e
-  told_same e mine =
-      alike (is_told e) (is_among now e)
-      (λ t. elim (or_cases (is_among sure e) (is_among found e) t) [
-        | inl s ↦ there now e (subst (λ xs. Contains xs e) (sym are_now) ((told.2).sure_match e (among sure e s)))
-        | inr f ↦ ((filtered (is_among now) asked e).0 (subst (λ xs. Contains xs e) are (among found e f))).1
-      ])
-      (λ t. elim ((told.2).covered e (among all e mine) (subst (λ xs. Contains xs e) are_now (among now e t))) [
-        | inl s ↦ or_left (is_among sure e) (is_among found e) (there sure e s)
-        | inr a ↦ or_right (is_among sure e) (is_among found e) (there found e (subst (λ xs. Contains xs e) (sym are) ((filtered (is_among now) asked e).1 (a, t))))
-      ])
-
-  pub left_are : filter (λ e. is_among before e && not (is_told e)) all ≡ missing_from before now
+  pub left_are : filter (leaves before now) moving ≡ missing_from before now
   left_are =
-      same_list (filter (λ e. is_among before e && not (is_told e)) all) (missing_from before now)
-      (IsStrictlyIncreasing-filter (λ e. is_among before e && not (is_told e)) all (told.2).all_ascend) (IsStrictlyIncreasing-filter (λ e. not (is_among now e)) before up)
-      (λ e. among_filter (λ e. is_among before e && not (is_told e)) all e
-      ∙ by_left (is_among all e) (is_among before e) (is_among now e) (is_told e) (others_same e) (told_same e)
+      same_list (filter (leaves before now) moving) (missing_from before now)
+      (IsStrictlyIncreasing-filter (leaves before now) moving (told.2).ascend) (IsStrictlyIncreasing-filter (λ e. not (is_among now e)) before up)
+      (λ e. among_filter (leaves before now) moving e
+      ∙ by_left (is_among moving e) (is_among before e) (is_among now e) (others_same e)
       ∙ sym (among_filter (λ e. not (is_among now e)) before e))
 
-  pub entered_are : filter (λ e. is_told e && not (is_among before e)) all ≡ missing_from now before
+  pub entered_are : filter (enters before now) moving ≡ missing_from now before
   entered_are =
-      same_list (filter (λ e. is_told e && not (is_among before e)) all) (missing_from now before)
-      (IsStrictlyIncreasing-filter (λ e. is_told e && not (is_among before e)) all (told.2).all_ascend) (IsStrictlyIncreasing-filter (λ e. not (is_among before e)) now now_up)
-      (λ e. among_filter (λ e. is_told e && not (is_among before e)) all e
-      ∙ by_entered (is_among all e) (is_among before e) (is_among now e) (is_told e) (others_same e) (told_same e)
+      same_list (filter (enters before now) moving) (missing_from now before)
+      (IsStrictlyIncreasing-filter (enters before now) moving (told.2).ascend) (IsStrictlyIncreasing-filter (λ e. not (is_among before e)) now now_up)
+      (λ e. among_filter (enters before now) moving e
+      ∙ by_entered (is_among moving e) (is_among before e) (is_among now e) (others_same e)
       ∙ sym (among_filter (λ e. not (is_among before e)) now e))
+
+-- ---- who is found of those whose ids don't tell it
+
+pub found_is : (p untold_by : ℕ → Bool) (moving untold found : List ℕ) → untold ≡ filter untold_by moving → found ≡ filter p untold → (e : ℕ) → Contains moving e → untold_by e ≡ true → is_among found e ≡ p e
+found_is p untold_by moving untold found are_untold are_found e h asked =
+    (λ i. is_among (are_found i) e) ∙ among_filter p untold e ∙ (λ i. is_among (are_untold i) e && p e)
+    ∙ ap (λ b. b && p e) (among_filter untold_by moving e ∙ (λ i. there moving e h i && asked i))
 
 -- ---- the rows with these moves
 
@@ -120,8 +114,15 @@ pub if_ok_both : {T E : Type 0} (r : Result T E) {P Q R : T → Type 0} → ((x 
 if_ok_both (Ok x) both p q = both x p q
 if_ok_both (Err e) both p q = tt
 
--- one entity more of a list, where it passes
-pub one_more : (p : ℕ → Bool) (xs : List ℕ) (k : ℕ) (old new : List ℕ) (b : Bool) → k < length xs → old ≡ filter p (take k xs) → b ≡ p (get_or xs k 0) → new ≡ old ++ cond b (get_or xs k 0 ∷ []) []
-    → new ≡ filter p (take (k + 1) xs)
-one_more p xs k old new b low before is now =
-    now ∙ ap (λ ys. ys ++ cond b (get_or xs k 0 ∷ []) []) before ∙ ap (λ t. filter p (take k xs) ++ cond t (get_or xs k 0 ∷ []) []) is ∙ sym (filter_more p xs k 0 low)
+-- one entity more behind a list, where it passes
+pub one_more : (p : ℕ → Bool) (xs : List ℕ) (k : ℕ) (start old new : List ℕ) (b : Bool) → k < length xs → old ≡ start ++ filter p (take k xs) → b ≡ p (get_or xs k 0) → new ≡ old ++ cond b (get_or xs k 0 ∷ []) []
+    → new ≡ start ++ filter p (take (k + 1) xs)
+one_more p xs k start old new b low before is now =
+    let one : List ℕ = cond b (get_or xs k 0 ∷ []) [] in
+    let kept : List ℕ = filter p (take k xs) in
+    now ∙ ap (λ ys. ys ++ one) before ∙ append_assoc start kept one ∙ ap (λ t. start ++ (kept ++ cond t (get_or xs k 0 ∷ []) [])) is ∙ ap (λ ys. start ++ ys) (sym (filter_more p xs k 0 low))
+
+-- where somebody may have moved, a command concerns the query
+pub is_somebody : (concerned : Bool) (moved : Moved) → (concerned ≡ false → moved ≡ Nobody) → (moved ≡ Nobody → ⊥) → true ≡ concerned
+is_somebody true moved nobody other = refl
+is_somebody false moved nobody other = absurd (other (nobody refl))

@@ -82,6 +82,11 @@ module _ (w : WorldState) (changed : Changed) (h : Held) (kept : IsWellFormed w)
 pub none_put : (w : WorldState) (changed : Changed) (h : Held) → is_searched changed h ≡ false → None ≡ rows_put w changed h
 none_put w changed h spared = sym (ap (λ b. if b then Some (matching (view_of w) h.query) else None) spared)
 
+-- and of one that is compared, where the command concerns its query
+pub some_put : (w : WorldState) (changed : Changed) (h : Held) → is_compared h ≡ true → is_concerned h.query changed ≡ true → (these : List ℕ) → these ≡ matching (view_of w) h.query → Some these ≡ rows_put w changed h
+some_put w changed h compared concerned these are =
+    ap Some are ∙ sym (ap (λ b. if b then Some (matching (view_of w) h.query) else None) (λ i. compared i && concerned i))
+
 pub isnt_searched : (changed : Changed) (h : Held) → is_compared h ≡ false → is_searched changed h ≡ false
 isnt_searched changed h other = ap (λ b. b && is_concerned h.query changed) other
 

@@ -15,7 +15,6 @@ use ecs_world::{Changes, World};
 use query_local::{Touched, local_told};
 use std::alloc::{AllocError, Allocator};
 use watch_events::{Audience, Event, Moves, may_tell, tell, tell_moves};
-use watch_touched::is_concerned;
 
 /// Puts what a stored query is told behind other events, and answers the moves of its rows, unless those that are held stay. Most observers
 /// are told nothing, which is asked first.
@@ -83,11 +82,10 @@ fn tell_compared<A: Allocator + Copy>(
     ensures few { compared.new ≤ compared.old + 1 }
 {
     world.keeps();
-    let bonds = query.plan.bonds();
-    if !is_concerned(&query.plan.asked(), bonds, changes) {
+    let mut rows = RowsAfter::new();
+    if !rows_after(alloc, world, changes, query, room, compared, &mut rows)? {
         return Ok(None);
     }
-    let rows = rows_after(alloc, world, changes, query, room, compared)?;
     let moves = Moves {
         left: rows.left.as_slice(),
         entered: rows.entered.as_slice(),

@@ -10,6 +10,10 @@ returns-clause-left g c = c.from_vec.ensures ∙ c.in_ok-left.ensures ∙ ap (mi
 pub returns-clause-entered : goal.returns-clause-entered
 returns-clause-entered g c = c.from_vec-2.ensures ∙ c.in_ok-entered.ensures ∙ ap (λ es. missing_from es c.args.query.now.these.items) c.in_ok-these.ensures.rows
 
+pub returns-clause-these : goal.returns-clause-these
+unfolding kept_set
+returns-clause-these g c = c.in_ok-these.ensures.rows
+
 pub returns-in_err-entered-clause-left : goal.returns-in_err-entered-clause-left
 returns-in_err-entered-clause-left g c = IfOk-from_err c.from_residual-in_err-entered.result _ c.from_residual-in_err-entered.ensures.0
 
@@ -18,7 +22,3 @@ returns-in_err-entered-clause-entered g c = IfOk-from_err c.from_residual-in_err
 
 pub returns-in_err-entered-clause-these : goal.returns-in_err-entered-clause-these
 returns-in_err-entered-clause-these g c = IfOk-from_err c.from_residual-in_err-entered.result _ c.from_residual-in_err-entered.ensures.0
-
-pub returns-clause-these : goal.returns-clause-these
-unfolding kept_set
-returns-clause-these g c = c.in_ok-these.ensures.rows

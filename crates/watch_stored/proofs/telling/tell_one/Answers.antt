@@ -49,3 +49,9 @@ returns-in_err-tell_locally-clause-front g c = on_err_anyway _ c.in_err-tell_loc
 
 pub returns-in_err-tell_observer-clause-front : goal.returns-in_err-tell_observer-clause-front
 returns-in_err-tell_observer-clause-front g c = on_err_anyway _ c.in_err-tell_observer.ensures.front
+
+pub returns-clause-rows : goal.returns-clause-rows
+returns-clause-rows g c =
+    let changed = c.args.changes.now in
+    let h = held_as (string_bytes c.args.name.now) c.args.query.now in
+    none_put c.args.world.now.state changed h (isnt_searched changed h (sym c.is_compared.ensures ∙ c.if-is_compared.false))
