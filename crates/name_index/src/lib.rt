@@ -188,8 +188,7 @@ impl<A: Allocator> NameIndex<A> {
         ensures unnamed { IsUnnamed self.old entity → self.new ≡ self.old }
     {
         match self.texts.find(&self.short, entity) {
-            Some(found) => {
-                let place = found.0;
+            Some((place, _)) => {
                 self.texts.take(&mut self.short, place);
                 self.texts.forget(entity);
             }

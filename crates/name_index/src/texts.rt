@@ -146,7 +146,9 @@ impl<A: Allocator> Texts<A> {
         ensures others { (e : EntityId) → other_of self.new e ≡ cond (entity_eq entity e) None (other_of self.old e) }
         ensures places { self.new.places.items ≡ self.old.places.items }
     {
-        self.remove(entity);
+        if !self.others.is_empty() {
+            self.remove(entity);
+        }
     }
 }
 

@@ -12,7 +12,7 @@ use Rattle.name_index.proofs.NamesLemmas.{apart_taken, freed, kept_left, left_by
 use Rattle.name_index.proofs.NameIndex.unbind.Goals as goal
 
 pub take-requires : goal.take-requires
-take-requires g c = slice_get_within c.self.inside.short.entries c.in-Some.found.0 (c.in-Some.found.1.now, c.args.entity) c.in-Some.ensures.1
+take-requires g c = slice_get_within c.self.inside.short.entries c.in-Some.place (c.in-Some.field-0-1.now, c.args.entity) c.in-Some.ensures.1
 
 pub take_out-requires-clause-apart : goal.take_out-requires-clause-apart
 take_out-requires-clause-apart g c = c.self.invariant.apart
@@ -28,8 +28,8 @@ take_out-requires-clause-held g c =
 
 pub invariant_of-self : goal.invariant_of-self
 invariant_of-self g c =
-    let n : List ℕ = c.in-Some.found.1.now in
-    let place : ℕ = c.in-Some.found.0 in
+    let n : List ℕ = c.in-Some.field-0-1.now in
+    let place : ℕ = c.in-Some.place in
     let has : get (pointwise nat_eq) c.self.inside.short n ≡ Some c.args.entity = hash_map_get_place nat_list_eq_equiv c.self.inside.short place n c.args.entity c.self.invariant.unique c.in-Some.ensures.1 in
     let u = c.take.ensures.removed (n, c.args.entity) c.in-Some.ensures.1 in
     let is_e = (tells c.args.self.now c.self.inside.short c.self.inside.long c.self.inside.texts c.self.view_is c.self.invariant).placed n c.args.entity c.in-Some.ensures.0 in
@@ -40,8 +40,8 @@ invariant_of-self g c =
 
 pub returns-in-Some-clause-freed : goal.returns-in-Some-clause-freed
 returns-in-Some-clause-freed g c =
-    let n : List ℕ = c.in-Some.found.1.now in
-    let place : ℕ = c.in-Some.found.0 in
+    let n : List ℕ = c.in-Some.field-0-1.now in
+    let place : ℕ = c.in-Some.place in
     let has : get (pointwise nat_eq) c.self.inside.short n ≡ Some c.args.entity = hash_map_get_place nat_list_eq_equiv c.self.inside.short place n c.args.entity c.self.invariant.unique c.in-Some.ensures.1 in
     let u = c.take.ensures.removed (n, c.args.entity) c.in-Some.ensures.1 in
     let is_e = (tells c.args.self.now c.self.inside.short c.self.inside.long c.self.inside.texts c.self.view_is c.self.invariant).placed n c.args.entity c.in-Some.ensures.0 in
@@ -50,8 +50,8 @@ returns-in-Some-clause-freed g c =
 
 pub returns-in-Some-clause-others : goal.returns-in-Some-clause-others
 returns-in-Some-clause-others g c =
-    let n : List ℕ = c.in-Some.found.1.now in
-    let place : ℕ = c.in-Some.found.0 in
+    let n : List ℕ = c.in-Some.field-0-1.now in
+    let place : ℕ = c.in-Some.place in
     let has : get (pointwise nat_eq) c.self.inside.short n ≡ Some c.args.entity = hash_map_get_place nat_list_eq_equiv c.self.inside.short place n c.args.entity c.self.invariant.unique c.in-Some.ensures.1 in
     let u = c.take.ensures.removed (n, c.args.entity) c.in-Some.ensures.1 in
     let is_e = (tells c.args.self.now c.self.inside.short c.self.inside.long c.self.inside.texts c.self.view_is c.self.invariant).placed n c.args.entity c.in-Some.ensures.0 in
@@ -60,8 +60,8 @@ returns-in-Some-clause-others g c =
 
 pub returns-in-Some-clause-named : goal.returns-in-Some-clause-named
 returns-in-Some-clause-named g c =
-    let n : List ℕ = c.in-Some.found.1.now in
-    let place : ℕ = c.in-Some.found.0 in
+    let n : List ℕ = c.in-Some.field-0-1.now in
+    let place : ℕ = c.in-Some.place in
     let has : get (pointwise nat_eq) c.self.inside.short n ≡ Some c.args.entity = hash_map_get_place nat_list_eq_equiv c.self.inside.short place n c.args.entity c.self.invariant.unique c.in-Some.ensures.1 in
     let u = c.take.ensures.removed (n, c.args.entity) c.in-Some.ensures.1 in
     let is_e = (tells c.args.self.now c.self.inside.short c.self.inside.long c.self.inside.texts c.self.view_is c.self.invariant).placed n c.args.entity c.in-Some.ensures.0 in
@@ -70,8 +70,8 @@ returns-in-Some-clause-named g c =
 
 pub returns-in-Some-clause-unnamed : goal.returns-in-Some-clause-unnamed
 returns-in-Some-clause-unnamed g c =
-    let n : List ℕ = c.in-Some.found.1.now in
-    let place : ℕ = c.in-Some.found.0 in
+    let n : List ℕ = c.in-Some.field-0-1.now in
+    let place : ℕ = c.in-Some.place in
     let has : get (pointwise nat_eq) c.self.inside.short n ≡ Some c.args.entity = hash_map_get_place nat_list_eq_equiv c.self.inside.short place n c.args.entity c.self.invariant.unique c.in-Some.ensures.1 in
     let u = c.take.ensures.removed (n, c.args.entity) c.in-Some.ensures.1 in
     let is_e = (tells c.args.self.now c.self.inside.short c.self.inside.long c.self.inside.texts c.self.view_is c.self.invariant).placed n c.args.entity c.in-Some.ensures.0 in
