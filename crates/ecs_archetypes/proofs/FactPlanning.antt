@@ -356,15 +356,20 @@ changed_deletable : (came : Coming) (went : List Key) (h : Holdings) (es : List 
 changed_deletable came went h [] = refl
 changed_deletable came went h (d ∷ es) = λ k. ((lives h d && changed_there came went h d.index k) && not (is_built_in d.index)) && changed_deletable came went h es k
 
-module _ (came : Coming) (went : List Key) (before now next : Housing) (moves : List Move) (dead : List EntityId) (planned : with_all_moved now.tables moves (holdings_of before) ≡ with_facts_changed came went (holdings_of before))
-    (same : HoldAlike (holdings_of now) (holdings_of before)) (carried_out : HoldAlike (holdings_of next) (with_all_moved now.tables moves (holdings_of now))) where
-  pub facts_changed : HoldAlike (holdings_of next) (with_facts_changed came went (holdings_of before))
-  facts_changed = subst (HoldAlike (holdings_of next)) planned
-      (alike_then (holdings_of next) (with_all_moved now.tables moves (holdings_of now)) (with_all_moved now.tables moves (holdings_of before)) carried_out (moved_alike now.tables moves (holdings_of now) (holdings_of before) same))
+pub facts_changed : (came : Coming) (went : List Key) (before now next : Housing) (moves : List Move) → with_all_moved now.tables moves (holdings_of before) ≡ with_facts_changed came went (holdings_of before)
+    → HoldAlike (holdings_of now) (holdings_of before) → HoldAlike (holdings_of next) (with_all_moved now.tables moves (holdings_of now)) → HoldAlike (holdings_of next) (with_facts_changed came went (holdings_of before))
+facts_changed came went before now next moves planned same carried_out = subst (HoldAlike (holdings_of next)) planned
+    (alike_then (holdings_of next) (with_all_moved now.tables moves (holdings_of now)) (with_all_moved now.tables moves (holdings_of before)) carried_out (moved_alike now.tables moves (holdings_of now) (holdings_of before) same))
 
-  pub facts_dead : are_deletable (holdings_of before) dead ≡ true → are_deletable (holdings_of next) dead ≡ true
-  facts_dead was = deletable_alike (holdings_of next) (with_facts_changed came went (holdings_of before)) facts_changed dead ∙ ap (λ b. b && are_apart dead) (changed_deletable came went (holdings_of before) dead) ∙ was
+-- where no fact comes or goes, nothing has changed
+pub facts_same : (came : Coming) (went : List Key) (h : Holdings) → length came ≡ 0 → length went ≡ 0 → HoldAlike h (with_facts_changed came went h)
+facts_same [] [] h none_comes none_goes = record { live = refl; deletions = refl; cells = sym (ap (λ g. g.cells) (none_changed h)) }
+facts_same (c ∷ came) went h none_comes none_goes = absurd (omega (arith, none_comes))
+facts_same [] (k ∷ went) h none_comes none_goes = absurd (omega (arith, none_goes))
 
-  pub facts_gone : (end : Holdings) → HoldAlike end (without_each dead (holdings_of next)) → HoldAlike end (without_each dead (with_facts_changed came went (holdings_of before)))
-  facts_gone end gone = alike_then end (without_each dead (holdings_of next)) (without_each dead (with_facts_changed came went (holdings_of before))) gone
-      (without_alike dead (holdings_of next) (with_facts_changed came went (holdings_of before)) facts_changed)
+module _ (came : Coming) (went : List Key) (h next : Holdings) (dead : List EntityId) (changed : HoldAlike next (with_facts_changed came went h)) where
+  pub facts_dead : are_deletable h dead ≡ true → are_deletable next dead ≡ true
+  facts_dead was = deletable_alike next (with_facts_changed came went h) changed dead ∙ ap (λ b. b && are_apart dead) (changed_deletable came went h dead) ∙ was
+
+  pub facts_gone : (end : Holdings) → HoldAlike end (without_each dead next) → HoldAlike end (without_each dead (with_facts_changed came went h))
+  facts_gone end gone = alike_then end (without_each dead next) (without_each dead (with_facts_changed came went h)) gone (without_alike dead next (with_facts_changed came went h) changed)

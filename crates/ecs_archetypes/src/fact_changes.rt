@@ -53,9 +53,37 @@ impl<A: Allocator + Copy> Archetypes<A> {
         ensures holdings { AreHoldings (holdings_of self.new) }
         ensures whole { IsHoused self.new }
     {
+        self.move_facts(plan, came, went)?;
+        self.delete_each(dead);
+        Ok(())
+    }
+
+    // Takes the facts that went and brings those that came, or does nothing of it.
+    fn move_facts(
+        &mut self,
+        plan: &mut FactPlan<A>,
+        came: &[SizedFact],
+        went: &[FactKey],
+    ) -> Result<(), Memory>
+        requires came_ascend { IsStrictlySortedBy key_cmp (keys came.now) }
+        requires went_ascend { IsStrictlySortedBy key_cmp went.now }
+        requires settled { IsTrue (list_all (λ k. is_some (cells_at (holdings_of self.old) k.0)) (keys came.now ++ went.now)) }
+        requires unheld { IsTrue (list_all (λ k. not (holds_id (holdings_of self.old) k.0 k.1)) (keys came.now)) }
+        requires small { IsTrue (list_all (λ c. nat_le c.1 64) came.now) }
+        requires agree { IsTrue (list_all (λ c. agrees (known_in self.old.tables ++ ids_coming came.now) c.0 c.1) (ids_coming came.now)) }
+        ensures changed { OnOk result (HoldAlike (holdings_of self.new) (with_facts_changed came.now went.now (holdings_of self.old))) }
+        ensures refused { OnErr result (HoldAlike (holdings_of self.new) (holdings_of self.old)) }
+        ensures sizes { KeepsSizes (known_in self.old.tables) (ids_coming came.now) (known_in self.new.tables) }
+        ensures goes_on { TablesGoOn self.old.tables self.new.tables }
+        ensures stay { TablesStay none_goes self.old.tables self.new.tables }
+        ensures whole { IsHoused self.new }
+    {
+        if came.is_empty() && went.is_empty() {
+            let _ = &self.entities;
+            return Ok(());
+        }
         self.plan_facts(plan, came, went)?;
         self.carry_out(&plan.moves);
-        self.delete_each(dead);
         Ok(())
     }
 

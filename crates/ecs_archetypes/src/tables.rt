@@ -231,6 +231,7 @@ fn entered_table<A: Allocator + Copy>(
 }
 
 // Enters a table if it was made after this serial was the last. One that can't be entered is released again.
+#[inline(always)]
 fn enter_made<A: Allocator + Copy>(
     tables: &mut TableStore<A>,
     components: &mut ComponentIndex<A>,
@@ -246,10 +247,32 @@ fn enter_made<A: Allocator + Copy>(
     ensures sizes { KeepsSizes (known_in tables.old) [] (known_in tables.new) }
     ensures whole { IsStored tables.new }
 {
-    let table = tables.get(key).unwrap();
+    // (any answer tells that the tables are whole)
+    let _ = tables.get(key);
     if key.serial <= last {
         return Ok(());
     }
+    enter_new(tables, components, key)
+}
+
+// Enters a table that was just made. If it can't be entered, it is released again.
+#[cold]
+#[inline(never)]
+fn enter_new<A: Allocator + Copy>(
+    tables: &mut TableStore<A>,
+    components: &mut ComponentIndex<A>,
+    key: TableKey,
+) -> Result<(), Memory>
+    requires stands { IsSome (table_at tables.old key) }
+    requires fresh { finite.get components.old key ≡ None }
+    requires empty { rows_in tables.old key ≡ 0 }
+    ensures tables { OnOk result (tables.new ≡ tables.old) }
+    ensures grown { (s : Store) (f : Shape) → s.last < key.serial → IsMade s f key tables.old → HasGrown s tables.new }
+    ensures entered { (s : Store) (f : Shape) → s.last < key.serial → IsMade s f key tables.old → AreEntered s components.old → AreEntered tables.new components.new }
+    ensures sizes { KeepsSizes (known_in tables.old) [] (known_in tables.new) }
+    ensures whole { IsStored tables.new }
+{
+    let table = tables.get(key).unwrap();
     let Ok(()) = components.enter(key, table.ids()) else {
         tables.release(key);
         return Err(Memory);
