@@ -1,5 +1,5 @@
 -- A list of facts that was sorted, and of which each was kept once.
-use Rattle.std.proofs.Common.{◌≡◌, ◌↔◌, ℕ, true, IsTrue, List, get_or, refl}
+use Rattle.std.proofs.Common.{◌≡◌, ◌↔◌, ◌<◌, ℕ, true, IsTrue, List, [], ◌∷◌, get_or, length, refl, arith}
 use Rattle.std.specs.List.{All, Contains, dedup, filter, flat_map}
 use Rattle.std.specs.List.Sorted.{IsPermutation, IsSorted, IsStrictlySortedBy}
 use Rattle.std.specs.Cmp.{Equal-is}
@@ -26,6 +26,13 @@ module _ (old mid new : List Key) (is : new ≡ dedup key_eq mid) where
     λ h. Contains-permutation mid old k (IsPermutation-sym old mid moved) (Contains-from_dedup key_eq mid k (rw is at h)),
     λ h. rw is (Contains-dedup (eq_by_cmp_equiv key_cmp_total) key_eq_same mid k (Contains-permutation old mid k moved h)),
   )
+
+-- a list of one fact at most is in order
+pub few_in_order : (xs : List Key) → length xs < 2 → IsStrictlySortedBy key_cmp xs
+unfolding IsStrictlySortedBy
+few_in_order [] few = tt
+few_in_order (x ∷ []) few = (tt, tt)
+few_in_order (x ∷ y ∷ xs) few = absurd (omega arith)
 
 -- what is true of the members of a list
 pub all_of : {A : Type 0} (P : A → Type 0) (xs : List A) → ((x : A) → Contains xs x → P x) → All P xs

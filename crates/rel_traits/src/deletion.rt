@@ -54,12 +54,23 @@ impl<A: Allocator> Deletion<A> {
         copy_in_order(scratch.found(), &mut self.dead)?;
         list_lost(graph, scratch, &mut self.lost)?;
         self.went.clear();
-        self.went.extend_from_slice(&self.lost)?;
+        append(&mut self.went, &self.lost)?;
         list_dead(graph, scratch, &mut self.went)?;
         put_in_order(&mut self.lost);
         put_in_order(&mut self.went);
         Ok(())
     }
+}
+
+/// Adds these facts. Mostly there are none.
+#[inline(always)]
+fn append<A: Allocator>(facts: &mut Vec<FactKey, A>, more: &[FactKey]) -> Result<(), AllocError>
+    ensures { OnOk result (facts.new.items ≡ facts.old.items ++ more.now) }
+{
+    if 0 < more.len() {
+        facts.extend_from_slice(more)?;
+    }
+    Ok(())
 }
 
 /// Makes the list that of these numbers in order, each once.

@@ -27,6 +27,9 @@ pub fn put_in_order<A: Allocator>(facts: &mut Vec<FactKey, A>)
     ensures ascend { IsStrictlySortedBy key_cmp facts.new.items }
     ensures same { (k : Key) → Contains facts.new.items k ↔ Contains facts.old.items k }
 {
+    if facts.len() < 2 {
+        return;
+    }
     facts.sort_unstable();
     facts.dedup();
 }
