@@ -4,16 +4,15 @@ use Rattle.std.specs.List.{Contains}
 use Rattle.std.specs.List.Sorted.{IsStrictlySortedBy}
 use Rattle.std.specs.Ordering.{nat_cmp}
 use Rattle.std.specs.declared.vec.Vec.{Vec}
-use Rattle.std.specs.declared.boxed.Box.{Box}
 use Rattle.indexmap.specs.IndexMap as hashed
-use Rattle.indexmap.specs.IndexMap.{IndexMap}
-use Rattle.secret_hashing.specs.declared.Hashing.{Hashing}
 use Rattle.slab.specs.Slab as slots
 use Rattle.slab.specs.Slab.{Slab}
 use Rattle.ecs_id.specs.Id.{Id, id_eq}
 use Rattle.ecs_id.specs.declared.TableKey.{TableKey}
 use Rattle.ecs_table.specs.Archetype.{Archetype, IsSound}
 use Rattle.table_store.specs.declared.edges.Edges.{Edges}
+use Rattle.table_store.specs.declared.edges.Edges.TheVariants.{Empty, One, Many}
+use Rattle.table_store.specs.declared.edges.Several.{Several}
 use Rattle.table_store.specs.declared.store.Slot.{Slot}
 pub use Rattle.table_store.specs.ByIds.{Held}
 use Rattle.table_store.specs.ByIds.{HasSlot, ids_hash}
@@ -41,18 +40,15 @@ standing (Some x) serial = if serial == x.value.serial then Some x.value.table e
 abbrev pub is_held : {Y : Type 0} → Slab (Held Y) → TableKey → Bool
 is_held tables k = is_some (standing (slots.get tables k.slot) k.serial)
 
--- where the edge for an id leads: the first edge stands apart from the others
-abbrev pub edge_or : Option (Id × TableKey) → Id → Option TableKey → Option TableKey
-edge_or None i other = other
-edge_or (Some e) i other = cond (id_eq e.0 i) (Some e.1) other
+-- where one of several edges leads: the first stands apart from the others
+abbrev pub one_of_several : {Y : Type 0} → Several Y → Id → Option TableKey
+one_of_several edges i = cond (id_eq edges.first.0 i) (Some edges.first.1) (hashed.get id_eq edges.others i)
 
--- where another edge leads, if there are others
-abbrev pub other_of : {Y : Type 0} → Option (Box (IndexMap Id TableKey Hashing) Y) → Id → Option TableKey
-other_of None i = None
-other_of (Some others) i = hashed.get id_eq others.value i
-
+-- where the edge for an id leads, if there is one
 abbrev pub edge_of : {Y : Type 0} → Edges Y → Id → Option TableKey
-edge_of edges i = edge_or edges.first i (other_of edges.others i)
+edge_of Empty i = None
+edge_of (One e) i = cond (id_eq e.0 i) (Some e.1) None
+edge_of (Many several) i = one_of_several several.value i
 
 abbrev pub HasNoEdge : {Y : Type 0} → Edges Y → Type 0
 HasNoEdge edges = (i : Id) → edge_of edges i ≡ None

@@ -1,11 +1,13 @@
 //! The edges that lead from a table to others.
-ghost use Rattle.std.specs.Prelude.{◌≡◌, ◌∷◌, [], IfOk, IfSome};
-ghost use Rattle.table_store.specs.Kept.{HasNoEdge, IsWritten, edge_of, other_of};
+ghost use Rattle.std.specs.Prelude.{◌≡◌, ◌∷◌, [], ◌⊎◌, IfOk, IfSome, Some};
+ghost use Rattle.ecs_id.specs.Id.{Id};
+ghost use Rattle.ecs_id.specs.declared.TableKey.{TableKey};
+ghost use Rattle.table_store.specs.Kept.{HasNoEdge, IsWritten, edge_of, one_of_several};
 
 use ecs_id::{Id, TableKey};
 use indexmap::IndexMap;
 use secret_hashing::Hashing;
-use std::alloc::{AllocError, Allocator};
+use std::alloc::{AllocError, Allocator, Global};
 use std::marker::Model;
 
 /// The key of a table in 16 bytes, where its serial has no more than 64 bits. A `TableKey` takes 32, since a `u128` lies at a multiple of 16.
@@ -51,52 +53,74 @@ impl Target {
     }
 }
 
+/// An edge: the id for which it leads, and where.
+type Edge = (Id, Target);
+
 type ById<A> = IndexMap<Id, Target, Hashing, A>;
 
-const _: () = prove!(size_of::<Option<(Id, Target)>>() == 32);
+/// Two edges or more. The first stands apart, as most steps from a table are along it.
+#[derive(Drop)]
+pub struct Several<A: Allocator> {
+    first: Edge,
+    others: ById<A>,
+}
 
 /// For some ids, the key of a table.
 ///
 /// Most tables have one edge or none, and these take no memory of their own. The others are hashed, so a look-up takes constant time
 /// whatever the ids.
 #[derive(Drop)]
-pub struct Edges<A: Allocator> {
-    first: Option<(Id, Target)>,
+pub enum Edges<A: Allocator> {
+    Empty,
+    One(Edge),
     // in a box, since few tables have others
-    others: Option<Box<ById<A>, A>>,
+    Many(Box<Several<A>, A>),
 }
+
+const _: () = prove!(size_of::<Edges<Global>>() == 32);
 
 impl<A: Allocator> Edges<A> {
     /// No edges, which take no memory.
     pub fn new() -> Edges<A>
         ensures { HasNoEdge result }
     {
-        Edges {
-            first: None,
-            others: None,
-        }
+        Edges::Empty
     }
 
     /// Where the edge for an id leads, if there is one.
     pub fn get(&self, id: Id) -> Option<TableKey>
         ensures { result ≡ edge_of self.now id }
     {
-        match self.first {
-            Some((known, to)) if known == id => Some(to.key()),
-            _ => self.other(id),
+        match self {
+            Edges::Empty => None,
+            Edges::One((known, to)) => { if *known == id { Some(to.key()) } else { None } }
+            Edges::Many(several) => several.get(id),
+        }
+    }
+}
+
+impl<A: Allocator> Several<A> {
+    fn get(&self, id: Id) -> Option<TableKey>
+        ensures { result ≡ one_of_several self.now id }
+    {
+        let (known, to) = self.first;
+        if known == id {
+            return Some(to.key());
+        }
+        match self.others.get(&id) {
+            Some(to) => Some(to.key()),
+            None => None,
         }
     }
 
-    // Where an edge for the id leads that isn't the first.
-    fn other(&self, id: Id) -> Option<TableKey>
-        ensures { result ≡ other_of (self.now).others id }
+    fn write(&mut self, id: Id, to: Target)
+        ensures { (i : Id) (k : TableKey) → one_of_several self.new i ≡ Some k → (one_of_several self.old i ≡ Some k) ⊎ ((i ≡ id) × (k ≡ to)) }
     {
-        match &self.others {
-            Some(others) => match others.get(&id) {
-                Some(to) => Some(to.key()),
-                None => None,
-            },
-            None => None,
+        let (known, _) = self.first;
+        if known == id {
+            self.first = (id, to);
+        } else {
+            let _ = self.others.insert(id, to);
         }
     }
 }
@@ -114,29 +138,33 @@ impl<A: Allocator + Copy> Edges<A> {
     fn write(&mut self, alloc: A, hashing: Hashing, id: Id, to: Target)
         ensures { IsWritten id to self.old self.new }
     {
-        let first = self.first;
-        match first {
-            Some((known, _)) if known != id => match &mut self.others {
-                Some(others) => {
-                    let _ = others.insert(id, to);
+        match self {
+            Edges::Empty => *self = Edges::One((id, to)),
+            Edges::One(only) => {
+                let first = *only;
+                if first.0 == id {
+                    *self = Edges::One((id, to));
+                } else if let Ok(both) = two_edges(alloc, hashing, first, id, to) {
+                    *self = Edges::Many(both);
                 }
-                None => self.others = one_edge(alloc, hashing, id, to).ok(),
-            },
-            _ => self.first = Some((id, to)),
+            }
+            Edges::Many(several) => several.write(id, to),
         }
     }
 }
 
-// A map with one edge.
-fn one_edge<A: Allocator + Copy>(
+// A first edge, and another one.
+fn two_edges<A: Allocator + Copy>(
     alloc: A,
     hashing: Hashing,
+    first: Edge,
     id: Id,
     to: Target,
-) -> Result<Box<ById<A>, A>, AllocError>
-    ensures { IfOk result (λ edges. edges.value.entries ≡ (id, to) ∷ []) }
+) -> Result<Box<Several<A>, A>, AllocError>
+    ensures first { IfOk result (λ both. both.value.first ≡ first) }
+    ensures other { IfOk result (λ both. both.value.others.entries ≡ (id, to) ∷ []) }
 {
-    let mut edges = IndexMap::with_hasher(alloc, hashing);
-    edges.insert(id, to)?;
-    Ok(Box::new(alloc, edges)?)
+    let mut others = IndexMap::with_hasher(alloc, hashing);
+    others.insert(id, to)?;
+    Ok(Box::new(alloc, Several { first, others })?)
 }
