@@ -4,13 +4,15 @@ use Rattle.std.proofs.lemmas.Option.{slice_get-get_or, slice_get-map}
 use Rattle.std.proofs.Common.{Bor, ap, sym, ◌∙◌, refl, get_or, arith, length-append}
 use Rattle.std.proofs.lemmas.Bool.{ne_eqb}
 use Rattle.std.proofs.Math.Seq.{get_or-append_seam}
-use Rattle.std.proofs.lemmas.List.{append-nil, append_assoc, drop_all, drop_more, get_or_append_left, get_or_default, length-map, map-append}
+use Rattle.std.proofs.lemmas.List.{append-nil, append_assoc, drop_all, drop_more, get_or_append_left, length-map}
 use Rattle.query_model.specs.Levels.{Path, level_of}
-use Rattle.query_model.specs.Query.{Item, Piece, item, opening, closing, Entry, entries_from}
-use Rattle.query_check.specs.Numbered.{level_around, nowhere, piece_or}
+use Rattle.query_model.specs.Query.{Item, Piece, item, opening, closing, Entry, simple, group, entries_from}
+use Rattle.query_check.specs.Numbered.{item_kind, level_around, nowhere, piece_or, places_from, standing}
 use Rattle.query_check.specs.Seen.{entry_at, entry_of, seen_piece}
 use Rattle.query_check.specs.declared.query.Piece as code
 use Rattle.query_check.specs.declared.query.Piece.TheVariants as code_pieces
+use Rattle.query_check.specs.declared.numbered.EntryKind.{EntryKind}
+use Rattle.query_check.specs.declared.numbered.EntryKind.TheVariants as kind
 use Rattle.query_check.specs.declared.numbered.Numbered.{Numbered}
 
 -- the items lead along the levels that are open: each is that of a group, which stands in the level around
@@ -30,14 +32,13 @@ pub record IsNumbering (pieces : List Piece) (i level : ℕ) (now : List Numbere
   pub at : level ≡ level_of around
   pub leads : Leads now around
   pub few : length now ≤ i
-  pub left : map (entry_at pieces) now ++ entries_from (length now) around (drop i pieces) ≡ entries_from 0 [] pieces
+  pub left : now ++ places_from (length now) i around (drop i pieces) ≡ places_from 0 0 [] pieces
 
 pub none_numbered : (pieces : List Piece) → IsNumbering pieces 0 0 []
 none_numbered pieces = record { around = []; at = refl; leads = tt; few = omega arith; left = refl }
 
-pub all_numbered : (pieces : List Piece) (i level : ℕ) (now : List Numbered) → IsNumbering pieces i level now → length pieces ≤ i → map (entry_at pieces) now ≡ entries_from 0 [] pieces
-all_numbered pieces i level now s h =
-    sym (append-nil (map (entry_at pieces) now)) ∙ ap (λ l. map (entry_at pieces) now ++ entries_from (length now) s.around l) (sym (drop_all i pieces h)) ∙ s.left
+pub all_numbered : (pieces : List Piece) (i level : ℕ) (now : List Numbered) → IsNumbering pieces i level now → length pieces ≤ i → now ≡ places_from 0 0 [] pieces
+all_numbered pieces i level now s h = sym (append-nil now) ∙ ap (λ l. now ++ places_from (length now) i s.around l) (sym (drop_all i pieces h)) ∙ s.left
 
 low_level : (all : List Numbered) (path : Path) → Leads all path → level_of path ≤ length all
 low_level all [] r = omega arith
@@ -64,26 +65,20 @@ pub same_numbering : (pieces : List Piece) (i l m : ℕ) (now next : List Number
 same_numbering pieces i l m now next s p q = rw (p, q) s
 
 module _ (pieces : List Piece) (i level : ℕ) (now : List Numbered) (s : IsNumbering pieces i level now) (p : Piece) (h : i < length pieces) (is : get_or pieces i p ≡ p) where
-  n : Numbered
-  n = record { level = level; piece = i }
-
-  one : map (entry_at pieces) now ++ entries_from (length now) s.around (p ∷ drop (i + 1) pieces) ≡ entries_from 0 [] pieces
+  one : now ++ places_from (length now) i s.around (p ∷ drop (i + 1) pieces) ≡ places_from 0 0 [] pieces
   one =
-      ap (λ x. map (entry_at pieces) now ++ entries_from (length now) s.around (x ∷ drop (i + 1) pieces)) (sym is)
-      ∙ ap (λ l. map (entry_at pieces) now ++ entries_from (length now) s.around l) (sym (drop_more pieces i p h)) ∙ s.left
+      ap (λ x. now ++ places_from (length now) i s.around (x ∷ drop (i + 1) pieces)) (sym is) ∙ ap (λ l. now ++ places_from (length now) i s.around l) (sym (drop_more pieces i p h)) ∙ s.left
 
-  -- the entry of this piece
-  this_entry : entry_at pieces (record { level = level; piece = i }) ≡ entry_of (level_of s.around) p
-  this_entry = ap (entry_of level) (get_or_default pieces i closing p h ∙ is) ∙ ap (λ l. entry_of l p) s.at
+  longer : (k : EntryKind) → length (now ++ standing level i k ∷ []) ≡ length now + 1
+  longer k = length-append now (standing level i k ∷ [])
 
   -- it stands behind the others, in front of the rest
-  put : (rest : List Entry) → map (entry_at pieces) (now ++ record { level = level; piece = i } ∷ []) ++ rest ≡ map (entry_at pieces) now ++ entry_of (level_of s.around) p ∷ rest
-  put rest =
-      ap (λ l. l ++ rest) (map-append (entry_at pieces) now (record { level = level; piece = i } ∷ [])) ∙ append_assoc (map (entry_at pieces) now) (entry_at pieces (record { level = level; piece = i }) ∷ []) rest
-      ∙ ap (λ x. map (entry_at pieces) now ++ x ∷ rest) this_entry
-
-  longer : length (now ++ record { level = level; piece = i } ∷ []) ≡ length now + 1
-  longer = length-append now (record { level = level; piece = i } ∷ [])
+  put : (k : EntryKind) (around : Path) → (now ++ standing level i k ∷ []) ++ places_from (length (now ++ standing level i k ∷ [])) (i + 1) around (drop (i + 1) pieces)
+      ≡ now ++ standing (level_of s.around) i k ∷ places_from (length now + 1) (i + 1) around (drop (i + 1) pieces)
+  put k around =
+      ap (λ n. (now ++ standing level i k ∷ []) ++ places_from n (i + 1) around (drop (i + 1) pieces)) (longer k)
+      ∙ append_assoc now (standing level i k ∷ []) (places_from (length now + 1) (i + 1) around (drop (i + 1) pieces))
+      ∙ ap (λ l. now ++ standing l i k ∷ places_from (length now + 1) (i + 1) around (drop (i + 1) pieces)) s.at
 
   pub closed_one : p ≡ closing → (next : ℕ) → next ≡ level_around now level → IsNumbering pieces (i + 1) next now
   closed_one e next is_next = record {
@@ -91,40 +86,62 @@ module _ (pieces : List Piece) (i level : ℕ) (now : List Numbered) (s : IsNumb
     at = is_next ∙ around_of now s.around level s.leads s.at;
     leads = leads_out now s.around s.leads;
     few = let f = s.few in omega arith;
-    left = ap (λ x. map (entry_at pieces) now ++ entries_from (length now) s.around (x ∷ drop (i + 1) pieces)) (sym e) ∙ one;
+    left = ap (λ x. now ++ places_from (length now) i s.around (x ∷ drop (i + 1) pieces)) (sym e) ∙ one;
   }
 
-  pub item_one : (it : Item) → p ≡ item it → (next : List Numbered) → next ≡ now ++ record { level = level; piece = i } ∷ [] → IsNumbering pieces (i + 1) level next
-  item_one it e next is_next = rw is_next (record {
+  pub item_one : (it : Item) → p ≡ item it → (k : EntryKind) → k ≡ item_kind it → (next : List Numbered) → next ≡ now ++ standing level i k ∷ [] → IsNumbering pieces (i + 1) level next
+  item_one it e k is_kind next is_next = rw is_next (record {
     around = s.around;
     at = s.at;
-    leads = leads_more now (record { level = level; piece = i }) s.around s.leads;
-    few = let f = s.few in let l = longer in omega arith;
+    leads = leads_more now (standing level i k) s.around s.leads;
+    few = let f = s.few in let l = longer k in omega arith;
     left =
-        ap (λ k. map (entry_at pieces) (now ++ record { level = level; piece = i } ∷ []) ++ entries_from k s.around (drop (i + 1) pieces)) longer
-        ∙ put (entries_from (length now + 1) s.around (drop (i + 1) pieces))
-        ∙ ap (λ x. map (entry_at pieces) now ++ entry_of (level_of s.around) x ∷ entries_from (length now + 1) s.around (drop (i + 1) pieces)) e
-        ∙ ap (λ x. map (entry_at pieces) now ++ entries_from (length now) s.around (x ∷ drop (i + 1) pieces)) (sym e) ∙ one;
+        put k s.around ∙ ap (λ c. now ++ standing (level_of s.around) i c ∷ places_from (length now + 1) (i + 1) s.around (drop (i + 1) pieces)) is_kind
+        ∙ ap (λ x. now ++ places_from (length now) i s.around (x ∷ drop (i + 1) pieces)) (sym e) ∙ one;
   })
 
-  pub opened_one : (from_term : Bool) (own : List ℕ) → p ≡ opening from_term own → (next : List Numbered) → next ≡ now ++ record { level = level; piece = i } ∷ [] → (deep : ℕ) → deep ≡ length next
+  pub opened_one : (from_term : Bool) (own : List ℕ) → p ≡ opening from_term own → (next : List Numbered) → next ≡ now ++ standing level i kind.Group ∷ [] → (deep : ℕ) → deep ≡ length next
       → IsNumbering pieces (i + 1) deep next
   opened_one from_term own e next is_next deep is_deep = rw (is_deep, is_next) (record {
     around = (length now + 1) ∷ s.around;
-    at = longer;
+    at = longer kind.Group;
     leads = (
       omega arith,
-      let l = longer in omega arith,
-      ap (λ (m : Numbered). m.level) (last_one now (record { level = level; piece = i })) ∙ s.at,
-      leads_more now (record { level = level; piece = i }) s.around s.leads,
+      let l = longer kind.Group in omega arith,
+      ap (λ (m : Numbered). m.level) (last_one now (standing level i kind.Group)) ∙ s.at,
+      leads_more now (standing level i kind.Group) s.around s.leads,
     );
-    few = let f = s.few in let l = longer in omega arith;
-    left =
-        ap (λ k. map (entry_at pieces) (now ++ record { level = level; piece = i } ∷ []) ++ entries_from k ((length now + 1) ∷ s.around) (drop (i + 1) pieces)) longer
-        ∙ put (entries_from (length now + 1) ((length now + 1) ∷ s.around) (drop (i + 1) pieces))
-        ∙ ap (λ x. map (entry_at pieces) now ++ entry_of (level_of s.around) x ∷ entries_from (length now + 1) ((length now + 1) ∷ s.around) (drop (i + 1) pieces)) e
-        ∙ ap (λ x. map (entry_at pieces) now ++ entries_from (length now) s.around (x ∷ drop (i + 1) pieces)) (sym e) ∙ one;
+    few = let f = s.few in let l = longer kind.Group in omega arith;
+    left = put kind.Group ((length now + 1) ∷ s.around) ∙ ap (λ x. now ++ places_from (length now) i s.around (x ∷ drop (i + 1) pieces)) (sym e) ∙ one;
   })
+
+-- a piece behind others, and the pieces up to it
+pub this_piece : (all front : List Piece) (p : Piece) (ps : List Piece) (k : ℕ) → all ≡ front ++ p ∷ ps → k ≡ length front → get_or all k closing ≡ p
+this_piece all front p ps k a e = ap (λ l. get_or l k closing) a ∙ ap (λ j. get_or (front ++ p ∷ ps) j closing) e ∙ get_or-append_seam front p ps closing
+
+pub one_on : (all front : List Piece) (p : Piece) (ps : List Piece) → all ≡ front ++ p ∷ ps → all ≡ (front ++ p ∷ []) ++ ps
+one_on all front p ps a = a ∙ sym (append_assoc front (p ∷ []) ps)
+
+pub one_longer : (front : List Piece) (p : Piece) (k : ℕ) → k ≡ length front → k + 1 ≡ length (front ++ p ∷ [])
+one_longer front p k e = ap (λ n. n + 1) e ∙ sym (length-append front (p ∷ []))
+
+-- the items and groups that stand there
+entries_there : (all front ps : List Piece) (n k : ℕ) (around : Path) → all ≡ front ++ ps → k ≡ length front → map (entry_at all) (places_from n k around ps) ≡ entries_from n around ps
+entries_there all front [] n k around a e = refl
+entries_there all front (item i ∷ ps) n k around a e =
+    ap (λ p. entry_of (level_of around) p ∷ map (entry_at all) (places_from (n + 1) (k + 1) around ps)) (this_piece all front (item i) ps k a e)
+    ∙ ap (λ es. simple (level_of around) i ∷ es) (entries_there all (front ++ item i ∷ []) ps (n + 1) (k + 1) around (one_on all front (item i) ps a) (one_longer front (item i) k e))
+entries_there all front (opening from_term own ∷ ps) n k around a e =
+    ap (λ p. entry_of (level_of around) p ∷ map (entry_at all) (places_from (n + 1) (k + 1) ((n + 1) ∷ around) ps)) (this_piece all front (opening from_term own) ps k a e)
+    ∙ ap (λ es. group (level_of around) from_term own ∷ es)
+    (entries_there all (front ++ opening from_term own ∷ []) ps (n + 1) (k + 1) ((n + 1) ∷ around) (one_on all front (opening from_term own) ps a) (one_longer front (opening from_term own) k e))
+entries_there all front (closing ∷ ps) n k around a e = entries_there all (front ++ closing ∷ []) ps n (k + 1) (drop 1 around) (one_on all front closing ps a) (one_longer front closing k e)
+
+pub numbered_entries : (ps : List Piece) → map (entry_at ps) (places_from 0 0 [] ps) ≡ entries_from 0 [] ps
+numbered_entries ps = entries_there ps [] ps 0 0 [] refl refl
+
+pub as_many : (ps : List Piece) → length (places_from 0 0 [] ps) ≡ length (entries_from 0 [] ps)
+as_many ps = sym (length-map (places_from 0 0 [] ps) (entry_at ps)) ∙ ap length (numbered_entries ps)
 
 -- a piece by its place, the end of a group where there is none
 get_or-seen : {A : Type 0} (xs : List (code.Piece A)) (k : ℕ) → get_or (map seen_piece xs) k closing ≡ seen_piece (get_or xs k code_pieces.Closing)

@@ -18,5 +18,5 @@ mod uses;
 
 pub use checked::check;
 pub use lookup::Lookup;
-pub use numbered::Entry;
+pub use numbered::{Entry, EntryKind, Numbered};
 pub use query::{Item, Piece, Query};

@@ -1,9 +1,8 @@
 //! The items of a query by number.
 
 ghost use Rattle.std.specs.Prelude.{◌≡◌, ◌<◌, ◌≤◌, [], map, length, IfOk};
-ghost use Rattle.query_check.specs.Seen.{entry_at, entry_of, seen_entry, seen_piece};
-ghost use Rattle.query_check.specs.Numbered.{level_around, piece_or};
-ghost use Rattle.query_model.specs.Query.{entries_from};
+ghost use Rattle.query_check.specs.Seen.{entry_of, seen_entry, seen_item, seen_piece};
+ghost use Rattle.query_check.specs.Numbered.{item_kind, level_around, piece_or, places_from};
 
 use crate::query::{Item, Piece};
 use std::alloc::{AllocError, Allocator, Global};
@@ -17,11 +16,20 @@ pub enum Entry<'q, A: Allocator = Global> {
     Group(usize, bool, &'q [usize]),
 }
 
-/// Where an item or a group stands: its level, and its place among the pieces.
+/// Of what kind an item is, for whoever needn't look at its piece.
 #[derive(Clone, Copy, Debug, PartialEq, Eq)]
-pub(crate) struct Numbered {
-    pub(crate) level: usize,
-    pub(crate) piece: usize,
+pub enum EntryKind {
+    Equality,
+    Other,
+    Group,
+}
+
+/// Where an item or a group stands: its level, its place among the pieces, and of what kind it is.
+#[derive(Clone, Copy, Debug, PartialEq, Eq)]
+pub struct Numbered {
+    pub level: usize,
+    pub piece: usize,
+    pub kind: EntryKind,
 }
 
 /// The items and groups of a query's pieces, in the order of their numbers.
@@ -29,21 +37,42 @@ pub(crate) fn places_of_entries<A: Allocator + Copy>(
     alloc: A,
     pieces: &[Piece<A>],
 ) -> Result<Vec<Numbered, A>, AllocError>
-    ensures { IfOk result (λ all. map (entry_at (map seen_piece pieces.now)) all.items ≡ entries_from 0 [] (map seen_piece pieces.now)) }
+    ensures { IfOk result (λ all. all.items ≡ places_from 0 0 [] (map seen_piece pieces.now)) }
 {
     let mut all = Vec::with_capacity(alloc, pieces.len())?;
     let mut level = 0;
     for (i, piece) in pieces.iter().enumerate() {
         match piece {
-            Piece::Item(_) => all.push(Numbered { level, piece: i })?,
+            Piece::Item(item) => {
+                let kind = kind_of(item);
+                all.push(Numbered {
+                    level,
+                    piece: i,
+                    kind,
+                })?;
+            }
             Piece::Opening(_, _) => {
-                all.push(Numbered { level, piece: i })?;
+                all.push(Numbered {
+                    level,
+                    piece: i,
+                    kind: EntryKind::Group,
+                })?;
                 level = all.as_slice().len();
             }
             Piece::Closing => level = around(all.as_slice(), level),
         }
     }
     Ok(all)
+}
+
+/// Of what kind an item is that is no group.
+fn kind_of<A: Allocator>(item: &Item<A>) -> EntryKind
+    ensures { result ≡ item_kind (seen_item item.now) }
+{
+    match item {
+        Item::Equal(_, _) => EntryKind::Equality,
+        _ => EntryKind::Other,
+    }
 }
 
 /// The level around a level: that in which its group stands.

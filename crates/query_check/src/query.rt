@@ -1,9 +1,10 @@
 //! The checked query, and how it is built from a syntax without faults.
 
-ghost use Rattle.std.specs.Prelude.{◌≡◌, ◌<◌, ◌≤◌, ◌==◌, ◌++◌, [], ◌∷◌, ◌↔◌, IsTrue, flat_map, fold, length, map, option_map, option_to_list, slice_get, IfOk, MatchOption, Some, Ok, Err};
+ghost use Rattle.std.specs.Prelude.{◌≡◌, ◌<◌, ◌≤◌, ◌==◌, ◌++◌, [], ◌∷◌, ◌↔◌, IsTrue, flat_map, fold, length, map, option_map, slice_get, IfOk, MatchOption, Some, Ok, Err};
 ghost use Rattle.std.specs.List.{list_all, list_any};
 ghost use Rattle.query_check.specs.Found.{AreFound, IsFound, follows_ref, inherited_ref};
 ghost use Rattle.query_check.specs.Places.{IsRooted, IsTree, places_of};
+ghost use Rattle.query_check.specs.Numbered.{places_from};
 ghost use Rattle.query_check.specs.Seen.{level_uses, seen_cascading, seen_entry, seen_item, seen_occurrence, seen_piece, seen_use, seen_variable, syntax_of};
 ghost use Rattle.query_model.specs.Levels.{Path, alternatives, followed, level_of, placed_parts};
 ghost use Rattle.query_model.specs.Cascades.{cascades as cascades_in};
@@ -118,7 +119,8 @@ impl<A: Allocator> Model for Query<A> {
     ghost use Rattle.query_model.specs.Query as model;
     ghost use Rattle.query_model.specs.Query.{entries_from, shown_from};
     ghost use Rattle.query_check.specs.Terms.{piece_terms};
-    ghost use Rattle.query_check.specs.Seen.{entry_at, seen_piece};
+    ghost use Rattle.query_check.specs.Numbered.{places_from};
+    ghost use Rattle.query_check.specs.Seen.{seen_piece};
 
     ghost Value = { model.Query };
 
@@ -131,7 +133,7 @@ impl<A: Allocator> Model for Query<A> {
       length = q.length;
     } };
 
-    ghost invariant = { λ q. (q.shown.items ≡ shown_from 0 (entries_from 0 [] (map seen_piece q.pieces.items))) × (map (entry_at (map seen_piece q.pieces.items)) q.numbered.items ≡ entries_from 0 [] (map seen_piece q.pieces.items)) × (q.terms.items ≡ flat_map piece_terms (map seen_piece q.pieces.items)) };
+    ghost invariant = { λ q. (q.shown.items ≡ shown_from 0 (entries_from 0 [] (map seen_piece q.pieces.items))) × (q.numbered.items ≡ places_from 0 0 [] (map seen_piece q.pieces.items)) × (q.terms.items ≡ flat_map piece_terms (map seen_piece q.pieces.items)) };
 }
 
 impl<A: Allocator> Query<A> {
@@ -168,6 +170,13 @@ impl<A: Allocator> Query<A> {
         ensures { result ≡ length (entries self.now) }
     {
         self.numbered.len()
+    }
+
+    /// Where each item and group stands, in the order of their numbers.
+    pub fn entries(&self) -> &[Numbered]
+        ensures { result.now ≡ places_from 0 0 [] (self.now).pieces }
+    {
+        self.numbered.as_slice()
     }
 
     /// The item or the group with a number, and its level.

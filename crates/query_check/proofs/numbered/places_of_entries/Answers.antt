@@ -20,7 +20,7 @@ loop-i-preserved g c =
     elim c.match-piece.branch [
       | in-Item+in_ok-push-in-Item w ↦
           same_numbering (map seen_piece pieces) _ _ _ _ _
-          (item_one (map seen_piece pieces) i l.level l.all.items l.invariant (seen_piece piece) within is _ (ap seen_piece w.in-Item.is) m.all.items (ap (λ v. v.items) w.all-is ∙ w.in_ok-push-in-Item.ensures.items))
+          (item_one (map seen_piece pieces) i l.level l.all.items l.invariant (seen_piece piece) within is _ (ap seen_piece w.in-Item.is) _ w.kind_of-kind.ensures m.all.items (ap (λ v. v.items) w.all-is ∙ w.in_ok-push-in-Item.ensures.items))
           w.level-is refl
       | in-Opening+in_ok-push-in-Opening w ↦
           opened_one (map seen_piece pieces) i l.level l.all.items l.invariant (seen_piece piece) within is _ _ (ap seen_piece w.in-Opening.is) m.all.items (ap (λ v. v.items) w.all-is ∙ w.in_ok-push-in-Opening.ensures.items)

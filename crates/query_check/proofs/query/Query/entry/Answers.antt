@@ -1,18 +1,27 @@
 -- The item stands where the table says.
-use Rattle.std.proofs.Common.{◌∙◌, ap, arith, map}
-use Rattle.query_model.specs.Query.{entries}
+use Rattle.std.proofs.Common.{◌≡◌, ◌∙◌, [], ap, arith, length, map}
+use Rattle.query_model.specs.Query.{entries, entries_from}
 use Rattle.query_check.specs.Numbered.{piece_or}
-use Rattle.query_check.specs.Seen.{seen_entry, seen_piece}
+use Rattle.query_check.specs.Seen.{entry_at, seen_entry, seen_piece}
 use Rattle.query_check.specs.declared.query.Piece.TheVariants.{Closing}
-use Rattle.query_check.proofs.Entries.{entry_found, piece_found}
+use Rattle.query_check.proofs.Entries.{as_many, entry_found, numbered_entries, piece_found}
 use Rattle.query_check.proofs.query.Query.entry.Goals as goal
+
+pub index-at-requires : goal.index-at-requires
+index-at-requires g c =
+    let inside = c.self.inside in
+    let ps = map seen_piece inside.pieces.items in
+    let there = as_many ps in
+    let same : length (entries_from 0 [] ps) ≡ length (entries c.args.self.now) = ap (λ q. length (entries q)) c.self.view_is in
+    omega (arith, c.requires, ap length c.self.invariant.1, there, same, inside.numbered.ok.0)
 
 pub returns : goal.returns
 returns g c =
     let inside = c.self.inside in
+    let ps = map seen_piece inside.pieces.items in
     let at = c.index-at.result.now in
     let found = c.get.ensures.lookup in
-    entry_found (map seen_piece inside.pieces.items) inside.numbered.items (entries c.args.self.now) c.args.number at (piece_or c.get.result) (seen_entry c.entry_in.result)
-    (c.self.invariant.1 ∙ ap entries c.self.view_is) c.requires c.index-at.ensures
+    entry_found ps inside.numbered.items (entries c.args.self.now) c.args.number at (piece_or c.get.result) (seen_entry c.entry_in.result)
+    (ap (map (entry_at ps)) c.self.invariant.1 ∙ numbered_entries ps ∙ ap entries c.self.view_is) c.requires c.index-at.ensures
     (piece_found inside.pieces.items c.deref.result.now at.piece c.get.result (found.4 (omega arith) Closing) c.deref.ensures.value)
     c.entry_in.ensures
