@@ -14,6 +14,7 @@ pub mod MetIds
 pub mod OwnFacts
 pub mod TiedQueries
 pub mod LinkedQueries
+pub mod StandingEntities
 pub mod UnaskedVariables
 pub mod MentionedOnce
 pub mod MentionTimes

@@ -1,6 +1,6 @@
 -- Of a linked query, what others hold matters for an entity only where they are near: linked with it, from pair to pair; and of that only what isn't idle.
 use Rattle.std.proofs.Common.{◌≡◌, ℕ, zero, suc, ◌<◌, Bool, true, false, inl, inr, List, [], ◌∷◌, ◌++◌, refl, sym, ap, ◌∙◌, subst, arith}
-use Rattle.std.specs.Prelude.{◌==◌, ◌&&◌, ◌||◌, filter, is_none, map, not, Option, Some, None, if◌then◌else◌}
+use Rattle.std.specs.Prelude.{◌==◌, ◌&&◌, ◌||◌, nat_lt, filter, is_none, map, not, Option, Some, None, if◌then◌else◌}
 use Rattle.std.specs.List.{Contains, list_any, list_all}
 use Rattle.std.specs.Option.{option_map_or}
 use Rattle.std.proofs.lemmas.Bool.{and_from, and_parts, cases_Bool, eq-eqb, eqb-true, false≢true, ltb-true, not-true, or_cases, or_left, or_right, true≢false}
@@ -69,14 +69,14 @@ module _ (z : View) (a : Assignment) (t : Term) where
       nobody (Some r) is c = absurd cc
 
   -- the entity of the term's source holds an id that the pattern matches
-  record IsHit : Type 0 where
-    holder : ℕ
-    source : meant a t.source ≡ Some holder
-    id : Id
-    held : Contains (z.ids holder) id
-    fits : matches a t.first t.target id ≡ true
+  pub record IsHit : Type 0 where
+    pub holder : ℕ
+    pub source : meant a t.source ≡ Some holder
+    pub id : Id
+    pub held : Contains (z.ids holder) id
+    pub fits : matches a t.first t.target id ≡ true
 
-  found_hit : t.up ≡ None → t.closed ≡ false → some (fields_of_term z a t) ≡ true → IsHit
+  pub found_hit : t.up ≡ None → t.closed ≡ false → some (fields_of_term z a t) ≡ true → IsHit
   unfolding fields_of_term
   found_hit up stored h = by (meant a t.source) refl h
     where
@@ -94,34 +94,37 @@ module _ (z : View) (a : Assignment) (t : Term) where
 
 -- ---- references to variables
 
-its_own : (u : ℕ) (r : Ref) → r ≡ Var u → contains (variable_in r) u ≡ true
+pub its_own : (u : ℕ) (r : Ref) → r ≡ Var u → contains (variable_in r) u ≡ true
 its_own u r is = ap (λ r. contains (variable_in r) u) is ∙ or_left (u == u) false (eq-eqb u u refl)
 
 -- a variable before another one, among these
-record IsBefore (u : ℕ) (r : Ref) : Type 0 where
-  number : ℕ
-  is : r ≡ Var number
-  below : number < u
-  among : contains (variable_in r) number ≡ true
+pub record IsBefore (u : ℕ) (r : Ref) : Type 0 where
+  pub number : ℕ
+  pub is : r ≡ Var number
+  pub is_below : nat_lt number u ≡ true
+  pub below : number < u
+  pub among : contains (variable_in r) number ≡ true
 
-one_before : (u : ℕ) (r : Ref) → is_before u r ≡ true → IsBefore u r
+pub one_before : (u : ℕ) (r : Ref) → is_before u r ≡ true → IsBefore u r
 one_before u (Is d) h = absurd (false≢true h)
-one_before u (Var s) h = record { number = s; is = refl; below = ltb-true s u h; among = or_left (s == s) false (eq-eqb s s refl) }
+one_before u (Var s) h = record { number = s; is = refl; is_below = h; below = ltb-true s u h; among = or_left (s == s) false (eq-eqb s s refl) }
 one_before u Any h = absurd (false≢true h)
 one_before u One h = absurd (false≢true h)
 
 -- an id that a pattern matches whose target is a variable before another one
-record IsPairBefore (a : Assignment) (u : ℕ) (target : Option Ref) (i : Id) : Type 0 where
-  number : ℕ
-  below : number < u
-  among : contains (option_map_or variable_in target []) number ≡ true
-  first : ℕ
-  second : ℕ
-  stands : at a number ≡ Some second
-  is : i ≡ pair first second
-  variable : is_some_variable target ≡ true
+pub record IsPairBefore (a : Assignment) (u : ℕ) (target : Option Ref) (i : Id) : Type 0 where
+  pub number : ℕ
+  pub is_target : may_be_variable number target ≡ true
+  pub is_below : nat_lt number u ≡ true
+  pub below : number < u
+  pub among : contains (option_map_or variable_in target []) number ≡ true
+  pub first : ℕ
+  pub second : ℕ
+  pub stands : at a number ≡ Some second
+  pub is : i ≡ pair first second
+  pub variable : is_some_variable target ≡ true
 
-pair_before : (a : Assignment) (u : ℕ) (first : Ref) (target : Option Ref) (i : Id) → may_be_before u target ≡ true → matches a first target i ≡ true → IsPairBefore a u target i
+pub pair_before : (a : Assignment) (u : ℕ) (first : Ref) (target : Option Ref) (i : Id) → may_be_before u target ≡ true → matches a first target i ≡ true → IsPairBefore a u target i
 pair_before a u first None i h m = absurd (false≢true h)
 pair_before a u first (Some target) (plain c) h m = absurd (false≢true m)
 pair_before a u first (Some (Is d)) (pair r x) h m = absurd (false≢true h)
@@ -130,6 +133,8 @@ pair_before a u first (Some One) (pair r x) h m = absurd (false≢true h)
 pair_before a u first (Some (Var s)) (pair r x) h m =
     record {
       number = s;
+      is_target = eq-eqb s s refl;
+      is_below = h;
       below = ltb-true s u h;
       among = or_left (s == s) false (eq-eqb s s refl);
       first = r;

@@ -1,17 +1,20 @@
 -- The laws of what concerns a query, as statements.
-use Rattle.std.specs.Prelude.{◌≡◌, ◌↔◌, ℕ, Bool, true, List, filter, not}
+use Rattle.std.specs.Prelude.{◌≡◌, ◌↔◌, ℕ, ◌==◌, Bool, true, false, List, filter, not}
 use Rattle.std.specs.List.{Contains}
 use Rattle.ecs_id.specs.Id.{Id, pair}
+use Rattle.query_model.specs.declared.query.Term.{Term}
 use Rattle.query_model.specs.Query.{Query}
+use Rattle.query_check.specs.Terms.{terms}
 use Rattle.ecs_model.specs.Links.{AreLinks, line}
 use Rattle.ecs_model.specs.rows.View.{View}
 use Rattle.ecs_model.specs.stored.Watches.{matching}
 use Rattle.watch_concerns.specs.Anchored.{is_anchored}
 use Rattle.watch_concerns.specs.Concerns.{concerns}
-use Rattle.watch_concerns.specs.Idle.{is_idle}
+use Rattle.watch_concerns.specs.Idle.{asks_for, is_idle}
 use Rattle.watch_concerns.specs.Linked.{HasLinked, is_linked}
 use Rattle.watch_concerns.specs.Others.{concerns_below, concerns_others}
 use Rattle.watch_concerns.specs.OwnIds.{lacks, meets}
+use Rattle.watch_concerns.specs.Roles.{LeadsOn, is_linked_by, may_stand}
 use Rattle.watch_concerns.specs.Tied.{is_tied}
 use Rattle.query_meaning.specs.Sound.{IsSound}
 
@@ -56,6 +59,18 @@ MatchByLinks = (m n : ℕ) (w v : View) (q : Query) → AreLinks m w.entities w.
     → (all : ℕ → List Id) → ((x : ℕ) (i : Id) → Contains (w.ids x) i → Contains (all x) i) → ((x : ℕ) (i : Id) → Contains (v.ids x) i → Contains (all x) i)
     → (near : ℕ → Bool) → near e ≡ true → HasLinked q all w e near → HasLinked q all v e near
     → ((x : ℕ) → near x ≡ true → filter (λ i. not (is_idle q (all x) i)) (w.ids x) ≡ filter (λ i. not (is_idle q (all x) i)) (v.ids x))
+    → Contains (matching w q) e ↔ Contains (matching v q) e
+
+-- and of one that is linked by some terms they are among those near, who may stand for a variable: the entity for `$this`, and whoever such terms lead to from there by pairs in one of the
+-- views; and of their facts those matter that are asked of the entity of that variable
+abbrev pub MatchByRoles : Type 0
+MatchByRoles = (m n : ℕ) (w v : View) (q : Query) → AreLinks m w.entities w.ids → AreLinks n v.entities v.ids → IsSound q → is_anchored q ≡ true
+    → (by : ℕ → Term → Bool) → is_linked_by by q ≡ true
+    → (e : ℕ) → filter (concerns q) (w.ids e) ≡ filter (concerns q) (v.ids e)
+    → ((r x : ℕ) → Contains (line v.ids v.entities r e) x → filter (concerns_below q) (w.ids x) ≡ filter (concerns_below q) (v.ids x))
+    → (all : ℕ → List Id) → ((x : ℕ) (i : Id) → Contains (w.ids x) i → Contains (all x) i) → ((x : ℕ) (i : Id) → Contains (v.ids x) i → Contains (all x) i)
+    → (near : ℕ → ℕ → Bool) → near 0 e ≡ true → LeadsOn by q all w near → LeadsOn by q all v near
+    → ((u x : ℕ) → (u == 0) ≡ false → near u x ≡ true → may_stand q (all x) u ≡ true → filter (asks_for (terms q) u) (w.ids x) ≡ filter (asks_for (terms q) u) (v.ids x))
     → Contains (matching w q) e ↔ Contains (matching v q) e
 
 -- who lacks what a query asks of `$this` itself is `$this` of no row

@@ -7,6 +7,7 @@ pub mod OwnIds
 pub mod Tied
 pub mod Idle
 pub mod Linked
+pub mod Roles
 pub mod FromLeft
 pub mod Laws
 pub mod Since

@@ -1,6 +1,6 @@
 //! What is proved of the definitions alone: each function's contract is a law, and its body does nothing.
 
-ghost use Rattle.watch_concerns.specs.Laws.{LackingMatchNothing, MatchByLinks, MatchByOwnFacts, MatchByTies, MatchByWhatConcerns, MatchWhoeverElseLives, MeetingMatch};
+ghost use Rattle.watch_concerns.specs.Laws.{LackingMatchNothing, MatchByLinks, MatchByOwnFacts, MatchByRoles, MatchByTies, MatchByWhatConcerns, MatchWhoeverElseLives, MeetingMatch};
 
 /// Law: where the same entities live and each holds the same ids of those that concern a query, the same entities are `$this` of its rows.
 pub fn queries_match_by_what_concerns_them()
@@ -27,6 +27,12 @@ pub fn tied_queries_match_by_facts_of_their_targets()
 /// Law: of an anchored query that is linked, they are among the entity and all who are linked with it, over any number of pairs.
 pub fn linked_queries_match_by_facts_of_those_near()
     ensures { MatchByLinks }
+{}
+
+/// Law: and of one that is linked by some terms, they are among those who may stand for a variable: the entity itself for `$this`, and all to whom such
+/// terms lead from there, over any number of pairs. Of what these hold only that matters which is asked of the variable's entity.
+pub fn linked_queries_match_by_facts_of_those_who_may_stand()
+    ensures { MatchByRoles }
 {}
 
 /// Law: who lacks what a query asks of `$this` itself is `$this` of no row.
