@@ -14,4 +14,5 @@ pub mod AllMoving
 pub mod CountedConcerns
 pub mod CoveredConcerns
 pub mod StayingEntities
+pub mod StayingRoles
 pub mod AskedEntities

@@ -48,7 +48,7 @@ use Rattle.watch_touched.proofs.WorldBefore.{has_gone, is_new}
 -- ---- two tests
 
 -- what passes two tests, one after the other, passes both
-filter_twice : (p r : Id → Bool) (is : List Id) → filter p (filter r is) ≡ filter (λ i. r i && p i) is
+pub filter_twice : (p r : Id → Bool) (is : List Id) → filter p (filter r is) ≡ filter (λ i. r i && p i) is
 filter_twice p r [] = refl
 filter_twice p r (i ∷ is) = by (filter_twice p r is) (r i)
   where
@@ -62,7 +62,7 @@ wider_and false true h = absurd (false≢true (h refl))
 wider_and false false h = refl
 
 -- so a wider test before changes nothing
-filter_within : (p r : Id → Bool) → ((i : Id) → p i ≡ true → r i ≡ true) → (is : List Id) → filter p is ≡ filter p (filter r is)
+pub filter_within : (p r : Id → Bool) → ((i : Id) → p i ≡ true → r i ≡ true) → (is : List Id) → filter p is ≡ filter p (filter r is)
 filter_within p r wider is = sym (filter_twice p r is ∙ (λ j. filter (λ i. wider_and (r i) (p i) (wider i) j) is))
 
 -- ---- facts
@@ -74,12 +74,12 @@ unlisted p ks x none i h =
     (λ t. none (in_map (λ (k : Key). k.0) (filter p ks) (x, i) ((filtered p ks (x, i)).1 (is_among ks (x, i) t, h))))
 
 -- whoever holds something that hasn't gone holds it still
-lasting : (now before : Bool) → before ≡ true → (not now && before) ≡ false → now ≡ true
+pub lasting : (now before : Bool) → before ≡ true → (not now && before) ≡ false → now ≡ true
 lasting true before h l = refl
 lasting false before h l = absurd (true≢false (sym h ∙ l))
 
 -- the target of a pair that passes
-its_target : (p : Id → Bool) (r x : ℕ) → p (pair r x) ≡ true → Contains (target_of p (pair r x)) x
+pub its_target : (p : Id → Bool) (r x : ℕ) → p (pair r x) ≡ true → Contains (target_of p (pair r x)) x
 its_target p r x h = subst (λ b. Contains (if b then x ∷ [] else []) x) (sym h) (0, omega arith, refl)
 
 -- where none of these facts concerns a query for others, no fact whose id does is among them
@@ -88,7 +88,7 @@ others_not_among q ks none e i h = refuted (list_any (key_eq (e, i)) ks) (λ t. 
 
 module _ (v : WorldState) (changed : Changed) (kept_now : IsWellFormed v) (after : IsAfter v changed) where
   -- where no fact came or went of the entity's ids that pass a test, it holds the same of these
-  passing_stay : (p : Id → Bool) (e : ℕ) → ((i : Id) → p i ≡ true → list_any (key_eq (e, i)) changed.came ≡ false) → ((i : Id) → p i ≡ true → list_any (key_eq (e, i)) changed.went ≡ false)
+  pub passing_stay : (p : Id → Bool) (e : ℕ) → ((i : Id) → p i ≡ true → list_any (key_eq (e, i)) changed.came ≡ false) → ((i : Id) → p i ≡ true → list_any (key_eq (e, i)) changed.went ≡ false)
       → filter p (ids_of after.before e) ≡ filter p (ids_of v e)
   passing_stay p e none_came none_went =
       let w = after.before in
@@ -104,7 +104,7 @@ module _ (v : WorldState) (changed : Changed) (kept_now : IsWellFormed v) (after
       ))
 
   -- who isn't listed by a test holds the same before and after of ids that pass it and another one
-  unlisted_stay : (r p : Id → Bool) (x : ℕ) → (Contains (entities_of p changed) x → ⊥) → filter p (filter r (ids_of after.before x)) ≡ filter p (filter r (ids_of v x))
+  pub unlisted_stay : (r p : Id → Bool) (x : ℕ) → (Contains (entities_of p changed) x → ⊥) → filter p (filter r (ids_of after.before x)) ≡ filter p (filter r (ids_of v x))
   unlisted_stay r p x none =
       let came = entities_by p changed.came in
       let went = entities_by p changed.went in
@@ -128,7 +128,7 @@ module _ (v : WorldState) (changed : Changed) (kept_now : IsWellFormed v) (after
       ∙ sym (filter_twice p r (ids_of v x))
 
   -- what an entity held before it holds now, or a fact of that has gone
-  around_before : (x : ℕ) (i : Id) → Contains (ids_of after.before x) i → Contains (ids_around v changed.went x) i
+  pub around_before : (x : ℕ) (i : Id) → Contains (ids_of after.before x) i → Contains (ids_around v changed.went x) i
   around_before x i h = elim (cases_Bool (list_any (key_eq (x, i)) changed.went)) [
     | inl gone ↦ Contains-append_right (ids_of v x) (map (λ (k : Key). k.1) changed.went) i (in_map (λ (k : Key). k.1) changed.went (x, i) (is_among changed.went (x, i) gone))
     | inr lasts ↦
@@ -137,10 +137,10 @@ module _ (v : WorldState) (changed : Changed) (kept_now : IsWellFormed v) (after
         Contains-append_left (ids_of v x) (map (λ (k : Key). k.1) changed.went) i (held_listed v x i (lasting (holds v x i) (holds after.before x i) was (sym gone ∙ lasts)))
   ]
 
-  module _ (q : Query) (sound : IsSound q) (followed : is_followed q changed ≡ true) (es : List ℕ) (all : AreMoving q v changed es) (e : ℕ) (apart : Contains es e → ⊥) (fit : may_be_this q v e ≡ true) where
+  module _ (q : Query) (e : ℕ) (fit : may_be_this q v e ≡ true) where
     -- ---- what matters for the entity: of its own ids those that concern the query, of others' ids those that do so for somebody else
 
-    abbrev matters : ℕ → Id → Bool
+    abbrev pub matters : ℕ → Id → Bool
     matters x i = if x == e then concerns q i else concerns_beyond q i
 
     matters_covers : (p : Id → Bool) → ((i : Id) → p i ≡ true → concerns q i ≡ true) → ((i : Id) → p i ≡ true → concerns_beyond q i ≡ true) → (x : ℕ) (i : Id) → p i ≡ true → matters x i ≡ true
@@ -150,24 +150,24 @@ module _ (v : WorldState) (changed : Changed) (kept_now : IsWellFormed v) (after
         by true = own i h
         by false = beyond i h
 
-    matters_itself : (i : Id) → matters e i ≡ concerns q i
+    pub matters_itself : (i : Id) → matters e i ≡ concerns q i
     matters_itself i = ap (λ b. if b then concerns q i else concerns_beyond q i) (eq_itself e)
 
-    below_matters : (x : ℕ) (i : Id) → concerns_below q i ≡ true → matters x i ≡ true
+    pub below_matters : (x : ℕ) (i : Id) → concerns_below q i ≡ true → matters x i ≡ true
     below_matters = matters_covers (concerns_below q) (below_concern q) (λ i h. or_left (concerns_below q i) (concerns_others q i) h)
 
-    others_matter : (x : ℕ) (i : Id) → concerns_others q i ≡ true → matters x i ≡ true
+    pub others_matter : (x : ℕ) (i : Id) → concerns_others q i ≡ true → matters x i ≡ true
     others_matter = matters_covers (concerns_others q) (others_concern q) (λ i h. or_right (concerns_below q i) (concerns_others q i) h)
 
     -- what is seen of a world but for the rest
-    abbrev seen : WorldState → View
+    abbrev pub seen : WorldState → View
     seen w = record {
       entities = entities w;
       ids = λ x. filter (matters x) (ids_of w x);
       value = (view_of w).value;
     }
 
-    seen_links : (w : WorldState) → IsWellFormed w → AreLinks (suc last_index) (entities w) (λ x. filter (matters x) (ids_of w x))
+    pub seen_links : (w : WorldState) → IsWellFormed w → AreLinks (suc last_index) (entities w) (λ x. filter (matters x) (ids_of w x))
     seen_links w kept = record {
       indexes = (are_links w kept).indexes;
       below = (are_links w kept).below;
@@ -175,70 +175,15 @@ module _ (v : WorldState) (changed : Changed) (kept_now : IsWellFormed v) (after
       live = λ x i h. (are_links w kept).live x i ((filtered (matters x) (ids_of w x) i).0 h).0;
     }
 
-    -- ---- two views
-
-    -- the entity holds the same of what concerns the query; whoever is above it, of what does so for those below; and with whom it holds a pair, or who is near, of what does so for others,
-    -- as all do where no such fact came or went
-    record AreAlike (w u : View) : Type 0 where
-      own : filter (concerns q) (w.ids e) ≡ filter (concerns q) (u.ids e)
-      above : (r x : ℕ) → Contains (line u.ids u.entities r e) x → filter (concerns_below q) (w.ids x) ≡ filter (concerns_below q) (u.ids x)
-      held : is_tied q ≡ true → (r x : ℕ) → Contains (u.ids e) (pair r x) → concerns q (pair r x) ≡ true → filter (concerns_others q) (w.ids x) ≡ filter (concerns_others q) (u.ids x)
-      near : ℕ → Bool
-      here : near e ≡ true
-      all_ids : ℕ → List Id
-      all_first : (x : ℕ) (i : Id) → Contains (w.ids x) i → Contains (all_ids x) i
-      all_then : (x : ℕ) (i : Id) → Contains (u.ids x) i → Contains (all_ids x) i
-      known : is_tied q ≡ false → (x : ℕ) → near x ≡ true → filter (λ i. not (is_idle q (all_ids x) i)) (w.ids x) ≡ filter (λ i. not (is_idle q (all_ids x) i)) (u.ids x)
-      linked : is_tied q ≡ false → HasLinked q all_ids w e near × HasLinked q all_ids u e near
-      others : any_concerns_others q changed.came ≡ false → any_concerns_others q changed.went ≡ false → (x : ℕ) → filter (concerns_others q) (w.ids x) ≡ filter (concerns_others q) (u.ids x)
-
-    match_alike : (w u : View) → AreLinks (suc last_index) w.entities w.ids → AreLinks (suc last_index) u.entities u.ids → AreAlike w u → Contains (matching w q) e ↔ Contains (matching u q) e
-    match_alike w u links links' same =
-        let parts = and_parts _ _ followed in
-        elim (cases_Bool (is_tied q)) [
-          | inl tied ↦ match_by_ties (suc last_index) (suc last_index) w u q links links' sound parts.0 tied e same.own same.above (same.held tied)
-          | inr loose ↦ elim (from_or (is_tied q || is_linked q) _ parts.1) [
-            | inl bound ↦
-                let near = same.linked loose in
-                match_by_links (suc last_index) (suc last_index) w u q links links' sound parts.0 (ap (λ b. b || is_linked q) (sym loose) ∙ bound) e same.own same.above
-                same.all_ids same.all_first same.all_then same.near same.here near.0 near.1 (same.known loose)
-            | inr none ↦
-                let both = and_parts _ _ none in
-                match_by_own_facts (suc last_index) (suc last_index) w u q links links' sound parts.0
-                (same.others (not-true (any_concerns_others q changed.came) both.0) (not-true (any_concerns_others q changed.went) both.1)) e same.own same.above
-          ]
-        ]
-
-    -- all may be near
-    all_near : (all_ids : ℕ → List Id) (u : View) → HasLinked q all_ids u e (λ x. true)
-    all_near all_ids u = record { held = λ r x h concerned. refl; linked = λ r x y h by busy. refl }
-
-    -- what doesn't matter makes no difference
-    match_seen : (w : WorldState) → IsWellFormed w → Contains (matching (view_of w) q) e ↔ Contains (matching (seen w) q) e
-    match_seen w kept = match_alike (view_of w) (seen w) (are_links w kept) (seen_links w kept) (record {
-      own = filter_within (concerns q) (matters e) (λ i h. matters_itself i ∙ h) (ids_of w e);
-      above = λ r x there. filter_within (concerns_below q) (matters x) (below_matters x) (ids_of w x);
-      held = λ tied r x there concerned. filter_within (concerns_others q) (matters x) (others_matter x) (ids_of w x);
-      near = λ x. true;
-      here = refl;
-      all_ids = ids_of w;
-      all_first = λ x i h. h;
-      all_then = λ x i h. ((filtered (matters x) (ids_of w x) i).0 h).0;
-      known = λ loose x near. filter_within (λ i. not (is_idle q (ids_of w x) i)) (matters x)
-          (λ i h. others_matter x i (busy_concern_others q (ids_of w x) i (not-true (is_idle q (ids_of w x) i) h))) (ids_of w x);
-      linked = λ loose. (all_near (ids_of w) (view_of w), all_near (ids_of w) (seen w));
-      others = λ came went x. filter_within (concerns_others q) (matters x) (others_matter x) (ids_of w x);
-    })
-
     -- ---- whoever is above the entity
 
     -- who holds a pair that matters leans on its target
-    holder_leans : (p : List Id → Id → Bool) (y r x : ℕ) → Contains (ids_of v y) (pair r x) → p (ids_of v y) (pair r x) ≡ true → Contains (leaning p v x) y
+    pub holder_leans : (p : List Id → Id → Bool) (y r x : ℕ) → Contains (ids_of v y) (pair r x) → p (ids_of v y) (pair r x) ≡ true → Contains (leaning p v x) y
     holder_leans p y r x held passes =
         (filtered (leans p v x) (entities v) y).1
         ((are_links v kept_now).held y (pair r x) held, any_passes (λ i. matches (pairs_to x) i && p (ids_of v y) i) (ids_of v y) (pair r x) held (and_from _ _ (eq_itself x) passes))
 
-    abbrev up : ℕ → ℕ → List ℕ
+    abbrev pub up : ℕ → ℕ → List ℕ
     up r = upward (λ x. filter (matters x) (ids_of v x)) r
 
     -- the entity by a pair that concerns the query, another one by one that does so for somebody else
@@ -255,7 +200,7 @@ module _ (v : WorldState) (changed : Changed) (kept_now : IsWellFormed v) (after
         holder_leans (λ ids. concerns_beyond q) y r x f.0 (sym (λ j. if other j then concerns q (pair r x) else concerns_beyond q (pair r x)) ∙ f.1)
 
     -- so it leans on whoever is above it, or on somebody below that
-    leans_below : (r x : ℕ) → HasChain (up r) e x → (y : ℕ) × Reached (leaning (λ ids. concerns_beyond q) v) x y × Contains (leaning (moves_by q) v y) e
+    pub leans_below : (r x : ℕ) → HasChain (up r) e x → (y : ℕ) × Reached (leaning (λ ids. concerns_beyond q) v) x y × Contains (leaning (moves_by q) v y) e
     leans_below r x chain = by chain.2
       where
         by : {z : ℕ} → Reached (up r) chain.0 z → (y : ℕ) × Reached (leaning (λ ids. concerns_beyond q) v) z y × Contains (leaning (moves_by q) v y) e
@@ -267,126 +212,182 @@ module _ (v : WorldState) (changed : Changed) (kept_now : IsWellFormed v) (after
               (rest.0, chain_reached (leaning (λ ids. concerns_beyond q) v) z rest.0 (y, other_leans r y z other h, rest.1), rest.2)
         ]
 
-    -- ---- before and after
+    module _ (sound : IsSound q) (followed : is_followed q changed ≡ true) (es : List ℕ) (all : AreMoving q v changed es) (apart : Contains es e → ⊥) where
+      -- ---- two views
 
-    -- where what came and went concerns no others, all hold the same of what does
-    all_others_stay : any_concerns_others q changed.came ≡ false → any_concerns_others q changed.went ≡ false
-        → (x : ℕ) → filter (concerns_others q) (filter (matters x) (ids_of after.before x)) ≡ filter (concerns_others q) (filter (matters x) (ids_of v x))
-    all_others_stay came went x =
-        filter_twice (concerns_others q) (matters x) (ids_of after.before x)
-        ∙ passing_stay (λ i. matters x i && concerns_others q i) x
-        (λ i h. others_not_among q changed.came came x i (and_parts _ _ h).1)
-        (λ i h. others_not_among q changed.went went x i (and_parts _ _ h).1)
-        ∙ sym (filter_twice (concerns_others q) (matters x) (ids_of v x))
+      -- the entity holds the same of what concerns the query; whoever is above it, of what does so for those below; and with whom it holds a pair, or who is near, of what does so for others,
+      -- as all do where no such fact came or went
+      record AreAlike (w u : View) : Type 0 where
+        own : filter (concerns q) (w.ids e) ≡ filter (concerns q) (u.ids e)
+        above : (r x : ℕ) → Contains (line u.ids u.entities r e) x → filter (concerns_below q) (w.ids x) ≡ filter (concerns_below q) (u.ids x)
+        held : is_tied q ≡ true → (r x : ℕ) → Contains (u.ids e) (pair r x) → concerns q (pair r x) ≡ true → filter (concerns_others q) (w.ids x) ≡ filter (concerns_others q) (u.ids x)
+        near : ℕ → Bool
+        here : near e ≡ true
+        all_ids : ℕ → List Id
+        all_first : (x : ℕ) (i : Id) → Contains (w.ids x) i → Contains (all_ids x) i
+        all_then : (x : ℕ) (i : Id) → Contains (u.ids x) i → Contains (all_ids x) i
+        known : is_tied q ≡ false → (x : ℕ) → near x ≡ true → filter (λ i. not (is_idle q (all_ids x) i)) (w.ids x) ≡ filter (λ i. not (is_idle q (all_ids x) i)) (u.ids x)
+        linked : is_tied q ≡ false → HasLinked q all_ids w e near × HasLinked q all_ids u e near
+        others : any_concerns_others q changed.came ≡ false → any_concerns_others q changed.went ≡ false → (x : ℕ) → filter (concerns_others q) (w.ids x) ≡ filter (concerns_others q) (u.ids x)
 
-    own_stay : filter (concerns q) (filter (matters e) (ids_of after.before e)) ≡ filter (concerns q) (filter (matters e) (ids_of v e))
-    own_stay = unlisted_stay (matters e) (concerns q) e (λ h. apart (all.own e h))
+      match_alike : (w u : View) → AreLinks (suc last_index) w.entities w.ids → AreLinks (suc last_index) u.entities u.ids → AreAlike w u → Contains (matching w q) e ↔ Contains (matching u q) e
+      match_alike w u links links' same =
+          let parts = and_parts _ _ followed in
+          elim (cases_Bool (is_tied q)) [
+            | inl tied ↦ match_by_ties (suc last_index) (suc last_index) w u q links links' sound parts.0 tied e same.own same.above (same.held tied)
+            | inr loose ↦ elim (from_or (is_tied q || is_linked q) _ parts.1) [
+              | inl bound ↦
+                  let near = same.linked loose in
+                  match_by_links (suc last_index) (suc last_index) w u q links links' sound parts.0 (ap (λ b. b || is_linked q) (sym loose) ∙ bound) e same.own same.above
+                  same.all_ids same.all_first same.all_then same.near same.here near.0 near.1 (same.known loose)
+              | inr none ↦
+                  let both = and_parts _ _ none in
+                  match_by_own_facts (suc last_index) (suc last_index) w u q links links' sound parts.0
+                  (same.others (not-true (any_concerns_others q changed.came) both.0) (not-true (any_concerns_others q changed.went) both.1)) e same.own same.above
+            ]
+          ]
 
-    -- ---- whoever isn't among the linked ones is near
+      -- all may be near
+      all_near : (all_ids : ℕ → List Id) (u : View) → HasLinked q all_ids u e (λ x. true)
+      all_near all_ids u = record { held = λ r x h concerned. refl; linked = λ r x y h by busy. refl }
 
-    abbrev others_linked : List ℕ
-    others_linked = (all.are_targets).linked
+      -- what doesn't matter makes no difference
+      match_seen : (w : WorldState) → IsWellFormed w → Contains (matching (view_of w) q) e ↔ Contains (matching (seen w) q) e
+      match_seen w kept = match_alike (view_of w) (seen w) (are_links w kept) (seen_links w kept) (record {
+        own = filter_within (concerns q) (matters e) (λ i h. matters_itself i ∙ h) (ids_of w e);
+        above = λ r x there. filter_within (concerns_below q) (matters x) (below_matters x) (ids_of w x);
+        held = λ tied r x there concerned. filter_within (concerns_others q) (matters x) (others_matter x) (ids_of w x);
+        near = λ x. true;
+        here = refl;
+        all_ids = ids_of w;
+        all_first = λ x i h. h;
+        all_then = λ x i h. ((filtered (matters x) (ids_of w x) i).0 h).0;
+        known = λ loose x near. filter_within (λ i. not (is_idle q (ids_of w x) i)) (matters x)
+            (λ i h. others_matter x i (busy_concern_others q (ids_of w x) i (not-true (is_idle q (ids_of w x) i) h))) (ids_of w x);
+        linked = λ loose. (all_near (ids_of w) (view_of w), all_near (ids_of w) (seen w));
+        others = λ came went x. filter_within (concerns_others q) (matters x) (others_matter x) (ids_of w x);
+      })
 
-    abbrev is_near : ℕ → Bool
-    is_near x = not (list_any (λ y. y == x) others_linked)
+      -- ---- before and after
 
-    is_far : (x : ℕ) → Contains others_linked x → is_near x ≡ false
-    is_far x h = ap not (any_passes (λ y. y == x) others_linked x h (eq_itself x))
+      -- where what came and went concerns no others, all hold the same of what does
+      all_others_stay : any_concerns_others q changed.came ≡ false → any_concerns_others q changed.went ≡ false
+          → (x : ℕ) → filter (concerns_others q) (filter (matters x) (ids_of after.before x)) ≡ filter (concerns_others q) (filter (matters x) (ids_of v x))
+      all_others_stay came went x =
+          filter_twice (concerns_others q) (matters x) (ids_of after.before x)
+          ∙ passing_stay (λ i. matters x i && concerns_others q i) x
+          (λ i h. others_not_among q changed.came came x i (and_parts _ _ h).1)
+          (λ i h. others_not_among q changed.went went x i (and_parts _ _ h).1)
+          ∙ sym (filter_twice (concerns_others q) (matters x) (ids_of v x))
 
-    stays_out : (x : ℕ) → is_near x ≡ true → Contains others_linked x → ⊥
-    stays_out x near h = true≢false (sym near ∙ is_far x h)
+      own_stay : filter (concerns q) (filter (matters e) (ids_of after.before e)) ≡ filter (concerns q) (filter (matters e) (ids_of v e))
+      own_stay = unlisted_stay (matters e) (concerns q) e (λ h. apart (all.own e h))
 
-    near_unless : (x : ℕ) → (Contains others_linked x → ⊥) → is_near x ≡ true
-    near_unless x none = ap not (refuted (list_any (λ y. y == x) others_linked) (λ t.
-        let found = passing (λ y. y == x) others_linked t in
-        none (subst (Contains others_linked) (eq_same found.0 x found.2) found.1)))
+      -- ---- whoever isn't among the linked ones is near
 
-    itself_near : is_near e ≡ true
-    itself_near = near_unless e (λ h. apart (all.themselves e ((all.are_targets).among e h) fit))
+      abbrev others_linked : List ℕ
+      others_linked = (all.are_targets).linked
 
-    held_near : (r x : ℕ) → Contains (ids_of v e) (pair r x) → concerns q (pair r x) ≡ true → is_near x ≡ true
-    held_near r x h concerned = near_unless x (λ l.
-        apart (all.held x e ((all.are_targets).among x l) (holder_leans (moves_by q) e r x h (and_from _ _ concerned fit))))
+      abbrev is_near : ℕ → Bool
+      is_near x = not (list_any (λ y. y == x) others_linked)
 
-    module _ (loose : is_tied q ≡ false) (r x y : ℕ) (by : links_others q (pair r y) ≡ true) (busy : is_idle q (ids_around v changed.went x) (pair r y) ≡ false) where
-      links : links_busily q changed.went (ids_of v x) (pair r y) ≡ true
-      links = and_from _ _ by (ap not busy)
+      is_far : (x : ℕ) → Contains others_linked x → is_near x ≡ false
+      is_far x h = ap not (any_passes (λ y. y == x) others_linked x h (eq_itself x))
 
-      linked_now : Contains (ids_of v x) (pair r y) → is_near x ≡ is_near y
-      linked_now h =
-          let p = links_busily q changed.went in
-          let closed = ((all.are_targets).are_linked).closed loose in
-          let holder = holder_leans p x r y h links in
-          let target = in_flat_map (target_of (p (ids_of v x))) (ids_of v x) (pair r y) y h (its_target (p (ids_of v x)) r y links) in
-          alike (is_near x) (is_near y)
-          (λ near. near_unless y (λ l. stays_out x near (closed y x l (Contains-append_left (leaning p v y) (targets_at p v y) x holder))))
-          (λ near. near_unless x (λ l. stays_out y near (closed x y l (Contains-append_right (leaning p v x) (targets_at p v x) y target))))
+      stays_out : (x : ℕ) → is_near x ≡ true → Contains others_linked x → ⊥
+      stays_out x near h = true≢false (sym near ∙ is_far x h)
 
-      linked_before : Contains (ids_of after.before x) (pair r y) → is_near x ≡ is_near y
-      linked_before h = elim (cases_Bool (list_any (key_eq (x, pair r y)) changed.went)) [
-        | inl gone ↦
-            let are = (all.are_targets).are_linked in
-            let fact = is_among changed.went (x, pair r y) gone in
-            let test = is_busy q v changed.went in
-            let listed = in_map (λ (k : Key). k.0) (filter test changed.went) (x, pair r y) ((filtered test changed.went (x, pair r y)).1 (fact, ap not busy)) in
-            let holder = are.busy loose x (Contains-append_right (busy_among q v changed.went changed.came) (busy_among q v changed.went changed.went) x listed) in
-            let passes = λ (k : Key). links_busily q changed.went (ids_of v k.0) in
-            let target = are.lost loose y (in_flat_map (λ (k : Key). target_of (passes k) k.1) changed.went (x, pair r y) y fact (its_target (passes (x, pair r y)) r y links)) in
-            is_far x holder ∙ sym (is_far y target)
-        | inr lasts ↦
-            let was = listed_held after.before x (pair r y) h in
-            let gone = has_gone after.before v after.command changed after.kept after.stepped (x, pair r y) in
-            linked_now (held_listed v x (pair r y) (lasting (holds v x (pair r y)) (holds after.before x (pair r y)) was (sym gone ∙ lasts)))
-      ]
+      near_unless : (x : ℕ) → (Contains others_linked x → ⊥) → is_near x ≡ true
+      near_unless x none = ap not (refuted (list_any (λ y. y == x) others_linked) (λ t.
+          let found = passing (λ y. y == x) others_linked t in
+          none (subst (Contains others_linked) (eq_same found.0 x found.2) found.1)))
 
-    near_before : is_tied q ≡ false → HasLinked q (ids_around v changed.went) (seen after.before) e is_near
-    near_before loose = record {
-      held = λ r x h concerned.
-          let here = (filtered (concerns q) (filter (matters e) (ids_of after.before e)) (pair r x)).1 (h, concerned) in
-          let there = (filtered (concerns q) (filter (matters e) (ids_of v e)) (pair r x)).0 (subst (λ is. Contains is (pair r x)) own_stay here) in
-          held_near r x ((filtered (matters e) (ids_of v e) (pair r x)).0 there.0).0 concerned;
-      linked = λ r x y h by busy. linked_before loose r x y by busy ((filtered (matters x) (ids_of after.before x) (pair r y)).0 h).0;
-    }
+      itself_near : is_near e ≡ true
+      itself_near = near_unless e (λ h. apart (all.themselves e ((all.are_targets).among e h) fit))
 
-    near_now : is_tied q ≡ false → HasLinked q (ids_around v changed.went) (seen v) e is_near
-    near_now loose = record {
-      held = λ r x h concerned. held_near r x ((filtered (matters e) (ids_of v e) (pair r x)).0 h).0 concerned;
-      linked = λ r x y h by busy. linked_now loose r x y by busy ((filtered (matters x) (ids_of v x) (pair r y)).0 h).0;
-    }
+      held_near : (r x : ℕ) → Contains (ids_of v e) (pair r x) → concerns q (pair r x) ≡ true → is_near x ≡ true
+      held_near r x h concerned = near_unless x (λ l.
+          apart (all.held x e ((all.are_targets).among x l) (holder_leans (moves_by q) e r x h (and_from _ _ concerned fit))))
 
-    seen_alike : AreAlike (seen after.before) (seen v)
-    seen_alike = record {
-      own = own_stay;
-      above = λ r x there. unlisted_stay (matters x) (concerns_below q) x
-          (λ h.
-          let low = leans_below r x (line_chain (up r) (length (entities v)) e x there) in
-          apart (all.held low.0 e ((all.are_targets).below x low.0 h low.1) low.2));
-      held = λ tied r x there concerned. unlisted_stay (matters x) (concerns_others q) x
-          (λ h.
-          let f = (filtered (matters e) (ids_of v e) (pair r x)).0 there in
-          apart (all.held x e ((all.are_targets).among x (((all.are_targets).are_linked).others tied x h)) (holder_leans (moves_by q) e r x f.0 (and_from _ _ concerned fit))));
-      near = is_near;
-      here = itself_near;
-      all_ids = ids_around v changed.went;
-      all_first = λ x i h. around_before x i ((filtered (matters x) (ids_of after.before x) i).0 h).0;
-      all_then = λ x i h. Contains-append_left (ids_of v x) (map (λ (k : Key). k.1) changed.went) i ((filtered (matters x) (ids_of v x) i).0 h).0;
-      known = λ loose x near. unmoved_stay q (matters x) x (λ h. stays_out x near (((all.are_targets).are_linked).busy loose x h));
-      linked = λ loose. (near_before loose, near_now loose);
-      others = all_others_stay;
-    }
+      module _ (loose : is_tied q ≡ false) (r x y : ℕ) (by : links_others q (pair r y) ≡ true) (busy : is_idle q (ids_around v changed.went x) (pair r y) ≡ false) where
+        links : links_busily q changed.went (ids_of v x) (pair r y) ≡ true
+        links = and_from _ _ by (ap not busy)
 
-    fit_stays : Contains (matching (view_before v changed) q) e ↔ Contains (matching (view_of v) q) e
-    fit_stays =
-        let first = match_seen after.before after.kept in
-        let middle = match_alike (seen after.before) (seen v) (seen_links after.before after.kept) (seen_links v kept_now) seen_alike in
-        let last = match_seen v kept_now in
-        let were = queries_matched_before after.before v after.command changed q after.kept after.stepped in (
-          λ h. last.1 (middle.0 (first.0 (subst (λ es. Contains es e) were h))),
-          λ h. subst (λ es. Contains es e) (sym were) (first.1 (middle.1 (last.0 h))),
-        )
+        linked_now : Contains (ids_of v x) (pair r y) → is_near x ≡ is_near y
+        linked_now h =
+            let p = links_busily q changed.went in
+            let closed = ((all.are_targets).are_linked).closed loose in
+            let holder = holder_leans p x r y h links in
+            let target = in_flat_map (target_of (p (ids_of v x))) (ids_of v x) (pair r y) y h (its_target (p (ids_of v x)) r y links) in
+            alike (is_near x) (is_near y)
+            (λ near. near_unless y (λ l. stays_out x near (closed y x l (Contains-append_left (leaning p v y) (targets_at p v y) x holder))))
+            (λ near. near_unless x (λ l. stays_out y near (closed x y l (Contains-append_right (leaning p v x) (targets_at p v x) y target))))
+
+        linked_before : Contains (ids_of after.before x) (pair r y) → is_near x ≡ is_near y
+        linked_before h = elim (cases_Bool (list_any (key_eq (x, pair r y)) changed.went)) [
+          | inl gone ↦
+              let are = (all.are_targets).are_linked in
+              let fact = is_among changed.went (x, pair r y) gone in
+              let test = is_busy q v changed.went in
+              let listed = in_map (λ (k : Key). k.0) (filter test changed.went) (x, pair r y) ((filtered test changed.went (x, pair r y)).1 (fact, ap not busy)) in
+              let holder = are.busy loose x (Contains-append_right (busy_among q v changed.went changed.came) (busy_among q v changed.went changed.went) x listed) in
+              let passes = λ (k : Key). links_busily q changed.went (ids_of v k.0) in
+              let target = are.lost loose y (in_flat_map (λ (k : Key). target_of (passes k) k.1) changed.went (x, pair r y) y fact (its_target (passes (x, pair r y)) r y links)) in
+              is_far x holder ∙ sym (is_far y target)
+          | inr lasts ↦
+              let was = listed_held after.before x (pair r y) h in
+              let gone = has_gone after.before v after.command changed after.kept after.stepped (x, pair r y) in
+              linked_now (held_listed v x (pair r y) (lasting (holds v x (pair r y)) (holds after.before x (pair r y)) was (sym gone ∙ lasts)))
+        ]
+
+      near_before : is_tied q ≡ false → HasLinked q (ids_around v changed.went) (seen after.before) e is_near
+      near_before loose = record {
+        held = λ r x h concerned.
+            let here = (filtered (concerns q) (filter (matters e) (ids_of after.before e)) (pair r x)).1 (h, concerned) in
+            let there = (filtered (concerns q) (filter (matters e) (ids_of v e)) (pair r x)).0 (subst (λ is. Contains is (pair r x)) own_stay here) in
+            held_near r x ((filtered (matters e) (ids_of v e) (pair r x)).0 there.0).0 concerned;
+        linked = λ r x y h by busy. linked_before loose r x y by busy ((filtered (matters x) (ids_of after.before x) (pair r y)).0 h).0;
+      }
+
+      near_now : is_tied q ≡ false → HasLinked q (ids_around v changed.went) (seen v) e is_near
+      near_now loose = record {
+        held = λ r x h concerned. held_near r x ((filtered (matters e) (ids_of v e) (pair r x)).0 h).0 concerned;
+        linked = λ r x y h by busy. linked_now loose r x y by busy ((filtered (matters x) (ids_of v x) (pair r y)).0 h).0;
+      }
+
+      seen_alike : AreAlike (seen after.before) (seen v)
+      seen_alike = record {
+        own = own_stay;
+        above = λ r x there. unlisted_stay (matters x) (concerns_below q) x
+            (λ h.
+            let low = leans_below r x (line_chain (up r) (length (entities v)) e x there) in
+            apart (all.held low.0 e ((all.are_targets).below x low.0 h low.1) low.2));
+        held = λ tied r x there concerned. unlisted_stay (matters x) (concerns_others q) x
+            (λ h.
+            let f = (filtered (matters e) (ids_of v e) (pair r x)).0 there in
+            apart (all.held x e ((all.are_targets).among x (((all.are_targets).are_linked).others tied x h)) (holder_leans (moves_by q) e r x f.0 (and_from _ _ concerned fit))));
+        near = is_near;
+        here = itself_near;
+        all_ids = ids_around v changed.went;
+        all_first = λ x i h. around_before x i ((filtered (matters x) (ids_of after.before x) i).0 h).0;
+        all_then = λ x i h. Contains-append_left (ids_of v x) (map (λ (k : Key). k.1) changed.went) i ((filtered (matters x) (ids_of v x) i).0 h).0;
+        known = λ loose x near. unmoved_stay q (matters x) x (λ h. stays_out x near (((all.are_targets).are_linked).busy loose x h));
+        linked = λ loose. (near_before loose, near_now loose);
+        others = all_others_stay;
+      }
+
+      fit_stays : Contains (matching (view_before v changed) q) e ↔ Contains (matching (view_of v) q) e
+      fit_stays =
+          let first = match_seen after.before after.kept in
+          let middle = match_alike (seen after.before) (seen v) (seen_links after.before after.kept) (seen_links v kept_now) seen_alike in
+          let last = match_seen v kept_now in
+          let were = queries_matched_before after.before v after.command changed q after.kept after.stepped in (
+            λ h. last.1 (middle.0 (first.0 (subst (λ es. Contains es e) were h))),
+            λ h. subst (λ es. Contains es e) (sym were) (first.1 (middle.1 (last.0 h))),
+          )
 
   -- who lacks what is asked of `$this` now, and has gained and lost nothing that concerns the query, lacked it before
-  lacking_stays : (q : Query) (e : ℕ) → (Contains (entities_of (concerns q) changed) e → ⊥) → may_be_this q v e ≡ false → Contains (matching (view_before v changed) q) e ↔ Contains (matching (view_of v) q) e
+  pub lacking_stays : (q : Query) (e : ℕ) → (Contains (entities_of (concerns q) changed) e → ⊥) → may_be_this q v e ≡ false → Contains (matching (view_before v changed) q) e ↔ Contains (matching (view_of v) q) e
   lacking_stays q e none lack =
       let w = after.before in
       let p = concerns q in
@@ -403,7 +404,7 @@ module _ (v : WorldState) (changed : Changed) (kept_now : IsWellFormed v) (after
   pub stay_put : (q : Query) → IsSound q → is_followed q changed ≡ true → (es : List ℕ) → AreMoving q v changed es → (e : ℕ) → (Contains es e → ⊥)
       → Contains (matching (view_before v changed) q) e ↔ Contains (matching (view_of v) q) e
   stay_put q sound followed es all e apart = elim (cases_Bool (may_be_this q v e)) [
-    | inl fit ↦ fit_stays q sound followed es all e apart fit
+    | inl fit ↦ fit_stays q e fit sound followed es all apart
     | inr lack ↦ lacking_stays q e (λ h. apart (all.own e h)) lack
   ]
 

@@ -1,6 +1,7 @@
 -- The laws of what queries saw before a command, as statements.
-use Rattle.std.specs.Prelude.{◌≡◌, ◌↔◌, ℕ, List, true, false, Ok}
+use Rattle.std.specs.Prelude.{◌≡◌, ◌↔◌, ℕ, Bool, List, true, false, Ok}
 use Rattle.std.specs.List.{Contains}
+use Rattle.query_model.specs.declared.query.Term.{Term}
 use Rattle.query_model.specs.Query.{Query}
 use Rattle.ecs_model.specs.Command.{Changed}
 use Rattle.ecs_model.specs.World.{WorldState}
@@ -11,7 +12,10 @@ use Rattle.ecs_model.specs.traits.Keeps.{IsWellFormed}
 use Rattle.watch_touched.specs.Before.{view_before}
 use Rattle.watch_touched.specs.Concerned.{is_concerned}
 use Rattle.watch_touched.specs.Moving.{AreMoving, is_followed}
+use Rattle.watch_touched.specs.Roles.{AreMovingByRoles}
 use Rattle.query_meaning.specs.Sound.{IsSound}
+use Rattle.watch_concerns.specs.Anchored.{is_anchored}
+use Rattle.watch_concerns.specs.Roles.{is_linked_by}
 use Rattle.watch_concerns.specs.Since.{IsAfter}
 
 -- by the world after a command and what has changed, the same entities lived before with the same ids as in the world before
@@ -33,3 +37,8 @@ UnconcernedQueriesMatchOn = (v : WorldState) (changed : Changed) (q : Query) →
 abbrev pub OthersThanMovingStay : Type 0
 OthersThanMovingStay = (v : WorldState) (changed : Changed) (q : Query) → IsWellFormed v → IsAfter v changed → IsSound q → is_followed q changed ≡ true
     → (es : List ℕ) → AreMoving q v changed es → (e : ℕ) → (Contains es e → ⊥) → Contains (matching (view_before v changed) q) e ↔ Contains (matching (view_of v) q) e
+
+-- so do all others than those who may move by who may stand for a variable, of an anchored query that is linked by some terms
+abbrev pub OthersThanRolesStay : Type 0
+OthersThanRolesStay = (v : WorldState) (changed : Changed) (q : Query) → IsWellFormed v → IsAfter v changed → IsSound q → is_anchored q ≡ true → (by : ℕ → Term → Bool) → is_linked_by by q ≡ true
+    → (es : List ℕ) → AreMovingByRoles q v by changed es → (e : ℕ) → (Contains es e → ⊥) → Contains (matching (view_before v changed) q) e ↔ Contains (matching (view_of v) q) e

@@ -4,4 +4,5 @@ pub mod Bonds
 pub mod Concerned
 pub mod Leaning
 pub mod Moving
+pub mod Roles
 pub mod Laws

@@ -1,6 +1,6 @@
 //! What is proved of the definitions alone: each function's contract is a law, and its body does nothing.
 
-ghost use Rattle.watch_touched.specs.Laws.{OthersThanMovingStay, QueriesMatchedBefore, ShowsWorldBefore, UnconcernedQueriesMatchOn};
+ghost use Rattle.watch_touched.specs.Laws.{OthersThanMovingStay, OthersThanRolesStay, QueriesMatchedBefore, ShowsWorldBefore, UnconcernedQueriesMatchOn};
 
 /// Law: by the world after a command and what has changed, the same entities lived before, with the same ids, as in the world before.
 pub fn view_before_shows_the_world_before()
@@ -20,4 +20,10 @@ pub fn unconcerned_queries_match_on()
 /// Law: where all who may move in or out of a query's rows by a command can be found, all others stay where they are.
 pub fn others_than_moving_stay()
     ensures { OthersThanMovingStay }
+{}
+
+/// Law: of a linked query all stay whose own facts neither came nor went, from whom no terms lead to somebody of whom a fact came or went that is asked
+/// of him as another variable, and who are below nobody whose facts concern those below.
+pub fn others_than_those_who_may_stand_stay()
+    ensures { OthersThanRolesStay }
 {}

@@ -1,0 +1,61 @@
+-- Who may have moved in or out of a linked query's rows by facts of others: for whom those may stand of whom a fact came or went, and back from there along the terms that link its variables.
+use Rattle.std.specs.Prelude.{◌≡◌, ℕ, ◌==◌, Bool, true, not, ◌&&◌, List, ◌++◌, filter, flat_map, map}
+use Rattle.std.specs.List.{Contains}
+use Rattle.ecs_id.specs.Id.{Id}
+use Rattle.ecs_model.specs.Command.{Changed}
+use Rattle.ecs_model.specs.World.{WorldState, Key, ids_of}
+use Rattle.query_check.specs.Terms.{terms}
+use Rattle.query_model.specs.declared.query.Term.{Term}
+use Rattle.query_model.specs.Query.{Query}
+use Rattle.watch_concerns.specs.Concerns.{concerns}
+use Rattle.watch_concerns.specs.Idle.{asks_for}
+use Rattle.watch_concerns.specs.Others.{concerns_below}
+use Rattle.watch_concerns.specs.Roles.{leads_in, leads_out, may_stand}
+use Rattle.watch_touched.specs.Leaning.{HasAllBelow, concerns_beyond, leaning, moves_by, target_of}
+use Rattle.watch_touched.specs.Moving.{entities_of, ids_around, may_be_this}
+
+module _ (q : Query) (w : WorldState) (by : ℕ → Term → Bool) (changed : Changed) where
+  -- whether an entity may stand for a variable, by the ids that it holds and those of all facts that went
+  abbrev pub stands_for : ℕ → ℕ → Bool
+  stands_for u x = may_stand q (ids_around w changed.went x) u
+
+  -- whether a fact is asked of a variable besides `$this`, for which its holder may stand
+  abbrev pub is_asked_of : ℕ → Key → Bool
+  is_asked_of u k = not (u == 0) && asks_for (terms q) u k.1 && stands_for u k.0
+
+  -- ---- back from the entity of a variable to those of the variables before it
+
+  -- whether by one of its ids, a pair, a term may lead from its holder as the entity of u, for which that may stand, to the pair's target as that of v
+  abbrev pub holds_as : ℕ → ℕ → List Id → Id → Bool
+  holds_as u v ids i = leads_out by q u v i && may_stand q (ids ++ map (λ k. k.1) changed.went) u
+
+  -- those from whom one leads so to this entity
+  abbrev pub holders_as : ℕ → ℕ → ℕ → List ℕ
+  holders_as u v y = leaning (holds_as u v) w y
+
+  -- the ids that an entity holds, and those that went from it
+  abbrev pub ids_of_both : ℕ → List Id
+  ids_of_both y = ids_of w y ++ map (λ k. k.1) (filter (λ k. k.0 == y) changed.went)
+
+  -- the targets of those pairs among them by which a term may lead from the target as the entity of u, for which that may stand, to this one as that of v
+  abbrev pub targets_as : ℕ → ℕ → ℕ → List ℕ
+  targets_as u v y = filter (stands_for u) (flat_map (target_of (leads_in by q u v)) (ids_of_both y))
+
+  abbrev pub behind : ℕ → ℕ → ℕ → List ℕ
+  behind u v y = holders_as u v y ++ targets_as u v y
+
+  -- among these, each a variable and an entity that may stand for it, are those of whom a fact came or went that is asked of the variable, and with each all from whom terms lead back to it
+  pub record AreRoles (roles : List (ℕ × ℕ)) : Type 0 where
+    pub asked : (u : ℕ) (k : Key) → Contains (changed.came ++ changed.went) k → is_asked_of u k ≡ true → Contains roles (u, k.0)
+    pub closed : (u v x y : ℕ) → Contains roles (v, y) → Contains (behind u v y) x → Contains roles (u, x)
+
+  -- among these are all who may move: those whose own facts came or went; those who may stand for `$this` so, but for those who lack what is asked of it; and those who hold a pair that
+  -- concerns the query with one of whom a fact came or went that concerns those below, or with one below such
+  pub record AreMovingByRoles (es : List ℕ) : Type 0 where
+    pub own : (e : ℕ) → Contains (entities_of (concerns q) changed) e → Contains es e
+    pub roles : List (ℕ × ℕ)
+    pub are_roles : AreRoles roles
+    pub this : (e : ℕ) → Contains roles (0, e) → may_be_this q w e ≡ true → Contains es e
+    pub below : List ℕ
+    pub all_below : HasAllBelow (λ ids. concerns_beyond q) w (entities_of (concerns_below q) changed) below
+    pub held : (x e : ℕ) → Contains below x → Contains (leaning (moves_by q) w x) e → Contains es e
