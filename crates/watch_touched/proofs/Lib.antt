@@ -15,4 +15,5 @@ pub mod CountedConcerns
 pub mod CoveredConcerns
 pub mod StayingEntities
 pub mod StayingRoles
+pub mod RolesBehind
 pub mod AskedEntities

@@ -68,10 +68,10 @@ module _ (by : ℕ → Term → Bool) (q : Query) (u v : ℕ) (i : Id) where
   leads_concerned : leads_out by q u v i ≡ true → concerns q i ≡ true
   leads_concerned h = let l = leading h in by_term q l.term l.among i l.fits
 
-  leads_out_below : leads_out by q u v i ≡ true → nat_lt u v ≡ true
+  pub leads_out_below : leads_out by q u v i ≡ true → nat_lt u v ≡ true
   leads_out_below h = (leading h).below
 
-  leads_in_below : leads_in by q u v i ≡ true → nat_lt u v ≡ true
+  pub leads_in_below : leads_in by q u v i ≡ true → nat_lt u v ≡ true
   unfolding leads_in
   leads_in_below h = (and_parts _ _ h).0
 

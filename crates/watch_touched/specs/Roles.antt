@@ -1,6 +1,6 @@
 -- Who may have moved in or out of a linked query's rows by facts of others: for whom those may stand of whom a fact came or went, and back from there along the terms that link its variables.
-use Rattle.std.specs.Prelude.{◌≡◌, ℕ, ◌==◌, Bool, true, not, ◌&&◌, List, ◌++◌, filter, flat_map, map}
-use Rattle.std.specs.List.{Contains}
+use Rattle.std.specs.Prelude.{◌≡◌, ℕ, zero, suc, ◌==◌, Bool, true, not, ◌&&◌, List, [], ◌∷◌, ◌++◌, filter, flat_map, map, if◌then◌else◌}
+use Rattle.std.specs.List.{Contains, range_with_len}
 use Rattle.ecs_id.specs.Id.{Id}
 use Rattle.ecs_model.specs.Command.{Changed}
 use Rattle.ecs_model.specs.World.{WorldState, Key, ids_of}
@@ -48,6 +48,20 @@ module _ (q : Query) (w : WorldState) (by : ℕ → Term → Bool) (changed : Ch
   pub record AreRoles (roles : List (ℕ × ℕ)) : Type 0 where
     pub asked : (u : ℕ) (k : Key) → Contains (changed.came ++ changed.went) k → is_asked_of u k ≡ true → Contains roles (u, k.0)
     pub closed : (u v x y : ℕ) → Contains roles (v, y) → Contains (behind u v y) x → Contains roles (u, x)
+
+  -- ---- all of them, found back from each fact
+
+  -- an entity as that of v, and all from whom terms lead back to it, in at most so many steps
+  abbrev pub roles_behind : ℕ → ℕ → ℕ → List (ℕ × ℕ)
+  roles_behind zero v y = (v, y) ∷ []
+  roles_behind (suc n) v y = (v, y) ∷ flat_map (λ u. flat_map (roles_behind n u) (behind u v y)) (range_with_len 0 v)
+
+  -- so of the holder of a fact, as each of these variables of which that is asked
+  abbrev pub roles_of_fact : List ℕ → Key → List (ℕ × ℕ)
+  roles_of_fact us k = flat_map (λ u. if is_asked_of u k then roles_behind u u k.0 else []) us
+
+  abbrev pub roles_of : List ℕ → List (ℕ × ℕ)
+  roles_of us = flat_map (roles_of_fact us) (changed.came ++ changed.went)
 
   -- among these are all who may move: those whose own facts came or went; those who may stand for `$this` so, but for those who lack what is asked of it; and those who hold a pair that
   -- concerns the query with one of whom a fact came or went that concerns those below, or with one below such
