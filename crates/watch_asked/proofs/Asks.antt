@@ -95,7 +95,7 @@ takes_may (Var v) e = refl
 takes_may Any e = refl
 takes_may One e = refl
 
-matched : (first : Ref) (target : Option Ref) (i : Id) → matches (asked_by first target) i ≡ may_match first target i
+pub matched : (first : Ref) (target : Option Ref) (i : Id) → matches (asked_by first target) i ≡ may_match first target i
 matched first None (plain c) = takes_may first c
 matched first None (pair r t) = refl
 matched first (Some target) (plain c) = refl

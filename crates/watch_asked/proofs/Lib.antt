@@ -1,2 +1,3 @@
 pub mod IdleFromLeft
 pub mod Asks
+pub mod LinkSteps

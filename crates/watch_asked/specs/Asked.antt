@@ -1,5 +1,5 @@
 -- What a query asks, as patterns of ids.
-use Rattle.std.specs.Prelude.{◌≡◌, ℕ, ◌==◌, Bool, true, false, not, ◌&&◌, ◌||◌, List, [], ◌∷◌, ◌++◌, flat_map, map, Option, Some, None, is_some, option_map, if◌then◌else◌}
+use Rattle.std.specs.Prelude.{◌≡◌, ℕ, ◌==◌, Bool, true, false, not, ◌&&◌, ◌||◌, nat_lt, List, [], ◌∷◌, ◌++◌, flat_map, map, Option, Some, None, is_none, is_some, option_map, if◌then◌else◌}
 use Rattle.std.specs.List.{list_all, list_any}
 use Rattle.component_index.specs.Patterns.{matches}
 use Rattle.component_index.specs.declared.pattern.Part.{Part}
@@ -22,6 +22,7 @@ use Rattle.query_model.specs.Query.{Item, must, may, either, equal, differ, Piec
 use Rattle.watch_asked.specs.declared.asked.AskedOf.{AskedOf}
 use Rattle.watch_asked.specs.declared.asked.AskedTerm.{AskedTerm}
 use Rattle.watch_asked.specs.declared.asked.AskedTerms.{AskedTerms}
+use Rattle.watch_asked.specs.declared.steps.LinkStep.{LinkStep}
 
 -- what a reference may stand for, whatever variables do
 abbrev pub part_of : Ref → Part
@@ -58,6 +59,28 @@ asked_terms t = map (asked_term t) (asks_by t)
 -- what it asks the entity of a variable for
 abbrev pub asks_of : ℕ → Term → List Pattern
 asks_of v t = if is_variable v t.source then asks_by t else []
+
+-- ---- from the entities of which variables terms lead to those of which others
+
+-- by pairs that the entity of the source holds, and of which that of the target is the target: from the one of the two variables that is before the other
+abbrev pub steps_between : ℕ → ℕ → Pattern → List LinkStep
+steps_between source target p =
+    if nat_lt source target then record { from = source; to = target; asked = p; outward = true } ∷ []
+    else if nat_lt target source then record { from = target; to = source; asked = p; outward = false } ∷ [] else []
+
+abbrev pub steps_by : Ref → Option Ref → Pattern → List LinkStep
+steps_by (Var source) (Some (Var target)) p = steps_between source target p
+steps_by (Var source) (Some (Is e)) p = []
+steps_by (Var source) (Some Any) p = []
+steps_by (Var source) (Some One) p = []
+steps_by (Var source) None p = []
+steps_by (Is e) target p = []
+steps_by Any target p = []
+steps_by One target p = []
+
+-- how a term leads, that asks the entity of a variable itself
+abbrev pub steps_of : Term → List LinkStep
+steps_of t = if is_none t.up && not t.closed then steps_by t.source t.target (asked_by t.first t.target) else []
 
 -- ---- what the entity of a variable has to hold itself
 
@@ -136,6 +159,7 @@ pub record IsAskedBy {A : Type 0} (q : Query) (asked : AskedTerms A) : Type 0 wh
   pub terms : asked.terms.items ≡ flat_map asked_terms (terms_of q)
   pub this : asked.this.items ≡ needs_in_front q.pieces
   pub others : TellsIdle q asked.others.items
+  pub steps : asked.steps.items ≡ flat_map steps_of (terms_of q)
   pub met : asked.may_meet ≡ false → (ids : List Id) → meets q ids ≡ false
 
 -- whether a variable is `$this`, or its entity isn't asked for an id, or these ids lack what an item asks of it directly in the level that begins with these pieces

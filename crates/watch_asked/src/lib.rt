@@ -4,6 +4,7 @@
 mod asked;
 mod asked_id;
 mod asked_query;
+mod steps;
 
 pub use asked::AskedTerms;
 pub use asked_query::AskedQuery;
