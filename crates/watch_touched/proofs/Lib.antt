@@ -16,4 +16,5 @@ pub mod CoveredConcerns
 pub mod StayingEntities
 pub mod StayingRoles
 pub mod RolesBehind
+pub mod MovingByRoles
 pub mod AskedEntities

@@ -63,6 +63,10 @@ module _ (q : Query) (w : WorldState) (by : ℕ → Term → Bool) (changed : Ch
   abbrev pub roles_of : List ℕ → List (ℕ × ℕ)
   roles_of us = flat_map (roles_of_fact us) (changed.came ++ changed.went)
 
+  -- those of some roles that are of `$this`, but for who lacks what is asked of it
+  abbrev pub this_among : List (ℕ × ℕ) → List ℕ
+  this_among roles = filter (may_be_this q w) (map (λ k. k.1) (filter (λ k. k.0 == 0) roles))
+
   -- among these are all who may move: those whose own facts came or went; those who may stand for `$this` so, but for those who lack what is asked of it; and those who hold a pair that
   -- concerns the query with one of whom a fact came or went that concerns those below, or with one below such
   pub record AreMovingByRoles (es : List ℕ) : Type 0 where
