@@ -16,7 +16,8 @@ use Rattle.query_check.specs.Terms.{terms}
 use Rattle.watch_concerns.specs.Anchored.{is_variable}
 use Rattle.watch_concerns.specs.Concerns.{concerns, is_asked_by_all, is_pair_of, leads_up, may_be, may_match, term_concerns}
 use Rattle.watch_concerns.specs.FromLeft.{depth_behind, is_end, passes_from, piece_passes}
-use Rattle.watch_concerns.specs.Idle.{asks_for, asks_itself, is_idle, item_lacks_of}
+use Rattle.watch_concerns.specs.Bonds.{are_all_bound}
+use Rattle.watch_concerns.specs.Idle.{asks_for, asks_itself, is_idle_for, item_lacks_of}
 use Rattle.watch_concerns.specs.Others.{asks_this, concerns_below, concerns_others, says_how_far, term_concerns_below, term_concerns_others}
 use Rattle.watch_concerns.specs.OwnIds.{item_is_met, item_lacks, lacks, lacks_from as lacks_before, meets, meets_from}
 use Rattle.watch_concerns.specs.Whom.{concern_of, joined, terms_concern}
@@ -26,7 +27,7 @@ use Rattle.query_model.specs.declared.query.Ref.{Ref}
 use Rattle.query_model.specs.declared.query.Ref.TheVariants.{Is, Var, Any, One}
 use Rattle.query_model.specs.declared.query.Term.{Term}
 use Rattle.query_model.specs.Query.{Item, must, may, either, equal, differ, Piece, item, opening, closing, Query}
-use Rattle.watch_asked.specs.Asked.{any_asked, any_counts, asked_by, asked_concern, asked_term, asked_terms, asks_by, asks_of, counts, groups_idle, have_all, is_idle_from, item_needs, may_be_met, may_meet, needs_from, needs_in_front, pairs_of, part_of, piece_needs, up_asks}
+use Rattle.watch_asked.specs.Asked.{any_asked, any_counts_as, asked_by, asked_concern, asked_term, asked_terms, asks_by, asks_of, counts_as, groups_idle, have_all, is_idle_from, item_needs, may_be_met, may_meet, needs_from, needs_in_front, pairs_of, part_of, piece_needs, up_asks}
 use Rattle.watch_asked.specs.declared.asked.AskedOf.{AskedOf}
 use Rattle.watch_asked.specs.declared.asked.AskedTerm.{AskedTerm}
 use Rattle.watch_asked.proofs.IdleFromLeft.{idle_left}
@@ -170,43 +171,53 @@ module _ (v : ℕ) (ids : List Id) where
 
 -- ---- variables
 
-module _ {A : Type 0} (ts : List Term) (whole : Bool) (ps : List Piece) (ids : List Id) (i : Id) (v : ℕ) (all : List (AskedOf A)) where
+module _ {A : Type 0} (only : ℕ → Bool) (ts : List Term) (whole : Bool) (ps : List Piece) (ids : List Id) (i : Id) (v : ℕ) (all : List (AskedOf A)) where
   -- `$this` isn't judged
-  pub this_idle : v ≡ 0 → any_counts all ids i ≡ (any_counts all ids i || not (is_idle_from ts whole ps ids i v))
-  this_idle first = sym (or_false (any_counts all ids i)) ∙ ap (λ b. any_counts all ids i || not ((b || not (asks_for ts v i)) || passes_from (item_lacks_of ids v) whole 0 ps)) (sym zero_is)
+  pub this_idle : v ≡ 0 → any_counts_as only all ids i ≡ (any_counts_as only all ids i || not (is_idle_from only ts whole ps ids i v))
+  this_idle first =
+      let before = any_counts_as only all ids i in
+      sym (or_false before)
+      ∙ ap (λ b. before || not b) (sym (or_true (not (only v))))
+      ∙ ap (λ b. before || not (not (only v) || ((b || not (asks_for ts v i)) || passes_from (item_lacks_of ids v) whole 0 ps))) (sym zero_is)
     where
       zero_is : (v == 0) ≡ true
       zero_is = grind (arith, nat_tests, first)
 
   -- nor one whose entity isn't asked for anything
-  pub unasked_idle : flat_map (asks_of v) ts ≡ [] → any_counts all ids i ≡ (any_counts all ids i || not (is_idle_from ts whole ps ids i v))
+  pub unasked_idle : flat_map (asks_of v) ts ≡ [] → any_counts_as only all ids i ≡ (any_counts_as only all ids i || not (is_idle_from only ts whole ps ids i v))
   unasked_idle none =
       let asks : asks_for ts v i ≡ false = sym (all_asked v ts i) ∙ ap (λ xs. any_asked xs i) none in
-      sym (or_false (any_counts all ids i))
-      ∙ ap (λ b. any_counts all ids i || not (b || passes_from (item_lacks_of ids v) whole 0 ps)) (sym (ap (λ b. (v == 0) || not b) asks ∙ or_true (v == 0)))
+      let before = any_counts_as only all ids i in
+      sym (or_false before)
+      ∙ ap (λ b. before || not b) (sym (or_true (not (only v))))
+      ∙ ap (λ b. before || not (not (only v) || (b || passes_from (item_lacks_of ids v) whole 0 ps))) (sym (ap (λ b. (v == 0) || not b) asks ∙ or_true (v == 0)))
 
-  pub another_judged : (a : AskedOf A) (after : List (AskedOf A)) → (v == 0) ≡ false → a.asks.items ≡ flat_map (asks_of v) ts → a.needs.items ≡ needs_from v whole 0 ps → after ≡ all ++ a ∷ []
-      → any_counts after ids i ≡ (any_counts all ids i || not (is_idle_from ts whole ps ids i v))
-  another_judged a after other asks needs behind =
+  pub another_judged : (a : AskedOf A) (after : List (AskedOf A)) → a.variable ≡ v → (v == 0) ≡ false → a.asks.items ≡ flat_map (asks_of v) ts → a.needs.items ≡ needs_from v whole 0 ps → after ≡ all ++ a ∷ []
+      → any_counts_as only after ids i ≡ (any_counts_as only all ids i || not (is_idle_from only ts whole ps ids i v))
+  another_judged a after is other asks needs behind =
       let asked = ap (λ xs. any_asked xs i) asks ∙ all_asked v ts i in
       let held = ap (λ xs. have_all xs ids) needs ∙ all_needed v ids whole 0 ps in
-      let told : counts ids i a ≡ not (is_idle_from ts whole ps ids i v) =
-      (λ k. asked k && held k) ∙ asked_and_held (asks_for ts v i) (passes_from (item_lacks_of ids v) whole 0 ps) ∙ ap (λ b. not ((b || not (asks_for ts v i)) || passes_from (item_lacks_of ids v) whole 0 ps)) (sym other) in
-      ap (λ xs. any_counts xs ids i) behind
-      ∙ list_any-append (counts ids i) all (a ∷ [])
-      ∙ ap (λ b. any_counts all ids i || b) (or_false (counts ids i a) ∙ told)
+      let idle = (v == 0 || not (asks_for ts v i)) || passes_from (item_lacks_of ids v) whole 0 ps in
+      let busy : (asks_for ts v i && not (passes_from (item_lacks_of ids v) whole 0 ps)) ≡ not idle =
+      asked_and_held (asks_for ts v i) (passes_from (item_lacks_of ids v) whole 0 ps) ∙ ap (λ b. not ((b || not (asks_for ts v i)) || passes_from (item_lacks_of ids v) whole 0 ps)) (sym other) in
+      let told : counts_as only ids i a ≡ not (is_idle_from only ts whole ps ids i v) =
+      (λ k. only (is k) && (asked k && held k)) ∙ ap (λ b. only v && b) busy ∙ asked_and_held (only v) idle in
+      ap (λ xs. any_counts_as only xs ids i) behind
+      ∙ list_any-append (counts_as only ids i) all (a ∷ [])
+      ∙ ap (λ b. any_counts_as only all ids i || b) (or_false (counts_as only ids i a) ∙ told)
 
 -- ---- the whole query
 
 -- with the groups that are left, where the visible variables are judged
-pub visible_judged : (q : Query) (ts : List Term) (ps : List Piece) (n : ℕ) (ids : List Id) (i : Id) (judged : Bool) → ts ≡ terms q → ps ≡ q.pieces → n ≡ length q.variables
-    → judged ≡ list_any (λ v. not (is_idle_from ts true ps ids i v)) (range_with_len 0 n) → (judged || not (groups_idle ts ids i ps)) ≡ not (is_idle q ids i)
-visible_judged q ts ps n ids i judged asked pieces count are =
+pub visible_judged : (only : ℕ → Bool) (q : Query) (ts : List Term) (ps : List Piece) (n : ℕ) (ids : List Id) (i : Id) (judged : Bool) → ts ≡ terms q → ps ≡ q.pieces → n ≡ length q.variables
+    → judged ≡ list_any (λ v. not (is_idle_from only ts true ps ids i v)) (range_with_len 0 n)
+    → (judged || not (groups_idle only ts ids i ps)) ≡ not (are_all_bound (λ v l. not (only v) || is_idle_for ids i (terms q) v l) q)
+visible_judged only q ts ps n ids i judged asked pieces count are =
     let all = range_with_len 0 n in
-    let p = is_idle_from ts true ps ids i in
-    ap (λ b. b || not (groups_idle ts ids i ps)) (are ∙ not_all p all)
-    ∙ not_both (list_all p all) (groups_idle ts ids i ps)
-    ∙ ap not (idle_left q ts ps n ids i asked pieces count)
+    let p = is_idle_from only ts true ps ids i in
+    ap (λ b. b || not (groups_idle only ts ids i ps)) (are ∙ not_all p all)
+    ∙ not_both (list_all p all) (groups_idle only ts ids i ps)
+    ∙ ap not (idle_left only q ts ps n ids i asked pieces count)
 
 -- and where the own variables of one group more are
 pub group_judged : (before own left : Bool) → ((before || not own) || not left) ≡ (before || not (own && left))

@@ -9,10 +9,9 @@ use Rattle.ecs_model.specs.rows.Rows.{visible}
 use Rattle.query_model.specs.declared.query.Term.{Term}
 use Rattle.query_model.specs.Query.{Item, Piece, item, opening, closing, Query}
 use Rattle.query_check.specs.Terms.{terms}
-use Rattle.watch_concerns.specs.Bonds.{groups_are_bound, has_directly}
+use Rattle.watch_concerns.specs.Bonds.{are_all_bound, groups_are_bound, has_directly}
 use Rattle.watch_concerns.specs.FromLeft.{depth_behind, is_end, passes_from, piece_passes}
-use Rattle.watch_concerns.specs.Idle.{asks_for, is_idle, is_idle_for, item_lacks_of}
-use Rattle.watch_concerns.proofs.UnaskedVariables.{idle_by_variables}
+use Rattle.watch_concerns.specs.Idle.{asks_for, is_idle_for, item_lacks_of}
 use Rattle.watch_asked.specs.Asked.{groups_idle, is_idle_from}
 
 -- the level in which items count: the whole query's, or that of the group that is open, behind so many inner ones
@@ -93,27 +92,31 @@ and_assoc : (a b c : Bool) → (a && (b && c)) ≡ ((a && b) && c)
 and_assoc true b c = refl
 and_assoc false b c = refl
 
-module _ (ts : List Term) (ids : List Id) (i : Id) where
-  variable_left : (whole : Bool) (ps : List Piece) (v : ℕ) → is_idle_from ts whole ps ids i v ≡ is_idle_for ids i ts v (left whole zero (open_levels ps))
-  variable_left whole ps v = ap (λ b. (v == 0 || not (asks_for ts v i)) || b) (level_left (item_lacks_of ids v) whole zero ps)
+module _ (only : ℕ → Bool) (ts : List Term) (ids : List Id) (i : Id) where
+  -- for a variable that passes the test
+  abbrev idle_if : ℕ → Level → Bool
+  idle_if v l = not (only v) || is_idle_for ids i ts v l
+
+  variable_left : (whole : Bool) (ps : List Piece) (v : ℕ) → is_idle_from only ts whole ps ids i v ≡ idle_if v (left whole zero (open_levels ps))
+  variable_left whole ps v = ap (λ b. not (only v) || ((v == 0 || not (asks_for ts v i)) || b)) (level_left (item_lacks_of ids v) whole zero ps)
 
   -- whether the variables of the groups in a level are
   abbrev bound : Level → Bool
-  bound = groups_are_bound (is_idle_for ids i ts)
+  bound = groups_are_bound idle_if
 
   first_and_others : (ls : List Level) → list_all bound ls ≡ (bound (first_level ls) && list_all bound (other_levels ls))
   first_and_others [] = refl
   first_and_others (l ∷ ls) = refl
 
-  groups_left : (ps : List Piece) → groups_idle ts ids i ps ≡ list_all bound (open_levels ps)
+  groups_left : (ps : List Piece) → groups_idle only ts ids i ps ≡ list_all bound (open_levels ps)
   groups_left [] = refl
   groups_left (item x ∷ ps) = groups_left ps ∙ first_and_others (open_levels ps)
   groups_left (opening from_term own ∷ ps) =
       let ls = open_levels ps in
-      let owned = all_agree (is_idle_from ts false ps ids i) (λ v. is_idle_for ids i ts v (first_level ls)) (variable_left false ps) own in
+      let owned = all_agree (is_idle_from only ts false ps ids i) (λ v. idle_if v (first_level ls)) (variable_left false ps) own in
       let rest = groups_left ps ∙ first_and_others ls in
       let others = first_and_others (other_levels ls) in
-      let here = list_all (λ v. is_idle_for ids i ts v (first_level ls)) own in
+      let here = list_all (λ v. idle_if v (first_level ls)) own in
       (λ k. owned k && rest k)
       ∙ (λ k. here && (bound (first_level ls) && others k))
       ∙ and_assoc here (bound (first_level ls)) (bound (first_level (other_levels ls)) && list_all bound (other_levels (other_levels ls)))
@@ -124,7 +127,7 @@ module _ (ts : List Term) (ids : List Id) (i : Id) where
   then_groups done m = refl
   then_groups (also x l) m = then_groups l m
   then_groups (unless from_term own inner l) m =
-      let before = list_all (λ v. is_idle_for ids i ts v inner) own && bound inner in
+      let before = list_all (λ v. idle_if v inner) own && bound inner in
       ap (λ b. before && b) (then_groups l m) ∙ and_assoc before (bound l) (bound m)
 
   joined_groups : (ls : List Level) → bound (joined ls) ≡ list_all bound ls
@@ -132,12 +135,11 @@ module _ (ts : List Term) (ids : List Id) (i : Id) where
   joined_groups (l ∷ ls) = then_groups l (joined ls) ∙ ap (λ b. bound l && b) (joined_groups ls)
 
 -- by the terms and the pieces of a query, and how many visible variables it has
-pub idle_left : (q : Query) (ts : List Term) (ps : List Piece) (n : ℕ) (ids : List Id) (i : Id) → ts ≡ terms q → ps ≡ q.pieces → n ≡ length q.variables
-    → (list_all (is_idle_from ts true ps ids i) (range_with_len 0 n) && groups_idle ts ids i ps) ≡ is_idle q ids i
+pub idle_left : (only : ℕ → Bool) (q : Query) (ts : List Term) (ps : List Piece) (n : ℕ) (ids : List Id) (i : Id) → ts ≡ terms q → ps ≡ q.pieces → n ≡ length q.variables
+    → (list_all (is_idle_from only ts true ps ids i) (range_with_len 0 n) && groups_idle only ts ids i ps) ≡ are_all_bound (λ v l. not (only v) || is_idle_for ids i (terms q) v l) q
 unfolding top
-idle_left q ts ps n ids i asked pieces count =
-    let all = all_agree (is_idle_from (terms q) true q.pieces ids i) (λ v. is_idle_for ids i (terms q) v (joined (open_levels q.pieces))) (variable_left (terms q) ids i true q.pieces) (visible q) in
-    let groups = groups_left (terms q) ids i q.pieces ∙ sym (joined_groups (terms q) ids i (open_levels q.pieces)) in
-    (λ k. list_all (is_idle_from (asked k) true (pieces k) ids i) (range_with_len 0 (count k)) && groups_idle (asked k) ids i (pieces k))
+idle_left only q ts ps n ids i asked pieces count =
+    let all = all_agree (is_idle_from only (terms q) true q.pieces ids i) (λ v. idle_if only (terms q) ids i v (joined (open_levels q.pieces))) (variable_left only (terms q) ids i true q.pieces) (visible q) in
+    let groups = groups_left only (terms q) ids i q.pieces ∙ sym (joined_groups only (terms q) ids i (open_levels q.pieces)) in
+    (λ k. list_all (is_idle_from only (asked k) true (pieces k) ids i) (range_with_len 0 (count k)) && groups_idle only (asked k) ids i (pieces k))
     ∙ (λ k. all k && groups k)
-    ∙ sym (idle_by_variables q ids i)

@@ -1,3 +1,4 @@
 pub mod IdleFromLeft
 pub mod Asks
 pub mod LinkSteps
+pub mod RolesAsked

@@ -9,7 +9,8 @@ use Rattle.ecs_id.specs.Id.{Id}
 use Rattle.query_check.specs.Terms.{terms as terms_of}
 use Rattle.watch_concerns.specs.Anchored.{is_variable}
 use Rattle.watch_concerns.specs.FromLeft.{depth_behind, is_end, passes_from}
-use Rattle.watch_concerns.specs.Idle.{asks_for, asks_itself, is_idle, item_lacks_of}
+use Rattle.watch_concerns.specs.Bonds.{are_all_bound}
+use Rattle.watch_concerns.specs.Idle.{asks_for, asks_itself, is_idle_for, item_lacks_of}
 use Rattle.watch_concerns.specs.Others.{asks_this}
 use Rattle.watch_concerns.specs.OwnIds.{meets}
 use Rattle.watch_concerns.specs.declared.whom.Concern.{Concern}
@@ -150,9 +151,16 @@ counts ids i a = any_asked a.asks.items i && have_all a.needs.items ids
 abbrev pub any_counts : {A : Type 0} → List (AskedOf A) → List Id → Id → Bool
 any_counts all ids i = list_any (counts ids i) all
 
--- what is asked of whom its variables stand for tells of each fact whether it is idle
+-- and whether it is so as the entity of a variable that passes a test
+abbrev pub counts_as : {A : Type 0} → (ℕ → Bool) → List Id → Id → AskedOf A → Bool
+counts_as only ids i a = only a.variable && counts ids i a
+
+abbrev pub any_counts_as : {A : Type 0} → (ℕ → Bool) → List (AskedOf A) → List Id → Id → Bool
+any_counts_as only all ids i = list_any (counts_as only ids i) all
+
+-- what is asked of whom those of its variables stand for that pass a test tells of each fact whether it is idle for these
 abbrev pub TellsIdle : {A : Type 0} → Query → List (AskedOf A) → Type 0
-TellsIdle q others = (ids : List Id) (i : Id) → any_counts others ids i ≡ not (is_idle q ids i)
+TellsIdle q others = (only : ℕ → Bool) (ids : List Id) (i : Id) → any_counts_as only others ids i ≡ not (are_all_bound (λ v l. not (only v) || is_idle_for ids i (terms_of q) v l) q)
 
 -- what is kept is what the query asks
 pub record IsAskedBy {A : Type 0} (q : Query) (asked : AskedTerms A) : Type 0 where
@@ -162,17 +170,17 @@ pub record IsAskedBy {A : Type 0} (q : Query) (asked : AskedTerms A) : Type 0 wh
   pub steps : asked.steps.items ≡ flat_map steps_of (terms_of q)
   pub met : asked.may_meet ≡ false → (ids : List Id) → meets q ids ≡ false
 
--- whether a variable is `$this`, or its entity isn't asked for an id, or these ids lack what an item asks of it directly in the level that begins with these pieces
-abbrev pub is_idle_from : List Term → Bool → List Piece → List Id → Id → ℕ → Bool
-is_idle_from ts whole ps ids i v = (v == 0 || not (asks_for ts v i)) || passes_from (item_lacks_of ids v) whole 0 ps
+-- whether a variable doesn't pass a test, or is `$this`, or its entity isn't asked for an id, or these ids lack what an item asks of it directly in the level that begins with these pieces
+abbrev pub is_idle_from : (ℕ → Bool) → List Term → Bool → List Piece → List Id → Id → ℕ → Bool
+is_idle_from only ts whole ps ids i v = not (only v) || ((v == 0 || not (asks_for ts v i)) || passes_from (item_lacks_of ids v) whole 0 ps)
 
 -- whether the own variables of the group that a piece opens before these are
-abbrev pub group_idle : List Term → List Id → Id → Piece → List Piece → Bool
-group_idle ts ids i (item x) ps = true
-group_idle ts ids i (opening from_term own) ps = list_all (is_idle_from ts false ps ids i) own
-group_idle ts ids i closing ps = true
+abbrev pub group_idle : (ℕ → Bool) → List Term → List Id → Id → Piece → List Piece → Bool
+group_idle only ts ids i (item x) ps = true
+group_idle only ts ids i (opening from_term own) ps = list_all (is_idle_from only ts false ps ids i) own
+group_idle only ts ids i closing ps = true
 
 -- and those of each group
-abbrev pub groups_idle : List Term → List Id → Id → List Piece → Bool
-groups_idle ts ids i [] = true
-groups_idle ts ids i (p ∷ ps) = group_idle ts ids i p ps && groups_idle ts ids i ps
+abbrev pub groups_idle : (ℕ → Bool) → List Term → List Id → Id → List Piece → Bool
+groups_idle only ts ids i [] = true
+groups_idle only ts ids i (p ∷ ps) = group_idle only ts ids i p ps && groups_idle only ts ids i ps
