@@ -10,10 +10,8 @@ use Rattle.ecs_id.specs.Id.{Id, plain, pair}
 use Rattle.ecs_model.specs.Command.{Changed}
 use Rattle.ecs_model.specs.World.{WorldState, Key, entities, ids_of}
 use Rattle.ecs_model.proofs.Members.{filtered, from_flat_map, head_or_tail, in_flat_map, passing}
-use Rattle.query_check.specs.Terms.{terms}
 use Rattle.query_model.specs.declared.query.Term.{Term}
 use Rattle.query_model.specs.Query.{Query}
-use Rattle.watch_concerns.specs.Idle.{asks_for}
 use Rattle.watch_concerns.specs.Linked.{is_linked}
 use Rattle.watch_concerns.specs.Roles.{is_linked_by, leads_in}
 use Rattle.watch_touched.specs.Leaning.{leans, pairs_to, target_of}
@@ -25,7 +23,7 @@ use Rattle.watch_touched.proofs.StayingRoles.{leads_in_below, leads_out_below}
 in_range : (n u : ℕ) → u < n → Contains (range_with_len 0 n) u
 in_range n u low = (u, omega (arith, length-range_with_len 0 n), get_or-range_with_len 0 n u u low ∙ omega arith)
 
-below_range : (n u : ℕ) → Contains (range_with_len 0 n) u → u < n
+pub below_range : (n u : ℕ) → Contains (range_with_len 0 n) u → u < n
 below_range n u c =
     let k : ℕ = c.0 in
     let low : k < n = omega (arith, c.1, length-range_with_len 0 n) in
@@ -94,11 +92,10 @@ module _ (q : Query) (w : WorldState) (by : ℕ → Term → Bool) (changed : Ch
 
   -- ---- all of them
 
-  pub roles_are : (us : List ℕ) → ((u : ℕ) (i : Id) → asks_for (terms q) u i ≡ true → Contains us u) → AreRoles q w by changed (roles_of q w by changed us)
+  -- where these are the variables of which any fact is asked
+  pub roles_are : (us : List ℕ) → ((u : ℕ) (k : Key) → is_asked_of q w by changed u k ≡ true → Contains us u) → AreRoles q w by changed (roles_of q w by changed us)
   roles_are us all = record {
-    asked = λ u k c h.
-        let asks = (and_parts _ _ (and_parts _ _ h).0).1 in
-        found u k c (all u k.1 asks) (u, k.0) h (starts u u k.0);
+    asked = λ u k c h. found u k c (all u k h) (u, k.0) h (starts u u k.0);
     closed = λ u v x y c h.
         let k = from_flat_map (roles_of_fact q w by changed us) (changed.came ++ changed.went) (v, y) c in
         let l = from_flat_map (λ u. if is_asked_of q w by changed u k.0 then roles_behind q w by changed u u (k.0).0 else []) us (v, y) k.2 in
