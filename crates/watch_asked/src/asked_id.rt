@@ -1,11 +1,12 @@
 //! Patterns of ids, with the tests by which they are judged.
 
-ghost use Rattle.std.specs.Prelude.{◌≡◌, ◌++◌, map};
+ghost use Rattle.std.specs.Prelude.{◌≡◌, ◌++◌, Some, map};
 ghost use Rattle.std.specs.List.{list_any};
 ghost use Rattle.component_index.specs.Patterns.{matches};
+ghost use Rattle.component_index.specs.declared.pattern.Part.TheVariants.{Is};
 ghost use Rattle.watch_asked.specs.Asked.{any_asked, have_all};
 
-use component_index::Pattern;
+use component_index::{Part, Pattern};
 use ecs_id::Id;
 use ecs_model::FactKey;
 use plan_steps::word_test::WordTest;
@@ -35,6 +36,17 @@ impl AskedId {
     {
         let test = WordTest::of(pattern);
         AskedId { pattern, test }
+    }
+
+    /// The pairs of its relationship with this target.
+    #[inline(always)]
+    pub(crate) fn with_target(&self, target: u32) -> Pattern
+        ensures { result ≡ record { first = self.now.first; second = Some (Is target) } }
+    {
+        Pattern {
+            first: self.pattern.first,
+            second: Some(Part::Is(target)),
+        }
     }
 
     #[inline(always)]

@@ -11,7 +11,7 @@ ghost use Rattle.watch_concerns.specs.Whom.{concern_of, joined};
 ghost use Rattle.watch_asked.specs.Asked.{IsAskedBy, any_counts, asked_concern, one_concern};
 
 use crate::asked::{AskedOf, AskedTerm, AskedTerms};
-use crate::asked_id::{any_asked, have_all};
+use crate::asked_id::have_all;
 use ecs_id::Id;
 use ecs_model::FactKey;
 use ecs_model::built_ins::{REFLEXIVE, TRANSITIVE};
@@ -55,6 +55,14 @@ impl<'q, A: Allocator> AskedQuery<'q, A> {
         ensures { result ≡ query.now }
     {
         AskedQuery { query, terms }
+    }
+
+    /// What it asks, if that is kept.
+    #[inline(always)]
+    pub fn kept(&self) -> Option<&'q AskedTerms<A>>
+        ensures { IfSome result (λ terms. IsAskedBy self.now terms.now) }
+    {
+        self.terms
     }
 
     /// Whether an id concerns it.
@@ -202,7 +210,7 @@ fn any_counts<A: Allocator>(others: &[AskedOf<A>], ids: &[Id], facts: &[FactKey]
     ensures { result ≡ any_counts others.now (ids.now ++ map (λ k. k.1) facts.now) id }
 {
     for asked in others {
-        if any_asked(asked.asks.as_slice(), id) && have_all(asked.needs.as_slice(), ids, facts) {
+        if asked.counts(ids, facts, id) {
             return true;
         }
     }

@@ -6,5 +6,6 @@ mod asked_id;
 mod asked_query;
 mod steps;
 
-pub use asked::AskedTerms;
+pub use asked::{AskedOf, AskedTerms};
 pub use asked_query::AskedQuery;
+pub use steps::LinkStep;

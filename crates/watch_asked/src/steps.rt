@@ -1,10 +1,14 @@
 //! From the entities of which variables a query's terms lead to those of which others.
 
-ghost use Rattle.std.specs.Prelude.{◌≡◌, ◌++◌, IfOk, OnOk, flat_map};
+ghost use Rattle.std.specs.Prelude.{◌≡◌, ◌++◌, IfOk, OnOk, Some, flat_map};
+ghost use Rattle.component_index.specs.Patterns.{matches};
+ghost use Rattle.component_index.specs.declared.pattern.Part.TheVariants.{Is};
 ghost use Rattle.watch_asked.specs.Asked.{steps_between, steps_of};
 
 use crate::asked::asked_by;
 use crate::asked_id::AskedId;
+use component_index::Pattern;
+use ecs_id::Id;
 use query_model::query::{Ref, Term};
 use std::alloc::{AllocError, Allocator};
 
@@ -17,6 +21,46 @@ pub struct LinkStep {
     pub(crate) asked: AskedId,
     /// Whether the entity of the first variable holds the pair.
     pub(crate) outward: bool,
+}
+
+impl LinkStep {
+    #[inline(always)]
+    pub fn from(&self) -> usize
+        ensures { result ≡ self.now.from }
+    {
+        self.from
+    }
+
+    #[inline(always)]
+    pub fn to(&self) -> usize
+        ensures { result ≡ self.now.to }
+    {
+        self.to
+    }
+
+    /// Whether the entity of the first variable holds the pair.
+    #[inline(always)]
+    pub fn is_outward(&self) -> bool
+        ensures { result ≡ self.now.outward }
+    {
+        self.outward
+    }
+
+    /// Whether it may lead by an id.
+    #[inline(always)]
+    pub fn matches(&self, id: Id) -> bool
+        ensures { result ≡ matches self.now.asked id }
+    {
+        self.asked.matches(id)
+    }
+
+    /// The pairs with this target by which it may lead.
+    #[inline(always)]
+    pub fn pairs_with(&self, target: u32) -> Pattern
+        ensures { result ≡ record { first = (self.now.asked).first; second = Some (Is target) } }
+    {
+        self.asked.with_target(target)
+    }
 }
 
 /// How some terms lead from variable to variable.
