@@ -117,10 +117,11 @@ pub fn write_event<A: Allocator>(event: &Event<A>, out: &mut Vec<u8, A>) -> Resu
 {
     out.extend_from_slice(word(event.kind))?;
     out.extend_from_slice(event.watch.as_slice())?;
-    out.extend_from_slice(b" ")?;
+    out.push(b' ')?;
     out.extend_from_slice(event.entity_text.as_slice())?;
     write_event_id(event, out)?;
-    out.extend_from_slice(b"\n")
+    out.push(b'\n')?;
+    Ok(())
 }
 
 /// The word of a kind, with the space behind it.
@@ -143,7 +144,7 @@ fn write_event_id<A: Allocator>(event: &Event<A>, out: &mut Vec<u8, A>) -> Resul
     if event.id.is_none() {
         return Ok(());
     }
-    out.extend_from_slice(b" ")?;
+    out.push(b' ')?;
     out.extend_from_slice(event.id_text.as_slice())?;
     match &event.value {
         Some(value) => write_numbers(value.as_slice(), out),
