@@ -13,6 +13,7 @@ use ecs_world::{Changes, World};
 use std::alloc::{AllocError, Allocator, Global};
 use std::hash::RandomState;
 use std::marker::Model;
+use watch_events::Event;
 use watch_stored::RowsAfter;
 
 /// A world, the queries that are stored in it, and what waits to be told to them.
@@ -27,6 +28,8 @@ pub struct Session<A: Allocator = Global> {
     pub(crate) room: AskingRoom<A>,
     /// Room for the rows of monitors that a command moves.
     pub(crate) rows: Vec<(usize, RowsAfter<A>), A>,
+    /// Room for the events that are written, of one command after another.
+    pub(crate) told: Vec<Event<A>, A>,
     pub(crate) alloc: A,
 }
 
@@ -40,6 +43,7 @@ impl<A: Allocator> Drop for Session<A> {
             compared: _,
             room: _,
             rows: _,
+            told: _,
             alloc: _,
         } = self;
     }
@@ -77,6 +81,7 @@ impl<A: Allocator + Copy> Session<A> {
             compared: 0,
             room: AskingRoom::new(alloc),
             rows: Vec::new(alloc),
+            told: Vec::new(alloc),
             alloc,
         })
     }

@@ -4,6 +4,7 @@ ghost use Rattle.std.specs.Prelude.{◌≡◌, ◌+◌, ◌<◌, ◌≤◌, [], 
 ghost use Rattle.std.specs.List.{count_by, list_any};
 ghost use Rattle.std.specs.List.Sorted.{IsStrictlyIncreasing};
 ghost use Rattle.ecs_model.specs.stored.Session.{after_events, events};
+ghost use Rattle.ecs_model.specs.stored.Watches.{event_text};
 ghost use Rattle.ecs_observe.specs.Following.{lists_of};
 ghost use Rattle.ecs_observe.specs.Lists.{KeepLists};
 ghost use Rattle.ecs_observe.specs.Parts.{ArePlaced, held_of, with_all_kept};
@@ -21,9 +22,13 @@ use ecs_world::{Changes, World};
 use query_local::Touched;
 use short_list::ShortNumbers;
 use std::alloc::{AllocError, Allocator};
-use watch_events::Event;
+use std::mem;
+use watch_events::{Event, write_event};
 use watch_stored::{RowsAfter, tell_one};
 use watch_touched::touched;
+
+/// For so many events at most the session keeps the room in which they were told.
+const FEW_EVENTS: usize = 4;
 
 impl<A: Allocator + Copy> Session<A> {
     /// The events that wait, of one stored query after another in the order of making. After that none wait.
@@ -44,10 +49,54 @@ impl<A: Allocator + Copy> Session<A> {
         ensures lists { lists_of self.new ≡ lists_of self.old }
         ensures world { (self.new).world ≡ (self.old).world }
     {
-        let mut events = Vec::new(self.alloc);
+        let mut told = Vec::new(self.alloc);
+        self.tell(&mut told)?;
+        Ok(told)
+    }
+
+    /// Writes the lines of the events that wait behind what is there, in their order, as `write_event` does one. After that none wait.
+    ///
+    /// The room for few events stays with the session, so that the next command needs none. Fails where memory is refused, and then a front of the lines may
+    /// be written, or the events still wait.
+    // (out of line, so that a command after which nothing waits pays nothing for it)
+    #[inline(never)]
+    pub fn write_events(&mut self, output: &mut Vec<u8, A>) -> Result<(), AllocError>
+        ensures written { OnOk result (output.new.items ≡ output.old.items ++ flat_map event_text (events (session_of self.old))) }
+        ensures after { OnOk result (session_of self.new ≡ after_events (session_of self.old)) }
+        ensures grows { (self.old).compared ≤ (self.new).compared }
+        ensures few { (self.new).compared ≤ (self.old).compared + searched_in self.old }
+        ensures counted { OnOk result (min ((self.old).compared + taken_in self.old) 18446744073709551615 ≤ (self.new).compared) }
+        ensures lists { lists_of self.new ≡ lists_of self.old }
+        ensures world { (self.new).world ≡ (self.old).world }
+    {
+        let mut told = mem::replace(&mut self.told, Vec::new(self.alloc));
+        told.clear();
+        self.tell(&mut told)?;
+        write_all(told.as_slice(), output)?;
+        if told.len() <= FEW_EVENTS {
+            // (what stood there meanwhile holds no block, and its drop would be a call)
+            mem::forget(mem::replace(&mut self.told, told));
+        }
+        Ok(())
+    }
+
+    /// Puts the events that wait into an empty list, as `events` gives them. After that none wait.
+    fn tell(&mut self, told: &mut Vec<Event<A>, A>) -> Result<(), AllocError>
+        requires none { told.old.items ≡ [] }
+        ensures told { OnOk result (told.new.items ≡ events (session_of self.old)) }
+        ensures after { OnOk result (session_of self.new ≡ after_events (session_of self.old)) }
+        ensures refused { OnErr result (self.new ≡ self.old) }
+        ensures compared { list_any is_compared (self.old).stored ≡ false → (self.new).compared ≡ (self.old).compared }
+        ensures grows { (self.old).compared ≤ (self.new).compared }
+        ensures few { (self.new).compared ≤ (self.old).compared + searched_in self.old }
+        ensures counted { OnOk result (min ((self.old).compared + taken_in self.old) 18446744073709551615 ≤ (self.new).compared) }
+        ensures spared { has_searched self.old ≡ false → (self.new).compared ≡ (self.old).compared }
+        ensures lists { lists_of self.new ≡ lists_of self.old }
+        ensures world { (self.new).world ≡ (self.old).world }
+    {
         let mut compared = self.compared;
         let Some(changes) = &self.waiting else {
-            return Ok(events);
+            return Ok(());
         };
         self.world.keeps();
         self.rows.clear();
@@ -59,13 +108,23 @@ impl<A: Allocator + Copy> Session<A> {
             &mut self.room,
             &mut self.rows,
             &mut compared,
-            &mut events,
+            told,
         )?;
         put_rows(&mut self.stored, &mut self.rows);
         self.waiting = None;
         self.compared = compared;
-        Ok(events)
+        Ok(())
     }
+}
+
+/// Writes the lines of events.
+fn write_all<A: Allocator>(events: &[Event<A>], output: &mut Vec<u8, A>) -> Result<(), AllocError>
+    ensures { OnOk result (output.new.items ≡ output.old.items ++ flat_map event_text events.now) }
+{
+    for event in events {
+        write_event(event, output)?;
+    }
+    Ok(())
 }
 
 /// Puts what all stored queries are told behind other events, by those that the command leads to. Gives the moves of their rows, each with the

@@ -10,7 +10,7 @@ ghost use Rattle.world_script.specs.Told.{refused_text, TellsAnswer, TellsBorn, 
 
 use ecs_id::EntityId;
 use ecs_model::faults::{Refusal, SchemaFault, SessionRefusal};
-use ecs_observe::{Event, Session, SessionError, write_event};
+use ecs_observe::{Session, SessionError};
 use ecs_print::{write_handle_line, write_number};
 use query_model::faults::{Fault, FaultKind};
 use std::alloc::{AllocError, Allocator};
@@ -133,21 +133,7 @@ fn tell_events<A: Allocator + Copy>(
     if !session.has_events() {
         return Ok(());
     }
-    let events = session.events()?;
-    print_events(events.as_slice(), output)
-}
-
-/// Prints the lines of events.
-fn print_events<A: Allocator>(
-    events: &[Event<A>],
-    output: &mut Vec<u8, A>,
-) -> Result<(), AllocError>
-    ensures { OnOk result (output.new.items ≡ output.old.items ++ flat_map event_text events.now) }
-{
-    for event in events {
-        write_event(event, output)?;
-    }
-    Ok(())
+    session.write_events(output)
 }
 
 /// Prints `error LINE `.

@@ -1,6 +1,6 @@
 -- The stored query of the name is taken out and counted once less, or there is none.
 use Rattle.std.proofs.Common.{◌≡◌, false, true, refl, sym, ap, subst, ◌∙◌}
-use Rattle.std.specs.Prelude.{ℕ, List, Option, bytes_eq, filter, is_some, not}
+use Rattle.std.specs.Prelude.{ℕ, List, Option, bytes_eq, filter, is_some, map, not}
 use Rattle.ecs_model.specs.stored.Session.{unpinned_by, without_stored}
 use Rattle.query_cache.specs.Kept.{Kept}
 use Rattle.query_meaning.specs.declared.steps.Step.{Step}
@@ -10,7 +10,8 @@ use Rattle.watch_index.specs.declared.watch_order.Watcher.{Watcher}
 use Rattle.watch_stored.specs.declared.stored.StoredQuery.{StoredQuery}
 use Rattle.ecs_observe.specs.Following.{lists_of}
 use Rattle.ecs_observe.specs.Lists.{HaveLists}
-use Rattle.ecs_observe.specs.Standing.{Standing, session_of, stored_of}
+use Rattle.ecs_observe.specs.Parts.{held_of}
+use Rattle.ecs_observe.specs.Standing.{IsSession, Standing, session_of, stored_of}
 use Rattle.ecs_observe.proofs.NamedQueries.{named, none_found, some_found, waits}
 use Rattle.ecs_observe.proofs.KeptFound.{stored_there}
 use Rattle.ecs_observe.proofs.KeptLists.{lists_less}
@@ -37,6 +38,14 @@ returns-in_default-clause-answers g c =
           (stored_there c.args.self.now c.self.inside.world (entries_of c.self.inside.stored) c.self.inside.waiting c.self.inside.compared c.args.name.now (sym c.self.view_is) ∙ none),
       ap session_of
           (same_seen c.self.inside.world c.self.inside.world (entries_of c.self.inside.stored) (entries_of c.remove.new.self) c.self.inside.waiting c.self.inside.compared refl refl (ap entries_of c.in_default.ensures.none) ∙ c.self.view_is),
+    )
+
+pub invariant_of-self : goal.invariant_of-self
+invariant_of-self g c =
+    let same = ap entries_of (sym c.in_default.ensures.none) in (
+      subst (λ es. IsSession (record { world = c.self.inside.world; stored = map held_of es; waiting = c.self.inside.waiting; compared = c.self.inside.compared })) same c.self.invariant.0,
+      subst (HaveLists c.self.inside.world.tables) same c.self.invariant.1,
+      c.remove.ensures.stored,
     )
 
 pub invariant_of-self-2 : goal.invariant_of-self-2

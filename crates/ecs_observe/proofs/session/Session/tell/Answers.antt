@@ -7,10 +7,10 @@ use Rattle.watch_stored.specs.Held.{WasNow, is_compared}
 use Rattle.ecs_observe.proofs.EventEffects.{none_for, none_taken_for, none_waits_after, none_waits_told, put_told, retold_after, retold_lists, retold_session, searched_for, taken_for, told_waits}
 use Rattle.ecs_observe.proofs.StayingRows.{none_searched}
 use Rattle.ecs_observe.specs.Stored.{entries_of}
-use Rattle.ecs_observe.proofs.session.Session.events.Goals as goal
+use Rattle.ecs_observe.proofs.session.Session.tell.Goals as goal
 
 pub returns-in_default-clause-told : goal.returns-in_default-clause-told
-returns-in_default-clause-told g c = none_waits_told _ c.args.self.now c.self.view_is c.new-events.result.items c.in_default.is c.new-events.ensures.items
+returns-in_default-clause-told g c = none_waits_told _ c.args.self.now c.self.view_is c.args.told.now.items c.in_default.is c.requires.none
 
 pub returns-in_default-clause-after : goal.returns-in_default-clause-after
 returns-in_default-clause-after g c = none_waits_after _ c.args.self.now c.self.view_is c.in_default.is
@@ -30,7 +30,7 @@ invariant_of-self-2 g c = (
 
 pub returns-clause-told : goal.returns-clause-told
 returns-clause-told g c =
-    told_waits _ c.args.self.now c.self.view_is c.in-Some.changes c.new-events.result.items c.tell_led.new.events.items c.in-Some.is c.new-events.ensures.items c.in_ok-tell_led.ensures.told
+    told_waits _ c.args.self.now c.self.view_is c.in-Some.changes c.args.told.now.items c.tell_led.new.events.items c.in-Some.is c.requires.none c.in_ok-tell_led.ensures.told
 
 pub returns-clause-after : goal.returns-clause-after
 returns-clause-after g c =
