@@ -225,10 +225,11 @@ fn tell_all<A: Allocator + Copy>(
     for place in places {
         let place = *place as usize;
         if let Some((name, query)) = stored.get_index(place) {
-            let now = tell_one(
-                alloc, world, changes, touched, name, query, room, compared, events,
+            let mut after = RowsAfter::new();
+            let put = tell_one(
+                alloc, world, changes, touched, name, query, room, compared, events, &mut after,
             )?;
-            if let Some(after) = now {
+            if put {
                 rows.push((place, after))?;
             }
         }

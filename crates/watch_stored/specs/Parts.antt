@@ -1,5 +1,5 @@
 -- What is seen of the parts of a stored query.
-use Rattle.std.specs.Prelude.{ℕ, List, Option, option_map}
+use Rattle.std.specs.Prelude.{ℕ, Bool, List, Option, None, Some, if◌then◌else◌}
 use Rattle.std.specs.Option.{option_map_or}
 use Rattle.entity_set.specs.Members.{Entities, exchanged}
 use Rattle.watch_stored.specs.Held.{Held}
@@ -17,9 +17,9 @@ kept_set set left entered these = option_map_or (λ s. s) set (exchanged left en
 abbrev pub kept_rows : {A : Type 0} → RowsAfter A → Entities → Entities
 kept_rows rows these = kept_set rows.these rows.left.items rows.entered.items these
 
--- what they are, if any are put in the place of these
-abbrev pub put_in : {A : Type 0} → Option (RowsAfter A) → Entities → Option (List ℕ)
-put_in rows these = option_map (λ r. (kept_rows r these).items) rows
+-- what they are, if they are put in the place of these
+abbrev pub put_in : {A : Type 0} → Bool → RowsAfter A → Entities → Option (List ℕ)
+put_in put rows these = if put then Some (kept_rows rows these).items else None
 
 -- a stored query whose rows they are
 abbrev pub with_kept : {A : Type 0} → RowsAfter A → StoredQuery A → StoredQuery A

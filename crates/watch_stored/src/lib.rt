@@ -5,8 +5,8 @@
 //! let mut stored = stored_query(alloc, &world, kind, query, &mut compared)?;
 //!
 //! // after a command: its events, and the moves of its rows if they don't stay
-//! let moves = tell_one(alloc, &world, &changes, &touched, &name, &stored, &mut room, &mut compared, &mut events)?;
-//! if let Some(rows) = moves {
+//! let mut rows = RowsAfter::new();
+//! if tell_one(alloc, &world, &changes, &touched, &name, &stored, &mut room, &mut compared, &mut events, &mut rows)? {
 //!     stored.keep(rows);
 //! }
 //! ```

@@ -39,7 +39,7 @@ pub struct RowsAfter<A: Allocator> {
 impl<A: Allocator> RowsAfter<A> {
     /// Where nobody has left or entered.
     #[inline(always)]
-    pub(crate) fn new() -> Self
+    pub fn new() -> Self
         ensures { AreNoMoves result }
     {
         RowsAfter {

@@ -3,6 +3,7 @@
 ghost use Rattle.std.specs.Prelude.{◌≡◌, ◌+◌, ◌≤◌, ◌++◌, IfOk, OnErr, OnOk, false, min, true};
 ghost use Rattle.std.specs.String.{string_bytes};
 ghost use Rattle.ecs_print.specs.Stops.{StopsWithin};
+ghost use Rattle.watch_stored.specs.Moves.{AreNoMoves};
 ghost use Rattle.watch_stored.specs.Parts.{held_as, put_in};
 ghost use Rattle.watch_stored.specs.Held.{IsHeld, WasNow, is_compared, is_monitor, is_searched, is_taken_whole, is_told_locally, rows_put, told_to};
 ghost use Rattle.watch_stored.specs.Telling.{AreTouchedBy};
@@ -16,8 +17,8 @@ use query_local::{Touched, local_told};
 use std::alloc::{AllocError, Allocator};
 use watch_events::{Audience, Event, Moves, may_tell, tell, tell_moves};
 
-/// Puts what a stored query is told behind other events, and answers the moves of its rows, unless those that are held stay. Most observers
-/// are told nothing, which is asked first.
+/// Puts what a stored query is told behind other events, and answers whether the moves of its rows are put in the place of none: if not, those that are held stay.
+/// Most observers are told nothing, which is asked first.
 ///
 /// Fails where memory is refused, and then the first of these events may stand behind the others.
 pub fn tell_one<A: Allocator + Copy>(
@@ -30,12 +31,14 @@ pub fn tell_one<A: Allocator + Copy>(
     room: &mut AskingRoom<A>,
     compared: &mut u64,
     events: &mut Vec<Event<A>, A>,
-) -> Result<Option<RowsAfter<A>>, AllocError>
+    rows: &mut RowsAfter<A>,
+) -> Result<bool, AllocError>
     requires after { IsAfter world.now.state changes.now }
     requires held { IsHeld world.now.state (held_as (string_bytes name.now) query.now) }
     requires was { WasNow world.now.state changes.now (held_as (string_bytes name.now) query.now) }
     requires touched { is_told_locally (held_as (string_bytes name.now) query.now) ≡ true → AreTouchedBy world.now.state changes.now touched.now }
-    ensures rows { IfOk result (λ rows. put_in rows query.now.these ≡ rows_put world.now.state changes.now (held_as (string_bytes name.now) query.now)) }
+    requires none { AreNoMoves rows.old }
+    ensures rows { IfOk result (λ put. put_in put rows.new query.now.these ≡ rows_put world.now.state changes.now (held_as (string_bytes name.now) query.now)) }
     ensures told { OnOk result (events.new.items ≡ events.old.items ++ told_to world.now.state changes.now (held_as (string_bytes name.now) query.now)) }
     ensures front { OnErr result (StopsWithin events.old.items events.new.items (told_to world.now.state changes.now (held_as (string_bytes name.now) query.now))) }
     ensures compared { is_searched changes.now (held_as (string_bytes name.now) query.now) ≡ false → compared.new ≡ compared.old }
@@ -44,21 +47,23 @@ pub fn tell_one<A: Allocator + Copy>(
     ensures few { compared.new ≤ compared.old + 1 }
 {
     if !may_tell(query.kind, query.plan.query(), changes) {
-        return Ok(None);
+        return Ok(false);
     }
     if query.is_compared() {
-        return tell_compared(alloc, world, changes, name, query, room, compared, events);
+        return tell_compared(
+            alloc, world, changes, name, query, room, compared, events, rows,
+        );
     }
     if query.is_told_locally() {
         tell_locally(alloc, world, changes, touched, name, query, events)?;
     } else {
         tell_observer(alloc, world, changes, name, query, events)?;
     }
-    Ok(None)
+    Ok(false)
 }
 
-/// Puts what a monitor whose query isn't local is told behind other events, and answers the moves of its rows, unless the command doesn't
-/// concern its query. Counts the whole rows taken.
+/// Puts what a monitor whose query isn't local is told behind other events, and answers whether the moves of its rows are put in the place of none: the command
+/// concerns its query. Counts the whole rows taken.
 fn tell_compared<A: Allocator + Copy>(
     alloc: A,
     world: &World<A>,
@@ -68,12 +73,14 @@ fn tell_compared<A: Allocator + Copy>(
     room: &mut AskingRoom<A>,
     compared: &mut u64,
     events: &mut Vec<Event<A>, A>,
-) -> Result<Option<RowsAfter<A>>, AllocError>
+    rows: &mut RowsAfter<A>,
+) -> Result<bool, AllocError>
     requires after { IsAfter world.now.state changes.now }
     requires held { IsHeld world.now.state (held_as (string_bytes name.now) query.now) }
     requires was { WasNow world.now.state changes.now (held_as (string_bytes name.now) query.now) }
     requires compared { is_compared (held_as (string_bytes name.now) query.now) ≡ true }
-    ensures rows { IfOk result (λ rows. put_in rows query.now.these ≡ rows_put world.now.state changes.now (held_as (string_bytes name.now) query.now)) }
+    requires none { AreNoMoves rows.old }
+    ensures rows { IfOk result (λ put. put_in put rows.new query.now.these ≡ rows_put world.now.state changes.now (held_as (string_bytes name.now) query.now)) }
     ensures told { OnOk result (events.new.items ≡ events.old.items ++ told_to world.now.state changes.now (held_as (string_bytes name.now) query.now)) }
     ensures front { OnErr result (StopsWithin events.old.items events.new.items (told_to world.now.state changes.now (held_as (string_bytes name.now) query.now))) }
     ensures compared { is_searched changes.now (held_as (string_bytes name.now) query.now) ≡ false → compared.new ≡ compared.old }
@@ -82,16 +89,15 @@ fn tell_compared<A: Allocator + Copy>(
     ensures few { compared.new ≤ compared.old + 1 }
 {
     world.keeps();
-    let mut rows = RowsAfter::new();
-    if !rows_after(alloc, world, changes, query, room, compared, &mut rows)? {
-        return Ok(None);
+    if !rows_after(alloc, world, changes, query, room, compared, rows)? {
+        return Ok(false);
     }
     let moves = Moves {
         left: rows.left.as_slice(),
         entered: rows.entered.as_slice(),
     };
     tell_moves(alloc, world, changes, name.as_bytes(), moves, events)?;
-    Ok(Some(rows))
+    Ok(true)
 }
 
 /// Puts what an event observer is told behind other events.

@@ -14,7 +14,7 @@ use Rattle.ecs_observe.proofs.EventEffects.{ArePlacedUpTo, all_at, all_placed, h
 use Rattle.ecs_observe.proofs.PassedPlaces.{begin, put_here, told_all, told_none}
 use Rattle.ecs_observe.proofs.UnconcernedQueries.{others_silent}
 use Rattle.ecs_observe.proofs.telling.tell_all.Goals as goal
-use Rattle.ecs_observe.proofs.telling.tell_all.Goals.{in-Some+in_ok-now+in-Some-now+in_ok-push, in-Some+in_ok-now+in_default-now, in_default}
+use Rattle.ecs_observe.proofs.telling.tell_all.Goals.{in-Some+in_ok-put+then-put+in_ok-push, in-Some+in_ok-put+else-put+in-None-1, in-Some+in_ok-put+else-put+in-Some-1, in_default}
 
 pub loop-place-init : goal.loop-place-init
 loop-place-init g c =
@@ -44,14 +44,14 @@ pub tell_one-requires-clause-touched : goal.tell_one-requires-clause-touched
 tell_one-requires-clause-touched g c = λ e.
     c.requires.touched (one_told_locally (entries_of c.args.stored.now) c.args.places.now c.loop-place.place-index 0 c.in-Some.name.now c.in-Some.query.now (omega arith) c.in-Some.ensures.entry e)
 
-pub returns-in_err-now-clause-compared : goal.returns-in_err-now-clause-compared
-returns-in_err-now-clause-compared g c = λ none.
+pub returns-in_err-put-clause-compared : goal.returns-in_err-put-clause-compared
+returns-in_err-put-clause-compared g c = λ none.
     c.tell_one.ensures.compared (none_at (entries_of c.args.stored.now) _ c.in-Some.name.now c.in-Some.query.now c.in-Some.ensures.entry (is_searched c.args.changes.now) none)
     ∙ c.loop-place.invariant.compared none
 
 pub returns-in_err-push-clause-compared : goal.returns-in_err-push-clause-compared
 returns-in_err-push-clause-compared g c = λ none.
-    c.in_ok-now.ensures.compared (none_at (entries_of c.args.stored.now) _ c.in-Some.name.now c.in-Some.query.now c.in-Some.ensures.entry (is_searched c.args.changes.now) none)
+    c.in_ok-put.ensures.compared (none_at (entries_of c.args.stored.now) _ c.in-Some.name.now c.in-Some.query.now c.in-Some.ensures.entry (is_searched c.args.changes.now) none)
     ∙ c.loop-place.invariant.compared none
 
 pub loop-place-preserved : goal.loop-place-preserved
@@ -77,41 +77,59 @@ loop-place-preserved g c =
     let before = c.loop-place.compared in
     let after = c.match-get_index.compared in
     elim c.match-get_index.branch [
-      | in-Some+in_ok-now+in-Some-now+in_ok-push b ↦
+      | in-Some+in_ok-put+then-put+in_ok-push b ↦
           let q = b.in-Some.query.now in
           let one = held_as (string_bytes b.in-Some.name.now) q in
           let there = held_at es p b.in-Some.name.now q b.in-Some.ensures.entry in
-          let few : after ≤ before + 1 = omega (arith, b.compared-is, b.in_ok-now.ensures.few) in
-          let grows : before ≤ after = omega (arith, b.compared-is, b.in_ok-now.ensures.grows) in
+          let few : after ≤ before + 1 = omega (arith, b.compared-is, b.in_ok-put.ensures.few) in
+          let grows : before ≤ after = omega (arith, b.compared-is, b.in_ok-put.ensures.grows) in
           record {
             told = here one there held_low c.loop-place.events.items (c.loop-place.rows.items, before) c.loop-place.invariant.told c.match-get_index.events.items (c.match-get_index.rows.items, after)
-                (ap (λ v. v.items) b.events-is ∙ b.in_ok-now.ensures.told)
+                (ap (λ v. v.items) b.events-is ∙ b.in_ok-put.ensures.told)
                 (λ so. (
-                  one_placed put es p c.loop-place.rows.items c.match-get_index.rows.items so.0 (b.in-Some.name.now, q) b.in-Some-now.after b.in-Some.ensures.entry
-                      (sym b.in_ok-now.ensures.rows ∙ ap (λ o. put_in o q.these) b.in-Some-now.is) (ap (λ v. v.items) b.rows-is ∙ b.in_ok-push.ensures.items),
-                  one_more searched taken hs counted p before after one there grows few (λ spared. b.compared-is ∙ b.in_ok-now.ensures.compared spared) (λ whole. b.compared-is ∙ b.in_ok-now.ensures.counted whole) so.1,
+                  one_placed put es p c.loop-place.rows.items c.match-get_index.rows.items so.0 (b.in-Some.name.now, q) b.tell_one.new.rows b.in-Some.ensures.entry
+                      (sym b.in_ok-put.ensures.rows ∙ ap (λ o. put_in o b.tell_one.new.rows q.these) b.if-put.true) (ap (λ v. v.items) b.rows-is ∙ b.in_ok-push.ensures.items),
+                  one_more searched taken hs counted p before after one there grows few (λ spared. b.compared-is ∙ b.in_ok-put.ensures.compared spared) (λ whole. b.compared-is ∙ b.in_ok-put.ensures.counted whole) so.1,
                 ));
             compared = λ none. b.compared-is
-                ∙ (b.in_ok-now.ensures.compared (none_at es p b.in-Some.name.now q b.in-Some.ensures.entry (is_searched changed) none) ∙ c.loop-place.invariant.compared none);
-            grows = omega (arith, b.compared-is, b.in_ok-now.ensures.grows, c.loop-place.invariant.grows);
+                ∙ (b.in_ok-put.ensures.compared (none_at es p b.in-Some.name.now q b.in-Some.ensures.entry (is_searched changed) none) ∙ c.loop-place.invariant.compared none);
+            grows = omega (arith, b.compared-is, b.in_ok-put.ensures.grows, c.loop-place.invariant.grows);
           }
-      | in-Some+in_ok-now+in_default-now b ↦
+      | in-Some+in_ok-put+else-put+in-None-1 b ↦
           let q = b.in-Some.query.now in
           let one = held_as (string_bytes b.in-Some.name.now) q in
           let there = held_at es p b.in-Some.name.now q b.in-Some.ensures.entry in
-          let few : after ≤ before + 1 = omega (arith, b.compared-is, b.in_ok-now.ensures.few) in
-          let grows : before ≤ after = omega (arith, b.compared-is, b.in_ok-now.ensures.grows) in
+          let few : after ≤ before + 1 = omega (arith, b.compared-is, b.in_ok-put.ensures.few) in
+          let grows : before ≤ after = omega (arith, b.compared-is, b.in_ok-put.ensures.grows) in
           record {
             told = here one there held_low c.loop-place.events.items (c.loop-place.rows.items, before) c.loop-place.invariant.told c.match-get_index.events.items (c.match-get_index.rows.items, after)
-                (ap (λ v. v.items) b.events-is ∙ b.in_ok-now.ensures.told)
+                (ap (λ v. v.items) b.events-is ∙ b.in_ok-put.ensures.told)
                 (λ so. (
                   subst (ArePlacedUpTo put es (p + 1)) (sym (ap (λ v. v.items) b.rows-is))
-                      (none_put_there put es p c.loop-place.rows.items one so.0 there (sym b.in_ok-now.ensures.rows ∙ ap (λ o. put_in o q.these) b.in_default-now.is)),
-                  one_more searched taken hs counted p before after one there grows few (λ spared. b.compared-is ∙ b.in_ok-now.ensures.compared spared) (λ whole. b.compared-is ∙ b.in_ok-now.ensures.counted whole) so.1,
+                      (none_put_there put es p c.loop-place.rows.items one so.0 there (sym b.in_ok-put.ensures.rows ∙ ap (λ o. put_in o b.tell_one.new.rows q.these) b.if-put.false)),
+                  one_more searched taken hs counted p before after one there grows few (λ spared. b.compared-is ∙ b.in_ok-put.ensures.compared spared) (λ whole. b.compared-is ∙ b.in_ok-put.ensures.counted whole) so.1,
                 ));
             compared = λ none. b.compared-is
-                ∙ (b.in_ok-now.ensures.compared (none_at es p b.in-Some.name.now q b.in-Some.ensures.entry (is_searched changed) none) ∙ c.loop-place.invariant.compared none);
-            grows = omega (arith, b.compared-is, b.in_ok-now.ensures.grows, c.loop-place.invariant.grows);
+                ∙ (b.in_ok-put.ensures.compared (none_at es p b.in-Some.name.now q b.in-Some.ensures.entry (is_searched changed) none) ∙ c.loop-place.invariant.compared none);
+            grows = omega (arith, b.compared-is, b.in_ok-put.ensures.grows, c.loop-place.invariant.grows);
+          }
+      | in-Some+in_ok-put+else-put+in-Some-1 b ↦
+          let q = b.in-Some.query.now in
+          let one = held_as (string_bytes b.in-Some.name.now) q in
+          let there = held_at es p b.in-Some.name.now q b.in-Some.ensures.entry in
+          let few : after ≤ before + 1 = omega (arith, b.compared-is, b.in_ok-put.ensures.few) in
+          let grows : before ≤ after = omega (arith, b.compared-is, b.in_ok-put.ensures.grows) in
+          record {
+            told = here one there held_low c.loop-place.events.items (c.loop-place.rows.items, before) c.loop-place.invariant.told c.match-get_index.events.items (c.match-get_index.rows.items, after)
+                (ap (λ v. v.items) b.events-is ∙ b.in_ok-put.ensures.told)
+                (λ so. (
+                  subst (ArePlacedUpTo put es (p + 1)) (sym (ap (λ v. v.items) b.rows-is))
+                      (none_put_there put es p c.loop-place.rows.items one so.0 there (sym b.in_ok-put.ensures.rows ∙ ap (λ o. put_in o b.tell_one.new.rows q.these) b.if-put.false)),
+                  one_more searched taken hs counted p before after one there grows few (λ spared. b.compared-is ∙ b.in_ok-put.ensures.compared spared) (λ whole. b.compared-is ∙ b.in_ok-put.ensures.counted whole) so.1,
+                ));
+            compared = λ none. b.compared-is
+                ∙ (b.in_ok-put.ensures.compared (none_at es p b.in-Some.name.now q b.in-Some.ensures.entry (is_searched changed) none) ∙ c.loop-place.invariant.compared none);
+            grows = omega (arith, b.compared-is, b.in_ok-put.ensures.grows, c.loop-place.invariant.grows);
           }
       | in_default b ↦ absurd (true≢false (sym (c.get_index.ensures.found.1 low) ∙ ap is_some b.in_default.is))
     ]

@@ -37,8 +37,14 @@ returns-then-not-may_tell-clause-counted g c = λ whole.
     let untold = ap (may_tell changed h.kind) (sym c.query.ensures) ∙ (sym c.may_tell.ensures.may ∙ c.if-not-may_tell.true) in
     absurd (spared_isnt_taken changed h (isnt_searched changed h (untold_isnt changed h untold)) whole)
 
-pub returns-clause-counted : goal.returns-clause-counted
-returns-clause-counted g c = λ whole.
+pub returns-in_ok-tell_locally-clause-counted : goal.returns-in_ok-tell_locally-clause-counted
+returns-in_ok-tell_locally-clause-counted g c = λ whole.
+    let changed = c.args.changes.now in
+    let h = held_as (string_bytes c.args.name.now) c.args.query.now in
+    absurd (spared_isnt_taken changed h (isnt_searched changed h (sym c.is_compared.ensures ∙ c.if-is_compared.false)) whole)
+
+pub returns-in_ok-tell_observer-clause-counted : goal.returns-in_ok-tell_observer-clause-counted
+returns-in_ok-tell_observer-clause-counted g c = λ whole.
     let changed = c.args.changes.now in
     let h = held_as (string_bytes c.args.name.now) c.args.query.now in
     absurd (spared_isnt_taken changed h (isnt_searched changed h (sym c.is_compared.ensures ∙ c.if-is_compared.false)) whole)
@@ -50,8 +56,14 @@ returns-in_err-tell_locally-clause-front g c = on_err_anyway _ c.in_err-tell_loc
 pub returns-in_err-tell_observer-clause-front : goal.returns-in_err-tell_observer-clause-front
 returns-in_err-tell_observer-clause-front g c = on_err_anyway _ c.in_err-tell_observer.ensures.front
 
-pub returns-clause-rows : goal.returns-clause-rows
-returns-clause-rows g c =
+pub returns-in_ok-tell_locally-clause-rows : goal.returns-in_ok-tell_locally-clause-rows
+returns-in_ok-tell_locally-clause-rows g c =
+    let changed = c.args.changes.now in
+    let h = held_as (string_bytes c.args.name.now) c.args.query.now in
+    none_put c.args.world.now.state changed h (isnt_searched changed h (sym c.is_compared.ensures ∙ c.if-is_compared.false))
+
+pub returns-in_ok-tell_observer-clause-rows : goal.returns-in_ok-tell_observer-clause-rows
+returns-in_ok-tell_observer-clause-rows g c =
     let changed = c.args.changes.now in
     let h = held_as (string_bytes c.args.name.now) c.args.query.now in
     none_put c.args.world.now.state changed h (isnt_searched changed h (sym c.is_compared.ensures ∙ c.if-is_compared.false))
