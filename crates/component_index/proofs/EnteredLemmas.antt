@@ -6,6 +6,7 @@ use Rattle.std.specs.Map.{lookup}
 use Rattle.std.specs.HashMap.{HashMap, get}
 use Rattle.std.specs.List.{list_any, IsDistinct}
 use Rattle.std.specs.FinMap as finite
+use Rattle.std.proofs.lemmas.Bool.{and_parts}
 use Rattle.std.proofs.lemmas.Cmp.{eq_by_cmp_equiv}
 use Rattle.std.proofs.lemmas.Map.Views.{list_any-from_Contains, Contains-from_any}
 use Rattle.ecs_id.specs.Id.{Id}
@@ -13,11 +14,12 @@ use Rattle.ecs_id.specs.declared.TableKey.{TableKey}
 use Rattle.component_index.specs.declared.pattern.Pattern.{Pattern}
 use Rattle.component_index.specs.Patterns.{matches}
 use Rattle.component_index.specs.Entered.{Entered, IsMatched, table_cmp, table_eq, table_cmp_total, eq_by-table_cmp, same_table}
-use Rattle.component_index.specs.Listed.{is_listed, is_matched, Adds, Drops, AreListed, IsNewest}
+use Rattle.component_index.specs.Listed.{is_listed, is_matched, Adds, Drops, AreListed, IsNewest, Keeps as KeepsOthers}
 use Rattle.component_index.specs.Mentions.{AreMarked, Keeps, may_match}
 use Rattle.component_index.specs.TableList.{has}
 use Rattle.component_index.specs.SamePattern.{pattern_eq}
 use Rattle.component_index.proofs.MentionLemmas.{match_kept}
+use Rattle.component_index.proofs.ListedLemmas.{and_all}
 use Rattle.component_index.proofs.TableLemmas.{table_eq_equiv}
 
 -- ---- the lists beside it
@@ -78,6 +80,20 @@ module _ {S : Type 0} (old new : HashMap Pattern (List TableKey) S) (was is : En
       ∙ leave_at (table_eq key k) (list_any (matches p) ids) (is_listed old p k) (λ e. right_at p k ∙ here tables key (Some ids) had p k e)
       ∙ (λ i. cond (table_eq key k) false (right_at p k i)) ∙ sym (matched-remove tables key p k)
       ∙ (λ i. is_matched (finite.remove (sym view i) key) p k) ∙ ap (λ t. is_matched t p k) (sym changed)
+
+none_and : (b : Bool) → (b && false) ≡ false
+none_and true = refl
+none_and false = refl
+
+-- the lists are right again once a table that couldn't be entered is taken out of those that had taken it
+module _ {S : Type 0} (old mid new : HashMap Pattern (List TableKey) S) (was : Entered) (right : AreListed was old) (tables : Entered) (view : was ≡ tables) (key : TableKey) (ids : List Id) where
+  pub AreListed-refused : finite.get tables key ≡ None → KeepsOthers old mid (λ p. list_any (matches p) ids) key → Drops mid new (λ p. list_any (matches p) ids) key → AreListed was new
+  AreListed-refused none keeps drops p k = by (list_any (matches p) ids && table_eq key k) refl
+    where
+      by : (b : Bool) → (list_any (matches p) ids && table_eq key k) ≡ b → is_listed new p k ≡ is_matched was p k
+      by true e = drops p k ∙ (λ i. is_listed mid p k && not (e i)) ∙ none_and (is_listed mid p k)
+          ∙ sym (ap (λ t. is_matched t p k) view ∙ here tables key None none p k (and_parts (list_any (matches p) ids) (table_eq key k) e).1)
+      by false e = drops p k ∙ (λ i. is_listed mid p k && not (e i)) ∙ sym (and_all (is_listed mid p k)) ∙ keeps p k e ∙ right p k
 
 -- no list has a table that isn't entered
 unwrapped_has : (o : Option (List TableKey)) (k : TableKey) → has (unwrap_or o []) k ≡ option_map_or (λ list. has list k) o false

@@ -8,6 +8,7 @@ use Rattle.std.proofs.lemmas.Bool.Decides.{Decides-ltb}
 use Rattle.std.proofs.lemmas.Bool.{ltb-false, not-false}
 use Rattle.std.proofs.lemmas.Cmp.{eq_by_cmp_equiv}
 use Rattle.std.proofs.Math.Seq.{get_or-append_seam}
+use Rattle.std.proofs.lemmas.List.{get_or_default}
 use Rattle.std.proofs.lemmas.Option.{get_or_from_slice_get, slice_get-get_or, slice_get_within}
 use Rattle.std.proofs.lemmas.List.Folds.{list_any_at, list_any-append}
 use Rattle.std.proofs.lemmas.List.Sorted.{IsPermutation-swap_remove, list_any-IsPermutation}
@@ -43,6 +44,12 @@ kept ks key h = λ i. cond (sym h i) ks (ks ++ key ∷ [])
 
 pub put : (ks : List TableKey) (key : TableKey) → has ks key ≡ false → ks ++ key ∷ [] ≡ insert_key table_eq ks key
 put ks key h = λ i. cond (sym h i) ks (ks ++ key ∷ [])
+
+-- the only item of a list
+pub only_item : (ks : List TableKey) (x : TableKey) → length ks ≡ 1 → x ≡ get_or ks 0 x → ks ≡ x ∷ []
+only_item [] x one is = absurd (omega arith)
+only_item (y ∷ []) x one is = λ i. sym is i ∷ []
+only_item (y ∷ z ∷ ks) x one is = absurd (omega arith)
 
 in_or : (a b : Bool) → (a || (b || false)) ≡ cond b true a
 in_or true true = refl
@@ -124,6 +131,10 @@ module _ (key : TableKey) (ks : List TableKey) where
       by : (b : Bool) → nat_lt place (length ks) ≡ b → cond b (Some place) None ≡ None → has ks key ≡ false
       by true w e = absurd (cc)
       by false w e = none_passes (table_eq key) ks (λ k d below. fails_before_first (table_eq key) ks k d (omega (arith, ltb-false place (length ks) w)))
+
+  -- a key that is read at a place stands there
+  pub IsPlace-at : (i : ℕ) (x : TableKey) → i < length ks → x ≡ get_or ks i x → table_eq key x ≡ true → IsPlace ks key (Some i)
+  IsPlace-at i x within is h = (within, λ d. ap (table_eq key) (get_or_default ks i d x within ∙ sym is) ∙ h)
 
   -- what a search finds is where the table stands
   pub IsPlace-position : IsPlace ks key (position (table_eq key) ks)

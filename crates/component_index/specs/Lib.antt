@@ -1,5 +1,6 @@
 pub mod Changed
 pub mod Entered
+pub mod Halves
 pub mod Listed
 pub mod Listings
 pub mod Mentions

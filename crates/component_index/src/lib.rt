@@ -9,6 +9,7 @@ ghost use Rattle.component_index.specs.Entered.{table_eq, IsMatched};
 ghost use Rattle.component_index.specs.Listings.{listed_in, ListsEntered};
 ghost use Rattle.component_index.specs.declared.pattern.Pattern.{Pattern as Asked};
 
+mod listed_key;
 mod listings;
 mod lists;
 mod mentions;
@@ -23,6 +24,7 @@ use crate::places::Places;
 use crate::register::{Change, Register};
 use ecs_id::{Id, TableKey};
 use indexmap::IndexMap;
+pub use listed_key::ListedKey;
 pub use listings::Listings;
 pub use pattern::{Part, Pattern};
 use secret_hashing::Hashing;
@@ -75,16 +77,20 @@ impl<A: Allocator + Copy> ComponentIndex<A> {
 
     /// Enters a table that isn't entered, with its ids.
     ///
-    /// Where memory is refused, the index is as it was.
+    /// Where memory is refused, the index is as it was. So it is refused to a table whose serial is 2^64 or more, which takes more bits than lists
+    /// have for it: nobody can make so many tables.
     pub fn enter(&mut self, key: TableKey, ids: &[Id]) -> Result<(), AllocError>
         requires { finite.get self.old key ≡ None }
         ensures entered { OnOk result (self.new ≡ finite.insert self.old key ids.now) }
         ensures refused { OnErr result (self.new ≡ self.old) }
     {
+        let Some(listed) = ListedKey::of(key) else {
+            return Err(AllocError);
+        };
         note_all(&mut self.mentioned, ids)?;
-        if let Err(error) = list_all(&mut self.lists, &mut self.places, ids, key) {
+        if let Err(error) = list_all(&mut self.lists, &mut self.places, ids, listed) {
             unlist_all(&mut self.lists, &mut self.places, ids, key);
-            self.places.forget(key);
+            self.places.forget(key.slot);
             return Err(error);
         }
         self.entered = self.entered.after(&Change::Enters(key, ids));
@@ -94,7 +100,7 @@ impl<A: Allocator + Copy> ComponentIndex<A> {
 
 impl<A: Allocator> ComponentIndex<A> {
     /// The entered tables that have an id that the pattern matches, each once and in no order that is told.
-    pub fn tables_of(&self, pattern: Pattern) -> &[TableKey]
+    pub fn tables_of(&self, pattern: Pattern) -> &[ListedKey]
         ensures listed { (key : TableKey) → Contains result.now key ↔ IsMatched self.now pattern key }
         ensures once { IsDistinct table_eq result.now }
     {
@@ -115,7 +121,7 @@ impl<A: Allocator> ComponentIndex<A> {
         ensures left { self.new ≡ finite.remove self.old key }
     {
         unlist_all(&mut self.lists, &mut self.places, ids, key);
-        self.places.forget(key);
+        self.places.forget(key.slot);
         self.entered = self.entered.after(&Change::Leaves(key));
     }
 }

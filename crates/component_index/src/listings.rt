@@ -5,10 +5,10 @@ ghost use Rattle.component_index.specs.Entered.{table_eq};
 ghost use Rattle.component_index.specs.Listings.{listed_in, lists_of};
 ghost use Rattle.component_index.specs.Mentions.{MayBeListed};
 
+use crate::listed_key::ListedKey;
 use crate::lists::Lists;
 use crate::mentions::{Marks, may_match};
 use crate::pattern::Pattern;
-use ecs_id::TableKey;
 use std::alloc::Allocator;
 use std::marker::Model;
 
@@ -39,7 +39,7 @@ impl<'a, A: Allocator> Listings<'a, A> {
     }
 
     /// The tables that are listed for a pattern, each once.
-    pub fn tables_of(&self, pattern: Pattern) -> &'a [TableKey]
+    pub fn tables_of(&self, pattern: Pattern) -> &'a [ListedKey]
         ensures listed { result.now ≡ listed_in self.now pattern }
         ensures once { IsDistinct table_eq result.now }
     {

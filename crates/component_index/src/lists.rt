@@ -6,6 +6,7 @@ ghost use Rattle.component_index.specs.Patterns.{matches, matches_some};
 ghost use Rattle.component_index.specs.SamePattern.{pattern_eq};
 ghost use Rattle.component_index.specs.Listed.{is_among, is_new, patterns_of, Adds, Drops, IsNewest, Keeps};
 
+use crate::listed_key::ListedKey;
 use crate::pattern::{Part, Pattern};
 use crate::places::Places;
 use crate::table_list::TableList;
@@ -22,7 +23,7 @@ fn list<A: Allocator + Copy>(
     lists: &mut Lists<A>,
     places: &mut Places<A>,
     pattern: &Pattern,
-    key: TableKey,
+    key: ListedKey,
 ) -> Result<(), AllocError>
     requires { IsNewest lists.old key }
     ensures listed { OnOk result (Adds lists.old lists.new (pattern_eq pattern.now) key) }
@@ -62,7 +63,7 @@ fn list_new<A: Allocator + Copy>(
     places: &mut Places<A>,
     before: &Option<Id>,
     pattern: &Pattern,
-    key: TableKey,
+    key: ListedKey,
 ) -> Result<(), AllocError>
     requires { IsNewest lists.old key }
     ensures listed { OnOk result (Adds lists.old lists.new (λ p. pattern_eq pattern.now p && not (matches_some p before.now)) key) }
@@ -80,7 +81,7 @@ fn list_each<A: Allocator + Copy>(
     places: &mut Places<A>,
     before: &Option<Id>,
     patterns: &[Pattern],
-    key: TableKey,
+    key: ListedKey,
 ) -> Result<(), AllocError>
     requires { IsNewest lists.old key }
     ensures listed { OnOk result (Adds lists.old lists.new (λ p. is_among patterns.now p && not (matches_some p before.now)) key) }
@@ -128,7 +129,7 @@ fn list_id<A: Allocator + Copy>(
     places: &mut Places<A>,
     before: &Option<Id>,
     id: Id,
-    key: TableKey,
+    key: ListedKey,
 ) -> Result<(), AllocError>
     requires { IsNewest lists.old key }
     ensures listed { OnOk result (Adds lists.old lists.new (is_new before.now id) key) }
@@ -162,7 +163,7 @@ pub fn list_all<A: Allocator + Copy>(
     lists: &mut Lists<A>,
     places: &mut Places<A>,
     ids: &[Id],
-    key: TableKey,
+    key: ListedKey,
 ) -> Result<(), AllocError>
     requires { IsNewest lists.old key }
     ensures listed { OnOk result (Adds lists.old lists.new (λ pattern. list_any (matches pattern) ids.now) key) }

@@ -1,5 +1,4 @@
 //! Where tables stand in long lists.
-use ecs_id::TableKey;
 use std::alloc::{AllocError, Allocator};
 
 // How many places of tables that are gone are kept at least before those of the others move together.
@@ -53,19 +52,19 @@ impl<A: Allocator> Places<A> {
         }
     }
 
-    /// Notes where a table that enters stands in a list.
-    pub fn note(&mut self, key: TableKey, word: u64, at: usize) -> Result<(), AllocError> {
-        let slot = key.slot as usize;
-        while self.by_slot.len() <= slot {
+    /// Notes where the table of a slot, which enters, stands in a list.
+    pub fn note(&mut self, slot: u32, word: u64, at: usize) -> Result<(), AllocError> {
+        let index = slot as usize;
+        while self.by_slot.len() <= index {
             self.by_slot.push(NONE)?;
         }
         let start = self.places.len();
         self.places.push(Place {
             word,
             at: u32::try_from(at).unwrap_or(u32::MAX),
-            slot: key.slot,
+            slot,
         })?;
-        let range = &mut self.by_slot[slot];
+        let range = &mut self.by_slot[index];
         if range.count == 0 {
             range.start = start;
         }
@@ -73,9 +72,9 @@ impl<A: Allocator> Places<A> {
         Ok(())
     }
 
-    /// Where the table that leaves was noted to stand in a list. Lists are asked for in the order in which they were noted.
-    pub fn next(&mut self, key: TableKey, word: u64) -> Option<usize> {
-        let range = *self.by_slot.get(key.slot as usize)?;
+    /// Where the table of a slot, which leaves, was noted to stand in a list. Lists are asked for in the order in which they were noted.
+    pub fn next(&mut self, slot: u32, word: u64) -> Option<usize> {
+        let range = *self.by_slot.get(slot as usize)?;
         for passed in self.passed..range.count {
             let place = self.places.get(range.start.saturating_add(passed))?;
             if place.word == word {
@@ -86,9 +85,9 @@ impl<A: Allocator> Places<A> {
         None
     }
 
-    /// Notes the new place of a table in a list, where it had one.
-    pub fn moved(&mut self, key: TableKey, word: u64, at: usize) {
-        let range = self.range_of(key);
+    /// Notes the new place of the table of a slot in a list, where it had one.
+    pub fn moved(&mut self, slot: u32, word: u64, at: usize) {
+        let range = self.range_of(slot);
         for index in 0..range.count {
             match self.places.get_mut(range.start.saturating_add(index)) {
                 Some(place) if place.word == word => {
@@ -100,16 +99,16 @@ impl<A: Allocator> Places<A> {
         }
     }
 
-    /// Forgets the places of a table that has left its lists.
-    pub fn forget(&mut self, key: TableKey) {
+    /// Forgets the places of the table of a slot, which has left its lists.
+    pub fn forget(&mut self, slot: u32) {
         self.passed = 0;
-        let range = self.range_of(key);
+        let range = self.range_of(slot);
         for index in 0..range.count {
             if let Some(place) = self.places.get_mut(range.start.saturating_add(index)) {
                 place.slot = NO_SLOT;
             }
         }
-        self.set_range(key.slot, NONE);
+        self.set_range(slot, NONE);
         self.gone = self.gone.saturating_add(range.count);
         if self.gone > SPARE && self.gone > self.places.len() / 2 {
             self.close_up();
@@ -136,8 +135,8 @@ impl<A: Allocator> Places<A> {
         self.gone = 0;
     }
 
-    fn range_of(&self, key: TableKey) -> Range {
-        match self.by_slot.get(key.slot as usize) {
+    fn range_of(&self, slot: u32) -> Range {
+        match self.by_slot.get(slot as usize) {
             Some(range) => *range,
             None => NONE,
         }

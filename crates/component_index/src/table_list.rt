@@ -6,9 +6,10 @@ ghost use Rattle.component_index.specs.Entered.{table_eq};
 ghost use Rattle.component_index.specs.TableList.{IsNewOrLast, IsPlace, Loses, is_last};
 ghost use Rattle.component_index.specs.Tables.{keys_of};
 
+use crate::listed_key::ListedKey;
 use crate::places::Places;
 use ecs_id::TableKey;
-use std::alloc::{AllocError, Allocator};
+use std::alloc::{AllocError, Allocator, Global};
 use std::marker::Model;
 
 // How many tables a list has at most before it is noted where they stand: so few are searched as fast.
@@ -22,6 +23,8 @@ const FEW_ROOM: usize = 4;
 pub struct TableList<A: Allocator> {
     tables: Tables<A>,
 }
+
+const _: () = prove!(size_of::<TableList<Global>>() == 32);
 
 impl<A: Allocator> Model for TableList<A> {
     ghost use Rattle.std.specs.Prelude.{List};
@@ -38,7 +41,7 @@ impl<A: Allocator> Model for TableList<A> {
 }
 
 impl<A: Allocator> TableList<A> {
-    pub fn one(key: TableKey) -> Self
+    pub fn one(key: ListedKey) -> Self
         ensures { result ≡ key ∷ [] }
     {
         TableList {
@@ -46,7 +49,7 @@ impl<A: Allocator> TableList<A> {
         }
     }
 
-    pub fn as_slice(&self) -> &[TableKey]
+    pub fn as_slice(&self) -> &[ListedKey]
         ensures keys { result.now ≡ self.now }
         ensures once { IsDistinct table_eq result.now }
     {
@@ -65,7 +68,7 @@ impl<A: Allocator> TableList<A> {
         alloc: A,
         places: &mut Places<A>,
         word: u64,
-        key: TableKey,
+        key: ListedKey,
     ) -> Result<(), AllocError>
     where
         A: Copy,
@@ -88,12 +91,12 @@ impl<A: Allocator> TableList<A> {
 #[derive(Drop)]
 enum Tables<A: Allocator> {
     Empty,
-    One([TableKey; 1]),
-    More(Vec<TableKey, A>),
+    One([ListedKey; 1]),
+    More(Vec<ListedKey, A>),
 }
 
 impl<A: Allocator> Tables<A> {
-    fn as_slice(&self) -> &[TableKey]
+    fn as_slice(&self) -> &[ListedKey]
         ensures { result.now ≡ keys_of self.now }
     {
         match self {
@@ -108,7 +111,7 @@ impl<A: Allocator> Tables<A> {
         alloc: A,
         places: &mut Places<A>,
         word: u64,
-        key: TableKey,
+        key: ListedKey,
     ) -> Result<(), AllocError>
     where
         A: Copy,
@@ -121,12 +124,12 @@ impl<A: Allocator> Tables<A> {
             return Ok(());
         }
         if FEW <= keys.len() {
-            places.note(key, word, keys.len())?;
+            places.note(key.slot(), word, keys.len())?;
         }
         self.push(alloc, key)
     }
 
-    fn push(&mut self, alloc: A, key: TableKey) -> Result<(), AllocError>
+    fn push(&mut self, alloc: A, key: ListedKey) -> Result<(), AllocError>
         ensures pushed { OnOk result (keys_of self.new ≡ keys_of self.old ++ key ∷ []) }
         ensures refused { OnErr result (keys_of self.new ≡ keys_of self.old) }
     {
@@ -150,7 +153,7 @@ impl<A: Allocator> Tables<A> {
             Tables::Empty => {}
             Tables::One(only) => {
                 let first = key_of(only);
-                if first == key {
+                if first.names(key) {
                     *self = Tables::Empty;
                 }
             }
@@ -164,30 +167,30 @@ impl<A: Allocator> Tables<A> {
     }
 }
 
-fn key_of(only: &[TableKey; 1]) -> TableKey
+fn key_of(only: &[ListedKey; 1]) -> ListedKey
     ensures { only.now ≡ result ∷ [] }
 {
     only[0]
 }
 
-fn is_last(keys: &[TableKey], key: TableKey) -> bool
+fn is_last(keys: &[ListedKey], key: ListedKey) -> bool
     ensures { result ≡ is_last keys.now key }
 {
     match keys.last() {
-        Some(last) => key == *last,
+        Some(last) => last.names(key.key()),
         None => false,
     }
 }
 
-fn stands_at(keys: &[TableKey], place: usize, key: TableKey) -> bool
+fn stands_at(keys: &[ListedKey], place: usize, key: TableKey) -> bool
     ensures { IsTrue result → IsPlace keys.now key (Some place) }
 {
-    place < keys.len() && key == keys[place]
+    place < keys.len() && keys[place].names(key)
 }
 
 // Where the table stands: at the place that is noted, or else among the first.
 fn place_of<A: Allocator>(
-    keys: &[TableKey],
+    keys: &[ListedKey],
     places: &mut Places<A>,
     word: u64,
     key: TableKey,
@@ -195,7 +198,7 @@ fn place_of<A: Allocator>(
     ensures { IsPlace keys.now key result }
 {
     if FEW < keys.len() {
-        match places.next(key, word) {
+        match places.next(key.slot, word) {
             Some(place) if stands_at(keys, place, key) => return Some(place),
             _ => {}
         }
@@ -203,24 +206,24 @@ fn place_of<A: Allocator>(
     searched(keys, key)
 }
 
-fn searched(keys: &[TableKey], key: TableKey) -> Option<usize>
+fn searched(keys: &[ListedKey], key: TableKey) -> Option<usize>
     ensures { result ≡ position (table_eq key) keys.now }
 {
-    keys.iter().position(|other| key == *other)
+    keys.iter().position(|other| other.names(key))
 }
 
 // Notes for the last table that it comes to this place.
-fn note_last_at<A: Allocator>(place: usize, keys: &[TableKey], places: &mut Places<A>, word: u64) {
+fn note_last_at<A: Allocator>(place: usize, keys: &[ListedKey], places: &mut Places<A>, word: u64) {
     if let Some(last) = keys.last() {
-        places.moved(*last, word, place);
+        places.moved(last.slot(), word, place);
     }
 }
 
 fn two<A: Allocator>(
     alloc: A,
-    first: TableKey,
-    second: TableKey,
-) -> Result<Vec<TableKey, A>, AllocError>
+    first: ListedKey,
+    second: ListedKey,
+) -> Result<Vec<ListedKey, A>, AllocError>
     ensures { IfOk result (λ keys. keys.items ≡ first ∷ second ∷ []) }
 {
     let mut keys = Vec::with_capacity(alloc, FEW_ROOM)?;

@@ -4,8 +4,8 @@ ghost use Rattle.std.specs.Prelude.{◌≡◌};
 ghost use Rattle.ecs_archetypes.specs.Linked.{AreLinked, AreListsOf, Linked};
 
 use crate::{Archetypes, Graph as Tables};
-use component_index::{Listings, Pattern};
-use ecs_id::{EntityId, Id, TableKey};
+use component_index::{ListedKey, Listings, Pattern};
+use ecs_id::{EntityId, Id};
 use rel_travel::{Graph, Holders};
 use std::alloc::Allocator;
 use std::marker::Model;
@@ -95,15 +95,15 @@ impl<A: Allocator> Holders for Links<'_, A> {
         let _ = self.size;
     }
 
-    fn rows(&self, table: TableKey) -> &[EntityId] {
+    fn rows(&self, table: ListedKey) -> &[EntityId] {
         let graph = self.archetypes.graph();
-        match graph.store().get(table) {
+        match graph.store().get(table.key()) {
             Some(table) => table.rows(),
             None => &[],
         }
     }
 
-    fn tables_of(&self, pattern: Pattern) -> &[TableKey] {
+    fn tables_of(&self, pattern: Pattern) -> &[ListedKey] {
         self.lists_holders();
         self.listings.tables_of(pattern)
     }

@@ -317,7 +317,7 @@ pub fn release_matched<A: Allocator>(
     ensures whole { IsStored tables.new }
 {
     while let Some(key) = components.tables_of(pattern).first() {
-        let key = *key;
-        release_entered(tables, components, key);
+        let table = key.key();
+        release_entered(tables, components, table);
     }
 }

@@ -11,7 +11,7 @@ ghost use Rattle.table_store.specs.Store.{Store};
 use crate::judge::suits;
 use crate::patterns::patterns_of;
 use crate::{Keep, TableList};
-use component_index::Pattern;
+use component_index::{ListedKey, Pattern};
 use ecs_id::TableKey;
 use ecs_world::World;
 use query_check::Query;
@@ -67,7 +67,10 @@ impl<A: Allocator> Kept<A> {
     /// Puts the tables behind those of a list, by rising serial.
     ///
     /// Fails where memory is refused.
-    pub fn push_tables<B: Allocator>(&self, tables: &mut Vec<TableKey, B>) -> Result<(), AllocError>
+    pub fn push_tables<B: Allocator>(
+        &self,
+        tables: &mut Vec<ListedKey, B>,
+    ) -> Result<(), AllocError>
         ensures { OnOk result (tables.new.items ≡ tables.old.items ++ self.now.keys) }
     {
         self.keys.push_onto(tables)

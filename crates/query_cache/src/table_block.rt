@@ -5,6 +5,7 @@ ghost use Rattle.std.specs.Int.{bit_at};
 ghost use Rattle.query_cache.specs.TableList.{IsBlock, key_at, keeps, keys_of};
 ghost use Rattle.table_store.specs.Store.{table_at};
 
+use component_index::ListedKey;
 use ecs_id::TableKey;
 use std::alloc::{AllocError, Allocator, Global};
 use table_store::TableStore;
@@ -89,7 +90,7 @@ impl Block {
     /// Puts the tables behind those of a list.
     pub(crate) fn push_onto<A: Allocator>(
         &self,
-        keys: &mut Vec<TableKey, A>,
+        keys: &mut Vec<ListedKey, A>,
     ) -> Result<(), AllocError>
         requires block { IsBlock self.now }
         ensures { OnOk result (keys.new.items ≡ keys.old.items ++ keys_of self.now) }
@@ -105,14 +106,17 @@ impl Block {
     fn push_one<A: Allocator>(
         &self,
         bit: u32,
-        keys: &mut Vec<TableKey, A>,
+        keys: &mut Vec<ListedKey, A>,
     ) -> Result<(), AllocError>
         requires block { IsBlock self.now }
         requires within { bit < self.now.width }
         ensures { OnOk result (keys.new.items ≡ keys.old.items ++ (if bit_at self.now.bits bit == 1 then key_at self.now bit ∷ [] else [])) }
     {
         if self.bits >> bit & 1 == 1 {
-            keys.push(self.key_at(bit))?;
+            let Some(key) = ListedKey::of(self.key_at(bit)) else {
+                return Err(AllocError);
+            };
+            keys.push(key)?;
         }
         Ok(())
     }

@@ -4,6 +4,7 @@ ghost use Rattle.std.specs.Prelude.{◌≡◌, ◌++◌, ◌∷◌, [], All, OnE
 ghost use Rattle.query_cache.specs.TableList.{IsBlock, keeps, keys_in};
 
 use crate::table_block::{Block, Keep};
+use component_index::ListedKey;
 use ecs_id::TableKey;
 use std::alloc::{AllocError, Allocator, Global};
 use std::marker::Model;
@@ -60,7 +61,7 @@ impl<A: Allocator> TableList<A> {
     /// Puts the tables behind those of another list.
     ///
     /// Fails where memory is refused.
-    pub fn push_onto<B: Allocator>(&self, keys: &mut Vec<TableKey, B>) -> Result<(), AllocError>
+    pub fn push_onto<B: Allocator>(&self, keys: &mut Vec<ListedKey, B>) -> Result<(), AllocError>
         ensures { OnOk result (keys.new.items ≡ keys.old.items ++ self.now.items) }
     {
         for block in &self.blocks {

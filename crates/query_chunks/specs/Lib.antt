@@ -1,3 +1,4 @@
 pub mod Asked
 pub mod Chunk
+pub mod Keys
 pub mod Run

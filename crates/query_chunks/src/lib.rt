@@ -18,6 +18,7 @@ mod asked;
 mod chunk;
 mod column;
 mod cursor;
+mod keys;
 mod leading;
 mod run;
 

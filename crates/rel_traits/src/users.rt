@@ -2,8 +2,7 @@
 ghost use Rattle.std.specs.Prelude.{◌≡◌, ◌==◌, flat_map, length, not};
 ghost use Rattle.ecs_model.specs.Added.{is_used};
 
-use component_index::{Part, Pattern};
-use ecs_id::TableKey;
+use component_index::{ListedKey, Part, Pattern};
 use rel_travel::Holders;
 
 /// Whether a fact uses the entity as component or relationship.
@@ -21,7 +20,7 @@ pub fn in_use<G: Holders>(graph: &G, index: u32) -> bool
 }
 
 /// Whether one of the tables has a row.
-fn has_rows<G: Holders>(graph: &G, tables: &[TableKey]) -> bool
+fn has_rows<G: Holders>(graph: &G, tables: &[ListedKey]) -> bool
     ensures { result ≡ not (length (flat_map (G.rows graph.now) tables.now) == 0) }
 {
     for table in tables {

@@ -8,8 +8,8 @@ ghost use Rattle.rel_travel.specs.Growing.{IsGrownBy};
 use crate::found::Found;
 use crate::graph::Graph;
 use crate::work_list::Rule;
-use component_index::{Part, Pattern};
-use ecs_id::{EntityId, TableKey};
+use component_index::{ListedKey, Part, Pattern};
+use ecs_id::EntityId;
 use std::alloc::Allocator;
 
 /// A view of the tables of a world, by what their entities hold.
@@ -28,11 +28,11 @@ pub trait Holders: Graph {
     fn lists_holders(&self)
         ensures { (pattern : Asked) (y : ℕ) → Contains (flat_map (rows self.now) (listed self.now pattern)) y ↔ Contains (holders (Self.entities self.now) (Self.ids self.now) pattern) y };
 
-    fn rows(&self, table: TableKey) -> &[EntityId]
+    fn rows(&self, table: ListedKey) -> &[EntityId]
         ensures { map (λ e. e.index) result.now ≡ rows self.now table };
 
     /// The tables whose entities hold an id that the pattern matches.
-    fn tables_of(&self, pattern: Pattern) -> &[TableKey]
+    fn tables_of(&self, pattern: Pattern) -> &[ListedKey]
         ensures listed { result.now ≡ listed self.now pattern }
         ensures holders { (y : ℕ) → Contains (flat_map (rows self.now) result.now) y ↔ Contains (holders (Self.entities self.now) (Self.ids self.now) pattern) y };
 }

@@ -41,7 +41,7 @@ fn table_with<A: Allocator>(rt: &impl Abort, world: &World<A>, id: u32) -> Table
         second: None,
     };
     let keys = world.graph().tables_of(pattern);
-    *keys.first().expect(rt, "no table has the id")
+    keys.first().expect(rt, "no table has the id").key()
 }
 
 /// Two values are set where memory is refused.

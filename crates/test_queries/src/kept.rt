@@ -2,7 +2,7 @@
 
 ghost use Rattle.world_facts.specs.Kept.{AreTablesOf};
 
-use ecs_id::TableKey;
+use component_index::ListedKey;
 use ecs_world::World;
 use query_cache::Kept;
 use query_check::Query;
@@ -15,7 +15,7 @@ pub(crate) fn tables_in(
     alloc: Global,
     world: &World,
     query: &Query,
-) -> Vec<TableKey>
+) -> Vec<ListedKey>
     ensures { AreTablesOf query.now world.now.tables result.items }
 {
     let mut kept = Kept::new(alloc, query).expect(rt, "out of memory");

@@ -37,7 +37,7 @@ fn fill<A: Allocator + Copy>(session: &mut Session<A>, alloc: A) -> Result<(), S
 fn their_table<A: Allocator, B: Allocator>(alloc: B, session: &Session<A>) -> Option<TableKey> {
     let mut tables = Vec::new(alloc);
     match session.kept_tables("k", &mut tables) {
-        Ok(()) => tables.first().copied(),
+        Ok(()) => Some(tables.first()?.key()),
         Err(_) => None,
     }
 }

@@ -9,8 +9,8 @@ ghost use Rattle.watch_touched.specs.Leaning.{Adds, AreAlike, HasAllBelow, HoldA
 
 use crate::sought::{Sought, is_sought};
 use crate::touching::ids_at;
-use component_index::{Part, Pattern};
-use ecs_id::{EntityId, Id, TableKey};
+use component_index::{ListedKey, Part, Pattern};
+use ecs_id::{EntityId, Id};
 use ecs_model::FactKey;
 use ecs_world::World;
 use rel_travel::Holders;
@@ -126,7 +126,7 @@ pub(crate) fn push_linked_and_moving<A: Allocator + Copy, B: Allocator>(
 }
 
 /// Whether few entities stand in these tables, and these are few.
-fn are_few<G: Holders>(graph: &G, tables: &[TableKey]) -> bool {
+fn are_few<G: Holders>(graph: &G, tables: &[ListedKey]) -> bool {
     if tables.len() > MOST_TABLES {
         return false;
     }
@@ -148,7 +148,7 @@ fn push_from_tables<G: Holders, A: Allocator + Copy, B: Allocator>(
     sought: &Sought<'_>,
     world: &World<A>,
     graph: &G,
-    tables: &[TableKey],
+    tables: &[ListedKey],
     target: u32,
     found: &mut ShortList<A>,
 ) -> Result<(), AllocError>
@@ -176,7 +176,7 @@ fn push_both_from_tables<A: Allocator + Copy, B: Allocator>(
     query: &AskedQuery<'_, B>,
     went: &[FactKey],
     store: &TableStore<A>,
-    tables: &[TableKey],
+    tables: &[ListedKey],
     target: u32,
     linked: &mut ShortList<A>,
     moving: &mut ShortList<A>,
@@ -185,8 +185,9 @@ fn push_both_from_tables<A: Allocator + Copy, B: Allocator>(
     ensures moving { IfOk result (λ done. done ≡ true → (w : WorldState) → HoldTheirs w store.now → Adds (filter (leans (moves_by query.now) w target) (flat_map (standing_in store.now) tables.now)) moving.old.items moving.new.items) }
 {
     let mut free = MOST;
-    'tables: for key in tables {
-        let Some(table) = store.get(*key) else {
+    'tables: for listed in tables {
+        let key = listed.key();
+        let Some(table) = store.get(key) else {
             continue 'tables;
         };
         let rows = table.rows();

@@ -4,13 +4,13 @@
 ghost use Rattle.std.specs.Prelude.{◌≡◌};
 ghost use Rattle.world_facts.specs.Kept.{KeepsTables};
 ghost use Rattle.world_facts.specs.Lists.{ListsTables};
-ghost use Rattle.world_facts.specs.Shown.{table_of};
+ghost use Rattle.world_facts.specs.Shown.{standing_in, table_of};
 
 mod climb;
 pub mod laws;
 
 use crate::climb::first_up;
-use component_index::Pattern;
+use component_index::{ListedKey, Pattern};
 use ecs_id::{EntityId, Id, TableKey};
 use ecs_model::built_ins::REFLEXIVE;
 use ecs_world::{Links, World};
@@ -77,6 +77,16 @@ impl<'w, A: Allocator> WorldFacts<'w, A> {
         let place = index.place(index.at(entity)?)?;
         Some(place.table)
     }
+
+    /// The entities that stand in a table; none in one that is gone.
+    fn standing_in(&self, table: TableKey) -> &[EntityId]
+        ensures { result.now ≡ standing_in (self.now).links table }
+    {
+        match self.links.tables().store().get(table) {
+            Some(table) => table.rows(),
+            None => &[],
+        }
+    }
 }
 
 impl<A: Allocator> Facts for WorldFacts<'_, A> {
@@ -109,26 +119,23 @@ impl<A: Allocator> Facts for WorldFacts<'_, A> {
         self.links.ids(entity).contains(&id)
     }
 
-    fn tables_of(&self, pattern: Pattern) -> &[TableKey] {
+    fn tables_of(&self, pattern: Pattern) -> &[ListedKey] {
         self.links.tables_of(pattern)
     }
 
-    fn rows_of(&self, table: TableKey) -> &[EntityId] {
-        match self.links.tables().store().get(table) {
-            Some(table) => table.rows(),
-            None => &[],
-        }
+    fn rows_of(&self, table: ListedKey) -> &[EntityId] {
+        self.standing_in(table.key())
     }
 
     fn peers_of(&self, entity: u32) -> &[EntityId] {
         match self.table_of(entity) {
-            Some(table) => self.rows_of(table),
+            Some(table) => self.standing_in(table),
             None => &[],
         }
     }
 
-    fn ids_in(&self, table: TableKey) -> &[Id] {
-        match self.links.tables().store().get(table) {
+    fn ids_in(&self, table: ListedKey) -> &[Id] {
+        match self.links.tables().store().get(table.key()) {
             Some(table) => table.ids(),
             None => &[],
         }

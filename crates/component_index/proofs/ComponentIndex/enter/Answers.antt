@@ -1,10 +1,10 @@
 use Rattle.std.proofs.Common.{◌∙◌, ap, rules}
 use Rattle.std.specs.FinMap as finite
-use Rattle.component_index.proofs.EnteredLemmas.{AreListed-enter, AreMarked-enter, AreMarked-kept, IsNewest-none}
+use Rattle.component_index.proofs.EnteredLemmas.{AreListed-enter, AreListed-refused, AreMarked-enter, AreMarked-kept, IsNewest-none}
 use Rattle.component_index.proofs.ComponentIndex.enter.Goals as goal
 
 pub list_all-requires : goal.list_all-requires
-list_all-requires g c = IsNewest-none c.self.inside.entered.tables c.self.inside.lists c.self.invariant.0 c.args.self.now c.self.view_is c.args.key c.requires
+list_all-requires g c = rw c.in-Some.ensures.value (IsNewest-none c.self.inside.entered.tables c.self.inside.lists c.self.invariant.0 c.args.self.now c.self.view_is c.args.key c.requires)
 
 -- where the marks are refused, and where a list is
 pub invariant_of-self : goal.invariant_of-self
@@ -17,7 +17,7 @@ pub invariant_of-self-2 : goal.invariant_of-self-2
 invariant_of-self-2 g c = (
   AreListed-enter c.self.inside.lists c.list_all.new.lists c.self.inside.entered.tables c.after-self-inside.result.tables c.self.invariant.0 c.args.self.now c.self.view_is c.args.key c.args.ids.now c.requires
       c.after-self-inside.ensures
-      c.in_default.ensures.listed,
+      (rw c.in-Some.ensures.value at c.in_default-list_all.ensures.listed),
   AreMarked-enter c.self.inside.entered.tables c.after-self-inside.result.tables c.args.key c.self.inside.mentioned.items c.note_all.new.marks.items c.args.ids.now c.self.invariant.1 c.note_all.ensures.kept
       c.in_ok-note_all.ensures.noted
       c.after-self-inside.ensures,
@@ -25,6 +25,8 @@ invariant_of-self-2 g c = (
 
 pub invariant_of-self-in-Err : goal.invariant_of-self-in-Err
 invariant_of-self-in-Err g c = (
-  search rules,
+  AreListed-refused c.self.inside.lists c.list_all.new.lists c.unlist_all.new.lists c.self.inside.entered.tables c.self.invariant.0 c.args.self.now c.self.view_is c.args.key c.args.ids.now c.requires
+      (rw c.in-Some.ensures.value at c.in-Err.ensures.refused)
+      c.unlist_all.ensures,
   AreMarked-kept c.self.inside.mentioned.items c.note_all.new.marks.items c.self.inside.entered.tables c.self.invariant.1 c.note_all.ensures.kept,
 )

@@ -33,27 +33,27 @@ returns-then-is_empty-clause-grown g c =
 
 pub add_pairs-requires : goal.add_pairs-requires
 add_pairs-requires g c =
-    let none : TableKey = record { slot = 0; serial = 0 } in
+    let table = c.table-item.result in
     let index = λ (e : EntityId). e.index in
     let pairs = holders_of_pair (g.G.Graph.entities c.args.graph.now) (g.G.Graph.ids c.args.graph.now) c.args.target in
     let deleting = holders_of_pair (g.G.Graph.entities c.args.graph.now) (g.G.Graph.ids c.args.graph.now) 17 15 in
     let tables = c.tables_of-table-items.result.now in
     rw c.loop-table.invariant.size
     (All-alike (λ y. y < c.args.found.now.size) (flat_map (λ e. pairs (index e)) c.rows.result.now) (flat_map pairs deleting)
-    (one_of_all pairs (g.G.Holders.rows c.args.graph.now) tables c.loop-table.table-index none index c.rows.result.now deleting (omega arith) c.rows.ensures (λ r. (c.tables_of-table-items.ensures.holders r).0))
+    (one_of_all pairs (g.G.Holders.rows c.args.graph.now) tables c.loop-table.table-index table index c.rows.result.now deleting (omega arith) (c.rows.ensures ∙ ap (g.G.Holders.rows c.args.graph.now) c.table-item.is) (λ r. (c.tables_of-table-items.ensures.holders r).0))
     c.requires)
 
 pub loop-table-preserved : goal.loop-table-preserved
 loop-table-preserved g c =
-    let none : TableKey = record { slot = 0; serial = 0 } in
+    let table = c.table-item.result in
     let index = λ (e : EntityId). e.index in
     let pairs = holders_of_pair (g.G.Graph.entities c.args.graph.now) (g.G.Graph.ids c.args.graph.now) c.args.target in
     let es = c.rows.result.now in
     record {
       size = c.add_pairs.ensures.size ∙ c.loop-table.invariant.size;
       grown =
-          table_added (λ (t : TableKey). flat_map pairs (g.G.Holders.rows c.args.graph.now t)) c.tables_of-table-items.result.now c.loop-table.table-index none (flat_map (λ e. pairs (index e)) es)
-          c.args.found.now.items c.loop-table.found.items c.add_pairs.new.found.items (omega arith) (sym (flat_map-map pairs index es) ∙ ap (flat_map pairs) c.rows.ensures) c.loop-table.invariant.grown c.add_pairs.ensures.grown;
+          table_added (λ (t : TableKey). flat_map pairs (g.G.Holders.rows c.args.graph.now t)) c.tables_of-table-items.result.now c.loop-table.table-index table (flat_map (λ e. pairs (index e)) es)
+          c.args.found.now.items c.loop-table.found.items c.add_pairs.new.found.items (omega arith) (sym (flat_map-map pairs index es) ∙ ap (flat_map pairs) (c.rows.ensures ∙ ap (g.G.Holders.rows c.args.graph.now) c.table-item.is)) c.loop-table.invariant.grown c.add_pairs.ensures.grown;
     }
 
 pub returns-clause-grown : goal.returns-clause-grown

@@ -1,4 +1,4 @@
-use Rattle.std.proofs.Common.{◌<◌, ◌∙◌, List, arith}
+use Rattle.std.proofs.Common.{◌<◌, ◌∙◌, List, ap, arith}
 use Rattle.std.specs.Prelude.{map}
 use Rattle.std.specs.List.{flat_map}
 use Rattle.ecs_id.specs.declared.EntityId.{EntityId}
@@ -12,19 +12,19 @@ use Rattle.rel_travel.proofs.holders.add_holders.Goals as goal
 
 pub add_rows-requires : goal.add_rows-requires
 add_rows-requires g c =
-    let none : TableKey = record { slot = 0; serial = 0 } in
+    let table = c.table-item.result in
     rw c.loop-table.invariant.size
-    (rows_below (g.G.Holders.rows c.args.graph.now) c.tables_of-table-items.result.now c.loop-table.table-index none c.args.found.now.size (λ (e : EntityId). e.index) c.rows.result.now (omega arith) c.rows.ensures
+    (rows_below (g.G.Holders.rows c.args.graph.now) c.tables_of-table-items.result.now c.loop-table.table-index table c.args.found.now.size (λ (e : EntityId). e.index) c.rows.result.now (omega arith) (c.rows.ensures ∙ ap (g.G.Holders.rows c.args.graph.now) c.table-item.is)
     (λ y h. All-contains (λ x. x < c.args.found.now.size) (holders (g.G.Graph.entities c.args.graph.now) (g.G.Graph.ids c.args.graph.now) c.args.pattern) y c.requires ((c.tables_of-table-items.ensures.holders y).0 h)))
 
 pub loop-table-preserved : goal.loop-table-preserved
 loop-table-preserved g c =
-    let none : TableKey = record { slot = 0; serial = 0 } in
+    let table = c.table-item.result in
     record {
       size = c.add_rows.ensures.size ∙ c.loop-table.invariant.size;
       items =
-          found_table (g.G.Holders.rows c.args.graph.now) c.tables_of-table-items.result.now c.loop-table.table-index none (map (λ (e : EntityId). e.index) c.rows.result.now) c.args.found.now.items c.loop-table.found.items c.add_rows.new.found.items
-          (omega arith) c.rows.ensures c.loop-table.invariant.items c.add_rows.ensures.items;
+          found_table (g.G.Holders.rows c.args.graph.now) c.tables_of-table-items.result.now c.loop-table.table-index table (map (λ (e : EntityId). e.index) c.rows.result.now) c.args.found.now.items c.loop-table.found.items c.add_rows.new.found.items
+          (omega arith) (c.rows.ensures ∙ ap (g.G.Holders.rows c.args.graph.now) c.table-item.is) c.loop-table.invariant.items c.add_rows.ensures.items;
     }
 
 pub returns-clause-grown : goal.returns-clause-grown

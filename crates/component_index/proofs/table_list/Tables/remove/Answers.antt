@@ -2,21 +2,21 @@ use Rattle.std.proofs.Common.{◌≡◌, Some, false, subst, sym, ◌∙◌}
 use Rattle.std.specs.List.{IsDistinct}
 use Rattle.component_index.specs.Entered.{table_eq}
 use Rattle.component_index.specs.TableList.{has, IsPlace}
-use Rattle.component_index.proofs.TableLemmas.{Loses-none, Loses-only, Loses-taken, none_once, once-taken, only_has}
+use Rattle.component_index.proofs.TableLemmas.{Loses-none, Loses-only, Loses-taken, none_once, once-taken, only_has, table_eq_equiv}
 use Rattle.component_index.proofs.table_list.Tables.remove.Goals as goal
 
-pub returns-then-eq-clause-lost : goal.returns-then-eq-clause-lost
-returns-then-eq-clause-lost g c = rw c.in-One.is (Loses-only c.in-One.only c.key_of-first.result c.args.key c.key_of-first.ensures (sym c.eq.ensures ∙ c.if-eq.true))
+pub returns-then-names-clause-lost : goal.returns-then-names-clause-lost
+returns-then-names-clause-lost g c = rw c.in-One.is (Loses-only c.in-One.only c.key_of-first.result c.args.key c.key_of-first.ensures (table_eq_equiv.symm c.key_of-first.result c.args.key ∙ sym c.names.ensures ∙ c.if-names.true))
 
-pub returns-then-eq-clause-once : goal.returns-then-eq-clause-once
-returns-then-eq-clause-once g c = none_once
+pub returns-then-names-clause-once : goal.returns-then-names-clause-once
+returns-then-names-clause-once g c = none_once
 
-pub returns-else-eq-clause-lost : goal.returns-else-eq-clause-lost
-returns-else-eq-clause-lost g c =
-    rw c.in-One.is (Loses-none c.in-One.only c.args.key (only_has c.in-One.only c.key_of-first.result c.args.key c.eq.result c.key_of-first.ensures c.eq.ensures ∙ c.if-eq.false))
+pub returns-else-names-clause-lost : goal.returns-else-names-clause-lost
+returns-else-names-clause-lost g c =
+    rw c.in-One.is (Loses-none c.in-One.only c.args.key (only_has c.in-One.only c.key_of-first.result c.args.key c.names.result c.key_of-first.ensures (c.names.ensures ∙ table_eq_equiv.symm c.args.key c.key_of-first.result) ∙ c.if-names.false))
 
-pub returns-else-eq-clause-once : goal.returns-else-eq-clause-once
-returns-else-eq-clause-once g c = rw c.in-One.is at c.requires
+pub returns-else-names-clause-once : goal.returns-else-names-clause-once
+returns-else-names-clause-once g c = rw c.in-One.is at c.requires
 
 pub returns-in-Some-clause-lost : goal.returns-in-Some-clause-lost
 returns-in-Some-clause-lost g c =
