@@ -17,4 +17,6 @@ pub mod StayingEntities
 pub mod StayingRoles
 pub mod RolesBehind
 pub mod MovingByRoles
+pub mod RoleWalks
+pub mod StepsBack
 pub mod AskedEntities

@@ -19,14 +19,14 @@ use Rattle.watch_touched.proofs.GrownLists.{still}
 use Rattle.watch_touched.proofs.RolesBehind.{below_range, roles_are}
 
 module _ (q : Query) (w : WorldState) (by : ℕ → Term → Bool) (changed : Changed) where
-  is_this_among : (roles : List (ℕ × ℕ)) (e : ℕ) → Contains roles (0, e) → may_be_this q w e ≡ true → Contains (this_among q w by changed roles) e
+  pub is_this_among : (roles : List (ℕ × ℕ)) (e : ℕ) → Contains roles (0, e) → may_be_this q w e ≡ true → Contains (this_among q w by changed roles) e
   is_this_among roles e h fit =
       let test : ℕ × ℕ → Bool = λ k. k.0 == 0 in
       let kept = (filtered test roles (0, e)).1 (h, refl) in
       (filtered (may_be_this q w) (map (λ (k : ℕ × ℕ). k.1) (filter test roles)) e).1 (in_map (λ (k : ℕ × ℕ). k.1) (filter test roles) (0, e) kept, fit)
 
   -- and the other way round
-  of_this : (roles : List (ℕ × ℕ)) (e : ℕ) → Contains (this_among q w by changed roles) e → Contains roles (0, e) × (may_be_this q w e ≡ true)
+  pub of_this : (roles : List (ℕ × ℕ)) (e : ℕ) → Contains (this_among q w by changed roles) e → Contains roles (0, e) × (may_be_this q w e ≡ true)
   of_this roles e h =
       let test : ℕ × ℕ → Bool = λ k. k.0 == 0 in
       let f = (filtered (may_be_this q w) (map (λ (k : ℕ × ℕ). k.1) (filter test roles)) e).0 h in

@@ -34,7 +34,7 @@ below_range n u c =
 -- ---- pairs lead back to variables before
 
 -- what passes leads to a target
-passes_target : (p : Id → Bool) (i : Id) (x : ℕ) → Contains (target_of p i) x → p i ≡ true
+pub passes_target : (p : Id → Bool) (i : Id) (x : ℕ) → Contains (target_of p i) x → p i ≡ true
 passes_target p (plain c) x h = absurd (omega (arith, h.1))
 passes_target p (pair r y) x h = decided (p (pair r y)) h
   where

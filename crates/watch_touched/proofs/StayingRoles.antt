@@ -62,7 +62,7 @@ module _ (by : ℕ → Term → Bool) (q : Query) (u v : ℕ) (i : Id) where
       let joined = and_parts _ _ (and_parts _ _ tests.0).1 in
       record { term = t.0; among = t.1; source = (and_parts _ _ joined.0).1; fits = by_match i t.0 tests.1; below = both.0 }
 
-  asked_of_holder : leads_out by q u v i ≡ true → asks_for (terms q) u i ≡ true
+  pub asked_of_holder : leads_out by q u v i ≡ true → asks_for (terms q) u i ≡ true
   asked_of_holder h = let l = leading h in any_passes (term_asks_for u i) (terms q) l.term l.among (and_from _ _ l.source l.fits)
 
   leads_concerned : leads_out by q u v i ≡ true → concerns q i ≡ true

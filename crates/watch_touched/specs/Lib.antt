@@ -5,4 +5,5 @@ pub mod Concerned
 pub mod Leaning
 pub mod Moving
 pub mod Roles
+pub mod Steps
 pub mod Laws

@@ -23,7 +23,7 @@ use watch_asked::AskedQuery;
 pub(crate) const MOST: usize = 64;
 
 /// How many tables are gone through for one of them. Most may be empty.
-const MOST_TABLES: usize = 256;
+pub(crate) const MOST_TABLES: usize = 256;
 
 /// Adds those who lean on one of these entities by a pair that concerns a query so. False, where these may be too many: then not all are added.
 pub(crate) fn push_leaning_on_all<A: Allocator + Copy, B: Allocator>(
@@ -255,7 +255,7 @@ fn push_alike<A: Allocator + Copy, B: Allocator>(
 }
 
 /// Adds those of these entities that aren't there yet.
-fn push_each<A: Allocator + Copy>(
+pub(crate) fn push_each<A: Allocator + Copy>(
     alloc: A,
     entities: &[EntityId],
     found: &mut ShortList<A>,
@@ -289,7 +289,7 @@ pub(crate) fn is_among(entities: &[u32], entity: u32) -> bool
 }
 
 /// Whether all of these are among those that are there.
-fn are_among(found: &[u32], entities: &[EntityId]) -> bool
+pub(crate) fn are_among(found: &[u32], entities: &[EntityId]) -> bool
     ensures { result ≡ list_all (λ e. list_any (λ x. x == e.index) found.now) entities.now }
 {
     entities.iter().all(|entity| is_among(found, entity.index))
@@ -312,7 +312,7 @@ fn lean<B: Allocator>(
     false
 }
 
-fn is_pair_to(id: Id, target: u32) -> bool
+pub(crate) fn is_pair_to(id: Id, target: u32) -> bool
     ensures { result ≡ matches (pairs_to target) id }
 {
     match id.second() {

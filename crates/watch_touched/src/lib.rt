@@ -9,6 +9,7 @@ pub mod laws;
 mod leaning;
 mod linked;
 mod moving;
+mod roles;
 mod sought;
 mod touching;
 

@@ -272,7 +272,7 @@ fn push_matching<A: Allocator + Copy, B: Allocator>(
 }
 
 /// Adds an entity that isn't there yet, if it doesn't lack what a query asks of `$this` itself.
-fn push_if_matching<A: Allocator + Copy, B: Allocator>(
+pub(crate) fn push_if_matching<A: Allocator + Copy, B: Allocator>(
     alloc: A,
     query: &AskedQuery<'_, B>,
     world: &World<A>,
