@@ -1,8 +1,8 @@
--- All who may have moved are found in steps: whoever's facts matter for others, and whoever is linked with these; whoever's facts matter for those below, and those below;
+-- All who may have moved of a tied query, or where no fact matters for others, are found in steps: whoever's facts do; whoever's facts matter for those below, and those below;
 -- and then those whose own facts came or went, and those who hold a pair with one of these.
-use Rattle.std.specs.Prelude.{◌≡◌, ◌↔◌, ◌||◌, ◌+◌, ◌<◌, ℕ, Bool, true, false, cond, List, [], ◌∷◌, ◌++◌, filter, flat_map, length, map, take, if◌then◌else◌}
+use Rattle.std.specs.Prelude.{◌≡◌, ◌↔◌, ◌||◌, ◌&&◌, ◌+◌, ◌<◌, ℕ, Bool, true, false, not, cond, List, [], ◌∷◌, ◌++◌, filter, flat_map, length, map, take, if◌then◌else◌}
 use Rattle.std.specs.List.{Contains}
-use Rattle.std.proofs.Common.{refl, sym, ap, subst, ◌∙◌, append_assoc, arith, get_or}
+use Rattle.std.proofs.Common.{refl, sym, ap, subst, ◌∙◌, inl, inr, append_assoc, arith, get_or}
 use Rattle.std.proofs.lemmas.Bool.{and_parts, not-true, or_left, or_right, true≢false, or_parts}
 use Rattle.std.proofs.lemmas.Grind.{flat_map-append}
 use Rattle.std.proofs.lemmas.List.{map-append}
@@ -10,33 +10,24 @@ use Rattle.std.proofs.lemmas.List.Elements.{Contains-append_left, Contains-appen
 use Rattle.ecs_id.specs.Id.{Id, plain, pair}
 use Rattle.ecs_model.specs.Command.{Changed}
 use Rattle.ecs_model.specs.World.{WorldState, Key, ids_of}
-use Rattle.ecs_model.proofs.Members.{filtered, in_flat_map}
+use Rattle.ecs_model.proofs.Members.{filtered, from_or, in_flat_map}
 use Rattle.query_model.specs.Query.{Query}
 use Rattle.watch_concerns.specs.Concerns.{concerns}
 use Rattle.watch_concerns.specs.Idle.{is_idle}
 use Rattle.watch_concerns.specs.Others.{concerns_below, concerns_others}
 use Rattle.watch_concerns.specs.Tied.{is_tied}
-use Rattle.watch_touched.specs.Leaning.{Adds, HasAllBelow, IsClosed, concerns_beyond, leaning, linked_with, links_busily, moves_by, target_of}
-use Rattle.watch_touched.specs.Moving.{AreLinked, AreMoving, AreTargets, any_by, busy_among, entities_by, entities_of, ids_around, is_busy, may_be_this, targets_by}
+use Rattle.watch_touched.specs.Leaning.{Adds, HasAllBelow, concerns_beyond, leaning, links_busily, moves_by, target_of}
+use Rattle.watch_touched.specs.Moving.{AreLinked, AreMoving, AreTargets, any_by, any_concerns_others, are_holders, busy_among, entities_by, entities_of, ids_around, is_busy, may_be_this, targets_by}
 use Rattle.watch_touched.proofs.CoveredConcerns.{busy_concern_others, links_concern_others}
 use Rattle.watch_touched.proofs.GrownLists.{and_then, still}
 
 module _ (q : Query) (w : WorldState) (changed : Changed) where
-  pub linked_if_tied : (linked : List ℕ) → ((e : ℕ) → Contains linked e ↔ Contains (entities_of (concerns_others q) changed) e) → is_tied q ≡ true → AreLinked q w changed linked
+  linked_if_tied : (linked : List ℕ) → ((e : ℕ) → Contains linked e ↔ Contains (entities_of (concerns_others q) changed) e) → is_tied q ≡ true → AreLinked q w changed linked
   linked_if_tied linked are tied = record {
     others = λ tied x h. (are x).1 h;
     busy = λ loose x h. absurd (true≢false (sym tied ∙ loose));
     lost = λ loose x h. absurd (true≢false (sym tied ∙ loose));
     closed = λ loose x y h leads. absurd (true≢false (sym tied ∙ loose));
-  }
-
-  pub all_linked : (busy more start linked : List ℕ) → is_tied q ≡ false → busy ≡ busy_among q w changed.went changed.came ++ busy_among q w changed.went changed.went
-      → Adds (targets_by q w changed.went changed.went) busy more → ((e : ℕ) → Contains start e ↔ Contains more e) → IsClosed (linked_with (links_busily q changed.went) w) start linked → AreLinked q w changed linked
-  all_linked busy more start linked loose are adds same closed = record {
-    others = λ tied x h. absurd (true≢false (sym tied ∙ loose));
-    busy = λ loose x h. closed.begun x ((same x).1 (still (targets_by q w changed.went changed.went) busy more adds x (subst (λ (es : List ℕ). Contains es x) (sym are) h)));
-    lost = λ loose x h. closed.begun x ((same x).1 (adds.all x h));
-    closed = λ loose x y h leads. closed.stepped x y h leads;
   }
 
   all_targets : (linked below targets : List ℕ) → AreLinked q w changed linked → HasAllBelow (λ ids. concerns_beyond q) w (entities_of (concerns_below q) changed) below → targets ≡ linked ++ below → AreTargets q w changed targets
@@ -96,28 +87,37 @@ none_to p r wider (k ∷ ks) e =
     no_pair p (plain c) h = refl
     no_pair p (pair r x) h = ap (λ b. if b then x ∷ [] else []) h
 
+in_none : (es : List ℕ) → es ≡ [] → (x : ℕ) → Contains es x → ⊥
+in_none [] none x h = omega (arith, h.1)
+in_none (y ∷ ys) none x h = absurd cc
+
+-- so nobody is linked with one of whom a fact concerns others
+none_linked : (q : Query) (w : WorldState) (changed : Changed) (r : Id → Bool) → ((i : Id) → concerns_others q i ≡ true → r i ≡ true) → (any_by r changed.came || any_by r changed.went) ≡ false
+    → (linked : List ℕ) → ((x : ℕ) → Contains linked x → ⊥) → AreLinked q w changed linked
+none_linked q w changed r wider none linked empty = record {
+  others = λ tied x h. absurd (in_none (entities_of (concerns_others q) changed) (none_of (concerns_others q) r wider changed none) x h);
+  busy = λ loose x h.
+      absurd (in_none (busy_among q w changed.went changed.came ++ busy_among q w changed.went changed.went) (λ j. busy_none changed.came spared.0 j ++ busy_none changed.went spared.1 j) x h);
+  lost = λ loose x h. absurd (in_none (targets_by q w changed.went changed.went)
+      (none_to (λ k. links_busily q changed.went (ids_of w k.0)) r (λ k i t. wider i (links_concern_others q i (and_parts _ _ t).0)) changed.went spared.1) x h);
+  closed = λ loose x y h leads. absurd (empty x h);
+}
+  where
+    spared : (any_by r changed.came ≡ false) × (any_by r changed.went ≡ false)
+    spared = or_parts (any_by r changed.came) (any_by r changed.went) none
+
+    busy_none : (ks : List Key) → any_by r ks ≡ false → busy_among q w changed.went ks ≡ []
+    busy_none = none_with (is_busy q w changed.went) r
+        (λ k h. wider k.1 (busy_concern_others q (ids_around w changed.went k.0) k.1 (not-true (is_idle q (ids_around w changed.went k.0) k.1) h)))
+
 no_targets : (q : Query) (w : WorldState) (changed : Changed) → (any_by (concerns_beyond q) changed.came || any_by (concerns_beyond q) changed.went) ≡ false → AreTargets q w changed []
 no_targets q w changed none = record {
   linked = [];
-  are_linked = record {
-    others = λ tied x h. subst (λ (es : List ℕ). Contains es x) (none_of (concerns_others q) (concerns_beyond q) (λ i t. or_right (concerns_below q i) (concerns_others q i) t) changed none) h;
-    busy = λ loose x h.
-        let nobody = or_parts (any_by (concerns_beyond q) changed.came) (any_by (concerns_beyond q) changed.went) none in
-        subst (λ (es : List ℕ). Contains es x) (λ j. busy_none changed.came nobody.0 j ++ busy_none changed.went nobody.1 j) h;
-    lost = λ loose x h. subst (λ (es : List ℕ). Contains es x)
-        (none_to (λ k. links_busily q changed.went (ids_of w k.0)) (concerns_beyond q) (λ k i t. or_right (concerns_below q i) (concerns_others q i) (links_concern_others q i (and_parts _ _ t).0)) changed.went
-        (or_parts (any_by (concerns_beyond q) changed.came) (any_by (concerns_beyond q) changed.went) none).1) h;
-    closed = λ loose x y h leads. absurd (omega (arith, h.1));
-  };
+  are_linked = none_linked q w changed (concerns_beyond q) (λ i t. or_right (concerns_below q i) (concerns_others q i) t) none [] (λ x h. omega (arith, h.1));
   among = λ x h. h;
   below = λ x e h reached.
-      let nobody : Contains [] x = subst (λ (es : List ℕ). Contains es x) (none_of (concerns_below q) (concerns_beyond q) (λ i t. or_left (concerns_below q i) (concerns_others q i) t) changed none) h in
-      absurd (omega (arith, nobody.1));
+      absurd (in_none (entities_of (concerns_below q) changed) (none_of (concerns_below q) (concerns_beyond q) (λ i t. or_left (concerns_below q i) (concerns_others q i) t) changed none) x h);
 }
-  where
-    busy_none : (ks : List Key) → any_by (concerns_beyond q) ks ≡ false → busy_among q w changed.went ks ≡ []
-    busy_none = none_with (is_busy q w changed.went) (concerns_beyond q)
-        (λ k h. or_right (concerns_below q k.1) (concerns_others q k.1) (busy_concern_others q (ids_around w changed.went k.0) k.1 (not-true (is_idle q (ids_around w changed.went k.0) k.1) h)))
 
 -- ---- so it is where none are gathered of whom such a fact came or went
 
@@ -152,6 +152,20 @@ none_beyond q changed others below =
 pub nobody : (xs ys : List ℕ) → xs ≡ ys → length xs ≡ 0 → ys ≡ []
 nobody [] ys same e = sym same
 nobody (x ∷ xs) ys same e = absurd (omega (arith, e))
+
+-- those of whom a fact concerns others are linked, where the query is tied or there are none
+pub linked_if_holders : (q : Query) (w : WorldState) (changed : Changed) (linked : List ℕ) → ((e : ℕ) → Contains linked e ↔ Contains (entities_of (concerns_others q) changed) e)
+    → are_holders q changed ≡ true → AreLinked q w changed linked
+linked_if_holders q w changed linked are holders = elim (from_or (is_tied q) (not (any_concerns_others q changed.came) && not (any_concerns_others q changed.went)) holders) [
+  | inl tied ↦ linked_if_tied q w changed linked are tied
+  | inr untouched ↦
+      let p = concerns_others q in
+      let both = and_parts _ _ untouched in
+      let came = not-true (any_by p changed.came) both.0 in
+      let went = not-true (any_by p changed.went) both.1 in
+      let none : (any_by p changed.came || any_by p changed.went) ≡ false = λ j. came j || went j in
+      none_linked q w changed p (λ i h. h) none linked (λ x h. in_none (entities_of p changed) (none_of p p (λ i t. t) changed none) x ((are x).0 h))
+]
 
 -- so those whose own facts came or went are all who may have moved
 pub own_move : (q : Query) (w : WorldState) (changed : Changed) (own : List ℕ) → ((e : ℕ) → Contains own e ↔ Contains (entities_of (concerns q) changed) e)

@@ -1,7 +1,7 @@
 -- By how many entities are gathered it is told whether a command concerns a query, and whether all who may have moved can be found.
 use Rattle.std.specs.Prelude.{◌≡◌, ◌==◌, ◌&&◌, ◌||◌, ℕ, suc, Bool, true, false, cond, not, List, [], ◌∷◌, ◌++◌, filter, length, map}
 use Rattle.std.proofs.Common.{arith, refl, ap, sym, true≢false, ◌∙◌}
-use Rattle.std.proofs.lemmas.Bool.{not-true}
+use Rattle.std.proofs.lemmas.Bool.{and_parts, not-true}
 use Rattle.std.proofs.lemmas.Bool.Decides.{nat_tests}
 use Rattle.ecs_id.specs.Id.{Id}
 use Rattle.ecs_model.specs.Command.{Changed}
@@ -14,7 +14,7 @@ use Rattle.watch_concerns.specs.Others.{concerns_others}
 use Rattle.watch_concerns.specs.Tied.{is_tied}
 use Rattle.watch_touched.specs.Bonds.{bonds_of}
 use Rattle.watch_touched.specs.Concerned.{any_concerns, has_births_or_deaths, is_concerned}
-use Rattle.watch_touched.specs.Moving.{any_by, entities_by, entities_of, is_followed}
+use Rattle.watch_touched.specs.Moving.{any_by, are_holders, entities_by, entities_of, is_followed}
 use Rattle.watch_touched.specs.declared.bonds.Bonds.{Bonds}
 
 not_none : (n : ℕ) → (suc n == 0) ≡ false
@@ -77,3 +77,20 @@ module _ (q : Query) (changed : Changed) (bonds : Bonds) (are_bonds : bonds ≡ 
       (λ i. (are_bonds i).anchored && ((are_bonds i).tied || (are_bonds i).linked || (counted i == 0)))
       ∙ (λ i. is_anchored q && (is_tied q || is_linked q || (length (are i) == 0)))
       ∙ ap (λ none. is_anchored q && (is_tied q || is_linked q || none)) (none_of (concerns_others q) changed)
+
+  pub all_held : (others : List ℕ) → others ≡ entities_of (concerns_others q) changed → count ≡ length others → (bonds.tied || (count == 0)) ≡ are_holders q changed
+  all_held others are counted =
+      (λ i. (are_bonds i).tied || (counted i == 0))
+      ∙ (λ i. is_tied q || (length (are i) == 0))
+      ∙ ap (λ none. is_tied q || none) (none_of (concerns_others q) changed)
+
+  -- where facts concern others of a query that isn't tied, and all that may move can be found, it is linked
+  pub linked_if_others : (others : List ℕ) → others ≡ entities_of (concerns_others q) changed → count ≡ length others → is_followed q changed ≡ true → (bonds.tied || (count == 0)) ≡ false → is_linked q ≡ true
+  linked_if_others others are counted followed far =
+      let told = and_parts _ _ (all_followed others are counted ∙ followed) in
+      sym (ap (λ (b : Bonds). b.linked) are_bonds) ∙ linked_of bonds.tied bonds.linked (count == 0) told.1 far
+    where
+      linked_of : (tied linked none : Bool) → ((tied || linked) || none) ≡ true → (tied || none) ≡ false → linked ≡ true
+      linked_of true linked none h far = absurd (true≢false far)
+      linked_of false true none h far = refl
+      linked_of false false none h far = absurd (true≢false (sym h ∙ far))

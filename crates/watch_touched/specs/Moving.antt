@@ -54,6 +54,10 @@ may_be_this q w e = not (lacks q (ids_of w e))
 abbrev pub any_concerns_others : Query → List Key → Bool
 any_concerns_others q ks = list_any (λ k. concerns_others q k.1) ks
 
+-- whether facts of others move those alone who hold a pair with their entities, or with one below these: the query is tied, or what came and went concerns it for no others
+abbrev pub are_holders : Query → Changed → Bool
+are_holders q changed = is_tied q || (not (any_concerns_others q changed.came) && not (any_concerns_others q changed.went))
+
 -- whether all who may move can be found: births and deaths don't matter, and what came and went concerns the query for no others, or it is tied, or linked
 abbrev pub is_followed : Query → Changed → Bool
 is_followed q changed = is_anchored q && (is_tied q || is_linked q || (not (any_concerns_others q changed.came) && not (any_concerns_others q changed.went)))

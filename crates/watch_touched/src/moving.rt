@@ -8,11 +8,14 @@ ghost use Rattle.ecs_model.specs.rows.View.{view_of};
 ghost use Rattle.ecs_model.specs.stored.Watches.{matching};
 ghost use Rattle.query_meaning.specs.Sound.{IsSound};
 ghost use Rattle.watch_touched.specs.Bonds.{bonds_of};
+ghost use Rattle.watch_asked.specs.Asked.{IsAskedBy};
+ghost use Rattle.watch_concerns.specs.Anchored.{is_anchored};
 ghost use Rattle.watch_concerns.specs.Concerns.{concerns};
+ghost use Rattle.watch_concerns.specs.Linked.{is_linked};
 ghost use Rattle.watch_concerns.specs.Others.{concerns_below, concerns_others};
 ghost use Rattle.watch_touched.specs.Concerned.{has_births_or_deaths, is_concerned};
 ghost use Rattle.watch_touched.specs.Leaning.{Adds, HasAllBelow, concerns_beyond, leaning, moves_by};
-ghost use Rattle.watch_touched.specs.Moving.{AreAllMoved, AreLinked, AreMoving, busy_among, entities_by, entities_of, is_followed, may_be_this, most_moving, told_by_ids};
+ghost use Rattle.watch_touched.specs.Moving.{AreAllMoved, are_holders, entities_by, entities_of, is_followed, may_be_this, most_moving, told_by_ids};
 ghost use Rattle.watch_touched.specs.declared.moving.Moved.TheVariants.{Few, Nobody, Unknown};
 ghost use Rattle.watch_concerns.specs.Since.{IsAfter};
 
@@ -20,14 +23,14 @@ use crate::Bonds;
 use crate::concerned::has_births_or_deaths;
 use crate::indexes::put_in_order;
 use crate::leaning::{MOST, is_among, push_all_below, push_leaning_on_all};
-use crate::linked::{push_all_linked, push_targets};
+use crate::roles::push_by_roles;
 use crate::sought::Sought;
 use crate::touching::ids_at;
 use ecs_model::FactKey;
 use ecs_world::{Changes, World};
 use short_list::ShortList;
 use std::alloc::{AllocError, Allocator};
-use watch_asked::AskedQuery;
+use watch_asked::{AskedQuery, AskedTerms};
 
 /// What is told of who may have moved in or out of a query's rows by a command.
 #[derive(Clone, Copy)]
@@ -43,8 +46,9 @@ pub enum Moved {
 /// Who may have moved in or out of a query's rows by a command, if it concerns the query. These are put into a list, in which nobody is yet. All others are in
 /// the rows or out of them as before.
 ///
-/// Unknown, where that can't be told: of a query that isn't anchored, where a fact concerns others than its entity and the query is neither tied nor linked, or where
-/// more than 64 may have moved. Takes time in what has changed, and for each that may have moved. Fails where memory is refused.
+/// Unknown, where that can't be told: of a query that isn't anchored; where a fact concerns others than its entity and the query is neither tied nor linked, or is
+/// linked alone and what it asks isn't kept; or where more than 64 may have moved. Takes time in what has changed, and for each that may have moved. Fails where
+/// memory is refused.
 pub fn who_may_have_moved<A: Allocator + Copy, B: Allocator>(
     alloc: A,
     world: &World<A>,
@@ -100,7 +104,7 @@ fn is_nobody<A: Allocator>(bonds: Bonds, changes: &Changes<A>, own: usize) -> bo
 }
 
 /// Whether all who may have moved can be found: births and deaths don't matter, and what came and went concerns a query for no others than the
-/// entities whose facts these are and those below, or for those alone who hold a pair with one of these, or are linked with one from pair to pair.
+/// entities whose facts these are and those below, or for those alone who hold a pair with one of these, or from whom terms lead to one.
 /// Of so many a fact came or went that concerns others.
 #[inline(always)]
 fn are_followed(bonds: Bonds, others: usize) -> bool
@@ -152,13 +156,16 @@ fn push_all_moving<A: Allocator + Copy, B: Allocator>(
     moving: &mut ShortList<A>,
 ) -> Result<bool, AllocError>
     requires bonds { bonds ≡ bonds_of query.now }
+    requires after { IsAfter world.now.state changes.now }
+    requires sound { IsSound query.now }
+    requires followed { is_followed query.now changes.now ≡ true }
     requires own { moving.old.items ≡ entities_of (concerns query.now) changes.now }
     requires others { others.old.items ≡ entities_of (concerns_others query.now) changes.now }
     requires below { below.old.items ≡ entities_of (concerns_below query.now) changes.now }
-    ensures ascend { IfOk result (λ done. done ≡ true → IsStrictlyIncreasing moving.new.items) }
-    ensures all { IfOk result (λ done. done ≡ true → AreMoving query.now world.now.state changes.now moving.new.items) }
+    ensures { IfOk result (λ done. done ≡ true → AreAllMoved query.now world.now.state changes.now moving.new.items) }
 {
     if others.len() == 0 && below.len() == 0 {
+        world.keeps();
         put_in_order(moving);
         return Ok(true);
     }
@@ -223,7 +230,7 @@ fn push_if<A: Allocator>(
 }
 
 /// Adds all who may have moved by another one's fact to those of whom one that concerns the query came or went, and puts all in order. Begins with those of
-/// whom one did that concerns others, and that concerns those below. False, where they may be too many.
+/// whom one did that concerns others, and that concerns those below. False, where they may be too many, or what the query asks isn't kept.
 // (the facts of most commands concern their own entities alone)
 #[inline(never)]
 fn push_moved_by_others<A: Allocator + Copy, B: Allocator>(
@@ -237,13 +244,54 @@ fn push_moved_by_others<A: Allocator + Copy, B: Allocator>(
     moving: &mut ShortList<A>,
 ) -> Result<bool, AllocError>
     requires bonds { bonds ≡ bonds_of query.now }
+    requires after { IsAfter world.now.state changes.now }
+    requires sound { IsSound query.now }
+    requires followed { is_followed query.now changes.now ≡ true }
     requires own { (e : ℕ) → Contains moving.old.items e ↔ Contains (entities_of (concerns query.now) changes.now) e }
     requires others { others.old.items ≡ entities_of (concerns_others query.now) changes.now }
     requires below { below.old.items ≡ entities_of (concerns_below query.now) changes.now }
-    ensures ascend { IfOk result (λ done. done ≡ true → IsStrictlyIncreasing moving.new.items) }
-    ensures all { IfOk result (λ done. done ≡ true → AreMoving query.now world.now.state changes.now moving.new.items) }
+    ensures { IfOk result (λ done. done ≡ true → AreAllMoved query.now world.now.state changes.now moving.new.items) }
 {
-    if !push_linked_to(alloc, query, bonds, world, changes, others, moving)? {
+    if are_holders(bonds, others.len()) {
+        return push_moved_by_pairs(alloc, query, world, changes, others, below, moving);
+    }
+    let Some(asked) = query.kept() else {
+        return Ok(false);
+    };
+    push_moved_by_roles(alloc, query, asked, world, changes, below, moving)
+}
+
+/// Whether those who may have moved by facts of others hold a pair with one of these, or with one below these: so it is of a tied query, and where no fact
+/// concerns others. Of so many one does.
+#[inline(always)]
+fn are_holders(bonds: Bonds, others: usize) -> bool
+    ensures { result ≡ (bonds.tied || (others == 0)) }
+{
+    bonds.tied || others == 0
+}
+
+/// Adds all who hold a pair with one of whom a fact came or went that concerns others, or that concerns those below, or with one below such; and these themselves.
+/// Puts all in order. False, where they may be too many.
+fn push_moved_by_pairs<A: Allocator + Copy, B: Allocator>(
+    alloc: A,
+    query: &AskedQuery<'_, B>,
+    world: &World<A>,
+    changes: &Changes<A>,
+    others: &mut ShortList<A>,
+    below: &mut ShortList<A>,
+    moving: &mut ShortList<A>,
+) -> Result<bool, AllocError>
+    requires after { IsAfter world.now.state changes.now }
+    requires sound { IsSound query.now }
+    requires followed { is_followed query.now changes.now ≡ true }
+    requires holders { are_holders query.now changes.now ≡ true }
+    requires own { (e : ℕ) → Contains moving.old.items e ↔ Contains (entities_of (concerns query.now) changes.now) e }
+    requires others { others.old.items ≡ entities_of (concerns_others query.now) changes.now }
+    requires below { below.old.items ≡ entities_of (concerns_below query.now) changes.now }
+    ensures { IfOk result (λ done. done ≡ true → AreAllMoved query.now world.now.state changes.now moving.new.items) }
+{
+    world.keeps();
+    if !push_holders(alloc, query, world, others, moving)? {
         return Ok(false);
     }
     if !push_below(alloc, query, world, below, moving)? {
@@ -251,6 +299,59 @@ fn push_moved_by_others<A: Allocator + Copy, B: Allocator>(
     }
     push_matching(alloc, query, world, others.as_slice(), moving)?;
     push_matching(alloc, query, world, below.as_slice(), moving)?;
+    put_in_order(moving);
+    Ok(true)
+}
+
+/// Adds to the second list those who may have moved by a fact of one in the first, which is put in order. False, where they may be too many.
+fn push_holders<A: Allocator + Copy, B: Allocator>(
+    alloc: A,
+    query: &AskedQuery<'_, B>,
+    world: &World<A>,
+    others: &mut ShortList<A>,
+    moving: &mut ShortList<A>,
+) -> Result<bool, AllocError>
+    ensures same { (e : ℕ) → Contains others.new.items e ↔ Contains others.old.items e }
+    ensures moving { IfOk result (λ done. done ≡ true → Adds (flat_map (leaning (moves_by query.now) world.now.state) others.new.items) moving.old.items moving.new.items) }
+{
+    put_in_order(others);
+    push_leaning_on_all(
+        alloc,
+        query,
+        &Sought::Moving,
+        world,
+        others.as_slice(),
+        moving,
+    )
+}
+
+/// Adds all from whom the terms of a linked query lead to one of whom a fact came or went that is asked of another variable than `$this`, and all who hold a pair
+/// with one of whom a fact did that concerns those below, or with one below such. Puts all in order. False, where they may be too many.
+fn push_moved_by_roles<A: Allocator + Copy, B: Allocator>(
+    alloc: A,
+    query: &AskedQuery<'_, B>,
+    asked: &AskedTerms<B>,
+    world: &World<A>,
+    changes: &Changes<A>,
+    below: &mut ShortList<A>,
+    moving: &mut ShortList<A>,
+) -> Result<bool, AllocError>
+    requires asked { IsAskedBy query.now asked.now }
+    requires after { IsAfter world.now.state changes.now }
+    requires sound { IsSound query.now }
+    requires anchored { is_anchored query.now ≡ true }
+    requires linked { is_linked query.now ≡ true }
+    requires own { (e : ℕ) → Contains moving.old.items e ↔ Contains (entities_of (concerns query.now) changes.now) e }
+    requires below { below.old.items ≡ entities_of (concerns_below query.now) changes.now }
+    ensures { IfOk result (λ done. done ≡ true → AreAllMoved query.now world.now.state changes.now moving.new.items) }
+{
+    world.keeps();
+    if !push_by_roles(alloc, query, asked, world, changes, moving)? {
+        return Ok(false);
+    }
+    if !push_below(alloc, query, world, below, moving)? {
+        return Ok(false);
+    }
     put_in_order(moving);
     Ok(true)
 }
@@ -320,68 +421,4 @@ fn push_below<A: Allocator + Copy, B: Allocator>(
         return Ok(false);
     }
     Ok(true)
-}
-
-/// Makes of those of whom a fact that concerns others came or went all who may move by them or have others move: of a tied query they themselves; of others those of
-/// whom one did that may move others, those who had a pair in common that went, and all who are linked with one of these, from pair to pair. Adds those to the second list
-/// who may have moved by a fact of one of these. False, where they may be too many.
-fn push_linked_to<A: Allocator + Copy, B: Allocator>(
-    alloc: A,
-    query: &AskedQuery<'_, B>,
-    bonds: Bonds,
-    world: &World<A>,
-    changes: &Changes<A>,
-    others: &mut ShortList<A>,
-    moving: &mut ShortList<A>,
-) -> Result<bool, AllocError>
-    requires bonds { bonds ≡ bonds_of query.now }
-    requires others { others.old.items ≡ entities_of (concerns_others query.now) changes.now }
-    ensures linked { IfOk result (λ done. done ≡ true → AreLinked query.now world.now.state changes.now others.new.items) }
-    ensures moving { IfOk result (λ done. done ≡ true → Adds (flat_map (leaning (moves_by query.now) world.now.state) others.new.items) moving.old.items moving.new.items) }
-{
-    if bonds.tied {
-        put_in_order(others);
-        if !push_leaning_on_all(
-            alloc,
-            query,
-            &Sought::Moving,
-            world,
-            others.as_slice(),
-            moving,
-        )? {
-            return Ok(false);
-        }
-        return Ok(true);
-    }
-    *others = ShortList::new();
-    let went = changes.went();
-    push_busy(alloc, query, world, went, changes.came(), others)?;
-    push_busy(alloc, query, world, went, went, others)?;
-    push_targets(alloc, query, world, went, went, others)?;
-    put_in_order(others);
-    if !push_all_linked(alloc, query, went, world, others, moving)? {
-        return Ok(false);
-    }
-    Ok(true)
-}
-
-/// Adds the entities of those facts that may move others, where these facts went: whose holder has, or had, what else the query asks of somebody whom it
-/// might stand for.
-fn push_busy<A: Allocator + Copy, B: Allocator>(
-    alloc: A,
-    query: &AskedQuery<'_, B>,
-    world: &World<A>,
-    went: &[FactKey],
-    facts: &[FactKey],
-    found: &mut ShortList<A>,
-) -> Result<(), AllocError>
-    ensures { OnOk result (found.new.items ≡ found.old.items ++ busy_among query.now world.now.state went.now facts.now) }
-{
-    for fact in facts {
-        let entity = fact.entity();
-        if query.is_busy(ids_at(world, entity), went, fact.id()) {
-            found.push(alloc, entity)?;
-        }
-    }
-    Ok(())
 }

@@ -4,18 +4,26 @@ use Rattle.std.proofs.Common.{arith, subst, sym}
 use Rattle.watch_concerns.specs.Others.{concerns_below, concerns_others}
 use Rattle.watch_touched.specs.Moving.{entities_of}
 use Rattle.watch_touched.proofs.AllMoving.{nobody, own_move}
+use Rattle.watch_touched.proofs.StayingEntities.{stay_put}
 use Rattle.watch_touched.proofs.moving.push_all_moving.Goals as goal
 
 pub push_moved_by_others-requires-clause-own : goal.push_moved_by_others-requires-clause-own
 push_moved_by_others-requires-clause-own g c = λ e. (subst (λ (es : List ℕ). Contains es e) c.requires.own, subst (λ (es : List ℕ). Contains es e) (sym c.requires.own))
 
-pub returns-then-len-eq0-2-clause-all : goal.returns-then-len-eq0-2-clause-all
-returns-then-len-eq0-2-clause-all g c done =
+pub returns-then-len-eq0-2 : goal.returns-then-len-eq0-2
+returns-then-len-eq0-2 g c done =
     let q = c.args.query.now in
+    let w = c.args.world.now.state in
+    let changed = c.args.changes.now in
     let own = c.put_in_order.new.indexes.items in
     let are_own = subst (λ (es : List ℕ). (e : ℕ) → Contains own e ↔ Contains es e) c.requires.own c.put_in_order.ensures.same in
     let no_others : length c.args.others.now.items ≡ 0 = omega (arith, c.len.ensures, c.if-len-eq0.true) in
     let none_below : length c.args.below.now.items ≡ 0 = omega (arith, c.len-then-len-eq0.ensures, c.if-len-eq0-2.true) in
-    own_move q c.args.world.now.state c.args.changes.now own are_own
-    (nobody c.args.others.now.items (entities_of (concerns_others q) c.args.changes.now) c.requires.others no_others)
-    (nobody c.args.below.now.items (entities_of (concerns_below q) c.args.changes.now) c.requires.below none_below)
+    let moving =
+    own_move q w changed own are_own
+    (nobody c.args.others.now.items (entities_of (concerns_others q) changed) c.requires.others no_others)
+    (nobody c.args.below.now.items (entities_of (concerns_below q) changed) c.requires.below none_below) in
+    record {
+      ascend = c.put_in_order.ensures.ascend;
+      others_stay = stay_put w changed c.keeps.ensures c.requires.after q c.requires.sound c.requires.followed own moving;
+    }

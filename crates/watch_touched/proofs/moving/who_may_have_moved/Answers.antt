@@ -1,10 +1,9 @@
-use Rattle.std.specs.Prelude.{◌≡◌, ◌++◌, List, ℕ, length, true}
+use Rattle.std.specs.Prelude.{◌≡◌, ◌++◌, true}
 use Rattle.std.proofs.Common.{arith, sym, true≢false, ◌∙◌}
 use Rattle.watch_concerns.specs.Concerns.{concerns}
 use Rattle.watch_concerns.specs.Others.{concerns_below, concerns_others}
 use Rattle.watch_touched.specs.Moving.{entities_of, is_followed}
 use Rattle.watch_touched.proofs.CountedConcerns.{all_followed, none_concerned, somebody_concerned}
-use Rattle.watch_touched.proofs.StayingEntities.{stay_put}
 use Rattle.watch_touched.proofs.moving.who_may_have_moved.Goals as goal
 
 pub push_all_moving-requires-clause-own : goal.push_all_moving-requires-clause-own
@@ -15,6 +14,13 @@ push_all_moving-requires-clause-others g c = c.in_ok-push_all_concerned.ensures.
 
 pub push_all_moving-requires-clause-below : goal.push_all_moving-requires-clause-below
 push_all_moving-requires-clause-below g c = c.in_ok-push_all_concerned.ensures.below ∙ (λ i. c.new-below.ensures i ++ entities_of (concerns_below c.args.query.now) c.args.changes.now)
+
+pub push_all_moving-requires-clause-followed : goal.push_all_moving-requires-clause-followed
+push_all_moving-requires-clause-followed g c =
+    let q = c.args.query.now in
+    let changed = c.args.changes.now in
+    let others = c.in_ok-push_all_concerned.ensures.others ∙ (λ i. c.new-others.ensures i ++ entities_of (concerns_others q) changed) in
+    sym (all_followed q changed c.args.bonds c.requires.bonds c.len-2.result c.push_all_concerned.new.others.items others c.len-2.ensures) ∙ sym c.are_followed.ensures ∙ c.if-not-are_followed.false
 
 pub returns-then-is_nobody-clause-concerned : goal.returns-then-is_nobody-clause-concerned
 returns-then-is_nobody-clause-concerned g c same =
@@ -43,17 +49,7 @@ returns-clause-nobody g c none =
     absurd (somebody_concerned c.args.query.now c.args.changes.now c.args.bonds c.requires.bonds c.len.result c.push_all_concerned.new.own.items own c.len.ensures c.is_nobody.result c.is_nobody.ensures c.if-is_nobody.false none)
 
 pub returns-clause-all : goal.returns-clause-all
-returns-clause-all g c same =
-    let w = c.args.world.now.state in
-    let q = c.args.query.now in
-    let changed = c.args.changes.now in
-    let others = c.in_ok-push_all_concerned.ensures.others ∙ (λ i. c.new-others.ensures i ++ entities_of (concerns_others q) changed) in
-    let followed : is_followed q changed ≡ true = sym (all_followed q changed c.args.bonds c.requires.bonds c.len-2.result c.push_all_concerned.new.others.items others c.len-2.ensures)
-    ∙ sym c.are_followed.ensures ∙ c.if-not-are_followed.false in
-    record {
-      ascend = c.in_ok-push_all_moving.ensures.ascend c.if-not-branch.false;
-      others_stay = stay_put w changed c.keeps.ensures c.requires.after q c.requires.sound followed c.push_all_moving.new.moving.items (c.in_ok-push_all_moving.ensures.all c.if-not-branch.false);
-    }
+returns-clause-all g c same = c.in_ok-push_all_moving.ensures c.if-not-branch.false
 
 -- they are no more than are told
 pub returns-clause-few : goal.returns-clause-few
