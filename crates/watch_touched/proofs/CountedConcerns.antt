@@ -1,7 +1,7 @@
 -- By how many entities are gathered it is told whether a command concerns a query, and whether all who may have moved can be found.
 use Rattle.std.specs.Prelude.{◌≡◌, ◌==◌, ◌&&◌, ◌||◌, ℕ, suc, Bool, true, false, cond, not, List, [], ◌∷◌, ◌++◌, filter, length, map}
 use Rattle.std.proofs.Common.{arith, refl, ap, sym, true≢false, ◌∙◌}
-use Rattle.std.proofs.lemmas.Bool.{and_parts, not-true}
+use Rattle.std.proofs.lemmas.Bool.{and_parts, not-true, or_right}
 use Rattle.std.proofs.lemmas.Bool.Decides.{nat_tests}
 use Rattle.ecs_id.specs.Id.{Id}
 use Rattle.ecs_model.specs.Command.{Changed}
@@ -54,6 +54,12 @@ spared false false true true = refl
 spared false false true false = refl
 spared false false false true = refl
 spared false false false false = refl
+
+-- where none are gathered whose facts concern others, facts of others move those alone who hold a pair with their entities
+pub held_if_none : (q : Query) (changed : Changed) → entities_of (concerns_others q) changed ≡ [] → are_holders q changed ≡ true
+held_if_none q changed none =
+    ap (λ b. is_tied q || b) (sym (none_of (concerns_others q) changed) ∙ ap (λ (es : List ℕ). length es == 0) none)
+    ∙ or_right (is_tied q) true refl
 
 module _ (q : Query) (changed : Changed) (bonds : Bonds) (are_bonds : bonds ≡ bonds_of q) (count : ℕ) where
   nobody_concerned : (own : List ℕ) → own ≡ entities_of (concerns q) changed → count ≡ length own → ((count == 0) && (bonds.anchored || not (has_births_or_deaths changed))) ≡ not (is_concerned q changed)

@@ -1,12 +1,11 @@
 -- Lists that have grown, and have all that were wanted.
-use Rattle.std.specs.Prelude.{◌≡◌, ℕ, ◌+◌, ◌<◌, ◌≤◌, ◌==◌, ◌&&◌, Bool, true, false, cond, List, [], ◌∷◌, ◌++◌, Some, None, filter, flat_map, length, map, take, if◌then◌else◌}
+use Rattle.std.specs.Prelude.{◌≡◌, ℕ, ◌+◌, ◌<◌, ◌==◌, ◌&&◌, Bool, true, false, cond, List, [], ◌∷◌, ◌++◌, None, filter, flat_map, length, map, take, if◌then◌else◌}
 use Rattle.std.specs.List.{Contains, list_any}
 use Rattle.std.proofs.Common.{refl, sym, ap, subst, ◌∙◌, inl, inr, append_assoc, arith, get_or}
 use Rattle.std.proofs.lemmas.Bool.{and_parts}
 use Rattle.std.proofs.lemmas.Grind.{flat_map-append}
-use Rattle.std.proofs.lemmas.List.{map-append, take-append-le, take_all, take_more}
+use Rattle.std.proofs.lemmas.List.{map-append, take_more}
 use Rattle.std.proofs.lemmas.List.Elements.{Contains-append_cases, Contains-append_left, Contains-append_right, filter-append}
-use Rattle.std.proofs.lemmas.Option.{same_Some}
 use Rattle.component_index.specs.Patterns.{matches}
 use Rattle.ecs_id.specs.Id.{Id, plain, pair, second_of}
 use Rattle.ecs_model.specs.World.{WorldState, entities, ids_of}
@@ -75,16 +74,6 @@ pub given : {X : Type 0} (next : X → List ℕ) (xs : List X) (i : ℕ) → i <
 given next xs i inside d x y z h k =
     subst (λ a. Adds a x z) (sym (ap (flat_map next) (take_more xs i d inside) ∙ more_of next (take i xs) (get_or xs i d))) (and_then (flat_map next (take i xs)) (next (get_or xs i d)) x y z h k)
 
--- also where the list has grown meanwhile
-pub given_on : (next : ℕ → List ℕ) (wanted found after : List ℕ) → Adds wanted found after → (n : ℕ) → n < length found → (d : ℕ) (x y z : List ℕ) → Adds (flat_map next (take n found)) x y → Adds (next (get_or found n d)) y z
-    → Adds (flat_map next (take (n + 1) after)) x z
-given_on next wanted found after grown n inside d x y z h k =
-    let same : take (n + 1) after ≡ take (n + 1) found = ap (take (n + 1)) grown.behind ∙ take-append-le (n + 1) found grown.more (omega arith) in
-    subst (λ xs. Adds (flat_map next xs) x z) (sym same) (given next found n inside d x y z h k)
-
-pub all_given : (next : ℕ → List ℕ) (xs : List ℕ) (n : ℕ) (x y : List ℕ) → length xs ≤ n → Adds (flat_map next (take n xs)) x y → Adds (flat_map next xs) x y
-all_given next xs n x y over h = subst (λ ys. Adds (flat_map next ys) x y) (take_all n xs over) h
-
 -- those of it that pass a test
 pub given_within : {X : Type 0} (p : ℕ → Bool) (next : X → List ℕ) (xs : List X) (i : ℕ) → i < length xs → (d : X) (x y z : List ℕ) → Adds (filter p (flat_map next (take i xs))) x y → Adds (filter p (next (get_or xs i d))) y z
     → Adds (filter p (flat_map next (take (i + 1) xs))) x z
@@ -96,11 +85,6 @@ given_within p next xs i inside d x y z h k =
 -- ---- those of a list that pass a test
 
 module _ (p : ℕ → Bool) where
-  pub given_kept : (xs : List ℕ) (i : ℕ) → i < length xs → (d : ℕ) (x y z : List ℕ) → Adds (filter p (take i xs)) x y → Adds (filter p (get_or xs i d ∷ [])) y z → Adds (filter p (take (i + 1) xs)) x z
-  given_kept xs i inside d x y z h k =
-      subst (λ a. Adds a x z) (sym (ap (filter p) (take_more xs i d inside) ∙ filter-append p (take i xs) (get_or xs i d ∷ [])))
-      (and_then (filter p (take i xs)) (filter p (get_or xs i d ∷ [])) x y z h k)
-
   -- of one list, and then of another
   pub kept_of_both : (a b x y z : List ℕ) → Adds (filter p a) x y → Adds (filter p b) y z → Adds (filter p (a ++ b)) x z
   kept_of_both a b x y z h k = subst (λ wanted. Adds wanted x z) (sym (filter-append p a b)) (and_then (filter p a) (filter p b) x y z h k)
@@ -125,8 +109,3 @@ module _ (p : Id → Bool) where
   pub fails_as_pair : (i : Id) (found : List ℕ) → p i ≡ false → Adds (target_of p i) found found
   fails_as_pair (plain c) found h = already [] found (λ e m. absurd (omega (arith, m.1)))
   fails_as_pair (pair r x) found h = subst (λ a. Adds a found found) (ap (λ b. if b then x ∷ [] else []) (sym h)) (already [] found (λ e m. absurd (omega (arith, m.1))))
-
-  pub its_target : (i : Id) (x : ℕ) (found after : List ℕ) → second_of i ≡ Some x → p i ≡ true → Adds (x ∷ []) found after → Adds (target_of p i) found after
-  its_target (plain c) x found after is passes adds = absurd cc
-  its_target (pair r y) x found after is passes adds =
-      subst (λ a. Adds a found after) (ap (λ z. z ∷ []) (sym (same_Some y x is)) ∙ ap (λ b. if b then y ∷ [] else []) (sym passes)) adds

@@ -1,6 +1,6 @@
 -- Who isn't among those that may have moved stays as before: no fact that concerns the query came or went of its own, nor one that concerns others of somebody with whom it holds a pair,
--- nor one that concerns those below of somebody above it. Of a linked query no fact that may move others came or went of any with whom it is linked, before or after.
-use Rattle.std.specs.Prelude.{◌≡◌, ◌↔◌, ℕ, suc, ◌==◌, Bool, true, false, not, ◌&&◌, ◌||◌, List, [], ◌∷◌, ◌++◌, filter, length, map, if◌then◌else◌}
+-- nor one that concerns those below of somebody above it.
+use Rattle.std.specs.Prelude.{◌≡◌, ◌↔◌, ℕ, suc, ◌==◌, Bool, true, false, not, ◌&&◌, List, [], ◌∷◌, filter, length, map, if◌then◌else◌}
 use Rattle.std.specs.List.{Contains, list_any}
 use Rattle.std.proofs.Common.{refl, sym, ap, subst, ◌∙◌, inl, inr, arith, cond, true≢false}
 use Rattle.std.proofs.lemmas.Bool.{and_from, and_parts, cases_Bool, false≢true, not-true, or_left, or_right, not-false}
@@ -14,7 +14,7 @@ use Rattle.ecs_model.specs.World.{WorldState, Key, entities, holds, ids_of, key_
 use Rattle.ecs_model.specs.rows.View.{View, view_of}
 use Rattle.ecs_model.specs.stored.Watches.{matching}
 use Rattle.ecs_model.specs.traits.Keeps.{IsWellFormed}
-use Rattle.ecs_model.proofs.Members.{alike, any_passes, eq_itself, eq_same, filtered, from_filter_map, from_or, in_flat_map, passing}
+use Rattle.ecs_model.proofs.Members.{any_passes, eq_itself, eq_same, filtered, from_filter_map, from_or}
 use Rattle.ecs_model.proofs.ReachSteps.{chain_reached}
 use Rattle.ecs_model.proofs.traits.Adding.{in_map}
 use Rattle.ecs_model.proofs.traits.Facts.{held_listed, listed_held}
@@ -23,23 +23,21 @@ use Rattle.ecs_model.proofs.LivePairs.{of_pair}
 use Rattle.component_index.specs.Patterns.{matches}
 use Rattle.query_model.specs.Query.{Query}
 use Rattle.query_meaning.specs.Sound.{IsSound}
+use Rattle.watch_concerns.specs.Anchored.{is_anchored}
 use Rattle.watch_concerns.specs.Concerns.{concerns}
-use Rattle.watch_concerns.specs.Idle.{is_idle}
-use Rattle.watch_concerns.specs.Linked.{HasLinked, is_linked, links_others}
 use Rattle.watch_concerns.specs.Others.{concerns_below, concerns_others}
 use Rattle.watch_concerns.specs.OwnIds.{lacks}
 use Rattle.watch_concerns.specs.Tied.{is_tied}
 use Rattle.watch_concerns.proofs.Ancestors.{line_chain}
 use Rattle.watch_concerns.proofs.LackedIds.{lacking_match_nothing, lacks_alike}
-use Rattle.watch_concerns.proofs.LinkedQueries.{match_by_links}
 use Rattle.watch_concerns.proofs.OwnFacts.{match_by_own_facts}
 use Rattle.watch_concerns.proofs.TiedQueries.{match_by_ties}
 use Rattle.watch_concerns.specs.Since.{IsAfter}
 use Rattle.watch_touched.specs.Before.{view_before}
 use Rattle.watch_touched.specs.Laws.{OthersThanMovingStay}
-use Rattle.watch_touched.specs.Leaning.{concerns_beyond, leaning, leans, links_busily, moves_by, pairs_to, target_of, targets_at}
-use Rattle.watch_touched.specs.Moving.{AreMoving, any_concerns_others, busy_among, entities_by, entities_of, ids_around, is_busy, is_followed, may_be_this}
-use Rattle.watch_touched.proofs.CoveredConcerns.{below_concern, busy_concern_others, others_concern}
+use Rattle.watch_touched.specs.Leaning.{concerns_beyond, leaning, leans, moves_by, pairs_to, target_of}
+use Rattle.watch_touched.specs.Moving.{AreMoving, any_concerns_others, are_holders, entities_by, entities_of, ids_around, may_be_this}
+use Rattle.watch_touched.proofs.CoveredConcerns.{below_concern, others_concern}
 use Rattle.watch_touched.proofs.IdsBefore.{is_among, same_held}
 use Rattle.watch_touched.proofs.RisingIds.{ids_rise, keys_rise, one_list}
 use Rattle.watch_touched.proofs.UnconcernedCommands.{queries_matched_before}
@@ -112,19 +110,6 @@ module _ (v : WorldState) (changed : Changed) (kept_now : IsWellFormed v) (after
       ∙ passing_stay (λ i. r i && p i) x
       (λ i h. unlisted (λ k. p k.1) changed.came x (λ m. none (Contains-append_left came went x m)) i (and_parts _ _ h).1)
       (λ i h. unlisted (λ k. p k.1) changed.went x (λ m. none (Contains-append_right came went x m)) i (and_parts _ _ h).1)
-      ∙ sym (filter_twice p r (ids_of v x))
-
-  -- who has no fact among those that came or went that may move others holds the same of ids that aren't idle for it
-  unmoved_stay : (q : Query) (r : Id → Bool) (x : ℕ) → (Contains (busy_among q v changed.went changed.came ++ busy_among q v changed.went changed.went) x → ⊥)
-      → filter (λ i. not (is_idle q (ids_around v changed.went x) i)) (filter r (ids_of after.before x)) ≡ filter (λ i. not (is_idle q (ids_around v changed.went x) i)) (filter r (ids_of v x))
-  unmoved_stay q r x none =
-      let p = λ (i : Id). not (is_idle q (ids_around v changed.went x) i) in
-      let came = busy_among q v changed.went changed.came in
-      let went = busy_among q v changed.went changed.went in
-      filter_twice p r (ids_of after.before x)
-      ∙ passing_stay (λ i. r i && p i) x
-      (λ i h. unlisted (is_busy q v changed.went) changed.came x (λ m. none (Contains-append_left came went x m)) i (and_parts _ _ h).1)
-      (λ i h. unlisted (is_busy q v changed.went) changed.went x (λ m. none (Contains-append_right came went x m)) i (and_parts _ _ h).1)
       ∙ sym (filter_twice p r (ids_of v x))
 
   -- what an entity held before it holds now, or a fact of that has gone
@@ -212,44 +197,25 @@ module _ (v : WorldState) (changed : Changed) (kept_now : IsWellFormed v) (after
               (rest.0, chain_reached (leaning (λ ids. concerns_beyond q) v) z rest.0 (y, other_leans r y z other h, rest.1), rest.2)
         ]
 
-    module _ (sound : IsSound q) (followed : is_followed q changed ≡ true) (es : List ℕ) (all : AreMoving q v changed es) (apart : Contains es e → ⊥) where
+    module _ (sound : IsSound q) (anchored : is_anchored q ≡ true) (holders : are_holders q changed ≡ true) (es : List ℕ) (all : AreMoving q v changed es) (apart : Contains es e → ⊥) where
       -- ---- two views
 
-      -- the entity holds the same of what concerns the query; whoever is above it, of what does so for those below; and with whom it holds a pair, or who is near, of what does so for others,
+      -- the entity holds the same of what concerns the query; whoever is above it, of what does so for those below; and with whom it holds a pair, of what does so for others,
       -- as all do where no such fact came or went
       record AreAlike (w u : View) : Type 0 where
         own : filter (concerns q) (w.ids e) ≡ filter (concerns q) (u.ids e)
         above : (r x : ℕ) → Contains (line u.ids u.entities r e) x → filter (concerns_below q) (w.ids x) ≡ filter (concerns_below q) (u.ids x)
         held : is_tied q ≡ true → (r x : ℕ) → Contains (u.ids e) (pair r x) → concerns q (pair r x) ≡ true → filter (concerns_others q) (w.ids x) ≡ filter (concerns_others q) (u.ids x)
-        near : ℕ → Bool
-        here : near e ≡ true
-        all_ids : ℕ → List Id
-        all_first : (x : ℕ) (i : Id) → Contains (w.ids x) i → Contains (all_ids x) i
-        all_then : (x : ℕ) (i : Id) → Contains (u.ids x) i → Contains (all_ids x) i
-        known : is_tied q ≡ false → (x : ℕ) → near x ≡ true → filter (λ i. not (is_idle q (all_ids x) i)) (w.ids x) ≡ filter (λ i. not (is_idle q (all_ids x) i)) (u.ids x)
-        linked : is_tied q ≡ false → HasLinked q all_ids w e near × HasLinked q all_ids u e near
         others : any_concerns_others q changed.came ≡ false → any_concerns_others q changed.went ≡ false → (x : ℕ) → filter (concerns_others q) (w.ids x) ≡ filter (concerns_others q) (u.ids x)
 
       match_alike : (w u : View) → AreLinks (suc last_index) w.entities w.ids → AreLinks (suc last_index) u.entities u.ids → AreAlike w u → Contains (matching w q) e ↔ Contains (matching u q) e
-      match_alike w u links links' same =
-          let parts = and_parts _ _ followed in
-          elim (cases_Bool (is_tied q)) [
-            | inl tied ↦ match_by_ties (suc last_index) (suc last_index) w u q links links' sound parts.0 tied e same.own same.above (same.held tied)
-            | inr loose ↦ elim (from_or (is_tied q || is_linked q) _ parts.1) [
-              | inl bound ↦
-                  let near = same.linked loose in
-                  match_by_links (suc last_index) (suc last_index) w u q links links' sound parts.0 (ap (λ b. b || is_linked q) (sym loose) ∙ bound) e same.own same.above
-                  same.all_ids same.all_first same.all_then same.near same.here near.0 near.1 (same.known loose)
-              | inr none ↦
-                  let both = and_parts _ _ none in
-                  match_by_own_facts (suc last_index) (suc last_index) w u q links links' sound parts.0
-                  (same.others (not-true (any_concerns_others q changed.came) both.0) (not-true (any_concerns_others q changed.went) both.1)) e same.own same.above
-            ]
-          ]
-
-      -- all may be near
-      all_near : (all_ids : ℕ → List Id) (u : View) → HasLinked q all_ids u e (λ x. true)
-      all_near all_ids u = record { held = λ r x h concerned. refl; linked = λ r x y h by busy. refl }
+      match_alike w u links links' same = elim (from_or (is_tied q) (not (any_concerns_others q changed.came) && not (any_concerns_others q changed.went)) holders) [
+        | inl tied ↦ match_by_ties (suc last_index) (suc last_index) w u q links links' sound anchored tied e same.own same.above (same.held tied)
+        | inr none ↦
+            let both = and_parts _ _ none in
+            match_by_own_facts (suc last_index) (suc last_index) w u q links links' sound anchored
+            (same.others (not-true (any_concerns_others q changed.came) both.0) (not-true (any_concerns_others q changed.went) both.1)) e same.own same.above
+      ]
 
       -- what doesn't matter makes no difference
       match_seen : (w : WorldState) → IsWellFormed w → Contains (matching (view_of w) q) e ↔ Contains (matching (seen w) q) e
@@ -257,14 +223,6 @@ module _ (v : WorldState) (changed : Changed) (kept_now : IsWellFormed v) (after
         own = filter_within (concerns q) (matters e) (λ i h. matters_itself i ∙ h) (ids_of w e);
         above = λ r x there. filter_within (concerns_below q) (matters x) (below_matters x) (ids_of w x);
         held = λ tied r x there concerned. filter_within (concerns_others q) (matters x) (others_matter x) (ids_of w x);
-        near = λ x. true;
-        here = refl;
-        all_ids = ids_of w;
-        all_first = λ x i h. h;
-        all_then = λ x i h. ((filtered (matters x) (ids_of w x) i).0 h).0;
-        known = λ loose x near. filter_within (λ i. not (is_idle q (ids_of w x) i)) (matters x)
-            (λ i h. others_matter x i (busy_concern_others q (ids_of w x) i (not-true (is_idle q (ids_of w x) i) h))) (ids_of w x);
-        linked = λ loose. (all_near (ids_of w) (view_of w), all_near (ids_of w) (seen w));
         others = λ came went x. filter_within (concerns_others q) (matters x) (others_matter x) (ids_of w x);
       })
 
@@ -283,78 +241,6 @@ module _ (v : WorldState) (changed : Changed) (kept_now : IsWellFormed v) (after
       own_stay : filter (concerns q) (filter (matters e) (ids_of after.before e)) ≡ filter (concerns q) (filter (matters e) (ids_of v e))
       own_stay = unlisted_stay (matters e) (concerns q) e (λ h. apart (all.own e h))
 
-      -- ---- whoever isn't among the linked ones is near
-
-      abbrev others_linked : List ℕ
-      others_linked = (all.are_targets).linked
-
-      abbrev is_near : ℕ → Bool
-      is_near x = not (list_any (λ y. y == x) others_linked)
-
-      is_far : (x : ℕ) → Contains others_linked x → is_near x ≡ false
-      is_far x h = ap not (any_passes (λ y. y == x) others_linked x h (eq_itself x))
-
-      stays_out : (x : ℕ) → is_near x ≡ true → Contains others_linked x → ⊥
-      stays_out x near h = true≢false (sym near ∙ is_far x h)
-
-      near_unless : (x : ℕ) → (Contains others_linked x → ⊥) → is_near x ≡ true
-      near_unless x none = ap not (refuted (list_any (λ y. y == x) others_linked) (λ t.
-          let found = passing (λ y. y == x) others_linked t in
-          none (subst (Contains others_linked) (eq_same found.0 x found.2) found.1)))
-
-      itself_near : is_near e ≡ true
-      itself_near = near_unless e (λ h. apart (all.themselves e ((all.are_targets).among e h) fit))
-
-      held_near : (r x : ℕ) → Contains (ids_of v e) (pair r x) → concerns q (pair r x) ≡ true → is_near x ≡ true
-      held_near r x h concerned = near_unless x (λ l.
-          apart (all.held x e ((all.are_targets).among x l) (holder_leans (moves_by q) e r x h (and_from _ _ concerned fit))))
-
-      module _ (loose : is_tied q ≡ false) (r x y : ℕ) (by : links_others q (pair r y) ≡ true) (busy : is_idle q (ids_around v changed.went x) (pair r y) ≡ false) where
-        links : links_busily q changed.went (ids_of v x) (pair r y) ≡ true
-        links = and_from _ _ by (ap not busy)
-
-        linked_now : Contains (ids_of v x) (pair r y) → is_near x ≡ is_near y
-        linked_now h =
-            let p = links_busily q changed.went in
-            let closed = ((all.are_targets).are_linked).closed loose in
-            let holder = holder_leans p x r y h links in
-            let target = in_flat_map (target_of (p (ids_of v x))) (ids_of v x) (pair r y) y h (its_target (p (ids_of v x)) r y links) in
-            alike (is_near x) (is_near y)
-            (λ near. near_unless y (λ l. stays_out x near (closed y x l (Contains-append_left (leaning p v y) (targets_at p v y) x holder))))
-            (λ near. near_unless x (λ l. stays_out y near (closed x y l (Contains-append_right (leaning p v x) (targets_at p v x) y target))))
-
-        linked_before : Contains (ids_of after.before x) (pair r y) → is_near x ≡ is_near y
-        linked_before h = elim (cases_Bool (list_any (key_eq (x, pair r y)) changed.went)) [
-          | inl gone ↦
-              let are = (all.are_targets).are_linked in
-              let fact = is_among changed.went (x, pair r y) gone in
-              let test = is_busy q v changed.went in
-              let listed = in_map (λ (k : Key). k.0) (filter test changed.went) (x, pair r y) ((filtered test changed.went (x, pair r y)).1 (fact, ap not busy)) in
-              let holder = are.busy loose x (Contains-append_right (busy_among q v changed.went changed.came) (busy_among q v changed.went changed.went) x listed) in
-              let passes = λ (k : Key). links_busily q changed.went (ids_of v k.0) in
-              let target = are.lost loose y (in_flat_map (λ (k : Key). target_of (passes k) k.1) changed.went (x, pair r y) y fact (its_target (passes (x, pair r y)) r y links)) in
-              is_far x holder ∙ sym (is_far y target)
-          | inr lasts ↦
-              let was = listed_held after.before x (pair r y) h in
-              let gone = has_gone after.before v after.command changed after.kept after.stepped (x, pair r y) in
-              linked_now (held_listed v x (pair r y) (lasting (holds v x (pair r y)) (holds after.before x (pair r y)) was (sym gone ∙ lasts)))
-        ]
-
-      near_before : is_tied q ≡ false → HasLinked q (ids_around v changed.went) (seen after.before) e is_near
-      near_before loose = record {
-        held = λ r x h concerned.
-            let here = (filtered (concerns q) (filter (matters e) (ids_of after.before e)) (pair r x)).1 (h, concerned) in
-            let there = (filtered (concerns q) (filter (matters e) (ids_of v e)) (pair r x)).0 (subst (λ is. Contains is (pair r x)) own_stay here) in
-            held_near r x ((filtered (matters e) (ids_of v e) (pair r x)).0 there.0).0 concerned;
-        linked = λ r x y h by busy. linked_before loose r x y by busy ((filtered (matters x) (ids_of after.before x) (pair r y)).0 h).0;
-      }
-
-      near_now : is_tied q ≡ false → HasLinked q (ids_around v changed.went) (seen v) e is_near
-      near_now loose = record {
-        held = λ r x h concerned. held_near r x ((filtered (matters e) (ids_of v e) (pair r x)).0 h).0 concerned;
-        linked = λ r x y h by busy. linked_now loose r x y by busy ((filtered (matters x) (ids_of v x) (pair r y)).0 h).0;
-      }
-
       seen_alike : AreAlike (seen after.before) (seen v)
       seen_alike = record {
         own = own_stay;
@@ -365,14 +251,7 @@ module _ (v : WorldState) (changed : Changed) (kept_now : IsWellFormed v) (after
         held = λ tied r x there concerned. unlisted_stay (matters x) (concerns_others q) x
             (λ h.
             let f = (filtered (matters e) (ids_of v e) (pair r x)).0 there in
-            apart (all.held x e ((all.are_targets).among x (((all.are_targets).are_linked).others tied x h)) (holder_leans (moves_by q) e r x f.0 (and_from _ _ concerned fit))));
-        near = is_near;
-        here = itself_near;
-        all_ids = ids_around v changed.went;
-        all_first = λ x i h. around_before x i ((filtered (matters x) (ids_of after.before x) i).0 h).0;
-        all_then = λ x i h. Contains-append_left (ids_of v x) (map (λ (k : Key). k.1) changed.went) i ((filtered (matters x) (ids_of v x) i).0 h).0;
-        known = λ loose x near. unmoved_stay q (matters x) x (λ h. stays_out x near (((all.are_targets).are_linked).busy loose x h));
-        linked = λ loose. (near_before loose, near_now loose);
+            apart (all.held x e ((all.are_targets).others x h) (holder_leans (moves_by q) e r x f.0 (and_from _ _ concerned fit))));
         others = all_others_stay;
       }
 
@@ -401,12 +280,12 @@ module _ (v : WorldState) (changed : Changed) (kept_now : IsWellFormed v) (after
         λ h. absurd (lacking_match_nothing (view_of v) q e now h),
       )
 
-  pub stay_put : (q : Query) → IsSound q → is_followed q changed ≡ true → (es : List ℕ) → AreMoving q v changed es → (e : ℕ) → (Contains es e → ⊥)
+  pub stay_put : (q : Query) → IsSound q → is_anchored q ≡ true → are_holders q changed ≡ true → (es : List ℕ) → AreMoving q v changed es → (e : ℕ) → (Contains es e → ⊥)
       → Contains (matching (view_before v changed) q) e ↔ Contains (matching (view_of v) q) e
-  stay_put q sound followed es all e apart = elim (cases_Bool (may_be_this q v e)) [
-    | inl fit ↦ fit_stays q e fit sound followed es all apart
+  stay_put q sound anchored holders es all e apart = elim (cases_Bool (may_be_this q v e)) [
+    | inl fit ↦ fit_stays q e fit sound anchored holders es all apart
     | inr lack ↦ lacking_stays q e (λ h. apart (all.own e h)) lack
   ]
 
 pub others_than_moving_stay : OthersThanMovingStay
-others_than_moving_stay v changed q kept_now after sound followed es all e apart = stay_put v changed kept_now after q sound followed es all e apart
+others_than_moving_stay v changed q kept_now after sound anchored holders es all e apart = stay_put v changed kept_now after q sound anchored holders es all e apart

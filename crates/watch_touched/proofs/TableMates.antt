@@ -1,6 +1,6 @@
 -- Those who stand in one table hold the same ids, so all of them lean on an entity, or nobody does.
-use Rattle.std.proofs.Common.{◌≡◌, ℕ, ◌+◌, ◌<◌, ◌==◌, ◌&&◌, Bool, true, false, true≢false, List, [], ◌∷◌, length, get_or, map, take, Option, Some, None, refl, sym, ap, subst, ◌∙◌, arith}
-use Rattle.std.specs.Prelude.{filter, flat_map, option_map, slice_get, unwrap_or}
+use Rattle.std.proofs.Common.{◌≡◌, ℕ, ◌+◌, ◌<◌, ◌==◌, ◌&&◌, Bool, true, false, true≢false, List, [], length, get_or, map, take, Option, Some, None, refl, sym, ap, subst, ◌∙◌, arith}
+use Rattle.std.specs.Prelude.{filter, flat_map, option_map, unwrap_or}
 use Rattle.std.specs.List.{Contains, list_all, list_any}
 use Rattle.std.specs.Option.{option_map_or}
 use Rattle.std.proofs.lemmas.Option.{slice_get-get_or}
@@ -16,12 +16,12 @@ use Rattle.ecs_archetypes.specs.Linked.{Linked, ids_at_index, rows_under}
 use Rattle.ecs_model.specs.Map.{keys}
 use Rattle.ecs_model.specs.World.{WorldState, ids_of}
 use Rattle.ecs_model.proofs.Members.{eq_same, filtered, passing}
-use Rattle.ecs_model.proofs.traits.Adding.{from_map, in_map}
+use Rattle.ecs_model.proofs.traits.Adding.{from_map}
 use Rattle.ecs_model.proofs.traits.Kept.{each_passes}
 use Rattle.ecs_table.specs.Archetype.{Archetype}
 use Rattle.table_store.specs.Rows.{Row, cells_of, row_at}
 use Rattle.table_store.specs.Store.{Store, ids_at, table_at}
-use Rattle.watch_touched.specs.Leaning.{Adds, AreAlike, HoldAll, HoldTheirs, leans, pairs_to, standing_in}
+use Rattle.watch_touched.specs.Leaning.{Adds, HoldAll, HoldTheirs, leans, pairs_to, standing_in}
 use Rattle.watch_touched.proofs.GrownLists.{already, fewer, given_within}
 
 row_under : (s : Store) (k : TableKey) (t : Archetype) (j : ℕ) (d : EntityId) → table_at s k ≡ Some t → j < length t.entities → row_at s (record { table = k; row = j }) ≡ Some (get_or t.entities j d, cells_of t j)
@@ -44,9 +44,6 @@ module _ (l : Linked) (rows : HaveRows l.housing) where
           let row = rows p v there in
           ap (λ n. keys (unwrap_or (cells_at (holdings_of l.housing) n) [])) (sym e.2) ∙ ap (λ o. keys (unwrap_or o [])) row.cells ∙ sym (ap (λ o. unwrap_or o []) row.ids)
 
-  pub alike_by_tables : (w : WorldState) → ((e : ℕ) → ids_of w e ≡ ids_at_index l e) → (k : TableKey) → AreAlike w (rows_under l k)
-  alike_by_tables w are k x y a b = are x ∙ has_ids k x a ∙ sym (has_ids k y b) ∙ sym (are y)
-
   pub theirs_by_tables : (w : WorldState) → ((e : ℕ) → ids_of w e ≡ ids_at_index l e) → HoldTheirs w (l.housing).tables
   theirs_by_tables w are k t at e there =
       let within : Contains (rows_under l k) e = subst (λ (o : Option Archetype). Contains (option_map_or (λ u. map (λ (x : EntityId). x.index) u.entities) o []) e) (sym at) there in
@@ -58,13 +55,6 @@ module _ (p : List Id → Id → Bool) (w : WorldState) (x : ℕ) (entities : Li
   abbrev indexes : List ℕ
   indexes = map (λ (e : EntityId). e.index) entities
 
-  pub nobody_there : slice_get entities 0 ≡ None → Adds (filter (leans p w x) indexes) found found
-  nobody_there none = by entities none
-    where
-      by : (es : List EntityId) → slice_get es 0 ≡ None → Adds (filter (leans p w x) (map (λ (e : EntityId). e.index) es)) found found
-      by [] h = already [] found (λ e m. absurd (omega (arith, m.1)))
-      by (e ∷ es) h = absurd cc
-
   -- who is there already needn't be added
   pub all_there : list_all (λ (e : EntityId). list_any (λ y. y == e.index) found) entities ≡ true → Adds (filter (leans p w x) indexes) found found
   all_there are =
@@ -73,14 +63,6 @@ module _ (p : List Id → Id → Bool) (w : WorldState) (x : ℕ) (entities : Li
       let e = from_map (λ (e : EntityId). e.index) entities y ((filtered (leans p w x) indexes y).0 m).0 in
       let same = passing (λ z. z == (e.0).index) found (each_passes (λ (e : EntityId). list_any (λ y. y == e.index) found) entities are e.0 e.1) in
       subst (Contains found) (eq_same same.0 (e.0).index same.2 ∙ e.2) same.1)
-
-  -- who holds the ids of the first is told by these
-  pub all_hold : AreAlike w indexes → (first : EntityId) → slice_get entities 0 ≡ Some first → (ids : List Id) → ids ≡ ids_of w first.index → HoldAll w ids indexes
-  all_hold alike first is ids of_first e there = alike e first.index there (in_map (λ (e : EntityId). e.index) entities first (first_in entities is)) ∙ sym of_first
-    where
-      first_in : (es : List EntityId) → slice_get es 0 ≡ Some first → Contains es first
-      first_in [] h = absurd cc
-      first_in (e ∷ es) h = (0, omega arith, let same : e ≡ first = cc in same)
 
   -- where these ids tell that nobody leans, nobody does
   pub nobody_by : (ids : List Id) → HoldAll w ids indexes → list_any (λ i. matches (pairs_to x) i && p ids i) ids ≡ false → Adds (filter (leans p w x) indexes) found found

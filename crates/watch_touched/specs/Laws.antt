@@ -11,7 +11,7 @@ use Rattle.ecs_model.specs.traits.Command.{Command, step}
 use Rattle.ecs_model.specs.traits.Keeps.{IsWellFormed}
 use Rattle.watch_touched.specs.Before.{view_before}
 use Rattle.watch_touched.specs.Concerned.{is_concerned}
-use Rattle.watch_touched.specs.Moving.{AreMoving, is_followed}
+use Rattle.watch_touched.specs.Moving.{AreMoving, are_holders}
 use Rattle.watch_touched.specs.Roles.{AreMovingByRoles}
 use Rattle.query_meaning.specs.Sound.{IsSound}
 use Rattle.watch_concerns.specs.Anchored.{is_anchored}
@@ -33,9 +33,10 @@ abbrev pub UnconcernedQueriesMatchOn : Type 0
 UnconcernedQueriesMatchOn = (v : WorldState) (changed : Changed) (q : Query) → IsWellFormed v → IsAfter v changed → is_concerned q changed ≡ false
     → matching (view_before v changed) q ≡ matching (view_of v) q
 
--- where all who may move can be found, and are among some entities, all others that were in its rows stay there, and none of them enters
+-- where facts of others move those alone who hold a pair with their entities, or with one below these, and all who may move are among some entities, all others that were in the rows of an
+-- anchored query stay there, and none of them enters
 abbrev pub OthersThanMovingStay : Type 0
-OthersThanMovingStay = (v : WorldState) (changed : Changed) (q : Query) → IsWellFormed v → IsAfter v changed → IsSound q → is_followed q changed ≡ true
+OthersThanMovingStay = (v : WorldState) (changed : Changed) (q : Query) → IsWellFormed v → IsAfter v changed → IsSound q → is_anchored q ≡ true → are_holders q changed ≡ true
     → (es : List ℕ) → AreMoving q v changed es → (e : ℕ) → (Contains es e → ⊥) → Contains (matching (view_before v changed) q) e ↔ Contains (matching (view_of v) q) e
 
 -- so do all others than those who may move by who may stand for a variable, of an anchored query that is linked by some terms

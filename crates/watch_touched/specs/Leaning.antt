@@ -1,5 +1,5 @@
--- Who leans on an entity: who holds a pair with it that passes a test, which may ask for the holder's other ids too; and who is linked with it, by holding one or by being its target.
-use Rattle.std.specs.Prelude.{◌≡◌, ℕ, Bool, ◌&&◌, ◌||◌, List, [], ◌∷◌, ◌++◌, Some, filter, flat_map, map, not, if◌then◌else◌}
+-- Who leans on an entity: who holds a pair with it that passes a test, which may ask for the holder's other ids too.
+use Rattle.std.specs.Prelude.{◌≡◌, ℕ, Bool, ◌&&◌, ◌||◌, List, [], ◌∷◌, ◌++◌, Some, filter, map, not, if◌then◌else◌}
 use Rattle.std.specs.List.{Contains, list_any}
 use Rattle.std.specs.Option.{option_map_or}
 use Rattle.component_index.specs.Patterns.{matches}
@@ -8,17 +8,15 @@ use Rattle.component_index.specs.declared.pattern.Pattern.{Pattern}
 use Rattle.ecs_id.specs.Id.{Id, plain, pair}
 use Rattle.ecs_id.specs.declared.TableKey.{TableKey}
 use Rattle.ecs_model.specs.Reach.{Reached}
-use Rattle.ecs_model.specs.World.{WorldState, Key, entities, ids_of}
+use Rattle.ecs_model.specs.World.{WorldState, entities, ids_of}
 use Rattle.ecs_table.specs.Archetype.{Archetype}
 use Rattle.watch_concerns.specs.Concerns.{concerns}
-use Rattle.watch_concerns.specs.Idle.{is_idle}
-use Rattle.watch_concerns.specs.Linked.{links_others}
 use Rattle.watch_concerns.specs.Others.{concerns_below, concerns_others}
 use Rattle.watch_concerns.specs.OwnIds.{lacks}
 use Rattle.query_model.specs.Query.{Query}
 use Rattle.table_store.specs.Store.{Store, table_at}
 use Rattle.watch_touched.specs.declared.sought.Sought.{Sought}
-use Rattle.watch_touched.specs.declared.sought.Sought.TheVariants.{Moving, Below, Linked}
+use Rattle.watch_touched.specs.declared.sought.Sought.TheVariants.{Moving, Below}
 
 -- whether an id concerns a query for somebody else than its holder
 abbrev pub concerns_beyond : Query → Id → Bool
@@ -28,15 +26,10 @@ concerns_beyond q i = concerns_below q i || concerns_others q i
 abbrev pub moves_by : Query → List Id → Id → Bool
 moves_by q ids i = concerns q i && not (lacks q ids)
 
--- whether it is linked with the target, where these facts went: the pair links others, and isn't idle
-abbrev pub links_busily : Query → List Key → List Id → Id → Bool
-links_busily q went ids i = links_others q i && not (is_idle q (ids ++ map (λ k. k.1) went) i)
-
 -- whether it is looked for
 abbrev pub is_sought : Sought → Query → List Id → Id → Bool
 is_sought Moving q ids i = moves_by q ids i
 is_sought Below q ids i = concerns_beyond q i
-is_sought (Linked went) q ids i = links_busily q went.now ids i
 
 -- the pairs with this entity as their target
 abbrev pub pairs_to : ℕ → Pattern
@@ -56,21 +49,9 @@ module _ (p : List Id → Id → Bool) (w : WorldState) where
   abbrev pub leaning : ℕ → List ℕ
   leaning x = filter (leans x) (entities w)
 
-  -- the targets of the pairs that an entity holds
-  abbrev pub targets_at : ℕ → List ℕ
-  targets_at e = flat_map (target_of (p (ids_of w e))) (ids_of w e)
-
-  -- all with whom an entity has a pair in common
-  abbrev pub linked_with : ℕ → List ℕ
-  linked_with x = leaning x ++ targets_at x
-
   -- among these are all who lean on one of those, who lean on one of these, and so on
   abbrev pub HasAllBelow : List ℕ → List ℕ → Type 0
   HasAllBelow start all = (x e : ℕ) → Contains start x → Reached leaning x e → Contains all e
-
--- all of these hold the same ids
-abbrev pub AreAlike : WorldState → List ℕ → Type 0
-AreAlike w es = (x y : ℕ) → Contains es x → Contains es y → ids_of w x ≡ ids_of w y
 
 -- each of these holds these ids
 abbrev pub HoldAll : WorldState → List Id → List ℕ → Type 0

@@ -1,5 +1,5 @@
 -- Who may move in or out of a query's rows by a command, and whether ids tell that one is in them.
-use Rattle.std.specs.Prelude.{◌≡◌, ◌↔◌, ℕ, Bool, true, false, not, ◌&&◌, ◌||◌, List, ◌++◌, Option, None, Some, filter, flat_map, map, if◌then◌else◌}
+use Rattle.std.specs.Prelude.{◌↔◌, ℕ, Bool, true, false, not, ◌&&◌, ◌||◌, List, ◌++◌, Option, None, Some, filter, map, if◌then◌else◌}
 use Rattle.std.specs.List.{Contains, list_any}
 use Rattle.std.specs.List.Sorted.{IsStrictlyIncreasing}
 use Rattle.ecs_id.specs.Id.{Id}
@@ -9,14 +9,13 @@ use Rattle.ecs_model.specs.rows.View.{view_of}
 use Rattle.ecs_model.specs.stored.Watches.{matching}
 use Rattle.watch_concerns.specs.Anchored.{is_anchored}
 use Rattle.watch_concerns.specs.Concerns.{concerns}
-use Rattle.watch_concerns.specs.Idle.{is_idle}
 use Rattle.watch_concerns.specs.Linked.{is_linked}
 use Rattle.watch_concerns.specs.Others.{concerns_below, concerns_others}
 use Rattle.watch_concerns.specs.OwnIds.{lacks, meets}
 use Rattle.watch_concerns.specs.Tied.{is_tied}
 use Rattle.query_model.specs.Query.{Query}
 use Rattle.watch_touched.specs.Before.{view_before}
-use Rattle.watch_touched.specs.Leaning.{HasAllBelow, concerns_beyond, leaning, linked_with, links_busily, moves_by, target_of}
+use Rattle.watch_touched.specs.Leaning.{HasAllBelow, concerns_beyond, leaning, moves_by}
 
 -- the entities of those facts that pass a test by their ids
 abbrev pub entities_by : (Id → Bool) → List Key → List ℕ
@@ -33,18 +32,6 @@ any_by p ks = list_any (λ k. p k.1) ks
 -- the ids that an entity holds, and those of facts that went
 abbrev pub ids_around : WorldState → List Key → ℕ → List Id
 ids_around w went x = ids_of w x ++ map (λ k. k.1) went
-
--- whether a fact may move others than its holder in or out of a linked query's rows
-abbrev pub is_busy : Query → WorldState → List Key → Key → Bool
-is_busy q w went k = not (is_idle q (ids_around w went k.0) k.1)
-
--- the entities of such facts among these
-abbrev pub busy_among : Query → WorldState → List Key → List Key → List ℕ
-busy_among q w went ks = map (λ k. k.0) (filter (is_busy q w went) ks)
-
--- the targets of those facts that are pairs, link others and aren't idle
-abbrev pub targets_by : Query → WorldState → List Key → List Key → List ℕ
-targets_by q w went ks = flat_map (λ k. target_of (links_busily q went (ids_of w k.0)) k.1) ks
 
 -- whether an entity's ids don't lack what a query asks of `$this` itself
 abbrev pub may_be_this : Query → WorldState → ℕ → Bool
@@ -63,29 +50,18 @@ abbrev pub is_followed : Query → Changed → Bool
 is_followed q changed = is_anchored q && (is_tied q || is_linked q || (not (any_concerns_others q changed.came) && not (any_concerns_others q changed.went)))
 
 module _ (q : Query) (w : WorldState) where
-  -- among these are those of whom a fact that concerns others came or went. Of a query that isn't tied they are those of whom a fact came or went that may move others, the targets of such facts that
-  -- went and linked others, and with each of them all who are linked with it now
-  pub record AreLinked (changed : Changed) (xs : List ℕ) : Type 0 where
-    pub others : is_tied q ≡ true → (x : ℕ) → Contains (entities_of (concerns_others q) changed) x → Contains xs x
-    pub busy : is_tied q ≡ false → (x : ℕ) → Contains (busy_among q w changed.went changed.came ++ busy_among q w changed.went changed.went) x → Contains xs x
-    pub lost : is_tied q ≡ false → (x : ℕ) → Contains (targets_by q w changed.went changed.went) x → Contains xs x
-    pub closed : is_tied q ≡ false → (x y : ℕ) → Contains xs x → Contains (linked_with (links_busily q changed.went) w x) y → Contains xs y
-
-  -- among these are all with whom somebody holds a pair who may move by another one's fact: such linked ones,
-  -- those of whom a fact came or went that concerns those below, and all below these
+  -- among these are all with whom somebody holds a pair who may move by another one's fact: those of whom a fact came or went that concerns others,
+  -- those of whom one did that concerns those below, and all below these
   pub record AreTargets (changed : Changed) (xs : List ℕ) : Type 0 where
-    pub linked : List ℕ
-    pub are_linked : AreLinked changed linked
-    pub among : (x : ℕ) → Contains linked x → Contains xs x
+    pub others : (x : ℕ) → Contains (entities_of (concerns_others q) changed) x → Contains xs x
     pub below : HasAllBelow (λ ids. concerns_beyond q) w (entities_of (concerns_below q) changed) xs
 
-  -- among these are all who may move: those whose own facts came or went, such targets, and those who hold a pair that concerns the query with one of these, but for those who lack what is asked of `$this`.
+  -- among these are all who may move: those whose own facts came or went, and those who hold a pair that concerns the query with such a target, but for those who lack what is asked of `$this`.
   -- They hold it now: who held one before alone has lost it by a fact of its own
   pub record AreMoving (changed : Changed) (es : List ℕ) : Type 0 where
     pub own : (e : ℕ) → Contains (entities_of (concerns q) changed) e → Contains es e
     pub targets : List ℕ
     pub are_targets : AreTargets changed targets
-    pub themselves : (x : ℕ) → Contains targets x → may_be_this q w x ≡ true → Contains es x
     pub held : (x e : ℕ) → Contains targets x → Contains (leaning (moves_by q) w x) e → Contains es e
 
   -- whether an entity is `$this` of a row, as its ids tell: nobody is who doesn't live, or lacks what is asked of `$this` itself; and whoever meets all that is asked by its ids alone is. Of others they don't tell

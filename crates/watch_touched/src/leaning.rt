@@ -3,15 +3,12 @@
 ghost use Rattle.std.specs.Prelude.{◌≡◌, ◌==◌, ◌&&◌, ◌∷◌, [], true, filter, flat_map, map, IfOk, OnOk};
 ghost use Rattle.std.specs.List.{list_all, list_any};
 ghost use Rattle.component_index.specs.Patterns.{matches};
-ghost use Rattle.ecs_id.specs.declared.TableKey.{TableKey as Key};
 ghost use Rattle.ecs_model.specs.World.{WorldState};
-ghost use Rattle.watch_touched.specs.Leaning.{Adds, AreAlike, HasAllBelow, HoldAll, HoldTheirs, is_sought, leaning, leans, links_busily, moves_by, pairs_to, standing_in};
+ghost use Rattle.watch_touched.specs.Leaning.{Adds, HasAllBelow, HoldAll, HoldTheirs, is_sought, leaning, leans, pairs_to, standing_in};
 
 use crate::sought::{Sought, is_sought};
-use crate::touching::ids_at;
 use component_index::{ListedKey, Part, Pattern};
 use ecs_id::{EntityId, Id};
-use ecs_model::FactKey;
 use ecs_world::World;
 use rel_travel::Holders;
 use short_list::ShortList;
@@ -29,12 +26,12 @@ pub(crate) const MOST_TABLES: usize = 256;
 pub(crate) fn push_leaning_on_all<A: Allocator + Copy, B: Allocator>(
     alloc: A,
     query: &AskedQuery<'_, B>,
-    sought: &Sought<'_>,
+    sought: Sought,
     world: &World<A>,
     targets: &[u32],
     found: &mut ShortList<A>,
 ) -> Result<bool, AllocError>
-    ensures { IfOk result (λ done. done ≡ true → Adds (flat_map (leaning (is_sought sought.now query.now) world.now.state) targets.now) found.old.items found.new.items) }
+    ensures { IfOk result (λ done. done ≡ true → Adds (flat_map (leaning (is_sought sought query.now) world.now.state) targets.now) found.old.items found.new.items) }
 {
     if targets.len() > MOST {
         return Ok(false);
@@ -51,11 +48,11 @@ pub(crate) fn push_leaning_on_all<A: Allocator + Copy, B: Allocator>(
 pub(crate) fn push_all_below<A: Allocator + Copy, B: Allocator>(
     alloc: A,
     query: &AskedQuery<'_, B>,
-    sought: &Sought<'_>,
+    sought: Sought,
     world: &World<A>,
     found: &mut ShortList<A>,
 ) -> Result<bool, AllocError>
-    ensures { IfOk result (λ done. done ≡ true → HasAllBelow (is_sought sought.now query.now) world.now.state found.old.items found.new.items) }
+    ensures { IfOk result (λ done. done ≡ true → HasAllBelow (is_sought sought query.now) world.now.state found.old.items found.new.items) }
 {
     for next in 0..MOST {
         if next >= found.len() {
@@ -73,41 +70,12 @@ pub(crate) fn push_all_below<A: Allocator + Copy, B: Allocator>(
 pub(crate) fn push_leaning<A: Allocator + Copy, B: Allocator>(
     alloc: A,
     query: &AskedQuery<'_, B>,
-    sought: &Sought<'_>,
+    sought: Sought,
     world: &World<A>,
     target: u32,
     found: &mut ShortList<A>,
 ) -> Result<bool, AllocError>
-    ensures { IfOk result (λ done. done ≡ true → Adds (leaning (is_sought sought.now query.now) world.now.state target) found.old.items found.new.items) }
-{
-    let links = world.links();
-    // What is known of each row.
-    let _ = links.tables().store();
-    let pattern = Pattern {
-        first: Part::Any,
-        second: Some(Part::Is(target)),
-    };
-    let tables = links.tables_of(pattern);
-    if !are_few(&links, tables) {
-        return Ok(false);
-    }
-    push_from_tables(alloc, query, sought, world, &links, tables, target, found)?;
-    Ok(found.len() <= MOST)
-}
-
-/// Adds those who are linked with this entity by a pair that they hold with it, where these facts went, to the first list, and those who may move by a
-/// fact of it to the second. False, where either may be too many. The tables with such pairs are looked up and gone through once.
-pub(crate) fn push_linked_and_moving<A: Allocator + Copy, B: Allocator>(
-    alloc: A,
-    query: &AskedQuery<'_, B>,
-    went: &[FactKey],
-    world: &World<A>,
-    target: u32,
-    linked: &mut ShortList<A>,
-    moving: &mut ShortList<A>,
-) -> Result<bool, AllocError>
-    ensures linked { IfOk result (λ done. done ≡ true → Adds (leaning (links_busily query.now went.now) world.now.state target) linked.old.items linked.new.items) }
-    ensures moving { IfOk result (λ done. done ≡ true → Adds (leaning (moves_by query.now) world.now.state target) moving.old.items moving.new.items) }
+    ensures { IfOk result (λ done. done ≡ true → Adds (leaning (is_sought sought query.now) world.now.state target) found.old.items found.new.items) }
 {
     let links = world.links();
     let store = links.tables().store();
@@ -119,70 +87,23 @@ pub(crate) fn push_linked_and_moving<A: Allocator + Copy, B: Allocator>(
     if tables.len() > MOST_TABLES {
         return Ok(false);
     }
-    if !push_both_from_tables(alloc, query, went, store, tables, target, linked, moving)? {
+    if !push_from_tables(alloc, query, sought, store, tables, target, found)? {
         return Ok(false);
     }
-    Ok((linked.len() <= MOST) & (moving.len() <= MOST))
+    Ok(found.len() <= MOST)
 }
 
-/// Whether few entities stand in these tables, and these are few.
-fn are_few<G: Holders>(graph: &G, tables: &[ListedKey]) -> bool {
-    if tables.len() > MOST_TABLES {
-        return false;
-    }
-    let mut free = MOST;
-    for table in tables {
-        let count = graph.rows(*table).len();
-        if count > free {
-            return false;
-        }
-        free -= count;
-    }
-    true
-}
-
-/// Adds those in these tables who lean on an entity. All in a table hold the same ids.
-fn push_from_tables<G: Holders, A: Allocator + Copy, B: Allocator>(
+/// Adds those in these tables who lean on an entity. All in a table hold the same ids. False, where more are looked at than few, and then not all are added.
+fn push_from_tables<A: Allocator + Copy, B: Allocator>(
     alloc: A,
     query: &AskedQuery<'_, B>,
-    sought: &Sought<'_>,
-    world: &World<A>,
-    graph: &G,
-    tables: &[ListedKey],
-    target: u32,
-    found: &mut ShortList<A>,
-) -> Result<(), AllocError>
-    requires alike { (k : Key) → AreAlike world.now.state (G.rows graph.now k) }
-    ensures { OnOk result (Adds (filter (leans (is_sought sought.now query.now) world.now.state target) (flat_map (G.rows graph.now) tables.now)) found.old.items found.new.items) }
-{
-    for table in tables {
-        push_from(
-            alloc,
-            query,
-            sought,
-            world,
-            graph.rows(*table),
-            target,
-            found,
-        )?;
-    }
-    Ok(())
-}
-
-/// Adds those in these tables who are linked with an entity, where these facts went, to the first list, and those who may move by a fact of it to the second. False,
-/// where more are looked at than few, and then not all are added.
-fn push_both_from_tables<A: Allocator + Copy, B: Allocator>(
-    alloc: A,
-    query: &AskedQuery<'_, B>,
-    went: &[FactKey],
+    sought: Sought,
     store: &TableStore<A>,
     tables: &[ListedKey],
     target: u32,
-    linked: &mut ShortList<A>,
-    moving: &mut ShortList<A>,
+    found: &mut ShortList<A>,
 ) -> Result<bool, AllocError>
-    ensures linked { IfOk result (λ done. done ≡ true → (w : WorldState) → HoldTheirs w store.now → Adds (filter (leans (links_busily query.now went.now) w target) (flat_map (standing_in store.now) tables.now)) linked.old.items linked.new.items) }
-    ensures moving { IfOk result (λ done. done ≡ true → (w : WorldState) → HoldTheirs w store.now → Adds (filter (leans (moves_by query.now) w target) (flat_map (standing_in store.now) tables.now)) moving.old.items moving.new.items) }
+    ensures { IfOk result (λ done. done ≡ true → (w : WorldState) → HoldTheirs w store.now → Adds (filter (leans (is_sought sought query.now) w target) (flat_map (standing_in store.now) tables.now)) found.old.items found.new.items) }
 {
     let mut free = MOST;
     'tables: for listed in tables {
@@ -196,39 +117,9 @@ fn push_both_from_tables<A: Allocator + Copy, B: Allocator>(
         }
         free -= rows.len();
         let ids = table.ids();
-        push_alike(
-            alloc,
-            query,
-            &Sought::Linked(went),
-            ids,
-            rows,
-            target,
-            linked,
-        )?;
-        push_alike(alloc, query, &Sought::Moving, ids, rows, target, moving)?;
+        push_alike(alloc, query, sought, ids, rows, target, found)?;
     }
     Ok(true)
-}
-
-/// Adds those of these entities who lean on another one. They hold the same ids.
-#[inline(always)]
-fn push_from<A: Allocator + Copy, B: Allocator>(
-    alloc: A,
-    query: &AskedQuery<'_, B>,
-    sought: &Sought<'_>,
-    world: &World<A>,
-    entities: &[EntityId],
-    target: u32,
-    found: &mut ShortList<A>,
-) -> Result<(), AllocError>
-    requires alike { AreAlike world.now.state (map (λ e. e.index) entities.now) }
-    ensures { OnOk result (Adds (filter (leans (is_sought sought.now query.now) world.now.state target) (map (λ e. e.index) entities.now)) found.old.items found.new.items) }
-{
-    let Some(first) = entities.first() else {
-        return Ok(());
-    };
-    let ids = ids_at(world, first.index);
-    push_alike(alloc, query, sought, ids, entities, target, found)
 }
 
 /// Adds these entities, of whom each holds these ids, if they lean on another one: all of them do, or nobody does.
@@ -236,13 +127,13 @@ fn push_from<A: Allocator + Copy, B: Allocator>(
 fn push_alike<A: Allocator + Copy, B: Allocator>(
     alloc: A,
     query: &AskedQuery<'_, B>,
-    sought: &Sought<'_>,
+    sought: Sought,
     ids: &[Id],
     entities: &[EntityId],
     target: u32,
     found: &mut ShortList<A>,
 ) -> Result<(), AllocError>
-    ensures { OnOk result ((w : WorldState) → HoldAll w ids.now (map (λ e. e.index) entities.now) → Adds (filter (leans (is_sought sought.now query.now) w target) (map (λ e. e.index) entities.now)) found.old.items found.new.items) }
+    ensures { OnOk result ((w : WorldState) → HoldAll w ids.now (map (λ e. e.index) entities.now) → Adds (filter (leans (is_sought sought query.now) w target) (map (λ e. e.index) entities.now)) found.old.items found.new.items) }
 {
     // who is there already needn't be judged
     if are_among(found.as_slice(), entities) {
@@ -298,11 +189,11 @@ pub(crate) fn are_among(found: &[u32], entities: &[EntityId]) -> bool
 /// Whether those who hold these ids lean on this target.
 fn lean<B: Allocator>(
     query: &AskedQuery<'_, B>,
-    sought: &Sought<'_>,
+    sought: Sought,
     target: u32,
     ids: &[Id],
 ) -> bool
-    ensures { result ≡ list_any (λ i. matches (pairs_to target) i && is_sought sought.now query.now ids.now i) ids.now }
+    ensures { result ≡ list_any (λ i. matches (pairs_to target) i && is_sought sought query.now ids.now i) ids.now }
 {
     for id in ids {
         if is_pair_to(*id, target) && is_sought(query, sought, ids, *id) {

@@ -7,7 +7,6 @@ mod facts;
 mod indexes;
 pub mod laws;
 mod leaning;
-mod linked;
 mod moving;
 mod roles;
 mod sought;

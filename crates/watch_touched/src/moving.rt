@@ -270,8 +270,8 @@ fn are_holders(bonds: Bonds, others: usize) -> bool
     bonds.tied || others == 0
 }
 
-/// Adds all who hold a pair with one of whom a fact came or went that concerns others, or that concerns those below, or with one below such; and these themselves.
-/// Puts all in order. False, where they may be too many.
+/// Adds all who hold a pair with one of whom a fact came or went that concerns others, or that concerns those below, or with one below such. Puts all in order.
+/// False, where they may be too many.
 fn push_moved_by_pairs<A: Allocator + Copy, B: Allocator>(
     alloc: A,
     query: &AskedQuery<'_, B>,
@@ -283,7 +283,7 @@ fn push_moved_by_pairs<A: Allocator + Copy, B: Allocator>(
 ) -> Result<bool, AllocError>
     requires after { IsAfter world.now.state changes.now }
     requires sound { IsSound query.now }
-    requires followed { is_followed query.now changes.now ≡ true }
+    requires anchored { is_anchored query.now ≡ true }
     requires holders { are_holders query.now changes.now ≡ true }
     requires own { (e : ℕ) → Contains moving.old.items e ↔ Contains (entities_of (concerns query.now) changes.now) e }
     requires others { others.old.items ≡ entities_of (concerns_others query.now) changes.now }
@@ -297,8 +297,6 @@ fn push_moved_by_pairs<A: Allocator + Copy, B: Allocator>(
     if !push_below(alloc, query, world, below, moving)? {
         return Ok(false);
     }
-    push_matching(alloc, query, world, others.as_slice(), moving)?;
-    push_matching(alloc, query, world, below.as_slice(), moving)?;
     put_in_order(moving);
     Ok(true)
 }
@@ -318,7 +316,7 @@ fn push_holders<A: Allocator + Copy, B: Allocator>(
     push_leaning_on_all(
         alloc,
         query,
-        &Sought::Moving,
+        Sought::Moving,
         world,
         others.as_slice(),
         moving,
@@ -356,22 +354,6 @@ fn push_moved_by_roles<A: Allocator + Copy, B: Allocator>(
     Ok(true)
 }
 
-/// Adds those of these entities who don't lack what a query asks of `$this` itself.
-fn push_matching<A: Allocator + Copy, B: Allocator>(
-    alloc: A,
-    query: &AskedQuery<'_, B>,
-    world: &World<A>,
-    entities: &[u32],
-    found: &mut ShortList<A>,
-) -> Result<(), AllocError>
-    ensures { OnOk result (Adds (filter (may_be_this query.now world.now.state) entities.now) found.old.items found.new.items) }
-{
-    for entity in entities {
-        push_if_matching(alloc, query, world, *entity, found)?;
-    }
-    Ok(())
-}
-
 /// Adds an entity that isn't there yet, if it doesn't lack what a query asks of `$this` itself.
 pub(crate) fn push_if_matching<A: Allocator + Copy, B: Allocator>(
     alloc: A,
@@ -407,13 +389,13 @@ fn push_below<A: Allocator + Copy, B: Allocator>(
         return Ok(true);
     }
     put_in_order(below);
-    if !push_all_below(alloc, query, &Sought::Below, world, below)? {
+    if !push_all_below(alloc, query, Sought::Below, world, below)? {
         return Ok(false);
     }
     if !push_leaning_on_all(
         alloc,
         query,
-        &Sought::Moving,
+        Sought::Moving,
         world,
         below.as_slice(),
         moving,

@@ -6,11 +6,11 @@ use Rattle.watch_touched.proofs.LowerWalks.{all_reached, all_walked, begun, walk
 use Rattle.watch_touched.proofs.leaning.push_all_below.Goals as goal
 
 pub loop-next-init : goal.loop-next-init
-loop-next-init g c = begun (leaning (is_sought c.args.sought.now c.args.query.now) c.args.world.now.state) c.args.found.now.items
+loop-next-init g c = begun (leaning (is_sought c.args.sought c.args.query.now) c.args.world.now.state) c.args.found.now.items
 
 pub loop-next-preserved : goal.loop-next-preserved
 loop-next-preserved g c =
-    let p = is_sought c.args.sought.now c.args.query.now in
+    let p = is_sought c.args.sought c.args.query.now in
     let w = c.args.world.now.state in
     let found = c.loop-next.found.items in
     let after = c.push_leaning.new.found.items in
@@ -25,11 +25,11 @@ returns g c done =
     let found = c.loop-next.found.items in
     let count = c.len-2.result in
     let few : count ≤ 64 = grind (arith, nat_tests, done) in
-    let next = leaning (is_sought c.args.sought.now c.args.query.now) c.args.world.now.state in
+    let next = leaning (is_sought c.args.sought c.args.query.now) c.args.world.now.state in
     all_reached next c.args.found.now.items found (all_walked next c.args.found.now.items found c.loop-next.next c.loop-next.invariant (omega (arith, few, c.len-2.ensures, c.loop-next-test.false)))
 
 pub returns-then-next-len : goal.returns-then-next-len
 returns-then-next-len g c done =
-    let next = leaning (is_sought c.args.sought.now c.args.query.now) c.args.world.now.state in
+    let next = leaning (is_sought c.args.sought c.args.query.now) c.args.world.now.state in
     let found = c.loop-next.found.items in
     all_reached next c.args.found.now.items found (all_walked next c.args.found.now.items found c.loop-next.next c.loop-next.invariant (omega (arith, c.if-next-len.true, c.len.ensures)))
