@@ -3,12 +3,15 @@ use Rattle.std.specs.Prelude.{◌≡◌, ◌||◌, ℕ, Bool, ◌==◌, true, fa
 use Rattle.std.specs.List.{Contains, list_any}
 use Rattle.std.proofs.Common.{refl, sym, ap, subst, ◌∙◌, true≢false}
 use Rattle.std.proofs.lemmas.Bool.{false_from_ne_true}
+use Rattle.std.proofs.lemmas.Option.{same_Some}
+use Rattle.ecs_id.specs.Id.{Id}
 use Rattle.ecs_model.specs.World.{WorldState, entities, ids_of, is_live}
 use Rattle.ecs_model.specs.rows.Rows.{rows}
 use Rattle.ecs_model.specs.rows.View.{view_of}
 use Rattle.ecs_model.specs.stored.Watches.{is_this, matching}
 use Rattle.ecs_model.proofs.Members.{any_passes, eq_itself, eq_same, filtered, passing}
 use Rattle.query_model.specs.Query.{Query}
+use Rattle.query_local.specs.Touched.{held_in}
 use Rattle.query_meaning.specs.Sound.{IsSound}
 use Rattle.watch_concerns.specs.OwnIds.{lacks, meets}
 use Rattle.watch_concerns.proofs.LackedIds.{lacking_match_nothing}
@@ -41,7 +44,31 @@ module _ (v : WorldState) (q : Query) (e : ℕ) where
   pub meeting_are_in : IsSound q → is_live v e ≡ true → meets q (ids_of v e) ≡ true → true ≡ list_any (λ x. x == e) (matching (view_of v) q)
   meeting_are_in sound live met = sym (any_passes (λ x. x == e) (matching (view_of v) q) e (meeting_match (view_of v) q sound e (listed v e live) met) (eq_itself e))
 
-  -- what its ids tell
+  -- ---- whether it is shown with ids
+
+  shown : held_in (view_of v) e ≡ (if is_live v e then Some (ids_of v e) else None)
+  shown = ap (λ b. if b then Some (ids_of v e) else None) (listed_lives v e)
+
+  pub shown_dead : None ≡ held_in (view_of v) e → is_live v e ≡ false
+  shown_dead h = by (is_live v e) refl
+    where
+      by : (b : Bool) → is_live v e ≡ b → is_live v e ≡ false
+      by true live =
+          let none : None ≡ Some (ids_of v e) = h ∙ shown ∙ ap (λ b. if b then Some (ids_of v e) else None) live in
+          absurd cc
+      by false dead = dead
+
+  pub shown_lives : (ids : List Id) → Some ids ≡ held_in (view_of v) e → (is_live v e ≡ true) × (ids ≡ ids_of v e)
+  shown_lives ids h = by (is_live v e) refl
+    where
+      by : (b : Bool) → is_live v e ≡ b → (is_live v e ≡ true) × (ids ≡ ids_of v e)
+      by true live = (live, same_Some ids (ids_of v e) (h ∙ shown ∙ ap (λ b. if b then Some (ids_of v e) else None) live))
+      by false dead =
+          let none : Some ids ≡ None = h ∙ shown ∙ ap (λ b. if b then Some (ids_of v e) else None) dead in
+          absurd cc
+
+  -- ---- what its ids tell
+
   pub told_dead : is_live v e ≡ false → Some false ≡ told_by_ids q v e
   told_dead dead = sym (ap (λ b. if not b || lacks q (ids_of v e) then Some false else (if meets q (ids_of v e) then Some true else None)) dead)
 

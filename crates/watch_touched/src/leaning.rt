@@ -187,12 +187,7 @@ pub(crate) fn are_among(found: &[u32], entities: &[EntityId]) -> bool
 }
 
 /// Whether those who hold these ids lean on this target.
-fn lean<B: Allocator>(
-    query: &AskedQuery<'_, B>,
-    sought: Sought,
-    target: u32,
-    ids: &[Id],
-) -> bool
+fn lean<B: Allocator>(query: &AskedQuery<'_, B>, sought: Sought, target: u32, ids: &[Id]) -> bool
     ensures { result ≡ list_any (λ i. matches (pairs_to target) i && is_sought sought query.now ids.now i) ids.now }
 {
     for id in ids {

@@ -3,7 +3,6 @@
 ghost use Rattle.std.specs.Prelude.{◌≡◌, ◌↔◌, ◌++◌, ◌∷◌, ◌==◌, ◌≤◌, ◌&&◌, ◌||◌, [], ℕ, Contains, true, filter, flat_map, length, not, IfNone, IfOk, IfSome, OnOk, false, if◌then◌else◌};
 ghost use Rattle.std.specs.List.{list_any};
 ghost use Rattle.std.specs.List.Sorted.{IsStrictlyIncreasing};
-ghost use Rattle.ecs_model.specs.World.{is_live};
 ghost use Rattle.ecs_model.specs.rows.View.{view_of};
 ghost use Rattle.ecs_model.specs.stored.Watches.{matching};
 ghost use Rattle.query_meaning.specs.Sound.{IsSound};
@@ -25,7 +24,7 @@ use crate::indexes::put_in_order;
 use crate::leaning::{MOST, is_among, push_all_below, push_leaning_on_all};
 use crate::roles::push_by_roles;
 use crate::sought::Sought;
-use crate::touching::ids_at;
+use crate::touching::{ids_at, ids_now};
 use ecs_model::FactKey;
 use ecs_world::{Changes, World};
 use short_list::ShortList;
@@ -124,10 +123,9 @@ pub fn told_by_ids<A: Allocator, B: Allocator>(
     ensures told { IfSome result (λ is. is ≡ list_any (λ x. x == entity) (matching (view_of world.now.state) query.now)) }
     ensures untold { IfNone result (Contains (view_of world.now.state).entities entity) }
 {
-    if !lives(world, entity) {
+    let Some(ids) = ids_now(world, entity) else {
         return Some(false);
-    }
-    let ids = ids_at(world, entity);
+    };
     if query.lacks(ids) {
         return Some(false);
     }
@@ -135,12 +133,6 @@ pub fn told_by_ids<A: Allocator, B: Allocator>(
         return Some(true);
     }
     None
-}
-
-fn lives<A: Allocator>(world: &World<A>, entity: u32) -> bool
-    ensures { result ≡ is_live world.now.state entity }
-{
-    world.at(entity).is_some()
 }
 
 /// Adds all who may have moved by another one's fact to those of whom one that concerns the query came or went, and puts all in order. False, where they may be

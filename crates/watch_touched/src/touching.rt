@@ -76,7 +76,7 @@ fn was_born<A: Allocator>(changes: &Changes<A>, index: u32) -> bool
 }
 
 /// The ids of the entity at an index, in order, if one lives there.
-fn ids_now<A: Allocator>(world: &World<A>, index: u32) -> Option<&[Id]>
+pub(crate) fn ids_now<A: Allocator>(world: &World<A>, index: u32) -> Option<&[Id]>
     ensures { option_copied result ≡ held_in (view_of world.now.state) index }
 {
     let entity = world.at(index)?;

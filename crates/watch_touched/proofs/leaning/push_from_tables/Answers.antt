@@ -23,5 +23,5 @@ tables-preserved g c =
     let found = c.tables.found.items in
     let more = c.push_alike.new.found.items in
     λ w holds. its_rows p w c.args.target c.args.store.now c.args.tables.now c.tables.listed-index c.tables-test.true c.listed-item.result c.args.found.now.items found (c.tables.invariant w holds) t there more
-        (subst (λ (es : List EntityId). Adds (filter (leans p w c.args.target) (map (λ e. e.index) es)) found more) rows_are
-        (c.in_ok-push_alike.ensures w (λ e m. holds _ t there e (subst (λ (es : List EntityId). Contains (map (λ x. x.index) es) e) rows_are m) ∙ sym ids_are)))
+    (subst (λ (es : List EntityId). Adds (filter (leans p w c.args.target) (map (λ e. e.index) es)) found more) rows_are
+    (c.in_ok-push_alike.ensures w (λ e m. holds _ t there e (subst (λ (es : List EntityId). Contains (map (λ x. x.index) es) e) rows_are m) ∙ sym ids_are)))

@@ -1,4 +1,4 @@
-use Rattle.std.proofs.Common.{ap, sym, ◌∷◌, [], subst}
+use Rattle.std.proofs.Common.{sym, ◌∷◌, [], subst}
 use Rattle.std.specs.Prelude.{filter, OnOk}
 use Rattle.std.proofs.lemmas.Result.{on_ok_weaker}
 use Rattle.watch_touched.specs.Leaning.{Adds}
