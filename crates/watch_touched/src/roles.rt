@@ -266,16 +266,16 @@ fn push_holders_in<A: Allocator + Copy, B: Allocator>(
             continue 'tables;
         };
         let rows = table.rows();
-        if !take(free, rows.len()) {
+        let ids = table.ids();
+        if !push_rows(alloc, walk, step, ids, rows, target, free, found)? {
             return Ok(false);
         }
-        let ids = table.ids();
-        push_rows(alloc, walk, step, ids, rows, target, found)?;
     }
     Ok(true)
 }
 
-/// Adds these entities, of whom each holds these ids, if a step may lead from them to another one: it may from all of them, or from nobody.
+/// Adds these entities, of whom each holds these ids, if a step may lead from them to another one: it may from all of them, or from nobody. False, where more
+/// are looked at than so many: they count for one where it leads from nobody, however many they are.
 #[inline(always)]
 fn push_rows<A: Allocator + Copy, B: Allocator>(
     alloc: A,
@@ -284,18 +284,26 @@ fn push_rows<A: Allocator + Copy, B: Allocator>(
     ids: &[Id],
     entities: &[EntityId],
     target: u32,
+    free: &mut usize,
     found: &mut ShortList<A>,
-) -> Result<(), AllocError>
-    ensures { OnOk result ((w : WorldState) → HoldAll w ids.now (map (λ e. e.index) entities.now) → Adds (filter (leans (leads_by walk.now.query.now walk.now.asked.now.others.items walk.now.changes.now.went step.now) w target) (map (λ e. e.index) entities.now)) found.old.items found.new.items) }
+) -> Result<bool, AllocError>
+    ensures { IfOk result (λ done. done ≡ true → (w : WorldState) → HoldAll w ids.now (map (λ e. e.index) entities.now) → Adds (filter (leans (leads_by walk.now.query.now walk.now.asked.now.others.items walk.now.changes.now.went step.now) w target) (map (λ e. e.index) entities.now)) found.old.items found.new.items) }
 {
     // who is there already needn't be judged
     if are_among(found.as_slice(), entities) {
-        return Ok(());
+        return Ok(true);
+    }
+    if !take(free, 1) {
+        return Ok(false);
     }
     if !may_lead(walk, step, target, ids) {
-        return Ok(());
+        return Ok(true);
     }
-    push_each(alloc, entities, found)
+    if !take(free, entities.len()) {
+        return Ok(false);
+    }
+    push_each(alloc, entities, found)?;
+    Ok(true)
 }
 
 /// Whether a step may lead to a target from those who hold these ids. One is a pair with it by which the step leads, so of `$this` only the others are looked at.

@@ -27,4 +27,4 @@ tables-preserved g c w holds =
     let more = c.push_rows.new.found.items in
     its_rows leads w c.args.target c.args.store.now c.args.tables.now k c.tables-test.true c.listed-item.result c.args.found.now.items found (c.tables.invariant w holds) t there more
     (subst (λ (es : List EntityId). Adds (filter (leans leads w c.args.target) (map (λ e. e.index) es)) found more) rows_are
-    (c.in_ok-push_rows.ensures w (λ e m. holds _ t there e (subst (λ (es : List EntityId). Contains (map (λ x. x.index) es) e) rows_are m) ∙ sym ids_are)))
+    (c.in_ok-push_rows.ensures c.if-not-branch.false w (λ e m. holds _ t there e (subst (λ (es : List EntityId). Contains (map (λ x. x.index) es) e) rows_are m) ∙ sym ids_are)))

@@ -1,22 +1,19 @@
 use Rattle.std.proofs.Common.{◌==◌, ap, sym, ◌∙◌}
 use Rattle.std.specs.List.{list_all, list_any}
-use Rattle.std.proofs.lemmas.Result.{on_ok_weaker}
 use Rattle.ecs_id.specs.declared.EntityId.{EntityId}
 use Rattle.watch_touched.specs.Steps.{leads_by}
 use Rattle.watch_touched.proofs.TableMates.{all_added, all_there, nobody_by}
 use Rattle.watch_touched.proofs.roles.push_rows.Goals as goal
 
 pub returns-then-are_among : goal.returns-then-are_among
-returns-then-are_among g c w held =
+returns-then-are_among g c done w held =
     let there = ap (λ found. list_all (λ (e : EntityId). list_any (λ x. x == e.index) found) c.args.entities.now) (sym c.as_slice.ensures) ∙ sym c.are_among.ensures ∙ c.if-are_among.true in
     all_there (leads_by c.args.walk.now.query.now (c.args.walk.now.asked.now.others).items c.args.walk.now.changes.now.went c.args.step.now) w c.args.target c.args.entities.now c.args.found.now.items there
 
 pub returns-then-not-may_lead : goal.returns-then-not-may_lead
-returns-then-not-may_lead g c w held =
+returns-then-not-may_lead g c done w held =
     nobody_by (leads_by c.args.walk.now.query.now (c.args.walk.now.asked.now.others).items c.args.walk.now.changes.now.went c.args.step.now) w c.args.target c.args.entities.now c.args.found.now.items c.args.ids.now held (c.may_lead.ensures c.if-not-may_lead.true)
 
 pub returns : goal.returns
-returns g c =
-    on_ok_weaker c.push_each.result
-    (λ adds w held. all_added (leads_by c.args.walk.now.query.now (c.args.walk.now.asked.now.others).items c.args.walk.now.changes.now.went c.args.step.now) w c.args.target c.args.entities.now c.args.found.now.items c.push_each.new.found.items adds)
-    c.push_each.ensures
+returns g c done w held =
+    all_added (leads_by c.args.walk.now.query.now (c.args.walk.now.asked.now.others).items c.args.walk.now.changes.now.went c.args.step.now) w c.args.target c.args.entities.now c.args.found.now.items c.push_each.new.found.items c.in_ok-push_each.ensures
