@@ -367,6 +367,7 @@ pub(crate) fn push_if_matching<A: Allocator + Copy, B: Allocator>(
 
 /// Adds to these entities, of whom a fact came or went that concerns those below, all below them; and to the second list those who may have moved by a
 /// fact of one of these. False, where they may be too many.
+#[inline(always)]
 fn push_below<A: Allocator + Copy, B: Allocator>(
     alloc: A,
     query: &AskedQuery<'_, B>,
@@ -380,6 +381,21 @@ fn push_below<A: Allocator + Copy, B: Allocator>(
     if below.len() == 0 {
         return Ok(true);
     }
+    push_all_leaning(alloc, query, world, below, moving)
+}
+
+/// The same, where there are some of these entities.
+#[inline(never)]
+fn push_all_leaning<A: Allocator + Copy, B: Allocator>(
+    alloc: A,
+    query: &AskedQuery<'_, B>,
+    world: &World<A>,
+    below: &mut ShortList<A>,
+    moving: &mut ShortList<A>,
+) -> Result<bool, AllocError>
+    ensures below { IfOk result (λ done. done ≡ true → HasAllBelow (λ ids. concerns_beyond query.now) world.now.state below.old.items below.new.items) }
+    ensures moving { IfOk result (λ done. done ≡ true → Adds (flat_map (leaning (moves_by query.now) world.now.state) below.new.items) moving.old.items moving.new.items) }
+{
     put_in_order(below);
     if !push_all_below(alloc, query, Sought::Below, world, below)? {
         return Ok(false);
