@@ -251,7 +251,8 @@ def place_of(file):
 def failures(said, crate):
     """What the check refused, by its lines: the line of a function follows those of the goals that nobody answered in it."""
     found, pending = [], []
-    for line in said.splitlines():
+    # (a long message goes on in indented lines)
+    for line in re.sub(r"\n[ \t]+", " ", said).splitlines():
         refused = re.match(r"(\S+?):\d+:\d+: error: `([^`]+)`: (.*)", line)
         if refused and "proofs/" in refused[1]:
             found.append(failed_declaration(refused[2], refused[1], refused[3]))
