@@ -1,6 +1,5 @@
 pub mod Changed
 pub mod Entered
-pub mod Halves
 pub mod Listed
 pub mod Listings
 pub mod Mentions

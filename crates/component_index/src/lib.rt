@@ -9,7 +9,6 @@ ghost use Rattle.component_index.specs.Entered.{table_eq, IsMatched};
 ghost use Rattle.component_index.specs.Listings.{listed_in, ListsEntered};
 ghost use Rattle.component_index.specs.declared.pattern.Pattern.{Pattern as Asked};
 
-mod listed_key;
 mod listings;
 mod lists;
 mod mentions;

@@ -5,10 +5,10 @@ ghost use Rattle.component_index.specs.Entered.{table_eq};
 ghost use Rattle.component_index.specs.Listings.{listed_in, lists_of};
 ghost use Rattle.component_index.specs.Mentions.{MayBeListed};
 
-use crate::listed_key::ListedKey;
 use crate::lists::Lists;
 use crate::mentions::{Marks, may_match};
 use crate::pattern::Pattern;
+use listed_key::ListedKey;
 use std::alloc::Allocator;
 use std::marker::Model;
 

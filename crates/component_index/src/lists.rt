@@ -6,12 +6,12 @@ ghost use Rattle.component_index.specs.Patterns.{matches, matches_some};
 ghost use Rattle.component_index.specs.SamePattern.{pattern_eq};
 ghost use Rattle.component_index.specs.Listed.{is_among, is_new, patterns_of, Adds, Drops, IsNewest, Keeps};
 
-use crate::listed_key::ListedKey;
 use crate::pattern::{Part, Pattern};
 use crate::places::Places;
 use crate::table_list::TableList;
 use ecs_id::{Id, TableKey};
 use indexmap::IndexMap;
+use listed_key::ListedKey;
 use secret_hashing::Hashing;
 use std::alloc::{AllocError, Allocator};
 

@@ -6,9 +6,9 @@ ghost use Rattle.component_index.specs.Entered.{table_eq};
 ghost use Rattle.component_index.specs.TableList.{IsNewOrLast, IsPlace, Loses, is_last};
 ghost use Rattle.component_index.specs.Tables.{keys_of};
 
-use crate::listed_key::ListedKey;
 use crate::places::Places;
 use ecs_id::TableKey;
+use listed_key::ListedKey;
 use std::alloc::{AllocError, Allocator, Global};
 use std::marker::Model;
 
@@ -153,7 +153,7 @@ impl<A: Allocator> Tables<A> {
             Tables::Empty => {}
             Tables::One(only) => {
                 let first = key_of(only);
-                if first.names(key) {
+                if names(first, key) {
                     *self = Tables::Empty;
                 }
             }
@@ -173,11 +173,18 @@ fn key_of(only: &[ListedKey; 1]) -> ListedKey
     only[0]
 }
 
+/// Whether it is the key of this table.
+fn names(listed: ListedKey, key: TableKey) -> bool
+    ensures { result ≡ table_eq key listed }
+{
+    key == listed.key()
+}
+
 fn is_last(keys: &[ListedKey], key: ListedKey) -> bool
     ensures { result ≡ is_last keys.now key }
 {
     match keys.last() {
-        Some(last) => last.names(key.key()),
+        Some(last) => names(*last, key.key()),
         None => false,
     }
 }
@@ -185,7 +192,7 @@ fn is_last(keys: &[ListedKey], key: ListedKey) -> bool
 fn stands_at(keys: &[ListedKey], place: usize, key: TableKey) -> bool
     ensures { IsTrue result → IsPlace keys.now key (Some place) }
 {
-    place < keys.len() && keys[place].names(key)
+    place < keys.len() && names(keys[place], key)
 }
 
 // Where the table stands: at the place that is noted, or else among the first.
@@ -209,7 +216,7 @@ fn place_of<A: Allocator>(
 fn searched(keys: &[ListedKey], key: TableKey) -> Option<usize>
     ensures { result ≡ position (table_eq key) keys.now }
 {
-    keys.iter().position(|other| other.names(key))
+    keys.iter().position(|other| names(*other, key))
 }
 
 // Notes for the last table that it comes to this place.

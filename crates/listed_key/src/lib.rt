@@ -1,6 +1,14 @@
 //! Keys of tables in few bytes.
+//!
+//! ```text
+//! let Some(listed) = ListedKey::of(key) else {
+//!     return Err(AllocError);
+//! };
+//! keys.push(listed)?;
+//! ```
+#![tactic(auto)]
+
 ghost use Rattle.std.specs.Prelude.{◌≡◌, ◌↔◌, ◌<◌, ◌^◌, IfSome, IsSome};
-ghost use Rattle.component_index.specs.Entered.{table_eq};
 
 use ecs_id::TableKey;
 use std::marker::Model;
@@ -19,13 +27,15 @@ const _: () = prove!(size_of::<ListedKey>() == 12);
 
 const HALF: u128 = 1 << 32;
 
+const SHIFT: u64 = 1 << 32;
+
 // No serial of a key that is listed is as great.
 const LIMIT: u128 = 1 << 64;
 
 impl Model for ListedKey {
     ghost use Rattle.std.specs.Prelude.{◌+◌, ◌*◌, ◌/◌, ◌%◌, ◌^◌, ◌<◌};
     ghost use Rattle.ecs_id.specs.declared.TableKey.{TableKey};
-    ghost use Rattle.component_index.specs.Halves.{high_given_back, low_given_back};
+    ghost use Rattle.listed_key.specs.Halves.{high_given_back, low_given_back};
 
     ghost Value = { TableKey };
 
@@ -65,16 +75,17 @@ impl ListedKey {
         }
     }
 
-    pub(crate) fn slot(self) -> u32
+    /// The slot of the table.
+    pub fn slot(self) -> u32
         ensures { result ≡ self.slot }
     {
         self.slot
     }
 
-    /// Whether it is the key of this table.
-    pub(crate) fn names(self, key: TableKey) -> bool
-        ensures { result ≡ table_eq key self }
+    /// The serial of the table, which fits 64 bits.
+    pub fn serial(self) -> u64
+        ensures { result ≡ self.serial }
     {
-        key == self.key()
+        u64::from(self.low) + u64::from(self.high) * SHIFT
     }
 }
