@@ -70,7 +70,7 @@ impl<A: Allocator + Copy> ComponentIndex<A> {
             entered: Register::new(),
             lists: IndexMap::with_hasher(alloc, Hashing::new(random)),
             mentioned: Vec::new(alloc),
-            places: Places::new(alloc),
+            places: Places::new(alloc, random),
         }
     }
 
