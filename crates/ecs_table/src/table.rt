@@ -25,9 +25,9 @@ const ENTITY_BYTES: usize = 8;
 /// gives it back.
 #[derive(Drop)]
 pub struct Table<A: Allocator = Global> {
-    // First what is read where tables are gone through: its ids, and whether any entity stands in it.
-    ids: IdList<A>,
+    // First what is read where tables are gone through: whether any entity stands in it, and its ids.
     entities: EntityList<A>,
+    ids: IdList<A>,
     // how many more rows fit, with their values
     room: usize,
     // a column for each id with data
