@@ -121,6 +121,6 @@ pub fn key_in<A: Allocator>(tables: &Slots<A>, slot: u32) -> TableKey
 {
     TableKey {
         slot,
-        serial: tables[slot as usize].serial,
+        serial: u128::from(tables[slot as usize].serial),
     }
 }

@@ -1,62 +1,19 @@
 //! The edges that lead from a table to others.
-ghost use Rattle.std.specs.Prelude.{◌≡◌, ◌∷◌, [], ◌⊎◌, IfOk, IfSome, Some};
+ghost use Rattle.std.specs.Prelude.{◌≡◌, ◌∷◌, [], ◌⊎◌, IfOk, Some};
 ghost use Rattle.ecs_id.specs.Id.{Id};
 ghost use Rattle.ecs_id.specs.declared.TableKey.{TableKey};
 ghost use Rattle.table_store.specs.Kept.{HasNoEdge, IsWritten, edge_of, one_of_several};
 
 use ecs_id::{Id, TableKey};
 use indexmap::IndexMap;
+use listed_key::ListedKey;
 use secret_hashing::Hashing;
 use std::alloc::{AllocError, Allocator, Global};
-use std::marker::Model;
-
-/// The key of a table in 16 bytes, where its serial has no more than 64 bits. A `TableKey` takes 32, since a `u128` lies at a multiple of 16.
-#[derive(Clone, Copy)]
-pub struct Target {
-    serial: u64,
-    slot: u32,
-}
-
-impl Model for Target {
-    ghost use Rattle.std.specs.Prelude.{refl};
-    ghost use Rattle.ecs_id.specs.declared.TableKey.{TableKey};
-
-    ghost Value = { TableKey };
-
-    ghost view = { λ t. record { slot = t.slot; serial = t.serial } };
-
-    ghost inverse = { λ key. record { serial = key.serial; slot = key.slot } };
-
-    ghost inverse_ok = { λ _ _. refl };
-}
-
-impl Target {
-    fn new(key: TableKey) -> Option<Target>
-        ensures { IfSome result (λ target. target ≡ key) }
-    {
-        match u64::try_from(key.serial) {
-            Ok(serial) => Some(Target {
-                serial,
-                slot: key.slot,
-            }),
-            Err(_) => None,
-        }
-    }
-
-    fn key(&self) -> TableKey
-        ensures { result ≡ self.now }
-    {
-        TableKey {
-            slot: self.slot,
-            serial: u128::from(self.serial),
-        }
-    }
-}
 
 /// An edge: the id for which it leads, and where.
-type Edge = (Id, Target);
+type Edge = (Id, ListedKey);
 
-type ById<A> = IndexMap<Id, Target, Hashing, A>;
+type ById<A> = IndexMap<Id, ListedKey, Hashing, A>;
 
 /// Two edges or more. The first stands apart, as most steps from a table are along it.
 #[derive(Drop)]
@@ -113,7 +70,7 @@ impl<A: Allocator> Several<A> {
         }
     }
 
-    fn write(&mut self, id: Id, to: Target)
+    fn write(&mut self, id: Id, to: ListedKey)
         ensures { (i : Id) (k : TableKey) → one_of_several self.new i ≡ Some k → (one_of_several self.old i ≡ Some k) ⊎ ((i ≡ id) × (k ≡ to)) }
     {
         let (known, _) = self.first;
@@ -130,12 +87,12 @@ impl<A: Allocator + Copy> Edges<A> {
     pub fn keep(&mut self, alloc: A, hashing: Hashing, id: Id, to: TableKey)
         ensures { IsWritten id to self.old self.new }
     {
-        if let Some(target) = Target::new(to) {
-            self.write(alloc, hashing, id, target);
+        if let Some(listed) = ListedKey::of(to) {
+            self.write(alloc, hashing, id, listed);
         }
     }
 
-    fn write(&mut self, alloc: A, hashing: Hashing, id: Id, to: Target)
+    fn write(&mut self, alloc: A, hashing: Hashing, id: Id, to: ListedKey)
         ensures { IsWritten id to self.old self.new }
     {
         match self {
@@ -159,7 +116,7 @@ fn two_edges<A: Allocator + Copy>(
     hashing: Hashing,
     first: Edge,
     id: Id,
-    to: Target,
+    to: ListedKey,
 ) -> Result<Box<Several<A>, A>, AllocError>
     ensures first { IfOk result (λ both. both.value.first ≡ first) }
     ensures other { IfOk result (λ both. both.value.others.entries ≡ (id, to) ∷ []) }

@@ -5,6 +5,7 @@ ghost use Rattle.table_store.specs.Kept.{is_held};
 
 use crate::store::{Slots, stands};
 use ecs_id::TableKey;
+use listed_key::ListedKey;
 use std::alloc::{Allocator, Global};
 use std::marker::Model;
 
@@ -13,7 +14,7 @@ use std::marker::Model;
 pub struct Since<'a, A: Allocator = Global> {
     tables: &'a Slots<A>,
     // keys of released tables may be among them, which are passed over
-    rest: &'a [TableKey],
+    rest: &'a [ListedKey],
 }
 
 impl<'a, A: Allocator> Model for Since<'a, A> {
@@ -29,7 +30,7 @@ impl<'a, A: Allocator> Model for Since<'a, A> {
 
 impl<'a, A: Allocator> Since<'a, A> {
     /// Those of the keys under which tables stand.
-    pub(crate) fn new(tables: &'a Slots<A>, keys: &'a [TableKey]) -> Since<'a, A>
+    pub(crate) fn new(tables: &'a Slots<A>, keys: &'a [ListedKey]) -> Since<'a, A>
         ensures { result ≡ filter (is_held tables.now) keys.now }
     {
         Since { tables, rest: keys }
@@ -48,8 +49,9 @@ impl<'a, A: Allocator> Iterator for Since<'a, A> {
     fn next(&mut self) -> Option<TableKey> {
         while let Some((key, rest)) = self.rest.split_first() {
             self.rest = rest;
-            if stands(self.tables, *key) {
-                return Some(*key);
+            let key = key.key();
+            if stands(self.tables, key) {
+                return Some(key);
             }
         }
         None

@@ -1,5 +1,5 @@
 //! The store of tables.
-ghost use Rattle.std.specs.Prelude.{◌≡◌, ◌↔◌, ◌<◌, ◌≤◌, ◌-◌, ◌+◌, ◌*◌, ◌^◌, ◌⊎◌, ◌≢◌, ◌++◌, ◌∷◌, MatchResult, ℕ, [], IfOk, OnOk, OnErr, IsOk, IsNone, IsSome, IfSome, MatchOption, None, Some, map, max, min, length, option_map, slice_get, IsTrue};
+ghost use Rattle.std.specs.Prelude.{◌≡◌, ◌==◌, ◌↔◌, ◌<◌, ◌≤◌, ◌-◌, ◌+◌, ◌*◌, ◌^◌, ◌⊎◌, ◌≢◌, ◌++◌, ◌∷◌, MatchResult, ℕ, [], IfOk, OnOk, OnErr, IsOk, IsNone, IsSome, IfSome, MatchOption, None, Some, map, max, min, length, option_map, slice_get, IsTrue};
 ghost use Rattle.std.specs.FinMap.{is_sorted};
 ghost use Rattle.std.specs.Ordering.{nat_cmp};
 ghost use Rattle.std.specs.List.{Contains, filter};
@@ -21,6 +21,7 @@ use crate::since::Since;
 use crate::sized::SizedId;
 use ecs_id::{EntityId, Id, TableKey};
 use ecs_table::Table;
+use listed_key::ListedKey;
 use raw_column::Memory;
 use secret_hashing::Hashing;
 use slab::Slab;
@@ -31,22 +32,25 @@ use std::mem;
 
 /// A table with its serial, and the edges that lead from it.
 ///
-/// The serial stands beside the edges and what comes first in a table, as these are read together.
+/// The serial stands before what comes first in a table, as these are read together.
 #[derive(Drop)]
 pub(crate) struct Slot<A: Allocator> {
+    // of 64 bits, as no key with a greater serial is given
+    pub(crate) serial: u64,
+    pub(crate) table: Table<A>,
     // for an id, the table that has it more
     more: Edges<A>,
     // for an id, the table that has it less
     less: Edges<A>,
-    pub(crate) serial: u128,
-    pub(crate) table: Table<A>,
 }
+
+const _: () = prove!(size_of::<Slot<Global>>() == 184);
 
 // In boxes, so that one can be taken out for a moment: two slots of one slab can't be borrowed at once.
 pub(crate) type Slots<A> = Slab<Box<Slot<A>, A>, A>;
 
 // Serials only rise, so each new key stands at the end. Keys of released tables may be among them: at most one more than tables stand.
-type BySerial<A> = Vec<TableKey, A>;
+type BySerial<A> = Vec<ListedKey, A>;
 
 /// The tables of a world, one for each set of ids.
 #[derive(Drop)]
@@ -99,7 +103,7 @@ impl<A: Allocator + Copy> TableStore<A> {
 
     /// The table of these ids, which is made where there is none. Beside each id stands how many bytes its value has, 0 to 64: 0 for a tag.
     ///
-    /// A serial is never given twice: past the greatest `u128`, and past 4,294,967,295 slots, it answers `Memory`.
+    /// A serial is never given twice: past the greatest `u64`, and past 4,294,967,295 slots, it answers `Memory`.
     pub fn find_or_make(&mut self, cells: &[SizedId]) -> Result<TableKey, Memory>
         requires ascend { IsTrue (is_sorted id_cmp cells.now) }
         requires small { (j : ℕ) → IfSome (slice_get cells.now j) (λ c. c.1 ≤ 64) }
@@ -185,8 +189,9 @@ impl<A: Allocator + Copy> TableStore<A> {
             return Err(Memory);
         };
         self.tables.insert_reserved(slot);
-        self.last = key.serial;
-        Ok(key)
+        let given = key.key();
+        self.last = given.serial;
+        Ok(given)
     }
 
     /// The table that has the ids of this one, and one more. Beside the id stands how many bytes its value has.
@@ -336,7 +341,7 @@ fn slot_or(put: &Result<TableKey, Memory>, other: u32) -> u32 {
 }
 
 // The key that the next table gets, if there is a serial and a slot for one more.
-fn next_key<A: Allocator>(tables: &Slots<A>, last: u128) -> Result<TableKey, Memory>
+fn next_key<A: Allocator>(tables: &Slots<A>, last: u128) -> Result<ListedKey, Memory>
     ensures serial { IfOk result (λ key. key.serial ≡ last + 1) }
     ensures slot { IfOk result (λ key. key.slot ≡ tables.now.vacant_key) }
     ensures numbered { IfOk result (λ key. key.slot < 2 ^ 32 - 1) }
@@ -349,10 +354,14 @@ fn next_key<A: Allocator>(tables: &Slots<A>, last: u128) -> Result<TableKey, Mem
     if slot >= u32::MAX as usize {
         return Err(Memory);
     }
-    Ok(TableKey {
+    let key = TableKey {
         slot: slot as u32,
         serial: last + 1,
-    })
+    };
+    match ListedKey::of(key) {
+        Some(listed) => Ok(listed),
+        None => Err(Memory),
+    }
 }
 
 // All that is to grow for a new table, and its slot, whose number stands under the hash of its ids then, and its key last among those by serial.
@@ -361,7 +370,7 @@ fn prepare<A: Allocator + Copy>(
     tables: &mut Slots<A>,
     by_ids: &mut ByIds<A>,
     by_serial: &mut BySerial<A>,
-    key: TableKey,
+    key: ListedKey,
     hash: u64,
     ids: &[Id],
     cells: &[SizedId],
@@ -378,7 +387,7 @@ fn prepare<A: Allocator + Copy>(
     ensures more { IfOk result (λ slot. HasNoEdge slot.value.more) }
     ensures less { IfOk result (λ slot. HasNoEdge slot.value.less) }
 {
-    let slot = new_slot(alloc, key.serial, ids, cells)?;
+    let slot = new_slot(alloc, key.serial(), ids, cells)?;
     tables.reserve(1)?;
     enter(by_ids, by_serial, hash, key)?;
     Ok(slot)
@@ -387,7 +396,7 @@ fn prepare<A: Allocator + Copy>(
 // A slot with an empty table.
 fn new_slot<A: Allocator + Copy>(
     alloc: A,
-    serial: u128,
+    serial: u64,
     ids: &[Id],
     cells: &[SizedId],
 ) -> Result<Box<Slot<A>, A>, Memory>
@@ -433,26 +442,26 @@ fn enter<A: Allocator>(
     by_ids: &mut ByIds<A>,
     by_serial: &mut BySerial<A>,
     hash: u64,
-    key: TableKey,
+    key: ListedKey,
 ) -> Result<(), Memory>
     ensures by_ids { KeepsSlots by_ids.old by_ids.new }
     ensures entered { OnOk result (HasSlot by_ids.new hash key.slot) }
     ensures by_serial { MatchResult result (λ _. by_serial.new.items ≡ by_serial.old.items ++ key ∷ []) (λ _. by_serial.new.items ≡ by_serial.old.items) }
 {
     by_serial.reserve(1)?;
-    by_ids.insert(hash, key.slot)?;
+    by_ids.insert(hash, key.slot())?;
     by_serial.push(key).unwrap();
     Ok(())
 }
 
 // The keys with greater serials, among keys by rising serial.
-fn newer(keys: &[TableKey], serial: u128) -> &[TableKey]
+fn newer(keys: &[ListedKey], serial: u128) -> &[ListedKey]
     requires { IsStrictlySortedBy nat_cmp (map (λ q. q.serial) keys.now) }
     ensures listed { (q : TableKey) → Contains keys.now q → serial < q.serial → Contains result.now q }
     ensures newer { (q : TableKey) → Contains result.now q → serial < q.serial }
     ensures rising { IsStrictlySortedBy nat_cmp (map (λ q. q.serial) result.now) }
 {
-    let known = keys.partition_point(|key| key.serial <= serial);
+    let known = keys.partition_point(|key| key.key().serial <= serial);
     &keys[known..]
 }
 
@@ -463,7 +472,7 @@ fn forget_released<A: Allocator>(by_serial: &mut BySerial<A>, tables: &Slots<A>)
     ensures kept { (by_serial.new.items ≡ by_serial.old.items) ⊎ (by_serial.new.items ≡ filter (is_held tables.now) by_serial.old.items) }
 {
     if by_serial.len() / 2 > tables.len() {
-        by_serial.retain(|key| stands(tables, *key));
+        by_serial.retain(|key| stands(tables, key.key()));
     }
 }
 
@@ -472,9 +481,16 @@ pub(crate) fn stands<A: Allocator>(tables: &Slots<A>, key: TableKey) -> bool
     ensures { result ≡ is_held tables.now key }
 {
     match tables.get(key.slot as usize) {
-        Some(slot) => slot.serial == key.serial,
+        Some(slot) => u128::from(slot.serial) == key.serial,
         None => false,
     }
+}
+
+// Whether the table in a slot has this serial.
+fn has_serial<A: Allocator>(slot: &Slot<A>, serial: u128) -> bool
+    ensures { result ≡ (slot.now.serial == serial) }
+{
+    u128::from(slot.serial) == serial
 }
 
 // Where the edge for an id leads, if there is one and the table stands.
@@ -528,7 +544,7 @@ impl<A: Allocator> TableStore<A> {
         ensures whole { IsStored self.now }
     {
         let slot = self.tables.get(key.slot as usize)?;
-        if slot.serial == key.serial {
+        if has_serial(slot, key.serial) {
             Some(&slot.table)
         } else {
             None
@@ -636,7 +652,7 @@ impl<A: Allocator> TableStore<A> {
 
     /// The keys that the store remembers, by rising serial: those of the tables that stand, and some of tables that were released, at most one more
     /// than tables stand.
-    pub fn remembered(&self) -> &[TableKey]
+    pub fn remembered(&self) -> &[ListedKey]
         ensures listed { (q : TableKey) → IsSome (table_at self.now q) → Contains result.now q }
         ensures rising { IsStrictlySortedBy nat_cmp (map (λ q. q.serial) result.now) }
         ensures few { length result.now ≤ 2 * length self.now.tables + 1 }

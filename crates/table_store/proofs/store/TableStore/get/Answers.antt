@@ -1,17 +1,15 @@
-use Rattle.std.proofs.Common.{Some, ap, sym, ◌∙◌, rules}
-use Rattle.std.proofs.lemmas.Bool.Decides.{Decides-eqb}
+use Rattle.std.proofs.Common.{Some, ◌==◌, ap, sym, ◌∙◌, rules}
 use Rattle.table_store.specs.declared.store.Slot.{Slot}
-use Rattle.table_store.proofs.Slots.{differ}
 use Rattle.table_store.proofs.StoreLemmas.{found, of_another, vacant, stored}
 use Rattle.table_store.proofs.store.TableStore.get.Goals as goal
 
-pub returns-then-deref-key-clause-table : goal.returns-then-deref-key-clause-table
-returns-then-deref-key-clause-table g c = found c.self.inside.tables c.self.inside.last c.args.self.now c.self.view_is c.args.key c.in_ok-slot.slot.now (search rules)
-    ((Decides-eqb _ _).1 (ap (λ (d : Slot _). d.serial) (sym c.deref.ensures) ∙ c.if-deref-key.true)) ∙ ap (λ (d : Slot _). Some d.table) (sym c.deref-then-deref-key.ensures)
+pub returns-then-has_serial-clause-table : goal.returns-then-has_serial-clause-table
+returns-then-has_serial-clause-table g c = found c.self.inside.tables c.self.inside.last c.args.self.now c.self.view_is c.args.key c.in_ok-slot.slot.now (search rules)
+    (ap (λ (d : Slot _). d.serial == c.args.key.serial) (sym c.deref.ensures) ∙ sym c.has_serial.ensures ∙ c.if-has_serial.true) ∙ ap (λ (d : Slot _). Some d.table) (sym c.deref-then-has_serial.ensures)
 
-pub returns-else-deref-key-clause-table : goal.returns-else-deref-key-clause-table
-returns-else-deref-key-clause-table g c = of_another c.self.inside.tables c.self.inside.last c.args.self.now c.self.view_is c.args.key c.in_ok-slot.slot.now (search rules)
-    (differ _ _ (λ same. c.if-deref-key.false (ap (λ (d : Slot _). d.serial) c.deref.ensures ∙ same)))
+pub returns-else-has_serial-clause-table : goal.returns-else-has_serial-clause-table
+returns-else-has_serial-clause-table g c = of_another c.self.inside.tables c.self.inside.last c.args.self.now c.self.view_is c.args.key c.in_ok-slot.slot.now (search rules)
+    (ap (λ (d : Slot _). d.serial == c.args.key.serial) (sym c.deref.ensures) ∙ sym c.has_serial.ensures ∙ c.if-has_serial.false)
 
 pub returns-in_err-slot-clause-table : goal.returns-in_err-slot-clause-table
 returns-in_err-slot-clause-table g c = rw c.from_residual.ensures (vacant c.self.inside.tables c.self.inside.last c.args.self.now c.self.view_is c.args.key (search rules))
@@ -19,8 +17,8 @@ returns-in_err-slot-clause-table g c = rw c.from_residual.ensures (vacant c.self
 pub returns-in_err-slot-clause-whole : goal.returns-in_err-slot-clause-whole
 returns-in_err-slot-clause-whole g c = stored c.self.inside.tables c.self.inside.by_ids c.self.inside.by_serial c.self.inside.last c.self.invariant c.args.self.now c.self.view_is
 
-pub returns-then-deref-key-clause-whole : goal.returns-then-deref-key-clause-whole
-returns-then-deref-key-clause-whole g c = stored c.self.inside.tables c.self.inside.by_ids c.self.inside.by_serial c.self.inside.last c.self.invariant c.args.self.now c.self.view_is
+pub returns-then-has_serial-clause-whole : goal.returns-then-has_serial-clause-whole
+returns-then-has_serial-clause-whole g c = stored c.self.inside.tables c.self.inside.by_ids c.self.inside.by_serial c.self.inside.last c.self.invariant c.args.self.now c.self.view_is
 
-pub returns-else-deref-key-clause-whole : goal.returns-else-deref-key-clause-whole
-returns-else-deref-key-clause-whole g c = stored c.self.inside.tables c.self.inside.by_ids c.self.inside.by_serial c.self.inside.last c.self.invariant c.args.self.now c.self.view_is
+pub returns-else-has_serial-clause-whole : goal.returns-else-has_serial-clause-whole
+returns-else-has_serial-clause-whole g c = stored c.self.inside.tables c.self.inside.by_ids c.self.inside.by_serial c.self.inside.last c.self.invariant c.args.self.now c.self.view_is

@@ -1,8 +1,9 @@
-use Rattle.std.proofs.Common.{◌≡◌, ◌≢◌, List, ℕ, Some, false, map, sym, ap, subst, ◌∙◌, rules}
+use Rattle.std.proofs.Common.{◌≡◌, ◌≢◌, List, ℕ, Ok, Some, false, map, sym, ap, subst, ◌∙◌, rules}
 use Rattle.slab.specs.Slab as slots
 use Rattle.slab.specs.Slab.{Slab}
 use Rattle.ecs_id.specs.Id.{Id}
 use Rattle.ecs_id.specs.declared.TableKey.{TableKey}
+use Rattle.table_store.specs.Kept.{IsKept, IsPut, store_of}
 use Rattle.table_store.specs.Store.{ids_at}
 use Rattle.table_store.specs.ByIds.{HasSlot, has_ids, ids_hash}
 use Rattle.table_store.proofs.Indexes.{some_held}
@@ -54,6 +55,7 @@ invariant_of-self-2 g c =
     let ids : c.as_slice-ids.result.now ≡ map (λ (v : Id × ℕ). v.0) c.args.cells.now = c.as_slice-ids.ensures.value ∙ c.in-Ok.ensures in
     let none : (slot : ℕ) → HasSlot c.self.inside.by_ids c.hash_of-hash.result slot → has_ids c.self.inside.tables c.as_slice-ids.result.now slot ≡ false = search rules in
     let missing = not_there c.self.inside.tables c.self.inside.by_ids c.self.inside.by_serial c.self.inside.last c.args.self.now c.self.view_is c.self.invariant c.as_slice-ids.result.now c.hash_of-hash.result c.hash_of-hash.ensures none in
+    subst (λ (k : TableKey). IsKept c.insert_reserved.new.self c.prepare.new.by_ids c.prepare.new.by_serial k.serial) (sym c.key-given.ensures) (
     put_kept c.self.inside.tables c.prepare.new.tables c.insert_reserved.new.self c.self.inside.by_ids c.prepare.new.by_ids c.self.inside.by_serial c.prepare.new.by_serial c.self.inside.last c.args.self.now c.self.view_is c.self.invariant c.prepare.ensures.tables
     c.args.cells.now c.in-Ok-next_key.key c.in-Ok-prepare.slot c.requires.ascend c.requires.small c.requires.sizes
     (subst (λ (l : List Id). (q : TableKey) → ids_at c.args.self.now q ≢ Some l) ids missing)
@@ -62,12 +64,14 @@ invariant_of-self-2 g c =
     c.in-Ok-prepare.ensures.serial c.in-Ok-prepare.ensures.table c.in-Ok-prepare.ensures.more c.in-Ok-prepare.ensures.less c.in-Ok-next_key.ensures.numbered
     c.hash_of-hash.result (c.hash_of-hash.ensures ∙ ap (ids_hash c.self.inside.by_ids.hashing) ids) c.in-Ok-prepare.ensures.entered c.prepare.ensures.by_ids
     c.in-Ok-prepare.ensures.by_serial c.insert_reserved.ensures.len
+    )
 
 pub returns : goal.returns
 returns g c =
     let ids : c.as_slice-ids.result.now ≡ map (λ (v : Id × ℕ). v.0) c.args.cells.now = c.as_slice-ids.ensures.value ∙ c.in-Ok.ensures in
     let none : (slot : ℕ) → HasSlot c.self.inside.by_ids c.hash_of-hash.result slot → has_ids c.self.inside.tables c.as_slice-ids.result.now slot ≡ false = search rules in
     let missing = not_there c.self.inside.tables c.self.inside.by_ids c.self.inside.by_serial c.self.inside.last c.args.self.now c.self.view_is c.self.invariant c.as_slice-ids.result.now c.hash_of-hash.result c.hash_of-hash.ensures none in
+    subst (λ (k : TableKey). IsPut c.args.self.now c.args.cells.now (Ok k) (store_of c.insert_reserved.new.self k.serial)) (sym c.key-given.ensures) (
     is_put c.self.inside.tables c.prepare.new.tables c.insert_reserved.new.self c.self.inside.by_ids c.prepare.new.by_ids c.self.inside.by_serial c.prepare.new.by_serial c.self.inside.last c.args.self.now c.self.view_is c.self.invariant c.prepare.ensures.tables
     c.args.cells.now c.in-Ok-next_key.key c.in-Ok-prepare.slot c.requires.ascend c.requires.small c.requires.sizes
     (subst (λ (l : List Id). (q : TableKey) → ids_at c.args.self.now q ≢ Some l) ids missing)
@@ -76,3 +80,4 @@ returns g c =
     c.in-Ok-prepare.ensures.serial c.in-Ok-prepare.ensures.table c.in-Ok-prepare.ensures.more c.in-Ok-prepare.ensures.less c.in-Ok-next_key.ensures.numbered
     c.hash_of-hash.result (c.hash_of-hash.ensures ∙ ap (ids_hash c.self.inside.by_ids.hashing) ids) c.in-Ok-prepare.ensures.entered c.prepare.ensures.by_ids
     c.in-Ok-prepare.ensures.by_serial c.insert_reserved.ensures.len
+    )
