@@ -2,6 +2,7 @@ pub mod Changes
 pub mod TableCounts
 pub mod Indexes
 pub mod InsertedIds
+pub mod EdgeLemmas
 pub mod EmptyStores
 pub mod MadeTables
 pub mod RowMoves

@@ -11,7 +11,7 @@ use Rattle.ecs_id.specs.Id.{Id, id_eq}
 use Rattle.ecs_id.specs.declared.TableKey.{TableKey}
 use Rattle.ecs_table.specs.Archetype.{Archetype, IsSound}
 use Rattle.table_store.specs.declared.edges.Edges.{Edges}
-use Rattle.table_store.specs.declared.edges.Edges.TheVariants.{Empty, One, Many}
+use Rattle.table_store.specs.declared.edges.Edges.TheVariants.{Empty, Few, Many, One}
 use Rattle.table_store.specs.declared.edges.Several.{Several}
 use Rattle.table_store.specs.declared.store.Slot.{Slot}
 pub use Rattle.table_store.specs.ByIds.{Held}
@@ -40,14 +40,25 @@ standing (Some x) serial = if serial == x.value.serial then Some x.value.table e
 abbrev pub is_held : {Y : Type 0} → Slab (Held Y) → TableKey → Bool
 is_held tables k = is_some (standing (slots.get tables k.slot) k.serial)
 
--- where one of several edges leads: the first stands apart from the others
+-- where the first of some edges for an id leads, if there is one
+unfoldable pub edge_in : List (Id × TableKey) → Id → Option TableKey
+edge_in [] i = None
+edge_in (e ∷ edges) i = cond (id_eq e.0 i) (Some e.1) (edge_in edges i)
+
+-- what is told first, or else what is told behind it
+abbrev pub first_told : Option TableKey → Option TableKey → Option TableKey
+first_told (Some k) o = Some k
+first_told None o = o
+
+-- where one of more than a few edges leads: the few are asked before those that are hashed
 abbrev pub one_of_several : {Y : Type 0} → Several Y → Id → Option TableKey
-one_of_several edges i = cond (id_eq edges.first.0 i) (Some edges.first.1) (hashed.get id_eq edges.others i)
+one_of_several edges i = first_told (edge_in edges.few.items i) (hashed.get id_eq edges.others i)
 
 -- where the edge for an id leads, if there is one
 abbrev pub edge_of : {Y : Type 0} → Edges Y → Id → Option TableKey
 edge_of Empty i = None
 edge_of (One e) i = cond (id_eq e.0 i) (Some e.1) None
+edge_of (Few few) i = edge_in few.items i
 edge_of (Many several) i = one_of_several several.value i
 
 abbrev pub HasNoEdge : {Y : Type 0} → Edges Y → Type 0
@@ -109,6 +120,10 @@ abbrev pub edges_of : {Y : Type 0} → Slot Y → Option ℕ → Edges Y
 edges_of x None = x.less
 edges_of x (Some n) = x.more
 
+-- each edge is one that was, or leads there for the id
+abbrev pub IsEdgePut : Id → TableKey → (Id → Option TableKey) → (Id → Option TableKey) → Type 0
+IsEdgePut id to old new = (i : Id) (k : TableKey) → new i ≡ Some k → (old i ≡ Some k) ⊎ ((i ≡ id) × (k ≡ to))
+
 -- the edges are those that were, or one of them is written
 abbrev pub IsWritten : {Y : Type 0} → Id → TableKey → Edges Y → Edges Y → Type 0
-IsWritten id to old new = (i : Id) (k : TableKey) → edge_of new i ≡ Some k → (edge_of old i ≡ Some k) ⊎ ((i ≡ id) × (k ≡ to))
+IsWritten id to old new = IsEdgePut id to (edge_of old) (edge_of new)

@@ -1,36 +1,45 @@
 //! The edges that lead from a table to others.
-ghost use Rattle.std.specs.Prelude.{◌≡◌, ◌∷◌, [], ◌⊎◌, IfOk, Some};
-ghost use Rattle.ecs_id.specs.Id.{Id};
+ghost use Rattle.std.specs.Prelude.{◌≡◌, ◌∷◌, [], ◌⊎◌, ◌<◌, IfOk, IfSome, OnErr, length, position};
+ghost use Rattle.indexmap.specs.IndexMap.{get};
+ghost use Rattle.ecs_id.specs.Id.{Id, id_eq};
 ghost use Rattle.ecs_id.specs.declared.TableKey.{TableKey};
-ghost use Rattle.table_store.specs.Kept.{HasNoEdge, IsWritten, edge_of, one_of_several};
+ghost use Rattle.table_store.specs.Kept.{HasNoEdge, IsEdgePut, IsWritten, edge_in, edge_of, one_of_several};
 
 use ecs_id::{Id, TableKey};
 use indexmap::IndexMap;
 use listed_key::ListedKey;
 use secret_hashing::Hashing;
 use std::alloc::{AllocError, Allocator, Global};
+use std::mem;
+
+// So many edges are searched one by one before others are hashed.
+const FEW: usize = 8;
+
+// How many edges a list gets room for once it has two.
+const FEW_ROOM: usize = 3;
 
 /// An edge: the id for which it leads, and where.
 type Edge = (Id, ListedKey);
 
 type ById<A> = IndexMap<Id, ListedKey, Hashing, A>;
 
-/// Two edges or more. The first stands apart, as most steps from a table are along it.
+/// More edges than a few. The few that came first are searched one by one, and the others are hashed.
 #[derive(Drop)]
 pub struct Several<A: Allocator> {
-    first: Edge,
+    few: Vec<Edge, A>,
     others: ById<A>,
 }
 
 /// For some ids, the key of a table.
 ///
-/// Most tables have one edge or none, and these take no memory of their own. The others are hashed, so a look-up takes constant time
-/// whatever the ids.
+/// Most tables have one edge or none, and these take no memory of their own. A few take a block, and those of tables with many are hashed, so a look-up
+/// takes constant time whatever the ids.
 #[derive(Drop)]
 pub enum Edges<A: Allocator> {
     Empty,
     One(Edge),
-    // in a box, since few tables have others
+    Few(Vec<Edge, A>),
+    // in a box, since few tables have so many
     Many(Box<Several<A>, A>),
 }
 
@@ -51,6 +60,7 @@ impl<A: Allocator> Edges<A> {
         match self {
             Edges::Empty => None,
             Edges::One((known, to)) => { if *known == id { Some(to.key()) } else { None } }
+            Edges::Few(few) => edge_in(few.as_slice(), id),
             Edges::Many(several) => several.get(id),
         }
     }
@@ -60,9 +70,8 @@ impl<A: Allocator> Several<A> {
     fn get(&self, id: Id) -> Option<TableKey>
         ensures { result ≡ one_of_several self.now id }
     {
-        let (known, to) = self.first;
-        if known == id {
-            return Some(to.key());
+        if let Some(to) = edge_in(self.few.as_slice(), id) {
+            return Some(to);
         }
         match self.others.get(&id) {
             Some(to) => Some(to.key()),
@@ -71,13 +80,11 @@ impl<A: Allocator> Several<A> {
     }
 
     fn write(&mut self, id: Id, to: ListedKey)
-        ensures { (i : Id) (k : TableKey) → one_of_several self.new i ≡ Some k → (one_of_several self.old i ≡ Some k) ⊎ ((i ≡ id) × (k ≡ to)) }
+        ensures { IsEdgePut id to (one_of_several self.old) (one_of_several self.new) }
     {
-        let (known, _) = self.first;
-        if known == id {
-            self.first = (id, to);
-        } else {
-            let _ = self.others.insert(id, to);
+        match place_in(self.few.as_slice(), id) {
+            Some(place) => self.few[place] = (id, to),
+            None => put_hashed(&mut self.others, id, to),
         }
     }
 }
@@ -101,8 +108,15 @@ impl<A: Allocator + Copy> Edges<A> {
                 let first = *only;
                 if first.0 == id {
                     *self = Edges::One((id, to));
-                } else if let Ok(both) = two_edges(alloc, hashing, first, id, to) {
-                    *self = Edges::Many(both);
+                } else if let Ok(both) = two_edges(alloc, first, id, to) {
+                    *self = Edges::Few(both);
+                }
+            }
+            Edges::Few(few) => {
+                if few.len() < FEW {
+                    put(few, id, to);
+                } else if let Ok(several) = several_edges(alloc, hashing, few, id, to) {
+                    *self = Edges::Many(several);
                 }
             }
             Edges::Many(several) => several.write(id, to),
@@ -110,18 +124,76 @@ impl<A: Allocator + Copy> Edges<A> {
     }
 }
 
+// Where the first of some edges for an id leads.
+fn edge_in(edges: &[Edge], id: Id) -> Option<TableKey>
+    ensures { result ≡ edge_in edges.now id }
+{
+    for edge in edges {
+        if edge.0 == id {
+            return Some(edge.1.key());
+        }
+    }
+    None
+}
+
+// Where an edge for an id stands.
+fn place_in(edges: &[Edge], id: Id) -> Option<usize>
+    ensures place { result ≡ position (λ e. id_eq e.0 id) edges.now }
+    ensures within { IfSome result (λ place. place < length edges.now) }
+{
+    edges.iter().position(|edge| edge.0 == id)
+}
+
+// Writes an edge in the place of that for the id, or behind the others, if there is memory for it.
+fn put<A: Allocator>(few: &mut Vec<Edge, A>, id: Id, to: ListedKey)
+    ensures { IsEdgePut id to (edge_in few.old.items) (edge_in few.new.items) }
+{
+    match place_in(few.as_slice(), id) {
+        Some(place) => few[place] = (id, to),
+        None => {
+            let _ = few.push((id, to));
+        }
+    }
+}
+
+// Writes an edge in the place of that for the id, or a further one, if there is memory for it.
+fn put_hashed<A: Allocator>(others: &mut ById<A>, id: Id, to: ListedKey)
+    ensures { IsEdgePut id to (get id_eq others.old) (get id_eq others.new) }
+{
+    let _ = others.insert(id, to);
+}
+
 // A first edge, and another one.
-fn two_edges<A: Allocator + Copy>(
+fn two_edges<A: Allocator>(
     alloc: A,
-    hashing: Hashing,
     first: Edge,
     id: Id,
     to: ListedKey,
+) -> Result<Vec<Edge, A>, AllocError>
+    ensures { IfOk result (λ both. both.items ≡ first ∷ (id, to) ∷ []) }
+{
+    let mut both = Vec::with_capacity(alloc, FEW_ROOM)?;
+    both.push_reserved(first);
+    both.push_reserved((id, to));
+    Ok(both)
+}
+
+// These edges, of which none is left, and another one that is hashed.
+fn several_edges<A: Allocator + Copy>(
+    alloc: A,
+    hashing: Hashing,
+    few: &mut Vec<Edge, A>,
+    id: Id,
+    to: ListedKey,
 ) -> Result<Box<Several<A>, A>, AllocError>
-    ensures first { IfOk result (λ both. both.value.first ≡ first) }
-    ensures other { IfOk result (λ both. both.value.others.entries ≡ (id, to) ∷ []) }
+    ensures few { IfOk result (λ several. several.value.few.items ≡ few.old.items) }
+    ensures other { IfOk result (λ several. several.value.others.entries ≡ (id, to) ∷ []) }
+    ensures kept { OnErr result (few.new.items ≡ few.old.items) }
 {
     let mut others = IndexMap::with_hasher(alloc, hashing);
     others.insert(id, to)?;
-    Ok(Box::new(alloc, Several { first, others })?)
+    let none = Vec::new(alloc);
+    let mut several = Box::new(alloc, Several { few: none, others })?;
+    several.few = mem::replace(few, Vec::new(alloc));
+    Ok(several)
 }
