@@ -1,9 +1,9 @@
 -- The counts of a list as a map: what stands at each index, and that the indexes rise.
-use Rattle.std.proofs.Common.{◌≡◌, ◌≢◌, ◌⊎◌, ℕ, zero, suc, ◌+◌, ◌<◌, ◌≤◌, ◌==◌, Bool, true, false, cond, not, ◌&&◌, List, [], ◌∷◌, ◌++◌, filter, length, nat_lt, get_or, set, Option, Some, None, unwrap_or, refl, sym, ap, ◌∙◌, inl, inr, arith}
-use Rattle.std.proofs.lemmas.Bool.{cases_eq, cases_lt, ne_eqb}
+use Rattle.std.proofs.Common.{◌≡◌, ◌≢◌, ◌⊎◌, ℕ, zero, suc, ◌+◌, ◌<◌, ◌==◌, Bool, true, false, cond, not, ◌&&◌, List, [], ◌∷◌, filter, length, nat_lt, get_or, set, Option, Some, None, unwrap_or, refl, sym, ap, ◌∙◌, inl, inr, arith}
+use Rattle.std.proofs.lemmas.Bool.{cases_eq, ne_eqb}
 use Rattle.std.proofs.lemmas.Bool.Decides.{nat_tests, Decides-eqb}
 use Rattle.std.proofs.lemmas.Grind.{get_or-set_at}
-use Rattle.std.proofs.lemmas.List.{get_or-set_other, get_or_past}
+use Rattle.std.proofs.lemmas.List.{get_or-set_other}
 use Rattle.std.specs.Cmp.{nat_cmp_total}
 use Rattle.std.specs.FinMap.{nat_cmp-IsAntisymmetric}
 use Rattle.std.specs.FinMap.Entries.{below_all, is_sorted, same_entries}
@@ -82,23 +82,6 @@ same_map m n h g same = same_entries nat_cmp nat_cmp_total nat_cmp-IsAntisymmetr
 pub same_counts : (old new : List ℕ) → ((i : ℕ) → get_or new i 0 ≡ get_or old i 0) → counts_from 0 new ≡ counts_from 0 old
 same_counts old new same =
     same_map (counts_from 0 new) (counts_from 0 old) (IsMap-from 0 new) (IsMap-from 0 old) (λ i. value_is new i ∙ ap kept (same i) ∙ sym (value_is old i))
-
--- a list that grew by counts of 0
-pub same_grown : (old new : List ℕ) (m n : ℕ) → length old ≡ m → length new ≡ n → ((k d : ℕ) → k < n → k < m → get_or new k d ≡ get_or old k d)
-    → ((k d : ℕ) → m ≤ k → k < n → get_or new k d ≡ 0) → m ≤ n → counts_from 0 new ≡ counts_from 0 old
-same_grown old new m n before after same more wider = same_counts old new (λ k. by k (cases_lt k m) (cases_lt k n))
-  where
-    by : (k : ℕ) → (k < m) ⊎ (m ≤ k) → (k < n) ⊎ (n ≤ k) → get_or new k 0 ≡ get_or old k 0
-    by k (inl low) (inl within) = same k 0 within low
-    by k (inl low) (inr past) = absurd (omega (arith, low, past, wider))
-    by k (inr beyond) (inl within) = more k 0 beyond within ∙ sym (get_or_past old k 0 (omega (arith, before, beyond)))
-    by k (inr beyond) (inr past) = get_or_past new k 0 (omega (arith, after, past)) ∙ sym (get_or_past old k 0 (omega (arith, before, beyond)))
-
--- a list behind which a count of 0 comes
-pub same_behind : (a : ℕ) (counts : List ℕ) → counts_from a (counts ++ 0 ∷ []) ≡ counts_from a counts
-same_behind a [] = refl
-same_behind a (zero ∷ counts) = same_behind (a + 1) counts
-same_behind a (suc n ∷ counts) = counts_more a n (counts ++ 0 ∷ []) ∙ ap (λ m. (a, suc n) ∷ m) (same_behind (a + 1) counts) ∙ sym (counts_more a n counts)
 
 pub IsMap-with_count : (m : Map ℕ ℕ) (i n : ℕ) → IsMap nat_cmp m → IsMap nat_cmp (with_count m i n)
 IsMap-with_count m i zero h = nat_IsMap-without m (λ j. j == i) h

@@ -1,25 +1,31 @@
 //! The counts.
 
-ghost use Rattle.std.specs.Prelude.{◌≡◌, ◌<◌, ◌≤◌, [], OnErr, OnOk};
+ghost use Rattle.std.specs.Prelude.{◌≡◌, ◌<◌, ◌≤◌, ℕ, [], OnErr, OnOk, length, slice_index_or, vec_capacity};
 ghost use Rattle.ecs_model.specs.Map.{count_at};
 ghost use Rattle.ecs_model.specs.traits.Pins.{with_count};
 
 use std::alloc::{AllocError, Allocator, Global};
 use std::marker::Model;
 
-/// How many stored queries mention each entity, by its index. It takes 8 bytes for each index up to the greatest that was covered.
+/// How many stored queries mention each entity, by its index. It has room for 8 bytes for each index up to the greatest that was covered, and fills
+/// it up to the greatest whose count was kept.
 #[derive(Drop)]
 pub struct PinCounts<A: Allocator = Global> {
-    /// By index.
+    // by index; each that would stand behind them is 0
     counts: Vec<u64, A>,
+    // how many indexes are covered: there is room for so many counts
+    reach: usize,
 }
 
 impl<A: Allocator> Model for PinCounts<A> {
+    ghost use Rattle.std.specs.Prelude.{◌≤◌, vec_capacity};
     ghost use Rattle.rel_traits.specs.PinCounts.{Counts, counts_of};
 
     ghost Value = { Counts };
 
-    ghost view = { λ pins. counts_of pins.counts.items };
+    ghost view = { λ pins. counts_of pins.counts.items pins.reach };
+
+    ghost invariant = { λ pins. pins.reach ≤ vec_capacity pins.counts };
 }
 
 impl<A: Allocator> PinCounts<A> {
@@ -29,6 +35,7 @@ impl<A: Allocator> PinCounts<A> {
     {
         PinCounts {
             counts: Vec::new(alloc),
+            reach: 0,
         }
     }
 
@@ -42,16 +49,13 @@ impl<A: Allocator> PinCounts<A> {
         ensures err { OnErr result (self.new ≡ self.old) }
     {
         let place = index as usize;
-        let reach = self.counts.len();
-        if place < reach {
+        if place < self.reach {
             return Ok(());
         }
-        if place == reach {
-            // So it is for each entity that is made.
-            self.counts.push(0)?;
-            return Ok(());
-        }
-        self.counts.resize(place + 1, 0)?;
+        let covered = place + 1;
+        let more = covered.saturating_sub(self.counts.len());
+        self.counts.reserve(more)?;
+        self.reach = covered;
         Ok(())
     }
 
@@ -73,6 +77,20 @@ impl<A: Allocator> PinCounts<A> {
         ensures entries { self.new.entries ≡ with_count self.old.entries index count }
         ensures reach { self.new.reach ≡ self.old.reach }
     {
-        self.counts[index as usize] = count;
+        let place = index as usize;
+        fill(&mut self.counts, place);
+        self.counts[place] = count;
+    }
+}
+
+// Puts counts of 0 behind the others until there is one at a place, for which there is room.
+fn fill<A: Allocator>(counts: &mut Vec<u64, A>, place: usize)
+    requires { place < vec_capacity counts.old }
+    ensures within { place < length counts.new.items }
+    ensures same { (i : ℕ) → slice_index_or counts.new.items i 0 ≡ slice_index_or counts.old.items i 0 }
+    ensures capacity { vec_capacity counts.old ≤ vec_capacity counts.new }
+{
+    if counts.len() <= place {
+        counts.resize(place + 1, 0).unwrap();
     }
 }
