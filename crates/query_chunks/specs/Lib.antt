@@ -1,4 +1,3 @@
 pub mod Asked
 pub mod Chunk
-pub mod Keys
 pub mod Run

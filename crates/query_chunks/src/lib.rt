@@ -18,7 +18,6 @@ mod asked;
 mod chunk;
 mod column;
 mod cursor;
-mod keys;
 mod leading;
 mod run;
 
