@@ -148,9 +148,6 @@ have_all ps ids = list_all (λ p. list_any (matches p) ids) ps
 abbrev pub counts : {A : Type 0} → List Id → Id → AskedOf A → Bool
 counts ids i a = any_asked a.asks.items i && have_all a.needs.items ids
 
-abbrev pub any_counts : {A : Type 0} → List (AskedOf A) → List Id → Id → Bool
-any_counts all ids i = list_any (counts ids i) all
-
 -- and whether it is so as the entity of a variable that passes a test
 abbrev pub counts_as : {A : Type 0} → (ℕ → Bool) → List Id → Id → AskedOf A → Bool
 counts_as only ids i a = only a.variable && counts ids i a

@@ -1,26 +1,22 @@
 //! A query with what it asks, as it is judged.
 
-ghost use Rattle.std.specs.Prelude.{◌≡◌, ◌++◌, IfSome, List, false, map, not};
+ghost use Rattle.std.specs.Prelude.{◌≡◌, IfSome, List, false};
 ghost use Rattle.ecs_id.specs.Id as id_specs;
 ghost use Rattle.watch_concerns.specs.Concerns.{concerns, is_asked_by_all};
-ghost use Rattle.watch_concerns.specs.Idle.{is_idle};
-ghost use Rattle.watch_concerns.specs.Linked.{links_others};
 ghost use Rattle.watch_concerns.specs.Others.{concerns_below, concerns_others, says_how_far};
 ghost use Rattle.watch_concerns.specs.OwnIds.{lacks, meets};
 ghost use Rattle.watch_concerns.specs.Whom.{concern_of, joined};
-ghost use Rattle.watch_asked.specs.Asked.{IsAskedBy, any_counts, asked_concern, one_concern};
+ghost use Rattle.watch_asked.specs.Asked.{IsAskedBy, asked_concern, one_concern};
 
-use crate::asked::{AskedOf, AskedTerm, AskedTerms};
+use crate::asked::{AskedTerm, AskedTerms};
 use crate::asked_id::have_all;
 use ecs_id::Id;
-use ecs_model::FactKey;
 use ecs_model::built_ins::{REFLEXIVE, TRANSITIVE};
 use query_check::Query;
 use std::alloc::Allocator;
 use std::marker::Model;
 use watch_concerns::{
-    Concern, concern_of, concerns_below, concerns_others, is_asked_by_all, is_idle, lacks,
-    links_others, meets,
+    Concern, concern_of, concerns_below, concerns_others, is_asked_by_all, lacks, meets,
 };
 
 const NOBODY: Concern = Concern {
@@ -97,13 +93,6 @@ impl<'q, A: Allocator> AskedQuery<'q, A> {
         concerns_below(self.query, id)
     }
 
-    /// Whether it links others by an id.
-    pub fn links_others(&self, id: Id) -> bool
-        ensures { result ≡ links_others self.now id }
-    {
-        links_others(self.query, id)
-    }
-
     /// Whether an entity with these ids lacks what it asks of `$this` itself.
     #[inline(always)]
     pub fn lacks(&self, ids: &[Id]) -> bool
@@ -131,16 +120,6 @@ impl<'q, A: Allocator> AskedQuery<'q, A> {
         match self.terms {
             Some(terms) => terms.may_meet,
             None => true,
-        }
-    }
-
-    /// Whether a fact of an id is busy: of somebody who has held no other ids than these, and those of these facts, it isn't idle.
-    pub fn is_busy(&self, ids: &[Id], facts: &[FactKey], id: Id) -> bool
-        ensures { result ≡ not (is_idle self.now (ids.now ++ map (λ k. k.1) facts.now) id) }
-    {
-        match self.terms {
-            Some(terms) => any_counts(terms.others.as_slice(), ids, facts, id),
-            None => !is_idle(self.query, ids, facts, id),
         }
     }
 }
@@ -203,16 +182,4 @@ fn of_term(term: &AskedTerm, id: Id) -> Concern
         others: !term.this,
         below: term.below,
     }
-}
-
-/// Whether somebody who has held no other ids than these, and those of these facts, is asked for an id as one for whom a variable may stand.
-fn any_counts<A: Allocator>(others: &[AskedOf<A>], ids: &[Id], facts: &[FactKey], id: Id) -> bool
-    ensures { result ≡ any_counts others.now (ids.now ++ map (λ k. k.1) facts.now) id }
-{
-    for asked in others {
-        if asked.counts(ids, facts, id) {
-            return true;
-        }
-    }
-    false
 }

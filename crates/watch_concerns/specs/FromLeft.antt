@@ -1,14 +1,13 @@
 -- Bonds of variables, read from the pieces from the left.
-use Rattle.std.specs.Prelude.{ℕ, ◌+◌, ◌-◌, ◌==◌, Bool, true, false, not, ◌&&◌, ◌||◌, List, [], ◌∷◌, ◌++◌, map, if◌then◌else◌}
+use Rattle.std.specs.Prelude.{ℕ, ◌+◌, ◌-◌, ◌==◌, Bool, true, false, not, ◌&&◌, ◌||◌, List, [], ◌∷◌, if◌then◌else◌}
 use Rattle.std.specs.List.{list_all}
 use Rattle.ecs_model.specs.rows.Level.{Level}
 use Rattle.query_model.specs.declared.query.Term.{Term}
 use Rattle.query_model.specs.Query.{Item, Piece, item, opening, closing}
 use Rattle.watch_concerns.specs.declared.bonds.Bond.{Bond}
-use Rattle.watch_concerns.specs.declared.bonds.Bond.TheVariants.{Anchor, Tie, Link, Idle}
+use Rattle.watch_concerns.specs.declared.bonds.Bond.TheVariants.{Anchor, Tie, Link}
 use Rattle.watch_concerns.specs.Anchored.{item_anchors}
 use Rattle.watch_concerns.specs.Bonds.{has_directly}
-use Rattle.watch_concerns.specs.Idle.{asks_for, item_lacks_of}
 use Rattle.watch_concerns.specs.Linked.{item_links}
 use Rattle.watch_concerns.specs.Tied.{item_ties, needs_no_tie}
 
@@ -18,14 +17,12 @@ abbrev pub item_binds : Bond → ℕ → Item → Bool
 item_binds Anchor v x = item_anchors v x
 item_binds Tie v x = item_ties v x
 item_binds Link v x = item_links v x
-item_binds (Idle ids went i) v x = item_lacks_of (ids.now ++ map (λ k. k.1) went.now) v x
 
 -- whether a variable needs no bond, by the terms of its query
 abbrev pub is_free : Bond → List Term → ℕ → Bool
 is_free Anchor ts v = false
 is_free Tie ts v = needs_no_tie ts v
 is_free Link ts v = v == 0
-is_free (Idle ids went i) ts v = v == 0 || not (asks_for ts v i)
 
 abbrev pub binds : Bond → List Term → ℕ → Level → Bool
 binds bond ts v l = is_free bond ts v || has_directly (item_binds bond v) l

@@ -1,15 +1,13 @@
--- Idle facts: whoever holds one lacks what else is asked of each whom it might stand for, so it moves nobody but its holder in or out of a linked query's rows.
+-- Idle facts: for a variable a fact is idle whose holder is asked for nothing of the kind as its entity, or lacks what else is asked of that.
 use Rattle.std.specs.Prelude.{ℕ, ◌==◌, Bool, false, not, ◌&&◌, ◌||◌, List, is_none}
 use Rattle.std.specs.List.{list_any}
 use Rattle.ecs_id.specs.Id.{Id}
 use Rattle.ecs_model.specs.rows.Level.{Level}
 use Rattle.query_model.specs.declared.query.Term.{Term}
-use Rattle.query_model.specs.Query.{Item, must, may, either, equal, differ, Query}
-use Rattle.query_check.specs.Terms.{terms}
+use Rattle.query_model.specs.Query.{Item, must, may, either, equal, differ}
 use Rattle.watch_concerns.specs.Anchored.{is_variable}
-use Rattle.watch_concerns.specs.Bonds.{are_all_bound, has_directly}
+use Rattle.watch_concerns.specs.Bonds.{has_directly}
 use Rattle.watch_concerns.specs.Concerns.{may_match, term_concerns}
-use Rattle.watch_concerns.specs.Others.{concerns_others}
 
 -- ---- for what the entity of a variable is asked
 
@@ -38,7 +36,3 @@ item_lacks_of ids v (differ u r) = false
 -- whether a variable is `$this`, or its entity isn't asked for an id, or these ids lack what an item directly in its level asks of it
 abbrev pub is_idle_for : List Id → Id → List Term → ℕ → Level → Bool
 is_idle_for ids i ts v l = (v == 0 || not (asks_for ts v i)) || has_directly (item_lacks_of ids v) l
-
--- whether a fact of an id, of whom only these ids are held, is idle: the id concerns no others, or so it is for each variable in its own level
-unfoldable pub is_idle : Query → List Id → Id → Bool
-is_idle q ids i = not (concerns_others q i) || are_all_bound (is_idle_for ids i (terms q)) q

@@ -1,5 +1,5 @@
 -- The laws of what concerns a query, as statements.
-use Rattle.std.specs.Prelude.{◌≡◌, ◌↔◌, ℕ, ◌==◌, Bool, true, false, List, filter, not}
+use Rattle.std.specs.Prelude.{◌≡◌, ◌↔◌, ℕ, ◌==◌, Bool, true, false, List, filter}
 use Rattle.std.specs.List.{Contains}
 use Rattle.ecs_id.specs.Id.{Id, pair}
 use Rattle.query_model.specs.declared.query.Term.{Term}
@@ -10,8 +10,7 @@ use Rattle.ecs_model.specs.rows.View.{View}
 use Rattle.ecs_model.specs.stored.Watches.{matching}
 use Rattle.watch_concerns.specs.Anchored.{is_anchored}
 use Rattle.watch_concerns.specs.Concerns.{concerns}
-use Rattle.watch_concerns.specs.Idle.{asks_for, is_idle}
-use Rattle.watch_concerns.specs.Linked.{HasLinked, is_linked}
+use Rattle.watch_concerns.specs.Idle.{asks_for}
 use Rattle.watch_concerns.specs.Others.{concerns_below, concerns_others}
 use Rattle.watch_concerns.specs.OwnIds.{lacks, meets}
 use Rattle.watch_concerns.specs.Roles.{LeadsOn, is_linked_by, may_stand}
@@ -50,18 +49,7 @@ MatchByTies = (m n : ℕ) (w v : View) (q : Query) → AreLinks m w.entities w.i
     → ((r x : ℕ) → Contains (v.ids e) (pair r x) → concerns q (pair r x) ≡ true → filter (concerns_others q) (w.ids x) ≡ filter (concerns_others q) (v.ids x))
     → Contains (matching w q) e ↔ Contains (matching v q) e
 
--- of a linked query they are among any who are near, with whom all are near that are linked with them in one of the views, and the entity itself; and of their facts those matter that
--- aren't idle by ids that they hold in either view
-abbrev pub MatchByLinks : Type 0
-MatchByLinks = (m n : ℕ) (w v : View) (q : Query) → AreLinks m w.entities w.ids → AreLinks n v.entities v.ids → IsSound q → is_anchored q ≡ true → is_linked q ≡ true
-    → (e : ℕ) → filter (concerns q) (w.ids e) ≡ filter (concerns q) (v.ids e)
-    → ((r x : ℕ) → Contains (line v.ids v.entities r e) x → filter (concerns_below q) (w.ids x) ≡ filter (concerns_below q) (v.ids x))
-    → (all : ℕ → List Id) → ((x : ℕ) (i : Id) → Contains (w.ids x) i → Contains (all x) i) → ((x : ℕ) (i : Id) → Contains (v.ids x) i → Contains (all x) i)
-    → (near : ℕ → Bool) → near e ≡ true → HasLinked q all w e near → HasLinked q all v e near
-    → ((x : ℕ) → near x ≡ true → filter (λ i. not (is_idle q (all x) i)) (w.ids x) ≡ filter (λ i. not (is_idle q (all x) i)) (v.ids x))
-    → Contains (matching w q) e ↔ Contains (matching v q) e
-
--- and of one that is linked by some terms they are among those near, who may stand for a variable: the entity for `$this`, and whoever such terms lead to from there by pairs in one of the
+-- of one that is linked by some terms they are among those near, who may stand for a variable: the entity for `$this`, and whoever such terms lead to from there by pairs in one of the
 -- views; and of their facts those matter that are asked of the entity of that variable
 abbrev pub MatchByRoles : Type 0
 MatchByRoles = (m n : ℕ) (w v : View) (q : Query) → AreLinks m w.entities w.ids → AreLinks n v.entities v.ids → IsSound q → is_anchored q ≡ true

@@ -1,6 +1,6 @@
 //! What is proved of the definitions alone: each function's contract is a law, and its body does nothing.
 
-ghost use Rattle.watch_concerns.specs.Laws.{LackingMatchNothing, MatchByLinks, MatchByOwnFacts, MatchByRoles, MatchByTies, MatchByWhatConcerns, MatchWhoeverElseLives, MeetingMatch};
+ghost use Rattle.watch_concerns.specs.Laws.{LackingMatchNothing, MatchByOwnFacts, MatchByRoles, MatchByTies, MatchByWhatConcerns, MatchWhoeverElseLives, MeetingMatch};
 
 /// Law: where the same entities live and each holds the same ids of those that concern a query, the same entities are `$this` of its rows.
 pub fn queries_match_by_what_concerns_them()
@@ -22,11 +22,6 @@ pub fn anchored_queries_match_by_own_facts()
 /// its ancestors.
 pub fn tied_queries_match_by_facts_of_their_targets()
     ensures { MatchByTies }
-{}
-
-/// Law: of an anchored query that is linked, they are among the entity and all who are linked with it, over any number of pairs.
-pub fn linked_queries_match_by_facts_of_those_near()
-    ensures { MatchByLinks }
 {}
 
 /// Law: and of one that is linked by some terms, they are among those who may stand for a variable: the entity itself for `$this`, and all to whom such

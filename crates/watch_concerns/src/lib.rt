@@ -5,7 +5,6 @@
 mod anchoring;
 mod bonds;
 mod concerning;
-mod idle;
 pub mod laws;
 mod linking;
 mod others;
@@ -16,8 +15,7 @@ mod whom;
 
 pub use anchoring::is_anchored;
 pub use concerning::{concerns, is_asked_by_all};
-pub use idle::is_idle;
-pub use linking::{is_linked, links_others};
+pub use linking::is_linked;
 pub use others::{concerns_below, concerns_others};
 pub use own_ids::{lacks, meets};
 pub use ties::is_tied;
