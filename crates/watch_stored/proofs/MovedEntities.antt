@@ -44,6 +44,14 @@ among_filter p es e =
     (λ t. let both = (filtered p es e).0 (among (filter p es) e t) in and_from (is_among es e) (p e) (there es e both.0) both.1)
     (λ t. let both = and_parts (is_among es e) (p e) t in there (filter p es) e ((filtered p es e).1 (among es e both.0, both.1)))
 
+-- of those who are asked, among whom are all who match, those who do are in the rows
+pub asked_among : (now asked : List ℕ) → ((e : ℕ) → Contains now e → Contains asked e) → (e : ℕ) → is_among (filter (is_among now) asked) e ≡ is_among now e
+asked_among now asked covers e =
+    among_filter (is_among now) asked e
+    ∙ alike (is_among asked e && is_among now e) (is_among now e)
+    (λ t. (and_parts (is_among asked e) (is_among now e) t).1)
+    (λ t. and_from (is_among asked e) (is_among now e) (there asked e (covers e (among now e t))) t)
+
 -- ---- who left and who entered
 
 -- whether it may have moved, was there, and is there

@@ -19,7 +19,7 @@ mod table_counts;
 pub use names::Names;
 pub use reading::read_query;
 pub use rows::{
-    QUERY_ROOM, asking_in, matching, matching_among, matching_by_asking, plan_for_kept, plan_in,
-    send_planned_rows, send_rows, send_rows_in, write_planned_rows, write_rows, write_rows_in,
+    QUERY_ROOM, asking_in, candidates_in, matching, plan_for_kept, plan_in, send_planned_rows,
+    send_rows, send_rows_in, write_planned_rows, write_rows, write_rows_in,
 };
 pub use sending::{Nowhere, SendError, send_list};
