@@ -70,6 +70,7 @@ impl<'q, A: Allocator> AskedQuery<'q, A> {
     }
 
     /// For whom an id concerns it.
+    #[inline(always)]
     pub fn concern_of(&self, id: Id) -> Concern
         ensures { result ≡ concern_of self.now id }
     {
@@ -125,6 +126,7 @@ impl<'q, A: Allocator> AskedQuery<'q, A> {
 }
 
 /// For whom an id concerns a query that asks this.
+#[inline(always)]
 fn of_asked<A: Allocator>(asked: &AskedTerms<A>, id: Id) -> Concern
     ensures { result ≡ joined (record { anyone = is_asked_by_all id; others = says_how_far id; below = false }) (asked_concern id asked.now.terms.items) }
 {
