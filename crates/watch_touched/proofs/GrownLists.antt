@@ -85,10 +85,6 @@ given_within p next xs i inside d x y z h k =
 -- ---- those of a list that pass a test
 
 module _ (p : ℕ → Bool) where
-  -- of one list, and then of another
-  pub kept_of_both : (a b x y z : List ℕ) → Adds (filter p a) x y → Adds (filter p b) y z → Adds (filter p (a ++ b)) x z
-  kept_of_both a b x y z h k = subst (λ wanted. Adds wanted x z) (sym (filter-append p a b)) (and_then (filter p a) (filter p b) x y z h k)
-
   -- one alone, whether it passes or not
   pub kept_of_one : (e : ℕ) (x y : List ℕ) → Adds (e ∷ []) x y → Adds (filter p (e ∷ [])) x y
   kept_of_one e x y h = fewer (e ∷ []) (filter p (e ∷ [])) x y h (λ z m. ((filtered p (e ∷ []) z).0 m).0)

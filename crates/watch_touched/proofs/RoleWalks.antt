@@ -29,7 +29,7 @@ use Rattle.watch_concerns.specs.Roles.{leads_in, may_stand}
 use Rattle.watch_touched.specs.Leaning.{Adds, leaning, leans, pairs_to, target_of}
 use Rattle.watch_touched.specs.Moving.{ids_around, may_be_this}
 use Rattle.watch_touched.specs.Roles.{behind, holders_as, holds_as, ids_of_both, is_asked_of, roles_behind, roles_of, roles_of_fact, stands_for, targets_as, this_among}
-use Rattle.watch_touched.specs.Steps.{found_behind, found_from, gone_target, leads_by, may_be_as, may_be_by, step_back, targets_back}
+use Rattle.watch_touched.specs.Steps.{behind_gone, behind_target, found_behind, found_from, gone_target, leads_by, may_be_as, may_be_by, step_back, targets_back}
 use Rattle.watch_touched.proofs.GrownLists.{already, and_then, fewer}
 use Rattle.watch_touched.proofs.MovingByRoles.{is_this_among, of_this, this_behind}
 use Rattle.watch_touched.proofs.RolesBehind.{passes_target}
@@ -320,6 +320,29 @@ module _ (q : Query) (w : WorldState) (changed : Changed) where
       let y : ℕ = f.0 in
       let there = subst (λ (ys : List ℕ). Contains ys e) (ap (λ v. found_behind q w changed n v y) first ∙ only_this n y) f.2 in
       elim (head_or_tail y e [] ((filtered (may_be_this q w) (y ∷ []) e).0 there).0) [ inl same ↦ subst (Contains xs) same f.1 | inr none ↦ absurd (omega (arith, none.1)) ])
+
+  -- who is behind the targets from which a step leads is behind those of what an entity holds, or of what went from it
+  pub behind_back : (n y : ℕ) (s : LinkStep) (x between z : List ℕ) → Adds (flat_map (behind_target q w changed n s) (ids_of w y)) x between → Adds (flat_map (behind_gone q w changed n s y) changed.went) between z
+      → Adds (flat_map (found_behind q w changed n s.from) (targets_back q w changed.went s y)) x z
+  behind_back n y s x between z h k =
+      let f = found_behind q w changed n s.from in
+      let to = target_of (matches s.asked) in
+      let now = flat_map to (ids_of w y) in
+      let before = flat_map (gone_target s y) changed.went in
+      let held = flat_map (behind_target q w changed n s) (ids_of w y) in
+      let gone = flat_map (behind_gone q w changed n s y) changed.went in
+      fewer (held ++ gone) (flat_map f (targets_back q w changed.went s y)) x z (and_then held gone x between z h k)
+      (λ e m.
+      let a = from_flat_map f (targets_back q w changed.went s y) e m in
+      let there = ((filtered (may_be_as q w s.from) (now ++ before) a.0).0 a.1).0 in
+      elim (Contains-append_cases now before a.0 there) [
+        | inl c ↦
+            let i = from_flat_map to (ids_of w y) a.0 c in
+            Contains-append_left held gone e (in_flat_map (behind_target q w changed n s) (ids_of w y) i.0 e i.1 (in_flat_map f (to i.0) a.0 e i.2 a.2))
+        | inr c ↦
+            let k = from_flat_map (gone_target s y) changed.went a.0 c in
+            Contains-append_right held gone e (in_flat_map (behind_gone q w changed n s y) changed.went k.0 e k.1 (in_flat_map f (gone_target s y k.0) a.0 e k.2 a.2))
+      ])
 
 -- who is behind those from whom a step leads is behind those that were found
 pub behind_found : (next : ℕ → List ℕ) (back start between x z : List ℕ) → Adds back start between → Adds (flat_map next between) x z → Adds (flat_map next back) x z

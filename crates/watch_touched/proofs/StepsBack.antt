@@ -1,6 +1,6 @@
 -- What one step back has to find: who holds a pair by which it may lead, and the targets of such pairs.
-use Rattle.std.proofs.Common.{◌≡◌, ℕ, ◌==◌, Bool, true, false, true≢false, List, [], ◌∷◌, Option, Some, None, sym, ap, subst, ◌∙◌, arith}
-use Rattle.std.specs.Prelude.{◌&&◌, ◌++◌, not, filter, map, if◌then◌else◌}
+use Rattle.std.proofs.Common.{◌≡◌, ℕ, ◌==◌, Bool, true, false, true≢false, List, [], ◌∷◌, Option, Some, None, refl, sym, ap, subst, ◌∙◌, arith}
+use Rattle.std.specs.Prelude.{◌&&◌, ◌++◌, not, filter, flat_map, map, if◌then◌else◌}
 use Rattle.std.specs.List.{Contains, list_any}
 use Rattle.std.proofs.lemmas.Bool.{and_parts, and_from, eqb-true, false≢true}
 use Rattle.std.proofs.lemmas.Option.{same_Some}
@@ -19,7 +19,7 @@ use Rattle.watch_asked.specs.declared.steps.LinkStep.{LinkStep}
 use Rattle.watch_concerns.specs.OwnIds.{lacks}
 use Rattle.watch_touched.specs.Leaning.{Adds, leaning, leans, pairs_to, target_of}
 use Rattle.watch_touched.specs.Steps.{gone_target, leads_by}
-use Rattle.watch_touched.proofs.GrownLists.{already, fewer}
+use Rattle.watch_touched.proofs.GrownLists.{already, nothing_behind}
 
 -- ---- who holds a pair
 
@@ -68,17 +68,18 @@ the_targets : (p : Id → Bool) (i : Id) (x : ℕ) → second_of i ≡ Some x �
 the_targets p (plain c) x is passes = absurd cc
 the_targets p (pair r y) x is passes = ap (λ b. if b then y ∷ [] else []) passes ∙ ap (λ (z : ℕ). z ∷ []) (same_Some y x is)
 
-module _ (test : ℕ → Bool) (p : Id → Bool) where
-  -- nothing is wanted of an id that has no target, or doesn't pass
-  pub none_kept : (i : Id) (found : List ℕ) → Adds (target_of p i) found found → Adds (filter test (target_of p i)) found found
-  none_kept i found adds = fewer (target_of p i) (filter test (target_of p i)) found found adds (λ e m. ((filtered test (target_of p i) e).0 m).0)
+-- nobody is behind nobody
+pub nobody : (xs : List ℕ) → Adds xs [] [] → xs ≡ []
+nobody [] adds = refl
+nobody (x ∷ xs) adds = absurd (omega (arith, (adds.all x (0, omega arith, refl)).1))
 
-  pub target_kept : (i : Id) (x : ℕ) (found after : List ℕ) → second_of i ≡ Some x → p i ≡ true → Adds (filter test (x ∷ [])) found after → Adds (filter test (target_of p i)) found after
-  target_kept i x found after is passes adds = subst (λ (xs : List ℕ). Adds (filter test xs) found after) (sym (the_targets p i x is passes)) adds
+pub none_behind : (f : ℕ → List ℕ) (xs found : List ℕ) → xs ≡ [] → Adds (flat_map f xs) found found
+none_behind f xs found none = subst (λ (ys : List ℕ). Adds (flat_map f ys) found found) (sym none) (already [] found (λ e m. absurd (omega (arith, m.1))))
 
--- where nothing is wanted nothing is added
-pub nothing_kept : (test : ℕ → Bool) (wanted : List ℕ) (found : List ℕ) → wanted ≡ [] → Adds (filter test wanted) found found
-nothing_kept test wanted found none = subst (λ (xs : List ℕ). Adds (filter test xs) found found) (sym none) (already [] found (λ e m. absurd (omega (arith, m.1))))
+-- whoever is behind the target of a pair that passes is
+pub behind_one : (f : ℕ → List ℕ) (p : Id → Bool) (i : Id) (x : ℕ) (found after : List ℕ) → second_of i ≡ Some x → p i ≡ true → Adds (f x) found after → Adds (flat_map f (target_of p i)) found after
+behind_one f p i x found after is passes adds =
+    subst (λ (xs : List ℕ). Adds (flat_map f xs) found after) (sym (the_targets p i x is passes)) (subst (λ (ys : List ℕ). Adds ys found after) (nothing_behind (f x)) adds)
 
 -- the target of a fact that went from another entity isn't asked for, and that of one of this is the pair's
 pub gone_elsewhere : (s : LinkStep) (y : ℕ) (k : Key) → ¬ (k.0 ≡ y) → gone_target s y k ≡ []

@@ -46,3 +46,11 @@ module _ (q : Query) (w : WorldState) (changed : Changed) where
   -- and behind the holder of a fact, as each variable for which it counts
   abbrev pub found_from : {A : Type 0} → List (AskedOf A) → Key → List ℕ
   found_from others k = flat_map (λ a. if counts (ids_around w changed.went k.0) k.1 a then found_behind a.variable a.variable k.0 else []) others
+
+  -- behind the target of an id, if it is a pair by which the step may lead from that to the pair's holder
+  abbrev pub behind_target : ℕ → LinkStep → Id → List ℕ
+  behind_target n s i = flat_map (found_behind n s.from) (target_of (matches s.asked) i)
+
+  -- so of a fact that went from an entity
+  abbrev pub behind_gone : ℕ → LinkStep → ℕ → Key → List ℕ
+  behind_gone n s y k = flat_map (found_behind n s.from) (gone_target s y k)

@@ -53,9 +53,13 @@ fn push_entities<A: Allocator + Copy>(
 }
 
 /// Puts indexes in order, each once.
+// (few commands touch more than one)
+#[inline(always)]
 pub(crate) fn put_in_order<A: Allocator>(indexes: &mut ShortList<A>)
     ensures ascend { IsStrictlyIncreasing indexes.new.items }
     ensures same { (i : ℕ) → Contains indexes.new.items i ↔ Contains indexes.old.items i }
 {
-    indexes.put_in_order();
+    if indexes.len() > 1 {
+        indexes.put_in_order();
+    }
 }

@@ -183,6 +183,7 @@ fn push_all_concerned<A: Allocator + Copy, B: Allocator>(
 
 /// Adds the entities of those facts that concern a query to the first list, of those that concern it for others to the second, and of those that
 /// concern it for those below to the third. The id of each fact is judged once.
+#[inline(always)]
 fn push_concerned<A: Allocator + Copy, B: Allocator>(
     alloc: A,
     query: &AskedQuery<'_, B>,
@@ -196,12 +197,31 @@ fn push_concerned<A: Allocator + Copy, B: Allocator>(
     ensures below { OnOk result (below.new.items ≡ below.old.items ++ entities_by (concerns_below query.now) facts.now) }
 {
     for fact in facts {
-        let concern = query.concern_of(fact.id());
-        let entity = fact.entity();
-        push_if(alloc, concern.anyone, entity, own)?;
-        push_if(alloc, concern.others, entity, others)?;
-        push_if(alloc, concern.below, entity, below)?;
+        push_if_concerned(alloc, query, *fact, own, others, below)?;
     }
+    Ok(())
+}
+
+/// Adds the entity of a fact to each of these lists for which that concerns a query.
+// (out of line, so that where no fact came or went nothing is paid for it)
+#[inline(never)]
+fn push_if_concerned<A: Allocator + Copy, B: Allocator>(
+    alloc: A,
+    query: &AskedQuery<'_, B>,
+    fact: FactKey,
+    own: &mut ShortList<A>,
+    others: &mut ShortList<A>,
+    below: &mut ShortList<A>,
+) -> Result<(), AllocError>
+    ensures own { OnOk result (own.new.items ≡ own.old.items ++ (if concerns query.now fact.1 then fact.0 ∷ [] else [])) }
+    ensures others { OnOk result (others.new.items ≡ others.old.items ++ (if concerns_others query.now fact.1 then fact.0 ∷ [] else [])) }
+    ensures below { OnOk result (below.new.items ≡ below.old.items ++ (if concerns_below query.now fact.1 then fact.0 ∷ [] else [])) }
+{
+    let concern = query.concern_of(fact.id());
+    let entity = fact.entity();
+    push_if(alloc, concern.anyone, entity, own)?;
+    push_if(alloc, concern.others, entity, others)?;
+    push_if(alloc, concern.below, entity, below)?;
     Ok(())
 }
 

@@ -1,16 +1,16 @@
 //! Who may have moved in or out of a linked query's rows by facts of others than `$this`: back from those of whom a fact came or went, along the terms that link
 //! its variables, to those who may be `$this`.
 
-ghost use Rattle.std.specs.Prelude.{◌≡◌, ◌≤◌, ◌+◌, ◌∷◌, ◌==◌, ◌&&◌, ◌++◌, [], ℕ, false, true, filter, flat_map, map, IfOk, OnOk};
+ghost use Rattle.std.specs.Prelude.{◌≡◌, ◌≤◌, ◌+◌, ◌==◌, ◌&&◌, ◌++◌, ℕ, false, true, filter, flat_map, map, IfOk};
 ghost use Rattle.std.specs.List.{list_any};
 ghost use Rattle.component_index.specs.Patterns.{matches};
 ghost use Rattle.ecs_model.specs.World.{WorldState};
 ghost use Rattle.watch_asked.specs.Asked.{IsAskedBy, any_counts_as};
-ghost use Rattle.watch_touched.specs.Leaning.{Adds, HoldAll, HoldTheirs, leaning, leans, pairs_to, standing_in, target_of};
+ghost use Rattle.watch_touched.specs.Leaning.{Adds, HoldAll, HoldTheirs, leaning, leans, pairs_to, standing_in};
 ghost use Rattle.watch_touched.specs.Roles.{roles_of, this_among};
-ghost use Rattle.watch_touched.specs.Steps.{found_behind, found_from, gone_target, leads_by, may_be_as, step_back};
+ghost use Rattle.watch_touched.specs.Steps.{behind_gone, behind_target, found_behind, found_from, leads_by, step_back};
 
-use crate::leaning::{MOST, MOST_TABLES, are_among, is_pair_to, push_each, push_new};
+use crate::leaning::{MOST, MOST_TABLES, are_among, is_pair_to, push_each};
 use crate::moving::push_if_matching;
 use crate::touching::ids_at;
 use component_index::ListedKey;
@@ -64,6 +64,7 @@ pub(crate) fn push_by_roles<A: Allocator + Copy, B: Allocator>(
 }
 
 /// Adds those who may be `$this` behind the entities of these facts. False, where more are looked at than so many.
+#[inline(always)]
 fn push_from_facts<A: Allocator + Copy, B: Allocator>(
     alloc: A,
     walk: &Walk<'_, '_, A, B>,
@@ -83,6 +84,8 @@ fn push_from_facts<A: Allocator + Copy, B: Allocator>(
 }
 
 /// Adds those who may be `$this` behind the entity of a fact, as each variable for which it counts. False, where more are looked at than so many.
+// (out of line, so that where no fact came or went nothing is paid for it)
+#[inline(never)]
 fn push_from_fact<A: Allocator + Copy, B: Allocator>(
     alloc: A,
     walk: &Walk<'_, '_, A, B>,
@@ -159,7 +162,8 @@ fn leads_to(step: &LinkStep, variable: usize) -> bool
     step.to() == variable
 }
 
-/// Adds those who may be `$this` behind those from whom a step may lead to an entity. False, where more are looked at than so many.
+/// Adds those who may be `$this` behind those from whom a step may lead to an entity: behind who holds a pair with it, or behind the targets of such pairs that it
+/// holds, or that went from it. False, where more are looked at than so many.
 #[cycle(behind)]
 fn push_by_step<A: Allocator + Copy, B: Allocator>(
     alloc: A,
@@ -172,16 +176,111 @@ fn push_by_step<A: Allocator + Copy, B: Allocator>(
     requires asked { IsAskedBy walk.now.query.now walk.now.asked.now }
     ensures { IfOk result (λ done. done ≡ true → (n : ℕ) → step.now.from ≤ n → Adds (flat_map (found_behind walk.now.query.now walk.now.world.now.state walk.now.changes.now n step.now.from) (step_back walk.now.query.now walk.now.world.now.state walk.now.asked.now.others.items walk.now.changes.now.went step.now entity)) moving.old.items moving.new.items) }
 {
+    if step.is_outward() {
+        return push_behind_holders(alloc, walk, step, entity, free, moving);
+    }
+    let ids = ids_at(walk.world, entity);
+    if !push_behind_targets(alloc, walk, step, ids, free, moving)? {
+        return Ok(false);
+    }
+    push_behind_gone(alloc, walk, step, entity, free, moving)
+}
+
+/// Adds those who may be `$this` behind who holds a pair with an entity by which a step may lead from them to it. False, where more are looked at than so many.
+#[cycle(behind)]
+fn push_behind_holders<A: Allocator + Copy, B: Allocator>(
+    alloc: A,
+    walk: &Walk<'_, '_, A, B>,
+    step: &LinkStep,
+    entity: u32,
+    free: &mut usize,
+    moving: &mut ShortList<A>,
+) -> Result<bool, AllocError>
+    requires asked { IsAskedBy walk.now.query.now walk.now.asked.now }
+    ensures { IfOk result (λ done. done ≡ true → (n : ℕ) → step.now.from ≤ n → Adds (flat_map (found_behind walk.now.query.now walk.now.world.now.state walk.now.changes.now n step.now.from) (leaning (leads_by walk.now.query.now walk.now.asked.now.others.items walk.now.changes.now.went step.now) walk.now.world.now.state entity)) moving.old.items moving.new.items) }
+{
     let variable = step.from();
     if variable == 0 {
-        return push_back(alloc, walk, step, entity, free, moving);
+        return push_holders(alloc, walk, step, entity, free, moving);
     }
     let mut between = ShortList::new();
-    if !push_back(alloc, walk, step, entity, free, &mut between)? {
+    if !push_holders(alloc, walk, step, entity, free, &mut between)? {
         return Ok(false);
     }
     let entities = between.as_slice();
     push_behind_all(alloc, walk, variable, entities, free, moving)
+}
+
+/// Adds those who may be `$this` behind the targets of those of an entity's ids that are pairs by which a step may lead from their target to it. False, where more
+/// are looked at than so many.
+#[cycle(behind)]
+fn push_behind_targets<A: Allocator + Copy, B: Allocator>(
+    alloc: A,
+    walk: &Walk<'_, '_, A, B>,
+    step: &LinkStep,
+    ids: &[Id],
+    free: &mut usize,
+    moving: &mut ShortList<A>,
+) -> Result<bool, AllocError>
+    requires asked { IsAskedBy walk.now.query.now walk.now.asked.now }
+    ensures { IfOk result (λ done. done ≡ true → (n : ℕ) → step.now.from ≤ n → Adds (flat_map (behind_target walk.now.query.now walk.now.world.now.state walk.now.changes.now n step.now) ids.now) moving.old.items moving.new.items) }
+{
+    for id in ids {
+        if !push_behind_target(alloc, walk, step, *id, free, moving)? {
+            return Ok(false);
+        }
+    }
+    Ok(true)
+}
+
+/// Adds those who may be `$this` behind the targets of those pairs that went from an entity. False, where more are looked at than so many.
+#[cycle(behind)]
+fn push_behind_gone<A: Allocator + Copy, B: Allocator>(
+    alloc: A,
+    walk: &Walk<'_, '_, A, B>,
+    step: &LinkStep,
+    entity: u32,
+    free: &mut usize,
+    moving: &mut ShortList<A>,
+) -> Result<bool, AllocError>
+    requires asked { IsAskedBy walk.now.query.now walk.now.asked.now }
+    ensures { IfOk result (λ done. done ≡ true → (n : ℕ) → step.now.from ≤ n → Adds (flat_map (behind_gone walk.now.query.now walk.now.world.now.state walk.now.changes.now n step.now entity) walk.now.changes.now.went) moving.old.items moving.new.items) }
+{
+    let went = walk.changes.went();
+    'facts: for fact in went {
+        if fact.entity() != entity {
+            continue 'facts;
+        }
+        if !push_behind_target(alloc, walk, step, fact.id(), free, moving)? {
+            return Ok(false);
+        }
+    }
+    Ok(true)
+}
+
+/// Adds those who may be `$this` behind the target of a pair, if a step may lead from that to the pair's holder. False, where more are looked at than so many.
+#[cycle(behind)]
+fn push_behind_target<A: Allocator + Copy, B: Allocator>(
+    alloc: A,
+    walk: &Walk<'_, '_, A, B>,
+    step: &LinkStep,
+    id: Id,
+    free: &mut usize,
+    moving: &mut ShortList<A>,
+) -> Result<bool, AllocError>
+    requires asked { IsAskedBy walk.now.query.now walk.now.asked.now }
+    ensures { IfOk result (λ done. done ≡ true → (n : ℕ) → step.now.from ≤ n → Adds (behind_target walk.now.query.now walk.now.world.now.state walk.now.changes.now n step.now id) moving.old.items moving.new.items) }
+{
+    let Some(target) = id.second() else {
+        return Ok(true);
+    };
+    if !step.matches(id) {
+        return Ok(true);
+    }
+    if !take(free, 1) {
+        return Ok(false);
+    }
+    push_behind(alloc, walk, step.from(), target, free, moving)
 }
 
 /// Adds those who may be `$this` behind each of these entities, as those of a variable. False, where more are looked at than so many.
@@ -203,28 +302,6 @@ fn push_behind_all<A: Allocator + Copy, B: Allocator>(
         }
     }
     Ok(true)
-}
-
-/// Adds those from whom a step may lead to an entity: who holds a pair with it, or the targets of such pairs that it holds, or that went from it. False, where more
-/// are looked at than so many.
-fn push_back<A: Allocator + Copy, B: Allocator>(
-    alloc: A,
-    walk: &Walk<'_, '_, A, B>,
-    step: &LinkStep,
-    entity: u32,
-    free: &mut usize,
-    found: &mut ShortList<A>,
-) -> Result<bool, AllocError>
-    ensures { IfOk result (λ done. done ≡ true → Adds (step_back walk.now.query.now walk.now.world.now.state walk.now.asked.now.others.items walk.now.changes.now.went step.now entity) found.old.items found.new.items) }
-{
-    if step.is_outward() {
-        return push_holders(alloc, walk, step, entity, free, found);
-    }
-    let ids = ids_at(walk.world, entity);
-    if !push_targets_back(alloc, walk, step, ids, free, found)? {
-        return Ok(false);
-    }
-    push_gone_targets(alloc, walk, step, entity, free, found)
 }
 
 /// Adds those who hold a pair with an entity by which a step may lead from them to it. False, where more are looked at than so many.
@@ -384,86 +461,4 @@ fn any_counts_as<B: Allocator>(
         }
     }
     false
-}
-
-/// Adds the targets of those of these ids that are pairs from whose target a step may lead to their holder. False, where they are more than so many.
-fn push_targets_back<A: Allocator + Copy, B: Allocator>(
-    alloc: A,
-    walk: &Walk<'_, '_, A, B>,
-    step: &LinkStep,
-    ids: &[Id],
-    free: &mut usize,
-    found: &mut ShortList<A>,
-) -> Result<bool, AllocError>
-    ensures { IfOk result (λ done. done ≡ true → Adds (filter (may_be_as walk.now.query.now walk.now.world.now.state step.now.from) (flat_map (target_of (matches step.now.asked)) ids.now)) found.old.items found.new.items) }
-{
-    for id in ids {
-        if !push_target_back(alloc, walk, step, *id, free, found)? {
-            return Ok(false);
-        }
-    }
-    Ok(true)
-}
-
-/// Adds the targets of those pairs that went from an entity from whose target a step may lead to it. False, where they are more than so many.
-fn push_gone_targets<A: Allocator + Copy, B: Allocator>(
-    alloc: A,
-    walk: &Walk<'_, '_, A, B>,
-    step: &LinkStep,
-    entity: u32,
-    free: &mut usize,
-    found: &mut ShortList<A>,
-) -> Result<bool, AllocError>
-    ensures { IfOk result (λ done. done ≡ true → Adds (filter (may_be_as walk.now.query.now walk.now.world.now.state step.now.from) (flat_map (gone_target step.now entity) walk.now.changes.now.went)) found.old.items found.new.items) }
-{
-    let went = walk.changes.went();
-    'facts: for fact in went {
-        if fact.entity() != entity {
-            continue 'facts;
-        }
-        if !push_target_back(alloc, walk, step, fact.id(), free, found)? {
-            return Ok(false);
-        }
-    }
-    Ok(true)
-}
-
-/// Adds the target of a pair, if a step may lead from it to the pair's holder. False, where no more may be looked at.
-fn push_target_back<A: Allocator + Copy, B: Allocator>(
-    alloc: A,
-    walk: &Walk<'_, '_, A, B>,
-    step: &LinkStep,
-    id: Id,
-    free: &mut usize,
-    found: &mut ShortList<A>,
-) -> Result<bool, AllocError>
-    ensures { IfOk result (λ done. done ≡ true → Adds (filter (may_be_as walk.now.query.now walk.now.world.now.state step.now.from) (target_of (matches step.now.asked) id)) found.old.items found.new.items) }
-{
-    let Some(target) = id.second() else {
-        return Ok(true);
-    };
-    if !step.matches(id) {
-        return Ok(true);
-    }
-    if !take(free, 1) {
-        return Ok(false);
-    }
-    push_as(alloc, walk, step.from(), target, found)?;
-    Ok(true)
-}
-
-/// Adds an entity as that of a variable, if it isn't there yet. As `$this` it isn't added if it lacks what is asked of that.
-fn push_as<A: Allocator + Copy, B: Allocator>(
-    alloc: A,
-    walk: &Walk<'_, '_, A, B>,
-    variable: usize,
-    entity: u32,
-    found: &mut ShortList<A>,
-) -> Result<(), AllocError>
-    ensures { OnOk result (Adds (filter (may_be_as walk.now.query.now walk.now.world.now.state variable) (entity ∷ [])) found.old.items found.new.items) }
-{
-    if variable == 0 {
-        return push_if_matching(alloc, walk.query, walk.world, entity, found);
-    }
-    push_new(alloc, entity, found)
 }
