@@ -1,6 +1,6 @@
 //! What monitors are told: the entities that have left their rows, and those that have entered them.
 
-ghost use Rattle.std.specs.Prelude.{◌≡◌, ◌++◌, IfOk, OnErr, OnOk, map};
+ghost use Rattle.std.specs.Prelude.{◌≡◌, ◌++◌, ◌∷◌, [], OnErr, OnOk, map};
 ghost use Rattle.ecs_model.specs.declared.watches.EventKind.TheVariants.{Entered};
 ghost use Rattle.ecs_model.specs.stored.Watches.{entity_event};
 ghost use Rattle.ecs_print.specs.Stops.{StopsWithin};
@@ -57,7 +57,7 @@ fn tell_each_left<A: Allocator + Copy>(
     ensures front { OnErr result (StopsWithin events.old.items events.new.items (map (left_event world.now.state changes.now name.now) left.now)) }
 {
     for index in left {
-        push_event(left_event(alloc, world, changes, name, *index)?, events)?;
+        push_left(alloc, world, changes, name, *index, events)?;
     }
     Ok(())
 }
@@ -74,50 +74,67 @@ fn tell_each_entered<A: Allocator + Copy>(
     ensures front { OnErr result (StopsWithin events.old.items events.new.items (map (entity_event name.now Entered world.now.state) entered.now)) }
 {
     for index in entered {
-        push_event(entered_event(alloc, world, name, *index)?, events)?;
+        push_entered(alloc, world, name, *index, events)?;
     }
     Ok(())
 }
 
-/// The event of an entity that has left, by the names before the command.
-fn left_event<A: Allocator + Copy>(
+/// Tells a monitor of one that has left, by the names before the command.
+// (the event is made where it stands, as a move of it takes more than all else)
+#[inline(always)]
+fn push_left<A: Allocator + Copy>(
     alloc: A,
     world: &World<A>,
     changes: &Changes<A>,
     name: &[u8],
     index: u32,
-) -> Result<Event<A>, AllocError>
+    events: &mut Vec<Event<A>, A>,
+) -> Result<(), AllocError>
     requires { IsAfter world.now.state changes.now }
-    ensures { IfOk result (λ event. event ≡ left_event world.now.state changes.now name.now index) }
+    ensures told { OnOk result (events.new.items ≡ events.old.items ++ left_event world.now.state changes.now name.now index ∷ []) }
+    ensures kept { OnErr result (events.new.items ≡ events.old.items) }
 {
-    Ok(Event {
-        kind: EventKind::Left,
-        entity: entity_before(world, changes, index),
-        id: None,
-        value: None,
-        watch: Text::from_slice(alloc, name)?,
-        entity_text: entity_text_before(alloc, world, changes, index)?,
-        id_text: Vec::new(alloc),
-    })
+    let watch = Text::from_slice(alloc, name)?;
+    let entity_text = entity_text_before(alloc, world, changes, index)?;
+    push_event(
+        Event {
+            kind: EventKind::Left,
+            entity: entity_before(world, changes, index),
+            id: None,
+            value: None,
+            watch,
+            entity_text,
+            id_text: Vec::new(alloc),
+        },
+        events,
+    )
 }
 
-/// The event of an entity that has entered.
-fn entered_event<A: Allocator + Copy>(
+/// Tells a monitor of one that has entered.
+#[inline(always)]
+fn push_entered<A: Allocator + Copy>(
     alloc: A,
     world: &World<A>,
     name: &[u8],
     index: u32,
-) -> Result<Event<A>, AllocError>
-    ensures { IfOk result (λ event. event ≡ entity_event name.now Entered world.now.state index) }
+    events: &mut Vec<Event<A>, A>,
+) -> Result<(), AllocError>
+    ensures told { OnOk result (events.new.items ≡ events.old.items ++ entity_event name.now Entered world.now.state index ∷ []) }
+    ensures kept { OnErr result (events.new.items ≡ events.old.items) }
 {
     let entity = entity_now(world, index);
-    Ok(Event {
-        kind: EventKind::Entered,
-        entity,
-        id: None,
-        value: None,
-        watch: Text::from_slice(alloc, name)?,
-        entity_text: entity_text(alloc, world, entity)?,
-        id_text: Vec::new(alloc),
-    })
+    let watch = Text::from_slice(alloc, name)?;
+    let entity_text = entity_text(alloc, world, entity)?;
+    push_event(
+        Event {
+            kind: EventKind::Entered,
+            entity,
+            id: None,
+            value: None,
+            watch,
+            entity_text,
+            id_text: Vec::new(alloc),
+        },
+        events,
+    )
 }

@@ -42,6 +42,14 @@ impl<A: Allocator> Text<A> {
                 });
             }
         }
+        Text::of_many(alloc, bytes)
+    }
+
+    /// The same in a block of its own.
+    #[inline(never)]
+    fn of_many(alloc: A, bytes: &[u8]) -> Result<Text<A>, AllocError>
+        ensures { IfOk result (λ text. text ≡ bytes.now) }
+    {
         Ok(Text {
             kept: Kept::Many(Vec::from_slice(alloc, bytes)?),
         })
