@@ -1,5 +1,6 @@
 mod Blocks
 mod OccasionLists
+mod ListedOccasions
 mod GatheredNumbers
 mod ConcernedNumbers
 mod WordNumbers

@@ -93,7 +93,9 @@ impl<A: Allocator + Copy> WatchIndex<A> {
         ensures { OnOk result (numbers.new.items ≡ numbers.old.items ++ listed self.now occasion.now) }
     {
         if self.marks.has(occasion) {
-            return push_list(&self.lists, occasion, numbers);
+            // (a copy of its own, so that what isn't looked up needn't stand in memory)
+            let wanted = *occasion;
+            return push_list(&self.lists, &wanted, numbers);
         }
         Ok(())
     }

@@ -1,5 +1,7 @@
 //! The list of numbers of each occasion.
 ghost use Rattle.std.specs.Prelude.{◌≡◌, ◌++◌, OnErr, OnOk};
+ghost use Rattle.std.specs.Map.{lookup};
+ghost use Rattle.std.specs.Option.{option_copied};
 ghost use Rattle.watch_index.specs.Listed.{Adds, Drops, Keeps, is_among, listed};
 ghost use Rattle.watch_index.specs.SameOccasion.{occasion_eq};
 
@@ -12,6 +14,9 @@ use std::alloc::{AllocError, Allocator};
 
 // No list is empty: the entry of an occasion goes with the last number of its list.
 pub type Lists<A> = IndexMap<Occasion, Numbers<A>, Hashing, A>;
+
+/// So few lists are gone through: a hash of the occasion takes more.
+const FEW_LISTS: usize = 8;
 
 /// Puts the number into the list of the occasion, where it isn't in it.
 fn list<A: Allocator + Copy>(
@@ -76,9 +81,43 @@ pub fn push_list<A: Allocator + Copy>(
 ) -> Result<(), AllocError>
     ensures { OnOk result (numbers.new.items ≡ numbers.old.items ++ listed lists.now.entries occasion.now) }
 {
-    if let Some(list) = lists.get(occasion) {
+    if let Some(list) = find_list(lists, occasion) {
         let alloc = *lists.allocator();
         list.push_to(alloc, numbers)?;
     }
     Ok(())
+}
+
+/// The list of an occasion, if it has one.
+fn find_list<'l, A: Allocator>(lists: &'l Lists<A>, occasion: &Occasion) -> Option<&'l Numbers<A>>
+    ensures { option_copied result ≡ lookup (occasion_eq occasion.now) lists.now.entries }
+{
+    if lists.len() > FEW_LISTS {
+        return lists.get(occasion);
+    }
+    find_among(lists, occasion)
+}
+
+/// The same, where all lists are gone through.
+#[inline(always)]
+fn find_among<'l, A: Allocator>(lists: &'l Lists<A>, occasion: &Occasion) -> Option<&'l Numbers<A>>
+    ensures { option_copied result ≡ lookup (occasion_eq occasion.now) lists.now.entries }
+{
+    for at in 0..lists.len() {
+        let Some((other, list)) = lists.get_index(at) else {
+            return None;
+        };
+        if is_same(occasion, other) {
+            return Some(list);
+        }
+    }
+    None
+}
+
+/// Whether two occasions are one.
+#[inline(always)]
+fn is_same(one: &Occasion, other: &Occasion) -> bool
+    ensures { result ≡ occasion_eq one.now other.now }
+{
+    one == other
 }
