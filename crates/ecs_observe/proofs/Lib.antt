@@ -26,3 +26,4 @@ pub mod WholeColumns
 pub mod NoRows
 pub mod SentRows
 pub mod UntoldCommands
+pub mod PlacedMoves

@@ -183,9 +183,9 @@ impl<A: Allocator> StoredQueries<A> {
     }
 
     /// Keeps the entities of the rows of the one at a place as they are after a command, if there is one.
-    pub(crate) fn keep(&mut self, place: usize, rows: RowsAfter<A>)
+    pub(crate) fn keep(&mut self, place: usize, rows: &mut RowsAfter<A>)
         requires stored { IsStored self.old }
-        ensures held { entries_of self.new ≡ with_kept_at place rows (entries_of self.old) }
+        ensures held { entries_of self.new ≡ with_kept_at place rows.old (entries_of self.old) }
         ensures lists { KeepLists (entries_of self.old) (entries_of self.new) }
         ensures stored { IsStored self.new }
     {

@@ -7,8 +7,8 @@ ghost use Rattle.ecs_model.specs.stored.Session.{after_events, events};
 ghost use Rattle.ecs_model.specs.stored.Watches.{event_text};
 ghost use Rattle.ecs_observe.specs.Following.{lists_of};
 ghost use Rattle.ecs_observe.specs.Lists.{KeepLists};
-ghost use Rattle.ecs_observe.specs.Parts.{ArePlaced, held_of, with_all_kept};
-ghost use Rattle.watch_stored.specs.Held.{IsHeld, WasNow, is_compared, is_searched, is_taken_whole, rows_put, told_to};
+ghost use Rattle.ecs_observe.specs.Parts.{ArePlaced, IsPut, held_of, with_all_kept, with_kept_at};
+ghost use Rattle.watch_stored.specs.Held.{IsHeld, WasNow, is_compared, is_searched, is_taken_whole, is_told_locally, rows_put, told_to};
 ghost use Rattle.ecs_observe.specs.Standing.{has_searched, searched_in, session_of, taken_in};
 ghost use Rattle.ecs_observe.specs.Stored.{AreLedTo, IsStored, entries_of};
 ghost use Rattle.watch_stored.specs.Telling.{AreTouchedBy};
@@ -22,9 +22,8 @@ use ecs_world::{Changes, World};
 use query_local::Touched;
 use short_list::ShortNumbers;
 use std::alloc::{AllocError, Allocator};
-use std::mem;
 use watch_events::{Event, write_event};
-use watch_stored::{RowsAfter, tell_one};
+use watch_stored::{RowsAfter, StoredQuery, tell_compared, tell_uncompared};
 use watch_touched::touched;
 
 /// For so many events at most the session keeps the room in which they were told.
@@ -69,14 +68,28 @@ impl<A: Allocator + Copy> Session<A> {
         ensures lists { lists_of self.new ≡ lists_of self.old }
         ensures world { (self.new).world ≡ (self.old).world }
     {
-        let mut told = mem::replace(&mut self.told, Vec::new(self.alloc));
-        told.clear();
-        self.tell(&mut told)?;
-        write_all(told.as_slice(), output)?;
-        if told.len() <= FEW_EVENTS {
-            // (what stood there meanwhile holds no block, and its drop would be a call)
-            mem::forget(mem::replace(&mut self.told, told));
-        }
+        let mut counted = self.compared;
+        let Some(changed) = &self.waiting else {
+            return Ok(());
+        };
+        self.world.keeps();
+        self.rows.clear();
+        self.told.clear();
+        tell_led(
+            self.alloc,
+            &self.world,
+            changed,
+            &self.stored,
+            &mut self.room,
+            &mut self.rows,
+            &mut counted,
+            &mut self.told,
+        )?;
+        write_all(self.told.as_slice(), output)?;
+        put_rows(&mut self.stored, &mut self.rows);
+        self.waiting = None;
+        self.compared = counted;
+        keep_few(self.alloc, &mut self.told);
         Ok(())
     }
 
@@ -117,6 +130,13 @@ impl<A: Allocator + Copy> Session<A> {
     }
 }
 
+/// Gives the room for events back, if more than few were told in it.
+fn keep_few<A: Allocator>(alloc: A, told: &mut Vec<Event<A>, A>) {
+    if told.len() > FEW_EVENTS {
+        *told = Vec::new(alloc);
+    }
+}
+
 /// Writes the lines of events.
 fn write_all<A: Allocator>(events: &[Event<A>], output: &mut Vec<u8, A>) -> Result<(), AllocError>
     ensures { OnOk result (output.new.items ≡ output.old.items ++ flat_map event_text events.now) }
@@ -129,6 +149,7 @@ fn write_all<A: Allocator>(events: &[Event<A>], output: &mut Vec<u8, A>) -> Resu
 
 /// Puts what all stored queries are told behind other events, by those that the command leads to. Gives the moves of their rows, each with the
 /// place of its query, unless they stay. Counts the whole rows taken.
+#[inline(always)]
 fn tell_led<A: Allocator + Copy>(
     alloc: A,
     world: &World<A>,
@@ -158,6 +179,38 @@ fn tell_led<A: Allocator + Copy>(
         world.keeps();
         return Ok(());
     }
+    tell_places(
+        alloc, world, changes, stored, places, room, rows, compared, events,
+    )
+}
+
+/// The same by those at these places.
+#[inline(never)]
+fn tell_places<A: Allocator + Copy>(
+    alloc: A,
+    world: &World<A>,
+    changes: &Changes<A>,
+    stored: &StoredQueries<A>,
+    places: &[u64],
+    room: &mut AskingRoom<A>,
+    rows: &mut Vec<(usize, RowsAfter<A>), A>,
+    compared: &mut u64,
+    events: &mut Vec<Event<A>, A>,
+) -> Result<(), AllocError>
+    requires after { IsAfter world.now.state changes.now }
+    requires held { All (IsHeld world.now.state) (map held_of (entries_of stored.now)) }
+    requires was { All (WasNow world.now.state changes.now) (map held_of (entries_of stored.now)) }
+    requires ascend { IsStrictlyIncreasing places.now }
+    requires within { All (λ i. i < length (entries_of stored.now)) places.now }
+    requires led { AreLedTo changes.now (entries_of stored.now) places.now }
+    requires none { rows.old.items ≡ [] }
+    ensures rows { OnOk result (ArePlaced (rows_put world.now.state changes.now) rows.new.items (entries_of stored.now)) }
+    ensures told { OnOk result (events.new.items ≡ events.old.items ++ flat_map (told_to world.now.state changes.now) (map held_of (entries_of stored.now))) }
+    ensures compared { list_any (is_searched changes.now) (map held_of (entries_of stored.now)) ≡ false → compared.new ≡ compared.old }
+    ensures grows { compared.old ≤ compared.new }
+    ensures few { OnOk result (compared.new ≤ compared.old + count_by (is_searched changes.now) (map held_of (entries_of stored.now))) }
+    ensures counted { OnOk result (min (compared.old + count_by (is_taken_whole changes.now) (map held_of (entries_of stored.now))) 18446744073709551615 ≤ compared.new) }
+{
     let touched = touched_if_asked(alloc, world, changes, stored, places)?;
     let touched = touched.as_slice();
     tell_all(
@@ -225,15 +278,60 @@ fn tell_all<A: Allocator + Copy>(
     for place in places {
         let place = *place as usize;
         if let Some((name, query)) = stored.get_index(place) {
-            let mut after = RowsAfter::new();
-            let put = tell_one(
-                alloc, world, changes, touched, name, query, room, compared, events, &mut after,
+            tell_at(
+                alloc, world, changes, touched, place, name, query, room, rows, compared, events,
             )?;
-            if put {
-                rows.push((place, after))?;
-            }
         }
     }
+    Ok(())
+}
+
+/// Puts what the stored query at a place is told behind other events, and behind those of others the moves of its rows, unless they stay.
+fn tell_at<A: Allocator + Copy>(
+    alloc: A,
+    world: &World<A>,
+    changes: &Changes<A>,
+    touched: &[Touched<'_, A>],
+    place: usize,
+    name: &String<A>,
+    query: &StoredQuery<A>,
+    room: &mut AskingRoom<A>,
+    rows: &mut Vec<(usize, RowsAfter<A>), A>,
+    compared: &mut u64,
+    events: &mut Vec<Event<A>, A>,
+) -> Result<(), AllocError>
+    requires after { IsAfter world.now.state changes.now }
+    requires held { IsHeld world.now.state (held_of (name.now, query.now)) }
+    requires was { WasNow world.now.state changes.now (held_of (name.now, query.now)) }
+    requires touched { is_told_locally (held_of (name.now, query.now)) ≡ true → AreTouchedBy world.now.state changes.now touched.now }
+    ensures rows { OnOk result (IsPut (rows_put world.now.state changes.now (held_of (name.now, query.now))) place query.now rows.old.items rows.new.items) }
+    ensures told { OnOk result (events.new.items ≡ events.old.items ++ told_to world.now.state changes.now (held_of (name.now, query.now))) }
+    ensures compared { is_searched changes.now (held_of (name.now, query.now)) ≡ false → compared.new ≡ compared.old }
+    ensures counted { is_taken_whole changes.now (held_of (name.now, query.now)) ≡ true → OnOk result (compared.new ≡ min (compared.old + 1) 18446744073709551615) }
+    ensures grows { compared.old ≤ compared.new }
+    ensures few { compared.new ≤ compared.old + 1 }
+{
+    if !query.is_compared() {
+        return tell_uncompared(alloc, world, changes, touched, name, query, events);
+    }
+    // the moves are made where they are kept
+    rows.push((place, RowsAfter::new()))?;
+    let last = rows.len() - 1;
+    let put = tell_compared(
+        alloc,
+        world,
+        changes,
+        name,
+        query,
+        room,
+        compared,
+        events,
+        &mut rows[last].1,
+    )?;
+    if put {
+        return Ok(());
+    }
+    rows.pop();
     Ok(())
 }
 
@@ -244,7 +342,19 @@ fn put_rows<A: Allocator>(stored: &mut StoredQueries<A>, rows: &mut Vec<(usize, 
     ensures lists { KeepLists (entries_of stored.old) (entries_of stored.new) }
     ensures stored { IsStored stored.new }
 {
-    while let Some((place, after)) = rows.pop() {
-        stored.keep(place, after);
+    'placed: while rows.len() > 0 {
+        let last = rows.len() - 1;
+        keep_placed(stored, &mut rows[last]);
+        rows.pop();
     }
+}
+
+/// Keeps the entities of the rows that one was told.
+fn keep_placed<A: Allocator>(stored: &mut StoredQueries<A>, placed: &mut (usize, RowsAfter<A>))
+    requires stored { IsStored stored.old }
+    ensures held { entries_of stored.new ≡ with_kept_at placed.old.0 placed.old.1 (entries_of stored.old) }
+    ensures lists { KeepLists (entries_of stored.old) (entries_of stored.new) }
+    ensures stored { IsStored stored.new }
+{
+    stored.keep(placed.0, &mut placed.1);
 }

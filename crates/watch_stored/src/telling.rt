@@ -17,54 +17,38 @@ use query_local::{Touched, local_told};
 use std::alloc::{AllocError, Allocator};
 use watch_events::{Audience, Event, Moves, may_tell, tell, tell_moves};
 
-/// Puts what a stored query is told behind other events, and answers whether the moves of its rows are put in the place of none: if not, those that are held stay.
-/// Most observers are told nothing, which is asked first.
+/// Puts what a stored query is told behind other events, if it isn't a monitor whose query isn't local. Most observers are told nothing, which is asked first.
 ///
 /// Fails where memory is refused, and then the first of these events may stand behind the others.
-pub fn tell_one<A: Allocator + Copy>(
+pub fn tell_uncompared<A: Allocator + Copy>(
     alloc: A,
     world: &World<A>,
     changes: &Changes<A>,
     touched: &[Touched<'_, A>],
     name: &String<A>,
     query: &StoredQuery<A>,
-    room: &mut AskingRoom<A>,
-    compared: &mut u64,
     events: &mut Vec<Event<A>, A>,
-    rows: &mut RowsAfter<A>,
-) -> Result<bool, AllocError>
+) -> Result<(), AllocError>
     requires after { IsAfter world.now.state changes.now }
-    requires held { IsHeld world.now.state (held_as (string_bytes name.now) query.now) }
-    requires was { WasNow world.now.state changes.now (held_as (string_bytes name.now) query.now) }
+    requires uncompared { is_compared (held_as (string_bytes name.now) query.now) ≡ false }
     requires touched { is_told_locally (held_as (string_bytes name.now) query.now) ≡ true → AreTouchedBy world.now.state changes.now touched.now }
-    requires none { AreNoMoves rows.old }
-    ensures rows { IfOk result (λ put. put_in put rows.new query.now.these ≡ rows_put world.now.state changes.now (held_as (string_bytes name.now) query.now)) }
     ensures told { OnOk result (events.new.items ≡ events.old.items ++ told_to world.now.state changes.now (held_as (string_bytes name.now) query.now)) }
     ensures front { OnErr result (StopsWithin events.old.items events.new.items (told_to world.now.state changes.now (held_as (string_bytes name.now) query.now))) }
-    ensures compared { is_searched changes.now (held_as (string_bytes name.now) query.now) ≡ false → compared.new ≡ compared.old }
-    ensures counted { is_taken_whole changes.now (held_as (string_bytes name.now) query.now) ≡ true → OnOk result (compared.new ≡ min (compared.old + 1) 18446744073709551615) }
-    ensures grows { compared.old ≤ compared.new }
-    ensures few { compared.new ≤ compared.old + 1 }
 {
     if !may_tell(query.kind, query.plan.query(), changes) {
-        return Ok(false);
-    }
-    if query.is_compared() {
-        return tell_compared(
-            alloc, world, changes, name, query, room, compared, events, rows,
-        );
+        return Ok(());
     }
     if query.is_told_locally() {
-        tell_locally(alloc, world, changes, touched, name, query, events)?;
-    } else {
-        tell_observer(alloc, world, changes, name, query, events)?;
+        return tell_locally(alloc, world, changes, touched, name, query, events);
     }
-    Ok(false)
+    tell_observer(alloc, world, changes, name, query, events)
 }
 
 /// Puts what a monitor whose query isn't local is told behind other events, and answers whether the moves of its rows are put in the place of none: the command
 /// concerns its query. Counts the whole rows taken.
-fn tell_compared<A: Allocator + Copy>(
+///
+/// Fails where memory is refused, and then the first of these events may stand behind the others.
+pub fn tell_compared<A: Allocator + Copy>(
     alloc: A,
     world: &World<A>,
     changes: &Changes<A>,

@@ -3,18 +3,19 @@ use Rattle.std.specs.Prelude.{flat_map, is_some}
 use Rattle.std.specs.String.{string_bytes}
 use Rattle.std.proofs.Common.{◌+◌, ◌<◌, ◌≤◌, ◌∙◌, ◌++◌, ap, arith, get_or, length, map, refl, subst, sym, true≢false}
 use Rattle.std.proofs.lemmas.List.{length-map, take_all}
-use Rattle.watch_stored.specs.Parts.{held_as, put_in}
+use Rattle.watch_stored.specs.Parts.{held_as}
 use Rattle.ecs_observe.specs.Parts.{held_of}
 use Rattle.watch_stored.specs.Held.{IsHeld, WasNow, is_searched, is_taken_whole, rows_put, told_to}
 use Rattle.watch_stored.proofs.StayingRows.{unput_isnt_taken}
 use Rattle.ecs_observe.specs.Stored.{entries_of}
 use Rattle.ecs_observe.proofs.ComparedCounts.{AreDoneUpTo, all_counted, all_taken, none_done, one_more}
 use Rattle.ecs_observe.proofs.LocalMonitors.{none_at, one_told_locally}
-use Rattle.ecs_observe.proofs.EventEffects.{ArePlacedUpTo, all_at, all_placed, held_at, none_put_there, none_yet, one_placed}
+use Rattle.ecs_observe.proofs.EventEffects.{ArePlacedUpTo, all_at, all_placed, held_at, none_yet}
+use Rattle.ecs_observe.proofs.PlacedMoves.{put_there}
 use Rattle.ecs_observe.proofs.PassedPlaces.{begin, put_here, told_all, told_none}
 use Rattle.ecs_observe.proofs.UnconcernedQueries.{others_silent}
 use Rattle.ecs_observe.proofs.telling.tell_all.Goals as goal
-use Rattle.ecs_observe.proofs.telling.tell_all.Goals.{in-Some+in_ok-put+then-put+in_ok-push, in-Some+in_ok-put+else-put+in-None-1, in-Some+in_ok-put+else-put+in-Some-1, in_default}
+use Rattle.ecs_observe.proofs.telling.tell_all.Goals.{in-Some+in_ok-tell_at, in_default}
 
 pub loop-place-init : goal.loop-place-init
 loop-place-init g c =
@@ -32,26 +33,21 @@ loop-place-init g c =
       grows = omega arith;
     }
 
-pub tell_one-requires-clause-held : goal.tell_one-requires-clause-held
-tell_one-requires-clause-held g c =
+pub tell_at-requires-clause-held : goal.tell_at-requires-clause-held
+tell_at-requires-clause-held g c =
     all_at (IsHeld c.args.world.now.state) (entries_of c.args.stored.now) _ c.in-Some.name.now c.in-Some.query.now c.in-Some.ensures.entry c.requires.held
 
-pub tell_one-requires-clause-was : goal.tell_one-requires-clause-was
-tell_one-requires-clause-was g c =
+pub tell_at-requires-clause-was : goal.tell_at-requires-clause-was
+tell_at-requires-clause-was g c =
     all_at (WasNow c.args.world.now.state c.args.changes.now) (entries_of c.args.stored.now) _ c.in-Some.name.now c.in-Some.query.now c.in-Some.ensures.entry c.requires.was
 
-pub tell_one-requires-clause-touched : goal.tell_one-requires-clause-touched
-tell_one-requires-clause-touched g c = λ e.
+pub tell_at-requires-clause-touched : goal.tell_at-requires-clause-touched
+tell_at-requires-clause-touched g c = λ e.
     c.requires.touched (one_told_locally (entries_of c.args.stored.now) c.args.places.now c.loop-place.place-index 0 c.in-Some.name.now c.in-Some.query.now (omega arith) c.in-Some.ensures.entry e)
 
-pub returns-in_err-put-clause-compared : goal.returns-in_err-put-clause-compared
-returns-in_err-put-clause-compared g c = λ none.
-    c.tell_one.ensures.compared (none_at (entries_of c.args.stored.now) _ c.in-Some.name.now c.in-Some.query.now c.in-Some.ensures.entry (is_searched c.args.changes.now) none)
-    ∙ c.loop-place.invariant.compared none
-
-pub returns-in_err-push-clause-compared : goal.returns-in_err-push-clause-compared
-returns-in_err-push-clause-compared g c = λ none.
-    c.in_ok-put.ensures.compared (none_at (entries_of c.args.stored.now) _ c.in-Some.name.now c.in-Some.query.now c.in-Some.ensures.entry (is_searched c.args.changes.now) none)
+pub returns-in_err-tell_at-clause-compared : goal.returns-in_err-tell_at-clause-compared
+returns-in_err-tell_at-clause-compared g c = λ none.
+    c.tell_at.ensures.compared (none_at (entries_of c.args.stored.now) _ c.in-Some.name.now c.in-Some.query.now c.in-Some.ensures.entry (is_searched c.args.changes.now) none)
     ∙ c.loop-place.invariant.compared none
 
 pub loop-place-preserved : goal.loop-place-preserved
@@ -77,59 +73,23 @@ loop-place-preserved g c =
     let before = c.loop-place.compared in
     let after = c.match-get_index.compared in
     elim c.match-get_index.branch [
-      | in-Some+in_ok-put+then-put+in_ok-push b ↦
+      | in-Some+in_ok-tell_at b ↦
           let q = b.in-Some.query.now in
           let one = held_as (string_bytes b.in-Some.name.now) q in
           let there = held_at es p b.in-Some.name.now q b.in-Some.ensures.entry in
-          let few : after ≤ before + 1 = omega (arith, b.compared-is, b.in_ok-put.ensures.few) in
-          let grows : before ≤ after = omega (arith, b.compared-is, b.in_ok-put.ensures.grows) in
+          let few : after ≤ before + 1 = omega (arith, b.compared-is, b.in_ok-tell_at.ensures.few) in
+          let grows : before ≤ after = omega (arith, b.compared-is, b.in_ok-tell_at.ensures.grows) in
           record {
             told = here one there held_low c.loop-place.events.items (c.loop-place.rows.items, before) c.loop-place.invariant.told c.match-get_index.events.items (c.match-get_index.rows.items, after)
-                (ap (λ v. v.items) b.events-is ∙ b.in_ok-put.ensures.told)
-                (λ so. (
-                  one_placed put es p c.loop-place.rows.items c.match-get_index.rows.items so.0 (b.in-Some.name.now, q) b.tell_one.new.rows b.in-Some.ensures.entry
-                      (sym b.in_ok-put.ensures.rows ∙ ap (λ o. put_in o b.tell_one.new.rows q.these) b.if-put.true) (ap (λ v. v.items) b.rows-is ∙ b.in_ok-push.ensures.items),
-                  one_more searched taken hs counted p before after one there grows few (λ spared. b.compared-is ∙ b.in_ok-put.ensures.compared spared) (λ whole. b.compared-is ∙ b.in_ok-put.ensures.counted whole) so.1,
-                ));
-            compared = λ none. b.compared-is
-                ∙ (b.in_ok-put.ensures.compared (none_at es p b.in-Some.name.now q b.in-Some.ensures.entry (is_searched changed) none) ∙ c.loop-place.invariant.compared none);
-            grows = omega (arith, b.compared-is, b.in_ok-put.ensures.grows, c.loop-place.invariant.grows);
-          }
-      | in-Some+in_ok-put+else-put+in-None-1 b ↦
-          let q = b.in-Some.query.now in
-          let one = held_as (string_bytes b.in-Some.name.now) q in
-          let there = held_at es p b.in-Some.name.now q b.in-Some.ensures.entry in
-          let few : after ≤ before + 1 = omega (arith, b.compared-is, b.in_ok-put.ensures.few) in
-          let grows : before ≤ after = omega (arith, b.compared-is, b.in_ok-put.ensures.grows) in
-          record {
-            told = here one there held_low c.loop-place.events.items (c.loop-place.rows.items, before) c.loop-place.invariant.told c.match-get_index.events.items (c.match-get_index.rows.items, after)
-                (ap (λ v. v.items) b.events-is ∙ b.in_ok-put.ensures.told)
+                (ap (λ v. v.items) b.events-is ∙ b.in_ok-tell_at.ensures.told)
                 (λ so. (
                   subst (ArePlacedUpTo put es (p + 1)) (sym (ap (λ v. v.items) b.rows-is))
-                      (none_put_there put es p c.loop-place.rows.items one so.0 there (sym b.in_ok-put.ensures.rows ∙ ap (λ o. put_in o b.tell_one.new.rows q.these) b.if-put.false)),
-                  one_more searched taken hs counted p before after one there grows few (λ spared. b.compared-is ∙ b.in_ok-put.ensures.compared spared) (λ whole. b.compared-is ∙ b.in_ok-put.ensures.counted whole) so.1,
+                      (put_there put es p c.loop-place.rows.items b.tell_at.new.rows.items b.in-Some.name.now q so.0 there b.in-Some.ensures.entry b.in_ok-tell_at.ensures.rows),
+                  one_more searched taken hs counted p before after one there grows few (λ spared. b.compared-is ∙ b.in_ok-tell_at.ensures.compared spared) (λ whole. b.compared-is ∙ b.in_ok-tell_at.ensures.counted whole) so.1,
                 ));
             compared = λ none. b.compared-is
-                ∙ (b.in_ok-put.ensures.compared (none_at es p b.in-Some.name.now q b.in-Some.ensures.entry (is_searched changed) none) ∙ c.loop-place.invariant.compared none);
-            grows = omega (arith, b.compared-is, b.in_ok-put.ensures.grows, c.loop-place.invariant.grows);
-          }
-      | in-Some+in_ok-put+else-put+in-Some-1 b ↦
-          let q = b.in-Some.query.now in
-          let one = held_as (string_bytes b.in-Some.name.now) q in
-          let there = held_at es p b.in-Some.name.now q b.in-Some.ensures.entry in
-          let few : after ≤ before + 1 = omega (arith, b.compared-is, b.in_ok-put.ensures.few) in
-          let grows : before ≤ after = omega (arith, b.compared-is, b.in_ok-put.ensures.grows) in
-          record {
-            told = here one there held_low c.loop-place.events.items (c.loop-place.rows.items, before) c.loop-place.invariant.told c.match-get_index.events.items (c.match-get_index.rows.items, after)
-                (ap (λ v. v.items) b.events-is ∙ b.in_ok-put.ensures.told)
-                (λ so. (
-                  subst (ArePlacedUpTo put es (p + 1)) (sym (ap (λ v. v.items) b.rows-is))
-                      (none_put_there put es p c.loop-place.rows.items one so.0 there (sym b.in_ok-put.ensures.rows ∙ ap (λ o. put_in o b.tell_one.new.rows q.these) b.if-put.false)),
-                  one_more searched taken hs counted p before after one there grows few (λ spared. b.compared-is ∙ b.in_ok-put.ensures.compared spared) (λ whole. b.compared-is ∙ b.in_ok-put.ensures.counted whole) so.1,
-                ));
-            compared = λ none. b.compared-is
-                ∙ (b.in_ok-put.ensures.compared (none_at es p b.in-Some.name.now q b.in-Some.ensures.entry (is_searched changed) none) ∙ c.loop-place.invariant.compared none);
-            grows = omega (arith, b.compared-is, b.in_ok-put.ensures.grows, c.loop-place.invariant.grows);
+                ∙ (b.in_ok-tell_at.ensures.compared (none_at es p b.in-Some.name.now q b.in-Some.ensures.entry (is_searched changed) none) ∙ c.loop-place.invariant.compared none);
+            grows = omega (arith, b.compared-is, b.in_ok-tell_at.ensures.grows, c.loop-place.invariant.grows);
           }
       | in_default b ↦ absurd (true≢false (sym (c.get_index.ensures.found.1 low) ∙ ap is_some b.in_default.is))
     ]

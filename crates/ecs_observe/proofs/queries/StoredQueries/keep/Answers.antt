@@ -23,7 +23,7 @@ returns-then-place-len-clause-held g c =
     let is = c.deref_mut.ensures.value in
     let low : i < length bs = omega arith in
     let here = here_as bs i x low c.index_mut.ensures.value in
-    kept_entries bs i x low here y c.args.rows (ap (λ (m : Named (Watcher (StoredQuery g.row.A.Denot) g.row.A.Denot) g.row.A.Denot). m.name) is) (c.keep.ensures ∙ ap (λ (m : Named (Watcher (StoredQuery g.row.A.Denot) g.row.A.Denot) g.row.A.Denot). with_kept c.args.rows m.value.value) is)
+    kept_entries bs i x low here y c.args.rows.now (ap (λ (m : Named (Watcher (StoredQuery g.row.A.Denot) g.row.A.Denot) g.row.A.Denot). m.name) is) (c.keep.ensures ∙ ap (λ (m : Named (Watcher (StoredQuery g.row.A.Denot) g.row.A.Denot) g.row.A.Denot). with_kept c.args.rows.now m.value.value) is)
 
 pub returns-then-place-len-clause-lists : goal.returns-then-place-len-clause-lists
 returns-then-place-len-clause-lists g c =
@@ -53,4 +53,4 @@ returns-then-place-len-clause-stored g c =
     still_stored c.args.self.now _ i x y low here (ap (λ (m : Named (Watcher (StoredQuery g.row.A.Denot) g.row.A.Denot) g.row.A.Denot). m.name) is) (ap (λ (m : Named (Watcher (StoredQuery g.row.A.Denot) g.row.A.Denot) g.row.A.Denot). m.number) is) (ap (λ (m : Named (Watcher (StoredQuery g.row.A.Denot) g.row.A.Denot) g.row.A.Denot). (m.value).occasions.items) is) kind query refl refl refl refl c.requires.stored
 
 pub returns-else-place-len-clause-held : goal.returns-else-place-len-clause-held
-returns-else-place-len-clause-held g c = entry_past name_in query_in (made_of c.args.self.now) c.args.place c.args.rows (omega arith)
+returns-else-place-len-clause-held g c = entry_past name_in query_in (made_of c.args.self.now) c.args.place c.args.rows.now (omega arith)
