@@ -14,6 +14,7 @@ pub mod FirstWorld
 mod Computed
 mod ReachComputed
 pub mod Members
+pub mod Ranges
 pub mod LivePairs
 pub mod ShortLines
 pub mod Depths

@@ -1,60 +1,16 @@
 -- What one stored query more or less leaves that mentions an entity.
-use Rattle.std.proofs.Common.{◌≡◌, ℕ, zero, suc, ◌^◌, ◌<◌, ◌≤◌, ◌==◌, ◌⊎◌, true, false, Some, Ok, Err, if◌then◌else◌, sym, ap, subst, ◌∙◌, inl, inr, arith}
+use Rattle.std.proofs.Common.{◌≡◌, ℕ, ◌^◌, ◌<◌, ◌≤◌, true, false, Ok, Err, if◌then◌else◌, sym, ap, subst, ◌∙◌, arith}
 use Rattle.std.specs.Ordering.{nat_cmp}
 use Rattle.ecs_id.specs.declared.EntityId.{EntityId}
 use Rattle.ecs_model.specs.declared.faults.Refusal.TheVariants.{Dead}
 use Rattle.ecs_model.specs.traits.Keeps.{IsWellFormed}
-use Rattle.ecs_model.specs.Map.{Map, count_at, value_at}
+use Rattle.ecs_model.specs.Map.{count_at, value_at}
 use Rattle.ecs_model.specs.World.{WorldState, is_alive, is_live}
 use Rattle.ecs_model.specs.traits.Pins.{one_less, one_more, pin, unpin, with_count, with_pins}
-use Rattle.ecs_model.proofs.Maps.{if_some, nat_value_at, of_some}
 use Rattle.ecs_model.proofs.Steps.{there}
-use Rattle.ecs_model.proofs.traits.Deletions.{nat_value_at-without, was}
+use Rattle.ecs_model.proofs.traits.Pinned.{count_keeps}
 use Rattle.rel_traits.specs.PinCounts.{Counts}
-use Rattle.rel_traits.proofs.PinsListed.{IsMap-with_count}
 use Rattle.ecs_world.specs.State.{IsWorld, Parts, parts_of, state_of}
-
--- a count is the new one, and not 0, or as it was
-value_at-with_count : (m : Map ℕ ℕ) (i n j x : ℕ) → value_at nat_cmp (with_count m i n) j ≡ Some x → ((j ≡ i) × (n ≡ x) × (0 < n)) ⊎ (value_at nat_cmp m j ≡ Some x)
-value_at-with_count m i zero j x f = inr (was (j == i) (value_at nat_cmp (with_count m i 0) j) (value_at nat_cmp m j) (nat_value_at-without m (λ j. j == i) j) x f).1
-value_at-with_count m i (suc n) j x f =
-    elim (nat_value_at m i (suc n) j) [
-      | inl p ↦ let same : Some (suc n) ≡ Some x = sym p.1 ∙ f in let is : suc n ≡ x = cc in inl (p.0, is, omega arith)
-      | inr p ↦ inr (sym p.1 ∙ f)
-    ]
-
-module _ (w : WorldState) (h : IsWellFormed w) where
-  counts_live : (i n : ℕ) → is_live w i ≡ true → n < 2 ^ 64 → (j x : ℕ) → value_at nat_cmp (with_count w.pins i n) j ≡ Some x → (is_live w j ≡ true) × (0 < x) × (x < 2 ^ 64)
-  counts_live i n l small j x f =
-      elim (value_at-with_count w.pins i n j x f) [
-        | inl p ↦ (ap (is_live w) p.0 ∙ l, omega (arith, p.1, p.2), omega (arith, p.1, small))
-        | inr p ↦ of_some (λ n. (is_live w j ≡ true) × (0 < n) × (n < 2 ^ 64)) (value_at nat_cmp w.pins j) ((h.live).pins j) x p
-      ]
-
-  count_keeps : (i n : ℕ) → is_live w i ≡ true → n < 2 ^ 64 → IsWellFormed (record w { pins = with_count w.pins i n })
-  count_keeps i n l small = record {
-    in_order = record {
-      live = (h.in_order).live;
-      facts = (h.in_order).facts;
-      names = (h.in_order).names;
-      schemas = (h.in_order).schemas;
-      deletions = (h.in_order).deletions;
-      pins = IsMap-with_count w.pins i n (h.in_order).pins;
-    };
-    indexes = record { given_out = (h.indexes).given_out; generation = (h.indexes).generation };
-    built_in = record { live = (h.built_in).live; names = (h.built_in).names; facts = (h.built_in).facts; schemas = (h.built_in).schemas };
-    live = record {
-      names = (h.live).names;
-      names_differ = (h.live).names_differ;
-      schemas = (h.live).schemas;
-      pins = λ j. if_some (λ n. (is_live w j ≡ true) × (0 < n) × (n < 2 ^ 64)) (value_at nat_cmp (with_count w.pins i n) j) (counts_live i n l small j);
-      facts = (h.live).facts;
-    };
-    typed = h.typed;
-    few_ids = h.few_ids;
-    counted = h.counted;
-    traits = record { one_target = (h.traits).one_target; mirrored = (h.traits).mirrored; traversable_acyclic = (h.traits).traversable_acyclic; no_cycle = (h.traits).no_cycle };
-  }
 
 -- what other counts leave of a world
 module _ {parts : Parts} (world : IsWorld parts) {v : WorldState} (is : state_of parts ≡ v) where

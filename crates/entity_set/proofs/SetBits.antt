@@ -3,7 +3,7 @@ use Rattle.std.specs.Prelude.{◌↔◌, ◌==◌, ◌&&◌, ◌||◌, not, bit_
 use Rattle.std.specs.Int.{bit_not}
 use Rattle.std.specs.List.{Contains, list_any, range_with_len}
 use Rattle.std.specs.List.Sorted.{IsStrictlyIncreasing}
-use Rattle.std.proofs.Common.{◌≡◌, ℕ, zero, suc, ◌+◌, ◌*◌, ◌/◌, ◌^◌, ◌<◌, ◌≤◌, Bool, true, false, cond, List, [], ◌∷◌, ◌++◌, append_assoc, length, get_or, take, sym, ap, subst, ◌∙◌, inl, inr, arith, refl, true≢false, w64}
+use Rattle.std.proofs.Common.{◌≡◌, ℕ, ◌+◌, ◌*◌, ◌/◌, ◌^◌, ◌<◌, Bool, true, false, cond, List, [], ◌∷◌, ◌++◌, append_assoc, length, get_or, take, sym, ap, subst, ◌∙◌, inl, inr, arith, refl, true≢false, w64}
 use Rattle.std.proofs.lemmas.Bool.{cases_lt}
 use Rattle.std.proofs.lemmas.Bool.Decides.{nat_tests}
 use Rattle.std.proofs.lemmas.List.{get_or_past}
@@ -11,6 +11,8 @@ use Rattle.std.proofs.lemmas.List.Elements.{filter-append}
 use Rattle.std.proofs.lemmas.List.Folds.{list_any_more}
 use Rattle.std.proofs.lemmas.List.FromFn.{get_or-range_with_len, length-range_with_len}
 use Rattle.std.proofs.lemmas.List.Kept.{IsStrictlyIncreasing-filter}
+pub use Rattle.ecs_model.proofs.Ranges.{number_more, ranges_join}
+use Rattle.ecs_model.proofs.Ranges.{filter_twice, none_between}
 use Rattle.ecs_model.proofs.Members.{alike, any_passes, eq_itself, eq_same, filtered, passing}
 use Rattle.entity_set.specs.Members.{has, has_else, indexes_of, members}
 use Rattle.entity_set.proofs.Words.{has_none, nothing_else}
@@ -57,24 +59,6 @@ none_members = refl
 
 -- ---- those in some words and not in others
 
-pub ranges_join : (a m n : ℕ) → range_with_len a (m + n) ≡ range_with_len a m ++ range_with_len (a + m) n
-ranges_join a zero n =
-    let none : zero + n ≡ n = omega arith in
-    let still : a ≡ a + zero = omega arith in
-    ap (range_with_len a) none ∙ ap (λ b. range_with_len b n) still
-ranges_join a (suc m) n =
-    let more : suc m + n ≡ suc (m + n) = omega arith in
-    let next : a + 1 + m ≡ a + suc m = omega arith in
-    ap (range_with_len a) more ∙ ap (λ xs. a ∷ xs) (ranges_join (a + 1) m n ∙ ap (λ b. range_with_len (a + 1) m ++ range_with_len b n) next)
-
-filter_twice : (p q : ℕ → Bool) (xs : List ℕ) → filter q (filter p xs) ≡ filter (λ x. p x && q x) xs
-filter_twice p q [] = refl
-filter_twice p q (x ∷ xs) =
-    elim (p x) as (λ b. filter q (cond b (x ∷ filter p xs) (filter p xs)) ≡ cond (b && q x) (x ∷ filter (λ x. p x && q x) xs) (filter (λ x. p x && q x) xs)) [
-      | true ↦ ap (λ ys. cond (q x) (x ∷ ys) ys) (filter_twice p q xs)
-      | false ↦ filter_twice p q xs
-    ]
-
 pub others_are : (words others : List ℕ) → filter (λ x. not (list_any (λ y. y == x) (members others))) (members words) ≡ filter (has_else words others) (range_with_len 0 (64 * length words))
 unfolding members
 others_are words others =
@@ -95,16 +79,6 @@ others_more words others place found more so is =
     ∙ ap (λ b. filter p (range_with_len 0 (64 * place) ++ range_with_len b 64)) (sym begun)
     ∙ ap (filter p) (sym (ranges_join 0 (64 * place) 64))
     ∙ ap (λ n. filter p (range_with_len 0 n)) sum
-
--- one number more
-pub number_more : (p : ℕ → Bool) (a n : ℕ) → filter p (range_with_len a (n + 1)) ≡ filter p (range_with_len a n) ++ cond (p (a + n)) ((a + n) ∷ []) []
-number_more p a n = ap (filter p) (ranges_join a n 1) ∙ filter-append p (range_with_len a n) (range_with_len (a + n) 1)
-
-none_between : (p : ℕ → Bool) (a n : ℕ) → ((k : ℕ) → a ≤ k → k < a + n → p k ≡ false) → filter p (range_with_len a n) ≡ []
-none_between p a zero none = refl
-none_between p a (suc n) none =
-    ap (λ b. cond b (a ∷ filter p (range_with_len (a + 1) n)) (filter p (range_with_len (a + 1) n))) (none a (omega arith) (omega arith))
-    ∙ none_between p (a + 1) n (λ k low high. none k (omega arith) (omega arith))
 
 -- a word without any
 pub word_none : (words others : List ℕ) (place : ℕ) → get_or others place 0 < 2 ^ 64 → bit_and (get_or words place 0) (bit_not w64 (get_or others place 0)) ≡ 0

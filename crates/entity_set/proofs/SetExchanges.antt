@@ -2,24 +2,18 @@
 use Rattle.std.specs.Prelude.{◌==◌, ◌&&◌, ◌||◌, not, filter}
 use Rattle.std.specs.List.{All, Contains, list_any, range_with_len}
 use Rattle.std.specs.List.Sorted.{IsStrictlyIncreasing}
-use Rattle.std.proofs.Common.{◌≡◌, ℕ, zero, suc, ◌+◌, ◌*◌, ◌/◌, ◌<◌, ◌≤◌, Bool, true, cond, List, ◌∷◌, length, get_or, sym, ap, subst, ◌∙◌, inl, inr, arith, refl}
+use Rattle.std.proofs.Common.{◌≡◌, ℕ, ◌*◌, ◌/◌, ◌<◌, ◌≤◌, Bool, true, List, length, get_or, sym, ap, subst, ◌∙◌, inl, inr, arith}
 use Rattle.std.proofs.lemmas.Bool.{ne_eqb, or_cases, and_parts}
 use Rattle.std.proofs.lemmas.List.Elements.{Contains-get_or}
 use Rattle.std.proofs.lemmas.List.Kept.{IsStrictlyIncreasing-filter}
 use Rattle.ecs_model.proofs.Members.{alike, any_passes, eq_itself, eq_same, filtered, passing}
+use Rattle.ecs_model.proofs.Ranges.{filter_alike}
 use Rattle.entity_set.specs.Members.{Entities, entities_in, exchanged, has, members}
 use Rattle.entity_set.proofs.SetBits.{any_members, has_word, in_members, in_range, range_rises}
 
 -- who is in a set has a word in it
 pub members_low : (words : List ℕ) → All (λ e. e < 64 * length words) (members words)
 members_low words = λ k d low. has_word words (get_or (members words) k d) ((in_members words (get_or (members words) k d)).0 (Contains-get_or (members words) k d low))
-
-filter_alike : (p q : ℕ → Bool) (a n : ℕ) → ((k : ℕ) → a ≤ k → k < a + n → p k ≡ q k) → filter p (range_with_len a n) ≡ filter q (range_with_len a n)
-filter_alike p q a zero same = refl
-filter_alike p q a (suc n) same =
-    let first : p a ≡ q a = same a (omega arith) (omega arith) in
-    let rest : filter p (range_with_len (a + 1) n) ≡ filter q (range_with_len (a + 1) n) = filter_alike p q (a + 1) n (λ k low high. same k (omega arith) (omega arith)) in
-    λ i. cond (first i) (a ∷ rest i) (rest i)
 
 -- by its bits
 pub exchanged_bits : (old new left entered : List ℕ) → length new ≡ length old

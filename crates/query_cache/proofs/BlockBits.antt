@@ -2,50 +2,18 @@
 use Rattle.std.specs.Prelude.{◌==◌, ◌&&◌, bit_and, bit_or, filter}
 use Rattle.std.specs.Int.{bit_at, bit_not}
 use Rattle.std.specs.List.{range_with_len}
-use Rattle.std.proofs.Common.{◌≡◌, ℕ, zero, suc, ◌+◌, ◌-◌, ◌*◌, ◌%◌, ◌^◌, ◌<◌, ◌≤◌, Bool, true, false, cond, List, [], ◌∷◌, ◌++◌, append-nil, append_assoc, map, sym, ap, ◌∙◌, inl, inr, arith, eq-eqb, refl, true≢false, w64}
+use Rattle.std.proofs.Common.{◌≡◌, ℕ, ◌+◌, ◌-◌, ◌*◌, ◌%◌, ◌^◌, ◌<◌, ◌≤◌, Bool, true, false, cond, List, [], ◌∷◌, ◌++◌, append-nil, append_assoc, map, sym, ap, ◌∙◌, inl, inr, arith, eq-eqb, refl, true≢false, w64}
 use Rattle.std.proofs.lemmas.Bool.{cases_lt}
 use Rattle.std.proofs.lemmas.List.{map-append}
 use Rattle.std.proofs.lemmas.List.Elements.{filter-append}
 use Rattle.std.proofs.lemmas.Nat.Bits.{bit_at-zero, bit_at_above, bit_at_clear_other, bit_at_clear_same, bit_at_set_other, bit_at_set_same}
 use Rattle.ecs_id.specs.declared.TableKey.{TableKey}
+pub use Rattle.ecs_model.proofs.Ranges.{number_more, ranges_join}
+use Rattle.ecs_model.proofs.Ranges.{filter_alike, filter_twice, none_between}
 use Rattle.query_cache.specs.declared.table_block.Block.{Block}
 use Rattle.query_cache.specs.TableList.{IsBlock, key_at, keys_of}
 
 -- ---- lists
-pub ranges_join : (a m n : ℕ) → range_with_len a (m + n) ≡ range_with_len a m ++ range_with_len (a + m) n
-ranges_join a zero n =
-    let none : zero + n ≡ n = omega arith in
-    let still : a ≡ a + zero = omega arith in
-    ap (range_with_len a) none ∙ ap (λ b. range_with_len b n) still
-ranges_join a (suc m) n =
-    let more : suc m + n ≡ suc (m + n) = omega arith in
-    let next : a + 1 + m ≡ a + suc m = omega arith in
-    ap (range_with_len a) more ∙ ap (λ xs. a ∷ xs) (ranges_join (a + 1) m n ∙ ap (λ b. range_with_len (a + 1) m ++ range_with_len b n) next)
-
-filter_alike : (p q : ℕ → Bool) (a n : ℕ) → ((k : ℕ) → a ≤ k → k < a + n → p k ≡ q k) → filter p (range_with_len a n) ≡ filter q (range_with_len a n)
-filter_alike p q a zero same = refl
-filter_alike p q a (suc n) same =
-    let first : p a ≡ q a = same a (omega arith) (omega arith) in
-    let rest : filter p (range_with_len (a + 1) n) ≡ filter q (range_with_len (a + 1) n) = filter_alike p q (a + 1) n (λ k low high. same k (omega arith) (omega arith)) in
-    λ i. cond (first i) (a ∷ rest i) (rest i)
-
-none_between : (p : ℕ → Bool) (a n : ℕ) → ((k : ℕ) → a ≤ k → k < a + n → p k ≡ false) → filter p (range_with_len a n) ≡ []
-none_between p a zero none = refl
-none_between p a (suc n) none =
-    ap (λ b. cond b (a ∷ filter p (range_with_len (a + 1) n)) (filter p (range_with_len (a + 1) n))) (none a (omega arith) (omega arith))
-    ∙ none_between p (a + 1) n (λ k low high. none k (omega arith) (omega arith))
-
-pub number_more : (p : ℕ → Bool) (a n : ℕ) → filter p (range_with_len a (n + 1)) ≡ filter p (range_with_len a n) ++ cond (p (a + n)) ((a + n) ∷ []) []
-number_more p a n = ap (filter p) (ranges_join a n 1) ∙ filter-append p (range_with_len a n) (range_with_len (a + n) 1)
-
-filter_twice : (p q : ℕ → Bool) (xs : List ℕ) → filter q (filter p xs) ≡ filter (λ x. p x && q x) xs
-filter_twice p q [] = refl
-filter_twice p q (x ∷ xs) =
-    elim (p x) as (λ b. filter q (cond b (x ∷ filter p xs) (filter p xs)) ≡ cond (b && q x) (x ∷ filter (λ x. p x && q x) xs) (filter (λ x. p x && q x) xs)) [
-      | true ↦ ap (λ ys. cond (q x) (x ∷ ys) ys) (filter_twice p q xs)
-      | false ↦ filter_twice p q xs
-    ]
-
 filter_mapped : {X Y : Type 0} (f : X → Y) (q : Y → Bool) (xs : List X) → filter q (map f xs) ≡ map f (filter (λ x. q (f x)) xs)
 filter_mapped f q [] = refl
 filter_mapped f q (x ∷ xs) =

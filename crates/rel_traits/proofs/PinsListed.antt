@@ -12,8 +12,9 @@ use Rattle.std.specs.Ordering.{nat_cmp, eq_by_cmp, is_eq, is_lt}
 use Rattle.std.specs.declared.cmp.Ordering.TheVariants.{Equal, Greater}
 use Rattle.ecs_model.specs.Map.{Map, IsMap, count_at, value_at}
 use Rattle.ecs_model.specs.traits.Pins.{with_count}
-use Rattle.ecs_model.proofs.Maps.{IsMap-with_value, absent_below, nat_value_at, to_T}
-use Rattle.ecs_model.proofs.traits.Deletions.{nat_IsMap-without, nat_value_at-without}
+use Rattle.ecs_model.proofs.Maps.{absent_below, nat_value_at, to_T}
+use Rattle.ecs_model.proofs.traits.Deletions.{nat_value_at-without}
+use Rattle.ecs_model.proofs.traits.Pinned.{IsMap-with_count}
 
 -- the counts of a list whose first has this index
 abbrev pub counts_from : ℕ → List ℕ → Map ℕ ℕ
@@ -82,10 +83,6 @@ same_map m n h g same = same_entries nat_cmp nat_cmp_total nat_cmp-IsAntisymmetr
 pub same_counts : (old new : List ℕ) → ((i : ℕ) → get_or new i 0 ≡ get_or old i 0) → counts_from 0 new ≡ counts_from 0 old
 same_counts old new same =
     same_map (counts_from 0 new) (counts_from 0 old) (IsMap-from 0 new) (IsMap-from 0 old) (λ i. value_is new i ∙ ap kept (same i) ∙ sym (value_is old i))
-
-pub IsMap-with_count : (m : Map ℕ ℕ) (i n : ℕ) → IsMap nat_cmp m → IsMap nat_cmp (with_count m i n)
-IsMap-with_count m i zero h = nat_IsMap-without m (λ j. j == i) h
-IsMap-with_count m i (suc n) h = IsMap-with_value nat_cmp nat_cmp_total m i (suc n) h
 
 value_put : (m : Map ℕ ℕ) (i n j : ℕ) → value_at nat_cmp (with_count m i n) j ≡ cond (j == i) (kept n) (value_at nat_cmp m j)
 value_put m i zero j = nat_value_at-without m (λ j. j == i) j ∙ by (j == i)

@@ -18,7 +18,7 @@ use Rattle.ecs_model.proofs.Steps.{there}
 use Rattle.ecs_model.proofs.traits.Deletions.{nat_IsMap-without, nat_value_at-without, was}
 use Rattle.ecs_model.proofs.traits.NewEntities.{same_facts_keep}
 
-IsMap-with_count : (m : Map ℕ ℕ) (i n : ℕ) → IsMap nat_cmp m → IsMap nat_cmp (with_count m i n)
+pub IsMap-with_count : (m : Map ℕ ℕ) (i n : ℕ) → IsMap nat_cmp m → IsMap nat_cmp (with_count m i n)
 IsMap-with_count m i zero h = nat_IsMap-without m (λ j. j == i) h
 IsMap-with_count m i (suc n) h = IsMap-with_value nat_cmp nat_cmp_total m i (suc n) h
 
@@ -64,7 +64,7 @@ module _ (w : WorldState) (h : IsWellFormed w) where
         | inr p ↦ of_some (λ n. (is_live w j ≡ true) × (0 < n) × (n < 2 ^ 64)) (value_at nat_cmp w.pins j) ((h.live).pins j) x p
       ]
 
-  count_keeps : (i n : ℕ) → is_live w i ≡ true → n < 2 ^ 64 → IsWellFormed (record w { pins = with_count w.pins i n })
+  pub count_keeps : (i n : ℕ) → is_live w i ≡ true → n < 2 ^ 64 → IsWellFormed (record w { pins = with_count w.pins i n })
   count_keeps i n l small =
       let v : WorldState = record w { pins = with_count w.pins i n } in
       record {
