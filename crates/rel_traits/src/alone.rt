@@ -77,10 +77,10 @@ fn may_bring(held: &[Id], traits: TraitSet, id: Id) -> bool
 fn leads_to_copies<G: Graph>(graph: &G, id: Id) -> bool
     ensures { result ≡ leads_to_copies_of (G.ids graph.now) id }
 {
-    match id.second() {
-        None => false,
-        Some(target) => id.first() == IS_A && gives_copies(graph, target),
-    }
+    id.first() == IS_A
+        && id
+            .second()
+            .is_some_and(|target| gives_copies(graph, target))
 }
 
 /// The id of the one fact that gives way to a fact without mirror, if any does, or that there may be several.

@@ -125,12 +125,7 @@ fn push_copy<G: Graph, A: Allocator>(
 pub(crate) fn gives_copies<G: Graph>(graph: &G, base: u32) -> bool
     ensures { result ≡ list_any (is_copied_of (G.ids graph.now) []) (G.ids graph.now base) }
 {
-    for id in graph.ids(base) {
-        if may_be_copied(graph, *id) {
-            return true;
-        }
-    }
-    false
+    graph.ids(base).iter().any(|id| may_be_copied(graph, *id))
 }
 
 /// Whether an id may be copied to an entity, whatever that has of its own.
@@ -188,22 +183,16 @@ fn is_own(held: &[Id], entity: u32, added: &[FactKey], id: Id) -> bool
 fn is_added(entity: u32, added: &[FactKey], id: Id) -> bool
     ensures { result ≡ list_any (λ k. k.0 == entity && id_eq k.1 id) added.now }
 {
-    for fact in added {
-        if fact.entity() == entity && fact.id() == id {
-            return true;
-        }
-    }
-    false
+    added
+        .iter()
+        .any(|fact| fact.entity() == entity && fact.id() == id)
 }
 
 /// Whether an id may come to an entity that holds these ids and gets these facts, where its component or relationship has these traits.
 fn takes(held: &[Id], entity: u32, added: &[FactKey], traits: &[Id], id: Id) -> bool
     ensures { result ≡ takes_own traits.now held.now entity added.now id }
 {
-    match id.second() {
-        None => true,
-        Some(_) => takes_pair(held, entity, added, traits, id.first()),
-    }
+    id.second().is_none() || takes_pair(held, entity, added, traits, id.first())
 }
 
 /// The same of a pair of a relationship.
@@ -227,21 +216,13 @@ fn has_own_pair(held: &[Id], entity: u32, added: &[FactKey], relationship: u32) 
 fn holds_pair(held: &[Id], relationship: u32) -> bool
     ensures { result ≡ has_pair held.now relationship }
 {
-    for id in held {
-        if target_under(*id, relationship).is_some() {
-            return true;
-        }
-    }
-    false
+    held.iter()
+        .any(|id| target_under(*id, relationship).is_some())
 }
 
 fn gets_pair(entity: u32, added: &[FactKey], relationship: u32) -> bool
     ensures { result ≡ list_any (λ k. k.0 == entity && is_some (target_of relationship k.1)) added.now }
 {
-    for fact in added {
-        if fact.entity() == entity && target_under(fact.id(), relationship).is_some() {
-            return true;
-        }
-    }
-    false
+    added.iter().any(|fact| fact.entity() == entity
+        && target_under(fact.id(), relationship).is_some())
 }

@@ -92,25 +92,18 @@ fn first_refusal(changes: bool, closes: bool, crowds: bool, is_spent: bool) -> O
 fn changes_trait<G: Holders, A: Allocator>(graph: &G, came: &[FactKey], pins: &PinCounts<A>) -> bool
     ensures { result ≡ list_any (λ k. is_trait_id k.1 && (is_used (G.ids graph.now) (G.entities graph.now) k.0 || nat_lt 0 (count_at pins.now.entries k.0))) came.now }
 {
-    for fact in came {
-        if is_trait(fact.id()) && (in_use(graph, fact.entity()) || is_pinned(pins, fact.entity())) {
-            return true;
-        }
-    }
-    false
+    came.iter().any(|fact| {
+        is_trait(fact.id()) && (in_use(graph, fact.entity()) || is_pinned(pins, fact.entity()))
+    })
 }
 
 /// Whether the entity of the fact, or its target if it has one, would hold too many ids. No other entity gets one of the added facts.
 fn crowds_one<G: Graph>(graph: &G, fact: FactKey, came: &[FactKey], went: &[FactKey]) -> bool
     ensures { result ≡ list_any (λ x. nat_lt most_ids (length (G.ids graph.now x) + count_by (λ k. k.0 == x) came.now - count_by (λ k. k.0 == x) went.now)) (fact.0 ∷ cons_option (second_of fact.1) []) }
 {
-    if is_crowded(graph, fact.entity(), came, went) {
-        return true;
-    }
-    match fact.id().second() {
-        Some(target) => is_crowded(graph, target, came, went),
-        None => false,
-    }
+    let target = fact.id().second();
+    is_crowded(graph, fact.entity(), came, went)
+        || target.is_some_and(|target| is_crowded(graph, target, came, went))
 }
 
 /// Whether an entity would hold too many ids, after these facts have come and these have gone.

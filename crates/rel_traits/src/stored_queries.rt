@@ -17,10 +17,5 @@ pub fn is_pinned<A: Allocator>(pins: &PinCounts<A>, index: u32) -> bool
 pub fn any_pinned<A: Allocator>(pins: &PinCounts<A>, indexes: &[u32]) -> bool
     ensures { result ≡ list_any (λ i. nat_lt 0 (count_at pins.now.entries i)) indexes.now }
 {
-    for index in indexes {
-        if is_pinned(pins, *index) {
-            return true;
-        }
-    }
-    false
+    indexes.iter().any(|index| is_pinned(pins, *index))
 }

@@ -30,12 +30,7 @@ pub fn is_trait(id: Id) -> bool
 pub fn adds_built_in(facts: &[FactKey]) -> bool
     ensures { result ≡ list_any is_of_built_in facts.now }
 {
-    for fact in facts {
-        if is_fixed(*fact) {
-            return true;
-        }
-    }
-    false
+    facts.iter().any(|fact| is_fixed(*fact))
 }
 
 /// Whether one fact is.
