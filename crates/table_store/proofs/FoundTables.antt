@@ -5,12 +5,10 @@ use Rattle.std.specs.declared.vec.Vec.{Vec}
 use Rattle.slab.specs.Slab as slots
 use Rattle.slab.specs.Slab.{Slab, Updates, slab_len}
 use Rattle.ecs_id.specs.Id.{Id, id_cmp}
-use Rattle.ecs_id.specs.declared.Place.{Place}
 use Rattle.ecs_id.specs.declared.TableKey.{TableKey}
 use Rattle.ecs_table.specs.Archetype.{Archetype, IsSound}
 use Rattle.ecs_table.proofs.Soundness.{sound_empty}
 use Rattle.table_store.specs.Store.{Store, Shape, IsStore, table_at, ids_at, shape_at, shape_of, shaped, key_eq}
-use Rattle.table_store.specs.Rows.{row_at}
 use Rattle.table_store.specs.Kept.{ByIds, HasNoEdge, Held, tables_from, store_of, IsKept, IsOrder, IsSlot, IsMade, IsPut}
 use Rattle.table_store.specs.ByIds.{HasSlot, KeepsSlots, has_ids, ids_hash}
 use Rattle.table_store.proofs.Slots.{same_key, none_is_some, one_some}
@@ -169,8 +167,3 @@ not_there tables by_ids by_serial last s view kept ids hash is none q h =
 pub if_ok : {T E : Type 0} (P Q : T → Type 0) (r : Result T E) → ((x : T) → P x → Q x) → IfOk r P → IfOk r Q
 if_ok P Q (Ok x) f h = f x h
 if_ok P Q (Err e) f h = tt
-
--- the rows stay in any case
-pub put_rows : {E : Type 0} (s : Store) (f : Shape) (r : Result TableKey E) (n : Store) → IsPut s f r n → (p : Place) → row_at n p ≡ row_at s p
-put_rows s f (Ok key) n h = h.ok.rows
-put_rows s f (Err e) n h = λ p. ap (λ z. row_at z p) h.err

@@ -5,11 +5,11 @@ ghost use Rattle.std.specs.Ordering.{nat_cmp};
 ghost use Rattle.std.specs.List.{Contains, filter};
 ghost use Rattle.std.specs.List.Sorted.{IsStrictlySortedBy};
 ghost use Rattle.slab.specs.Slab.{HasRoomFor, get as slot_at, slab_len};
-ghost use Rattle.ecs_id.specs.Id.{Id, id_cmp, id_eq};
+ghost use Rattle.ecs_id.specs.Id.{Id, id_cmp};
 ghost use Rattle.ecs_id.specs.declared.Place.{Place};
 ghost use Rattle.ecs_id.specs.declared.TableKey.{TableKey};
 ghost use Rattle.ecs_table.specs.Archetype.{Archetype, with_column, with_row, with_value, without_row};
-ghost use Rattle.table_store.specs.Store.{HasSize, Shape, changed_at, find_in, ids_at, made_at, moved_at, released_at, room_at, shape_at, shaped, shaped_at, size_in, table_at, with_id, without_id};
+ghost use Rattle.table_store.specs.Store.{HasSize, Shape, changed_at, find_in, moved_at, released_at, room_at, shape_at, shaped, size_in, table_at, with_id, without_id};
 ghost use Rattle.table_store.specs.ByIds.{HasSlot, KeepsSlots};
 ghost use Rattle.table_store.specs.Kept.{HasNoEdge, IsMade, IsPut, IsWritten, edge_of, edges_of, is_held, standing, stepped};
 ghost use Rattle.table_store.specs.Rows.{AreValues, IsStored, Row, filler, moved_rows, removed_rows, row_at, rows_in, with_cell, with_column_at, with_row_at, zero_cells};
@@ -108,27 +108,12 @@ impl<A: Allocator + Copy> TableStore<A> {
         requires ascend { IsTrue (is_sorted id_cmp cells.now) }
         requires small { (j : ℕ) → IfSome (slice_get cells.now j) (λ c. c.1 ≤ 64) }
         requires sizes { (j : ℕ) → IfSome (slice_get cells.now j) (λ c. HasSize self.old c.0 c.1) }
-        ensures made { IfOk result (λ key. (q : TableKey) → table_at self.new q ≡ made_at self.old key (shaped cells.now) q) }
-        ensures shapes { IfOk result (λ key. (q : TableKey) → shape_at self.new q ≡ shaped_at self.old key cells.now q) }
-        ensures newest { IfOk result (λ key. IsNone (table_at self.old key) ↔ (self.old.last < key.serial)) }
-        ensures last { IfOk result (λ key. self.new.last ≡ max self.old.last key.serial) }
-        ensures rows { (p : Place) → row_at self.new p ≡ row_at self.old p }
-        ensures err { OnErr result (self.new ≡ self.old) }
-        ensures whole { IsStored self.new }
-    {
-        self.find_or_put(cells)
-    }
-
-    // `find_or_make`, whose clauses stand in `IsMade`. Its list of ids is lent by the store, so that not every call takes one.
-    fn find_or_put(&mut self, cells: &[SizedId]) -> Result<TableKey, Memory>
-        requires ascend { IsTrue (is_sorted id_cmp cells.now) }
-        requires small { (j : ℕ) → IfSome (slice_get cells.now j) (λ c. c.1 ≤ 64) }
-        requires sizes { (j : ℕ) → IfSome (slice_get cells.now j) (λ c. HasSize self.old c.0 c.1) }
         ensures { IsPut self.old cells.now result self.new }
     {
         if let Some(bare) = self.bare(cells) {
             return Ok(bare);
         }
+        // Its list of ids is lent by the store, so that not every call takes one.
         let mut ids = mem::replace(&mut self.ids, Vec::new(self.alloc));
         let put = self.put_by(&mut ids, cells);
         self.ids = ids;
@@ -152,7 +137,7 @@ impl<A: Allocator + Copy> TableStore<A> {
         }
     }
 
-    // `find_or_put`, with a list for the ids of the table: the table that has them, or a new one.
+    // `find_or_make`, with a list for the ids of the table: the table that has them, or a new one.
     fn put_by(&mut self, ids: &mut Vec<Id, A>, cells: &[SizedId]) -> Result<TableKey, Memory>
         requires ascend { IsTrue (is_sorted id_cmp cells.now) }
         requires small { (j : ℕ) → IfSome (slice_get cells.now j) (λ c. c.1 ≤ 64) }
@@ -160,9 +145,7 @@ impl<A: Allocator + Copy> TableStore<A> {
         ensures { IsPut self.old cells.now result self.new }
     {
         let recent = self.recent;
-        let Ok(()) = set_ids(ids, cells) else {
-            return Err(Memory);
-        };
+        set_ids(ids, cells)?;
         let ids = ids.as_slice();
         if has_ids(&self.tables, recent, ids) {
             let known = key_in(&self.tables, recent);
@@ -173,10 +156,8 @@ impl<A: Allocator + Copy> TableStore<A> {
             let found = key_in(&self.tables, slot);
             return Ok(found);
         }
-        let Ok(key) = next_key(&self.tables, self.last) else {
-            return Err(Memory);
-        };
-        let Ok(slot) = prepare(
+        let key = next_key(&self.tables, self.last)?;
+        let slot = prepare(
             self.alloc,
             &mut self.tables,
             &mut self.by_ids,
@@ -185,9 +166,7 @@ impl<A: Allocator + Copy> TableStore<A> {
             hash,
             ids,
             cells,
-        ) else {
-            return Err(Memory);
-        };
+        )?;
         self.tables.insert_reserved(slot);
         let given = key.key();
         self.last = given.serial;
@@ -199,13 +178,7 @@ impl<A: Allocator + Copy> TableStore<A> {
         requires stands { IsSome (table_at self.old key) }
         requires small { size ≤ 64 }
         requires sizes { HasSize self.old id size }
-        ensures made { (f : Shape) → shape_at self.old key ≡ Some f → IfOk result (λ to. (q : TableKey) → table_at self.new q ≡ made_at self.old to (shaped (with_id f id size)) q) }
-        ensures shapes { (f : Shape) → shape_at self.old key ≡ Some f → IfOk result (λ to. (q : TableKey) → shape_at self.new q ≡ shaped_at self.old to (with_id f id size) q) }
-        ensures newest { IfOk result (λ to. IsNone (table_at self.old to) ↔ (self.old.last < to.serial)) }
-        ensures last { IfOk result (λ to. self.new.last ≡ max self.old.last to.serial) }
-        ensures rows { (p : Place) → row_at self.new p ≡ row_at self.old p }
-        ensures err { OnErr result (self.new ≡ self.old) }
-        ensures whole { IsStored self.new }
+        ensures { (f : Shape) → shape_at self.old key ≡ Some f → IsPut self.old (with_id f id size) result self.new }
     {
         self.step(key, id, Some(size))
     }
@@ -213,13 +186,7 @@ impl<A: Allocator + Copy> TableStore<A> {
     /// The table that has the ids of this one, without one of them.
     pub fn without(&mut self, key: TableKey, id: Id) -> Result<TableKey, Memory>
         requires stands { IsSome (table_at self.old key) }
-        ensures made { (f : Shape) → shape_at self.old key ≡ Some f → IfOk result (λ to. (q : TableKey) → table_at self.new q ≡ made_at self.old to (shaped (without_id f id)) q) }
-        ensures shapes { (f : Shape) → shape_at self.old key ≡ Some f → IfOk result (λ to. (q : TableKey) → shape_at self.new q ≡ shaped_at self.old to (without_id f id) q) }
-        ensures newest { IfOk result (λ to. IsNone (table_at self.old to) ↔ (self.old.last < to.serial)) }
-        ensures last { IfOk result (λ to. self.new.last ≡ max self.old.last to.serial) }
-        ensures rows { (p : Place) → row_at self.new p ≡ row_at self.old p }
-        ensures err { OnErr result (self.new ≡ self.old) }
-        ensures whole { IsStored self.new }
+        ensures { (f : Shape) → shape_at self.old key ≡ Some f → IsPut self.old (without_id f id) result self.new }
     {
         self.step(key, id, None)
     }
@@ -276,16 +243,10 @@ impl<A: Allocator + Copy> TableStore<A> {
         ensures { (f : Shape) → shape_at self.old key ≡ Some f → IsPut self.old (stepped f id added) result self.new }
     {
         let slot = &self.tables[key.slot as usize];
-        let Ok(()) = next_shape(cells, &slot.table, id, added) else {
-            return Err(Memory);
-        };
-        match self.find_or_put(cells.as_slice()) {
-            Ok(to) => {
-                self.keep_edge(key, id, added, to);
-                Ok(to)
-            }
-            Err(_) => Err(Memory),
-        }
+        next_shape(cells, &slot.table, id, added)?;
+        let to = self.find_or_make(cells.as_slice())?;
+        self.keep_edge(key, id, added, to);
+        Ok(to)
     }
 
     // Keeps an edge for the next time. Where memory is refused, the table is found by its ids again.

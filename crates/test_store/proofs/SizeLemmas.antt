@@ -1,5 +1,5 @@
 -- The ids of the tests keep their sizes over each call.
-use Rattle.std.proofs.Common.{◌≡◌, ℕ, suc, zero, ◌≤◌, ◌==◌, ◌&&◌, Bool, true, false, if◌then◌else◌, [], ◌∷◌, Option, Some, None, IsTrue, IsSome, IfSome, IfOk, OnErr, MatchOption, Result, Ok, Err, is_some, not, option_map, slice_get, refl, sym, ap, subst, ◌∙◌, true≢false, arith, inl, inr}
+use Rattle.std.proofs.Common.{◌≡◌, ℕ, suc, zero, ◌≤◌, ◌==◌, ◌&&◌, Bool, true, false, if◌then◌else◌, [], ◌∷◌, Option, Some, None, IsTrue, IsSome, IfSome, MatchOption, Result, Ok, Err, is_some, not, option_map, slice_get, refl, sym, ap, subst, ◌∙◌, true≢false, arith, inl, inr}
 use Rattle.std.proofs.lemmas.Bool.Decides.{Decides-eqb}
 use Rattle.std.specs.List.{find}
 use Rattle.ecs_id.specs.declared.TableKey.{TableKey}
@@ -7,6 +7,7 @@ use Rattle.std.specs.FinMap.{is_sorted}
 use Rattle.ecs_id.specs.Id.{Id, id_cmp, id_eq, packed, plain}
 use Rattle.ecs_table.specs.Archetype.{Archetype}
 use Rattle.table_store.specs.Store.{HasSize, Shape, Store, find_in, key_eq, shape_at, shape_of, shaped_at, table_at, with_id, without_id}
+use Rattle.table_store.specs.Kept.{IsPut}
 use Rattle.test_store.specs.Sizes.{IsOfSizes, IsSized, bytes_of}
 use Rattle.table_store.proofs.MadeTables.{some_of}
 use Rattle.table_store.proofs.Shapes.{both, found_get, get_filtered, get_put}
@@ -77,6 +78,6 @@ pub pair_sizes : (a t : Id) → a ≡ plain 64 → t ≡ plain 100 → IsOfSizes
 pair_sizes a t p q = subst IsOfSizes (λ i. pair_of (sym p i) (sym q i)) refl
 
 -- the sizes stay, or an id of its size comes
-pub sized_after : {E : Type 0} (s n : Store) (r : Result TableKey E) (f : Shape) → IsOfSizes f → IfOk r (λ k. (q : TableKey) → shape_at n q ≡ shaped_at s k f q) → OnErr r (n ≡ s) → IsSized s → IsSized n
-sized_after s n (Ok k) f h shapes same is = sized_made s n k f h shapes is
-sized_after s n (Err e) f h shapes same is = subst IsSized (sym same) is
+pub sized_after : {E : Type 0} (s n : Store) (r : Result TableKey E) (f : Shape) → IsOfSizes f → IsPut s f r n → IsSized s → IsSized n
+sized_after s n (Ok k) f h put is = sized_made s n k f h put.ok.shapes is
+sized_after s n (Err e) f h put is = subst IsSized (sym put.err) is

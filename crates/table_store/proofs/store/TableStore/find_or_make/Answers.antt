@@ -1,33 +1,15 @@
-use Rattle.table_store.specs.Kept.{IsMade}
-use Rattle.table_store.proofs.FoundTables.{if_ok, put_rows}
+use Rattle.std.proofs.Common.{◌≡◌, sym, subst}
+use Rattle.raw_column.specs.declared.block.Memory.{Memory}
+use Rattle.table_store.specs.Store.{Store}
+use Rattle.table_store.specs.Kept.{IsPut, store_of}
 use Rattle.table_store.proofs.store.TableStore.find_or_make.Goals as goal
 
-pub find_or_put-requires-clause-ascend : goal.find_or_put-requires-clause-ascend
-find_or_put-requires-clause-ascend g c = c.requires.ascend
+pub returns : goal.returns
+returns g c =
+    let begun : store_of c.self.inside.tables c.self.inside.last ≡ c.args.self.now = c.self.view_is in
+    let ended : store_of c.self-2.inside.tables c.self-2.inside.last ≡ c.put_by-put.new.self = c.self-2.view_is in
+    subst (λ (s : Store). IsPut {E = Memory} s c.args.cells.now c.put_by-put.result (store_of c.self-2.inside.tables c.self-2.inside.last)) begun
+    (subst (λ (n : Store). IsPut {E = Memory} (store_of c.self.inside.tables c.self.inside.last) c.args.cells.now c.put_by-put.result n) (sym ended) c.put_by-put.ensures)
 
-pub find_or_put-requires-clause-small : goal.find_or_put-requires-clause-small
-find_or_put-requires-clause-small g c = c.requires.small
-
-pub find_or_put-requires-clause-sizes : goal.find_or_put-requires-clause-sizes
-find_or_put-requires-clause-sizes g c = c.requires.sizes
-
-pub returns-clause-made : goal.returns-clause-made
-returns-clause-made g c = if_ok _ _ _ (λ key (h : IsMade c.args.self.now c.args.cells.now key c.find_or_put.new.self). h.made) c.find_or_put.ensures.ok
-
-pub returns-clause-shapes : goal.returns-clause-shapes
-returns-clause-shapes g c = if_ok _ _ _ (λ key (h : IsMade c.args.self.now c.args.cells.now key c.find_or_put.new.self). h.shapes) c.find_or_put.ensures.ok
-
-pub returns-clause-newest : goal.returns-clause-newest
-returns-clause-newest g c = if_ok _ _ _ (λ key (h : IsMade c.args.self.now c.args.cells.now key c.find_or_put.new.self). h.newest) c.find_or_put.ensures.ok
-
-pub returns-clause-last : goal.returns-clause-last
-returns-clause-last g c = if_ok _ _ _ (λ key (h : IsMade c.args.self.now c.args.cells.now key c.find_or_put.new.self). h.last) c.find_or_put.ensures.ok
-
-pub returns-clause-rows : goal.returns-clause-rows
-returns-clause-rows g c = put_rows _ _ _ _ c.find_or_put.ensures
-
-pub returns-clause-err : goal.returns-clause-err
-returns-clause-err g c = c.find_or_put.ensures.err
-
-pub returns-clause-whole : goal.returns-clause-whole
-returns-clause-whole g c = c.find_or_put.ensures.whole
+pub returns-in-Some : goal.returns-in-Some
+returns-in-Some g c = record { ok = c.in-Some.ensures.0; err = tt; whole = c.in-Some.ensures.1 }

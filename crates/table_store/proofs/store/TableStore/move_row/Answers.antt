@@ -2,7 +2,7 @@ use Rattle.std.proofs.Common.{◌≡◌, ℕ, ◌<◌, ◌≤◌, ◌+◌, None,
 use Rattle.slab.specs.Slab.{Updates, with_value}
 use Rattle.ecs_table.specs.Archetype.{Archetype, HaveEqualSizes, moved_into}
 use Rattle.table_store.specs.declared.store.Slot.{Slot}
-use Rattle.table_store.specs.Store.{Shape, table_at}
+use Rattle.table_store.specs.Store.{table_at}
 use Rattle.table_store.specs.Rows.{moved_rows, row_at}
 use Rattle.table_store.proofs.Changes.{contains, rows_here, with_room, with_rows}
 use Rattle.table_store.proofs.RowCalls.{filled_is}

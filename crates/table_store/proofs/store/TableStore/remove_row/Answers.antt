@@ -1,5 +1,5 @@
 use Rattle.std.proofs.Common.{◌<◌, length, sym, ap, subst, ◌∙◌}
-use Rattle.ecs_table.specs.Archetype.{Archetype, IsSound, without_row}
+use Rattle.ecs_table.specs.Archetype.{Archetype, without_row}
 use Rattle.ecs_table.proofs.Soundness.{sound_without_row}
 use Rattle.ecs_table.proofs.Rows.{shape_of_removed}
 use Rattle.table_store.specs.Store.{table_at}
