@@ -1,11 +1,11 @@
 -- Tables that come, grow and go, with their entries in the component index.
-use Rattle.std.proofs.Common.{◌≡◌, ◌≢◌, ◌↔◌, ℕ, ◌<◌, ◌≤◌, Bool, true, false, cond, List, [], ◌∷◌, map, length, Option, Some, None, option_map, unwrap_or, refl, sym, ap, subst, ◌∙◌, ◌⊎◌, inl, inr, arith}
+use Rattle.std.proofs.Common.{◌≡◌, ◌≢◌, ◌↔◌, ℕ, ◌<◌, ◌≤◌, Bool, true, false, cond, List, [], ◌∷◌, map, length, Option, Some, None, option_map, unwrap_or, Result, Ok, Err, OnErr, OnOk, refl, sym, ap, subst, ◌∙◌, ◌⊎◌, inl, inr, arith}
 use Rattle.std.specs.Prelude.{max}
 use Rattle.std.proofs.lemmas.Grind.{common_steps}
 use Rattle.std.specs.Option.{IsNone, IsSome}
 use Rattle.std.specs.FinMap as finite
 use Rattle.std.specs.FinMap.{get-empty, get-remove}
-use Rattle.std.specs.List.{find}
+use Rattle.std.specs.List.{find, list_all}
 use Rattle.component_index.specs.Entered.{Entered, get-entered, get-entered_other, eq_by-table_cmp, table_cmp, table_cmp_total}
 use Rattle.ecs_id.specs.declared.Place.{Place}
 use Rattle.ecs_id.specs.declared.TableKey.{TableKey}
@@ -13,12 +13,15 @@ use Rattle.ecs_id.specs.Id.{Id}
 use Rattle.ecs_table.specs.Archetype.{Archetype, byte_size}
 use Rattle.ecs_model.proofs.Maps.{some_of}
 use Rattle.table_store.specs.Kept.{IsMade}
-use Rattle.table_store.specs.Rows.{row_at, rows_in}
+use Rattle.table_store.specs.Rows.{IsStored, row_at, rows_in}
 use Rattle.table_store.specs.Store.{Shape, Store, changed_at, ids_at, key_eq, made_at, released_at, room_at, shape_at, shape_of, shaped, table_at}
-use Rattle.ecs_archetypes.specs.Housing.{AreEntered}
+use Rattle.ecs_archetypes.specs.Archetypes.{known_in}
+use Rattle.ecs_archetypes.specs.Holdings.{KeepsSizes, Sizes}
+use Rattle.ecs_archetypes.specs.Housing.{AreEntered, HaveGrown}
 use Rattle.table_store.specs.Going.{TablesGoOn, goes_on_same, goes_on_then}
 use Rattle.ecs_archetypes.specs.Tables.{HasGrown, StandAlike}
 use Rattle.ecs_archetypes.proofs.Placings.{key_eq-tells}
+use Rattle.ecs_archetypes.proofs.KnownIds.{KeepsSizes-then, released_kept, same_kept}
 
 -- the ids of a table are those of its shape
 firsts : (g : Id → ℕ) (ids : List Id) → map {A = Id × ℕ} (λ c. c.0) (map (λ i. (i, g i)) ids) ≡ ids
@@ -132,6 +135,35 @@ module _ (s n : Store) (key : TableKey) (f : Shape) (made : (q : TableKey) → t
         by true d h = sym (ap (table_at s) (d refl) ∙ vacant)
         by false d h = h
 
+    pub entered_undone : (x : Entered) → AreEntered s x → AreEntered m x
+    entered_undone x are k = are k ∙ ap (option_map (λ t. t.ids)) (sym (undone k))
+
+-- a table that is found or made, and is entered then
+module _ (added : Sizes) (s n : Store) (key : TableKey) (f : Shape) (m : IsMade s f key n) (x : Entered) (are : AreEntered s x) (sizes : KeepsSizes (known_in s) added (known_in n)) where
+  grown_made : HasGrown s n
+  grown_made = grown_by s n (goes_on_made s n key f m.made m.newest m.last) (λ k t h. (t, made_stands s n key f m.made m.newest m.last k t h, refl, omega arith)) m.rows
+
+  -- one that was made before is entered
+  pub kept_known : key.serial ≤ s.last → IsStored n → HaveGrown added s n x
+  kept_known known whole = record {
+    grown = grown_made;
+    sizes = sizes;
+    entered = λ k. are k ∙ either (made_new s n key f m.made m.newest m.last k) (λ same. ap (option_map (λ t. t.ids)) (sym same)) (λ new. let later = new.2 in absurd (omega (arith, known, later)));
+    whole = whole;
+  }
+
+  pub kept_entered : (y : Entered) (ids : List Id) → y ≡ finite.insert x key ids → ids_at n key ≡ Some ids → IsStored n → HaveGrown added s n y
+  kept_entered y ids new own whole = record { grown = grown_made; sizes = sizes; entered = entered_made s n key f m.made m.newest m.last x y ids are new own; whole = whole }
+
+  -- one that can't be entered is released
+  pub kept_released : (t : Store) → ((q : TableKey) → table_at t q ≡ released_at n key q) → s.last < key.serial → t.last ≡ n.last → ((p : Place) → row_at t p ≡ row_at n p) → IsStored t → HaveGrown added s t x
+  kept_released t released new last rows whole = record {
+    grown = grown_back s t (undone s n key f m.made m.newest m.last t released new) (let grown = under_max s.last key.serial n.last m.last in omega (arith, grown, last)) (λ p. rows p ∙ m.rows p);
+    sizes = KeepsSizes-then (known_in s) added (known_in n) (known_in t) sizes (released_kept n t key whole.0 released);
+    entered = entered_undone s n key f m.made m.newest m.last t released new x are;
+    whole = whole;
+  }
+
 -- a table that is new has no rows
 pub made_empty : (s n : Store) (key : TableKey) (f : Shape) {last : ℕ} → s.last ≡ last → IsMade s f key n → last < key.serial → rows_in n key ≡ 0
 made_empty s n key f is m new =
@@ -139,6 +171,14 @@ made_empty s n key f is m new =
     ∙ by (table_at s key) (m.newest.1 (let e = is in omega (arith, e, new)))
   where
     by : (o : Option Archetype) → IsNone o → length (unwrap_or o (shaped f)).entities ≡ 0
+    by None h = refl
+    by (Some t) h = cc
+
+-- and isn't entered yet
+pub made_fresh : (s n : Store) (key : TableKey) (f : Shape) {last : ℕ} → s.last ≡ last → IsMade s f key n → (x : Entered) → AreEntered s x → last < key.serial → finite.get x key ≡ None
+made_fresh s n key f is m x are new = are key ∙ by (table_at s key) (m.newest.1 (let e = is in omega (arith, e, new)))
+  where
+    by : (o : Option Archetype) → IsNone o → option_map (λ t. t.ids) o ≡ None
     by None h = refl
     by (Some t) h = cc
 
@@ -176,6 +216,30 @@ module _ (s n : Store) (key : TableKey) (more : ℕ) (tables : (q : TableKey) �
 -- where the same tables stand, the same entries do
 pub entered_alike : (s n : Store) (x : Entered) → ((k : TableKey) → shape_at n k ≡ shape_at s k) → AreEntered s x → AreEntered n x
 entered_alike s n x same are k = are k ∙ sym (same_ids s n k (same k))
+
+-- room is made, or is refused
+pub kept_reserved : {T E : Type 0} (added : Sizes) (s m n : Store) (x : Entered) (key : TableKey) (more : ℕ) (r : Result T E) → OnOk r ((q : TableKey) → table_at n q ≡ changed_at m key (roomier more) q) → OnErr r (n ≡ m)
+    → ((k : TableKey) → shape_at n k ≡ shape_at m k) → n.last ≡ m.last → ((p : Place) → row_at n p ≡ row_at m p) → IsStored n → HaveGrown added s m x → HaveGrown added s n x
+kept_reserved added s m n x key more (Ok v) tables same shapes last rows whole kept = record {
+  grown = grown_then s m n kept.grown (grown_reserved m n key more tables shapes last rows);
+  sizes = KeepsSizes-then (known_in s) added (known_in m) (known_in n) kept.sizes (same_kept m n whole.0 shapes);
+  entered = entered_alike m n x shapes kept.entered;
+  whole = whole;
+}
+kept_reserved added s m n x key more (Err e) tables same shapes last rows whole kept = subst (λ z. HaveGrown added s z x) (sym same) kept
+
+pub room_wanted : {T E : Type 0} (m n : Store) (key : TableKey) (more least : ℕ) (r : Result T E) → OnOk r ((q : TableKey) → table_at n q ≡ changed_at m key (roomier more) q) → IsSome (table_at m key) → least ≤ more → OnOk r (least ≤ room_at n key)
+room_wanted m n key more least (Ok v) tables there enough = let room = room_reserved m n key more tables there in omega (arith, room, enough)
+room_wanted m n key more least (Err e) tables there enough = tt
+
+-- nothing has happened
+pub kept_same : (added : Sizes) (s n : Store) (x : Entered) → n ≡ s → AreEntered s x → IsStored n → HaveGrown added s n x
+kept_same added s n x same are whole = record {
+  grown = grown_same s n same;
+  sizes = λ test old new. subst (λ z. list_all test (known_in z) ≡ true) (sym same) old;
+  entered = subst (λ z. AreEntered z x) (sym same) are;
+  whole = whole;
+}
 
 no_table : (s : Store) → s.tables ≡ [] → (k : TableKey) → table_at s k ≡ None
 unfolding table_at

@@ -1,9 +1,10 @@
 pub mod Holdings
 pub mod Placings
 pub mod Archetypes
+pub mod Tables
 pub mod Housing
 pub mod Staying
-pub mod Tables
+pub mod Lasting
 pub mod Moves
 pub mod FactChanges
 pub mod Plans

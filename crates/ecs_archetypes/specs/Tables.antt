@@ -25,7 +25,3 @@ one_in k q = if key_eq q k then 1 else 0
 -- no table loses room, but the one under a key loses that of one row
 abbrev pub TakesRoom : TableKey → Store → Store → Type 0
 TakesRoom k s n = (q : TableKey) → room_at s q ≤ room_at n q + one_in k q
-
--- no table loses room
-abbrev pub LeavesRoom : Store → Store → Type 0
-LeavesRoom s n = (q : TableKey) → room_at s q ≤ room_at n q

@@ -1,19 +1,18 @@
 //! Entities that come: into a table that has room, or with all that this takes.
-ghost use Rattle.std.specs.Prelude.{◌≡◌, ◌<◌, ◌+◌, None, Some, IfOk, IsSome, OnErr, OnOk, IsTrue};
-ghost use Rattle.std.specs.Prelude.{nat_le};
+ghost use Rattle.std.specs.Prelude.{◌≡◌, ◌<◌, ◌+◌, None, Some, IfOk, IsSome, OnErr, OnOk, IsTrue, nat_le};
 ghost use Rattle.std.specs.List.{list_all};
 ghost use Rattle.ecs_id.specs.declared.TableKey.{TableKey};
 ghost use Rattle.ecs_id.specs.Id.{id_cmp};
 ghost use Rattle.ecs_model.specs.Map.{IsMap};
 ghost use Rattle.ecs_archetypes.specs.Archetypes.{known_in};
-ghost use Rattle.ecs_archetypes.specs.Holdings.{AreHoldings, HoldAlike, KeepsSizes, agrees, cells_at, lives, upcoming, with_cells, with_entity, zero_cells};
+ghost use Rattle.ecs_archetypes.specs.Holdings.{AreHoldings, HoldAlike, agrees, cells_at, lives, upcoming, with_cells, with_entity, zero_cells};
 ghost use Rattle.ecs_archetypes.specs.Housing.{IsHoused, holdings_of};
+ghost use Rattle.ecs_archetypes.specs.Lasting.{TablesLast};
 ghost use Rattle.ecs_archetypes.specs.Tables.{StandAlike};
-ghost use Rattle.ecs_archetypes.specs.Staying.{TablesStay, none_goes};
-ghost use Rattle.table_store.specs.Going.{TablesGoOn};
 ghost use Rattle.table_store.specs.Store.{Shape, room_at, shape_at};
 
 use crate::Archetypes;
+use crate::plans::OneRow;
 use crate::rows::enter;
 use crate::tables::table_for;
 use ecs_id::{EntityId, TableKey};
@@ -31,13 +30,9 @@ impl<A: Allocator + Copy> Archetypes<A> {
         requires agree { IsTrue (list_all (λ c. agrees (known_in self.old.tables) c.0 c.1) ids.now) }
         ensures settled { OnOk result (HoldAlike (holdings_of self.new) (with_cells (holdings_of self.old) entity.index (zero_cells ids.now))) }
         ensures refused { OnErr result (HoldAlike (holdings_of self.new) (holdings_of self.old)) }
-        ensures sizes { KeepsSizes (known_in self.old.tables) ids.now (known_in self.new.tables) }
-        ensures goes_on { TablesGoOn self.old.tables self.new.tables }
-        ensures stay { TablesStay none_goes self.old.tables self.new.tables }
-        ensures holdings { AreHoldings (holdings_of self.new) }
-        ensures whole { IsHoused self.new }
+        ensures kept { TablesLast ids.now self.old self.new }
     {
-        let key = table_for(&mut self.tables, &mut self.components, ids, 1)?;
+        let key = table_for(&mut self.tables, &mut self.components, ids, &OneRow)?;
         enter(&mut self.entities, &mut self.tables, entity, key);
         Ok(())
     }
@@ -51,13 +46,9 @@ impl<A: Allocator + Copy> Archetypes<A> {
         ensures next { IfOk result (λ e. upcoming (holdings_of self.old) ≡ Some e) }
         ensures born { IfOk result (λ e. HoldAlike (holdings_of self.new) (with_cells (with_entity (holdings_of self.old) e) e.index (zero_cells ids.now))) }
         ensures refused { OnErr result (HoldAlike (holdings_of self.new) (holdings_of self.old)) }
-        ensures sizes { KeepsSizes (known_in self.old.tables) ids.now (known_in self.new.tables) }
-        ensures goes_on { TablesGoOn self.old.tables self.new.tables }
-        ensures stay { TablesStay none_goes self.old.tables self.new.tables }
-        ensures holdings { AreHoldings (holdings_of self.new) }
-        ensures whole { IsHoused self.new }
+        ensures kept { TablesLast ids.now self.old self.new }
     {
-        let key = self.prepare(ids, 1)?;
+        let key = self.prepare(ids, &OneRow)?;
         let entity = self.create_in(key)?;
         Ok(entity)
     }

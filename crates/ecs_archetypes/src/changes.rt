@@ -1,60 +1,36 @@
 //! Moves of several entities: all growth first, then writes that can't fail.
-ghost use Rattle.std.specs.Prelude.{◌≡◌, ◌<◌, ◌≤◌, ◌+◌, Some, IfOk, IsTrue};
-ghost use Rattle.std.specs.Prelude.{nat_le};
+ghost use Rattle.std.specs.Prelude.{◌≡◌, ◌<◌, ◌≤◌, ◌+◌, Some, IfOk, IsTrue, nat_le};
 ghost use Rattle.std.specs.List.{list_all};
 ghost use Rattle.ecs_id.specs.Id.{id_cmp};
 ghost use Rattle.ecs_model.specs.Map.{IsMap};
 ghost use Rattle.ecs_archetypes.specs.Archetypes.{known_in};
-ghost use Rattle.ecs_archetypes.specs.Holdings.{AreHoldings, HoldAlike, KeepsSizes, agrees, is_settled};
-ghost use Rattle.ecs_archetypes.specs.Housing.{IsHoused, holdings_of};
-ghost use Rattle.ecs_archetypes.specs.Moves.{AreReady, moves_to, with_all_moved, with_moved};
-ghost use Rattle.ecs_archetypes.specs.Tables.{HasGrown, StandAlike, TakesRoom};
+ghost use Rattle.ecs_archetypes.specs.Holdings.{AreHoldings, HoldAlike, agrees, is_settled};
+ghost use Rattle.ecs_archetypes.specs.Housing.{HasRoomMade, IsHoused, holdings_of};
+ghost use Rattle.ecs_archetypes.specs.Moves.{AreReady, with_all_moved, with_moved};
+ghost use Rattle.ecs_archetypes.specs.Tables.{StandAlike, TakesRoom};
 ghost use Rattle.table_store.specs.Store.{Shape, room_at, shape_at};
 
 use crate::Archetypes;
-use crate::plans::{Move, Plan};
+use crate::plans::{Move, Plan, Room};
 use crate::rows::carry;
-use crate::tables::{table_beside, table_for};
+use crate::tables::table_for;
 use ecs_id::{EntityId, TableKey};
 use raw_column::Memory;
 use std::alloc::Allocator;
 use table_store::SizedId;
 
 impl<A: Allocator + Copy> Archetypes<A> {
-    // The table of these ids, with room for so many more rows. Other tables keep their room.
-    pub(crate) fn prepare(&mut self, ids: &[SizedId], rows: usize) -> Result<TableKey, Memory>
+    // The table of these ids, with room for so many rows. Other tables keep their room.
+    pub(crate) fn prepare<R: Room>(&mut self, ids: &[SizedId], room: &R) -> Result<TableKey, Memory>
         requires ascend { IsMap id_cmp ids.now }
         requires small { IsTrue (list_all (λ c. nat_le c.1 64) ids.now) }
         requires agree { IsTrue (list_all (λ c. agrees (known_in self.old.tables) c.0 c.1) ids.now) }
         ensures shape { IfOk result (λ key. shape_at self.new.tables key ≡ Some ids.now) }
-        ensures room { IfOk result (λ key. rows ≤ room_at self.new.tables key) }
+        ensures room { IfOk result (λ key. R.wanted room.now key ≤ room_at self.new.tables key) }
         ensures entities { self.new.entities ≡ self.old.entities }
-        ensures grown { HasGrown self.old.tables self.new.tables }
-        ensures held { HoldAlike (holdings_of self.new) (holdings_of self.old) }
-        ensures sizes { KeepsSizes (known_in self.old.tables) ids.now (known_in self.new.tables) }
-        ensures whole { IsHoused self.new }
+        ensures kept { HasRoomMade ids.now self.old self.new }
     {
-        table_for(&mut self.tables, &mut self.components, ids, rows)
-    }
-
-    // The table of these ids, with room for the planned moves to it and for a row more. Other tables keep their room.
-    pub(crate) fn prepare_beside(
-        &mut self,
-        ids: &[SizedId],
-        plan: &Plan<A>,
-    ) -> Result<TableKey, Memory>
-        requires ascend { IsMap id_cmp ids.now }
-        requires small { IsTrue (list_all (λ c. nat_le c.1 64) ids.now) }
-        requires agree { IsTrue (list_all (λ c. agrees (known_in self.old.tables) c.0 c.1) ids.now) }
-        ensures shape { IfOk result (λ key. shape_at self.new.tables key ≡ Some ids.now) }
-        ensures room { IfOk result (λ key. moves_to key plan.now + 1 ≤ room_at self.new.tables key) }
-        ensures entities { self.new.entities ≡ self.old.entities }
-        ensures grown { HasGrown self.old.tables self.new.tables }
-        ensures held { HoldAlike (holdings_of self.new) (holdings_of self.old) }
-        ensures sizes { KeepsSizes (known_in self.old.tables) ids.now (known_in self.new.tables) }
-        ensures whole { IsHoused self.new }
-    {
-        table_beside(&mut self.tables, &mut self.components, ids, plan)
+        table_for(&mut self.tables, &mut self.components, ids, room)
     }
 
     // Moves an entity to a table that has room. It keeps the values of the ids there, and the others are zeros.

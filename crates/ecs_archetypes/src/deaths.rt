@@ -1,5 +1,5 @@
 //! Entities and tables that go, and memory that is given back.
-ghost use Rattle.std.specs.Prelude.{◌≡◌, not, false, IsTrue};
+ghost use Rattle.std.specs.Prelude.{◌≡◌, false, IsTrue};
 ghost use Rattle.std.specs.List.{list_any};
 ghost use Rattle.component_index.specs.Patterns.{matches};
 ghost use Rattle.ecs_id.specs.declared.TableKey.{TableKey};

@@ -1,6 +1,5 @@
 //! Facts that come and go of several entities at once.
-ghost use Rattle.std.specs.Prelude.{◌≡◌, ◌≤◌, ◌+◌, ◌++◌, ◌∷◌, not, [], Some, IfOk, IsSome, OnErr, OnOk, IsTrue, is_some};
-ghost use Rattle.std.specs.Prelude.{nat_le};
+ghost use Rattle.std.specs.Prelude.{◌≡◌, ◌≤◌, ◌+◌, ◌++◌, ◌∷◌, not, [], Some, IfOk, IsSome, OnErr, OnOk, IsTrue, is_some, nat_le};
 ghost use Rattle.std.specs.List.{list_all};
 ghost use Rattle.std.specs.List.Sorted.{IsStrictlySortedBy};
 ghost use Rattle.ecs_id.specs.Id.{id_cmp};
@@ -9,18 +8,17 @@ ghost use Rattle.ecs_model.specs.Map.{IsMap, keys};
 ghost use Rattle.ecs_model.specs.World.{key_cmp};
 ghost use Rattle.ecs_archetypes.specs.Archetypes.{known_in};
 ghost use Rattle.ecs_archetypes.specs.FactChanges.{changed_shape, ids_among, ids_coming, is_among, with_facts_changed};
-ghost use Rattle.ecs_archetypes.specs.Holdings.{AreHoldings, HoldAlike, KeepsSizes, agrees, cells_at, held_at, holds_id, is_settled};
-ghost use Rattle.ecs_archetypes.specs.Housing.{IsHoused, holdings_of};
+ghost use Rattle.ecs_archetypes.specs.Holdings.{HoldAlike, KeepsSizes, agrees, cells_at, held_at, holds_id, is_settled};
+ghost use Rattle.ecs_archetypes.specs.Housing.{HasRoomMade, IsHoused, holdings_of};
+ghost use Rattle.ecs_archetypes.specs.Lasting.{TablesLast};
 ghost use Rattle.ecs_archetypes.specs.Moves.{AreReady, IsPlanned, are_deletable, moves_to, with_all_moved, without_each};
 ghost use Rattle.ecs_archetypes.specs.Tables.{HasGrown};
-ghost use Rattle.ecs_archetypes.specs.Staying.{TablesStay, none_goes};
-ghost use Rattle.table_store.specs.Going.{TablesGoOn};
 ghost use Rattle.table_store.specs.Rows.{shape_of_cells};
 ghost use Rattle.table_store.specs.Store.{Shape, room_at, shape_at, table_at, with_id, without_id};
 
 use crate::fact_plan::{FactPlan, SizedFact, count_coming, count_going, first_entity, merge_ids};
 use crate::plans::{Move, Plan};
-use crate::tables::{narrower_beside, wider_beside};
+use crate::tables::{narrower, wider};
 use crate::{Archetypes, Memory};
 use ecs_id::{EntityId, Id, TableKey};
 use ecs_model::FactKey;
@@ -47,11 +45,7 @@ impl<A: Allocator + Copy> Archetypes<A> {
         requires dead { IsTrue (are_deletable (holdings_of self.old) dead.now) }
         ensures changed { OnOk result (HoldAlike (holdings_of self.new) (without_each dead.now (with_facts_changed came.now went.now (holdings_of self.old)))) }
         ensures refused { OnErr result (HoldAlike (holdings_of self.new) (holdings_of self.old)) }
-        ensures sizes { KeepsSizes (known_in self.old.tables) (ids_coming came.now) (known_in self.new.tables) }
-        ensures goes_on { TablesGoOn self.old.tables self.new.tables }
-        ensures stay { TablesStay none_goes self.old.tables self.new.tables }
-        ensures holdings { AreHoldings (holdings_of self.new) }
-        ensures whole { IsHoused self.new }
+        ensures kept { TablesLast (ids_coming came.now) self.old self.new }
     {
         self.move_facts(plan, came, went)?;
         self.delete_each(dead);
@@ -73,10 +67,7 @@ impl<A: Allocator + Copy> Archetypes<A> {
         requires agree { IsTrue (list_all (λ c. agrees (known_in self.old.tables ++ ids_coming came.now) c.0 c.1) (ids_coming came.now)) }
         ensures changed { OnOk result (HoldAlike (holdings_of self.new) (with_facts_changed came.now went.now (holdings_of self.old))) }
         ensures refused { OnErr result (HoldAlike (holdings_of self.new) (holdings_of self.old)) }
-        ensures sizes { KeepsSizes (known_in self.old.tables) (ids_coming came.now) (known_in self.new.tables) }
-        ensures goes_on { TablesGoOn self.old.tables self.new.tables }
-        ensures stay { TablesStay none_goes self.old.tables self.new.tables }
-        ensures whole { IsHoused self.new }
+        ensures kept { TablesLast (ids_coming came.now) self.old self.new }
     {
         if came.is_empty() && went.is_empty() {
             let _ = &self.entities;
@@ -102,10 +93,7 @@ impl<A: Allocator + Copy> Archetypes<A> {
         requires agree { IsTrue (list_all (λ c. agrees (known_in self.old.tables ++ ids_coming came.now) c.0 c.1) (ids_coming came.now)) }
         ensures planned { OnOk result (with_all_moved self.new.tables plan.new.moves (holdings_of self.old) ≡ with_facts_changed came.now went.now (holdings_of self.old)) }
         ensures ready { OnOk result (AreReady self.new plan.new.moves) }
-        ensures grown { HasGrown self.old.tables self.new.tables }
-        ensures held { HoldAlike (holdings_of self.new) (holdings_of self.old) }
-        ensures sizes { KeepsSizes (known_in self.old.tables) (ids_coming came.now) (known_in self.new.tables) }
-        ensures whole { IsHoused self.new }
+        ensures kept { HasRoomMade (ids_coming came.now) self.old self.new }
     {
         let _ = &self.entities;
         plan.moves.clear();
@@ -137,17 +125,12 @@ impl<A: Allocator + Copy> Archetypes<A> {
         requires agree { IsTrue (list_all (λ c. agrees (known_in self.old.tables) c.0 c.1) (ids_coming came.now)) }
         ensures planned { OnOk result ((e : EntityId) × (e.index ≡ index) × IsPlanned self.new.tables plan.old.moves e (changed_shape (ids_coming came.now) (is_among (ids_among went.now)) (shape_of_cells (held_at (holdings_of self.old) index))) plan.new.moves) }
         ensures ready { OnOk result (AreReady self.new plan.new.moves) }
-        ensures grown { HasGrown self.old.tables self.new.tables }
-        ensures held { HoldAlike (holdings_of self.new) (holdings_of self.old) }
-        ensures sizes { KeepsSizes (known_in self.old.tables) (ids_coming came.now) (known_in self.new.tables) }
-        ensures whole { IsHoused self.new }
+        ensures kept { HasRoomMade (ids_coming came.now) self.old self.new }
     {
         let entity = self.entities.at(index).unwrap();
         let from = self.entities.place(entity).unwrap().table;
         let to = self.table_after(plan, entity, from, came, went)?;
-        let Ok(()) = plan.moves.push(Move { entity, from, to }) else {
-            return Err(Memory);
-        };
+        plan.moves.push(Move { entity, from, to })?;
         Ok(())
     }
 
@@ -186,7 +169,7 @@ impl<A: Allocator + Copy> Archetypes<A> {
         }
         let facts = self.facts(entity).unwrap();
         merge_ids(&mut plan.ids, &facts, came, went)?;
-        self.prepare_beside(plan.ids.as_slice(), &plan.moves)
+        self.prepare(plan.ids.as_slice(), &plan.moves)
     }
 
     // The table with one id more than this one, with room for the planned moves to it and for a row more.
@@ -203,12 +186,9 @@ impl<A: Allocator + Copy> Archetypes<A> {
         ensures shape { (f : Shape) → shape_at self.old.tables from ≡ Some f → IfOk result (λ to. shape_at self.new.tables to ≡ Some (with_id f id size)) }
         ensures room { IfOk result (λ to. moves_to to plan.now + 1 ≤ room_at self.new.tables to) }
         ensures entities { self.new.entities ≡ self.old.entities }
-        ensures grown { HasGrown self.old.tables self.new.tables }
-        ensures held { HoldAlike (holdings_of self.new) (holdings_of self.old) }
-        ensures sizes { KeepsSizes (known_in self.old.tables) ((id, size) ∷ []) (known_in self.new.tables) }
-        ensures whole { IsHoused self.new }
+        ensures kept { HasRoomMade ((id, size) ∷ []) self.old self.new }
     {
-        wider_beside(&mut self.tables, &mut self.components, from, id, size, plan)
+        wider(&mut self.tables, &mut self.components, from, id, size, plan)
     }
 
     // The table with one id less than this one, with room for the planned moves to it and for a row more.
@@ -222,11 +202,8 @@ impl<A: Allocator + Copy> Archetypes<A> {
         ensures shape { (f : Shape) → shape_at self.old.tables from ≡ Some f → IfOk result (λ to. shape_at self.new.tables to ≡ Some (without_id f id)) }
         ensures room { IfOk result (λ to. moves_to to plan.now + 1 ≤ room_at self.new.tables to) }
         ensures entities { self.new.entities ≡ self.old.entities }
-        ensures grown { HasGrown self.old.tables self.new.tables }
-        ensures held { HoldAlike (holdings_of self.new) (holdings_of self.old) }
-        ensures sizes { KeepsSizes (known_in self.old.tables) [] (known_in self.new.tables) }
-        ensures whole { IsHoused self.new }
+        ensures kept { HasRoomMade [] self.old self.new }
     {
-        narrower_beside(&mut self.tables, &mut self.components, from, id, plan)
+        narrower(&mut self.tables, &mut self.components, from, id, plan)
     }
 }

@@ -93,22 +93,16 @@ pub fn first_entity(came: &[SizedFact], went: &[FactKey]) -> Option<u32>
 pub fn count_coming(came: &[SizedFact], entity: u32) -> usize
     ensures { result ≡ prefix_len (λ c. c.0.0 == entity) came.now }
 {
-    let mut count = 0;
-    while count < came.len() && came[count].key().entity() == entity {
-        count += 1;
-    }
-    count
+    came.iter()
+        .take_while(|fact| fact.key().entity() == entity)
+        .count()
 }
 
 /// How many facts of an entity go first.
 pub fn count_going(went: &[FactKey], entity: u32) -> usize
     ensures { result ≡ prefix_len (λ k. k.0 == entity) went.now }
 {
-    let mut count = 0;
-    while count < went.len() && went[count].entity() == entity {
-        count += 1;
-    }
-    count
+    went.iter().take_while(|key| key.entity() == entity).count()
 }
 
 /// Puts the ids of an entity into a list, without those that go and with those that come. All lists ascend, and no id comes that is held.

@@ -4,18 +4,18 @@ ghost use Rattle.ecs_id.specs.Id.{id_cmp, id_eq};
 ghost use Rattle.ecs_model.specs.Map.{with_value, without};
 ghost use Rattle.entity_index.specs.Entities.{place_of};
 ghost use Rattle.ecs_archetypes.specs.Archetypes.{known_in};
-ghost use Rattle.ecs_archetypes.specs.Holdings.{AreHoldings, HoldAlike, KeepsSizes, agrees, held_at, holds_id, is_settled, with_cells, with_each_written};
+ghost use Rattle.ecs_archetypes.specs.Holdings.{HoldAlike, agrees, held_at, holds_id, is_settled, with_cells, with_each_written};
 ghost use Rattle.ecs_archetypes.specs.Housing.{IsHoused, holdings_of};
+ghost use Rattle.ecs_archetypes.specs.Lasting.{TablesLast};
 ghost use Rattle.ecs_archetypes.specs.Moves.{with_moved};
 ghost use Rattle.ecs_archetypes.specs.Tables.{StandAlike};
 ghost use Rattle.ecs_table.specs.Archetype.{Archetype};
-ghost use Rattle.ecs_archetypes.specs.Staying.{TablesStay, none_goes};
-ghost use Rattle.table_store.specs.Going.{TablesGoOn};
 ghost use Rattle.table_store.specs.Rows.{AreValues};
 ghost use Rattle.table_store.specs.Store.{Shape, room_at, shape_at, size_in, table_at};
 
 use crate::Archetypes;
 use crate::fact_plan::{FactPlan, SizedFact};
+use crate::plans::OneRow;
 use crate::rows::carry_alone;
 use crate::tables::{narrower, wider};
 use ecs_id::{EntityId, Id, Place, TableKey};
@@ -48,11 +48,7 @@ impl<A: Allocator + Copy> Archetypes<A> {
         ensures placed { IfOk result (λ now. place_of self.new.entities entity ≡ Some now) }
         ensures added { OnOk result (HoldAlike (holdings_of self.new) (with_cells (holdings_of self.old) entity.index (with_value id_cmp (held_at (holdings_of self.old) entity.index) id (replicate size 0)))) }
         ensures refused { OnErr result (HoldAlike (holdings_of self.new) (holdings_of self.old)) }
-        ensures sizes { KeepsSizes (known_in self.old.tables) ((id, size) ∷ []) (known_in self.new.tables) }
-        ensures goes_on { TablesGoOn self.old.tables self.new.tables }
-        ensures stay { TablesStay none_goes self.old.tables self.new.tables }
-        ensures holdings { AreHoldings (holdings_of self.new) }
-        ensures whole { IsHoused self.new }
+        ensures kept { TablesLast ((id, size) ∷ []) self.old self.new }
     {
         let to = wider(
             &mut self.tables,
@@ -60,6 +56,7 @@ impl<A: Allocator + Copy> Archetypes<A> {
             place.table,
             id,
             size,
+            &OneRow,
         )?;
         let now = carry_alone(&mut self.entities, &mut self.tables, entity, place, to);
         Ok(now)
@@ -81,11 +78,7 @@ impl<A: Allocator + Copy> Archetypes<A> {
         requires agree { IsTrue (agrees (known_in self.old.tables) id (length bytes.now)) }
         ensures put { OnOk result (HoldAlike (holdings_of self.new) (with_cells (holdings_of self.old) entity.index (with_value id_cmp (held_at (holdings_of self.old) entity.index) id bytes.now))) }
         ensures refused { OnErr result (HoldAlike (holdings_of self.new) (holdings_of self.old)) }
-        ensures sizes { KeepsSizes (known_in self.old.tables) ((id, length bytes.now) ∷ []) (known_in self.new.tables) }
-        ensures goes_on { TablesGoOn self.old.tables self.new.tables }
-        ensures stay { TablesStay none_goes self.old.tables self.new.tables }
-        ensures holdings { AreHoldings (holdings_of self.new) }
-        ensures whole { IsHoused self.new }
+        ensures kept { TablesLast ((id, length bytes.now) ∷ []) self.old self.new }
     {
         if found.is_held {
             self.set_value(entity, found.place, id, bytes);
@@ -102,13 +95,15 @@ impl<A: Allocator + Copy> Archetypes<A> {
         requires held { holds_id (holdings_of self.old) entity.index id ≡ true }
         ensures removed { OnOk result (HoldAlike (holdings_of self.new) (with_cells (holdings_of self.old) entity.index (without id_cmp (held_at (holdings_of self.old) entity.index) (λ i. id_eq i id)))) }
         ensures refused { OnErr result (HoldAlike (holdings_of self.new) (holdings_of self.old)) }
-        ensures sizes { KeepsSizes (known_in self.old.tables) [] (known_in self.new.tables) }
-        ensures goes_on { TablesGoOn self.old.tables self.new.tables }
-        ensures stay { TablesStay none_goes self.old.tables self.new.tables }
-        ensures holdings { AreHoldings (holdings_of self.new) }
-        ensures whole { IsHoused self.new }
+        ensures kept { TablesLast [] self.old self.new }
     {
-        let to = narrower(&mut self.tables, &mut self.components, place.table, id)?;
+        let to = narrower(
+            &mut self.tables,
+            &mut self.components,
+            place.table,
+            id,
+            &OneRow,
+        )?;
         carry_alone(&mut self.entities, &mut self.tables, entity, place, to);
         Ok(())
     }
@@ -131,11 +126,7 @@ impl<A: Allocator + Copy> Archetypes<A> {
         ensures placed { IfOk result (λ now. place_of self.new.entities entity ≡ Some now) }
         ensures replaced { OnOk result (HoldAlike (holdings_of self.new) (with_cells (holdings_of self.old) entity.index (with_value id_cmp (without id_cmp (held_at (holdings_of self.old) entity.index) (λ i. id_eq i old)) id (replicate size 0)))) }
         ensures refused { OnErr result (HoldAlike (holdings_of self.new) (holdings_of self.old)) }
-        ensures sizes { KeepsSizes (known_in self.old.tables) ((id, size) ∷ []) (known_in self.new.tables) }
-        ensures goes_on { TablesGoOn self.old.tables self.new.tables }
-        ensures stay { TablesStay none_goes self.old.tables self.new.tables }
-        ensures holdings { AreHoldings (holdings_of self.new) }
-        ensures whole { IsHoused self.new }
+        ensures kept { TablesLast ((id, size) ∷ []) self.old self.new }
     {
         let _ = &self.entities;
         let came = [SizedFact::new(FactKey::new(entity.index, id), size)];
@@ -168,12 +159,8 @@ impl<A: Allocator> Archetypes<A> {
         requires size { IsTrue (agrees (known_in self.old.tables) id (length bytes.now)) }
         ensures written { HoldAlike (holdings_of self.new) (with_cells (holdings_of self.old) entity.index (with_value id_cmp (held_at (holdings_of self.old) entity.index) id bytes.now)) }
         ensures entities { self.new.entities ≡ self.old.entities }
-        ensures sizes { KeepsSizes (known_in self.old.tables) [] (known_in self.new.tables) }
         ensures alike { StandAlike self.old.tables self.new.tables }
-        ensures goes_on { TablesGoOn self.old.tables self.new.tables }
-        ensures stay { TablesStay none_goes self.old.tables self.new.tables }
-        ensures holdings { AreHoldings (holdings_of self.new) }
-        ensures whole { IsHoused self.new }
+        ensures kept { TablesLast [] self.old self.new }
     {
         let _ = entity;
         self.tables.set_value(place.table, place.row, id, bytes);
@@ -184,12 +171,8 @@ impl<A: Allocator> Archetypes<A> {
         requires { AreValues self.old.tables key id bytes.now }
         ensures written { (t : Archetype) (n : ℕ) → table_at self.old.tables key ≡ Some t → size_in self.old.tables key id ≡ Some n → HoldAlike (holdings_of self.new) (with_each_written id n t.entities bytes.now (holdings_of self.old)) }
         ensures entities { self.new.entities ≡ self.old.entities }
-        ensures sizes { KeepsSizes (known_in self.old.tables) [] (known_in self.new.tables) }
         ensures alike { StandAlike self.old.tables self.new.tables }
-        ensures goes_on { TablesGoOn self.old.tables self.new.tables }
-        ensures stay { TablesStay none_goes self.old.tables self.new.tables }
-        ensures holdings { AreHoldings (holdings_of self.new) }
-        ensures whole { IsHoused self.new }
+        ensures kept { TablesLast [] self.old self.new }
     {
         self.tables.set_column(key, id, bytes);
     }

@@ -93,3 +93,35 @@ impl<A: Allocator> Plan<A> {
         }
     }
 }
+
+/// How many rows a table is to have room for.
+pub trait Room {
+    ghost use Rattle.std.specs.Prelude.{ℕ};
+    ghost use Rattle.ecs_id.specs.declared.TableKey.{TableKey as Key};
+
+    ghost wanted: { Self → Key → ℕ };
+
+    fn rows(&self, key: TableKey) -> usize
+        ensures { wanted self.now key ≤ result };
+}
+
+/// Room for one row.
+#[derive(Clone, Copy)]
+pub struct OneRow;
+
+impl Room for OneRow {
+    ghost wanted = { λ o q. 1 };
+
+    fn rows(&self, _key: TableKey) -> usize {
+        1
+    }
+}
+
+/// Room for the moves to the table that are planned, and for a row more.
+impl<A: Allocator> Room for Plan<A> {
+    ghost wanted = { λ p q. moves_to q p + 1 };
+
+    fn rows(&self, key: TableKey) -> usize {
+        self.rows_with_one_more(key)
+    }
+}

@@ -6,7 +6,7 @@ ghost use Rattle.ecs_model.specs.Map.{value_at};
 ghost use Rattle.entity_index.specs.Entities.{is_alive, is_deletable, place_of};
 ghost use Rattle.ecs_archetypes.specs.Archetypes.{IsSound, meaning};
 ghost use Rattle.ecs_archetypes.specs.Holdings.{HoldAlike, held_at, with_cells, without_entity, zero_cells};
-ghost use Rattle.ecs_archetypes.specs.Tables.{LeavesRoom, StandAlike, TakesRoom};
+ghost use Rattle.ecs_archetypes.specs.Tables.{StandAlike, TakesRoom};
 ghost use Rattle.table_store.specs.Rows.{carried, cells_of};
 ghost use Rattle.table_store.specs.Store.{Shape, room_at, shape_at};
 
@@ -99,7 +99,6 @@ pub fn leave<A: Allocator>(
     ensures sound { IsSound entities.new tables.new }
     ensures held { HoldAlike (meaning entities.new tables.new) (without_entity (meaning entities.old tables.old) entity.index) }
     ensures alike { StandAlike tables.old tables.new }
-    ensures room { LeavesRoom tables.old tables.new }
 {
     entities.delete(entity);
     let filled = tables.remove_row(place.table, place.row);

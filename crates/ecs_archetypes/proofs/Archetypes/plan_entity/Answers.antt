@@ -34,6 +34,15 @@ returns-clause-ready g c =
     let stands = stands_as c.self.inside.entities c.self.inside.tables c.self.invariant.sound (holdings_of c.args.self.now) (ap holdings_of c.self.view_is) c.args.index c.requires.settled
     c.unwrap-entity.result (sym c.at.ensures ∙ c.unwrap-entity.ensures) in
     let one : Move = record { entity = c.unwrap-entity.result; from = c.unwrap.result.table; to = c.in_ok-to.to } in
-    subst (AreReady c.table_after.new.self) (sym (c.in-Ok.ensures.pushed ∙ ap (λ ms. ms ++ one ∷ []) c.table_after.ensures.moves))
+    subst (AreReady c.table_after.new.self) (sym (c.in_ok-push.ensures.pushed ∙ ap (λ ms. ms ++ one ∷ []) c.table_after.ensures.moves))
     (ready_more c.args.self.now c.table_after.new.self c.args.plan.now.moves one c.requires.ready stands.settled c.table_after.ensures.held c.table_after.ensures.grown
     (subst (λ ms. moves_to c.in_ok-to.to ms + 1 ≤ room_at c.table_after.new.self.tables c.in_ok-to.to) c.table_after.ensures.moves c.in_ok-to.ensures.room))
+
+pub returns-in_err-to-clause-kept : goal.returns-in_err-to-clause-kept
+returns-in_err-to-clause-kept g c = record { grown = c.table_after.ensures.grown; held = c.table_after.ensures.held; sizes = c.table_after.ensures.sizes; whole = c.table_after.ensures.whole }
+
+pub returns-in_err-push-clause-kept : goal.returns-in_err-push-clause-kept
+returns-in_err-push-clause-kept g c = record { grown = c.table_after.ensures.grown; held = c.table_after.ensures.held; sizes = c.table_after.ensures.sizes; whole = c.table_after.ensures.whole }
+
+pub returns-clause-kept : goal.returns-clause-kept
+returns-clause-kept g c = record { grown = c.table_after.ensures.grown; held = c.table_after.ensures.held; sizes = c.table_after.ensures.sizes; whole = c.table_after.ensures.whole }

@@ -2,7 +2,9 @@
 use Rattle.std.proofs.Common.{◌≤◌, ◌==◌, ◌∙◌, length, subst, sym}
 use Rattle.ecs_archetypes.specs.Housing.{IsHoused}
 use Rattle.ecs_archetypes.proofs.FactPlanning.{facts_planned, facts_planned_more, facts_planned_none, front_agrees, front_among, front_rises, front_small, front_unheld, these_rise}
+use Rattle.ecs_archetypes.proofs.EnteredTables.{grown_then}
 use Rattle.ecs_archetypes.proofs.FactSections.{prefix_within}
+use Rattle.ecs_archetypes.proofs.TableMoves.{alike_then}
 use Rattle.ecs_archetypes.proofs.Archetypes.plan_facts.Goals as goal
 
 pub loop-entity-init : goal.loop-entity-init
@@ -40,16 +42,24 @@ plan_entity-requires-clause-agree g c = front_agrees c.args.self.now c.loop-enti
     c.count_coming.result c.count_going.result c.split_at.result.0.now c.split_at.result.1.now c.split_at-in-Some.result.0.now c.split_at-in-Some.result.1.now c.count_coming.ensures c.count_going.ensures
     c.split_at.ensures.front c.split_at.ensures.back c.split_at-in-Some.ensures.front c.split_at-in-Some.ensures.back
 
-pub returns-in_err-plan_entity-clause-sizes : goal.returns-in_err-plan_entity-clause-sizes
-returns-in_err-plan_entity-clause-sizes g c = λ test old new. c.plan_entity.ensures.sizes test (c.loop-entity.invariant.sizes test old new) (front_among c.args.self.now c.loop-entity.self c.args.came.now c.args.went.now c.loop-entity.plan.moves c.loop-entity.came.now c.loop-entity.went.now c.loop-entity.invariant c.in-Some.entity (sym c.first_entity.ensures ∙ c.in-Some.is)
-    c.count_coming.result c.count_going.result c.split_at.result.0.now c.split_at.result.1.now c.split_at-in-Some.result.0.now c.split_at-in-Some.result.1.now c.count_coming.ensures c.count_going.ensures
-    c.split_at.ensures.front c.split_at.ensures.back c.split_at-in-Some.ensures.front c.split_at-in-Some.ensures.back test new)
+pub returns-in_err-plan_entity-clause-kept : goal.returns-in_err-plan_entity-clause-kept
+returns-in_err-plan_entity-clause-kept g c = record {
+  grown = grown_then c.args.self.now.tables c.loop-entity.self.tables c.plan_entity.new.self.tables c.loop-entity.invariant.grown c.plan_entity.ensures.kept.grown;
+  held = alike_then _ _ _ c.plan_entity.ensures.kept.held c.loop-entity.invariant.held;
+  sizes = λ test old new. c.plan_entity.ensures.kept.sizes test (c.loop-entity.invariant.sizes test old new) (front_among c.args.self.now c.loop-entity.self c.args.came.now c.args.went.now c.loop-entity.plan.moves c.loop-entity.came.now c.loop-entity.went.now c.loop-entity.invariant c.in-Some.entity (sym c.first_entity.ensures ∙ c.in-Some.is)
+      c.count_coming.result c.count_going.result c.split_at.result.0.now c.split_at.result.1.now c.split_at-in-Some.result.0.now c.split_at-in-Some.result.1.now c.count_coming.ensures c.count_going.ensures
+      c.split_at.ensures.front c.split_at.ensures.back c.split_at-in-Some.ensures.front c.split_at-in-Some.ensures.back test new);
+  whole = c.plan_entity.ensures.kept.whole;
+}
 
 pub loop-entity-preserved : goal.loop-entity-preserved
 loop-entity-preserved g c = facts_planned_more c.args.self.now c.loop-entity.self c.args.came.now c.args.went.now c.loop-entity.plan.moves c.loop-entity.came.now c.loop-entity.went.now c.loop-entity.invariant c.in-Some.entity (sym c.first_entity.ensures ∙ c.in-Some.is)
     c.count_coming.result c.count_going.result c.split_at.result.0.now c.split_at.result.1.now c.split_at-in-Some.result.0.now c.split_at-in-Some.result.1.now c.count_coming.ensures c.count_going.ensures
     c.split_at.ensures.front c.split_at.ensures.back c.split_at-in-Some.ensures.front c.split_at-in-Some.ensures.back
-    c.plan_entity.new.self c.plan_entity.new.plan.moves c.in_ok-plan_entity.ensures.planned c.in_ok-plan_entity.ensures.ready c.plan_entity.ensures.held c.plan_entity.ensures.grown c.plan_entity.ensures.sizes c.plan_entity.ensures.whole
+    c.plan_entity.new.self c.plan_entity.new.plan.moves c.in_ok-plan_entity.ensures.planned c.in_ok-plan_entity.ensures.ready c.plan_entity.ensures.kept.held c.plan_entity.ensures.kept.grown c.plan_entity.ensures.kept.sizes c.plan_entity.ensures.kept.whole
 
 pub returns-clause-planned : goal.returns-clause-planned
 returns-clause-planned g c = facts_planned c.args.self.now c.loop-entity.self c.args.came.now c.args.went.now c.loop-entity.plan.moves c.loop-entity.came.now c.loop-entity.went.now c.loop-entity.invariant (sym c.first_entity.ensures ∙ c.in_default.is)
+
+pub returns-clause-kept : goal.returns-clause-kept
+returns-clause-kept g c = record { grown = c.loop-entity.invariant.grown; held = c.loop-entity.invariant.held; sizes = c.loop-entity.invariant.sizes; whole = c.loop-entity.invariant.whole }

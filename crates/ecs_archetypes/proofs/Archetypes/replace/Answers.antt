@@ -1,18 +1,14 @@
 -- The row moves to the table with the one id and without the other.
 use Rattle.std.proofs.Common.{◌≡◌, ◌∙◌, ◌∷◌, [], ℕ, Some, ap, subst}
 use Rattle.ecs_model.specs.World.{Key}
-use Rattle.table_store.specs.Going.{TablesGoOn, goes_on_then}
 use Rattle.table_store.specs.Rows.{shape_of_cells}
 use Rattle.table_store.specs.Store.{shape_at}
 use Rattle.ecs_archetypes.specs.Archetypes.{known_in}
 use Rattle.ecs_archetypes.specs.FactChanges.{changed_shape, is_among}
 use Rattle.ecs_archetypes.specs.Holdings.{KeepsSizes, held_at}
-use Rattle.ecs_archetypes.specs.Housing.{IsHoused, holdings_of}
-use Rattle.ecs_archetypes.proofs.KnownIds.{KeepsSizes-then, same_kept}
+use Rattle.ecs_archetypes.specs.Housing.{HasRoomMade, IsHoused, holdings_of}
 use Rattle.ecs_archetypes.proofs.IdReplacements.{alike_replaced, apart_replaced, one_rises, stands, stays_settled}
-use Rattle.ecs_archetypes.proofs.Soundness.{holdings}
-use Rattle.ecs_archetypes.proofs.EnteredTables.{goes_on_alike}
-use Rattle.ecs_archetypes.proofs.StandingTables.{stay_grown, stay_moved}
+use Rattle.ecs_archetypes.proofs.StandingTables.{last_grown, last_moved}
 use Rattle.ecs_archetypes.proofs.Archetypes.replace.Goals as goal
 
 pub table_after-requires-clause-there : goal.table_after-requires-clause-there
@@ -44,24 +40,16 @@ returns-clause-replaced g c =
     alike_replaced b (subst IsHoused c.self.view_is c.self.invariant.sound) e c.args.place c.requires.there c.table_after.new.self c.table_after.ensures.grown c.table_after.ensures.held
     c.args.old c.args.id c.args.size c.requires.not_held c.in_ok-to.to next (holdings_of c.carry_to.new.self) c.carry_to.ensures.held
 
-pub returns-clause-sizes : goal.returns-clause-sizes
-returns-clause-sizes g c =
+pub returns-in_err-to-clause-kept : goal.returns-in_err-to-clause-kept
+returns-in_err-to-clause-kept g c =
     let came = c.new-2.ensures ∙ ap (λ k. (k, c.args.size)) c.new.ensures in
-    KeepsSizes-then (known_in c.args.self.now.tables) ((c.args.id, c.args.size) ∷ []) (known_in c.table_after.new.self.tables) (known_in c.carry_to.new.self.tables)
-    (subst (λ (x : Key × ℕ). KeepsSizes (known_in c.args.self.now.tables) ((x.0.1, x.1) ∷ []) (known_in c.table_after.new.self.tables)) came c.table_after.ensures.sizes)
-    (same_kept c.table_after.new.self.tables c.carry_to.new.self.tables c.carry_to.ensures.whole.stored.0 c.carry_to.ensures.alike.shapes)
+    let sizes = subst (λ (x : Key × ℕ). KeepsSizes (known_in c.args.self.now.tables) ((x.0.1, x.1) ∷ []) (known_in c.table_after.new.self.tables)) came c.table_after.ensures.sizes in
+    let made : HasRoomMade ((c.args.id, c.args.size) ∷ []) c.args.self.now c.table_after.new.self = record { grown = c.table_after.ensures.grown; held = c.table_after.ensures.held; sizes = sizes; whole = c.table_after.ensures.whole } in
+    last_grown _ _ _ made
 
-pub returns-clause-goes_on : goal.returns-clause-goes_on
-returns-clause-goes_on g c = goes_on_then c.args.self.now.tables c.table_after.new.self.tables c.carry_to.new.self.tables c.table_after.ensures.grown.goes_on (goes_on_alike c.table_after.new.self.tables c.carry_to.new.self.tables c.carry_to.ensures.alike)
-
-pub returns-in_err-to-clause-stay : goal.returns-in_err-to-clause-stay
-returns-in_err-to-clause-stay g c = stay_grown c.args.self.now.tables c.table_after.new.self.tables c.table_after.ensures.grown
-
-pub returns-clause-stay : goal.returns-clause-stay
-returns-clause-stay g c = stay_moved c.args.self.now.tables c.table_after.new.self.tables c.carry_to.new.self.tables c.table_after.ensures.grown c.carry_to.ensures.alike
-
-pub returns-in_err-to-clause-holdings : goal.returns-in_err-to-clause-holdings
-returns-in_err-to-clause-holdings g c = holdings c.table_after.new.self.entities c.table_after.new.self.tables c.table_after.ensures.whole
-
-pub returns-clause-holdings : goal.returns-clause-holdings
-returns-clause-holdings g c = holdings c.carry_to.new.self.entities c.carry_to.new.self.tables c.carry_to.ensures.whole
+pub returns-clause-kept : goal.returns-clause-kept
+returns-clause-kept g c =
+    let came = c.new-2.ensures ∙ ap (λ k. (k, c.args.size)) c.new.ensures in
+    let sizes = subst (λ (x : Key × ℕ). KeepsSizes (known_in c.args.self.now.tables) ((x.0.1, x.1) ∷ []) (known_in c.table_after.new.self.tables)) came c.table_after.ensures.sizes in
+    let made : HasRoomMade ((c.args.id, c.args.size) ∷ []) c.args.self.now c.table_after.new.self = record { grown = c.table_after.ensures.grown; held = c.table_after.ensures.held; sizes = sizes; whole = c.table_after.ensures.whole } in
+    last_moved _ _ _ _ made c.carry_to.ensures.alike c.carry_to.ensures.whole

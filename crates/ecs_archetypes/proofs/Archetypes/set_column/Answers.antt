@@ -1,16 +1,12 @@
 use Rattle.std.proofs.Common.{◌∙◌, ap, subst, sym}
-use Rattle.std.specs.List.{list_all}
 use Rattle.table_store.specs.Rows.{AreValues}
 use Rattle.table_store.specs.Store.{size_in, table_at}
-use Rattle.ecs_archetypes.specs.Archetypes.{known_in, meaning}
+use Rattle.ecs_archetypes.specs.Archetypes.{meaning}
 use Rattle.ecs_archetypes.specs.Holdings.{HoldAlike, with_each_written}
 use Rattle.ecs_archetypes.specs.Housing.{holdings_of}
-use Rattle.ecs_archetypes.proofs.KnownIds.{same_kept}
-use Rattle.ecs_archetypes.proofs.Soundness.{holdings}
-use Rattle.ecs_archetypes.proofs.EnteredTables.{entered_alike, goes_on_alike}
+use Rattle.ecs_archetypes.proofs.EnteredTables.{entered_alike}
 use Rattle.ecs_archetypes.proofs.WholeColumns.{alike_column, sound_column}
-use Rattle.ecs_archetypes.specs.Staying.{TablesStay, none_goes}
-use Rattle.ecs_archetypes.proofs.StandingTables.{stay_alike}
+use Rattle.ecs_archetypes.proofs.StandingTables.{last_alike}
 use Rattle.ecs_archetypes.proofs.Archetypes.set_column.Goals as goal
 
 pub set_column-requires : goal.set_column-requires
@@ -31,19 +27,8 @@ returns-clause-written g c =
     subst (λ h. HoldAlike (meaning c.self.inside.entities c.set_column.new.self) (with_each_written c.args.id n t.entities c.args.bytes.now h)) (ap holdings_of c.self.view_is)
     (alike_column c.self.inside.entities c.self.inside.tables c.set_column.new.self c.self.invariant.sound c.set_column.ensures.whole c.args.key c.args.id n c.args.bytes.now rows t (ap (λ h. table_at h.tables c.args.key) c.self.view_is ∙ at))
 
-pub returns-clause-sizes : goal.returns-clause-sizes
-returns-clause-sizes g c =
-    λ test old new. same_kept c.self.inside.tables c.set_column.new.self c.set_column.ensures.whole.0 c.set_column.ensures.shapes test (ap (λ z. list_all test (known_in z.tables)) c.self.view_is ∙ old) new
-
-pub returns-clause-holdings : goal.returns-clause-holdings
-returns-clause-holdings g c =
+pub returns-clause-kept : goal.returns-clause-kept
+returns-clause-kept g c =
     let values = subst (λ h. AreValues h.tables c.args.key c.args.id c.args.bytes.now) (sym c.self.view_is) c.requires in
-    holdings c.self.inside.entities c.set_column.new.self (sound_column c.self.inside.entities c.self.inside.tables c.set_column.new.self c.self.invariant.sound c.set_column.ensures.whole c.args.key c.args.id values.0 c.args.bytes.now (c.set_column.ensures.rows values.0 values.1))
-
-pub returns-clause-whole : goal.returns-clause-whole
-returns-clause-whole g c =
-    let values = subst (λ h. AreValues h.tables c.args.key c.args.id c.args.bytes.now) (sym c.self.view_is) c.requires in
-    sound_column c.self.inside.entities c.self.inside.tables c.set_column.new.self c.self.invariant.sound c.set_column.ensures.whole c.args.key c.args.id values.0 c.args.bytes.now (c.set_column.ensures.rows values.0 values.1)
-
-pub returns-clause-stay : goal.returns-clause-stay
-returns-clause-stay g c = subst (λ h. TablesStay none_goes h.tables c.set_column.new.self) c.self.view_is (stay_alike c.self.inside.tables c.set_column.new.self (record { shapes = c.set_column.ensures.shapes; last = c.set_column.ensures.last }))
+    last_alike c.self.inside.entities c.self.inside.tables c.args.self.now c.self.view_is c.self.invariant.sound c.self.inside.entities c.set_column.new.self (record { shapes = c.set_column.ensures.shapes; last = c.set_column.ensures.last })
+    (sound_column c.self.inside.entities c.self.inside.tables c.set_column.new.self c.self.invariant.sound c.set_column.ensures.whole c.args.key c.args.id values.0 c.args.bytes.now (c.set_column.ensures.rows values.0 values.1))

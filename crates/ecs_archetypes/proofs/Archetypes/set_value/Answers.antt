@@ -1,19 +1,16 @@
 -- The value is written in the entity's row.
 use Rattle.std.proofs.Common.{◌∙◌, ap, subst, sym}
 use Rattle.std.specs.FinMap.{put}
-use Rattle.std.specs.List.{list_all}
 use Rattle.ecs_id.specs.Id.{id_cmp}
 use Rattle.entity_index.specs.Entities.{place_of}
-use Rattle.ecs_archetypes.specs.Archetypes.{known_in, meaning}
+use Rattle.ecs_archetypes.specs.Archetypes.{meaning}
 use Rattle.ecs_archetypes.specs.Holdings.{HoldAlike, held_at, with_cells}
 use Rattle.ecs_archetypes.specs.Housing.{holdings_of}
 use Rattle.ecs_archetypes.proofs.ArchetypeCalls.{found_lives, held_size, row_here}
-use Rattle.ecs_archetypes.proofs.KnownIds.{same_kept}
 use Rattle.ecs_archetypes.proofs.RowChanges.{alike_written, sound_written}
-use Rattle.ecs_archetypes.proofs.Soundness.{holdings, row_within}
+use Rattle.ecs_archetypes.proofs.Soundness.{row_within}
 use Rattle.ecs_archetypes.proofs.EnteredTables.{entered_alike}
-use Rattle.ecs_archetypes.specs.Staying.{TablesStay, none_goes}
-use Rattle.ecs_archetypes.proofs.StandingTables.{stay_alike}
+use Rattle.ecs_archetypes.proofs.StandingTables.{last_alike}
 use Rattle.ecs_archetypes.proofs.Archetypes.set_value.Goals as goal
 
 pub set_value-requires-clause-there : goal.set_value-requires-clause-there
@@ -40,19 +37,8 @@ returns-clause-written g c =
     (subst (λ z. HoldAlike (meaning c.self.inside.entities c.set_value.new.self) (with_cells (meaning c.self.inside.entities c.self.inside.tables) c.args.entity.index (put id_cmp c.args.id c.args.bytes.now z))) (sym r.2)
     (alike_written c.self.inside.entities c.self.inside.tables c.set_value.new.self c.self.invariant.sound c.args.entity c.args.place (put id_cmp c.args.id c.args.bytes.now r.0) (ap (λ h. place_of h.entities c.args.entity) c.self.view_is ∙ c.requires.there) c.set_value.ensures.whole (c.set_value.ensures.rows (c.args.entity, r.0) r.1)))
 
-pub returns-clause-sizes : goal.returns-clause-sizes
-returns-clause-sizes g c =
-    λ test old new. same_kept c.self.inside.tables c.set_value.new.self c.set_value.ensures.whole.0 c.set_value.ensures.shapes test (ap (λ z. list_all test (known_in z.tables)) c.self.view_is ∙ old) new
-
-pub returns-clause-holdings : goal.returns-clause-holdings
-returns-clause-holdings g c =
+pub returns-clause-kept : goal.returns-clause-kept
+returns-clause-kept g c =
     let r = row_here c.self.inside.entities c.self.inside.tables c.self.invariant.sound (holdings_of c.args.self.now) (ap holdings_of c.self.view_is) c.args.entity (found_lives c.self.inside.entities c.self.inside.tables c.self.invariant.sound (holdings_of c.args.self.now) (ap holdings_of c.self.view_is) c.args.entity c.args.place (ap (λ h. place_of h.entities c.args.entity) c.self.view_is ∙ c.requires.there)) c.args.place (ap (λ h. place_of h.entities c.args.entity) c.self.view_is ∙ c.requires.there) in
-    holdings c.self.inside.entities c.set_value.new.self (sound_written c.self.inside.entities c.self.inside.tables c.set_value.new.self c.self.invariant.sound c.args.entity c.args.place (put id_cmp c.args.id c.args.bytes.now r.0) (ap (λ h. place_of h.entities c.args.entity) c.self.view_is ∙ c.requires.there) c.set_value.ensures.whole (c.set_value.ensures.rows (c.args.entity, r.0) r.1))
-
-pub returns-clause-whole : goal.returns-clause-whole
-returns-clause-whole g c =
-    let r = row_here c.self.inside.entities c.self.inside.tables c.self.invariant.sound (holdings_of c.args.self.now) (ap holdings_of c.self.view_is) c.args.entity (found_lives c.self.inside.entities c.self.inside.tables c.self.invariant.sound (holdings_of c.args.self.now) (ap holdings_of c.self.view_is) c.args.entity c.args.place (ap (λ h. place_of h.entities c.args.entity) c.self.view_is ∙ c.requires.there)) c.args.place (ap (λ h. place_of h.entities c.args.entity) c.self.view_is ∙ c.requires.there) in
-    sound_written c.self.inside.entities c.self.inside.tables c.set_value.new.self c.self.invariant.sound c.args.entity c.args.place (put id_cmp c.args.id c.args.bytes.now r.0) (ap (λ h. place_of h.entities c.args.entity) c.self.view_is ∙ c.requires.there) c.set_value.ensures.whole (c.set_value.ensures.rows (c.args.entity, r.0) r.1)
-
-pub returns-clause-stay : goal.returns-clause-stay
-returns-clause-stay g c = subst (λ h. TablesStay none_goes h.tables c.set_value.new.self) c.self.view_is (stay_alike c.self.inside.tables c.set_value.new.self (record { shapes = c.set_value.ensures.shapes; last = c.set_value.ensures.last }))
+    last_alike c.self.inside.entities c.self.inside.tables c.args.self.now c.self.view_is c.self.invariant.sound c.self.inside.entities c.set_value.new.self (record { shapes = c.set_value.ensures.shapes; last = c.set_value.ensures.last })
+    (sound_written c.self.inside.entities c.self.inside.tables c.set_value.new.self c.self.invariant.sound c.args.entity c.args.place (put id_cmp c.args.id c.args.bytes.now r.0) (ap (λ h. place_of h.entities c.args.entity) c.self.view_is ∙ c.requires.there) c.set_value.ensures.whole (c.set_value.ensures.rows (c.args.entity, r.0) r.1))

@@ -1,32 +1,44 @@
--- All tables keep their sizes where one gets room.
-use Rattle.std.proofs.Common.{◌∙◌, ◌∷◌, []}
+-- The table with one id more is entered, and all tables keep their sizes.
+use Rattle.std.proofs.Common.{◌∙◌, ◌∷◌, [], sym}
 use Rattle.table_store.specs.Store.{with_id}
-use Rattle.ecs_archetypes.specs.Archetypes.{known_in}
-use Rattle.ecs_archetypes.proofs.KnownIds.{KeepsSizes-then, room_made, same_kept, shape_stands, shape_there}
-use Rattle.ecs_archetypes.proofs.EnteredTables.{grown_reserved, grown_then}
+use Rattle.ecs_archetypes.proofs.KnownIds.{has_size, wider_kept, shape_stands, shape_there, shaped_self}
+use Rattle.ecs_archetypes.proofs.EnteredTables.{kept_same, made_empty, made_fresh}
 use Rattle.ecs_archetypes.proofs.tables.wider.Goals as goal
 
-pub reserve-requires : goal.reserve-requires
-reserve-requires g c =
-    let f = shape_there c.args.tables.now c.args.key c.requires.stands in
-    record { stands = shape_stands c.entered_wider.new.tables c.in_ok-to.to (with_id f.0 c.args.id c.args.size) (c.in_ok-to.ensures.shape f.0 f.1) }
+pub with-requires-clause-sizes : goal.with-requires-clause-sizes
+with-requires-clause-sizes g c = has_size c.args.tables.now c.args.id c.args.size c.requires.agree
 
-pub returns-in_err-reserve-clause-sizes : goal.returns-in_err-reserve-clause-sizes
-returns-in_err-reserve-clause-sizes g c = KeepsSizes-then (known_in c.args.tables.now) ((c.args.id, c.args.size) ∷ []) (known_in c.entered_wider.new.tables) (known_in c.reserve.new.self)
-    c.entered_wider.ensures.sizes (same_kept c.entered_wider.new.tables c.reserve.new.self c.reserve.ensures.whole.0 c.reserve.ensures.shapes)
+pub returns-in_err-to-clause-kept : goal.returns-in_err-to-clause-kept
+returns-in_err-to-clause-kept g c =
+    let f = shape_there c.args.tables.now c.args.key c.requires.stands in
+    kept_same ((c.args.id, c.args.size) ∷ []) c.args.tables.now c.with.new.self c.args.components.now (c.in_err-to.ensures f.0 f.1).err c.requires.entered (c.with.ensures f.0 f.1).whole
+
+pub enter_made-requires-clause-stands : goal.enter_made-requires-clause-stands
+enter_made-requires-clause-stands g c =
+    let f = shape_there c.args.tables.now c.args.key c.requires.stands in
+    shape_stands c.with.new.self c.in_ok-to.to (with_id f.0 c.args.id c.args.size) (shaped_self c.args.tables.now c.with.new.self c.in_ok-to.to (with_id f.0 c.args.id c.args.size) (c.in_ok-to.ensures f.0 f.1).ok.shapes)
+
+pub enter_made-requires-clause-fresh : goal.enter_made-requires-clause-fresh
+enter_made-requires-clause-fresh g c =
+    let f = shape_there c.args.tables.now c.args.key c.requires.stands in
+    made_fresh c.args.tables.now c.with.new.self c.in_ok-to.to (with_id f.0 c.args.id c.args.size) (sym c.last-last.ensures) (c.in_ok-to.ensures f.0 f.1).ok c.args.components.now c.requires.entered
+
+pub enter_made-requires-clause-empty : goal.enter_made-requires-clause-empty
+enter_made-requires-clause-empty g c =
+    let f = shape_there c.args.tables.now c.args.key c.requires.stands in
+    made_empty c.args.tables.now c.with.new.self c.in_ok-to.to (with_id f.0 c.args.id c.args.size) (sym c.last-last.ensures) (c.in_ok-to.ensures f.0 f.1).ok
+
+pub returns-in_err-enter_made-clause-kept : goal.returns-in_err-enter_made-clause-kept
+returns-in_err-enter_made-clause-kept g c =
+    let f = shape_there c.args.tables.now c.args.key c.requires.stands in
+    let put = c.in_ok-to.ensures f.0 f.1 in
+    c.enter_made.ensures.kept c.args.tables.now (with_id f.0 c.args.id c.args.size) ((c.args.id, c.args.size) ∷ []) (sym c.last-last.ensures) put.ok c.requires.entered (wider_kept c.args.tables.now c.with.new.self c.args.key c.in_ok-to.to f.0 c.args.id c.args.size put.whole.0 f.1 put.ok.shapes)
+
+pub returns-clause-kept : goal.returns-clause-kept
+returns-clause-kept g c =
+    let f = shape_there c.args.tables.now c.args.key c.requires.stands in
+    let put = c.in_ok-to.ensures f.0 f.1 in
+    c.enter_made.ensures.kept c.args.tables.now (with_id f.0 c.args.id c.args.size) ((c.args.id, c.args.size) ∷ []) (sym c.last-last.ensures) put.ok c.requires.entered (wider_kept c.args.tables.now c.with.new.self c.args.key c.in_ok-to.to f.0 c.args.id c.args.size put.whole.0 f.1 put.ok.shapes)
 
 pub returns-clause-shape : goal.returns-clause-shape
-returns-clause-shape g c = λ f e. c.reserve.ensures.shapes c.in_ok-to.to ∙ c.in_ok-to.ensures.shape f e
-
-pub returns-clause-room : goal.returns-clause-room
-returns-clause-room g c =
-    let f = shape_there c.args.tables.now c.args.key c.requires.stands in
-    room_made c.entered_wider.new.tables c.reserve.new.self c.in_ok-to.to (shape_stands c.entered_wider.new.tables c.in_ok-to.to (with_id f.0 c.args.id c.args.size) (c.in_ok-to.ensures.shape f.0 f.1)) c.in_ok-reserve.ensures.tables
-
-pub returns-clause-sizes : goal.returns-clause-sizes
-returns-clause-sizes g c = KeepsSizes-then (known_in c.args.tables.now) ((c.args.id, c.args.size) ∷ []) (known_in c.entered_wider.new.tables) (known_in c.reserve.new.self)
-    c.entered_wider.ensures.sizes (same_kept c.entered_wider.new.tables c.reserve.new.self c.reserve.ensures.whole.0 c.reserve.ensures.shapes)
-
-pub returns-clause-grown : goal.returns-clause-grown
-returns-clause-grown g c = grown_then c.args.tables.now c.entered_wider.new.tables c.reserve.new.self c.entered_wider.ensures.grown
-    (grown_reserved c.entered_wider.new.tables c.reserve.new.self c.in_ok-to.to 1 c.in_ok-reserve.ensures.tables c.reserve.ensures.shapes c.reserve.ensures.last c.reserve.ensures.rows)
+returns-clause-shape g c = λ f at. c.in_ok-enter_made.ensures.shapes c.in_ok-to.to ∙ shaped_self c.args.tables.now c.with.new.self c.in_ok-to.to (with_id f c.args.id c.args.size) (c.in_ok-to.ensures f at).ok.shapes

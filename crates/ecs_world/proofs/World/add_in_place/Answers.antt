@@ -63,7 +63,7 @@ invariant_of-self g c =
     let is = state_is c.self.view_is in
     let world = c.self.invariant in
     (failed world is ((i, c.size_of-size.result) ∷ []) (fits_there world is e i (judged-add w e i c.requires.in_place.no_trait (sym c.in_default-replacing_refusal.ensures)) c.size_of-size.result c.size_of-size.ensures.value)
-    (holdings_of c.replace-moved.new.self) c.replace-moved.ensures.holdings (on_err c.replace-moved.result c.replace-moved.ensures.refused (sym c.is_err.ensures.value ∙ c.if-is_err.true)) c.replace-moved.ensures.sizes).0
+    (holdings_of c.replace-moved.new.self) c.replace-moved.ensures.kept.holdings (on_err c.replace-moved.result c.replace-moved.ensures.refused (sym c.is_err.ensures.value ∙ c.if-is_err.true)) c.replace-moved.ensures.kept.sizes).0
 
 pub returns-then-is_err-clause-answers : goal.returns-then-is_err-clause-answers
 returns-then-is_err-clause-answers g c =
@@ -73,13 +73,13 @@ returns-then-is_err-clause-answers g c =
     let is = state_is c.self.view_is in
     let world = c.self.invariant in
     (failed world is ((i, c.size_of-size.result) ∷ []) (fits_there world is e i (judged-add w e i c.requires.in_place.no_trait (sym c.in_default-replacing_refusal.ensures)) c.size_of-size.result c.size_of-size.ensures.value)
-    (holdings_of c.replace-moved.new.self) c.replace-moved.ensures.holdings (on_err c.replace-moved.result c.replace-moved.ensures.refused (sym c.is_err.ensures.value ∙ c.if-is_err.true)) c.replace-moved.ensures.sizes).1
+    (holdings_of c.replace-moved.new.self) c.replace-moved.ensures.kept.holdings (on_err c.replace-moved.result c.replace-moved.ensures.refused (sym c.is_err.ensures.value ∙ c.if-is_err.true)) c.replace-moved.ensures.kept.sizes).1
 
 pub returns-then-is_err-clause-goes_on : goal.returns-then-is_err-clause-goes_on
-returns-then-is_err-clause-goes_on g c = going_on c.self.view_is c.replace-moved.ensures.goes_on
+returns-then-is_err-clause-goes_on g c = going_on c.self.view_is c.replace-moved.ensures.kept.goes_on
 
 pub returns-then-is_err-clause-stay : goal.returns-then-is_err-clause-stay
-returns-then-is_err-clause-stay g c = staying_on c.self.view_is c.replace-moved.ensures.stay
+returns-then-is_err-clause-stay g c = staying_on c.self.view_is c.replace-moved.ensures.kept.stay
 
 pub overflow_add-self : goal.overflow_add-self
 overflow_add-self g c =
@@ -90,8 +90,8 @@ pub invariant_of-self-2 : goal.invariant_of-self-2
 invariant_of-self-2 g c =
     let e = c.args.entity in
     let i = c.args.id in
-    (replaced_left c.self.invariant (state_is c.self.view_is) e i c.args.old c.requires.in_place (sym c.in_default-replacing_refusal.ensures) (holdings_of c.replace-moved.new.self) c.size_of-size.result c.replace-moved.ensures.holdings
-    c.size_of-size.ensures.value (on_ok c.replace-moved.result c.replace-moved.ensures.replaced (sym c.is_err.ensures.value ∙ c.if-is_err.false)) c.replace-moved.ensures.sizes).0
+    (replaced_left c.self.invariant (state_is c.self.view_is) e i c.args.old c.requires.in_place (sym c.in_default-replacing_refusal.ensures) (holdings_of c.replace-moved.new.self) c.size_of-size.result c.replace-moved.ensures.kept.holdings
+    c.size_of-size.ensures.value (on_ok c.replace-moved.result c.replace-moved.ensures.replaced (sym c.is_err.ensures.value ∙ c.if-is_err.false)) c.replace-moved.ensures.kept.sizes).0
 
 pub returns-clause-answers : goal.returns-clause-answers
 returns-clause-answers g c =
@@ -101,12 +101,12 @@ returns-clause-answers g c =
     let is = state_is c.self.view_is in
     let none = sym c.in_default-replacing_refusal.ensures in
     told_replacing w _ c.of_replacement.result e i (subst IsWellFormed is c.self.invariant.sound) c.args.old c.requires.in_place none
-    (replaced_left c.self.invariant is e i c.args.old c.requires.in_place none (holdings_of c.replace-moved.new.self) c.size_of-size.result c.replace-moved.ensures.holdings
-    c.size_of-size.ensures.value (on_ok c.replace-moved.result c.replace-moved.ensures.replaced (sym c.is_err.ensures.value ∙ c.if-is_err.false)) c.replace-moved.ensures.sizes).1
+    (replaced_left c.self.invariant is e i c.args.old c.requires.in_place none (holdings_of c.replace-moved.new.self) c.size_of-size.result c.replace-moved.ensures.kept.holdings
+    c.size_of-size.ensures.value (on_ok c.replace-moved.result c.replace-moved.ensures.replaced (sym c.is_err.ensures.value ∙ c.if-is_err.false)) c.replace-moved.ensures.kept.sizes).1
     (c.of_replacement.ensures ∙ c.in-Ok.ensures ∙ (λ k. record no_change { came = c.new-came.ensures k ∷ []; went = c.new-went.ensures k ∷ [] }))
 
 pub returns-clause-goes_on : goal.returns-clause-goes_on
-returns-clause-goes_on g c = going_on c.self.view_is c.replace-moved.ensures.goes_on
+returns-clause-goes_on g c = going_on c.self.view_is c.replace-moved.ensures.kept.goes_on
 
 pub returns-clause-stay : goal.returns-clause-stay
-returns-clause-stay g c = staying_on c.self.view_is c.replace-moved.ensures.stay
+returns-clause-stay g c = staying_on c.self.view_is c.replace-moved.ensures.kept.stay

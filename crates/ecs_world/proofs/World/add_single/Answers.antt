@@ -105,7 +105,7 @@ invariant_of-self-then-is_err g c =
     let alone = c.requires.alone in
     let none = sym c.in_default-single_refusal.ensures in
     (failed world is ((i, c.size_of-size.result) ∷ []) (fits_there world is e i (judged-add w e i alone.no_trait none) c.size_of-size.result c.size_of-size.ensures.value)
-    (holdings_of c.add.new.self) c.add.ensures.holdings (on_err c.add.result c.add.ensures.refused (sym c.is_err.ensures.value ∙ c.if-is_err.true)) c.add.ensures.sizes).0
+    (holdings_of c.add.new.self) c.add.ensures.kept.holdings (on_err c.add.result c.add.ensures.refused (sym c.is_err.ensures.value ∙ c.if-is_err.true)) c.add.ensures.kept.sizes).0
 
 pub returns-then-is_err-clause-answers : goal.returns-then-is_err-clause-answers
 returns-then-is_err-clause-answers g c =
@@ -117,13 +117,13 @@ returns-then-is_err-clause-answers g c =
     let alone = c.requires.alone in
     let none = sym c.in_default-single_refusal.ensures in
     (failed world is ((i, c.size_of-size.result) ∷ []) (fits_there world is e i (judged-add w e i alone.no_trait none) c.size_of-size.result c.size_of-size.ensures.value)
-    (holdings_of c.add.new.self) c.add.ensures.holdings (on_err c.add.result c.add.ensures.refused (sym c.is_err.ensures.value ∙ c.if-is_err.true)) c.add.ensures.sizes).1
+    (holdings_of c.add.new.self) c.add.ensures.kept.holdings (on_err c.add.result c.add.ensures.refused (sym c.is_err.ensures.value ∙ c.if-is_err.true)) c.add.ensures.kept.sizes).1
 
 pub returns-then-is_err-clause-goes_on : goal.returns-then-is_err-clause-goes_on
-returns-then-is_err-clause-goes_on g c = going_on c.self.view_is c.add.ensures.goes_on
+returns-then-is_err-clause-goes_on g c = going_on c.self.view_is c.add.ensures.kept.goes_on
 
 pub returns-then-is_err-clause-stay : goal.returns-then-is_err-clause-stay
-returns-then-is_err-clause-stay g c = staying_on c.self.view_is c.add.ensures.stay
+returns-then-is_err-clause-stay g c = staying_on c.self.view_is c.add.ensures.kept.stay
 
 pub overflow_add-self-2 : goal.overflow_add-self-2
 overflow_add-self-2 g c =
@@ -139,8 +139,8 @@ invariant_of-self-2 g c =
     let alone = c.requires.alone in
     let none = sym c.in_default-single_refusal.ensures in
     let absent = sym (found_held world is e i c.in-Some.found.is_held c.in-Some.ensures.held) ∙ c.if-found.false in
-    (added_left world is e i alone none (holdings_of c.add.new.self) c.size_of-size.result c.add.ensures.holdings c.size_of-size.ensures.value absent
-    (on_ok c.add.result c.add.ensures.added (sym c.is_err.ensures.value ∙ c.if-is_err.false)) c.add.ensures.sizes).0
+    (added_left world is e i alone none (holdings_of c.add.new.self) c.size_of-size.result c.add.ensures.kept.holdings c.size_of-size.ensures.value absent
+    (on_ok c.add.result c.add.ensures.added (sym c.is_err.ensures.value ∙ c.if-is_err.false)) c.add.ensures.kept.sizes).0
 
 pub returns-clause-answers : goal.returns-clause-answers
 returns-clause-answers g c =
@@ -153,12 +153,12 @@ returns-clause-answers g c =
     let none = sym c.in_default-single_refusal.ensures in
     let absent = sym (found_held world is e i c.in-Some.found.is_held c.in-Some.ensures.held) ∙ c.if-found.false in
     told_add w _ c.of_came.result e i (subst IsWellFormed is world.sound) alone none
-    (added_left world is e i alone none (holdings_of c.add.new.self) c.size_of-size.result c.add.ensures.holdings c.size_of-size.ensures.value absent
-    (on_ok c.add.result c.add.ensures.added (sym c.is_err.ensures.value ∙ c.if-is_err.false)) c.add.ensures.sizes).1
+    (added_left world is e i alone none (holdings_of c.add.new.self) c.size_of-size.result c.add.ensures.kept.holdings c.size_of-size.ensures.value absent
+    (on_ok c.add.result c.add.ensures.added (sym c.is_err.ensures.value ∙ c.if-is_err.false)) c.add.ensures.kept.sizes).1
     (c.of_came.ensures ∙ (λ k. record no_change { came = c.new-key.ensures k ∷ [] }) ∙ ap (λ b. record no_change { came = if b then [] else (e.index, i) ∷ [] }) (sym absent))
 
 pub returns-clause-goes_on : goal.returns-clause-goes_on
-returns-clause-goes_on g c = going_on c.self.view_is c.add.ensures.goes_on
+returns-clause-goes_on g c = going_on c.self.view_is c.add.ensures.kept.goes_on
 
 pub returns-clause-stay : goal.returns-clause-stay
-returns-clause-stay g c = staying_on c.self.view_is c.add.ensures.stay
+returns-clause-stay g c = staying_on c.self.view_is c.add.ensures.kept.stay

@@ -44,7 +44,7 @@ invariant_of-self g c =
     world_kept c.self.invariant c.args.entity c.args.id
     (listed (state_is c.self.view_is) c.args.entity c.args.id c.requires.judged c.requires.tells.came_are (c.deref-3.ensures.value ∙ c.requires.tells.went_are)
     (c.deref-2.ensures.value ∙ c.in_ok-size_facts.ensures.sized ∙ ap (sized_by c.args.self.now.state) c.deref.ensures.value))
-    (holdings_of c.change_facts.new.self) c.in_err-change_facts.ensures.refused c.change_facts.ensures.holdings c.change_facts.ensures.sizes
+    (holdings_of c.change_facts.new.self) c.in_err-change_facts.ensures.refused c.change_facts.ensures.kept.holdings c.change_facts.ensures.kept.sizes
 
 pub returns-in_err-change_facts-clause-refused : goal.returns-in_err-change_facts-clause-refused
 returns-in_err-change_facts-clause-refused g c =
@@ -68,7 +68,7 @@ invariant_of-self-2 g c =
     (listed (state_is c.self.view_is) c.args.entity c.args.id c.requires.judged c.requires.tells.came_are (c.deref-3.ensures.value ∙ c.requires.tells.went_are)
     (c.deref-2.ensures.value ∙ c.in_ok-size_facts.ensures.sized ∙ ap (sized_by c.args.self.now.state) c.deref.ensures.value))
     (holdings_of c.release_tag_pairs.new.archetypes) (alike_then c.release_tag_pairs.ensures.held c.in_ok-change_facts.ensures.changed) (holdings_of c.change_facts.new.self) c.deref-4.result.now
-    (c.deref-4.ensures.value ∙ sym c.deref-2.ensures.value) c.change_facts.ensures.sizes c.release_tag_pairs.ensures.sizes c.release_tag_pairs.ensures.holdings
+    (c.deref-4.ensures.value ∙ sym c.deref-2.ensures.value) c.change_facts.ensures.kept.sizes c.release_tag_pairs.ensures.sizes c.release_tag_pairs.ensures.holdings
 
 pub returns-clause-brought : goal.returns-clause-brought
 returns-clause-brought g c =
@@ -76,13 +76,13 @@ returns-clause-brought g c =
     (listed (state_is c.self.view_is) c.args.entity c.args.id c.requires.judged c.requires.tells.came_are (c.deref-3.ensures.value ∙ c.requires.tells.went_are)
     (c.deref-2.ensures.value ∙ c.in_ok-size_facts.ensures.sized ∙ ap (sized_by c.args.self.now.state) c.deref.ensures.value))
     (holdings_of c.release_tag_pairs.new.archetypes) (alike_then c.release_tag_pairs.ensures.held c.in_ok-change_facts.ensures.changed) (holdings_of c.change_facts.new.self) c.deref-4.result.now
-    (c.deref-4.ensures.value ∙ sym c.deref-2.ensures.value) c.change_facts.ensures.sizes c.release_tag_pairs.ensures.sizes c.release_tag_pairs.ensures.holdings (state_is c.self.view_is)
+    (c.deref-4.ensures.value ∙ sym c.deref-2.ensures.value) c.change_facts.ensures.kept.sizes c.release_tag_pairs.ensures.sizes c.release_tag_pairs.ensures.holdings (state_is c.self.view_is)
 
 pub returns-in_err-change_facts-clause-kept : goal.returns-in_err-change_facts-clause-kept
-returns-in_err-change_facts-clause-kept g c = when_err c.from_residual-in_err-change_facts.result (staying_on c.self.view_is c.change_facts.ensures.stay)
+returns-in_err-change_facts-clause-kept g c = when_err c.from_residual-in_err-change_facts.result (staying_on c.self.view_is c.change_facts.ensures.kept.stay)
 
 pub returns-clause-stay : goal.returns-clause-stay
 returns-clause-stay g c =
     let came = c.deref-4.ensures.value ∙ c.in_ok-size_facts.ensures.sized ∙ ap (sized_by c.args.self.now.state) c.deref.ensures.value in
-    staying_on c.self.view_is (stay_then _ _ _ _ (stay_all c.change_facts.ensures.stay)
+    staying_on c.self.view_is (stay_then _ _ _ _ (stay_all c.change_facts.ensures.kept.stay)
     (subst (λ ks. TablesStay (list_any (gets_no_data ks)) c.change_facts.new.self.tables c.release_tag_pairs.new.archetypes.tables) came c.release_tag_pairs.ensures.stay))

@@ -28,18 +28,18 @@ change_facts-requires-clause-dead g c =
 
 pub invariant_of-self : goal.invariant_of-self
 invariant_of-self g c =
-    (unburied c.self.invariant (state_is c.self.view_is) (holdings_of c.change_facts.new.self) c.change_facts.ensures.holdings c.in_err-change_facts.ensures.refused c.change_facts.ensures.sizes).0
+    (unburied c.self.invariant (state_is c.self.view_is) (holdings_of c.change_facts.new.self) c.change_facts.ensures.kept.holdings c.in_err-change_facts.ensures.refused c.change_facts.ensures.kept.sizes).0
 
 pub returns-in_err-change_facts-clause-refused : goal.returns-in_err-change_facts-clause-refused
 returns-in_err-change_facts-clause-refused g c =
     whatever c.from_residual.result
-    (unburied c.self.invariant (state_is c.self.view_is) (holdings_of c.change_facts.new.self) c.change_facts.ensures.holdings c.in_err-change_facts.ensures.refused c.change_facts.ensures.sizes).1
+    (unburied c.self.invariant (state_is c.self.view_is) (holdings_of c.change_facts.new.self) c.change_facts.ensures.kept.holdings c.in_err-change_facts.ensures.refused c.change_facts.ensures.kept.sizes).1
 
 pub release_dead-requires : goal.release_dead-requires
 release_dead-requires g c = record {
   unheld = unheld c.self.invariant (state_is c.self.view_is) c.args.entity c.requires.judged c.args.deletion.now.dead.items c.requires.dead c.deref.result.now (c.deref.ensures.value ∙ c.requires.lost)
       c.args.dead.now c.requires.listed
-      (holdings_of c.change_facts.new.self) c.change_facts.ensures.holdings c.in_ok-change_facts.ensures.changed c.deref-2.result.now c.deref-2.ensures.value;
+      (holdings_of c.change_facts.new.self) c.change_facts.ensures.kept.holdings c.in_ok-change_facts.ensures.changed c.deref-2.result.now c.deref-2.ensures.value;
 }
 
 pub invariant_of-self-2 : goal.invariant_of-self-2
@@ -49,7 +49,7 @@ invariant_of-self-2 g c =
     (holdings_of c.release_dead.new.archetypes) c.release_dead.ensures.holdings (alike_then _ _ _ c.release_dead.ensures.held c.in_ok-change_facts.ensures.changed)
     c.deref-2.result.now c.deref-2.ensures.value c.args.dead.now refl
     c.forget.new.schemas.entries c.forget.ensures.schemas c.forget.new.names c.forget.ensures.names
-    (λ test t. c.release_dead.ensures.sizes test (c.change_facts.ensures.sizes (λ x. mentions_one c.deref-2.result.now x.0 || test x) t refl))).0
+    (λ test t. c.release_dead.ensures.sizes test (c.change_facts.ensures.kept.sizes (λ x. mentions_one c.deref-2.result.now x.0 || test x) t refl))).0
 
 pub returns-clause-buried : goal.returns-clause-buried
 returns-clause-buried g c =
@@ -58,12 +58,12 @@ returns-clause-buried g c =
     (holdings_of c.release_dead.new.archetypes) c.release_dead.ensures.holdings (alike_then _ _ _ c.release_dead.ensures.held c.in_ok-change_facts.ensures.changed)
     c.deref-2.result.now c.deref-2.ensures.value c.args.dead.now refl
     c.forget.new.schemas.entries c.forget.ensures.schemas c.forget.new.names c.forget.ensures.names
-    (λ test t. c.release_dead.ensures.sizes test (c.change_facts.ensures.sizes (λ x. mentions_one c.deref-2.result.now x.0 || test x) t refl))).1
+    (λ test t. c.release_dead.ensures.sizes test (c.change_facts.ensures.kept.sizes (λ x. mentions_one c.deref-2.result.now x.0 || test x) t refl))).1
 
 pub returns-in_err-change_facts-clause-kept : goal.returns-in_err-change_facts-clause-kept
-returns-in_err-change_facts-clause-kept g c = whatever c.from_residual.result (staying_on c.self.view_is c.change_facts.ensures.stay)
+returns-in_err-change_facts-clause-kept g c = whatever c.from_residual.result (staying_on c.self.view_is c.change_facts.ensures.kept.stay)
 
 pub returns-clause-stay : goal.returns-clause-stay
 returns-clause-stay g c =
-    staying_on c.self.view_is (stay_then _ _ _ _ (stay_all c.change_facts.ensures.stay)
+    staying_on c.self.view_is (stay_then _ _ _ _ (stay_all c.change_facts.ensures.kept.stay)
     (subst (λ dead. TablesStay (list_any (mentions_one dead)) c.change_facts.new.self.tables c.release_dead.new.archetypes.tables) c.deref-2.ensures.value c.release_dead.ensures.stay))

@@ -115,7 +115,7 @@ invariant_of-self-then-is_err-2 g c =
     let next = next_of roomy.0 roomy.1 c.unwrap-entity.result (sym c.upcoming.ensures ∙ c.unwrap-entity.ensures) in
     let inserted = on_ok c.insert.result c.insert.ensures.entries (sym c.is_err.ensures.value ∙ c.if-is_err.false) in
     (kept roomy.0 roomy.1 (holdings_of c.create.new.self) c.unbind-then-is_err-2.new.self c.remove.new.self.entries
-    (failed roomy.0 roomy.1 ((plain component, 0) ∷ []) (component_fits roomy.0 roomy.1) (holdings_of c.create.new.self) c.create.ensures.holdings (on_err c.create.result c.create.ensures.refused (sym c.is_err-2.ensures.value ∙ c.if-is_err-2.true)) (rw (c.tag.ensures, c.plain-component.ensures) at c.create.ensures.sizes))
+    (failed roomy.0 roomy.1 ((plain component, 0) ∷ []) (component_fits roomy.0 roomy.1) (holdings_of c.create.new.self) c.create.ensures.kept.holdings (on_err c.create.result c.create.ensures.refused (sym c.is_err-2.ensures.value ∙ c.if-is_err-2.true)) (rw (c.tag.ensures, c.plain-component.ensures) at c.create.ensures.kept.sizes))
     (freed w.names c.bind.new.names c.unbind-then-is_err-2.new.self c.args.name.now c.unwrap-entity.result c.in_ok-bind.ensures.free.1 c.in_ok-bind.ensures.bound c.unbind-then-is_err-2.ensures.named)
     (rw (c.remove.ensures.entries, inserted) (removed_again w.schemas.entries c.unwrap-entity.result.index c.args.schema (next_plain roomy.0 roomy.1 c.unwrap-entity.result next)))).0
 
@@ -126,15 +126,15 @@ returns-then-is_err-2-clause-answers g c =
     let next = next_of roomy.0 roomy.1 c.unwrap-entity.result (sym c.upcoming.ensures ∙ c.unwrap-entity.ensures) in
     let inserted = on_ok c.insert.result c.insert.ensures.entries (sym c.is_err.ensures.value ∙ c.if-is_err.false) in
     (kept roomy.0 roomy.1 (holdings_of c.create.new.self) c.unbind-then-is_err-2.new.self c.remove.new.self.entries
-    (failed roomy.0 roomy.1 ((plain component, 0) ∷ []) (component_fits roomy.0 roomy.1) (holdings_of c.create.new.self) c.create.ensures.holdings (on_err c.create.result c.create.ensures.refused (sym c.is_err-2.ensures.value ∙ c.if-is_err-2.true)) (rw (c.tag.ensures, c.plain-component.ensures) at c.create.ensures.sizes))
+    (failed roomy.0 roomy.1 ((plain component, 0) ∷ []) (component_fits roomy.0 roomy.1) (holdings_of c.create.new.self) c.create.ensures.kept.holdings (on_err c.create.result c.create.ensures.refused (sym c.is_err-2.ensures.value ∙ c.if-is_err-2.true)) (rw (c.tag.ensures, c.plain-component.ensures) at c.create.ensures.kept.sizes))
     (freed w.names c.bind.new.names c.unbind-then-is_err-2.new.self c.args.name.now c.unwrap-entity.result c.in_ok-bind.ensures.free.1 c.in_ok-bind.ensures.bound c.unbind-then-is_err-2.ensures.named)
     (rw (c.remove.ensures.entries, inserted) (removed_again w.schemas.entries c.unwrap-entity.result.index c.args.schema (next_plain roomy.0 roomy.1 c.unwrap-entity.result next)))).1
 
 pub returns-then-is_err-2-clause-goes_on : goal.returns-then-is_err-2-clause-goes_on
-returns-then-is_err-2-clause-goes_on g c = going_on c.self.view_is c.create.ensures.goes_on
+returns-then-is_err-2-clause-goes_on g c = going_on c.self.view_is c.create.ensures.kept.goes_on
 
 pub returns-then-is_err-2-clause-stay : goal.returns-then-is_err-2-clause-stay
-returns-then-is_err-2-clause-stay g c = staying_on c.self.view_is c.create.ensures.stay
+returns-then-is_err-2-clause-stay g c = staying_on c.self.view_is c.create.ensures.kept.stay
 
 pub overflow_add-self : goal.overflow_add-self
 overflow_add-self g c =
@@ -149,7 +149,7 @@ invariant_of-self-2 g c =
     let inserted = on_ok c.insert.result c.insert.ensures.entries (sym c.is_err.ensures.value ∙ c.if-is_err.false) in
     let born = made_is (upcoming (holdings_of w.archetypes)) (λ f. HoldAlike (holdings_of c.create.new.self) (with_cells (with_entity (holdings_of w.archetypes) f) f.index ((plain component, []) ∷ []))) c.create.result c.unwrap-entity.result c.create.ensures.next (rw (c.tag.ensures, c.plain-component.ensures) at c.create.ensures.born) (sym c.is_err-2.ensures.value ∙ c.if-is_err-2.false) (sym c.upcoming.ensures ∙ c.unwrap-entity.ensures) in
     (component_left roomy.0 roomy.1 c.unwrap-entity.result next c.in_ok-cover.ensures.covers c.args.name.now c.args.schema c.fields.ensures.sound (none_component roomy.0 roomy.1 c.args.name.now c.args.schema c.in_ok-bind.ensures.free c.requires) c.in_ok-bind.ensures.free.1 c.bind.new.names c.in_ok-bind.ensures.bound c.insert.new.self.entries (inserted ∙ insert_put w.schemas.entries c.unwrap-entity.result.index c.args.schema)
-    (holdings_of c.create.new.self) c.create.ensures.holdings born (rw (c.tag.ensures, c.plain-component.ensures) at c.create.ensures.sizes)).0
+    (holdings_of c.create.new.self) c.create.ensures.kept.holdings born (rw (c.tag.ensures, c.plain-component.ensures) at c.create.ensures.kept.sizes)).0
 
 pub returns-clause-answers : goal.returns-clause-answers
 returns-clause-answers g c =
@@ -161,11 +161,11 @@ returns-clause-answers g c =
     let sound : IsWellFormed c.args.self.now.state = subst IsWellFormed (state_is c.self.view_is) c.self.invariant.sound in
     told_component c.args.self.now.state _ c.of_birth_with.result c.args.name.now c.args.schema c.unwrap-entity.result sound next (none_component roomy.0 roomy.1 c.args.name.now c.args.schema c.in_ok-bind.ensures.free c.requires)
     (component_left roomy.0 roomy.1 c.unwrap-entity.result next c.in_ok-cover.ensures.covers c.args.name.now c.args.schema c.fields.ensures.sound (none_component roomy.0 roomy.1 c.args.name.now c.args.schema c.in_ok-bind.ensures.free c.requires) c.in_ok-bind.ensures.free.1 c.bind.new.names c.in_ok-bind.ensures.bound c.insert.new.self.entries (inserted ∙ insert_put w.schemas.entries c.unwrap-entity.result.index c.args.schema)
-    (holdings_of c.create.new.self) c.create.ensures.holdings born (rw (c.tag.ensures, c.plain-component.ensures) at c.create.ensures.sizes)).1
+    (holdings_of c.create.new.self) c.create.ensures.kept.holdings born (rw (c.tag.ensures, c.plain-component.ensures) at c.create.ensures.kept.sizes)).1
     (c.of_birth_with.ensures ∙ (λ k. record (birth c.unwrap-entity.result) { came = (c.unwrap-entity.result.index, c.plain-component.ensures k) ∷ [] }))
 
 pub returns-clause-goes_on : goal.returns-clause-goes_on
-returns-clause-goes_on g c = going_on c.self.view_is c.create.ensures.goes_on
+returns-clause-goes_on g c = going_on c.self.view_is c.create.ensures.kept.goes_on
 
 pub returns-clause-stay : goal.returns-clause-stay
-returns-clause-stay g c = staying_on c.self.view_is c.create.ensures.stay
+returns-clause-stay g c = staying_on c.self.view_is c.create.ensures.kept.stay

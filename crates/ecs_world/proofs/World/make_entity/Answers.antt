@@ -78,7 +78,7 @@ invariant_of-self-then-is_err g c =
     let roomy = further c.self.invariant (state_is c.self.view_is) c.cover.new.pins c.cover.ensures.entries c.cover.ensures.further in
     let w = c.self.inside in
     (kept roomy.0 roomy.1 (holdings_of c.create.new.self) c.unbind.new.self w.schemas.entries
-    (failed roomy.0 roomy.1 [] refl (holdings_of c.create.new.self) c.create.ensures.holdings (on_err c.create.result c.create.ensures.refused (sym c.is_err.ensures.value ∙ c.if-is_err.true)) c.create.ensures.sizes)
+    (failed roomy.0 roomy.1 [] refl (holdings_of c.create.new.self) c.create.ensures.kept.holdings (on_err c.create.result c.create.ensures.refused (sym c.is_err.ensures.value ∙ c.if-is_err.true)) c.create.ensures.kept.sizes)
     (freed w.names c.bind.new.names c.unbind.new.self c.args.name.now c.unwrap-entity.result c.in_ok-bind.ensures.free.1 c.in_ok-bind.ensures.bound c.unbind.ensures.named) refl).0
 
 pub returns-then-is_err-clause-answers : goal.returns-then-is_err-clause-answers
@@ -86,14 +86,14 @@ returns-then-is_err-clause-answers g c =
     let roomy = further c.self.invariant (state_is c.self.view_is) c.cover.new.pins c.cover.ensures.entries c.cover.ensures.further in
     let w = c.self.inside in
     (kept roomy.0 roomy.1 (holdings_of c.create.new.self) c.unbind.new.self w.schemas.entries
-    (failed roomy.0 roomy.1 [] refl (holdings_of c.create.new.self) c.create.ensures.holdings (on_err c.create.result c.create.ensures.refused (sym c.is_err.ensures.value ∙ c.if-is_err.true)) c.create.ensures.sizes)
+    (failed roomy.0 roomy.1 [] refl (holdings_of c.create.new.self) c.create.ensures.kept.holdings (on_err c.create.result c.create.ensures.refused (sym c.is_err.ensures.value ∙ c.if-is_err.true)) c.create.ensures.kept.sizes)
     (freed w.names c.bind.new.names c.unbind.new.self c.args.name.now c.unwrap-entity.result c.in_ok-bind.ensures.free.1 c.in_ok-bind.ensures.bound c.unbind.ensures.named) refl).1
 
 pub returns-then-is_err-clause-goes_on : goal.returns-then-is_err-clause-goes_on
-returns-then-is_err-clause-goes_on g c = going_on c.self.view_is c.create.ensures.goes_on
+returns-then-is_err-clause-goes_on g c = going_on c.self.view_is c.create.ensures.kept.goes_on
 
 pub returns-then-is_err-clause-stay : goal.returns-then-is_err-clause-stay
-returns-then-is_err-clause-stay g c = staying_on c.self.view_is c.create.ensures.stay
+returns-then-is_err-clause-stay g c = staying_on c.self.view_is c.create.ensures.kept.stay
 
 pub overflow_add-self : goal.overflow_add-self
 overflow_add-self g c =
@@ -106,7 +106,7 @@ invariant_of-self-2 g c =
     let w = c.self.inside in
     let next = next_of roomy.0 roomy.1 c.unwrap-entity.result (sym c.upcoming.ensures ∙ c.unwrap-entity.ensures) in
     let born = made_is (upcoming (holdings_of w.archetypes)) (λ f. HoldAlike (holdings_of c.create.new.self) (with_cells (with_entity (holdings_of w.archetypes) f) f.index [])) c.create.result c.unwrap-entity.result c.create.ensures.next c.create.ensures.born (sym c.is_err.ensures.value ∙ c.if-is_err.false) (sym c.upcoming.ensures ∙ c.unwrap-entity.ensures) in
-    (named_left roomy.0 roomy.1 c.unwrap-entity.result next c.in_ok-cover.ensures.covers c.args.name.now (none_entity roomy.0 roomy.1 c.args.name.now c.in_ok-bind.ensures.free c.requires) c.in_ok-bind.ensures.free.1 c.bind.new.names c.in_ok-bind.ensures.bound (holdings_of c.create.new.self) c.create.ensures.holdings born c.create.ensures.sizes).0
+    (named_left roomy.0 roomy.1 c.unwrap-entity.result next c.in_ok-cover.ensures.covers c.args.name.now (none_entity roomy.0 roomy.1 c.args.name.now c.in_ok-bind.ensures.free c.requires) c.in_ok-bind.ensures.free.1 c.bind.new.names c.in_ok-bind.ensures.bound (holdings_of c.create.new.self) c.create.ensures.kept.holdings born c.create.ensures.kept.sizes).0
 
 pub returns-clause-answers : goal.returns-clause-answers
 returns-clause-answers g c =
@@ -115,11 +115,11 @@ returns-clause-answers g c =
     let next = next_of roomy.0 roomy.1 c.unwrap-entity.result (sym c.upcoming.ensures ∙ c.unwrap-entity.ensures) in
     let born = made_is (upcoming (holdings_of w.archetypes)) (λ f. HoldAlike (holdings_of c.create.new.self) (with_cells (with_entity (holdings_of w.archetypes) f) f.index [])) c.create.result c.unwrap-entity.result c.create.ensures.next c.create.ensures.born (sym c.is_err.ensures.value ∙ c.if-is_err.false) (sym c.upcoming.ensures ∙ c.unwrap-entity.ensures) in
     told_entity c.args.self.now.state _ c.of_birth.result c.args.name.now c.unwrap-entity.result next (none_entity roomy.0 roomy.1 c.args.name.now c.in_ok-bind.ensures.free c.requires)
-    (named_left roomy.0 roomy.1 c.unwrap-entity.result next c.in_ok-cover.ensures.covers c.args.name.now (none_entity roomy.0 roomy.1 c.args.name.now c.in_ok-bind.ensures.free c.requires) c.in_ok-bind.ensures.free.1 c.bind.new.names c.in_ok-bind.ensures.bound (holdings_of c.create.new.self) c.create.ensures.holdings born c.create.ensures.sizes).1
+    (named_left roomy.0 roomy.1 c.unwrap-entity.result next c.in_ok-cover.ensures.covers c.args.name.now (none_entity roomy.0 roomy.1 c.args.name.now c.in_ok-bind.ensures.free c.requires) c.in_ok-bind.ensures.free.1 c.bind.new.names c.in_ok-bind.ensures.bound (holdings_of c.create.new.self) c.create.ensures.kept.holdings born c.create.ensures.kept.sizes).1
     c.of_birth.ensures
 
 pub returns-clause-goes_on : goal.returns-clause-goes_on
-returns-clause-goes_on g c = going_on c.self.view_is c.create.ensures.goes_on
+returns-clause-goes_on g c = going_on c.self.view_is c.create.ensures.kept.goes_on
 
 pub returns-clause-stay : goal.returns-clause-stay
-returns-clause-stay g c = staying_on c.self.view_is c.create.ensures.stay
+returns-clause-stay g c = staying_on c.self.view_is c.create.ensures.kept.stay

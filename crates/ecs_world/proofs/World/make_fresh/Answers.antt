@@ -50,18 +50,18 @@ create-requires-clause-agree g c = refl
 pub invariant_of-self-then-is_err : goal.invariant_of-self-then-is_err
 invariant_of-self-then-is_err g c =
     let roomy = further c.self.invariant (state_is c.self.view_is) c.cover.new.pins c.cover.ensures.entries c.cover.ensures.further in
-    (failed roomy.0 roomy.1 [] refl (holdings_of c.create.new.self) c.create.ensures.holdings (on_err c.create.result c.create.ensures.refused (sym c.is_err.ensures.value ∙ c.if-is_err.true)) c.create.ensures.sizes).0
+    (failed roomy.0 roomy.1 [] refl (holdings_of c.create.new.self) c.create.ensures.kept.holdings (on_err c.create.result c.create.ensures.refused (sym c.is_err.ensures.value ∙ c.if-is_err.true)) c.create.ensures.kept.sizes).0
 
 pub returns-then-is_err-clause-answers : goal.returns-then-is_err-clause-answers
 returns-then-is_err-clause-answers g c =
     let roomy = further c.self.invariant (state_is c.self.view_is) c.cover.new.pins c.cover.ensures.entries c.cover.ensures.further in
-    (failed roomy.0 roomy.1 [] refl (holdings_of c.create.new.self) c.create.ensures.holdings (on_err c.create.result c.create.ensures.refused (sym c.is_err.ensures.value ∙ c.if-is_err.true)) c.create.ensures.sizes).1
+    (failed roomy.0 roomy.1 [] refl (holdings_of c.create.new.self) c.create.ensures.kept.holdings (on_err c.create.result c.create.ensures.refused (sym c.is_err.ensures.value ∙ c.if-is_err.true)) c.create.ensures.kept.sizes).1
 
 pub returns-then-is_err-clause-goes_on : goal.returns-then-is_err-clause-goes_on
-returns-then-is_err-clause-goes_on g c = going_on c.self.view_is c.create.ensures.goes_on
+returns-then-is_err-clause-goes_on g c = going_on c.self.view_is c.create.ensures.kept.goes_on
 
 pub returns-then-is_err-clause-stay : goal.returns-then-is_err-clause-stay
-returns-then-is_err-clause-stay g c = staying_on c.self.view_is c.create.ensures.stay
+returns-then-is_err-clause-stay g c = staying_on c.self.view_is c.create.ensures.kept.stay
 
 pub overflow_add-self : goal.overflow_add-self
 overflow_add-self g c =
@@ -74,7 +74,7 @@ invariant_of-self-2 g c =
     let roomy = further c.self.invariant (state_is c.self.view_is) c.cover.new.pins c.cover.ensures.entries c.cover.ensures.further in
     let next = next_of roomy.0 roomy.1 c.unwrap-entity.result (sym c.upcoming.ensures ∙ c.unwrap-entity.ensures) in
     let born = made_is (upcoming (holdings_of w.archetypes)) (λ f. HoldAlike (holdings_of c.create.new.self) (with_cells (with_entity (holdings_of w.archetypes) f) f.index [])) c.create.result c.unwrap-entity.result c.create.ensures.next c.create.ensures.born (sym c.is_err.ensures.value ∙ c.if-is_err.false) (sym c.upcoming.ensures ∙ c.unwrap-entity.ensures) in
-    (fresh_left roomy.0 roomy.1 c.unwrap-entity.result next c.in_ok-cover.ensures.covers (sym (fresh_refusal c.args.self.now.state) ∙ c.requires) (holdings_of c.create.new.self) c.create.ensures.holdings born c.create.ensures.sizes).0
+    (fresh_left roomy.0 roomy.1 c.unwrap-entity.result next c.in_ok-cover.ensures.covers (sym (fresh_refusal c.args.self.now.state) ∙ c.requires) (holdings_of c.create.new.self) c.create.ensures.kept.holdings born c.create.ensures.kept.sizes).0
 
 pub returns-clause-answers : goal.returns-clause-answers
 returns-clause-answers g c =
@@ -83,11 +83,11 @@ returns-clause-answers g c =
     let next = next_of roomy.0 roomy.1 c.unwrap-entity.result (sym c.upcoming.ensures ∙ c.unwrap-entity.ensures) in
     let born = made_is (upcoming (holdings_of w.archetypes)) (λ f. HoldAlike (holdings_of c.create.new.self) (with_cells (with_entity (holdings_of w.archetypes) f) f.index [])) c.create.result c.unwrap-entity.result c.create.ensures.next c.create.ensures.born (sym c.is_err.ensures.value ∙ c.if-is_err.false) (sym c.upcoming.ensures ∙ c.unwrap-entity.ensures) in
     told_fresh c.args.self.now.state _ c.of_birth.result c.unwrap-entity.result next (sym (fresh_refusal c.args.self.now.state) ∙ c.requires)
-    (fresh_left roomy.0 roomy.1 c.unwrap-entity.result next c.in_ok-cover.ensures.covers (sym (fresh_refusal c.args.self.now.state) ∙ c.requires) (holdings_of c.create.new.self) c.create.ensures.holdings born c.create.ensures.sizes).1
+    (fresh_left roomy.0 roomy.1 c.unwrap-entity.result next c.in_ok-cover.ensures.covers (sym (fresh_refusal c.args.self.now.state) ∙ c.requires) (holdings_of c.create.new.self) c.create.ensures.kept.holdings born c.create.ensures.kept.sizes).1
     c.of_birth.ensures
 
 pub returns-clause-goes_on : goal.returns-clause-goes_on
-returns-clause-goes_on g c = going_on c.self.view_is c.create.ensures.goes_on
+returns-clause-goes_on g c = going_on c.self.view_is c.create.ensures.kept.goes_on
 
 pub returns-clause-stay : goal.returns-clause-stay
-returns-clause-stay g c = staying_on c.self.view_is c.create.ensures.stay
+returns-clause-stay g c = staying_on c.self.view_is c.create.ensures.kept.stay

@@ -81,19 +81,19 @@ pub invariant_of-self-then-is_err : goal.invariant_of-self-then-is_err
 invariant_of-self-then-is_err g c =
     let is = state_is c.self.view_is in
     let world = c.self.invariant in
-    (failed world is [] refl (holdings_of c.remove.new.self) c.remove.ensures.holdings (on_err c.remove.result c.remove.ensures.refused (sym c.is_err.ensures.value ∙ c.if-is_err.true)) c.remove.ensures.sizes).0
+    (failed world is [] refl (holdings_of c.remove.new.self) c.remove.ensures.kept.holdings (on_err c.remove.result c.remove.ensures.refused (sym c.is_err.ensures.value ∙ c.if-is_err.true)) c.remove.ensures.kept.sizes).0
 
 pub returns-then-is_err-clause-answers : goal.returns-then-is_err-clause-answers
 returns-then-is_err-clause-answers g c =
     let is = state_is c.self.view_is in
     let world = c.self.invariant in
-    (failed world is [] refl (holdings_of c.remove.new.self) c.remove.ensures.holdings (on_err c.remove.result c.remove.ensures.refused (sym c.is_err.ensures.value ∙ c.if-is_err.true)) c.remove.ensures.sizes).1
+    (failed world is [] refl (holdings_of c.remove.new.self) c.remove.ensures.kept.holdings (on_err c.remove.result c.remove.ensures.refused (sym c.is_err.ensures.value ∙ c.if-is_err.true)) c.remove.ensures.kept.sizes).1
 
 pub returns-then-is_err-clause-goes_on : goal.returns-then-is_err-clause-goes_on
-returns-then-is_err-clause-goes_on g c = going_on c.self.view_is c.remove.ensures.goes_on
+returns-then-is_err-clause-goes_on g c = going_on c.self.view_is c.remove.ensures.kept.goes_on
 
 pub returns-then-is_err-clause-stay : goal.returns-then-is_err-clause-stay
-returns-then-is_err-clause-stay g c = staying_on c.self.view_is c.remove.ensures.stay
+returns-then-is_err-clause-stay g c = staying_on c.self.view_is c.remove.ensures.kept.stay
 
 pub overflow_add-self-2 : goal.overflow_add-self-2
 overflow_add-self-2 g c =
@@ -108,7 +108,7 @@ invariant_of-self-2 g c =
     let world = c.self.invariant in
     let alone = c.requires.unmirrored in
     let none = sym c.in_default-remove_refusal.ensures in
-    (go world is e i alone none (holdings_of c.remove.new.self) c.remove.ensures.holdings (on_ok c.remove.result c.remove.ensures.removed (sym c.is_err.ensures.value ∙ c.if-is_err.false)) c.remove.ensures.sizes).0
+    (go world is e i alone none (holdings_of c.remove.new.self) c.remove.ensures.kept.holdings (on_ok c.remove.result c.remove.ensures.removed (sym c.is_err.ensures.value ∙ c.if-is_err.false)) c.remove.ensures.kept.sizes).0
 
 pub returns-clause-answers : goal.returns-clause-answers
 returns-clause-answers g c =
@@ -122,11 +122,11 @@ returns-clause-answers g c =
     let present = sym (found_held world is e i c.in-Some.found.is_held c.in-Some.ensures.held) ∙ denied c.in-Some.found.is_held c.if-not-found.false in
     let sound : IsWellFormed w = subst IsWellFormed is world.sound in
     told_remove w _ c.of_went.result e i sound true alone present none
-    (go world is e i alone none (holdings_of c.remove.new.self) c.remove.ensures.holdings (on_ok c.remove.result c.remove.ensures.removed (sym c.is_err.ensures.value ∙ c.if-is_err.false)) c.remove.ensures.sizes).1
+    (go world is e i alone none (holdings_of c.remove.new.self) c.remove.ensures.kept.holdings (on_ok c.remove.result c.remove.ensures.removed (sym c.is_err.ensures.value ∙ c.if-is_err.false)) c.remove.ensures.kept.sizes).1
     (c.of_went.ensures ∙ (λ k. record no_change { went = c.new-key.ensures k ∷ [] }))
 
 pub returns-clause-goes_on : goal.returns-clause-goes_on
-returns-clause-goes_on g c = going_on c.self.view_is c.remove.ensures.goes_on
+returns-clause-goes_on g c = going_on c.self.view_is c.remove.ensures.kept.goes_on
 
 pub returns-clause-stay : goal.returns-clause-stay
-returns-clause-stay g c = staying_on c.self.view_is c.remove.ensures.stay
+returns-clause-stay g c = staying_on c.self.view_is c.remove.ensures.kept.stay

@@ -77,7 +77,7 @@ invariant_of-self g c =
     let can = judged-add w e i alone.no_trait (add_of_set w e i vs none).1 in
     let sized = length-take-le c.in-Ok.size c.judge_single.new.buffer (omega (arith, c.in-Ok.ensures.encoded.few, c.judge_single.array_long)) ∙ c.in-Ok.ensures.encoded.sized in
     (failed world is ((i, length bytes) ∷ []) (fits_there world is e i can (length bytes) sized)
-    (holdings_of c.put.new.self) c.put.ensures.holdings (on_err c.put.result c.put.ensures.refused (sym c.is_err.ensures.value ∙ c.if-is_err.true)) c.put.ensures.sizes).0
+    (holdings_of c.put.new.self) c.put.ensures.kept.holdings (on_err c.put.result c.put.ensures.refused (sym c.is_err.ensures.value ∙ c.if-is_err.true)) c.put.ensures.kept.sizes).0
 
 pub returns-then-is_err-clause-answers : goal.returns-then-is_err-clause-answers
 returns-then-is_err-clause-answers g c =
@@ -93,13 +93,13 @@ returns-then-is_err-clause-answers g c =
     let can = judged-add w e i alone.no_trait (add_of_set w e i vs none).1 in
     let sized = length-take-le c.in-Ok.size c.judge_single.new.buffer (omega (arith, c.in-Ok.ensures.encoded.few, c.judge_single.array_long)) ∙ c.in-Ok.ensures.encoded.sized in
     (failed world is ((i, length bytes) ∷ []) (fits_there world is e i can (length bytes) sized)
-    (holdings_of c.put.new.self) c.put.ensures.holdings (on_err c.put.result c.put.ensures.refused (sym c.is_err.ensures.value ∙ c.if-is_err.true)) c.put.ensures.sizes).1
+    (holdings_of c.put.new.self) c.put.ensures.kept.holdings (on_err c.put.result c.put.ensures.refused (sym c.is_err.ensures.value ∙ c.if-is_err.true)) c.put.ensures.kept.sizes).1
 
 pub returns-then-is_err-clause-goes_on : goal.returns-then-is_err-clause-goes_on
-returns-then-is_err-clause-goes_on g c = going_on c.self.view_is c.put.ensures.goes_on
+returns-then-is_err-clause-goes_on g c = going_on c.self.view_is c.put.ensures.kept.goes_on
 
 pub returns-then-is_err-clause-stay : goal.returns-then-is_err-clause-stay
-returns-then-is_err-clause-stay g c = staying_on c.self.view_is c.put.ensures.stay
+returns-then-is_err-clause-stay g c = staying_on c.self.view_is c.put.ensures.kept.stay
 
 pub overflow_add-self : goal.overflow_add-self
 overflow_add-self g c =
@@ -125,8 +125,8 @@ invariant_of-self-2 g c =
     let none = c.in-Ok.ensures.judged in
     let bytes = take c.in-Ok.size c.judge_single.new.buffer in
     let sized = length-take-le c.in-Ok.size c.judge_single.new.buffer (omega (arith, c.in-Ok.ensures.encoded.few, c.judge_single.array_long)) ∙ c.in-Ok.ensures.encoded.sized in
-    (set_left world is e i alone vs none (holdings_of c.put.new.self) bytes c.put.ensures.holdings sized
-    (on_ok c.put.result c.put.ensures.put (sym c.is_err.ensures.value ∙ c.if-is_err.false)) c.put.ensures.sizes c.in-Ok.ensures.encoded.value).0
+    (set_left world is e i alone vs none (holdings_of c.put.new.self) bytes c.put.ensures.kept.holdings sized
+    (on_ok c.put.result c.put.ensures.put (sym c.is_err.ensures.value ∙ c.if-is_err.false)) c.put.ensures.kept.sizes c.in-Ok.ensures.encoded.value).0
 
 pub returns-clause-answers : goal.returns-clause-answers
 returns-clause-answers g c =
@@ -140,8 +140,8 @@ returns-clause-answers g c =
     let none = c.in-Ok.ensures.judged in
     let bytes = take c.in-Ok.size c.judge_single.new.buffer in
     let sized = length-take-le c.in-Ok.size c.judge_single.new.buffer (omega (arith, c.in-Ok.ensures.encoded.few, c.judge_single.array_long)) ∙ c.in-Ok.ensures.encoded.sized in
-    let left = (set_left world is e i alone vs none (holdings_of c.put.new.self) bytes c.put.ensures.holdings sized
-    (on_ok c.put.result c.put.ensures.put (sym c.is_err.ensures.value ∙ c.if-is_err.false)) c.put.ensures.sizes c.in-Ok.ensures.encoded.value).1 in
+    let left = (set_left world is e i alone vs none (holdings_of c.put.new.self) bytes c.put.ensures.kept.holdings sized
+    (on_ok c.put.result c.put.ensures.put (sym c.is_err.ensures.value ∙ c.if-is_err.false)) c.put.ensures.kept.sizes c.in-Ok.ensures.encoded.value).1 in
     let same = found_held world is e i c.in-Some.found.is_held c.in-Some.ensures.held in
     let changed = λ (held : Bool). record no_change { came = if held then [] else (e.index, i) ∷ []; written = (e.index, i) ∷ [] } in
     elim c.if-found.branch [
@@ -152,7 +152,7 @@ returns-clause-answers g c =
     ]
 
 pub returns-clause-goes_on : goal.returns-clause-goes_on
-returns-clause-goes_on g c = going_on c.self.view_is c.put.ensures.goes_on
+returns-clause-goes_on g c = going_on c.self.view_is c.put.ensures.kept.goes_on
 
 pub returns-clause-stay : goal.returns-clause-stay
-returns-clause-stay g c = staying_on c.self.view_is c.put.ensures.stay
+returns-clause-stay g c = staying_on c.self.view_is c.put.ensures.kept.stay

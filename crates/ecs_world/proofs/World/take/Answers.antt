@@ -23,17 +23,17 @@ change_facts-requires-clause-settled g c =
 pub invariant_of-self : goal.invariant_of-self
 invariant_of-self g c =
     let list : IsTold c.args.self.now.state c.args.entity c.args.id c.args.went.now = record { none = c.requires.judged; went_are = c.requires.listed } in
-    left_world c.self.invariant (state_is c.self.view_is) c.args.entity c.args.id c.args.went.now list (holdings_of c.change_facts.new.self) c.change_facts.ensures.holdings c.change_facts.ensures.sizes c.change_facts.result
+    left_world c.self.invariant (state_is c.self.view_is) c.args.entity c.args.id c.args.went.now list (holdings_of c.change_facts.new.self) c.change_facts.ensures.kept.holdings c.change_facts.ensures.kept.sizes c.change_facts.result
     c.change_facts.ensures.changed c.change_facts.ensures.refused
 
 pub returns-clause-taken : goal.returns-clause-taken
 returns-clause-taken g c =
     let list : IsTold c.args.self.now.state c.args.entity c.args.id c.args.went.now = record { none = c.requires.judged; went_are = c.requires.listed } in
-    left_taken c.self.invariant (state_is c.self.view_is) c.args.entity c.args.id c.args.went.now list (holdings_of c.change_facts.new.self) c.change_facts.ensures.holdings c.change_facts.ensures.sizes c.change_facts.result
+    left_taken c.self.invariant (state_is c.self.view_is) c.args.entity c.args.id c.args.went.now list (holdings_of c.change_facts.new.self) c.change_facts.ensures.kept.holdings c.change_facts.ensures.kept.sizes c.change_facts.result
     c.change_facts.ensures.changed
 
 pub returns-clause-refused : goal.returns-clause-refused
 returns-clause-refused g c =
     let list : IsTold c.args.self.now.state c.args.entity c.args.id c.args.went.now = record { none = c.requires.judged; went_are = c.requires.listed } in
-    left_refused c.self.invariant (state_is c.self.view_is) c.args.entity c.args.id c.args.went.now list (holdings_of c.change_facts.new.self) c.change_facts.ensures.holdings c.change_facts.ensures.sizes c.change_facts.result
+    left_refused c.self.invariant (state_is c.self.view_is) c.args.entity c.args.id c.args.went.now list (holdings_of c.change_facts.new.self) c.change_facts.ensures.kept.holdings c.change_facts.ensures.kept.sizes c.change_facts.result
     c.change_facts.ensures.refused

@@ -15,8 +15,8 @@ set_value-requires-clause-size g c = size_there c.self.invariant (state_is c.sel
 
 pub invariant_of-self : goal.invariant_of-self
 invariant_of-self g c = world_written c.self.invariant (state_is c.self.view_is) c.args.entity c.requires.alive c.args.id c.requires.held c.args.bytes.now
-    (holdings_of c.set_value.new.self) c.set_value.ensures.holdings c.set_value.ensures.written c.set_value.ensures.sizes c.requires.sound
+    (holdings_of c.set_value.new.self) c.set_value.ensures.kept.holdings c.set_value.ensures.written c.set_value.ensures.kept.sizes c.requires.sound
 
 pub returns-clause-state : goal.returns-clause-state
 returns-clause-state g c = state_written c.self.invariant (state_is c.self.view_is) c.args.entity c.requires.alive c.args.id c.requires.held c.args.bytes.now
-    (holdings_of c.set_value.new.self) c.set_value.ensures.holdings c.set_value.ensures.written
+    (holdings_of c.set_value.new.self) c.set_value.ensures.kept.holdings c.set_value.ensures.written

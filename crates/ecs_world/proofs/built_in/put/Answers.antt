@@ -18,4 +18,4 @@ settle-requires-clause-agree g c = tags_agree (holdings_of c.args.archetypes.now
 
 pub returns : goal.returns
 returns g c = on_ok_all c.settle.result c.settle.ensures.settled
-    (λ alike. settled_more (holdings_of c.args.archetypes.now) c.args.settled (c.args.settled + 1) refl (omega (arith, c.requires.few)) c.requires.before (holdings_of c.settle.new.self) c.args.ids.now c.requires.tags c.requires.first c.settle.ensures.holdings alike c.settle.ensures.sizes)
+    (λ alike. settled_more (holdings_of c.args.archetypes.now) c.args.settled (c.args.settled + 1) refl (omega (arith, c.requires.few)) c.requires.before (holdings_of c.settle.new.self) c.args.ids.now c.requires.tags c.requires.first c.settle.ensures.kept.holdings alike c.settle.ensures.kept.sizes)

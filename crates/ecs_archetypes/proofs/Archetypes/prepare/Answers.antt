@@ -1,0 +1,6 @@
+-- The table is found or made, and each entity stands where it stood.
+use Rattle.ecs_archetypes.proofs.StandingTables.{room_made}
+use Rattle.ecs_archetypes.proofs.Archetypes.prepare.Goals as goal
+
+pub returns-clause-kept : goal.returns-clause-kept
+returns-clause-kept g c = room_made c.self.inside.entities c.self.inside.tables c.args.self.now c.self.view_is c.self.invariant.sound c.args.ids.now c.table_for.new.tables c.table_for.new.components c.table_for.ensures.kept
