@@ -16,14 +16,14 @@ use Rattle.ecs_model.proofs.Maps.{both_true, key_cmp_same}
 use Rattle.component_index.specs.declared.pattern.Part.TheVariants.{Is, Any}
 use Rattle.component_index.specs.declared.pattern.Pattern.{Pattern}
 use Rattle.component_index.specs.Patterns.{matches}
-use Rattle.table_store.specs.Going.{TablesGoOn, goes_on_same, goes_on_then}
+use Rattle.table_store.specs.Going.{goes_on_same, goes_on_then}
 use Rattle.table_store.specs.Rows.{Cells, Row, cells_of, row_at, rows_in}
 use Rattle.table_store.specs.Store.{IsStore, Shape, Store, ids_at, shape_at, shape_of, table_at}
 use Rattle.ecs_archetypes.specs.Archetypes.{known_in}
 use Rattle.ecs_archetypes.specs.Holdings.{AreHoldings, HoldAlike, holds_id}
 use Rattle.ecs_archetypes.specs.Housing.{Housing, IsHoused, holdings_of}
 use Rattle.ecs_archetypes.specs.Scans.{HasMatch, StandApart}
-use Rattle.ecs_archetypes.specs.Staying.{TablesStay, stay_more, stay_same, stay_then}
+use Rattle.ecs_archetypes.specs.Staying.{stay_more, stay_same, stay_then}
 use Rattle.ecs_archetypes.proofs.FactSections.{key_other, key_own}
 use Rattle.ecs_archetypes.proofs.KnownIds.{of_all_shapes, of_shape, shape_stands}
 use Rattle.ecs_archetypes.proofs.MapLists.{both}
@@ -31,6 +31,7 @@ use Rattle.ecs_archetypes.proofs.TableScans.{have_rows}
 use Rattle.ecs_archetypes.proofs.Soundness.{holdings}
 use Rattle.ecs_archetypes.proofs.EnteredTables.{ids_of_shape}
 use Rattle.ecs_archetypes.proofs.StandingTables.{stay_apart}
+pub use Rattle.ecs_world.specs.Releases.{AreLeft}
 use Rattle.ecs_world.specs.Releases.{gets_no_data, mentions_one}
 
 -- cells have each id that is found among theirs
@@ -103,14 +104,6 @@ sizes_released pattern s n is gone apart test old = of_all_shapes n is test each
         let was : ids_at s k ≡ Some (map (λ c. c.0) f) = (apart.goes_on).stood k (map (λ c. c.0) f) given ids in
         let unmatched : HasMatch s pattern k → ⊥ = λ m. let here : Some m.0 ≡ Some (map (λ c. c.0) f) = sym m.1 ∙ was in let same : m.0 ≡ map (λ c. c.0) f = cc in true≢false (sym m.2 ∙ ap (list_any (matches pattern)) same ∙ none) in
         spared (matches pattern) test f none (of_shape s (λ c. matches pattern c.0 || test c) k f (sym (ap (option_map shape_of) (apart.others k unmatched)) ∙ at) old)
-
--- the housing after all tables with ids of these were released, and none without
-pub record AreLeft (gone : Id → Bool) (g h : Housing) : Type 0 where
-  pub held : HoldAlike (holdings_of h) (holdings_of g)
-  pub sizes : (test : Id × ℕ → Bool) → list_all (λ c. gone c.0 || test c) (known_in g.tables) ≡ true → list_all test (known_in h.tables) ≡ true
-  pub goes_on : TablesGoOn g.tables h.tables
-  pub stay : TablesStay (list_any gone) g.tables h.tables
-  pub whole : IsHoused h
 
 pub left_none : (g : Housing) → IsHoused g → AreLeft (λ i. false) g g
 left_none g whole = record { held = record { live = refl; deletions = refl; cells = refl }; sizes = λ test old. old; goes_on = goes_on_same g.tables; stay = stay_same (list_any (λ i. false)) g.tables; whole = whole }

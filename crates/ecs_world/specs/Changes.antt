@@ -14,22 +14,12 @@ use Rattle.ecs_model.specs.traits.Changes.{coming, replaced}
 use Rattle.ecs_model.specs.traits.Keeps.{IsWellFormed}
 use Rattle.ecs_world.specs.State.{birth, byte_count, listed, no_change, value_in}
 use Rattle.ecs_world.specs.declared.changes.ChangeLists.{ChangeLists}
-use Rattle.ecs_world.specs.declared.changes.Deaths.{Deaths}
-use Rattle.ecs_world.specs.declared.changes.Replacement.{Replacement}
 use Rattle.ecs_world.specs.declared.changes.Told.{Told}
 use Rattle.ecs_world.specs.declared.changes.Told.TheVariants.{Nothing, Born, BornWith, Came, Went, Replaced, Written, CameWritten, Died, Lists}
 
 -- what lists tell
 abbrev pub changed_in : {Y : Type 0} → ChangeLists Y → Changed
 changed_in l = record no_change { died = ((l.lists).value).died.items; came = ((l.lists).value).came.items; went = ((l.lists).value).went.items; written = listed ((l.lists).value).written }
-
--- what one fact in the place of another tells
-abbrev pub replaced_in : {Y : Type 0} → Replacement Y → Changed
-replaced_in r = record no_change { came = ((r.facts).value).came ∷ []; went = ((r.facts).value).went ∷ [] }
-
--- what deaths tell with which one fact goes at most
-abbrev pub fallen_in : {Y : Type 0} → Deaths Y → Changed
-fallen_in d = record no_change { died = ((d.fallen).value).died.items; went = listed ((d.fallen).value).went }
 
 -- what a command tells
 abbrev pub changed_by : {Y : Type 0} → Told Y → Changed
@@ -38,10 +28,10 @@ changed_by (Born e) = birth e
 changed_by (BornWith generation fact) = record (birth (record { index = fact.0; generation = generation })) { came = fact ∷ [] }
 changed_by (Came fact) = record no_change { came = fact ∷ [] }
 changed_by (Went fact) = record no_change { went = fact ∷ [] }
-changed_by (Replaced replacement) = replaced_in replacement
+changed_by (Replaced facts) = record no_change { came = (facts.value).came ∷ []; went = (facts.value).went ∷ [] }
 changed_by (Written fact) = record no_change { written = fact ∷ [] }
 changed_by (CameWritten fact) = record no_change { came = fact ∷ []; written = fact ∷ [] }
-changed_by (Died deaths) = fallen_in deaths
+changed_by (Died fallen) = record no_change { died = (fallen.value).died.items; went = listed (fallen.value).went }
 changed_by (Lists lists) = changed_in lists
 
 -- facts, each with how many bytes its value has

@@ -1,9 +1,13 @@
 -- Which tables are released.
-use Rattle.std.specs.Prelude.{ℕ, ◌==◌, Bool, false, not, ◌&&◌, ◌||◌, List}
-use Rattle.std.specs.List.{list_any}
+use Rattle.std.specs.Prelude.{ℕ, ◌==◌, Bool, false, not, ◌&&◌, ◌||◌, IsTrue, List}
+use Rattle.std.specs.List.{list_all, list_any}
 use Rattle.ecs_id.specs.Id.{Id, plain, pair, mentioned}
 use Rattle.ecs_model.specs.World.{WorldState, Key, holds, is_live, key_eq, pair_is_tag}
+use Rattle.ecs_archetypes.specs.Archetypes.{known_in}
+use Rattle.ecs_archetypes.specs.Holdings.{HoldAlike}
+use Rattle.ecs_archetypes.specs.Housing.{Housing, IsHoused, holdings_of}
 use Rattle.ecs_archetypes.specs.Staying.{TablesStay, none_goes}
+use Rattle.table_store.specs.Going.{TablesGoOn}
 use Rattle.ecs_world.specs.Standing.{Standing}
 
 -- whether an id is a pair of a relationship to which PairIsTag comes
@@ -14,6 +18,14 @@ gets_no_data came (pair r t) = list_any (λ k. key_eq k.0 (r, plain pair_is_tag)
 -- whether an id mentions one of these
 abbrev pub mentions_one : List ℕ → Id → Bool
 mentions_one dead i = list_any (λ x. list_any (λ d. x == d) dead) (mentioned i)
+
+-- the housing after all tables with ids of these were released, and none without
+pub record AreLeft (gone : Id → Bool) (g h : Housing) : Type 0 where
+  pub held : HoldAlike (holdings_of h) (holdings_of g)
+  pub sizes : (test : Id × ℕ → Bool) → IsTrue (list_all (λ c. gone c.0 || test c) (known_in g.tables)) → IsTrue (list_all test (known_in h.tables))
+  pub goes_on : TablesGoOn g.tables h.tables
+  pub stay : TablesStay (list_any gone) g.tables h.tables
+  pub whole : IsHoused h
 
 -- whether an id mentions one who lives before and doesn't live after
 abbrev pub mentions_dead : WorldState → WorldState → Id → Bool

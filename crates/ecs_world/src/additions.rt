@@ -43,14 +43,10 @@ impl<A: Allocator + Copy> World<A> {
         ensures copies_live { OnOk result (All (IsOfLive (entities self.old.state)) additions.new.copies.items) }
     {
         let size = self.archetypes.size();
-        if self.scratch.reserve(size).is_err() {
-            return Err(Memory);
-        }
+        self.scratch.reserve(size)?;
         let links = Links::new(&self.archetypes, size);
         let fact = FactKey::new(entity.index, id);
-        if additions.gather(&links, fact, &mut self.scratch).is_err() {
-            return Err(Memory);
-        }
+        additions.gather(&links, fact, &mut self.scratch)?;
         Ok(())
     }
 
@@ -72,9 +68,7 @@ impl<A: Allocator + Copy> World<A> {
         ensures judged { IfOk result (λ refusal. refusal ≡ first_reason (add_reasons self.old.state entity.index id)) }
     {
         let size = self.archetypes.size();
-        if self.scratch.reserve(size).is_err() {
-            return Err(Memory);
-        }
+        self.scratch.reserve(size)?;
         let is_spent = self.is_spent();
         let links = Links::new(&self.archetypes, size);
         let fact = FactKey::new(entity.index, id);
@@ -174,9 +168,7 @@ impl<A: Allocator + Copy> World<A> {
         ensures small { OnOk result (IsTrue (list_all (λ c. nat_le c.1 64) sized.new.items)) }
     {
         sized.clear();
-        if sized.reserve(facts.len()).is_err() {
-            return Err(Memory);
-        }
+        sized.reserve(facts.len())?;
         for fact in facts {
             let sized_fact = SizedFact::new(*fact, self.size_of(fact.id()));
             if sized.push(sized_fact).is_err() {
@@ -213,9 +205,7 @@ impl<A: Allocator + Copy> World<A> {
     {
         let links = Links::new(&self.archetypes, self.archetypes.size());
         let fact = FactKey::new(entity.index, id);
-        if gather_remove(&links, fact, went).is_err() {
-            return Err(Memory);
-        }
+        gather_remove(&links, fact, went)?;
         Ok(())
     }
 

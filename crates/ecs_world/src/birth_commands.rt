@@ -2,10 +2,9 @@
 
 ghost use Rattle.std.specs.Prelude.{◌≡◌, ◌<◌, ◌≤◌, IfErr, None, OnErr, OnOk, true};
 ghost use Rattle.std.specs.FinMap as finite;
-ghost use Rattle.ecs_model.specs.Command.{AnswersStep, birth_reasons};
+ghost use Rattle.ecs_model.specs.Command.{AnswersStep};
 ghost use Rattle.ecs_model.specs.declared.faults.CommandError.TheVariants.{Memory};
 ghost use Rattle.ecs_model.specs.traits.Command.{Component, Entity, Fresh, step};
-ghost use Rattle.ecs_model.specs.Refusal.{first_reason};
 ghost use Rattle.ecs_model.specs.Text.{is_name};
 ghost use Rattle.name_index.specs.Names.{IsUnnamed};
 ghost use Rattle.ecs_world.specs.State.{IsUnbound};
@@ -13,8 +12,10 @@ ghost use Rattle.ecs_world.specs.Releases.{NoneGo};
 ghost use Rattle.table_store.specs.Going.{TablesGoOn};
 
 use crate::built_in::COMPONENT;
+use crate::changes::Told;
 use crate::{Changes, World};
 use ecs_id::{EntityId, Id};
+use ecs_model::FactKey;
 use ecs_model::faults::{CommandError, Refusal};
 use ecs_schema::Schema;
 use name_index::{BindError, NameIndex};
@@ -29,10 +30,16 @@ impl<A: Allocator + Copy> World<A> {
         ensures goes_on { TablesGoOn self.old.tables self.new.tables }
         ensures stay { NoneGo self.old self.new }
     {
-        match self.birth_refusal() {
-            None => self.make_fresh(),
-            Some(refusal) => Err(CommandError::Refused(refusal)),
+        if let Some(refusal) = self.birth_refusal() {
+            return Err(CommandError::Refused(refusal));
         }
+        let entity = self.archetypes.upcoming().unwrap();
+        cover(&mut self.pins, entity)?;
+        if self.archetypes.create(&[]).is_err() {
+            return Err(CommandError::Memory);
+        }
+        self.accepted += 1;
+        Ok(Changes::of(Told::Born(entity)))
     }
 
     /// Makes an entity with a name and without facts.
@@ -41,45 +48,9 @@ impl<A: Allocator + Copy> World<A> {
         ensures goes_on { TablesGoOn self.old.tables self.new.tables }
         ensures stay { NoneGo self.old self.new }
     {
-        match self.birth_refusal() {
-            None => self.make_entity(name),
-            Some(full) => Err(CommandError::Refused(self.refusal_of(name, full))),
+        if let Some(full) = self.birth_refusal() {
+            return Err(CommandError::Refused(self.refusal_of(name, full)));
         }
-    }
-
-    /// Makes an entity with a name and fields, which holds the tag `Component`.
-    pub fn component(&mut self, name: &str, schema: Schema<A>) -> Result<Changes<A>, CommandError>
-        ensures answers { AnswersStep result (step self.old.state (Component name.now schema)) self.old.state self.new.state }
-        ensures goes_on { TablesGoOn self.old.tables self.new.tables }
-        ensures stay { NoneGo self.old self.new }
-    {
-        match self.birth_refusal() {
-            None => self.make_component(name, schema),
-            Some(full) => Err(CommandError::Refused(self.refusal_of(name, full))),
-        }
-    }
-
-    fn make_fresh(&mut self) -> Result<Changes<A>, CommandError>
-        requires { first_reason (birth_reasons self.old.state) ≡ None }
-        ensures answers { AnswersStep result (step self.old.state Fresh) self.old.state self.new.state }
-        ensures goes_on { TablesGoOn self.old.tables self.new.tables }
-        ensures stay { NoneGo self.old self.new }
-    {
-        let entity = self.archetypes.upcoming().unwrap();
-        cover(&mut self.pins, entity)?;
-        if self.archetypes.create(&[]).is_err() {
-            return Err(CommandError::Memory);
-        }
-        self.accepted += 1;
-        Ok(Changes::of_birth(entity))
-    }
-
-    fn make_entity(&mut self, name: &str) -> Result<Changes<A>, CommandError>
-        requires { first_reason (birth_reasons self.old.state) ≡ None }
-        ensures answers { AnswersStep result (step self.old.state (Entity name.now)) self.old.state self.new.state }
-        ensures goes_on { TablesGoOn self.old.tables self.new.tables }
-        ensures stay { NoneGo self.old self.new }
-    {
         let entity = self.archetypes.upcoming().unwrap();
         cover(&mut self.pins, entity)?;
         bind(&mut self.names, name, entity)?;
@@ -88,15 +59,18 @@ impl<A: Allocator + Copy> World<A> {
             return Err(CommandError::Memory);
         }
         self.accepted += 1;
-        Ok(Changes::of_birth(entity))
+        Ok(Changes::of(Told::Born(entity)))
     }
 
-    fn make_component(&mut self, name: &str, schema: Schema<A>) -> Result<Changes<A>, CommandError>
-        requires { first_reason (birth_reasons self.old.state) ≡ None }
+    /// Makes an entity with a name and fields, which holds the tag `Component`.
+    pub fn component(&mut self, name: &str, schema: Schema<A>) -> Result<Changes<A>, CommandError>
         ensures answers { AnswersStep result (step self.old.state (Component name.now schema)) self.old.state self.new.state }
         ensures goes_on { TablesGoOn self.old.tables self.new.tables }
         ensures stay { NoneGo self.old self.new }
     {
+        if let Some(full) = self.birth_refusal() {
+            return Err(CommandError::Refused(self.refusal_of(name, full)));
+        }
         let entity = self.archetypes.upcoming().unwrap();
         // What is known of it: it has no fault.
         let _ = schema.fields();
@@ -113,7 +87,9 @@ impl<A: Allocator + Copy> World<A> {
             return Err(CommandError::Memory);
         }
         self.accepted += 1;
-        Ok(Changes::of_birth_with(entity, component))
+        let EntityId { index, generation } = entity;
+        let fact = FactKey::new(index, component);
+        Ok(Changes::of(Told::BornWith { generation, fact }))
     }
 }
 

@@ -2,12 +2,12 @@
 
 ghost use Rattle.std.specs.Prelude.{◌≡◌, [], ◌∷◌, IfOk};
 ghost use Rattle.std.specs.Option.{option_copied};
-ghost use Rattle.ecs_world.specs.Changes.{changed_in, fallen_in, replaced_in};
-ghost use Rattle.ecs_world.specs.State.{birth, listed, no_change};
+ghost use Rattle.ecs_world.specs.Changes.{changed_by, changed_in};
+ghost use Rattle.ecs_world.specs.State.{no_change};
 
 use crate::Memory;
 use crate::death_names::DeathName;
-use ecs_id::{EntityId, Id};
+use ecs_id::EntityId;
 use ecs_model::FactKey;
 use std::alloc::{Allocator, Global};
 use std::marker::Model;
@@ -114,75 +114,35 @@ impl<A: Allocator> ChangeLists<A> {
     }
 }
 
-/// A fact that came, and the one that went.
+/// A fact that came, and the one that went in its place. (They stand in a block, since two facts would make what every command tells larger,
+/// and slower to hand on.)
 #[derive(Drop)]
-struct Replaced {
-    came: FactKey,
-    went: FactKey,
+pub(crate) struct Replaced {
+    pub(crate) came: FactKey,
+    pub(crate) went: FactKey,
 }
 
-/// One fact in the place of another. A command makes it before it changes its world. (It stands in a block, since two facts would make what
-/// every command tells larger, and slower to hand on.)
+/// Entities that died, by ascending index, and the fact that went with them: one at most, so that it takes no list.
 #[derive(Drop)]
-pub(crate) struct Replacement<A: Allocator> {
-    facts: Box<Replaced, A>,
+pub(crate) struct Fallen<A: Allocator> {
+    pub(crate) died: Vec<Death<A>, A>,
+    pub(crate) went: Option<FactKey>,
 }
 
-impl<A: Allocator> Replacement<A> {
-    /// One fact that comes, in the place of another.
-    pub(crate) fn new(alloc: A, came: FactKey, went: FactKey) -> Result<Self, Memory>
-        ensures { IfOk result (λ it. replaced_in it ≡ record no_change { came = came ∷ []; went = went ∷ [] }) }
-    {
-        match Box::new(alloc, Replaced { came, went }) {
-            Ok(facts) => Ok(Replacement { facts }),
-            Err(_) => Err(Memory),
-        }
-    }
-}
-
-/// Entities that died, and the fact that went with them.
+/// What a command tells, which most of them tell of one fact or one entity without memory. What takes memory is made before the world changes.
 #[derive(Drop)]
-struct Fallen<A: Allocator> {
-    died: Vec<Death<A>, A>,
-    went: Option<FactKey>,
-}
-
-/// Deaths with which one fact went at most, so that it takes no list. A command makes them before it changes its world.
-#[derive(Drop)]
-pub(crate) struct Deaths<A: Allocator> {
-    fallen: Box<Fallen<A>, A>,
-}
-
-impl<A: Allocator> Deaths<A> {
-    /// Entities that die, by ascending index, and the fact that goes.
-    pub(crate) fn new(
-        alloc: A,
-        died: Vec<Death<A>, A>,
-        went: Option<FactKey>,
-    ) -> Result<Self, Memory>
-        ensures { IfOk result (λ deaths. fallen_in deaths ≡ record no_change { died = died.items; went = listed went }) }
-    {
-        match Box::new(alloc, Fallen { died, went }) {
-            Ok(fallen) => Ok(Deaths { fallen }),
-            Err(_) => Err(Memory),
-        }
-    }
-}
-
-/// What a command tells, which most of them tell of one fact or one entity without memory.
-#[derive(Drop)]
-enum Told<A: Allocator> {
+pub(crate) enum Told<A: Allocator> {
     Nothing,
     Born(EntityId),
     /// An entity was made that holds a fact. Its index is the fact's.
     BornWith { generation: u16, fact: FactKey },
     Came(FactKey),
     Went(FactKey),
-    Replaced(Replacement<A>),
+    Replaced(Box<Replaced, A>),
     Written(FactKey),
     /// A fact came and its value was set.
     CameWritten(FactKey),
-    Died(Deaths<A>),
+    Died(Box<Fallen<A>, A>),
     Lists(ChangeLists<A>),
 }
 
@@ -202,6 +162,12 @@ impl<A: Allocator> Model for Changes<A> {
 }
 
 impl<A: Allocator> Changes<A> {
+    pub(crate) fn of(told: Told<A>) -> Changes<A>
+        ensures { result ≡ changed_by told }
+    {
+        Changes { told }
+    }
+
     /// The entity that was made.
     pub fn born(&self) -> Option<EntityId>
         ensures { result ≡ self.now.born }
@@ -221,7 +187,7 @@ impl<A: Allocator> Changes<A> {
         ensures { result.now ≡ self.now.died }
     {
         match &self.told {
-            Told::Died(deaths) => deaths.fallen.died.as_slice(),
+            Told::Died(fallen) => fallen.died.as_slice(),
             Told::Lists(changes) => changes.lists.died.as_slice(),
             _ => &[],
         }
@@ -235,7 +201,7 @@ impl<A: Allocator> Changes<A> {
             Told::BornWith { fact, .. } | Told::Came(fact) | Told::CameWritten(fact) => {
                 slice::from_ref(fact)
             }
-            Told::Replaced(replacement) => slice::from_ref(&replacement.facts.came),
+            Told::Replaced(facts) => slice::from_ref(&facts.came),
             Told::Lists(changes) => changes.lists.came.as_slice(),
             _ => &[],
         }
@@ -247,8 +213,8 @@ impl<A: Allocator> Changes<A> {
     {
         match &self.told {
             Told::Went(fact) => slice::from_ref(fact),
-            Told::Replaced(replacement) => slice::from_ref(&replacement.facts.went),
-            Told::Died(deaths) => deaths.fallen.went.as_slice(),
+            Told::Replaced(facts) => slice::from_ref(&facts.went),
+            Told::Died(fallen) => fallen.went.as_slice(),
             Told::Lists(changes) => changes.lists.went.as_slice(),
             _ => &[],
         }
@@ -262,95 +228,6 @@ impl<A: Allocator> Changes<A> {
             Told::Written(fact) | Told::CameWritten(fact) => slice::from_ref(fact),
             Told::Lists(changes) => changes.lists.written.as_slice(),
             _ => &[],
-        }
-    }
-}
-
-impl<A: Allocator> Changes<A> {
-    pub(crate) fn none() -> Changes<A>
-        ensures { result ≡ no_change }
-    {
-        Changes {
-            told: Told::Nothing,
-        }
-    }
-
-    pub(crate) fn of_birth(entity: EntityId) -> Changes<A>
-        ensures { result ≡ birth entity }
-    {
-        Changes {
-            told: Told::Born(entity),
-        }
-    }
-
-    /// An entity was made that holds an id.
-    pub(crate) fn of_birth_with(entity: EntityId, id: Id) -> Changes<A>
-        ensures { result ≡ record (birth entity) { came = (entity.index, id) ∷ [] } }
-    {
-        let EntityId { index, generation } = entity;
-        let fact = FactKey::new(index, id);
-        Changes {
-            told: Told::BornWith { generation, fact },
-        }
-    }
-
-    /// One fact came.
-    pub(crate) fn of_came(key: FactKey) -> Changes<A>
-        ensures { result ≡ record no_change { came = key ∷ [] } }
-    {
-        Changes {
-            told: Told::Came(key),
-        }
-    }
-
-    /// One fact went.
-    pub(crate) fn of_went(key: FactKey) -> Changes<A>
-        ensures { result ≡ record no_change { went = key ∷ [] } }
-    {
-        Changes {
-            told: Told::Went(key),
-        }
-    }
-
-    pub(crate) fn of_replacement(replacement: Replacement<A>) -> Changes<A>
-        ensures { result ≡ replaced_in replacement }
-    {
-        Changes {
-            told: Told::Replaced(replacement),
-        }
-    }
-
-    /// The value of one fact was set.
-    pub(crate) fn of_written(key: FactKey) -> Changes<A>
-        ensures { result ≡ record no_change { written = key ∷ [] } }
-    {
-        Changes {
-            told: Told::Written(key),
-        }
-    }
-
-    /// One fact came, and its value was set.
-    pub(crate) fn of_came_written(key: FactKey) -> Changes<A>
-        ensures { result ≡ record no_change { came = key ∷ []; written = key ∷ [] } }
-    {
-        Changes {
-            told: Told::CameWritten(key),
-        }
-    }
-
-    pub(crate) fn of_deaths(deaths: Deaths<A>) -> Changes<A>
-        ensures { result ≡ fallen_in deaths }
-    {
-        Changes {
-            told: Told::Died(deaths),
-        }
-    }
-
-    pub(crate) fn of_lists(lists: ChangeLists<A>) -> Changes<A>
-        ensures { result ≡ changed_in lists }
-    {
-        Changes {
-            told: Told::Lists(lists),
         }
     }
 }

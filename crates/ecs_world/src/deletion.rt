@@ -18,7 +18,7 @@ ghost use Rattle.ecs_world.specs.Releases.{NoneGo, OnlyForgottenGo, mentions_one
 ghost use Rattle.rel_traits.specs.Deletions.{is_lost};
 ghost use Rattle.table_store.specs.Going.{TablesGoOn};
 
-use crate::changes::{ChangeLists, Deaths};
+use crate::changes::{ChangeLists, Fallen, Told};
 use crate::death_names::DeathName;
 use crate::refusals::is_built_in;
 use crate::releases::release_dead;
@@ -124,13 +124,16 @@ impl<A: Allocator + Copy> World<A> {
         let mut died = Vec::new(self.alloc);
         self.list_deaths(&deletion.dead, &mut died)?;
         if deletion.went.len() < 2 {
-            let deaths = Deaths::new(self.alloc, died, only_of(&deletion.went))?;
-            return Ok(Changes::of_deaths(deaths));
+            let went = only_of(&deletion.went);
+            let Ok(fallen) = Box::new(self.alloc, Fallen { died, went }) else {
+                return Err(Memory);
+            };
+            return Ok(Changes::of(Told::Died(fallen)));
         }
         let lists = ChangeLists::new(self.alloc)?;
         let went = mem::replace(&mut deletion.went, Vec::new(self.alloc));
         let lists = lists.with_facts(Vec::new(self.alloc), went);
-        Ok(Changes::of_lists(lists.with_died(died)))
+        Ok(Changes::of(Told::Lists(lists.with_died(died))))
     }
 
     /// Lists the live entities of these indexes with their names.

@@ -5,7 +5,7 @@ ghost use Rattle.ecs_model.specs.traits.Command.{Add, Remove, SetValue, step};
 ghost use Rattle.ecs_world.specs.Releases.{NoneGo, OnlyForgottenGo};
 ghost use Rattle.table_store.specs.Going.{TablesGoOn};
 
-use crate::changes::ChangeLists;
+use crate::changes::{ChangeLists, Told};
 use crate::{Changes, World};
 use ecs_id::{EntityId, Id};
 use ecs_model::FactKey;
@@ -90,7 +90,8 @@ impl<A: Allocator + Copy> World<A> {
             return Err(CommandError::Memory);
         }
         self.accepted += 1;
-        Ok(Changes::of_lists(lists.with_facts(additions.came, additions.went)))
+        let lists = lists.with_facts(additions.came, additions.went);
+        Ok(Changes::of(Told::Lists(lists)))
     }
 
     /// `set` with all that traits bring and take.
@@ -135,7 +136,7 @@ impl<A: Allocator + Copy> World<A> {
         self.accepted += 1;
         let lists = lists.with_facts(additions.came, additions.went);
         let key = FactKey::new(entity.index, id);
-        Ok(Changes::of_lists(lists.with_written(key)))
+        Ok(Changes::of(Told::Lists(lists.with_written(key))))
     }
 
     /// `remove` with the mirror.
@@ -161,6 +162,7 @@ impl<A: Allocator + Copy> World<A> {
             return Err(CommandError::Memory);
         }
         self.accepted += 1;
-        Ok(Changes::of_lists(lists.with_facts(Vec::new(self.alloc), went)))
+        let lists = lists.with_facts(Vec::new(self.alloc), went);
+        Ok(Changes::of(Told::Lists(lists)))
     }
 }

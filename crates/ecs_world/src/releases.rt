@@ -1,19 +1,16 @@
 //! Tables that are released: those whose ids got another type, or mention a dead entity.
 
-ghost use Rattle.std.specs.Prelude.{◌≡◌, ◌==◌, ℕ, false, true, ◌||◌, Bool, IsTrue};
-ghost use Rattle.std.specs.List.{list_all, list_any};
+ghost use Rattle.std.specs.Prelude.{◌≡◌, ◌==◌, ℕ, false, true};
+ghost use Rattle.std.specs.List.{list_any};
 ghost use Rattle.ecs_id.specs.Id.{Id, mentioned};
-ghost use Rattle.ecs_archetypes.specs.Archetypes.{known_in};
-ghost use Rattle.ecs_archetypes.specs.Holdings.{AreHoldings, HoldAlike, holds_id};
+ghost use Rattle.ecs_archetypes.specs.Holdings.{holds_id};
 ghost use Rattle.ecs_archetypes.specs.Housing.{IsHoused, holdings_of};
-ghost use Rattle.ecs_archetypes.specs.Staying.{TablesStay};
-ghost use Rattle.ecs_world.specs.Releases.{gets_no_data, mentions_one};
-ghost use Rattle.table_store.specs.Going.{TablesGoOn};
+ghost use Rattle.ecs_world.specs.Releases.{AreLeft, gets_no_data, mentions_one};
 
 use crate::built_in::PAIR_IS_TAG;
 use component_index::{Part, Pattern};
 use ecs_archetypes::{Archetypes, SizedFact};
-use ecs_id::{EntityId, Id};
+use ecs_id::Id;
 use std::alloc::Allocator;
 
 /// Releases the tables of pairs of each relationship to which PairIsTag has come. No entity holds such a pair.
@@ -22,18 +19,9 @@ pub(crate) fn release_tag_pairs<A: Allocator + Copy>(
     came: &[SizedFact],
 )
     requires unheld { (e : ℕ) (i : Id) → gets_no_data came.now i ≡ true → holds_id (holdings_of archetypes.old) e i ≡ false }
-    ensures held { HoldAlike (holdings_of archetypes.new) (holdings_of archetypes.old) }
-    ensures sizes { (test : Id × ℕ → Bool) → IsTrue (list_all (λ c. gets_no_data came.now c.0 || test c) (known_in archetypes.old.tables)) → IsTrue (list_all test (known_in archetypes.new.tables)) }
-    ensures goes_on { TablesGoOn archetypes.old.tables archetypes.new.tables }
-    ensures stay { TablesStay (list_any (gets_no_data came.now)) archetypes.old.tables archetypes.new.tables }
-    ensures holdings { AreHoldings (holdings_of archetypes.new) }
-    ensures whole { IsHoused archetypes.new }
+    requires whole { IsHoused archetypes.old }
+    ensures { AreLeft (gets_no_data came.now) archetypes.old archetypes.new }
 {
-    // (any answer tells that the archetypes are whole)
-    let _ = archetypes.is_alive(EntityId {
-        index: 0,
-        generation: 0,
-    });
     for fact in came {
         if fact.key().id() == Id::plain(PAIR_IS_TAG) {
             archetypes.release_matched(Pattern {
@@ -47,18 +35,9 @@ pub(crate) fn release_tag_pairs<A: Allocator + Copy>(
 /// Releases the tables with an id that mentions a dead entity. No entity holds such an id.
 pub(crate) fn release_dead<A: Allocator + Copy>(archetypes: &mut Archetypes<A>, dead: &[u32])
     requires unheld { (e : ℕ) (i : Id) → mentions_one dead.now i ≡ true → holds_id (holdings_of archetypes.old) e i ≡ false }
-    ensures held { HoldAlike (holdings_of archetypes.new) (holdings_of archetypes.old) }
-    ensures sizes { (test : Id × ℕ → Bool) → IsTrue (list_all (λ c. mentions_one dead.now c.0 || test c) (known_in archetypes.old.tables)) → IsTrue (list_all test (known_in archetypes.new.tables)) }
-    ensures goes_on { TablesGoOn archetypes.old.tables archetypes.new.tables }
-    ensures stay { TablesStay (list_any (mentions_one dead.now)) archetypes.old.tables archetypes.new.tables }
-    ensures holdings { AreHoldings (holdings_of archetypes.new) }
-    ensures whole { IsHoused archetypes.new }
+    requires whole { IsHoused archetypes.old }
+    ensures { AreLeft (mentions_one dead.now) archetypes.old archetypes.new }
 {
-    // (any answer tells that the archetypes are whole)
-    let _ = archetypes.is_alive(EntityId {
-        index: 0,
-        generation: 0,
-    });
     for index in dead {
         release_mentions(archetypes, *index);
     }
@@ -67,18 +46,9 @@ pub(crate) fn release_dead<A: Allocator + Copy>(archetypes: &mut Archetypes<A>, 
 /// Releases the tables with an id that mentions one dead entity.
 fn release_mentions<A: Allocator + Copy>(archetypes: &mut Archetypes<A>, index: u32)
     requires unheld { (e : ℕ) (i : Id) → list_any (λ x. x == index) (mentioned i) ≡ true → holds_id (holdings_of archetypes.old) e i ≡ false }
-    ensures held { HoldAlike (holdings_of archetypes.new) (holdings_of archetypes.old) }
-    ensures sizes { (test : Id × ℕ → Bool) → IsTrue (list_all (λ c. list_any (λ x. x == index) (mentioned c.0) || test c) (known_in archetypes.old.tables)) → IsTrue (list_all test (known_in archetypes.new.tables)) }
-    ensures goes_on { TablesGoOn archetypes.old.tables archetypes.new.tables }
-    ensures stay { TablesStay (list_any (λ i. list_any (λ x. x == index) (mentioned i))) archetypes.old.tables archetypes.new.tables }
-    ensures holdings { AreHoldings (holdings_of archetypes.new) }
-    ensures whole { IsHoused archetypes.new }
+    requires whole { IsHoused archetypes.old }
+    ensures { AreLeft (λ i. list_any (λ x. x == index) (mentioned i)) archetypes.old archetypes.new }
 {
-    // (any answer tells that the archetypes are whole)
-    let _ = archetypes.is_alive(EntityId {
-        index: 0,
-        generation: 0,
-    });
     let dead = Part::Is(index);
     archetypes.release_matched(Pattern {
         first: dead,

@@ -8,7 +8,7 @@ ghost use Rattle.rel_traits.specs.Simple.{ComesAlone, ComesInPlace, is_unmirrore
 ghost use Rattle.ecs_world.specs.Releases.{NoneGo};
 ghost use Rattle.table_store.specs.Going.{TablesGoOn};
 
-use crate::changes::Replacement;
+use crate::changes::{Replaced, Told};
 use crate::{Changes, World};
 use ecs_id::{EntityId, Id};
 use ecs_model::FactKey;
@@ -35,7 +35,7 @@ impl<A: Allocator + Copy> World<A> {
         }
         if found.is_held {
             self.accepted += 1;
-            return Ok(Changes::none());
+            return Ok(Changes::of(Told::Nothing));
         }
         let size = self.size_of(id);
         if self.archetypes.add(entity, found.place, id, size).is_err() {
@@ -43,7 +43,7 @@ impl<A: Allocator + Copy> World<A> {
         }
         self.accepted += 1;
         let key = FactKey::new(entity.index, id);
-        Ok(Changes::of_came(key))
+        Ok(Changes::of(Told::Came(key)))
     }
 
     /// `add` of a fact that comes in the place of another.
@@ -66,7 +66,7 @@ impl<A: Allocator + Copy> World<A> {
         }
         let came = FactKey::new(entity.index, id);
         let went = FactKey::new(entity.index, old);
-        let Ok(replacement) = Replacement::new(self.alloc, came, went) else {
+        let Ok(facts) = Box::new(self.alloc, Replaced { came, went }) else {
             return Err(CommandError::Memory);
         };
         let size = self.size_of(id);
@@ -78,7 +78,7 @@ impl<A: Allocator + Copy> World<A> {
             return Err(CommandError::Memory);
         }
         self.accepted += 1;
-        Ok(Changes::of_replacement(replacement))
+        Ok(Changes::of(Told::Replaced(facts)))
     }
 
     /// `set` of a fact that comes alone.
@@ -108,9 +108,9 @@ impl<A: Allocator + Copy> World<A> {
         self.accepted += 1;
         let key = FactKey::new(entity.index, id);
         if found.is_held {
-            Ok(Changes::of_written(key))
+            Ok(Changes::of(Told::Written(key)))
         } else {
-            Ok(Changes::of_came_written(key))
+            Ok(Changes::of(Told::CameWritten(key)))
         }
     }
 
@@ -133,13 +133,13 @@ impl<A: Allocator + Copy> World<A> {
         }
         if !found.is_held {
             self.accepted += 1;
-            return Ok(Changes::none());
+            return Ok(Changes::of(Told::Nothing));
         }
         if self.archetypes.remove(entity, found.place, id).is_err() {
             return Err(CommandError::Memory);
         }
         self.accepted += 1;
         let key = FactKey::new(entity.index, id);
-        Ok(Changes::of_went(key))
+        Ok(Changes::of(Told::Went(key)))
     }
 }

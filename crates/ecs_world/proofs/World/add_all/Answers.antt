@@ -88,11 +88,11 @@ returns-clause-answers g c =
     let none = add_otherwise c.args.self.now.state c.args.entity c.args.id live own ∙ ap (λ u. first_reason (add_reasons u c.args.entity.index c.args.id)) (sym seen) ∙ sym c.in-Ok.ensures.judged ∙ c.in_default-judged.is in
     let brought = on_ok c.bring.result c.bring.ensures.brought (sym c.is_err-2.ensures.value ∙ c.if-is_err-2.false) in
     let sound = subst IsWellFormed (state_is c.self.view_is) c.self.invariant.sound in
-    addition_told c.args.self.now.state _ c.of_lists.result c.args.entity c.args.id lists sound none
+    addition_told c.args.self.now.state _ c.of.result c.args.entity c.args.id lists sound none
     (counted_state c.self-3.invariant c.args.self.now.state (Add c.args.entity c.args.id)
     (state_is c.self-3.view_is ∙ brought ∙ ap (λ u. with_facts u (facts_after_add u c.args.entity.index c.args.id)) (state_is c.addition_refusal.ensures.same ∙ seen) ∙ sym (effect-add c.args.self.now.state c.args.entity c.args.id))
     sound tt none)
-    (c.of_lists.ensures ∙ c.with_facts.ensures ∙ (λ k. record (c.in-Ok-new.ensures k) { came = c.list_additions.new.additions.came.items; went = c.list_additions.new.additions.went.items }))
+    (c.of.ensures ∙ c.with_facts-lists.ensures ∙ (λ k. record (c.in-Ok-new.ensures k) { came = c.list_additions.new.additions.came.items; went = c.list_additions.new.additions.went.items }))
 
 pub returns-clause-stay : goal.returns-clause-stay
 returns-clause-stay g c =

@@ -1,4 +1,4 @@
-use Rattle.std.proofs.Common.{[], ◌∷◌, refl, sym, ap, subst, ◌∙◌, arith}
+use Rattle.std.proofs.Common.{[], ◌∷◌, refl, sym, subst, ◌∙◌, arith}
 use Rattle.ecs_archetypes.specs.Housing.{holdings_of}
 use Rattle.ecs_model.specs.declared.faults.Refusal.TheVariants.{Dead}
 use Rattle.ecs_model.specs.traits.Command.{Add}
@@ -100,10 +100,10 @@ returns-clause-answers g c =
     let i = c.args.id in
     let is = state_is c.self.view_is in
     let none = sym c.in_default-replacing_refusal.ensures in
-    told_replacing w _ c.of_replacement.result e i (subst IsWellFormed is c.self.invariant.sound) c.args.old c.requires.in_place none
+    told_replacing w _ c.of.result e i (subst IsWellFormed is c.self.invariant.sound) c.args.old c.requires.in_place none
     (replaced_left c.self.invariant is e i c.args.old c.requires.in_place none (holdings_of c.replace-moved.new.self) c.size_of-size.result c.replace-moved.ensures.kept.holdings
     c.size_of-size.ensures.value (on_ok c.replace-moved.result c.replace-moved.ensures.replaced (sym c.is_err.ensures.value ∙ c.if-is_err.false)) c.replace-moved.ensures.kept.sizes).1
-    (c.of_replacement.ensures ∙ c.in-Ok.ensures ∙ (λ k. record no_change { came = c.new-came.ensures k ∷ []; went = c.new-went.ensures k ∷ [] }))
+    (c.of.ensures ∙ (λ k. record no_change { came = (c.in-Ok.ensures.ok k).came ∷ []; went = (c.in-Ok.ensures.ok k).went ∷ [] }) ∙ (λ k. record no_change { came = c.new-came.ensures k ∷ []; went = c.new-went.ensures k ∷ [] }))
 
 pub returns-clause-goes_on : goal.returns-clause-goes_on
 returns-clause-goes_on g c = going_on c.self.view_is c.replace-moved.ensures.kept.goes_on

@@ -74,9 +74,9 @@ returns-then-found-clause-answers g c =
     let alone = c.requires.alone in
     let none = sym c.in_default-single_refusal.ensures in
     let present = sym (found_held world is e i c.in-Some.found.is_held c.in-Some.ensures.held) ∙ c.if-found.true in
-    told_add w _ c.none.result e i (subst IsWellFormed is world.sound) alone none
+    told_add w _ c.of.result e i (subst IsWellFormed is world.sound) alone none
     (counted_left world is (Add e i) tt none (effect-add w e i ∙ ap (with_facts w) (facts_held w e.index i alone present))).1
-    (c.none.ensures ∙ ap (λ b. record no_change { came = if b then [] else (e.index, i) ∷ [] }) (sym present))
+    (c.of.ensures ∙ ap (λ b. record no_change { came = if b then [] else (e.index, i) ∷ [] }) (sym present))
 
 pub returns-then-found-clause-goes_on : goal.returns-then-found-clause-goes_on
 returns-then-found-clause-goes_on g c = going_on c.self.view_is (goes_on_same _)
@@ -152,10 +152,10 @@ returns-clause-answers g c =
     let alone = c.requires.alone in
     let none = sym c.in_default-single_refusal.ensures in
     let absent = sym (found_held world is e i c.in-Some.found.is_held c.in-Some.ensures.held) ∙ c.if-found.false in
-    told_add w _ c.of_came.result e i (subst IsWellFormed is world.sound) alone none
+    told_add w _ c.of-2.result e i (subst IsWellFormed is world.sound) alone none
     (added_left world is e i alone none (holdings_of c.add.new.self) c.size_of-size.result c.add.ensures.kept.holdings c.size_of-size.ensures.value absent
     (on_ok c.add.result c.add.ensures.added (sym c.is_err.ensures.value ∙ c.if-is_err.false)) c.add.ensures.kept.sizes).1
-    (c.of_came.ensures ∙ (λ k. record no_change { came = c.new-key.ensures k ∷ [] }) ∙ ap (λ b. record no_change { came = if b then [] else (e.index, i) ∷ [] }) (sym absent))
+    (c.of-2.ensures ∙ (λ k. record no_change { came = c.new-key.ensures k ∷ [] }) ∙ ap (λ b. record no_change { came = if b then [] else (e.index, i) ∷ [] }) (sym absent))
 
 pub returns-clause-goes_on : goal.returns-clause-goes_on
 returns-clause-goes_on g c = going_on c.self.view_is c.add.ensures.kept.goes_on

@@ -6,6 +6,7 @@ use Rattle.ecs_world.specs.Changes.{sized_by}
 use Rattle.ecs_world.specs.Releases.{gets_no_data}
 use Rattle.ecs_world.proofs.AdditionEffects.{all_agree, all_settled, came_ascend, listed, none_held, state_brought, state_kept, untagged, went_ascend, world_brought, world_kept}
 use Rattle.ecs_world.proofs.ChangedWorlds.{alike_then, when_err}
+use Rattle.ecs_world.proofs.ReleasedTables.{left_holdings}
 use Rattle.ecs_world.proofs.Standings.{state_is, staying_on}
 use Rattle.ecs_world.proofs.World.bring_new.Goals as goal
 
@@ -60,6 +61,7 @@ release_tag_pairs-requires g c =
           (listed (state_is c.self.view_is) c.args.entity c.args.id c.requires.judged c.requires.tells.came_are (c.deref-3.ensures.value ∙ c.requires.tells.went_are)
           (c.deref-2.ensures.value ∙ c.in_ok-size_facts.ensures.sized ∙ ap (sized_by c.args.self.now.state) c.deref.ensures.value))
           (holdings_of c.change_facts.new.self) c.in_ok-change_facts.ensures.changed c.deref-4.result.now (c.deref-4.ensures.value ∙ sym c.deref-2.ensures.value);
+      whole = c.change_facts.ensures.kept.whole;
     }
 
 pub invariant_of-self-2 : goal.invariant_of-self-2
@@ -68,7 +70,7 @@ invariant_of-self-2 g c =
     (listed (state_is c.self.view_is) c.args.entity c.args.id c.requires.judged c.requires.tells.came_are (c.deref-3.ensures.value ∙ c.requires.tells.went_are)
     (c.deref-2.ensures.value ∙ c.in_ok-size_facts.ensures.sized ∙ ap (sized_by c.args.self.now.state) c.deref.ensures.value))
     (holdings_of c.release_tag_pairs.new.archetypes) (alike_then c.release_tag_pairs.ensures.held c.in_ok-change_facts.ensures.changed) (holdings_of c.change_facts.new.self) c.deref-4.result.now
-    (c.deref-4.ensures.value ∙ sym c.deref-2.ensures.value) c.change_facts.ensures.kept.sizes c.release_tag_pairs.ensures.sizes c.release_tag_pairs.ensures.holdings
+    (c.deref-4.ensures.value ∙ sym c.deref-2.ensures.value) c.change_facts.ensures.kept.sizes c.release_tag_pairs.ensures.sizes (left_holdings _ _ _ c.release_tag_pairs.ensures)
 
 pub returns-clause-brought : goal.returns-clause-brought
 returns-clause-brought g c =
@@ -76,7 +78,7 @@ returns-clause-brought g c =
     (listed (state_is c.self.view_is) c.args.entity c.args.id c.requires.judged c.requires.tells.came_are (c.deref-3.ensures.value ∙ c.requires.tells.went_are)
     (c.deref-2.ensures.value ∙ c.in_ok-size_facts.ensures.sized ∙ ap (sized_by c.args.self.now.state) c.deref.ensures.value))
     (holdings_of c.release_tag_pairs.new.archetypes) (alike_then c.release_tag_pairs.ensures.held c.in_ok-change_facts.ensures.changed) (holdings_of c.change_facts.new.self) c.deref-4.result.now
-    (c.deref-4.ensures.value ∙ sym c.deref-2.ensures.value) c.change_facts.ensures.kept.sizes c.release_tag_pairs.ensures.sizes c.release_tag_pairs.ensures.holdings (state_is c.self.view_is)
+    (c.deref-4.ensures.value ∙ sym c.deref-2.ensures.value) c.change_facts.ensures.kept.sizes c.release_tag_pairs.ensures.sizes (left_holdings _ _ _ c.release_tag_pairs.ensures) (state_is c.self.view_is)
 
 pub returns-in_err-change_facts-clause-kept : goal.returns-in_err-change_facts-clause-kept
 returns-in_err-change_facts-clause-kept g c = when_err c.from_residual-in_err-change_facts.result (staying_on c.self.view_is c.change_facts.ensures.kept.stay)

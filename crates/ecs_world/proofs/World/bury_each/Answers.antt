@@ -5,6 +5,7 @@ use Rattle.ecs_archetypes.specs.Staying.{TablesStay, stay_all, stay_then}
 use Rattle.ecs_archetypes.proofs.TableMoves.{alike_then}
 use Rattle.ecs_world.specs.Releases.{mentions_one}
 use Rattle.ecs_world.proofs.DeletionEffects.{buried_is, dead_can_go, losing_rise, losing_settled, none_rise, unburied, unheld, whatever}
+use Rattle.ecs_world.proofs.ReleasedTables.{left_holdings}
 use Rattle.ecs_world.proofs.Standings.{state_is, staying_on}
 use Rattle.ecs_world.proofs.World.bury_each.Goals as goal
 
@@ -40,13 +41,14 @@ release_dead-requires g c = record {
   unheld = unheld c.self.invariant (state_is c.self.view_is) c.args.entity c.requires.judged c.args.deletion.now.dead.items c.requires.dead c.deref.result.now (c.deref.ensures.value ∙ c.requires.lost)
       c.args.dead.now c.requires.listed
       (holdings_of c.change_facts.new.self) c.change_facts.ensures.kept.holdings c.in_ok-change_facts.ensures.changed c.deref-2.result.now c.deref-2.ensures.value;
+  whole = c.change_facts.ensures.kept.whole;
 }
 
 pub invariant_of-self-2 : goal.invariant_of-self-2
 invariant_of-self-2 g c =
     (buried_is c.self.invariant (state_is c.self.view_is) c.args.entity c.requires.judged c.args.deletion.now.dead.items c.requires.dead c.deref.result.now (c.deref.ensures.value ∙ c.requires.lost)
     c.args.dead.now c.requires.listed
-    (holdings_of c.release_dead.new.archetypes) c.release_dead.ensures.holdings (alike_then _ _ _ c.release_dead.ensures.held c.in_ok-change_facts.ensures.changed)
+    (holdings_of c.release_dead.new.archetypes) (left_holdings _ _ _ c.release_dead.ensures) (alike_then _ _ _ c.release_dead.ensures.held c.in_ok-change_facts.ensures.changed)
     c.deref-2.result.now c.deref-2.ensures.value c.args.dead.now refl
     c.forget.new.schemas.entries c.forget.ensures.schemas c.forget.new.names c.forget.ensures.names
     (λ test t. c.release_dead.ensures.sizes test (c.change_facts.ensures.kept.sizes (λ x. mentions_one c.deref-2.result.now x.0 || test x) t refl))).0
@@ -55,7 +57,7 @@ pub returns-clause-buried : goal.returns-clause-buried
 returns-clause-buried g c =
     (buried_is c.self.invariant (state_is c.self.view_is) c.args.entity c.requires.judged c.args.deletion.now.dead.items c.requires.dead c.deref.result.now (c.deref.ensures.value ∙ c.requires.lost)
     c.args.dead.now c.requires.listed
-    (holdings_of c.release_dead.new.archetypes) c.release_dead.ensures.holdings (alike_then _ _ _ c.release_dead.ensures.held c.in_ok-change_facts.ensures.changed)
+    (holdings_of c.release_dead.new.archetypes) (left_holdings _ _ _ c.release_dead.ensures) (alike_then _ _ _ c.release_dead.ensures.held c.in_ok-change_facts.ensures.changed)
     c.deref-2.result.now c.deref-2.ensures.value c.args.dead.now refl
     c.forget.new.schemas.entries c.forget.ensures.schemas c.forget.new.names c.forget.ensures.names
     (λ test t. c.release_dead.ensures.sizes test (c.change_facts.ensures.kept.sizes (λ x. mentions_one c.deref-2.result.now x.0 || test x) t refl))).1

@@ -1,5 +1,3 @@
-use Rattle.std.proofs.Common.{sym, ◌∙◌}
-use Rattle.ecs_world.proofs.AcceptedCommands.{on_ok}
 use Rattle.ecs_world.proofs.SeenGraph.{alive_shown, linked, mentioned_shown, sees}
 use Rattle.ecs_world.proofs.Standings.{state_is}
 use Rattle.ecs_world.proofs.World.list_additions.Goals as goal
@@ -15,15 +13,15 @@ gather-requires-clause-mentions g c = rw (c.new-links.ensures, c.new-fact.ensure
 
 pub returns-clause-tells : goal.returns-clause-tells
 returns-clause-tells g c =
-    let tells = on_ok c.gather.result c.gather.ensures.tells (sym c.is_err-2.ensures.value ∙ c.if-is_err-2.false) in
+    let tells = c.in_ok-gather.ensures.tells in
     rw (← state_is c.self.view_is, ← c.new-fact.ensures) (tells _ (rw c.new-links.ensures (sees c.self.invariant)))
 
 pub returns-clause-live : goal.returns-clause-live
 returns-clause-live g c =
-    let live = on_ok c.gather.result c.gather.ensures.live (sym c.is_err-2.ensures.value ∙ c.if-is_err-2.false) in
+    let live = c.in_ok-gather.ensures.live in
     rw (← state_is c.self.view_is) (rw c.new-links.ensures at live)
 
 pub returns-clause-copies_live : goal.returns-clause-copies_live
 returns-clause-copies_live g c =
-    let live = on_ok c.gather.result c.gather.ensures.copies_live (sym c.is_err-2.ensures.value ∙ c.if-is_err-2.false) in
+    let live = c.in_ok-gather.ensures.copies_live in
     rw (← state_is c.self.view_is) (rw c.new-links.ensures at live)

@@ -1,11 +1,10 @@
-use Rattle.std.proofs.Common.{◌≡◌, ℕ, List, sym, ◌∙◌}
+use Rattle.std.proofs.Common.{◌≡◌, ℕ, List, ◌∙◌}
 use Rattle.std.specs.List.{filter, list_any}
 use Rattle.ecs_id.specs.Id.{Id}
 use Rattle.ecs_model.specs.Map.{keys}
 use Rattle.ecs_model.specs.World.{Key, WorldState, key_eq}
 use Rattle.ecs_model.specs.traits.Changes.{removed}
 use Rattle.rel_traits.specs.Sees.{Sees}
-use Rattle.ecs_world.proofs.AcceptedCommands.{on_ok}
 use Rattle.ecs_world.proofs.SeenGraph.{linked, sees}
 use Rattle.ecs_world.proofs.Standings.{state_is}
 use Rattle.ecs_world.proofs.World.list_removals.Goals as goal
@@ -24,5 +23,4 @@ new-links-requires g c = record { linked = linked c.self.invariant c.size.result
 
 pub returns : goal.returns
 returns g c =
-    let told = on_ok c.gather_remove.result c.gather_remove.ensures (sym c.is_err.ensures.value ∙ c.if-is_err.false) in
-    gone_is _ _ c.args.self.now.state (c.args.entity.index, c.args.id) c.new-fact.result (state_is c.self.view_is) c.new-fact.ensures told (rw c.new-links.ensures (sees c.self.invariant))
+    gone_is _ _ c.args.self.now.state (c.args.entity.index, c.args.id) c.new-fact.result (state_is c.self.view_is) c.new-fact.ensures c.in_ok-gather_remove.ensures (rw c.new-links.ensures (sees c.self.invariant))

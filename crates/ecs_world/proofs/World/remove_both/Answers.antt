@@ -40,5 +40,5 @@ returns-clause-answers g c =
     let sound = subst IsWellFormed (state_is c.self.view_is) c.self.invariant.sound in
     let left = state_is c.self-2.view_is ∙ on_ok c.take.result c.take.ensures.taken (sym c.is_err-2.ensures.value ∙ c.if-is_err-2.false) ∙ sym (effect-remove c.args.self.now.state c.args.entity c.args.id) in
     let listed = on_ok c.list_removals.result c.list_removals.ensures (sym c.is_err.ensures.value ∙ c.if-is_err.false) in
-    removal_told c.args.self.now.state _ c.of_lists.result c.args.entity c.args.id none (counted_state c.self-2.invariant c.args.self.now.state (Remove c.args.entity c.args.id) left sound tt none)
-    (c.of_lists.ensures ∙ c.with_facts.ensures ∙ (λ k. record (c.in-Ok.ensures k) { came = c.new-2.ensures.items k; went = listed k }))
+    removal_told c.args.self.now.state _ c.of.result c.args.entity c.args.id none (counted_state c.self-2.invariant c.args.self.now.state (Remove c.args.entity c.args.id) left sound tt none)
+    (c.of.ensures ∙ c.with_facts-lists.ensures ∙ (λ k. record (c.in-Ok.ensures k) { came = c.new-2.ensures.items k; went = listed k }))

@@ -68,8 +68,8 @@ returns-then-not-found-clause-answers g c =
     let none = sym c.in_default-remove_refusal.ensures in
     let absent = sym (found_held world is e i c.in-Some.found.is_held c.in-Some.ensures.held) ∙ refuted c.in-Some.found.is_held c.if-not-found.true in
     let sound : IsWellFormed w = subst IsWellFormed is world.sound in
-    told_remove w _ c.none.result e i sound false alone absent none
-    (counted_left world is (Remove e i) tt none (effect-remove-none w e i sound absent)).1 c.none.ensures
+    told_remove w _ c.of.result e i sound false alone absent none
+    (counted_left world is (Remove e i) tt none (effect-remove-none w e i sound absent)).1 c.of.ensures
 
 pub returns-then-not-found-clause-goes_on : goal.returns-then-not-found-clause-goes_on
 returns-then-not-found-clause-goes_on g c = going_on c.self.view_is (goes_on_same _)
@@ -121,9 +121,9 @@ returns-clause-answers g c =
     let none = sym c.in_default-remove_refusal.ensures in
     let present = sym (found_held world is e i c.in-Some.found.is_held c.in-Some.ensures.held) ∙ denied c.in-Some.found.is_held c.if-not-found.false in
     let sound : IsWellFormed w = subst IsWellFormed is world.sound in
-    told_remove w _ c.of_went.result e i sound true alone present none
+    told_remove w _ c.of-2.result e i sound true alone present none
     (go world is e i alone none (holdings_of c.remove.new.self) c.remove.ensures.kept.holdings (on_ok c.remove.result c.remove.ensures.removed (sym c.is_err.ensures.value ∙ c.if-is_err.false)) c.remove.ensures.kept.sizes).1
-    (c.of_went.ensures ∙ (λ k. record no_change { went = c.new-key.ensures k ∷ [] }))
+    (c.of-2.ensures ∙ (λ k. record no_change { went = c.new-key.ensures k ∷ [] }))
 
 pub returns-clause-goes_on : goal.returns-clause-goes_on
 returns-clause-goes_on g c = going_on c.self.view_is c.remove.ensures.kept.goes_on

@@ -134,9 +134,9 @@ returns-clause-answers g c =
     let brought = on_ok c.bring.result c.bring.ensures.brought (sym c.is_err-2.ensures.value ∙ c.if-is_err-2.false) ∙ ap (λ u. with_facts u (facts_after_add u c.args.entity.index c.args.id)) (state_is c.addition_refusal.ensures.same ∙ seen) in
     let value = ap (λ u. value_in (type_of_id u c.args.id) (take c.in-Ok.size c.encode.new.buffer)) (sym seen) ∙ c.in-Ok.ensures.encoded.value in
     let left = state_is c.self-3.view_is ∙ c.write.ensures.state ∙ set_state c.args.self.now.state c.args.entity c.args.id c.args.values.now sound none c.bring.new.self.state brought (take c.in-Ok.size c.encode.new.buffer) value in
-    setting_told c.args.self.now.state _ c.of_lists.result c.args.entity c.args.id lists sound c.args.values.now none
+    setting_told c.args.self.now.state _ c.of.result c.args.entity c.args.id lists sound c.args.values.now none
     (counted_state c.self-3.invariant c.args.self.now.state (SetValue c.args.entity c.args.id c.args.values.now) left sound tt none)
-    (c.of_lists.ensures ∙ c.with_written.ensures
+    (c.of.ensures ∙ c.with_written.ensures
     ∙ (λ k. record (c.with_facts-lists.ensures k) { written = c.new-key.ensures k ∷ [] })
     ∙ (λ k. record (c.in-Ok-new.ensures k) { came = c.list_additions.new.additions.came.items; went = c.list_additions.new.additions.went.items; written = (c.args.entity.index, c.args.id) ∷ [] }))
 

@@ -145,10 +145,10 @@ returns-clause-answers g c =
     let same = found_held world is e i c.in-Some.found.is_held c.in-Some.ensures.held in
     let changed = λ (held : Bool). record no_change { came = if held then [] else (e.index, i) ∷ []; written = (e.index, i) ∷ [] } in
     elim c.if-found.branch [
-      | then-found f ↦ rw f.result-is (told_set w _ f.of_written.result e i (subst IsWellFormed is world.sound) vs alone none left
-          (f.of_written.ensures ∙ (λ k. record no_change { written = c.new-key.ensures k ∷ [] }) ∙ ap changed (sym (sym same ∙ f.if-found.true))))
-      | else-found f ↦ rw f.result-is (told_set w _ f.of_came_written.result e i (subst IsWellFormed is world.sound) vs alone none left
-          (f.of_came_written.ensures ∙ (λ k. record no_change { came = c.new-key.ensures k ∷ []; written = c.new-key.ensures k ∷ [] }) ∙ ap changed (sym (sym same ∙ f.if-found.false))))
+      | then-found f ↦ rw f.result-is (told_set w _ f.of.result e i (subst IsWellFormed is world.sound) vs alone none left
+          (f.of.ensures ∙ (λ k. record no_change { written = c.new-key.ensures k ∷ [] }) ∙ ap changed (sym (sym same ∙ f.if-found.true))))
+      | else-found f ↦ rw f.result-is (told_set w _ f.of-else-found.result e i (subst IsWellFormed is world.sound) vs alone none left
+          (f.of-else-found.ensures ∙ (λ k. record no_change { came = c.new-key.ensures k ∷ []; written = c.new-key.ensures k ∷ [] }) ∙ ap changed (sym (sym same ∙ f.if-found.false))))
     ]
 
 pub returns-clause-goes_on : goal.returns-clause-goes_on

@@ -1,11 +1,11 @@
 -- What mentions an entity goes in three steps.
 use Rattle.component_index.specs.Patterns.{matches}
-use Rattle.ecs_world.proofs.ReleasedTables.{AreLeft, left_holdings, left_matched, left_mentions, no_rows, pairs_mention, pairs_of, pairs_to, plain_mentions, plain_of, targets_mention, unheld_still}
+use Rattle.ecs_world.proofs.ReleasedTables.{AreLeft, left_matched, left_mentions, no_rows, pairs_mention, pairs_of, pairs_to, plain_mentions, plain_of, targets_mention, unheld_still}
 use Rattle.ecs_world.proofs.releases.release_mentions.Goals as goal
 
 pub release_matched-requires : goal.release_matched-requires
 release_matched-requires g c = record {
-  empty = no_rows c.args.archetypes.now (plain_of c.args.index) c.is_alive.ensures.whole (λ e i h. c.requires.unheld e i (plain_mentions c.args.index i h));
+  empty = no_rows c.args.archetypes.now (plain_of c.args.index) c.requires.whole (λ e i h. c.requires.unheld e i (plain_mentions c.args.index i h));
 }
 
 pub release_matched-requires-2 : goal.release_matched-requires-2
@@ -29,26 +29,12 @@ release_matched-requires-3 g c =
           (unheld_still (matches (plain_of c.args.index)) (matches (pairs_to c.args.index)) c.args.archetypes.now c.release_matched.new.self first (λ e i h. c.requires.unheld e i (targets_mention c.args.index i h))));
     }
 
-pub returns-clause-sizes : goal.returns-clause-sizes
-returns-clause-sizes g c =
+pub returns : goal.returns
+returns g c =
     let first : AreLeft (matches (plain_of c.args.index)) c.args.archetypes.now c.release_matched.new.self =
     left_matched (plain_of c.args.index) c.args.archetypes.now c.release_matched.new.self c.release_matched.ensures.whole c.release_matched.ensures.held c.release_matched.ensures.gone c.release_matched.ensures.others in
     let second : AreLeft (matches (pairs_of c.args.index)) c.release_matched.new.self c.release_matched-2.new.self =
     left_matched (pairs_of c.args.index) c.release_matched.new.self c.release_matched-2.new.self c.release_matched-2.ensures.whole c.release_matched-2.ensures.held c.release_matched-2.ensures.gone c.release_matched-2.ensures.others in
     let third : AreLeft (matches (pairs_to c.args.index)) c.release_matched-2.new.self c.release_matched-3.new.self =
     left_matched (pairs_to c.args.index) c.release_matched-2.new.self c.release_matched-3.new.self c.release_matched-3.ensures.whole c.release_matched-3.ensures.held c.release_matched-3.ensures.gone c.release_matched-3.ensures.others in
-    (left_mentions c.args.index c.args.archetypes.now c.release_matched.new.self c.release_matched-2.new.self c.release_matched-3.new.self first second third).sizes
-
-pub returns-clause-stay : goal.returns-clause-stay
-returns-clause-stay g c =
-    let first : AreLeft (matches (plain_of c.args.index)) c.args.archetypes.now c.release_matched.new.self =
-    left_matched (plain_of c.args.index) c.args.archetypes.now c.release_matched.new.self c.release_matched.ensures.whole c.release_matched.ensures.held c.release_matched.ensures.gone c.release_matched.ensures.others in
-    let second : AreLeft (matches (pairs_of c.args.index)) c.release_matched.new.self c.release_matched-2.new.self =
-    left_matched (pairs_of c.args.index) c.release_matched.new.self c.release_matched-2.new.self c.release_matched-2.ensures.whole c.release_matched-2.ensures.held c.release_matched-2.ensures.gone c.release_matched-2.ensures.others in
-    let third : AreLeft (matches (pairs_to c.args.index)) c.release_matched-2.new.self c.release_matched-3.new.self =
-    left_matched (pairs_to c.args.index) c.release_matched-2.new.self c.release_matched-3.new.self c.release_matched-3.ensures.whole c.release_matched-3.ensures.held c.release_matched-3.ensures.gone c.release_matched-3.ensures.others in
-    (left_mentions c.args.index c.args.archetypes.now c.release_matched.new.self c.release_matched-2.new.self c.release_matched-3.new.self first second third).stay
-
-pub returns-clause-holdings : goal.returns-clause-holdings
-returns-clause-holdings g c = left_holdings (matches (pairs_to c.args.index)) c.release_matched-2.new.self c.release_matched-3.new.self
-    (left_matched (pairs_to c.args.index) c.release_matched-2.new.self c.release_matched-3.new.self c.release_matched-3.ensures.whole c.release_matched-3.ensures.held c.release_matched-3.ensures.gone c.release_matched-3.ensures.others)
+    left_mentions c.args.index c.args.archetypes.now c.release_matched.new.self c.release_matched-2.new.self c.release_matched-3.new.self first second third

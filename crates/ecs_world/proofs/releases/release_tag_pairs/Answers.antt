@@ -1,6 +1,6 @@
 -- The pairs of a relationship to which PairIsTag comes go, fact by fact.
 use Rattle.std.proofs.Common.{◌+◌, ◌∙◌, sym, subst, arith}
-use Rattle.ecs_world.proofs.ReleasedTables.{IsLeftTo, left_holdings, left_matched, left_next, left_skipped, left_tag, left_tagged, no_rows, other_fact, pairs_of, tag_fact, tags_none, tags_with, unheld_tag}
+use Rattle.ecs_world.proofs.ReleasedTables.{IsLeftTo, left_matched, left_next, left_skipped, left_tag, left_tagged, no_rows, other_fact, pairs_of, tag_fact, tags_none, tags_with, unheld_tag}
 use Rattle.ecs_world.proofs.releases.release_tag_pairs.Goals as goal
 use Rattle.ecs_world.proofs.releases.release_tag_pairs.Goals.{then-eq, else-eq}
 
@@ -27,11 +27,5 @@ loop-fact-preserved g c = elim c.if-eq.branch [
       (left_skipped tags_with c.args.came.now c.args.archetypes.now c.fact-item.result c.loop-fact.archetypes (tags_none c.fact-item.result apart) c.loop-fact.invariant.whole))
 ]
 
-pub returns-clause-sizes : goal.returns-clause-sizes
-returns-clause-sizes g c = (left_tagged c.args.came.now c.args.archetypes.now c.loop-fact.archetypes c.loop-fact.fact-index (omega arith) c.loop-fact.invariant).sizes
-
-pub returns-clause-holdings : goal.returns-clause-holdings
-returns-clause-holdings g c = left_holdings _ c.args.archetypes.now c.loop-fact.archetypes c.loop-fact.invariant
-
-pub returns-clause-stay : goal.returns-clause-stay
-returns-clause-stay g c = (left_tagged c.args.came.now c.args.archetypes.now c.loop-fact.archetypes c.loop-fact.fact-index (omega arith) c.loop-fact.invariant).stay
+pub returns : goal.returns
+returns g c = left_tagged c.args.came.now c.args.archetypes.now c.loop-fact.archetypes c.loop-fact.fact-index (omega arith) c.loop-fact.invariant
