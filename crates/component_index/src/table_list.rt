@@ -226,6 +226,7 @@ fn note_last_at<A: Allocator>(place: usize, keys: &[ListedKey], places: &mut Pla
     }
 }
 
+#[inline(never)]
 fn two<A: Allocator>(
     alloc: A,
     first: ListedKey,

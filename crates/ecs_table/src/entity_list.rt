@@ -178,6 +178,8 @@ fn only_of(only: &[EntityId; 1]) -> EntityId
 }
 
 // A block with places for so many.
+#[cold]
+#[inline(never)]
 fn none_of_many<A: Allocator>(alloc: A, additional: usize) -> Result<Vec<EntityId, A>, AllocError>
     ensures items { IfOk result (λ v. v.items ≡ []) }
     ensures room { IfOk result (λ v. vec_len v + additional ≤ vec_capacity v) }
@@ -188,6 +190,7 @@ fn none_of_many<A: Allocator>(alloc: A, additional: usize) -> Result<Vec<EntityI
 }
 
 // A block with one entity, and places for so many more.
+#[inline(never)]
 fn first_of_many<A: Allocator>(
     alloc: A,
     first: EntityId,

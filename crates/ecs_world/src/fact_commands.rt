@@ -62,6 +62,8 @@ impl<A: Allocator + Copy> World<A> {
     }
 
     /// `add` with all that traits bring and take.
+    #[cold]
+    #[inline(never)]
     fn add_all(&mut self, entity: EntityId, id: Id) -> Result<Changes<A>, CommandError>
         ensures answers { AnswersStep result (step self.old.state (Add entity id)) self.old.state self.new.state }
         ensures goes_on { TablesGoOn self.old.tables self.new.tables }
@@ -95,6 +97,8 @@ impl<A: Allocator + Copy> World<A> {
     }
 
     /// `set` with all that traits bring and take.
+    #[cold]
+    #[inline(never)]
     fn set_all(
         &mut self,
         entity: EntityId,
@@ -140,6 +144,8 @@ impl<A: Allocator + Copy> World<A> {
     }
 
     /// `remove` with the mirror.
+    #[cold]
+    #[inline(never)]
     fn remove_both(&mut self, entity: EntityId, id: Id) -> Result<Changes<A>, CommandError>
         ensures answers { AnswersStep result (step self.old.state (Remove entity id)) self.old.state self.new.state }
         ensures goes_on { TablesGoOn self.old.tables self.new.tables }

@@ -47,6 +47,7 @@ impl<A: Allocator + Copy> World<A> {
     }
 
     /// `add` of a fact that comes in the place of another.
+    #[inline(never)]
     pub(crate) fn add_in_place(
         &mut self,
         entity: EntityId,

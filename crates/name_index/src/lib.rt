@@ -126,6 +126,7 @@ impl<A: Allocator + Copy> NameIndex<A> {
     }
 
     // Binds a name that isn't short.
+    #[cold]
     #[inline(never)]
     fn bind_long(&mut self, name: &str, entity: EntityId) -> Result<(), BindError>
         requires unnamed { IsUnnamed self.old entity }
@@ -162,6 +163,7 @@ impl<A: Allocator> NameIndex<A> {
     }
 
     // The same of a name that isn't short.
+    #[cold]
     #[inline(never)]
     fn find_long(&self, name: &str) -> Option<EntityId>
         requires { is_short name.now ≡ false }

@@ -97,6 +97,8 @@ fn ends_reference(byte: u8) -> bool
 }
 
 /// Reads a handle behind its `#`: an index of 1 to 9 digits, one `.`, and a generation of 1 to 5 digits, at most 65,535.
+#[cold]
+#[inline(never)]
 fn handle_of(text: &str) -> Option<EntityId>
     ensures { option_map seen_handle result ≡ handle_of text.now }
 {
@@ -161,6 +163,7 @@ fn close_pair_and_rest(text: &str) -> Option<(IdReference<'_>, &str)>
 }
 
 /// Reads a pair behind its `(`, and what stands behind its `)`, whether there are blanks in it or not.
+#[cold]
 #[inline(never)]
 fn any_pair_and_rest(text: &str) -> Option<(IdReference<'_>, &str)>
     ensures { option_map seen_id_and_rest result ≡ pair_and_rest text.now }

@@ -79,6 +79,7 @@ impl<A: Allocator> Several<A> {
         }
     }
 
+    #[inline(never)]
     fn write(&mut self, id: Id, to: ListedKey)
         ensures { IsEdgePut id to (one_of_several self.old) (one_of_several self.new) }
     {
@@ -164,6 +165,7 @@ fn put_hashed<A: Allocator>(others: &mut ById<A>, id: Id, to: ListedKey)
 }
 
 // A first edge, and another one.
+#[inline(never)]
 fn two_edges<A: Allocator>(
     alloc: A,
     first: Edge,
@@ -179,6 +181,8 @@ fn two_edges<A: Allocator>(
 }
 
 // These edges, of which none is left, and another one that is hashed.
+#[cold]
+#[inline(never)]
 fn several_edges<A: Allocator + Copy>(
     alloc: A,
     hashing: Hashing,

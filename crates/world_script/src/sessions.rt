@@ -88,6 +88,7 @@ fn run_opened<A: Allocator + Copy, W: Sink>(
 }
 
 /// Does what any line says whose first word was read.
+#[cold]
 #[inline(never)]
 fn run_rarer<A: Allocator + Copy, W: Sink>(
     alloc: A,
@@ -194,6 +195,7 @@ fn run_entity_line<A: Allocator + Copy>(
 }
 
 /// A line behind its `delete`.
+#[cold]
 #[inline(never)]
 fn run_delete_line<A: Allocator + Copy>(
     session: &mut Session<A>,
@@ -212,6 +214,7 @@ fn run_delete_line<A: Allocator + Copy>(
 }
 
 /// A line behind its `rows`.
+#[cold]
 #[inline(never)]
 fn run_rows_line<A: Allocator + Copy, W: Sink>(
     session: &mut Session<A>,
@@ -279,6 +282,7 @@ fn unsent(answer: Result<bool, AllocError>) -> Result<bool, SendError>
 }
 
 /// `new`
+#[cold]
 #[inline(never)]
 fn run_new<A: Allocator + Copy>(
     session: &mut Session<A>,

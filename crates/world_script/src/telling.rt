@@ -16,6 +16,8 @@ use query_model::faults::{Fault, FaultKind};
 use std::alloc::{AllocError, Allocator};
 
 /// Tells that a line is refused.
+#[cold]
+#[inline(never)]
 pub(crate) fn refuse<A: Allocator>(
     number: usize,
     kind: &str,
@@ -48,6 +50,8 @@ fn refuse_command<A: Allocator>(
 }
 
 /// Tells that a line is refused as the world refuses it.
+#[cold]
+#[inline(never)]
 pub(crate) fn refuse_in_world<A: Allocator>(
     number: usize,
     refusal: Refusal,
@@ -109,6 +113,8 @@ pub(crate) fn tell_born<A: Allocator + Copy>(
 }
 
 /// Tells why a session did not do what it was called for.
+#[cold]
+#[inline(never)]
 pub(crate) fn tell_error<A: Allocator>(
     number: usize,
     error: SessionError,
