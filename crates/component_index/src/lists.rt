@@ -1,5 +1,6 @@
 //! The list of tables of each pattern.
-ghost use Rattle.std.specs.Prelude.{◌≡◌, ◌&&◌, not, OnErr, OnOk};
+ghost use Rattle.std.specs.Prelude.{◌≡◌, ◌&&◌, not, None, OnErr, OnOk};
+ghost use Rattle.std.specs.HashMap.{get};
 ghost use Rattle.std.specs.List.{list_any};
 ghost use Rattle.ecs_id.specs.Id.{pair, plain};
 ghost use Rattle.component_index.specs.Patterns.{matches, matches_some};
@@ -35,6 +36,23 @@ fn list<A: Allocator + Copy>(
         list.insert(alloc, places, pattern.packed(), key)?;
         return Ok(());
     }
+    list_first(lists, pattern, key)
+}
+
+/// Puts the table into a list of its own, where the pattern has none yet.
+#[cold]
+#[inline(never)]
+fn list_first<A: Allocator>(
+    lists: &mut Lists<A>,
+    pattern: &Pattern,
+    key: ListedKey,
+) -> Result<(), AllocError>
+    requires none { get pattern_eq lists.old pattern.now ≡ None }
+    requires newest { IsNewest lists.old key }
+    ensures listed { OnOk result (Adds lists.old lists.new (pattern_eq pattern.now) key) }
+    ensures refused { OnErr result (Keeps lists.old lists.new (pattern_eq pattern.now) key) }
+    ensures newest { OnOk result (IsNewest lists.new key) }
+{
     lists.insert(*pattern, TableList::one(key))?;
     Ok(())
 }

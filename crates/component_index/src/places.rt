@@ -135,11 +135,17 @@ impl<A: Allocator> Places<A> {
         }
     }
 
+    // Makes the list by slot long enough.
+    #[inline(never)]
+    fn lengthen(&mut self, slot: u32) -> Result<(), AllocError> {
+        self.by_slot.resize(slot as usize + 1, NO_HEAD)
+    }
+
     // Begins the places of the table of a slot.
     fn begin(&mut self, slot: u32) -> Result<(), AllocError> {
         let index = slot as usize;
         if self.by_slot.len() <= index {
-            self.by_slot.resize(index + 1, NO_HEAD)?;
+            self.lengthen(slot)?;
         }
         let number = u32::try_from(self.heads.len()).unwrap_or(NO_HEAD);
         let start = u32::try_from(self.places.len()).unwrap_or(u32::MAX);

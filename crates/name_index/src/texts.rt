@@ -1,5 +1,5 @@
 //! The name of each entity.
-ghost use Rattle.std.specs.Prelude.{◌≡◌, ◌≢◌, ◌≤◌, ◌<◌, ℕ, List, cond, false, length, nat_eq, option_map, slice_get, slice_index_or, None, Some, IfSome, MatchOption, OnErr, OnOk};
+ghost use Rattle.std.specs.Prelude.{◌≡◌, ◌≢◌, ◌≤◌, ◌<◌, ◌^◌, ℕ, List, cond, false, length, nat_eq, option_map, slice_get, slice_index_or, None, Some, IfSome, MatchOption, OnErr, OnOk};
 ghost use Rattle.std.specs.Cmp.Lexicographic.{pointwise};
 ghost use Rattle.std.specs.HashMap.{IsUnique, Updates};
 ghost use Rattle.std.specs.Option.{option_copied};
@@ -169,9 +169,27 @@ fn put_place<A: Allocator>(
     } else if index == places.len() {
         places.push(place)?;
     } else {
-        places.resize(index + 1, place)?;
+        lengthen(places, index, place)?;
     }
     Ok(())
+}
+
+// Makes the list long enough, with the place at its end.
+#[cold]
+#[inline(never)]
+fn lengthen<A: Allocator>(
+    places: &mut Vec<u32, A>,
+    index: usize,
+    place: u32,
+) -> Result<(), AllocError>
+    requires past { length places.old.items ≤ index }
+    requires within { index < 2 ^ 32 }
+    ensures within { OnOk result (index < length places.new.items) }
+    ensures put { OnOk result (slice_index_or places.new.items index place ≡ place) }
+    ensures others { OnOk result ((i : ℕ) → i ≢ index → slice_index_or places.new.items i place ≡ slice_index_or places.old.items i place) }
+    ensures refused { OnErr result (places.new.items ≡ places.old.items) }
+{
+    places.resize(index + 1, place)
 }
 
 // Writes the place of the entity of the index, where the list has its last one.

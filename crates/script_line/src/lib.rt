@@ -152,6 +152,15 @@ fn text_of(bytes: &[u8]) -> Option<&str>
         // SAFETY: what is ASCII is UTF-8.
         return Some(unsafe { str::from_utf8_unchecked(bytes) });
     }
+    other_text_of(bytes)
+}
+
+/// The text that bytes spell, if they are UTF-8.
+#[cold]
+#[inline(never)]
+fn other_text_of(bytes: &[u8]) -> Option<&str>
+    ensures { MatchOption result (¬ (IsUtf8 bytes.now)) (λ text. (text.now ≡ bytes.now) × IsUtf8 bytes.now) }
+{
     str::from_utf8(bytes).ok()
 }
 

@@ -26,6 +26,16 @@ pub(crate) fn text_opened(text: &str) -> Opening<'_>
     if let Some(opening) = opened_at_once(text) {
         return opening;
     }
+    opened_by_word(text)
+}
+
+/// Reads the first word of a line of text, wherever it stands.
+#[cold]
+#[inline(never)]
+#[tactic(auto, unfolding(ecs_model::specs::Script::forms))]
+fn opened_by_word(text: &str) -> Opening<'_>
+    ensures { form_opened result ≡ by_first_word text.now }
+{
     let (word, rest) = word_and_rest(text);
     match word {
         "set" => Opening::Set { rest },
