@@ -78,7 +78,7 @@ impl<A: Allocator> Places<A> {
         }
         let half = self.half_of(word);
         let at = u32::try_from(at).unwrap_or(u32::MAX);
-        self.places.push(Place { half, at })?;
+        list_growth::push(&mut self.places, Place { half, at })?;
         Ok(())
     }
 
@@ -149,7 +149,7 @@ impl<A: Allocator> Places<A> {
         }
         let number = u32::try_from(self.heads.len()).unwrap_or(NO_HEAD);
         let start = u32::try_from(self.places.len()).unwrap_or(u32::MAX);
-        self.heads.push(Head { slot, start })?;
+        list_growth::push(&mut self.heads, Head { slot, start })?;
         set_number(&mut self.by_slot, slot, number);
         Ok(())
     }

@@ -139,7 +139,7 @@ impl<A: Allocator> Tables<A> {
                 let first = key_of(only);
                 *self = Tables::More(two(alloc, first, key)?);
             }
-            Tables::More(keys) => keys.push(key)?,
+            Tables::More(keys) => list_growth::push(keys, key)?,
         }
         Ok(())
     }

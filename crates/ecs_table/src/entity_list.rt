@@ -133,7 +133,7 @@ impl<A: Allocator> Rows<A> {
                     *self = Rows::More(first_of_many(alloc, first, additional)?);
                 }
             }
-            Rows::More(entities) => entities.reserve(additional)?,
+            Rows::More(entities) => list_growth::reserve(entities, additional)?,
         }
         Ok(())
     }

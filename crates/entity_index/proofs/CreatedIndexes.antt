@@ -1,5 +1,5 @@
 -- What `create` does to the fields: an index that waits lives again, or the next fresh one gets a slot.
-use Rattle.std.proofs.Common.{◌≡◌, ◌↔◌, ℕ, ◌+◌, ◌≤◌, ◌<◌, true, false, List, [], ◌∷◌, ◌++◌, length, set, get_or, Option, Some, None, Result, Ok, Err, is_ok, cond, refl, sym, ap, subst, ◌∙◌, arith}
+use Rattle.std.proofs.Common.{◌≡◌, ◌↔◌, ℕ, ◌+◌, ◌≤◌, ◌<◌, true, false, List, [], ◌∷◌, ◌++◌, length, set, get_or, Option, Some, None, Result, Ok, Err, refl, sym, ap, subst, ◌∙◌, arith}
 use Rattle.std.proofs.lemmas.Option.{none-some}
 use Rattle.std.proofs.lemmas.List.{get_or_default, get_or_past}
 use Rattle.std.specs.Result.{IsErrOf, IsErrAnd}
@@ -105,11 +105,3 @@ module _ (next : Option EntityId) where
     where
       same_Err : (x y : CreateError) → ◌≡◌ {A = Result EntityId CreateError} (Err x) (Err y) → x ≡ y
       same_Err x y p = cc
-
--- what a push leaves
-module _ {A B E F S : Type 0} (r : Result A E) (q : Result B F) (xs ys zs : List S) (pushed : zs ≡ cond (is_ok r) xs ys) (same : is_ok q ≡ is_ok r) where
-  pub push_failed : (e : F) → q ≡ Err e → zs ≡ ys
-  push_failed e is = pushed ∙ ap (λ b. cond b xs ys) (sym same ∙ ap is_ok is)
-
-  pub push_done : (x : B) → q ≡ Ok x → zs ≡ xs
-  push_done x is = pushed ∙ ap (λ b. cond b xs ys) (sym same ∙ ap is_ok is)

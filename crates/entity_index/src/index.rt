@@ -111,13 +111,13 @@ impl<A: Allocator> SlotIndex<A> {
             return Err(CreateError::Full);
         }
         self.free.reserve(used + 1)?;
-        self.places.reserve(1)?;
+        list_growth::make_room(&mut self.places)?;
         let slot = Slot {
             deletions: 0,
             live: true,
         };
-        self.slots.push(slot).map_err(AllocError::from)?;
-        self.places.push(None).unwrap();
+        list_growth::push(&mut self.slots, slot)?;
+        self.places.push_reserved(None);
         Ok(EntityId {
             index,
             generation: 0,

@@ -167,7 +167,7 @@ fn put_place<A: Allocator>(
     if index < places.len() {
         places[index] = place;
     } else if index == places.len() {
-        places.push(place)?;
+        list_growth::push(places, place)?;
     } else {
         lengthen(places, index, place)?;
     }

@@ -44,10 +44,11 @@ impl<A: Allocator> Sizes<A> {
             let Some(more) = width.checked_add(size) else {
                 return Err(AllocError);
             };
-            spans.push(Span {
+            let span = Span {
                 before: width,
                 size,
-            })?;
+            };
+            list_growth::push(&mut spans, span)?;
             width = more;
         }
         Ok(Sizes { spans, width })

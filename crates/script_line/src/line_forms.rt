@@ -390,7 +390,7 @@ fn read_values<A: Allocator>(text: &str, values: &mut Vec<i128, A>) -> Result<bo
         let Some((value, behind)) = value_and_rest(word) else {
             return Ok(false);
         };
-        values.push(value)?;
+        list_growth::push(values, value)?;
         rest = behind;
     }
     Ok(true)

@@ -63,7 +63,7 @@ impl<A: Allocator> ByIds<A> {
         ensures entered { OnOk result (HasSlot self.new hash slot) }
         ensures kept { KeepsSlots self.old self.new }
     {
-        self.others.reserve(1)?;
+        list_growth::make_room(&mut self.others)?;
         if let Some(other) = self.first.insert(hash, slot)? {
             self.others.push_reserved(other);
         }

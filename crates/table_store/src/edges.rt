@@ -152,7 +152,7 @@ fn put<A: Allocator>(few: &mut Vec<Edge, A>, id: Id, to: ListedKey)
     match place_in(few.as_slice(), id) {
         Some(place) => few[place] = (id, to),
         None => {
-            let _ = few.push((id, to));
+            let _ = list_growth::push(few, (id, to));
         }
     }
 }

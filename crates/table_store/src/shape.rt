@@ -10,6 +10,7 @@ ghost use Rattle.table_store.specs.Store.{byte_size, shape_of};
 use crate::sized::SizedId;
 use ecs_id::Id;
 use ecs_table::Table;
+use list_growth::push;
 use smallvec::SmallVec;
 use std::alloc::{AllocError, Allocator};
 
@@ -27,7 +28,7 @@ pub fn next_shape<A: Allocator>(
     match added {
         Some(size) => {
             push_below(cells, table, id)?;
-            cells.push(SizedId::new(id, size))?;
+            push(cells, SizedId::new(id, size))?;
             push_above(cells, table, id)
         }
         None => push_others(cells, table, id),
@@ -44,7 +45,7 @@ fn push_below<A: Allocator>(
 {
     for known in table.ids() {
         if *known < id {
-            cells.push(SizedId::new(*known, table.size(*known)))?;
+            push(cells, SizedId::new(*known, table.size(*known)))?;
         }
     }
     Ok(())
@@ -60,7 +61,7 @@ fn push_above<A: Allocator>(
 {
     for known in table.ids() {
         if id < *known {
-            cells.push(SizedId::new(*known, table.size(*known)))?;
+            push(cells, SizedId::new(*known, table.size(*known)))?;
         }
     }
     Ok(())
@@ -76,7 +77,7 @@ fn push_others<A: Allocator>(
 {
     for known in table.ids() {
         if *known != id {
-            cells.push(SizedId::new(*known, table.size(*known)))?;
+            push(cells, SizedId::new(*known, table.size(*known)))?;
         }
     }
     Ok(())
@@ -95,7 +96,7 @@ pub fn set_ids<A: Allocator>(ids: &mut Vec<Id, A>, shape: &[SizedId]) -> Result<
 {
     ids.clear();
     for cell in shape {
-        ids.push(cell.id())?;
+        push(ids, cell.id())?;
     }
     Ok(())
 }

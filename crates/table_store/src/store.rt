@@ -409,9 +409,9 @@ fn enter<A: Allocator>(
     ensures entered { OnOk result (HasSlot by_ids.new hash key.slot) }
     ensures by_serial { MatchResult result (λ _. by_serial.new.items ≡ by_serial.old.items ++ key ∷ []) (λ _. by_serial.new.items ≡ by_serial.old.items) }
 {
-    by_serial.reserve(1)?;
+    list_growth::make_room(by_serial)?;
     by_ids.insert(hash, key.slot())?;
-    by_serial.push(key).unwrap();
+    by_serial.push_reserved(key);
     Ok(())
 }
 

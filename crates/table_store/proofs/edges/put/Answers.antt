@@ -12,4 +12,4 @@ returns-in-Some g c =
     set_at c.args.id c.args.to edges c.in-Some.place at.0 at.1
 
 pub returns-in-None : goal.returns-in-None
-returns-in-None g c = pushed_if c.args.id c.args.to (is_ok c.push.result) c.args.few.now.items c.push.new.self.items c.push.ensures.items
+returns-in-None g c = pushed_if c.args.id c.args.to (is_ok c.push.result) c.args.few.now.items c.push.new.list.items c.push.ensures.items

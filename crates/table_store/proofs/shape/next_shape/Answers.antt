@@ -26,7 +26,7 @@ on_ok (Err x) f h = h
 pub returns-in_ok-push-in-Some : goal.returns-in_ok-push-in-Some
 returns-in_ok-push-in-Some g c =
     on_ok c.push_above.result (λ above.
-    inserted c.args.table.now c.args.id c.in-Some.size c.clear.new.self.items c.push_below.new.cells.items c.push.new.self.items c.push_above.new.cells.items c.requires c.clear.ensures.items c.in_ok-push_below-in-Some.ensures
+    inserted c.args.table.now c.args.id c.in-Some.size c.clear.new.self.items c.push_below.new.cells.items c.push.new.list.items c.push_above.new.cells.items c.requires c.clear.ensures.items c.in_ok-push_below-in-Some.ensures
     (c.in_ok-push-in-Some.ensures.items ∙ ap (λ v. c.push_below.new.cells.items ++ v ∷ []) c.new.ensures) above
     ∙ ap (stepped (shape_of c.args.table.now) c.args.id) (sym c.in-Some.is))
     c.push_above.ensures

@@ -4,7 +4,7 @@ use Rattle.ecs_id.specs.declared.EntityId.{EntityId}
 use Rattle.ecs_model.specs.World.{first_index}
 use Rattle.entity_index.specs.Entities.{next_entity, IsWellFormed}
 use Rattle.entity_index.specs.Slots.{meaning}
-use Rattle.entity_index.proofs.CreatedIndexes.{popped_fits, popped_next, popped_born, popped_sound, fresh_next, fresh_none, fresh_born, fresh_well, refused_well, no_place_after, full_is_none, ok_is_some, memory_is_some, push_failed, push_done}
+use Rattle.entity_index.proofs.CreatedIndexes.{popped_fits, popped_next, popped_born, popped_sound, fresh_next, fresh_none, fresh_born, fresh_well, refused_well, no_place_after, full_is_none, ok_is_some, memory_is_some}
 use Rattle.entity_index.proofs.NextLaws.{IsNext-from_next, full_where_none}
 use Rattle.entity_index.proofs.Soundness.{IsWellFormed-sound}
 use Rattle.entity_index.proofs.index.SlotIndex.create.Goals as goal
@@ -56,23 +56,23 @@ returns-in_err-reserve-clause-none_left g c = full_where_none c.args.self.now (s
 pub returns-in_err-reserve-clause-well_formed : goal.returns-in_err-reserve-clause-well_formed
 returns-in_err-reserve-clause-well_formed g c = IsWellFormed-sound c.self.inside.slots.items c.self.inside.places.items c.self.inside.free c.self.inside.last c.self.invariant
 
-pub returns-in_err-reserve-2-clause-full : goal.returns-in_err-reserve-2-clause-full
-returns-in_err-reserve-2-clause-full g c = rw (← c.self.view_is) (memory_is_some (next_entity (meaning c.self.inside.slots.items c.self.inside.places.items c.self.inside.last)) _ (fresh_next c.self.inside.slots.items c.self.inside.places.items c.self.inside.free c.self.inside.last c.self.invariant c.in_default.ensures.none c.len-used.result (sym c.self.inside.slots.ok.0 ∙ sym c.len-used.ensures) c.if-self-index.false) c.from_residual-in_err-reserve-2.result c.from_residual-in_err-reserve-2.ensures.1)
+pub returns-in_err-make_room-clause-full : goal.returns-in_err-make_room-clause-full
+returns-in_err-make_room-clause-full g c = rw (← c.self.view_is) (memory_is_some (next_entity (meaning c.self.inside.slots.items c.self.inside.places.items c.self.inside.last)) _ (fresh_next c.self.inside.slots.items c.self.inside.places.items c.self.inside.free c.self.inside.last c.self.invariant c.in_default.ensures.none c.len-used.result (sym c.self.inside.slots.ok.0 ∙ sym c.len-used.ensures) c.if-self-index.false) c.from_residual-in_err-make_room.result c.from_residual-in_err-make_room.ensures.1)
 
-pub returns-in_err-reserve-2-clause-none_left : goal.returns-in_err-reserve-2-clause-none_left
-returns-in_err-reserve-2-clause-none_left g c = full_where_none c.args.self.now (subst (λ w. first_index ≤ w.last) c.self.view_is c.self.invariant.least) (returns-in_err-reserve-2-clause-full g c)
+pub returns-in_err-make_room-clause-none_left : goal.returns-in_err-make_room-clause-none_left
+returns-in_err-make_room-clause-none_left g c = full_where_none c.args.self.now (subst (λ w. first_index ≤ w.last) c.self.view_is c.self.invariant.least) (returns-in_err-make_room-clause-full g c)
 
-pub returns-in_err-reserve-2-clause-well_formed : goal.returns-in_err-reserve-2-clause-well_formed
-returns-in_err-reserve-2-clause-well_formed g c = refused_well c.self.inside.slots.items c.self.inside.slots.items c.self.inside.places.items _ c.self.inside.free c.self.inside.last c.self.invariant refl c.in_err-reserve-2.ensures.items
+pub returns-in_err-make_room-clause-well_formed : goal.returns-in_err-make_room-clause-well_formed
+returns-in_err-make_room-clause-well_formed g c = refused_well c.self.inside.slots.items c.self.inside.slots.items c.self.inside.places.items _ c.self.inside.free c.self.inside.last c.self.invariant refl c.in_err-make_room.ensures.items
 
-pub returns-in_err-map_err-clause-full : goal.returns-in_err-map_err-clause-full
-returns-in_err-map_err-clause-full g c = rw (← c.self.view_is) (memory_is_some (next_entity (meaning c.self.inside.slots.items c.self.inside.places.items c.self.inside.last)) _ (fresh_next c.self.inside.slots.items c.self.inside.places.items c.self.inside.free c.self.inside.last c.self.invariant c.in_default.ensures.none c.len-used.result (sym c.self.inside.slots.ok.0 ∙ sym c.len-used.ensures) c.if-self-index.false) c.from_residual-in_err-map_err.result c.from_residual-in_err-map_err.ensures.1)
+pub returns-in_err-push-clause-full : goal.returns-in_err-push-clause-full
+returns-in_err-push-clause-full g c = rw (← c.self.view_is) (memory_is_some (next_entity (meaning c.self.inside.slots.items c.self.inside.places.items c.self.inside.last)) _ (fresh_next c.self.inside.slots.items c.self.inside.places.items c.self.inside.free c.self.inside.last c.self.invariant c.in_default.ensures.none c.len-used.result (sym c.self.inside.slots.ok.0 ∙ sym c.len-used.ensures) c.if-self-index.false) c.from_residual-in_err-push.result c.from_residual-in_err-push.ensures.1)
 
-pub returns-in_err-map_err-clause-none_left : goal.returns-in_err-map_err-clause-none_left
-returns-in_err-map_err-clause-none_left g c = full_where_none c.args.self.now (subst (λ w. first_index ≤ w.last) c.self.view_is c.self.invariant.least) (returns-in_err-map_err-clause-full g c)
+pub returns-in_err-push-clause-none_left : goal.returns-in_err-push-clause-none_left
+returns-in_err-push-clause-none_left g c = full_where_none c.args.self.now (subst (λ w. first_index ≤ w.last) c.self.view_is c.self.invariant.least) (returns-in_err-push-clause-full g c)
 
-pub returns-in_err-map_err-clause-well_formed : goal.returns-in_err-map_err-clause-well_formed
-returns-in_err-map_err-clause-well_formed g c = refused_well c.self.inside.slots.items _ c.self.inside.places.items _ c.self.inside.free c.self.inside.last c.self.invariant (push_failed c.push.result c.map_err.result _ _ c.push.new.self.items c.push.ensures.items c.map_err.ensures.variant _ c.in_err-map_err.was) c.in_ok-reserve-2.ensures.items
+pub returns-in_err-push-clause-well_formed : goal.returns-in_err-push-clause-well_formed
+returns-in_err-push-clause-well_formed g c = refused_well c.self.inside.slots.items _ c.self.inside.places.items _ c.self.inside.free c.self.inside.last c.self.invariant c.in_err-push.ensures.items c.in_ok-make_room.ensures.items
 
 pub returns-clause-next : goal.returns-clause-next
 returns-clause-next g c = rw (← c.self.view_is) (fresh_next c.self.inside.slots.items c.self.inside.places.items c.self.inside.free c.self.inside.last c.self.invariant c.in_default.ensures.none c.len-used.result (sym c.self.inside.slots.ok.0 ∙ sym c.len-used.ensures) c.if-self-index.false)
@@ -81,7 +81,7 @@ pub returns-clause-smallest : goal.returns-clause-smallest
 returns-clause-smallest g c = IsNext-from_next c.args.self.now (subst (λ w. first_index ≤ w.last) c.self.view_is c.self.invariant.least) _ (returns-clause-next g c)
 
 pub returns-clause-born : goal.returns-clause-born
-returns-clause-born g c = rw (← c.self.view_is) (fresh_born c.self.inside.slots.items c.self.inside.places.items c.self.inside.free c.self.inside.last c.self.invariant c.in_default.ensures.none c.len-used.result (sym c.self.inside.slots.ok.0 ∙ sym c.len-used.ensures) c.push.new.self.items c.push-2.new.self.items (push_done c.push.result c.map_err.result _ _ c.push.new.self.items c.push.ensures.items c.map_err.ensures.variant _ c.in_ok-map_err.was) (push_done c.push-2.result c.push-2.result _ _ c.push-2.new.self.items c.push-2.ensures.items refl _ c.unwrap.ensures ∙ ap (λ ps. ps ++ None ∷ []) c.in_ok-reserve-2.ensures.items))
+returns-clause-born g c = rw (← c.self.view_is) (fresh_born c.self.inside.slots.items c.self.inside.places.items c.self.inside.free c.self.inside.last c.self.invariant c.in_default.ensures.none c.len-used.result (sym c.self.inside.slots.ok.0 ∙ sym c.len-used.ensures) c.push.new.list.items c.push_reserved.new.self.items c.in_ok-push.ensures.items (c.push_reserved.ensures.items ∙ ap (λ ps. ps ++ None ∷ []) c.in_ok-make_room.ensures.items))
 
 pub returns-clause-no_place : goal.returns-clause-no_place
 returns-clause-no_place g c =
@@ -95,4 +95,4 @@ pub returns-clause-none_left : goal.returns-clause-none_left
 returns-clause-none_left g c = full_where_none c.args.self.now (subst (λ w. first_index ≤ w.last) c.self.view_is c.self.invariant.least) (returns-clause-full g c)
 
 pub returns-clause-well_formed : goal.returns-clause-well_formed
-returns-clause-well_formed g c = fresh_well c.self.inside.slots.items c.self.inside.places.items c.self.inside.free c.self.inside.last c.self.invariant c.in_default.ensures.none c.len-used.result (sym c.self.inside.slots.ok.0 ∙ sym c.len-used.ensures) c.reserve.new.self c.if-self-index.false (c.in_ok-reserve.ensures.items ∙ c.in_default.ensures.unchanged.0) (c.in_ok-reserve.ensures.len ∙ c.in_default.ensures.unchanged.1) (omega (arith, c.in_ok-reserve.ensures.ok)) c.push.new.self.items c.push-2.new.self.items (push_done c.push.result c.map_err.result _ _ c.push.new.self.items c.push.ensures.items c.map_err.ensures.variant _ c.in_ok-map_err.was) (push_done c.push-2.result c.push-2.result _ _ c.push-2.new.self.items c.push-2.ensures.items refl _ c.unwrap.ensures ∙ ap (λ ps. ps ++ None ∷ []) c.in_ok-reserve-2.ensures.items)
+returns-clause-well_formed g c = fresh_well c.self.inside.slots.items c.self.inside.places.items c.self.inside.free c.self.inside.last c.self.invariant c.in_default.ensures.none c.len-used.result (sym c.self.inside.slots.ok.0 ∙ sym c.len-used.ensures) c.reserve.new.self c.if-self-index.false (c.in_ok-reserve.ensures.items ∙ c.in_default.ensures.unchanged.0) (c.in_ok-reserve.ensures.len ∙ c.in_default.ensures.unchanged.1) (omega (arith, c.in_ok-reserve.ensures.ok)) c.push.new.list.items c.push_reserved.new.self.items c.in_ok-push.ensures.items (c.push_reserved.ensures.items ∙ ap (λ ps. ps ++ None ∷ []) c.in_ok-make_room.ensures.items)

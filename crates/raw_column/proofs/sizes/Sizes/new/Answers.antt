@@ -12,7 +12,7 @@ loop-size-preserved g c =
     let within = c.requires k lt in
     let more : c.in-Some.more ≡ w + s = c.in-Some.ensures.1 in
     let fits : w + s < 2 ^ 32 = c.in-Some.ensures.0 in
-    let pushed : c.push.new.self.items ≡ spans ++ p ∷ [] = c.in_ok-push.ensures.items in
+    let pushed : c.push.new.list.items ≡ spans ++ p ∷ [] = c.in_ok-push.ensures.items in
     record {
       sizes = ap sizes_of pushed ∙ map-append (λ (q : Span). q.size) spans (p ∷ []) ∙ ap (λ l. l ++ s ∷ []) c.loop-size.invariant.sizes ∙ sym (take_more ss k 0 lt);
       spread = subst (λ l. IsSpread l c.in-Some.more) (sym pushed) (subst (IsSpread (spans ++ p ∷ [])) (sym more) (spread_push spans w s c.loop-size.invariant.spread within.0 within.1 fits));
