@@ -15,6 +15,9 @@ use Rattle.script_line.specs.declared.Line.{Line}
 use Rattle.script_line.specs.declared.Line.TheVariants.{Nothing, TooLong, Bad, New, Entity, Component, Add, Set, Remove, Delete, Show, Query, Store, Rows, Drop}
 use Rattle.script_line.specs.declared.Opening.{Opening}
 use Rattle.script_line.specs.declared.Opening.TheVariants as opening
+use Rattle.script_line.specs.declared.Deed.{Deed}
+use Rattle.script_line.specs.declared.Deed.TheVariants as deeds
+use Rattle.script_line.specs.declared.Fact.{Fact}
 use Rattle.script_line.specs.declared.references.Reference.{Reference}
 use Rattle.script_line.specs.declared.references.Reference.TheVariants.{Name, Handle}
 use Rattle.script_line.specs.declared.references.IdReference.{IdReference}
@@ -105,3 +108,23 @@ form_opened (opening.Rows rest) = one_word AskKept (words rest.now)
 form_opened (opening.Delete rest) = entity_line (λ r. Obey (InWorld (DeleteOne r))) rest.now
 form_opened opening.New = Obey (InWorld MakeFresh)
 form_opened (opening.Other text) = by_first_word text.now
+
+-- what a deed asks of an entity and an id, by the words behind them
+abbrev pub deed_words : Deed → EntityRef → IdRef → List (List ℕ) → Form
+deed_words deeds.Set r i = set_line r i
+deed_words deeds.Add r i = nothing_more (Obey (InWorld (AddTo r i)))
+deed_words deeds.Remove r i = nothing_more (Obey (InWorld (RemoveFrom r i)))
+
+-- what a line asks by what stands behind the word of a deed
+abbrev pub deed_line : Deed → List ℕ → Form
+deed_line deed rest = fact_line (deed_words deed) rest
+
+-- the form of a deed with these values
+abbrev pub deed_form : Deed → EntityRef → IdRef → List ℤ → Form
+deed_form deeds.Set r i values = Obey (InWorld (SetIn r i values))
+deed_form deeds.Add r i values = Obey (InWorld (AddTo r i))
+deed_form deeds.Remove r i values = Obey (InWorld (RemoveFrom r i))
+
+-- the form of a fact that was read with these values
+abbrev pub seen_deed : Deed → List ℤ → Fact → Form
+seen_deed deed values fact = deed_form deed (seen_reference fact.entity) (seen_id fact.id) values

@@ -17,7 +17,7 @@ mod words;
 
 use ecs_model::Kind;
 use ecs_model::watches::StoredKind;
-pub use line_forms::{bare_fact, only_entity, only_word, valued_fact};
+pub use line_forms::{fact_behind, only_entity, only_word};
 pub use references::{IdReference, Reference};
 use std::alloc::{AllocError, Allocator, Global};
 use std::str;
@@ -115,6 +115,14 @@ pub enum Opening<'a> {
     New,
     /// Any other line, from its start.
     Other { text: &'a str },
+}
+
+/// What a line does with a fact.
+#[derive(Clone, Copy, Debug)]
+pub enum Deed {
+    Set,
+    Add,
+    Remove,
 }
 
 /// An entity and an id of which a line says something.

@@ -1,15 +1,15 @@
 //! The forms of lines.
 ghost use Rattle.std.specs.Prelude.{◌≡◌, ◌<◌, ℕ, ℤ, List, drop, length, map, slice_index, IfOk, IfSome, None, Some, option_map, if◌then◌else◌};
 ghost use Rattle.ecs_model.specs.Text.{trim_front, words};
-ghost use Rattle.ecs_model.specs.Script.{Form, AskKept, Obey, Show, all_of, component_line, entity_line, fact_line, field_of_word, form_or_bad, nothing_more, on_line, one_word, says_nothing, set_line, store_line, value_of_word};
+ghost use Rattle.ecs_model.specs.Script.{Form, AskKept, BadLine, Obey, Show, all_of, component_line, entity_line, fact_line, field_of_word, form_or_bad, nothing_more, on_line, one_word, says_nothing, set_line, store_line, value_of_word};
 ghost use Rattle.ecs_model.specs.Orders.{EntityRef, IdRef, AddTo, DeleteOne, MakeEntity, MakeFresh, RemoveFrom, SetIn};
 ghost use Rattle.ecs_model.specs.stored.Session.{Drop, InWorld};
-ghost use Rattle.script_line.specs.Line.{by_first_word, by_rarer_word, form_opened, seen, seen_field, seen_id, seen_reference};
+ghost use Rattle.script_line.specs.Line.{by_first_word, by_rarer_word, deed_form, deed_line, deed_words, form_opened, seen, seen_deed, seen_field, seen_id, seen_reference};
 
 use crate::blanks::{blanks_at_front, next_word, trim_front, trimmed, word_and_rest, word_start};
 use crate::references::{Reference, id_and_rest, reference_and_rest, reference_of};
 use crate::words::{event_of_word, field_of_word, value_and_rest};
-use crate::{Fact, Line, Opening};
+use crate::{Deed, Fact, Line, Opening};
 use ecs_model::Kind;
 use ecs_model::watches::StoredKind;
 use std::alloc::{AllocError, Allocator};
@@ -306,7 +306,7 @@ fn fact_and_rest(text: &str) -> Option<(Fact<'_>, &str)>
 
 /// Reads what stands behind `add` or `remove`: an entity and an id.
 #[inline(always)]
-pub fn bare_fact(text: &str) -> Option<Fact<'_>>
+fn bare_fact(text: &str) -> Option<Fact<'_>>
     ensures { (f : EntityRef → IdRef → Form) → fact_line (λ r i. nothing_more (f r i)) text.now
         ≡ form_or_bad (λ t. f (seen_reference t.entity) (seen_id t.id)) result }
 {
@@ -319,7 +319,7 @@ pub fn bare_fact(text: &str) -> Option<Fact<'_>>
 
 /// Reads what stands behind `set`: an entity, an id and one or more values, which come into `values` in place of what stood there.
 #[inline(always)]
-pub fn valued_fact<'a, A: Allocator>(
+fn valued_fact<'a, A: Allocator>(
     text: &'a str,
     values: &mut Vec<i128, A>,
 ) -> Result<Option<Fact<'a>>, AllocError>
@@ -334,6 +334,44 @@ pub fn valued_fact<'a, A: Allocator>(
         Ok(Some(fact))
     } else {
         Ok(None)
+    }
+}
+
+/// Reads what stands behind the word of a deed: an entity and an id, and behind `set` one or more values, which come into `values` in place of what stood
+/// there.
+// One function for the three deeds, so that the code that reads an entity and an id stands once where it is inlined.
+#[inline(always)]
+pub fn fact_behind<'a, A: Allocator>(
+    deed: Deed,
+    text: &'a str,
+    values: &mut Vec<i128, A>,
+) -> Result<Option<Fact<'a>>, AllocError>
+    ensures { IfOk result (λ o. deed_line deed text.now ≡ form_or_bad (seen_deed deed values.new.items) o) }
+{
+    let Some((fact, rest)) = fact_and_rest(text) else {
+        return Ok(None);
+    };
+    let fits = fits_behind(deed, rest, values)?;
+    if fits { Ok(Some(fact)) } else { Ok(None) }
+}
+
+/// Reads what stands behind an entity and an id, and answers whether it fits the deed.
+#[inline(always)]
+fn fits_behind<A: Allocator>(
+    deed: Deed,
+    text: &str,
+    values: &mut Vec<i128, A>,
+) -> Result<bool, AllocError>
+    ensures { IfOk result (λ fits. (r : EntityRef) → (i : IdRef) → deed_words deed r i (words text.now)
+        ≡ (if fits then deed_form deed r i values.new.items else BadLine)) }
+{
+    match deed {
+        Deed::Set => {
+            let are_values = read_values(text, values)?;
+            Ok(are_values && !values.is_empty())
+        }
+        Deed::Add => Ok(word_start(text).is_none()),
+        Deed::Remove => Ok(word_start(text).is_none()),
     }
 }
 

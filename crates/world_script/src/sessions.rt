@@ -1,12 +1,12 @@
 //! What a session does with a line.
-ghost use Rattle.std.specs.Prelude.{◌≡◌, map, IfOk, None, Ok, OnOk};
+ghost use Rattle.std.specs.Prelude.{◌≡◌, map, IfOk, IfSome, None, Ok, OnOk};
 ghost use Rattle.ecs_model.specs.Text.{words};
 ghost use Rattle.ecs_model.specs.Orders.{EntityRef, IdRef, MakeFresh, MakeEntity, AddTo, SetIn, RemoveFrom, DeleteOne};
-ghost use Rattle.ecs_model.specs.Script.{Obey, Define, Show, Ask, AskKept, entity_line, fact_line, nothing_more, one_word, set_line};
+ghost use Rattle.ecs_model.specs.Script.{Obey, Define, Show, Ask, AskKept, entity_line, one_word};
 ghost use Rattle.ecs_model.specs.Output.{effect_of};
 ghost use Rattle.ecs_model.specs.stored.Session.{Drop, InWorld, Store};
 ghost use Rattle.ecs_observe.specs.Standing.{session_of};
-ghost use Rattle.script_line.specs.Line.{form_opened, seen, seen_field, seen_id, seen_reference};
+ghost use Rattle.script_line.specs.Line.{deed_form, deed_line, form_opened, seen, seen_deed, seen_field, seen_id, seen_reference};
 ghost use Rattle.world_script.specs.Run.{DoesLine, IsDone, line_effect, unsent};
 ghost use Rattle.world_script.specs.Told.{FindsBoth};
 
@@ -23,8 +23,8 @@ use ecs_observe::{SendRowsError, Session, SessionError};
 use ecs_schema::{Schema, SchemaError};
 use query_model::faults::QueryFault;
 use script_line::{
-    IdReference, Line, Opening, Reference, bare_fact, line_opened, only_entity, only_word,
-    read_opened, valued_fact,
+    Deed, Fact, IdReference, Line, Opening, Reference, fact_behind, line_opened, only_entity,
+    only_word, read_opened,
 };
 use script_streams::Sink;
 use std::alloc::{AllocError, Allocator};
@@ -73,10 +73,43 @@ fn run_opened<A: Allocator + Copy, W: Sink>(
     requires none_wait { session.old.waiting ≡ None }
     ensures { DoesLine (effect_of (session_of session.old) number (form_opened opening.entry)) (session_of session.new) W.contents W.calls writer.old writer.new most output.old.items output.new.items result }
 {
+    match fact_line_in(opening) {
+        Some((deed, rest)) => unsent(run_fact_line(session, number, deed, rest, values, output)),
+        None => run_other(
+            alloc, session, number, opening, values, output, most, writer,
+        ),
+    }
+}
+
+/// What a line does with a fact, if its first word says so, and what stands behind that.
+#[inline(always)]
+fn fact_line_in(opening: Opening<'_>) -> Option<(Deed, &str)>
+    ensures { IfSome result (λ p. form_opened opening.entry ≡ deed_line p.0 p.1.now) }
+{
     match opening {
-        Opening::Set { rest } => unsent(run_set_line(session, number, rest, values, output)),
-        Opening::Add { rest } => unsent(run_add_line(session, number, rest, output)),
-        Opening::Remove { rest } => unsent(run_remove_line(session, number, rest, output)),
+        Opening::Set { rest } => Some((Deed::Set, rest)),
+        Opening::Add { rest } => Some((Deed::Add, rest)),
+        Opening::Remove { rest } => Some((Deed::Remove, rest)),
+        _ => None,
+    }
+}
+
+/// Does what a line says whose first word was read, and is for most lines about no fact.
+#[inline(always)]
+fn run_other<A: Allocator + Copy, W: Sink>(
+    alloc: A,
+    session: &mut Session<A>,
+    number: usize,
+    opening: Opening<'_>,
+    values: &mut Vec<i128, A>,
+    output: &mut Vec<u8, A>,
+    most: usize,
+    writer: &mut W,
+) -> Result<bool, SendError>
+    requires none_wait { session.old.waiting ≡ None }
+    ensures { DoesLine (effect_of (session_of session.old) number (form_opened opening.entry)) (session_of session.new) W.contents W.calls writer.old writer.new most output.old.items output.new.items result }
+{
+    match opening {
         Opening::Entity { rest } => unsent(run_entity_line(session, number, rest, output)),
         Opening::Rows { rest } => run_rows_line(session, number, rest, output, most, writer),
         Opening::Delete { rest } => unsent(run_delete_line(session, number, rest, output)),
@@ -116,64 +149,63 @@ fn run_rarer<A: Allocator + Copy, W: Sink>(
     )
 }
 
-/// A line behind its `set`.
+/// A line behind its `set`, `add` or `remove`.
+// One way for the three: the code that reads an entity and an id, and finds them, stands once then.
 #[inline(always)]
-fn run_set_line<A: Allocator + Copy>(
+fn run_fact_line<A: Allocator + Copy>(
     session: &mut Session<A>,
     number: usize,
+    deed: Deed,
     rest: &str,
     values: &mut Vec<i128, A>,
     output: &mut Vec<u8, A>,
 ) -> Result<bool, AllocError>
     requires none_wait { session.old.waiting ≡ None }
-    ensures { IfOk result (IsDone (effect_of (session_of session.old) number (fact_line set_line rest.now)) (session_of session.new) output.old.items output.new.items) }
+    ensures { IfOk result (IsDone (effect_of (session_of session.old) number (deed_line deed rest.now)) (session_of session.new) output.old.items output.new.items) }
 {
-    match valued_fact(rest, values)? {
-        Some(fact) => run_set(
-            session,
-            number,
-            fact.entity,
-            fact.id,
-            values.as_slice(),
-            output,
-        ),
+    match fact_behind(deed, rest, values)? {
+        Some(fact) => run_fact(session, number, deed, fact, values.as_slice(), output),
         None => refuse(number, "BadLine", output),
     }
 }
 
-/// A line behind its `add`.
+/// Does a deed with a fact that was read.
 #[inline(always)]
-fn run_add_line<A: Allocator + Copy>(
+fn run_fact<A: Allocator + Copy>(
     session: &mut Session<A>,
     number: usize,
-    rest: &str,
+    deed: Deed,
+    fact: Fact<'_>,
+    values: &[i128],
     output: &mut Vec<u8, A>,
 ) -> Result<bool, AllocError>
     requires none_wait { session.old.waiting ≡ None }
-    ensures { IfOk result (IsDone (effect_of (session_of session.old) number (fact_line (λ r i. nothing_more (Obey (InWorld (AddTo r i)))) rest.now))
-        (session_of session.new) output.old.items output.new.items) }
+    ensures { IfOk result (IsDone (effect_of (session_of session.old) number (seen_deed deed values.now fact.entry)) (session_of session.new) output.old.items output.new.items) }
 {
-    match bare_fact(rest) {
-        Some(fact) => run_add(session, number, fact.entity, fact.id, output),
-        None => refuse(number, "BadLine", output),
+    match find_both(session.world(), fact.entity, fact.id) {
+        Err(refusal) => refuse_in_world(number, refusal, output),
+        Ok(both) => do_found(session, number, deed, both.0, both.1, values, output),
     }
 }
 
-/// A line behind its `remove`.
+/// Does a deed with an entity and an id that were found.
 #[inline(always)]
-fn run_remove_line<A: Allocator + Copy>(
+fn do_found<A: Allocator + Copy>(
     session: &mut Session<A>,
     number: usize,
-    rest: &str,
+    deed: Deed,
+    entity: EntityId,
+    id: Id,
+    values: &[i128],
     output: &mut Vec<u8, A>,
 ) -> Result<bool, AllocError>
-    requires none_wait { session.old.waiting ≡ None }
-    ensures { IfOk result (IsDone (effect_of (session_of session.old) number (fact_line (λ r i. nothing_more (Obey (InWorld (RemoveFrom r i)))) rest.now))
-        (session_of session.new) output.old.items output.new.items) }
+    ensures { (r : EntityRef) → (i : IdRef) → FindsBoth (session.old.world).state r i (Ok (entity, id))
+        → IfOk result (IsDone (effect_of (session_of session.old) number (deed_form deed r i values.now)) (session_of session.new) output.old.items output.new.items) }
 {
-    match bare_fact(rest) {
-        Some(fact) => run_remove(session, number, fact.entity, fact.id, output),
-        None => refuse(number, "BadLine", output),
+    match deed {
+        Deed::Set => set_found(session, number, entity, id, values, output),
+        Deed::Add => add_found(session, number, entity, id, output),
+        Deed::Remove => remove_found(session, number, entity, id, output),
     }
 }
 
