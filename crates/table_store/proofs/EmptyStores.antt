@@ -1,12 +1,12 @@
 -- A store without tables.
-use Rattle.std.proofs.Common.{◌≡◌, ℕ, suc, zero, [], Option, Some, None, IsSome, IfSome, is_some, slice_index_or, slice_get, refl, sym, ap, subst, ◌∙◌, true≢false, arith}
+use Rattle.std.proofs.Common.{◌≡◌, ℕ, suc, zero, Bool, false, List, [], Option, Some, None, IsSome, IfSome, is_some, slice_index_or, slice_get, refl, sym, ap, subst, ◌∙◌, true≢false, arith}
 use Rattle.std.specs.List.Sorted.{IsStrictlySortedBy}
 use Rattle.std.specs.declared.vec.Vec.{Vec}
 use Rattle.slab.specs.Slab as slots
 use Rattle.slab.specs.Slab.{Slab}
 use Rattle.ecs_id.specs.declared.TableKey.{TableKey}
 use Rattle.table_store.specs.Store.{Store, shape_at, table_at}
-use Rattle.table_store.specs.Kept.{ByIds, Held, store_of, standing, tables_from, IsKept, IsOrder, IsSlot}
+use Rattle.table_store.specs.Kept.{AreMarked, ByIds, Held, is_filled, store_of, standing, tables_from, IsKept, IsOrder, IsSlot}
 use Rattle.table_store.proofs.Slots.{none_is_some, table_at-slots}
 use Rattle.table_store.proofs.TableCounts.{nothing_at}
 
@@ -38,6 +38,12 @@ module _ {Y : Type 0} (tables : Slab (Held Y)) (by_ids : ByIds Y) (by_serial : V
   no_keys : IsOrder s []
   unfolding IsStrictlySortedBy
   no_keys = record { has = λ k h. absurd (absent k h); given = λ k c. absurd (omega (arith, c.1)); few = omega arith; rising = tt }
+
+  pub empty_marked : (filled : List Bool) → filled ≡ [] → AreMarked tables filled
+  empty_marked filled none = record {
+    within = λ n h. absurd (true≢false (sym (sym (ap is_some (vacant n)) ∙ h)));
+    told = λ n. ap (λ l. slice_index_or l n false) none ∙ nothing_at n false ∙ ap is_filled (sym (vacant n));
+  }
 
   pub empty_kept : IsKept tables by_ids by_serial 0
   empty_kept = record {

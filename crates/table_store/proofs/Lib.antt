@@ -4,8 +4,10 @@ pub mod Indexes
 pub mod InsertedIds
 pub mod EdgeLemmas
 pub mod EmptyStores
+pub mod FilledTables
 pub mod MadeTables
 pub mod RowMoves
+pub mod Marks
 pub mod Order
 pub mod FoundTables
 pub mod ReleasedTables

@@ -172,5 +172,8 @@ module _ {Y : Type 0} (tables new : Slab (Held Y)) (by_ids named : ByIds Y) (by_
     pub released : (q : TableKey) → table_at (store_of new last) q ≡ released_at z k q
     released q = subst (λ w. table_at n q ≡ released_at w k q) view (taken q)
 
+    pub released_empty : rows_in z k ≡ 0 → length x.value.table.entities ≡ 0
+    released_empty = subst (λ w. rows_in w k ≡ 0 → length x.value.table.entities ≡ 0) view (λ e. sym (rows_here s k x.value.table there) ∙ e)
+
     pub released_rows : rows_in z k ≡ 0 → (p : Place) → row_at (store_of new last) p ≡ row_at z p
     released_rows = subst (λ w. rows_in w k ≡ 0 → (p : Place) → row_at n p ≡ row_at w p) view (λ e. rows_left (sym (rows_here s k x.value.table there) ∙ e))

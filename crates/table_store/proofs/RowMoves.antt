@@ -1,5 +1,5 @@
 -- A row moves to another table of the store: its table comes out of its slot, gives up the row, and comes back.
-use Rattle.std.proofs.Common.{◌≡◌, ◌≢◌, ℕ, suc, zero, ◌+◌, ◌<◌, ◌==◌, ◌&&◌, Bool, true, false, cond, if◌then◌else◌, List, [], ◌∷◌, Option, Some, None, IsSome, is_some, length, option_map, option_and_then, slice_index_or, slice_set, fold, refl, sym, ap, subst, ◌∙◌, true≢false, arith}
+use Rattle.std.proofs.Common.{◌≡◌, ◌≢◌, ℕ, suc, zero, ◌+◌, ◌<◌, ◌==◌, ◌&&◌, Bool, true, false, cond, if◌then◌else◌, List, [], ◌∷◌, Option, Some, None, IsSome, is_some, length, nat_lt, set, option_map, option_and_then, slice_index_or, slice_set, fold, refl, sym, ap, subst, ◌∙◌, true≢false, arith}
 use Rattle.std.proofs.lemmas.Bool.Decides.{Decides-eqb}
 use Rattle.std.specs.declared.vec.Vec.{Vec}
 use Rattle.slab.specs.Slab as slots
@@ -7,14 +7,15 @@ use Rattle.slab.specs.Slab.{Slab, Updates, with_value, slab_len}
 use Rattle.slab.proofs.SlabLemmas.{Updates-with_value}
 use Rattle.ecs_id.specs.declared.Place.{Place}
 use Rattle.ecs_id.specs.declared.TableKey.{TableKey}
-use Rattle.ecs_table.specs.Archetype.{Archetype, HaveEqualSizes, HaveOneSize, IsSound, with_moved, without_row}
+use Rattle.ecs_table.specs.Archetype.{Archetype, HaveEqualSizes, HaveOneSize, IsSound, entity_at, with_moved, without_row}
 use Rattle.ecs_table.proofs.Rows.{equal_sizes, row_of_moved, row_past, shape_of_moved, shape_of_removed}
 use Rattle.ecs_table.proofs.Soundness.{sound_with_moved, sound_without_row}
 use Rattle.ecs_table.proofs.TableIds.{both_first}
 use Rattle.table_store.specs.declared.store.Slot.{Slot}
 use Rattle.table_store.specs.Store.{Shape, Store, changed_at, key_eq, moved_at, shape_at, shape_of, table_at}
 use Rattle.table_store.specs.Rows.{IsStored, Row, carried, filler, gap_filled, last_place, moved_rows, removed_rows, row_at, row_of, same_place, with_row_at, without_row_at}
-use Rattle.table_store.specs.Kept.{ByIds, Held, store_of, IsKept}
+use Rattle.table_store.specs.Kept.{AreMarked, ByIds, Held, store_of, IsKept}
+use Rattle.table_store.proofs.Marks.{marked_moved, pushed_fills}
 use Rattle.table_store.proofs.Slots.{key_eq_false, one_some, same_key}
 use Rattle.table_store.proofs.StoreLemmas.{stored}
 use Rattle.table_store.proofs.Changes.{IsKept-changed, changed, row_changed, row_here, shape_here, shapes, table_here, the_slot, written, written_kept, written_row, written_shapes}
@@ -78,6 +79,10 @@ module _ {Y : Type 0} (tables out back : Slab (Held Y)) (last : ℕ) (s : Store)
 
     sound_tgt : IsSound tgt
     sound_tgt = sound_here tables last s view to tgt at_to z is_z0 by_ids by_serial kept
+
+    -- both slots have marks
+    pub moved_within : (filled : List Bool) → AreMarked tables filled → (from.slot < length filled) × (to.slot < length filled)
+    moved_within filled marked = (marked.within from.slot (subst IsSome (sym is_x) refl), marked.within to.slot (subst IsSome (sym is_z0) refl))
 
     pub sizes_alike : HaveOneSize (shape_of src) (shape_of tgt)
     sizes_alike i m n p q =
@@ -149,6 +154,10 @@ module _ {Y : Type 0} (tables out back : Slab (Held Y)) (last : ℕ) (s : Store)
 
       pub moved_kept : IsKept back by_ids by_serial last
       moved_kept = IsKept-changed mid back last s1 refl to tgt at_to1 z z1 is_z1 u3 f made (ap (λ v. v.serial) lent_z) by_ids by_serial kept1 (shape_of_moved tgt src row sound_tgt) (sound_with_moved tgt src row sound_tgt) (ap (λ v. v.more) lent_z) (ap (λ v. v.less) lent_z)
+
+      pub moved_marked : (filled : List Bool) → AreMarked tables filled → (b : Bool) → b ≡ nat_lt 0 (length xt.entities) → AreMarked back (set (set filled to.slot true) from.slot b)
+      moved_marked filled marked b left = marked_moved tables out back filled marked from.slot to.slot slots_differ x1 z1 u1 (subst IsSome (sym is_z) refl) u2 (marked.within from.slot (subst IsSome (sym is_x) refl)) b left
+          (pushed_fills dz.table.entities (entity_at dx.table row) ∙ ap (λ (v : Archetype). nat_lt 0 (length v.entities)) (sym own_came))
 
       pub moved_stored : IsStored (store_of back last)
       moved_stored = stored back by_ids by_serial last moved_kept (store_of back last) refl

@@ -1,5 +1,5 @@
 -- The fields of a store: slots of tables, the slot of the table of each list of ids, and the keys by serial.
-use Rattle.std.specs.Prelude.{◌≡◌, Bool, ◌↔◌, ℕ, suc, ◌+◌, ◌*◌, ◌≤◌, ◌==◌, cond, if◌then◌else◌, List, [], ◌∷◌, Option, Some, None, IsSome, IsNone, IfSome, is_some, length, map, ◌⊎◌, IfOk, OnErr, Result, max, ◌<◌}
+use Rattle.std.specs.Prelude.{◌≡◌, Bool, false, ◌↔◌, ℕ, suc, ◌+◌, ◌*◌, ◌≤◌, ◌==◌, cond, if◌then◌else◌, List, [], ◌∷◌, Option, Some, None, IsSome, IsNone, IfSome, is_some, length, map, ◌⊎◌, IfOk, OnErr, Result, max, ◌<◌, slice_index_or, nat_lt}
 use Rattle.std.specs.List.{Contains}
 use Rattle.std.specs.List.Sorted.{IsStrictlySortedBy}
 use Rattle.std.specs.Ordering.{nat_cmp}
@@ -39,6 +39,16 @@ standing (Some x) serial = if serial == x.value.serial then Some x.value.table e
 -- whether a table stands under the key
 abbrev pub is_held : {Y : Type 0} → Slab (Held Y) → TableKey → Bool
 is_held tables k = is_some (standing (slots.get tables k.slot) k.serial)
+
+-- whether a slot has a table with rows
+abbrev pub is_filled : {Y : Type 0} → Option (Held Y) → Bool
+is_filled None = false
+is_filled (Some x) = nat_lt 0 (length x.value.table.entities)
+
+-- each slot with a table has a mark, and marks tell in which slots are rows
+pub record AreMarked {Y : Type 0} (tables : Slab (Held Y)) (filled : List Bool) : Type 0 where
+  pub within : (n : ℕ) → IsSome (slots.get tables n) → n < length filled
+  pub told : (n : ℕ) → slice_index_or filled n false ≡ is_filled (slots.get tables n)
 
 -- where the first of some edges for an id leads, if there is one
 unfoldable pub edge_in : List (Id × TableKey) → Id → Option TableKey

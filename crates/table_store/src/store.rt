@@ -1,5 +1,5 @@
 //! The store of tables.
-ghost use Rattle.std.specs.Prelude.{◌≡◌, ◌==◌, ◌↔◌, ◌<◌, ◌≤◌, ◌-◌, ◌+◌, ◌*◌, ◌^◌, ◌⊎◌, ◌≢◌, ◌++◌, ◌∷◌, MatchResult, ℕ, [], IfOk, OnOk, OnErr, IsOk, IsNone, IsSome, IfSome, MatchOption, None, Some, map, max, min, length, option_map, slice_get, IsTrue};
+ghost use Rattle.std.specs.Prelude.{◌≡◌, ◌==◌, ◌↔◌, ◌<◌, ◌≤◌, ◌-◌, ◌+◌, ◌*◌, ◌^◌, ◌⊎◌, ◌≢◌, ◌++◌, ◌∷◌, MatchResult, ℕ, [], IfOk, OnOk, OnErr, IsOk, IsNone, IsSome, IfSome, MatchOption, None, Some, map, max, min, length, option_map, slice_get, slice_index_or, false, IsTrue};
 ghost use Rattle.std.specs.FinMap.{is_sorted};
 ghost use Rattle.std.specs.Ordering.{nat_cmp};
 ghost use Rattle.std.specs.List.{Contains, filter};
@@ -56,6 +56,8 @@ type BySerial<A> = Vec<ListedKey, A>;
 #[derive(Drop)]
 pub struct TableStore<A: Allocator = Global> {
     tables: Slots<A>,
+    // for each slot, whether the table there has rows: where tables are gone through, most have none
+    filled: Vec<bool, A>,
     by_ids: ByIds<A>,
     by_serial: BySerial<A>,
     // the greatest serial that was given
@@ -71,13 +73,13 @@ pub struct TableStore<A: Allocator = Global> {
 
 impl<A: Allocator> Model for TableStore<A> {
     ghost use Rattle.table_store.specs.Store.{Store};
-    ghost use Rattle.table_store.specs.Kept.{store_of, IsKept};
+    ghost use Rattle.table_store.specs.Kept.{store_of, AreMarked, IsKept};
 
     ghost Value = { Store };
 
     ghost view = { λ s. store_of s.tables s.last };
 
-    ghost invariant = { λ s. IsKept s.tables s.by_ids s.by_serial s.last };
+    ghost invariant = { λ s. IsKept s.tables s.by_ids s.by_serial s.last × AreMarked s.tables s.filled.items };
 }
 
 impl<A: Allocator + Copy> TableStore<A> {
@@ -90,6 +92,7 @@ impl<A: Allocator + Copy> TableStore<A> {
         let hashing = Hashing::new(random);
         TableStore {
             tables: Slab::new(alloc),
+            filled: Vec::new(alloc),
             by_ids: ByIds::new(alloc, hashing),
             by_serial: Vec::new(alloc),
             last: 0,
@@ -160,6 +163,7 @@ impl<A: Allocator + Copy> TableStore<A> {
         let slot = prepare(
             self.alloc,
             &mut self.tables,
+            &mut self.filled,
             &mut self.by_ids,
             &mut self.by_serial,
             key,
@@ -329,6 +333,7 @@ fn next_key<A: Allocator>(tables: &Slots<A>, last: u128) -> Result<ListedKey, Me
 fn prepare<A: Allocator + Copy>(
     alloc: A,
     tables: &mut Slots<A>,
+    filled: &mut Vec<bool, A>,
     by_ids: &mut ByIds<A>,
     by_serial: &mut BySerial<A>,
     key: ListedKey,
@@ -339,6 +344,9 @@ fn prepare<A: Allocator + Copy>(
     requires ids { ids.now ≡ map (λ c. c.0) cells.now }
     requires small { (j : ℕ) → IfSome (slice_get cells.now j) (λ c. c.1 ≤ 64) }
     ensures tables { tables.new ≡ record tables.old { capacity = tables.new.capacity } }
+    ensures marked { OnOk result (key.slot < length filled.new.items) }
+    ensures longer { length filled.old.items ≤ length filled.new.items }
+    ensures marks { (n : ℕ) → slice_index_or filled.new.items n false ≡ slice_index_or filled.old.items n false }
     ensures by_ids { KeepsSlots by_ids.old by_ids.new }
     ensures entered { OnOk result (HasSlot by_ids.new hash key.slot) }
     ensures by_serial { MatchResult result (λ _. by_serial.new.items ≡ by_serial.old.items ++ key ∷ []) (λ _. by_serial.new.items ≡ by_serial.old.items) }
@@ -350,8 +358,32 @@ fn prepare<A: Allocator + Copy>(
 {
     let slot = new_slot(alloc, key.serial(), ids, cells)?;
     tables.reserve(1)?;
+    reach(filled, key.slot())?;
     enter(by_ids, by_serial, hash, key)?;
     Ok(slot)
+}
+
+// Makes sure that a slot has a mark. Slots that had none are told to have no rows.
+fn reach<A: Allocator>(filled: &mut Vec<bool, A>, slot: u32) -> Result<(), AllocError>
+    ensures within { OnOk result (slot < length filled.new.items) }
+    ensures longer { length filled.old.items ≤ length filled.new.items }
+    ensures same { (n : ℕ) → slice_index_or filled.new.items n false ≡ slice_index_or filled.old.items n false }
+{
+    let slot = slot as usize;
+    if filled.len() <= slot {
+        filled.resize(slot + 1, false)?;
+    }
+    Ok(())
+}
+
+// Whether the table in a slot has rows.
+fn is_marked(filled: &[bool], slot: u32) -> bool
+    ensures { result ≡ slice_index_or filled.now slot false }
+{
+    match filled.get(slot as usize) {
+        Some(mark) => *mark,
+        None => false,
+    }
 }
 
 // A slot with an empty table.
@@ -512,6 +544,19 @@ impl<A: Allocator> TableStore<A> {
         }
     }
 
+    /// The table under a key, if it has rows. Of most that have none this is told without a look at the table.
+    pub fn filled(&self, key: TableKey) -> Option<&Table<A>>
+        ensures table { MatchOption result (rows_in self.now key ≡ 0) (λ t. table_at self.now key ≡ Some t.now) }
+        ensures filled { IfSome result (λ t. 0 < length (t.now).entities) }
+        ensures whole { IsStored self.now }
+    {
+        if is_marked(self.filled.as_slice(), key.slot) {
+            self.get(key)
+        } else {
+            None
+        }
+    }
+
     /// A row at the end of a table, whose values are zeros. Answers its number.
     pub fn append(&mut self, key: TableKey, entity: EntityId) -> usize
         requires room { 0 < room_at self.old key }
@@ -524,9 +569,11 @@ impl<A: Allocator> TableStore<A> {
         ensures last { self.new.last ≡ self.old.last }
         ensures whole { IsStored self.new }
     {
-        let table = &mut self.tables[key.slot as usize].table;
+        let slot = key.slot as usize;
+        let table = &mut self.tables[slot].table;
         let row = table.rows().len();
         table.append(entity);
+        self.filled[slot] = true;
         row
     }
 
@@ -568,7 +615,11 @@ impl<A: Allocator> TableStore<A> {
         ensures last { self.new.last ≡ self.old.last }
         ensures whole { IsStored self.new }
     {
-        self.tables[key.slot as usize].table.remove_row(row)
+        let slot = key.slot as usize;
+        let table = &mut self.tables[slot].table;
+        let stays_filled = 1 < table.rows().len();
+        self.filled[slot] = stays_filled;
+        table.remove_row(row)
     }
 
     /// Moves a row to the end of another table: the values of common ids are kept, the others are zeros.
@@ -598,7 +649,10 @@ impl<A: Allocator> TableStore<A> {
         let mut source = self.tables.remove(from.slot as usize);
         let target = &mut self.tables[to.slot as usize].table;
         let moved = source.table.move_to(row, target);
+        let stays_filled = !source.table.rows().is_empty();
         self.tables.insert_reserved(source);
+        self.filled[to.slot as usize] = true;
+        self.filled[from.slot as usize] = stays_filled;
         moved
     }
 

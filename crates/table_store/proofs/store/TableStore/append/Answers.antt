@@ -1,4 +1,4 @@
-use Rattle.std.proofs.Common.{◌<◌, ◌-◌, ◌==◌, Some, cond, length, sym, ap, subst, ◌∙◌, arith}
+use Rattle.std.proofs.Common.{◌<◌, ◌-◌, ◌==◌, Some, cond, length, nat_lt, true, sym, ap, subst, ◌∙◌, arith}
 use Rattle.ecs_table.specs.Archetype.{Archetype, IsSound, with_row}
 use Rattle.ecs_table.proofs.Soundness.{sound_with_row}
 use Rattle.ecs_table.proofs.Rows.{shape_of_appended, row_of_appended, row_past}
@@ -6,6 +6,7 @@ use Rattle.table_store.specs.Store.{table_at, shape_of}
 use Rattle.table_store.specs.Rows.{row_of, zero_cells}
 use Rattle.table_store.proofs.Slots.{one_some}
 use Rattle.table_store.proofs.Changes.{contains, with_room, lent_here, rows_here, room_here, row_here, shape_here, written, written_shapes, written_kept, written_one_row, written_room, written_stored}
+use Rattle.table_store.proofs.Marks.{marked_written, pushed_fills}
 use Rattle.table_store.proofs.store.TableStore.append.Goals as goal
 
 pub index_mut-requires : goal.index_mut-requires
@@ -18,8 +19,11 @@ append-requires g c = let t = with_room (table_at c.args.self.now c.args.key) c.
 pub invariant_of-self : goal.invariant_of-self
 invariant_of-self g c = let t = with_room (table_at c.args.self.now c.args.key) c.requires.room in
     let here = lent_here c.self.inside.tables c.self.inside.last c.args.self.now c.self.view_is c.args.key t.0 t.1 c.index_mut.result.now c.index_mut.ensures.value c.deref_mut.result.now c.deref_mut.ensures.value in
-    let sound = subst IsSound here c.rows-row.ensures.sound in
-    written_kept c.self.inside.tables c.self.inside.last c.args.self.now c.self.view_is c.args.key t.0 t.1 c.index_mut.result.now c.index_mut.ensures.value c.deref_mut.result.now c.deref_mut.ensures.value c.append.new.self (λ v. with_row v c.args.entity) c.append.ensures c.self.inside.by_ids c.self.inside.by_serial c.self.invariant (shape_of_appended t.0 c.args.entity) (sound_with_row t.0 c.args.entity sound)
+    let sound = subst IsSound here c.rows-row.ensures.sound in (
+      written_kept c.self.inside.tables c.self.inside.last c.args.self.now c.self.view_is c.args.key t.0 t.1 c.index_mut.result.now c.index_mut.ensures.value c.deref_mut.result.now c.deref_mut.ensures.value c.append.new.self (λ v. with_row v c.args.entity) c.append.ensures c.self.inside.by_ids c.self.inside.by_serial c.self.invariant.0 (shape_of_appended t.0 c.args.entity) (sound_with_row t.0 c.args.entity sound),
+      marked_written c.self.inside.tables c.args.key.slot c.index_mut.result.now c.index_mut.ensures.value c.self.inside.filled.items c.self.invariant.1 _ true
+          (pushed_fills c.deref_mut.result.now.table.entities c.args.entity ∙ ap (λ (v : Archetype). nat_lt 0 (length v.entities)) (sym c.append.ensures)),
+    )
 
 pub returns-clause-row : goal.returns-clause-row
 returns-clause-row g c = let t = with_room (table_at c.args.self.now c.args.key) c.requires.room in
@@ -55,4 +59,4 @@ pub returns-clause-whole : goal.returns-clause-whole
 returns-clause-whole g c = let t = with_room (table_at c.args.self.now c.args.key) c.requires.room in
     let here = lent_here c.self.inside.tables c.self.inside.last c.args.self.now c.self.view_is c.args.key t.0 t.1 c.index_mut.result.now c.index_mut.ensures.value c.deref_mut.result.now c.deref_mut.ensures.value in
     let sound = subst IsSound here c.rows-row.ensures.sound in
-    written_stored c.self.inside.tables c.self.inside.last c.args.self.now c.self.view_is c.args.key t.0 t.1 c.index_mut.result.now c.index_mut.ensures.value c.deref_mut.result.now c.deref_mut.ensures.value c.append.new.self (λ v. with_row v c.args.entity) c.append.ensures c.self.inside.by_ids c.self.inside.by_serial c.self.invariant (shape_of_appended t.0 c.args.entity) (sound_with_row t.0 c.args.entity sound)
+    written_stored c.self.inside.tables c.self.inside.last c.args.self.now c.self.view_is c.args.key t.0 t.1 c.index_mut.result.now c.index_mut.ensures.value c.deref_mut.result.now c.deref_mut.ensures.value c.append.new.self (λ v. with_row v c.args.entity) c.append.ensures c.self.inside.by_ids c.self.inside.by_serial c.self.invariant.0 (shape_of_appended t.0 c.args.entity) (sound_with_row t.0 c.args.entity sound)

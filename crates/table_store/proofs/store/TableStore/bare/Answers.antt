@@ -13,6 +13,6 @@ key_in-requires g c = some_held (slots.get c.self.inside.tables c.self.inside.re
 
 pub returns-then-has_ids : goal.returns-then-has_ids
 returns-then-has_ids g c =
-    let put = found_known {E = ℕ} c.self.inside.tables c.self.inside.by_ids c.self.inside.by_serial c.self.inside.last c.args.self.now c.self.view_is c.self.invariant c.args.cells.now c.self.inside.recent [] (none_mapped _ c.args.cells.now (omega arith))
+    let put = found_known {E = ℕ} c.self.inside.tables c.self.inside.by_ids c.self.inside.by_serial c.self.inside.last c.args.self.now c.self.view_is c.self.invariant.0 c.args.cells.now c.self.inside.recent [] (none_mapped _ c.args.cells.now (omega arith))
     (sym c.has_ids.ensures ∙ c.if-has_ids.true) c.key_in.result c.key_in.ensures.slot c.key_in.ensures.serial c.requires in
     (put.ok, put.whole)

@@ -15,10 +15,10 @@ pub returns-in_err-slot-clause-table : goal.returns-in_err-slot-clause-table
 returns-in_err-slot-clause-table g c = rw c.from_residual.ensures (vacant c.self.inside.tables c.self.inside.last c.args.self.now c.self.view_is c.args.key (search rules))
 
 pub returns-in_err-slot-clause-whole : goal.returns-in_err-slot-clause-whole
-returns-in_err-slot-clause-whole g c = stored c.self.inside.tables c.self.inside.by_ids c.self.inside.by_serial c.self.inside.last c.self.invariant c.args.self.now c.self.view_is
+returns-in_err-slot-clause-whole g c = stored c.self.inside.tables c.self.inside.by_ids c.self.inside.by_serial c.self.inside.last c.self.invariant.0 c.args.self.now c.self.view_is
 
 pub returns-then-has_serial-clause-whole : goal.returns-then-has_serial-clause-whole
-returns-then-has_serial-clause-whole g c = stored c.self.inside.tables c.self.inside.by_ids c.self.inside.by_serial c.self.inside.last c.self.invariant c.args.self.now c.self.view_is
+returns-then-has_serial-clause-whole g c = stored c.self.inside.tables c.self.inside.by_ids c.self.inside.by_serial c.self.inside.last c.self.invariant.0 c.args.self.now c.self.view_is
 
 pub returns-else-has_serial-clause-whole : goal.returns-else-has_serial-clause-whole
-returns-else-has_serial-clause-whole g c = stored c.self.inside.tables c.self.inside.by_ids c.self.inside.by_serial c.self.inside.last c.self.invariant c.args.self.now c.self.view_is
+returns-else-has_serial-clause-whole g c = stored c.self.inside.tables c.self.inside.by_ids c.self.inside.by_serial c.self.inside.last c.self.invariant.0 c.args.self.now c.self.view_is
