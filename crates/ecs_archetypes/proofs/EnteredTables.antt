@@ -138,6 +138,11 @@ module _ (s n : Store) (key : TableKey) (f : Shape) (made : (q : TableKey) → t
     pub entered_undone : (x : Entered) → AreEntered s x → AreEntered m x
     entered_undone x are k = are k ∙ ap (option_map (λ t. t.ids)) (sym (undone k))
 
+-- tables that are the same, under serials that may have been given
+module _ (s n : Store) (same : (k : TableKey) → table_at n k ≡ table_at s k) (last : s.last ≤ n.last) (rows : (p : Place) → row_at n p ≡ row_at s p) where
+  pub grown_back : HasGrown s n
+  grown_back = grown_by s n (record { stood = λ k ids given h. ap (option_map (λ t. t.ids)) (sym (same k)) ∙ h; last = last }) (λ k t h. (t, same k ∙ h, refl, omega arith)) rows
+
 -- a table that is found or made, and is entered then
 module _ (added : Sizes) (s n : Store) (key : TableKey) (f : Shape) (m : IsMade s f key n) (x : Entered) (are : AreEntered s x) (sizes : KeepsSizes (known_in s) added (known_in n)) where
   grown_made : HasGrown s n
@@ -181,11 +186,6 @@ made_fresh s n key f is m x are new = are key ∙ by (table_at s key) (m.newest.
     by : (o : Option Archetype) → IsNone o → option_map (λ t. t.ids) o ≡ None
     by None h = refl
     by (Some t) h = cc
-
--- tables that are the same, under serials that may have been given
-module _ (s n : Store) (same : (k : TableKey) → table_at n k ≡ table_at s k) (last : s.last ≤ n.last) (rows : (p : Place) → row_at n p ≡ row_at s p) where
-  pub grown_back : HasGrown s n
-  grown_back = grown_by s n (record { stood = λ k ids given h. ap (option_map (λ t. t.ids)) (sym (same k)) ∙ h; last = last }) (λ k t h. (t, same k ∙ h, refl, omega arith)) rows
 
 abbrev roomier : ℕ → Archetype → Archetype
 roomier more t = record t { room = max t.room more }

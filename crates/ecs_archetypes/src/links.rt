@@ -97,7 +97,7 @@ impl<A: Allocator> Holders for Links<'_, A> {
 
     fn rows(&self, table: ListedKey) -> &[EntityId] {
         let graph = self.archetypes.graph();
-        match graph.store().get(table.key()) {
+        match graph.store().filled(table.key()) {
             Some(table) => table.rows(),
             None => &[],
         }

@@ -82,7 +82,7 @@ impl<'w, A: Allocator> WorldFacts<'w, A> {
     fn standing_in(&self, table: TableKey) -> &[EntityId]
         ensures { result.now ≡ standing_in (self.now).links table }
     {
-        match self.links.tables().store().get(table) {
+        match self.links.tables().store().filled(table) {
             Some(table) => table.rows(),
             None => &[],
         }
