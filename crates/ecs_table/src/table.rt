@@ -25,13 +25,12 @@ const ENTITY_BYTES: usize = 8;
 /// gives it back.
 #[derive(Drop)]
 pub struct Table<A: Allocator = Global> {
-    // First what is read where tables are gone through: whether any entity stands in it, and its ids.
-    entities: EntityList<A>,
+    // First what is read of the table of an entity: its ids, and a column for each id with data.
     ids: IdList<A>,
+    values: TableData<A>,
+    entities: EntityList<A>,
     // how many more rows fit, with their values
     room: usize,
-    // a column for each id with data
-    values: TableData<A>,
 }
 
 const _: () = prove!(size_of::<Table<Global>>() == 112);
