@@ -29,12 +29,12 @@ impl From<AllocError> for Memory {
 #[derive(Drop)]
 pub struct Block<A: Allocator = Global> {
     buffer: Buffer<A>,
-    sizes: Sizes<A>,
-    // A column with places for a multiple of so many rows has a multiple of eight bytes.
-    step: usize,
     // How many rows there are places for.
     capacity: usize,
+    sizes: Sizes<A>,
     len: usize,
+    // A column with places for a multiple of so many rows has a multiple of eight bytes.
+    step: usize,
 }
 
 impl<A: Allocator> Model for Block<A> {
