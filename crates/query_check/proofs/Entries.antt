@@ -4,7 +4,7 @@ use Rattle.std.proofs.lemmas.Option.{slice_get-get_or, slice_get-map}
 use Rattle.std.proofs.Common.{Bor, ap, sym, ◌∙◌, refl, get_or, arith, length-append}
 use Rattle.std.proofs.lemmas.Bool.{ne_eqb}
 use Rattle.std.proofs.Math.Seq.{get_or-append_seam}
-use Rattle.std.proofs.lemmas.List.{append-nil, append_assoc, drop_all, drop_more, get_or_append_left, length-map}
+use Rattle.std.proofs.lemmas.List.{append_assoc, drop_more, get_or_append_left, length-map}
 use Rattle.query_model.specs.Levels.{Path, level_of}
 use Rattle.query_model.specs.Query.{Item, Piece, item, opening, closing, Entry, simple, group, entries_from}
 use Rattle.query_check.specs.Numbered.{item_kind, level_around, nowhere, piece_or, places_from, standing}
@@ -33,19 +33,6 @@ pub record IsNumbering (pieces : List Piece) (i level : ℕ) (now : List Numbere
   pub leads : Leads now around
   pub few : length now ≤ i
   pub left : now ++ places_from (length now) i around (drop i pieces) ≡ places_from 0 0 [] pieces
-
-pub none_numbered : (pieces : List Piece) → IsNumbering pieces 0 0 []
-none_numbered pieces = record { around = []; at = refl; leads = tt; few = omega arith; left = refl }
-
-pub all_numbered : (pieces : List Piece) (i level : ℕ) (now : List Numbered) → IsNumbering pieces i level now → length pieces ≤ i → now ≡ places_from 0 0 [] pieces
-all_numbered pieces i level now s h = sym (append-nil now) ∙ ap (λ l. now ++ places_from (length now) i s.around l) (sym (drop_all i pieces h)) ∙ s.left
-
-low_level : (all : List Numbered) (path : Path) → Leads all path → level_of path ≤ length all
-low_level all [] r = omega arith
-low_level all (l ∷ ls) r = r.1
-
-pub level_within : (pieces : List Piece) (i level : ℕ) (now : List Numbered) → IsNumbering pieces i level now → level ≤ length now
-level_within pieces i level now s = let l = low_level now s.around s.leads in let e = s.at in omega arith
 
 around_of : (all : List Numbered) (path : Path) (level : ℕ) → Leads all path → level ≡ level_of path → level_around all level ≡ level_of (drop 1 path)
 around_of all [] level r e = ap (level_around all) e

@@ -9,5 +9,4 @@ pub mod VariableRoots
 pub mod BoundVariables
 pub mod VariableNumbers
 pub mod BuiltPieces
-pub mod ShownNumbers
 pub mod Entries

@@ -9,9 +9,6 @@ use Rattle.query_model.specs.Levels.{Path, level_of, path_behind, path_in, place
 use Rattle.query_model.specs.declared.syntax.Role.TheVariants.{And, Or, Not, Optional}
 use Rattle.query_model.specs.Syntax.{Part, term, opened, closed, equality}
 
-nowhere : Place
-nowhere = place_of []
-
 -- what is rooted stays so
 pub rooted_more : (places more : List Place) (path : Path) → Rooted places path → Rooted (places ++ more) path
 rooted_more places more [] r = tt

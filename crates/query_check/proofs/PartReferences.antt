@@ -75,11 +75,6 @@ part_used ps i p q start now next l at e =
     (ap (λ r. map (at_level (level_of (get_or (placed_parts ps) i ([], p)).0)) (uses_of r)) at.part ∙ ap (λ r. map (at_level r.level) (uses_of p)) at.place)
     e
 
--- a map over what many lists make
-pub map-flat_map : {X A B : Type 0} (g : A → B) (f : X → List A) (xs : List X) → flat_map (λ x. map g (f x)) xs ≡ map g (flat_map f xs)
-map-flat_map g f [] = refl
-map-flat_map g f (x ∷ xs) = ap (λ ys. map g (f x) ++ ys) (map-flat_map g f xs) ∙ sym (map-append g (f x) (flat_map f xs))
-
 -- whether an item that passes stands among the first items, or one that doesn't
 pub record NoneYet {X Y : Type 0} (test : X → Bool) (view : Y → X) (ys : List Y) (i : ℕ) : Type 0 where
   pub same : list_any test (map view ys) ≡ list_any test (map view (drop i ys))

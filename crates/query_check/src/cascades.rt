@@ -81,8 +81,5 @@ pub(crate) fn is_misplaced(cascading: &Cascading<'_>) -> bool
 fn is_this_source(source: &Option<Reference<'_>>) -> bool
     ensures { result ≡ is_this_source (option_map seen_reference source.now) }
 {
-    match source {
-        Some(reference) => is_variable(reference, THIS),
-        None => true,
-    }
+    source.is_none_or(|reference| is_variable(&reference, THIS))
 }

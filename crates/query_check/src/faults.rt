@@ -1,6 +1,6 @@
 //! The faults of a query's syntax, kind by kind: each function tells the least of its own and of the one that was found before.
 
-ghost use Rattle.std.specs.Prelude.{◌≡◌, ◌≤◌, [], ◌∷◌, if◌then◌else◌, ◌++◌, bytes_eq, flat_map, length, map, option_map, option_to_list, IfOk};
+ghost use Rattle.std.specs.Prelude.{◌≡◌, ◌≤◌, [], ◌∷◌, if◌then◌else◌, bytes_eq, flat_map, length, map, option_map, option_to_list, IfOk};
 ghost use Rattle.std.specs.List.{list_any};
 ghost use Rattle.query_check.specs.Found.{AreFound, IsFound};
 ghost use Rattle.query_check.specs.Places.{IsRooted, IsTree, places_of};
@@ -32,6 +32,13 @@ const MOST_NAMES: usize = 32;
 
 /// How many groups may stand around a part.
 const MOST_GROUPS: usize = 4;
+
+/// A fault of a kind, by its place.
+pub(crate) fn fault_at(kind: FaultKind, span: Span) -> Fault
+    ensures { result ≡ fault_at kind span }
+{
+    Fault { kind, span }
+}
 
 /// The least fault of references.
 pub(crate) fn of_uses<W: Lookup>(world: &W, uses: &[Use<'_>], found: Option<Fault>) -> Option<Fault>
@@ -94,10 +101,9 @@ fn unknown_word(used: &Use<'_>) -> Option<Fault>
     ensures { let r = seen_reference (used.now).reference in (k : Known) → IsFound k used.now → option_to_list result ≡ unknown_word k r.spoken r.span }
 {
     match used.reference.spoken {
-        Spoken::Word(_) if used.entity.is_none() => Some(Fault {
-            kind: FaultKind::UnknownName,
-            span: used.reference.span,
-        }),
+        Spoken::Word(_) if used.entity.is_none() => {
+            Some(fault_at(FaultKind::UnknownName, used.reference.span))
+        }
         _ => None,
     }
 }
@@ -121,10 +127,9 @@ fn not_traversable<W: Lookup>(world: &W, used: &Use<'_>) -> Option<Fault>
     ensures { let r = seen_reference (used.now).reference in option_to_list result ≡ not_traversable (W.known world.now) r.spoken r.span }
 {
     match used.entity {
-        Some(entity) if !world.is_traversable(entity.index) => Some(Fault {
-            kind: FaultKind::NotTraversable,
-            span: used.reference.span,
-        }),
+        Some(entity) if !world.is_traversable(entity.index) => {
+            Some(fault_at(FaultKind::NotTraversable, used.reference.span))
+        }
         _ => None,
     }
 }
@@ -134,10 +139,7 @@ fn wildcard(kind: FaultKind, reference: &Reference<'_>) -> Option<Fault>
     ensures { let r = seen_reference reference.now in option_to_list result ≡ wildcard kind r.spoken r.span }
 {
     match reference.spoken {
-        Spoken::Any | Spoken::One => Some(Fault {
-            kind,
-            span: reference.span,
-        }),
+        Spoken::Any | Spoken::One => Some(fault_at(kind, reference.span)),
         _ => None,
     }
 }
@@ -160,10 +162,7 @@ fn too_deep(part: &Part<'_>, depth: usize) -> Option<Fault>
     ensures { (path : Path) → length path ≡ depth → option_to_list result ≡ too_deep path (seen_part part.now) }
 {
     match part {
-        Part::Opened(span) if depth > MOST_GROUPS => Some(Fault {
-            kind: FaultKind::TooDeep,
-            span: *span,
-        }),
+        Part::Opened(span) if depth > MOST_GROUPS => Some(fault_at(FaultKind::TooDeep, *span)),
         _ => None,
     }
 }
@@ -173,13 +172,7 @@ pub(crate) fn of_terms(parts: &[Part<'_>], found: Option<Fault>) -> Option<Fault
     ensures { result ≡ least_from found (map (fault_at FaultKind.TooManyTerms) (item_at most_terms (flat_map counted_spans (map seen_part parts.now)))) }
 {
     match one_too_many(parts) {
-        Some(span) => {
-            let fault = Fault {
-                kind: FaultKind::TooManyTerms,
-                span,
-            };
-            with_fault(found, Some(fault))
-        }
+        Some(span) => with_fault(found, Some(fault_at(FaultKind::TooManyTerms, span))),
         None => found,
     }
 }
@@ -225,10 +218,10 @@ pub(crate) fn of_names<A: Allocator + Copy>(
     if occurrences.len() <= MOST_NAMES {
         return Ok(found);
     }
-    let fault = one_name_too_many(alloc, occurrences)?.map(|o| Fault {
-        kind: FaultKind::TooManyVariables,
-        span: o.span,
-    });
+    let fault = one_name_too_many(alloc, occurrences)?.map(|o| fault_at(
+        FaultKind::TooManyVariables,
+        o.span,
+    ));
     Ok(with_fault(found, fault))
 }
 
@@ -343,18 +336,12 @@ fn of_others(others: &[Cascading<'_>], found: Option<Fault>) -> Option<Fault>
 fn misplaced(cascading: &Cascading<'_>) -> Fault
     ensures { cascade_fault (seen_cascading cascading.now) ≡ result ∷ [] }
 {
-    Fault {
-        kind: FaultKind::CascadePlace,
-        span: cascading.span,
-    }
+    fault_at(FaultKind::CascadePlace, cascading.span)
 }
 
 /// Whether a fault is told before the one that was found, if there is one.
 fn is_less(fault: &Fault, found: Option<Fault>) -> bool
     ensures { lesser found fault.now ≡ (if result then Some fault.now else found) }
 {
-    match found {
-        Some(least) => is_before(fault, &least),
-        None => true,
-    }
+    found.is_none_or(|least| is_before(fault, &least))
 }

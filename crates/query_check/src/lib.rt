@@ -12,7 +12,6 @@ mod numbers;
 mod places;
 mod query;
 mod scope;
-mod shown;
 mod terms;
 mod uses;
 

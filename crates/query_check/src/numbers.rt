@@ -10,6 +10,7 @@ ghost use Rattle.query_model.specs.Scope.{occurrences, owner, sightings};
 ghost use Rattle.query_model.specs.Seen.{seen_part};
 
 use crate::places::Place;
+use crate::query::Scope;
 use crate::scope::{Occurrence, THIS, owner};
 use query_model::syntax::Part;
 use std::alloc::{AllocError, Allocator};
@@ -138,23 +139,17 @@ fn understands(part: &Part<'_>) -> bool
 }
 
 /// The number of a variable that occurs in a level.
-pub(crate) fn number_of(
-    places: &[Place],
-    found: &[Occurrence<'_>],
-    numbered: &[Variable<'_>],
-    name: &[u8],
-    level: usize,
-) -> usize
-    requires tree { IsTree places.now }
-    requires within { level ≤ length places.now }
-    ensures { (path : Path) → level ≡ level_of path → IsRooted places.now path
-        → result ≡ number_from 0 (name.now, owner (map seen_occurrence found.now) name.now path) (map seen_variable numbered.now) }
+pub(crate) fn number_of(scope: &Scope<'_, '_>, name: &[u8], level: usize) -> usize
+    requires tree { IsTree scope.now.places.now }
+    requires within { level ≤ length scope.now.places.now }
+    ensures { (path : Path) → level ≡ level_of path → IsRooted scope.now.places.now path
+        → result ≡ number_from 0 (name.now, owner (map seen_occurrence scope.now.found.now) name.now path) (map seen_variable scope.now.numbered.now) }
 {
     let variable = Variable {
         name,
-        level: owner(places, found, name, level),
+        level: owner(scope.places, scope.found, name, level),
     };
-    place_among(numbered, &variable)
+    place_among(scope.numbered, &variable)
 }
 
 /// The place of a variable among others.

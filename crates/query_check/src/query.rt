@@ -8,7 +8,7 @@ ghost use Rattle.query_check.specs.Numbered.{places_from};
 ghost use Rattle.query_check.specs.Seen.{level_uses, seen_cascading, seen_entry, seen_item, seen_occurrence, seen_piece, seen_use, seen_variable, syntax_of};
 ghost use Rattle.query_model.specs.Levels.{Path, alternatives, followed, level_of, placed_parts};
 ghost use Rattle.query_model.specs.Cascades.{cascades as cascades_in};
-ghost use Rattle.query_model.specs.Query.{add_mention, cascade_of, chain_of, checked_equality, checked_query, checked_term, entity_cascaded, entity_of, entries, is_definite_target, on_source_of, pieces_of, pieces_of_part, ref_of, mention_of, mentioned_by, is_as_checked, is_current, shown, source_of, up_of, visible_names};
+ghost use Rattle.query_model.specs.Query.{add_mention, cascade_of, chain_of, checked_equality, checked_query, checked_term, entity_cascaded, entity_of, entries, is_definite_target, on_source_of, pieces_of, pieces_of_part, ref_of, mention_of, mentioned_by, is_as_checked, is_current, source_of, up_of, visible_names};
 ghost use Rattle.query_model.specs.Faults.{fault_at};
 ghost use Rattle.query_model.specs.Local.{is_local, is_simple};
 ghost use Rattle.query_model.specs.Observers.{monitored, observed, whole};
@@ -20,13 +20,13 @@ ghost use Rattle.query_model.specs.Seen.{seen_flags, seen_part, seen_reference, 
 
 use crate::cascades::Cascading;
 use crate::copies::{copy_of_names, copy_of_pieces};
+use crate::faults::fault_at;
 use crate::local::{are_local, are_simple, has_must, is_one_term};
 use crate::lookup::Lookup;
 use crate::numbered::{Entry, Numbered, entry_in, places_of_entries};
 use crate::numbers::{Variable, has_this, number_of, own_numbers, variables};
 use crate::places::Place;
 use crate::scope::{Occurrence, alternative, name_of};
-use crate::shown::shown;
 use crate::terms::terms;
 use crate::uses::Use;
 use ecs_id::EntityId;
@@ -91,7 +91,6 @@ pub struct Query<A: Allocator = Global> {
     pieces: Vec<Piece<A>, A>,
     cascade: Option<EntityId>,
     numbered: Vec<Numbered, A>,
-    shown: Vec<usize, A>,
     terms: Vec<Term, A>,
     mentions: Vec<Mention, A>,
     length: usize,
@@ -106,7 +105,6 @@ impl<A: Allocator> Drop for Query<A> {
             pieces: _,
             cascade: _,
             numbered: _,
-            shown: _,
             terms: _,
             mentions: _,
             length: _,
@@ -117,7 +115,6 @@ impl<A: Allocator> Drop for Query<A> {
 impl<A: Allocator> Model for Query<A> {
     ghost use Rattle.std.specs.Prelude.{◌≡◌, [], flat_map, map};
     ghost use Rattle.query_model.specs.Query as model;
-    ghost use Rattle.query_model.specs.Query.{entries_from, shown_from};
     ghost use Rattle.query_check.specs.Terms.{piece_terms};
     ghost use Rattle.query_check.specs.Numbered.{places_from};
     ghost use Rattle.query_check.specs.Seen.{seen_piece};
@@ -133,7 +130,7 @@ impl<A: Allocator> Model for Query<A> {
       length = q.length;
     } };
 
-    ghost invariant = { λ q. (q.shown.items ≡ shown_from 0 (entries_from 0 [] (map seen_piece q.pieces.items))) × (q.numbered.items ≡ places_from 0 0 [] (map seen_piece q.pieces.items)) × (q.terms.items ≡ flat_map piece_terms (map seen_piece q.pieces.items)) };
+    ghost invariant = { λ q. (q.numbered.items ≡ places_from 0 0 [] (map seen_piece q.pieces.items)) × (q.terms.items ≡ flat_map piece_terms (map seen_piece q.pieces.items)) };
 }
 
 impl<A: Allocator> Query<A> {
@@ -188,13 +185,6 @@ impl<A: Allocator> Query<A> {
         entry_in(at.level, self.pieces.get(at.piece))
     }
 
-    /// The numbers, ascending, of the items that give fields, outside all groups.
-    pub fn shown(&self) -> &[usize]
-        ensures { result.now ≡ shown self.now }
-    {
-        self.shown.as_slice()
-    }
-
     /// The terms in the order of the text, those of alternatives and those inside groups too.
     pub fn terms(&self) -> &[Term]
         ensures { result.now ≡ terms self.now }
@@ -207,13 +197,6 @@ impl<A: Allocator> Query<A> {
         ensures { result.now ≡ (self.now).mentions }
     {
         self.mentions.as_slice()
-    }
-
-    /// How many bytes the text has.
-    pub fn length(&self) -> usize
-        ensures { result ≡ (self.now).length }
-    {
-        self.length
     }
 
     /// The fault of a query whose matches are told when they come and go, which needs `$this`: NoThis at the whole text.
@@ -246,11 +229,8 @@ impl<A: Allocator> Query<A> {
     fn fault(&self, kind: FaultKind) -> Fault
         ensures { result ≡ fault_at kind (whole self.now) }
     {
-        let span = Span {
-            start: 0,
-            end: self.length,
-        };
-        Fault { kind, span }
+        let end = self.length;
+        fault_at(kind, Span { start: 0, end })
     }
 
     /// Whether the query is local: `$this` is its one variable, and every term, inside groups too, asks it itself, for stored ids.
@@ -289,7 +269,6 @@ impl<A: Allocator + Copy> Query<A> {
             pieces: copy_of_pieces(alloc, self.pieces.as_slice())?,
             cascade: self.cascade,
             numbered: Vec::from_slice(alloc, self.numbered.as_slice())?,
-            shown: Vec::from_slice(alloc, self.shown.as_slice())?,
             terms: Vec::from_slice(alloc, self.terms.as_slice())?,
             mentions: Vec::from_slice(alloc, self.mentions.as_slice())?,
             length: self.length,
@@ -345,7 +324,6 @@ pub(crate) fn build<'a, A: Allocator + Copy, W: Lookup>(
     let pieces = pieces(alloc, world, &scope, parts)?;
     let visible = visible_names(alloc, numbered)?;
     let mentions = mentions(alloc, world, uses)?;
-    let shown = shown(alloc, pieces.as_slice())?;
     let terms = terms(alloc, pieces.as_slice())?;
     let entries = places_of_entries(alloc, pieces.as_slice())?;
     Ok(Query {
@@ -354,7 +332,6 @@ pub(crate) fn build<'a, A: Allocator + Copy, W: Lookup>(
         pieces,
         cascade: cascade_of(world, cascades),
         numbered: entries,
-        shown,
         terms,
         mentions,
         length: text_length,
@@ -365,10 +342,7 @@ pub(crate) fn build<'a, A: Allocator + Copy, W: Lookup>(
 fn cascade_of<W: Lookup>(world: &W, cascades: &[Cascading<'_>]) -> Option<EntityId>
     ensures { result ≡ cascade_of (W.known world.now) (map seen_cascading cascades.now) }
 {
-    match cascades.first() {
-        Some(cascading) => entity_cascaded(world, &cascading.along),
-        None => None,
-    }
+    entity_cascaded(world, &cascades.first()?.along)
 }
 
 /// The entity behind a `cascade`, ChildOf where none is written.
@@ -610,10 +584,9 @@ fn add_chain<A: Allocator, W: Lookup>(
 fn has_alternative(parts: &[Part<'_>]) -> bool
     ensures { IsTrue result ↔ 0 < length (alternatives (map seen_part parts.now)) }
 {
-    match parts.first() {
-        Some(part) => alternative(part).is_some(),
-        None => false,
-    }
+    parts
+        .first()
+        .is_some_and(|part| alternative(part).is_some())
 }
 
 /// Adds what each of the alternatives at the front of parts asks.
@@ -710,13 +683,7 @@ fn ref_of<W: Lookup>(
 {
     match reference.spoken {
         Spoken::Word(word) => Ref::Is(entity_of(world, word)),
-        Spoken::Variable(name) => Ref::Var(number_of(
-            scope.places,
-            scope.found,
-            scope.numbered,
-            name_of(name),
-            level,
-        )),
+        Spoken::Variable(name) => Ref::Var(number_of(scope, name_of(name), level)),
         Spoken::Any => Ref::Any,
         Spoken::One => Ref::One,
     }
@@ -752,19 +719,15 @@ fn is_inherited<W: Lookup>(world: &W, first: Ref) -> bool
 fn is_definite_target(target: &Option<Reference<'_>>) -> bool
     ensures { result ≡ is_definite_target (option_map seen_reference target.now) }
 {
-    match target {
-        Some(reference) => matches!(reference.spoken, Spoken::Word(_) | Spoken::Variable(_)),
-        None => false,
-    }
+    target.is_some_and(|reference| {
+        matches!(reference.spoken, Spoken::Word(_) | Spoken::Variable(_))
+    })
 }
 
 fn on_source_of(flags: &Option<Flags<'_>>) -> bool
     ensures { result ≡ on_source_of (option_map seen_flags flags.now) }
 {
-    match flags {
-        Some(flags) => flags.on_source,
-        None => true,
-    }
+    flags.is_none_or(|flags| flags.on_source)
 }
 
 /// The relationship along which ancestors are checked_term, if they are.
@@ -802,13 +765,7 @@ fn equality<A: Allocator, W: Lookup>(
     let Spoken::Variable(name) = left.spoken else {
         return Item::Equal(0, other);
     };
-    let number = number_of(
-        scope.places,
-        scope.found,
-        scope.numbered,
-        name_of(name),
-        level,
-    );
+    let number = number_of(scope, name_of(name), level);
     if same {
         Item::Equal(number, other)
     } else {

@@ -174,10 +174,7 @@ fn names_variable(term: &TermSyntax<'_>, name: &[u8]) -> bool
 fn is_variable_if_written(reference: &Option<Reference<'_>>, name: &[u8]) -> bool
     ensures { result ≡ is_variable_if_written name.now (option_map seen_reference reference.now) }
 {
-    match reference {
-        Some(reference) => is_variable(reference, name),
-        None => false,
-    }
+    reference.is_some_and(|reference| is_variable(&reference, name))
 }
 
 pub(crate) fn is_variable(reference: &Reference<'_>, name: &[u8]) -> bool

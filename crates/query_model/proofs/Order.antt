@@ -1,19 +1,17 @@
 -- What is read stands in the order of the text.
-use Rattle.std.proofs.Common.{◌≡◌, ℕ, ◌+◌, ◌≤◌, Bool, List, [], ◌∷◌, ◌++◌, Option, Some, None, flat_map, length, refl, sym, ap, subst, ◌∙◌, arith}
-use Rattle.std.specs.Prelude.{codes, IsTrue}
-use Rattle.std.specs.List.{list_all}
-use Rattle.std.proofs.lemmas.List.{append-nil, append_assoc, length-append}
+use Rattle.std.proofs.Common.{◌≡◌, ℕ, ◌+◌, ◌≤◌, Bool, List, [], ◌∷◌, ◌++◌, Option, Some, flat_map, length, sym, ap, subst, ◌∙◌, arith}
+use Rattle.std.proofs.lemmas.List.{append-nil, length-append}
 use Rattle.query_model.specs.declared.Span.{Span}
 use Rattle.query_model.specs.declared.query.Position.{Position}
-use Rattle.query_model.specs.declared.query.Position.TheVariants.{Component, Source, Target, Risen, Left, Right}
+use Rattle.query_model.specs.declared.query.Position.TheVariants.{Component, Source, Target, Risen, Right}
 use Rattle.query_model.specs.declared.syntax.Role.{Role}
 use Rattle.query_model.specs.declared.Mark.TheVariants.{Comma, OrOr, Bar, OpenParen, CloseParen, CloseBrace}
-use Rattle.query_model.specs.Tokens.{Token, token, span_of, Punct, End, Spells, IsSpelledBy, spelled}
-use Rattle.query_model.specs.Syntax.{Spoken, Word, Var, Any, One, Reference, Rise, Flags, TermSyntax, Part, term, closed}
-use Rattle.query_model.specs.Grammar.{IsWord, plain_word, IsReference, word, variable, star, underscore, IsRise, up_alone, up_along, up_in_brackets, IsFlags, self_alone, rise_alone, self_or_rise, IsSource, reference_alone, flags_alone, reference_with_flags, IsArgs, source_alone, source_and_target, IsBody, alone, pair, with_args, IsAccess, access, IsTerm, body, body_behind_access, IsChain, last_alternative, alternative, bang, question, equal, differ, IsItem, terms, operator, operator_behind_access, group, equation, IsItems, last_item, item, IsQuery}
-use Rattle.query_model.specs.Levels.{Path, path_behind, path_in, placed, placed_parts}
+use Rattle.query_model.specs.Tokens.{Token, token, span_of, Punct, End, Spells, spelled}
+use Rattle.query_model.specs.Syntax.{Spoken, Word, Var, Any, One, Reference, Rise, Flags, TermSyntax, Part, term}
+use Rattle.query_model.specs.Grammar.{plain_word, IsReference, word, variable, star, underscore, IsRise, up_alone, up_along, up_in_brackets, IsFlags, self_alone, rise_alone, self_or_rise, IsSource, reference_alone, flags_alone, reference_with_flags, IsArgs, source_alone, source_and_target, IsBody, alone, pair, with_args, IsAccess, access, IsTerm, body, body_behind_access, IsChain, last_alternative, alternative, IsItem, terms, operator, operator_behind_access, group, equation, IsItems, last_item, item}
+use Rattle.query_model.specs.Levels.{Path, path_behind, path_in, placed}
 use Rattle.query_model.specs.Uses.{Use, written, along_what, rise_of, uses_of, uses_of_term}
-use Rattle.query_model.specs.Scope.{Occurrence, occurrence_of, occurrences, occurrences_of, spoken_at}
+use Rattle.query_model.specs.Scope.{Occurrence, occurrence_of, occurrences_of, spoken_at}
 use Rattle.query_model.specs.FirstOccurrence.{Ascends, FirstSufficesInTexts, VariablesAscend}
 use Rattle.query_model.proofs.FirstOccurrence.{first_suffices}
 
@@ -59,9 +57,6 @@ record Passes (low : ℕ) (us : List Use) (rest : List Token) : Type 0 where
   high : ℕ
   through : Through low us high
   rises : Rises high rest
-
-nothing_passes : (low : ℕ) (ts : List Token) → Rises low ts → Passes low [] ts
-nothing_passes low ts r = record { high = low; through = omega arith; rises = r }
 
 passes_from : (low mid : ℕ) (us : List Use) (rest : List Token) → low ≤ mid → Passes mid us rest → Passes low us rest
 passes_from low mid us rest h p = record { high = p.high; through = through_from low mid p.high us h p.through; rises = p.rises }

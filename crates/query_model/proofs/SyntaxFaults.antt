@@ -20,9 +20,6 @@ one_syntax ts ps qs p q = let e : Ok ps ≡ Ok qs = sym (query_is_read ts ps p) 
 nowhere : Span
 nowhere = record { start = 0; end = 0 }
 
-any : Reference
-any = at Spoken.Any nowhere
-
 -- the tokens that bring a state to the end of a query
 abbrev Alive : ℕ → State → Type 0
 Alive d s = (more : List Token) × (ps : List Part) × Reads more d s ps

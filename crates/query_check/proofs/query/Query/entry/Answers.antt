@@ -13,7 +13,7 @@ index-at-requires g c =
     let ps = map seen_piece inside.pieces.items in
     let there = as_many ps in
     let same : length (entries_from 0 [] ps) ≡ length (entries c.args.self.now) = ap (λ q. length (entries q)) c.self.view_is in
-    omega (arith, c.requires, ap length c.self.invariant.1, there, same, inside.numbered.ok.0)
+    omega (arith, c.requires, ap length c.self.invariant.0, there, same, inside.numbered.ok.0)
 
 pub returns : goal.returns
 returns g c =
@@ -22,6 +22,6 @@ returns g c =
     let at = c.index-at.result.now in
     let found = c.get.ensures.lookup in
     entry_found ps inside.numbered.items (entries c.args.self.now) c.args.number at (piece_or c.get.result) (seen_entry c.entry_in.result)
-    (ap (map (entry_at ps)) c.self.invariant.1 ∙ numbered_entries ps ∙ ap entries c.self.view_is) c.requires c.index-at.ensures
+    (ap (map (entry_at ps)) c.self.invariant.0 ∙ numbered_entries ps ∙ ap entries c.self.view_is) c.requires c.index-at.ensures
     (piece_found inside.pieces.items c.deref.result.now at.piece c.get.result (found.4 (omega arith) Closing) c.deref.ensures.value)
     c.entry_in.ensures

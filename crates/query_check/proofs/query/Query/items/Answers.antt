@@ -11,4 +11,4 @@ returns g c =
     let ps = map seen_piece inside.pieces.items in
     let there = as_many ps in
     let same : length (entries_from 0 [] ps) ≡ length (entries c.args.self.now) = ap (λ q. length (entries q)) c.self.view_is in
-    omega (arith, c.len.ensures, ap length c.self.invariant.1, there, same, inside.numbered.ok.0)
+    omega (arith, c.len.ensures, ap length c.self.invariant.0, there, same, inside.numbered.ok.0)
