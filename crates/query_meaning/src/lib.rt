@@ -7,4 +7,4 @@
 pub mod laws;
 pub mod steps;
 
-pub use steps::{Mode, Move, PlanRefusal, Step};
+pub use steps::{Mode, PlanRefusal, Step};

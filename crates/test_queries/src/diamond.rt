@@ -9,7 +9,8 @@ pub(crate) use ecs_model::built_ins::IS_A;
 use ecs_model::faults::CommandError;
 use ecs_world::World;
 use query_check::Query;
-use query_meaning::Step::{Check, Each};
+use query_meaning::Mode::Check;
+use query_meaning::Step::{Deal, Every};
 use query_plan::Plan;
 use std::alloc::Global;
 use std::process::Abort;
@@ -54,7 +55,7 @@ fn write_by_each(
 ) -> Result<(), Fail>
     requires { IsAnswerable (view_of world.now.state) query.now }
 {
-    let plan = Plan::from_steps(alloc, query, &[Each(0), Check(0)])?;
+    let plan = Plan::from_steps(alloc, query, &[Every(0), Deal(Check, 0)])?;
     let done = write_planned_rows(alloc, world, &plan, rows);
     drop(plan);
     Ok(done?)

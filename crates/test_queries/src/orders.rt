@@ -11,7 +11,7 @@ use crate::lines::expect;
 use crate::worked::WorkedRow;
 use ecs_world::World;
 use query_check::Query;
-use query_meaning::Step;
+use query_meaning::{Mode, Step};
 use query_plan::{Plan, PlanFault};
 use std::alloc::{AllocError, Global};
 use std::process::Abort;
@@ -38,38 +38,26 @@ struct Tried<'w> {
 /// How many ways there are to take a step of so many.
 fn modes_of(step: Step, count: usize) -> usize {
     match step {
-        Step::Each(_) | Step::Open(_) | Step::Close => 1,
-        _ if count > FEW_STEPS => PLAIN_MODES,
-        _ => MODES,
+        Step::Deal(_, _) if count > FEW_STEPS => PLAIN_MODES,
+        Step::Deal(_, _) => MODES,
+        _ => 1,
     }
 }
 
 /// A step that deals with the same item in one of the ways.
-fn in_mode(step: Step, mode: usize) -> Step {
-    match (step, mode) {
-        (Step::Each(_) | Step::Open(_) | Step::Close, _) => step,
-        (_, 0) => Step::Check(item_of(step)),
-        (_, 1) => Step::Scan(item_of(step)),
-        (_, 2) => Step::Targets(item_of(step)),
-        (_, 3) => Step::Above(item_of(step)),
-        (_, 4) => Step::Fix(item_of(step)),
-        _ => Step::Below(item_of(step)),
-    }
-}
-
-/// The item with which a step deals.
-fn item_of(step: Step) -> usize {
-    match step {
-        Step::Scan(item)
-        | Step::Targets(item)
-        | Step::Above(item)
-        | Step::Below(item)
-        | Step::Fix(item)
-        | Step::Check(item)
-        | Step::Each(item)
-        | Step::Open(item) => item,
-        Step::Close => 0,
-    }
+fn in_mode(step: Step, way: usize) -> Step {
+    let Step::Deal(_, item) = step else {
+        return step;
+    };
+    let mode = match way {
+        0 => Mode::Check,
+        1 => Mode::Scan,
+        2 => Mode::Targets,
+        3 => Mode::Above,
+        4 => Mode::Fix,
+        _ => Mode::Below,
+    };
+    Step::Deal(mode, item)
 }
 
 impl Tried<'_> {
@@ -137,9 +125,9 @@ fn level_end(steps: &[Step], at: usize) -> usize
     let mut open = 0usize;
     for place in at..steps.len() {
         match steps[place] {
-            Step::Open(_) => open = open.saturating_add(1),
-            Step::Close if open == 0 => return place,
-            Step::Close => open -= 1,
+            Step::Enter(_) => open = open.saturating_add(1),
+            Step::Leave if open == 0 => return place,
+            Step::Leave => open -= 1,
             _ => {}
         }
     }
@@ -154,7 +142,7 @@ fn piece_at(steps: &[Step], at: usize, end: usize) -> usize
     ensures within { at + result ≤ end }
 {
     match steps[at] {
-        Step::Open(_) => (level_end(steps, at + 1) + 1).min(end) - at,
+        Step::Enter(_) => (level_end(steps, at + 1) + 1).min(end) - at,
         _ => 1,
     }
 }

@@ -2,8 +2,9 @@
 
 use crate::ask;
 use crate::lines::expect;
+use query_meaning::Mode::{Above, Check, Scan, Targets};
 use query_meaning::PlanRefusal::{MissingItem, RepeatedItem, UnboundMode};
-use query_meaning::Step::{Above, Check, Close, Each, Open, Scan, Targets};
+use query_meaning::Step::{Deal, Enter, Every, Leave};
 use query_meaning::{PlanRefusal, Step};
 use query_plan::{Plan, PlanFault};
 use std::alloc::Global;
@@ -14,32 +15,54 @@ type Judged = (&'static str, &'static [Step], Option<PlanRefusal>);
 
 /// A group that waits for its variables, a closed term with a variable at its end, and two terms.
 const JUDGED: [Judged; 14] = [
-    (WAITING, &[Scan(2), Open(0), Check(1), Close], None),
     (
         WAITING,
-        &[Open(0), Scan(1), Close, Scan(2)],
+        &[Deal(Scan, 2), Enter(0), Deal(Check, 1), Leave],
+        None,
+    ),
+    (
+        WAITING,
+        &[Enter(0), Deal(Scan, 1), Leave, Deal(Scan, 2)],
         Some(UnboundMode),
     ),
-    (WAITING, &[Scan(2)], Some(MissingItem)),
+    (WAITING, &[Deal(Scan, 2)], Some(MissingItem)),
     (
         WAITING,
-        &[Scan(2), Check(2), Open(0), Check(1), Close],
+        &[
+            Deal(Scan, 2),
+            Deal(Check, 2),
+            Enter(0),
+            Deal(Check, 1),
+            Leave,
+        ],
         Some(RepeatedItem),
     ),
     (
         WAITING,
-        &[Scan(2), Check(1), Open(0), Close],
+        &[Deal(Scan, 2), Deal(Check, 1), Enter(0), Leave],
         Some(MissingItem),
     ),
-    (WAITING, &[Scan(2), Open(0), Check(1)], Some(MissingItem)),
-    (CLOSED, &[Above(0)], None),
-    (CLOSED, &[Each(0), Check(0)], None),
-    (CLOSED, &[Scan(0)], Some(UnboundMode)),
-    (PARENTS, &[Scan(1), Scan(0)], None),
-    (PARENTS, &[Scan(0), Check(1)], None),
-    (PARENTS, &[Scan(1), Scan(0), Check(7)], Some(MissingItem)),
-    (PARENTS, &[Scan(0), Targets(1)], Some(UnboundMode)),
-    (PARENTS, &[Scan(1), Scan(1)], Some(MissingItem)),
+    (
+        WAITING,
+        &[Deal(Scan, 2), Enter(0), Deal(Check, 1)],
+        Some(MissingItem),
+    ),
+    (CLOSED, &[Deal(Above, 0)], None),
+    (CLOSED, &[Every(0), Deal(Check, 0)], None),
+    (CLOSED, &[Deal(Scan, 0)], Some(UnboundMode)),
+    (PARENTS, &[Deal(Scan, 1), Deal(Scan, 0)], None),
+    (PARENTS, &[Deal(Scan, 0), Deal(Check, 1)], None),
+    (
+        PARENTS,
+        &[Deal(Scan, 1), Deal(Scan, 0), Deal(Check, 7)],
+        Some(MissingItem),
+    ),
+    (
+        PARENTS,
+        &[Deal(Scan, 0), Deal(Targets, 1)],
+        Some(UnboundMode),
+    ),
+    (PARENTS, &[Deal(Scan, 1), Deal(Scan, 1)], Some(MissingItem)),
 ];
 
 const WAITING: &str = "!(Likes,$x), (ChildOf,$x)";
@@ -74,22 +97,35 @@ type Planned = (&'static str, &'static [usize], &'static [Step]);
 
 /// The shortest list comes first, and what is tied to bound variables before others.
 const PLANNED: [Planned; 9] = [
-    (PARENTS, &[5, 1], &[Scan(1), Scan(0)]),
-    (PARENTS, &[1, 5], &[Scan(0), Check(1)]),
-    (PARENTS, &[1, 1], &[Scan(0), Check(1)]),
-    (WAITING, &[0, 1, 2], &[Scan(2), Open(0), Check(1), Close]),
-    (CLOSED, &[7], &[Above(0)]),
-    ("!Planet", &[0, 0], &[Each(0), Open(0), Check(1), Close]),
-    ("Planet, Planet", &[1, 1], &[Scan(0), Check(1)]),
+    (PARENTS, &[5, 1], &[Deal(Scan, 1), Deal(Scan, 0)]),
+    (PARENTS, &[1, 5], &[Deal(Scan, 0), Deal(Check, 1)]),
+    (PARENTS, &[1, 1], &[Deal(Scan, 0), Deal(Check, 1)]),
+    (
+        WAITING,
+        &[0, 1, 2],
+        &[Deal(Scan, 2), Enter(0), Deal(Check, 1), Leave],
+    ),
+    (CLOSED, &[7], &[Deal(Above, 0)]),
+    (
+        "!Planet",
+        &[0, 0],
+        &[Every(0), Enter(0), Deal(Check, 1), Leave],
+    ),
+    ("Planet, Planet", &[1, 1], &[Deal(Scan, 0), Deal(Check, 1)]),
     (
         "Sun($s), (ChildOf,$s), (Likes,$x), Position($x)",
         &[2, 9, 5, 4],
-        &[Scan(0), Scan(1), Targets(2), Check(3)],
+        &[
+            Deal(Scan, 0),
+            Deal(Scan, 1),
+            Deal(Targets, 2),
+            Deal(Check, 3),
+        ],
     ),
     (
         "(ChildOf,$p), ChildOf($p,$s), Planet($s), Sun",
         &[9, 9, 1, 2],
-        &[Scan(2), Scan(1), Scan(0), Check(3)],
+        &[Deal(Scan, 2), Deal(Scan, 1), Deal(Scan, 0), Deal(Check, 3)],
     ),
 ];
 

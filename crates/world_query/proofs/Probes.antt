@@ -24,8 +24,7 @@ use Rattle.query_meaning.specs.Plan.{target_or_any}
 use Rattle.query_meaning.specs.Variables.{Entry, simple, group, entries, entry_at}
 use Rattle.query_meaning.specs.declared.steps.Mode.TheVariants as mode
 use Rattle.query_meaning.specs.declared.steps.Step.{Step}
-use Rattle.query_meaning.specs.declared.steps.Move.TheVariants.{Deal}
-use Rattle.query_meaning.specs.declared.steps.Step.TheVariants.{Check, Scan}
+use Rattle.query_meaning.specs.declared.steps.Step.TheVariants.{Deal}
 use Rattle.query_model.specs.declared.query.Ref.{Ref}
 use Rattle.query_model.specs.declared.query.Ref.TheVariants.{Is, Var, Any, One}
 use Rattle.query_model.specs.declared.query.Term.{Term}
@@ -176,7 +175,7 @@ module _ (q : Query) (plain : (k : ℕ) → is_plain (entry_at q k) ≡ true) wh
   abbrev judged_at : ℕ → List Judged
   judged_at j = judged_of (entry_at q j)
 
-  all_checked : (js : List ℕ) → moves_of q (map Check js) ≡ flat_map judging (flat_map judged_at js)
+  all_checked : (js : List ℕ) → moves_of q (map (Deal mode.Check) js) ≡ flat_map judging (flat_map judged_at js)
   all_checked [] = refl
   all_checked (j ∷ js) = (λ k. checked (entry_at q j) (plain j) k ++ all_checked js k) ∙ sym (flat_map-append judging (judged_at j) (flat_map judged_at js))
 
@@ -243,12 +242,12 @@ first_takes One b h = absurd (false≢true h)
 
 -- the steps of a query that a term leads: `$this` is judged behind its items
 led_steps : (q : Query) (first : ℕ) (t : Term) (js : List ℕ) → ((k : ℕ) → is_plain (entry_at q k) ≡ true) → entry_instructions mode.Scan (entry_at q first) ≡ By (Walk (variable_of t.source) (Tables (pattern_of t))) ∷ []
-    → takes_this q (Deal mode.Scan first) ≡ true → instructions_of q (Scan first ∷ map Check js) ≡ walk_and_judge (variable_of t.source) (pattern_of t) (flat_map (λ j. judged_of (entry_at q j)) js ++ map one (cuts q))
+    → takes_this q (Deal mode.Scan first) ≡ true → instructions_of q (Deal mode.Scan first ∷ map (Deal mode.Check) js) ≡ walk_and_judge (variable_of t.source) (pattern_of t) (flat_map (λ j. judged_of (entry_at q j)) js ++ map one (cuts q))
 led_steps q first t js plain scan taken =
     let items : List Judged = flat_map (λ j. judged_of (entry_at q j)) js in
     let walk : Instruction = By (Walk (variable_of t.source) (Tables (pattern_of t))) in
-    let checks : List Step = map Check js in
-    split_is q (Scan first ∷ checks) 0
+    let checks : List Step = map (Deal mode.Check) js in
+    split_is q (Deal mode.Scan first ∷ checks) 0
     ∙ (λ k. scan k ++ (if taken k then with_cuts q (moves_of q checks) else cut_from q checks 0))
     ∙ ap (λ ss. walk ∷ with_cuts q ss) (all_checked q plain js)
     ∙ ap (λ ss. walk ∷ ss) (cut_last q items (all_shared q plain 0 js))
