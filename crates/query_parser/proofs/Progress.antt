@@ -13,7 +13,6 @@ use Rattle.query_model.specs.declared.syntax.Part as code_part
 use Rattle.query_parser.specs.declared.machine.State as code_state
 use Rattle.query_parser.specs.declared.machine.Move as code_move
 use Rattle.query_parser.specs.declared.machine.Draft as code_draft
-use Rattle.query_model.specs.declared.syntax.Role.TheVariants.{And}
 use Rattle.query_parser.specs.declared.machine.Nesting.{Nesting}
 use Rattle.query_model.specs.Seen.{seen_part}
 use Rattle.query_parser.specs.Steps.{seen_state, seen_step, completed, nested}
@@ -39,10 +38,6 @@ nested_little : (d : ℕ) (n : Nesting) → nested d n ≤ d + 1
 nested_little d Nesting.Same = omega arith
 nested_little d Nesting.Opens = omega arith
 nested_little d Nesting.Closes = omega arith
-
--- nothing is read before the first token
-pub started : (tokens : List code_token.Token) (draft : code_draft.Draft) → HasParsed tokens [] 0 0 (code_state.State.TermNext And) draft
-started tokens draft = record { shallow = omega arith; reads = refl }
 
 -- what a call gave behind another that did not fail
 pub if_both : {P T U E F : Type 0} (r : Result T E) (q : Result U F) (u : U) → is_ok q ≡ is_ok r → q ≡ Ok u → IfOk r (λ x. P) → P

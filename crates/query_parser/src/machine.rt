@@ -1,12 +1,12 @@
 //! The machine that reads query text: one step for each token.
 
-ghost use Rattle.std.specs.Prelude.{◌≡◌, None, option_map, drop};
+ghost use Rattle.std.specs.Prelude.{◌≡◌, ℕ, None, option_map, drop};
 ghost use Rattle.query_model.specs.Text.{is_reserved};
 ghost use Rattle.query_model.specs.Grammar.{is_access};
 ghost use Rattle.query_model.specs.Machine as machine;
 ghost use Rattle.query_model.specs.Syntax as syntax;
 ghost use Rattle.query_lexer.specs.Token.{seen};
-ghost use Rattle.query_model.specs.Seen.{seen_flags, seen_reference, seen_rise_word, seen_term};
+ghost use Rattle.query_model.specs.Seen.{seen_reference, seen_rise_word, seen_term};
 ghost use Rattle.query_parser.specs.declared.machine.Draft as item;
 ghost use Rattle.query_parser.specs.Steps.{seen_state, seen_step, plain_up_step, put_first, rise_step};
 
@@ -121,26 +121,26 @@ pub fn step<'a>(
     ensures { option_map (seen_step depth draft.new) result ≡ machine.step depth (seen_state draft.old state) (seen token.now) }
 {
     match state {
-        State::TermNext(role) => term_step(depth, role, draft, token),
-        State::AccessNext(role) => access_step(depth, role, token),
-        State::BehindAccessWord(role, valued) => bracket_step(depth, role, valued, token),
-        State::BodyNext(role, valued) => body_step(depth, role, valued, draft, token),
-        State::PairNext(role, valued) => pair_step(depth, role, valued, draft, token),
-        State::BehindPairFirst => comma_step(depth, token),
-        State::TargetNext => target_step(depth, draft, token),
-        State::BehindTarget => close_step(depth, draft, token),
-        State::BehindFlags => args_step(depth, draft, token),
-        State::BehindAlong => behind_along_step(depth, token),
+        State::TermNext(role) => term_step(role, draft, token),
+        State::AccessNext(role) => access_step(role, token),
+        State::BehindAccessWord(role, valued) => bracket_step(role, valued, token),
+        State::BodyNext(role, valued) => body_step(role, valued, draft, token),
+        State::PairNext(role, valued) => pair_step(role, valued, draft, token),
+        State::BehindPairFirst => comma_step(token),
+        State::TargetNext => target_step(draft, token),
+        State::BehindTarget => close_step(draft, token),
+        State::BehindFlags => args_step(draft, token),
+        State::BehindAlong => behind_along_step(token),
         State::BehindFirst => first_step(depth, draft, token),
-        State::SourceNext => source_step(depth, draft, token),
-        State::BehindSource => behind_source_step(depth, draft, token),
-        State::FlagsNext => flags_step(depth, draft, token),
-        State::BehindSelf => self_step(depth, draft, token),
-        State::RiseNext => rise_step(depth, true, draft, token),
-        State::BehindUp(own) => up_step(depth, own, draft, token),
-        State::AlongNext(own) => along_step(depth, own, draft, token),
+        State::SourceNext => source_step(draft, token),
+        State::BehindSource => behind_source_step(draft, token),
+        State::FlagsNext => flags_step(draft, token),
+        State::BehindSelf => self_step(draft, token),
+        State::RiseNext => rise_step(true, draft, token),
+        State::BehindUp(own) => up_step(own, draft, token),
+        State::AlongNext(own) => along_step(own, draft, token),
         State::BehindVariable => variable_step(depth, draft, token),
-        State::OtherSide(same) => other_step(depth, same, draft, token),
+        State::OtherSide(same) => other_step(same, draft, token),
         State::BehindItem(joined) => item_step(depth, joined, Completed::Nothing, token),
         State::Finished => None,
     }
@@ -250,8 +250,8 @@ fn item_step(depth: usize, joined: bool, part: Completed, token: &Token<'_>) -> 
 }
 
 /// Behind a target: the bracket that ends the term.
-fn close_step<'a>(depth: usize, draft: &mut Draft<'a>, token: &Token<'a>) -> Option<Move>
-    ensures { option_map (seen_step depth draft.new) result ≡ machine.close_step depth (draft.old).role (seen_term (draft.old).term) (seen token.now) }
+fn close_step<'a>(draft: &mut Draft<'a>, token: &Token<'a>) -> Option<Move>
+    ensures { (depth : ℕ) → option_map (seen_step depth draft.new) result ≡ machine.close_step depth (draft.old).role (seen_term (draft.old).term) (seen token.now) }
 {
     match token.kind {
         TokenKind::Mark(Mark::CloseParen) => {
@@ -266,8 +266,8 @@ fn close_step<'a>(depth: usize, draft: &mut Draft<'a>, token: &Token<'a>) -> Opt
 }
 
 /// The target of a term.
-fn target_step<'a>(depth: usize, draft: &mut Draft<'a>, token: &Token<'a>) -> Option<Move>
-    ensures { option_map (seen_step depth draft.new) result ≡ machine.target_step depth (draft.old).role (seen_term (draft.old).term) (seen token.now) }
+fn target_step<'a>(draft: &mut Draft<'a>, token: &Token<'a>) -> Option<Move>
+    ensures { (depth : ℕ) → option_map (seen_step depth draft.new) result ≡ machine.target_step depth (draft.old).role (seen_term (draft.old).term) (seen token.now) }
 {
     let target = reference(token)?;
     draft.term.target = Some(target);
@@ -275,8 +275,8 @@ fn target_step<'a>(depth: usize, draft: &mut Draft<'a>, token: &Token<'a>) -> Op
 }
 
 /// Behind the first side of a pair: its comma.
-fn comma_step(depth: usize, token: &Token<'_>) -> Option<Move>
-    ensures { (draft : item.Draft) → option_map (seen_step depth draft) result ≡ machine.comma_step depth draft.role (seen_term draft.term) (seen token.now) }
+fn comma_step(token: &Token<'_>) -> Option<Move>
+    ensures { (depth : ℕ) (draft : item.Draft) → option_map (seen_step depth draft) result ≡ machine.comma_step depth draft.role (seen_term draft.term) (seen token.now) }
 {
     match token.kind {
         TokenKind::Mark(Mark::Comma) => Some(to(State::TargetNext)),
@@ -285,18 +285,18 @@ fn comma_step(depth: usize, token: &Token<'_>) -> Option<Move>
 }
 
 /// Behind a source or flags: a target, or the end of the term.
-fn args_step<'a>(depth: usize, draft: &mut Draft<'a>, token: &Token<'a>) -> Option<Move>
-    ensures { option_map (seen_step depth draft.new) result ≡ machine.args_step depth (draft.old).role (seen_term (draft.old).term) (seen token.now) }
+fn args_step<'a>(draft: &mut Draft<'a>, token: &Token<'a>) -> Option<Move>
+    ensures { (depth : ℕ) → option_map (seen_step depth draft.new) result ≡ machine.args_step depth (draft.old).role (seen_term (draft.old).term) (seen token.now) }
 {
     match token.kind {
         TokenKind::Mark(Mark::Comma) => Some(to(State::TargetNext)),
-        _ => close_step(depth, draft, token),
+        _ => close_step(draft, token),
     }
 }
 
 /// Behind the relationship of `up(R)` or `cascade(R)`: its bracket.
-fn behind_along_step(depth: usize, token: &Token<'_>) -> Option<Move>
-    ensures { (draft : item.Draft) → option_map (seen_step depth draft) result ≡ machine.along_step depth draft.role (seen_term draft.term) (seen token.now) }
+fn behind_along_step(token: &Token<'_>) -> Option<Move>
+    ensures { (depth : ℕ) (draft : item.Draft) → option_map (seen_step depth draft) result ≡ machine.along_step depth draft.role (seen_term draft.term) (seen token.now) }
 {
     match token.kind {
         TokenKind::Mark(Mark::CloseParen) => Some(to(State::BehindFlags)),
@@ -319,18 +319,18 @@ fn first_step<'a>(depth: usize, draft: &mut Draft<'a>, token: &Token<'a>) -> Opt
 }
 
 /// Flags, perhaps behind a source: `self`, `up` or `cascade`.
-fn flags_step<'a>(depth: usize, draft: &mut Draft<'a>, token: &Token<'a>) -> Option<Move>
-    ensures { option_map (seen_step depth draft.new) result ≡ machine.flags_step depth (draft.old).role ((draft.old).term).valued (seen_reference ((draft.old).term).first) (option_map seen_reference ((draft.old).term).source) (seen token.now) }
+fn flags_step<'a>(draft: &mut Draft<'a>, token: &Token<'a>) -> Option<Move>
+    ensures { (depth : ℕ) → option_map (seen_step depth draft.new) result ≡ machine.flags_step depth (draft.old).role ((draft.old).term).valued (seen_reference ((draft.old).term).first) (option_map seen_reference ((draft.old).term).source) (seen token.now) }
 {
     match token.kind {
         TokenKind::Name if token.text == "self" => Some(to(State::BehindSelf)),
-        _ => rise_step(depth, false, draft, token),
+        _ => rise_step(false, draft, token),
     }
 }
 
 /// `up` or `cascade`, perhaps behind a source and `self`.
-fn rise_step<'a>(depth: usize, own: bool, draft: &mut Draft<'a>, token: &Token<'a>) -> Option<Move>
-    ensures { option_map (seen_step depth draft.new) result ≡ rise_step depth (draft.old).role ((draft.old).term).valued (seen_reference ((draft.old).term).first) (option_map seen_reference ((draft.old).term).source) own (seen token.now) }
+fn rise_step<'a>(own: bool, draft: &mut Draft<'a>, token: &Token<'a>) -> Option<Move>
+    ensures { (depth : ℕ) → option_map (seen_step depth draft.new) result ≡ rise_step depth (draft.old).role ((draft.old).term).valued (seen_reference ((draft.old).term).first) (option_map seen_reference ((draft.old).term).source) own (seen token.now) }
 {
     match token.kind {
         TokenKind::Name if token.text == "up" => {
@@ -346,8 +346,8 @@ fn rise_step<'a>(depth: usize, own: bool, draft: &mut Draft<'a>, token: &Token<'
 }
 
 /// Behind `self`: `|` and `up`, or what follows flags.
-fn self_step<'a>(depth: usize, draft: &mut Draft<'a>, token: &Token<'a>) -> Option<Move>
-    ensures { option_map (seen_step depth draft.new) result ≡ machine.self_step depth (draft.old).role ((draft.old).term).valued (seen_reference ((draft.old).term).first) (option_map seen_reference ((draft.old).term).source) (seen token.now) }
+fn self_step<'a>(draft: &mut Draft<'a>, token: &Token<'a>) -> Option<Move>
+    ensures { (depth : ℕ) → option_map (seen_step depth draft.new) result ≡ machine.self_step depth (draft.old).role ((draft.old).term).valued (seen_reference ((draft.old).term).first) (option_map seen_reference ((draft.old).term).source) (seen token.now) }
 {
     match token.kind {
         TokenKind::Mark(Mark::Bar) => Some(to(State::RiseNext)),
@@ -357,7 +357,7 @@ fn self_step<'a>(depth: usize, draft: &mut Draft<'a>, token: &Token<'a>) -> Opti
                 rise: Rise::No,
             };
             apply(&mut draft.term, Some(flags));
-            args_step(depth, draft, token)
+            args_step(draft, token)
         }
     }
 }
@@ -374,23 +374,18 @@ fn raise<'a>(term: &mut TermSyntax<'a>, own: bool, word: RiseWord, along: Option
 }
 
 /// Behind `up` or `cascade`: its relationship, or what follows flags.
-fn up_step<'a>(depth: usize, own: bool, draft: &mut Draft<'a>, token: &Token<'a>) -> Option<Move>
-    ensures { option_map (seen_step depth draft.new) result ≡ machine.up_step depth (draft.old).role ((draft.old).term).valued (seen_reference ((draft.old).term).first) (option_map seen_reference ((draft.old).term).source) own (seen_rise_word (draft.old).word) (seen token.now) }
+fn up_step<'a>(own: bool, draft: &mut Draft<'a>, token: &Token<'a>) -> Option<Move>
+    ensures { (depth : ℕ) → option_map (seen_step depth draft.new) result ≡ machine.up_step depth (draft.old).role ((draft.old).term).valued (seen_reference ((draft.old).term).first) (option_map seen_reference ((draft.old).term).source) own (seen_rise_word (draft.old).word) (seen token.now) }
 {
     match token.kind {
         TokenKind::Mark(Mark::OpenParen) => Some(to(State::AlongNext(own))),
-        _ => plain_up_step(depth, own, draft, token),
+        _ => plain_up_step(own, draft, token),
     }
 }
 
 /// Behind `up` or `cascade`: a relationship without brackets, or what follows flags.
-fn plain_up_step<'a>(
-    depth: usize,
-    own: bool,
-    draft: &mut Draft<'a>,
-    token: &Token<'a>,
-) -> Option<Move>
-    ensures { option_map (seen_step depth draft.new) result ≡ plain_up_step depth (draft.old).role ((draft.old).term).valued (seen_reference ((draft.old).term).first) (option_map seen_reference ((draft.old).term).source) own (seen_rise_word (draft.old).word) (seen token.now) }
+fn plain_up_step<'a>(own: bool, draft: &mut Draft<'a>, token: &Token<'a>) -> Option<Move>
+    ensures { (depth : ℕ) → option_map (seen_step depth draft.new) result ≡ plain_up_step depth (draft.old).role ((draft.old).term).valued (seen_reference ((draft.old).term).first) (option_map seen_reference ((draft.old).term).source) own (seen_rise_word (draft.old).word) (seen token.now) }
 {
     match word(token) {
         Some(along) => {
@@ -399,14 +394,14 @@ fn plain_up_step<'a>(
         }
         None => {
             raise(&mut draft.term, own, draft.word, None);
-            args_step(depth, draft, token)
+            args_step(draft, token)
         }
     }
 }
 
 /// The relationship of `up(R)` or `cascade(R)`.
-fn along_step<'a>(depth: usize, own: bool, draft: &mut Draft<'a>, token: &Token<'a>) -> Option<Move>
-    ensures { option_map (seen_step depth draft.new) result ≡ machine.along_next_step depth (draft.old).role ((draft.old).term).valued (seen_reference ((draft.old).term).first) (option_map seen_reference ((draft.old).term).source) own (seen_rise_word (draft.old).word) (seen token.now) }
+fn along_step<'a>(own: bool, draft: &mut Draft<'a>, token: &Token<'a>) -> Option<Move>
+    ensures { (depth : ℕ) → option_map (seen_step depth draft.new) result ≡ machine.along_next_step depth (draft.old).role ((draft.old).term).valued (seen_reference ((draft.old).term).first) (option_map seen_reference ((draft.old).term).source) own (seen_rise_word (draft.old).word) (seen token.now) }
 {
     let along = word(token)?;
     raise(&mut draft.term, own, draft.word, Some(along));
@@ -414,22 +409,22 @@ fn along_step<'a>(depth: usize, own: bool, draft: &mut Draft<'a>, token: &Token<
 }
 
 /// Behind a source: `|` and flags, or what follows a source.
-fn behind_source_step<'a>(depth: usize, draft: &mut Draft<'a>, token: &Token<'a>) -> Option<Move>
-    ensures { option_map (seen_step depth draft.new) result ≡ machine.behind_source_step depth (draft.old).role ((draft.old).term).valued (seen_reference ((draft.old).term).first) (seen_reference (draft.old).last) (seen token.now) }
+fn behind_source_step<'a>(draft: &mut Draft<'a>, token: &Token<'a>) -> Option<Move>
+    ensures { (depth : ℕ) → option_map (seen_step depth draft.new) result ≡ machine.behind_source_step depth (draft.old).role ((draft.old).term).valued (seen_reference ((draft.old).term).first) (seen_reference (draft.old).last) (seen token.now) }
 {
     draft.term.source = Some(draft.last);
     match token.kind {
         TokenKind::Mark(Mark::Bar) => Some(to(State::FlagsNext)),
         _ => {
             apply(&mut draft.term, None);
-            args_step(depth, draft, token)
+            args_step(draft, token)
         }
     }
 }
 
 /// The arguments of a term: a source or flags.
-fn source_step<'a>(depth: usize, draft: &mut Draft<'a>, token: &Token<'a>) -> Option<Move>
-    ensures { option_map (seen_step depth draft.new) result ≡ machine.source_step depth (draft.old).role ((draft.old).term).valued (seen_reference ((draft.old).term).first) (seen token.now) }
+fn source_step<'a>(draft: &mut Draft<'a>, token: &Token<'a>) -> Option<Move>
+    ensures { (depth : ℕ) → option_map (seen_step depth draft.new) result ≡ machine.source_step depth (draft.old).role ((draft.old).term).valued (seen_reference ((draft.old).term).first) (seen token.now) }
 {
     match reference(token) {
         Some(source) => {
@@ -438,20 +433,14 @@ fn source_step<'a>(depth: usize, draft: &mut Draft<'a>, token: &Token<'a>) -> Op
         }
         None => {
             draft.term.source = None;
-            flags_step(depth, draft, token)
+            flags_step(draft, token)
         }
     }
 }
 
 /// The first side of a pair.
-fn pair_step<'a>(
-    depth: usize,
-    role: Role,
-    valued: bool,
-    draft: &mut Draft<'a>,
-    token: &Token<'a>,
-) -> Option<Move>
-    ensures { option_map (seen_step depth draft.new) result ≡ machine.pair_step depth role valued ((draft.old).term).span (seen token.now) }
+fn pair_step<'a>(role: Role, valued: bool, draft: &mut Draft<'a>, token: &Token<'a>) -> Option<Move>
+    ensures { (depth : ℕ) → option_map (seen_step depth draft.new) result ≡ machine.pair_step depth role valued ((draft.old).term).span (seen token.now) }
 {
     let first = reference(token)?;
     begin(draft, role, valued, first);
@@ -463,13 +452,12 @@ fn pair_step<'a>(
 
 /// The first token of a body.
 fn start_step<'a>(
-    depth: usize,
     role: Role,
     valued: bool,
     draft: &mut Draft<'a>,
     token: &Token<'a>,
 ) -> Option<Move>
-    ensures { option_map (seen_step depth draft.new) result ≡ machine.start_step depth role valued (seen token.now) }
+    ensures { (depth : ℕ) → option_map (seen_step depth draft.new) result ≡ machine.start_step depth role valued (seen token.now) }
 {
     if let TokenKind::Mark(Mark::OpenParen) = token.kind {
         draft.term.span = token.span;
@@ -481,8 +469,8 @@ fn start_step<'a>(
 }
 
 /// Behind the word of an access: its bracket.
-fn bracket_step(depth: usize, role: Role, valued: bool, token: &Token<'_>) -> Option<Move>
-    ensures { (draft : item.Draft) → option_map (seen_step depth draft) result ≡ machine.bracket_step depth role valued (seen token.now) }
+fn bracket_step(role: Role, valued: bool, token: &Token<'_>) -> Option<Move>
+    ensures { (depth : ℕ) (draft : item.Draft) → option_map (seen_step depth draft) result ≡ machine.bracket_step depth role valued (seen token.now) }
 {
     match token.kind {
         TokenKind::Mark(Mark::CloseBracket) => Some(to(State::BodyNext(role, valued))),
@@ -491,14 +479,8 @@ fn bracket_step(depth: usize, role: Role, valued: bool, token: &Token<'_>) -> Op
 }
 
 /// A body behind an access; where nothing stands before that, perhaps an operator.
-fn body_step<'a>(
-    depth: usize,
-    role: Role,
-    valued: bool,
-    draft: &mut Draft<'a>,
-    token: &Token<'a>,
-) -> Option<Move>
-    ensures { option_map (seen_step depth draft.new) result ≡ machine.body_step depth role valued (seen token.now) }
+fn body_step<'a>(role: Role, valued: bool, draft: &mut Draft<'a>, token: &Token<'a>) -> Option<Move>
+    ensures { (depth : ℕ) → option_map (seen_step depth draft.new) result ≡ machine.body_step depth role valued (seen token.now) }
 {
     match (role, token.kind) {
         (Role::And, TokenKind::Mark(Mark::Bang)) => Some(to(State::BodyNext(Role::Not, valued))),
@@ -506,13 +488,13 @@ fn body_step<'a>(
             Role::Optional,
             valued,
         ))),
-        _ => start_step(depth, role, valued, draft, token),
+        _ => start_step(role, valued, draft, token),
     }
 }
 
 /// The word of an access.
-fn access_step(depth: usize, role: Role, token: &Token<'_>) -> Option<Move>
-    ensures { (draft : item.Draft) → option_map (seen_step depth draft) result ≡ machine.access_step depth role (seen token.now) }
+fn access_step(role: Role, token: &Token<'_>) -> Option<Move>
+    ensures { (depth : ℕ) (draft : item.Draft) → option_map (seen_step depth draft) result ≡ machine.access_step depth role (seen token.now) }
 {
     match token.kind {
         TokenKind::Name if is_access(token.text) => Some(to(State::BehindAccessWord(
@@ -531,8 +513,8 @@ fn is_access(word: &str) -> bool
 }
 
 /// A term; where nothing stands before it, perhaps an operator or an equality; behind `!` perhaps a group.
-fn term_step<'a>(depth: usize, role: Role, draft: &mut Draft<'a>, token: &Token<'a>) -> Option<Move>
-    ensures { option_map (seen_step depth draft.new) result ≡ machine.term_step depth role (seen token.now) }
+fn term_step<'a>(role: Role, draft: &mut Draft<'a>, token: &Token<'a>) -> Option<Move>
+    ensures { (depth : ℕ) → option_map (seen_step depth draft.new) result ≡ machine.term_step depth role (seen token.now) }
 {
     match role {
         Role::And => match token.kind {
@@ -543,7 +525,7 @@ fn term_step<'a>(depth: usize, role: Role, draft: &mut Draft<'a>, token: &Token<
             }
             TokenKind::Mark(Mark::Bang) => Some(to(State::TermNext(Role::Not))),
             TokenKind::Mark(Mark::Question) => Some(to(State::TermNext(Role::Optional))),
-            _ => plain_term_step(depth, role, draft, token),
+            _ => plain_term_step(role, draft, token),
         },
         Role::Not => match token.kind {
             TokenKind::Mark(Mark::OpenBrace) => {
@@ -554,24 +536,19 @@ fn term_step<'a>(depth: usize, role: Role, draft: &mut Draft<'a>, token: &Token<
                     nesting: Nesting::Opens,
                 })
             }
-            _ => plain_term_step(depth, role, draft, token),
+            _ => plain_term_step(role, draft, token),
         },
-        Role::Or | Role::Optional => plain_term_step(depth, role, draft, token),
+        Role::Or | Role::Optional => plain_term_step(role, draft, token),
     }
 }
 
 /// A term, perhaps with an access.
-fn plain_term_step<'a>(
-    depth: usize,
-    role: Role,
-    draft: &mut Draft<'a>,
-    token: &Token<'a>,
-) -> Option<Move>
-    ensures { option_map (seen_step depth draft.new) result ≡ machine.plain_term_step depth role (seen token.now) }
+fn plain_term_step<'a>(role: Role, draft: &mut Draft<'a>, token: &Token<'a>) -> Option<Move>
+    ensures { (depth : ℕ) → option_map (seen_step depth draft.new) result ≡ machine.plain_term_step depth role (seen token.now) }
 {
     match token.kind {
         TokenKind::Mark(Mark::OpenBracket) => Some(to(State::AccessNext(role))),
-        _ => start_step(depth, role, true, draft, token),
+        _ => start_step(role, true, draft, token),
     }
 }
 
@@ -592,13 +569,8 @@ fn variable_step<'a>(depth: usize, draft: &mut Draft<'a>, token: &Token<'a>) -> 
 }
 
 /// The right side of an equality.
-fn other_step<'a>(
-    depth: usize,
-    same: bool,
-    draft: &mut Draft<'a>,
-    token: &Token<'a>,
-) -> Option<Move>
-    ensures { option_map (seen_step depth draft.new) result ≡ machine.other_step depth (seen_reference ((draft.old).term).first) same (seen token.now) }
+fn other_step<'a>(same: bool, draft: &mut Draft<'a>, token: &Token<'a>) -> Option<Move>
+    ensures { (depth : ℕ) → option_map (seen_step depth draft.new) result ≡ machine.other_step depth (seen_reference ((draft.old).term).first) same (seen token.now) }
 {
     draft.last = reference(token)?;
     Some(Move {
