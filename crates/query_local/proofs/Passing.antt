@@ -36,11 +36,6 @@ module _ (this : ℕ) (ids : List Id) where
   item_next_top true ls = refl
   item_next_top false ls = refl
 
-  -- the first level, if there is none, is empty
-  as_first : (held : Bool) (depth : ℕ) (ls : List Level) → up_from held depth (first_level ls ∷ other_levels ls) ≡ up_from held depth ls
-  as_first held zero ls = ap (λ l. held && level_holds l) (first_joined ls)
-  as_first held (suc depth) ls = refl
-
   failed_item : (depth : ℕ) (i : Item) (ls : List Level) → up_from false depth (also i (first_level ls) ∷ other_levels ls) ≡ up_from false depth ls
   failed_item zero i ls = refl
   failed_item (suc depth) i ls = refl
