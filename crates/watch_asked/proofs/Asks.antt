@@ -53,12 +53,6 @@ and_assoc : (a b c : Bool) → ((a && b) && c) ≡ (a && b && c)
 and_assoc true b c = refl
 and_assoc false b c = refl
 
-pub and_turned : (a b : Bool) → (a && b) ≡ (b && a)
-and_turned true true = refl
-and_turned true false = refl
-and_turned false true = refl
-and_turned false false = refl
-
 or_true : (b : Bool) → (b || true) ≡ true
 or_true true = refl
 or_true false = refl

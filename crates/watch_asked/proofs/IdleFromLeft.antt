@@ -1,145 +1,32 @@
 -- What is read of a query's pieces from the left tells whether its variables are idle.
-use Rattle.std.proofs.Common.{◌≡◌, ℕ, zero, suc, Bool, true, false, List, [], ◌∷◌, length, refl, sym, ap, ◌∙◌, arith}
-use Rattle.std.proofs.lemmas.Bool.{ne_eqb}
-use Rattle.std.specs.Prelude.{◌+◌, ◌-◌, ◌==◌, ◌&&◌, ◌||◌, not, if◌then◌else◌}
+use Rattle.std.proofs.Common.{◌≡◌, ℕ, zero, Bool, true, false, List, [], ◌∷◌, length, refl, ap, ◌∙◌}
+use Rattle.std.specs.Prelude.{◌==◌, ◌&&◌, ◌||◌, not}
 use Rattle.std.specs.List.{list_all, range_with_len}
 use Rattle.ecs_id.specs.Id.{Id}
-use Rattle.ecs_model.specs.rows.Level.{Level, done, also, unless, top, then_level, joined, open_levels, first_level, other_levels}
-use Rattle.ecs_model.specs.rows.Rows.{visible}
+use Rattle.ecs_model.specs.rows.Level.{open_levels}
 use Rattle.query_model.specs.declared.query.Term.{Term}
-use Rattle.query_model.specs.Query.{Item, Piece, item, opening, closing, Query}
+use Rattle.query_model.specs.Query.{Piece, item, opening, closing, Query}
 use Rattle.query_check.specs.Terms.{terms}
-use Rattle.watch_concerns.specs.Bonds.{are_all_bound, groups_are_bound, has_directly}
-use Rattle.watch_concerns.specs.FromLeft.{depth_behind, is_end, passes_from, piece_passes}
+use Rattle.watch_concerns.specs.Bonds.{are_all_bound}
+use Rattle.watch_concerns.specs.FromLeft.{each_group}
 use Rattle.watch_concerns.specs.Idle.{asks_for, is_idle_for, item_lacks_of}
+use Rattle.watch_concerns.proofs.FromLeft.{all_left, left, level_left}
 use Rattle.watch_asked.specs.Asked.{groups_idle, is_idle_from}
 
--- the level in which items count: the whole query's, or that of the group that is open, behind so many inner ones
-abbrev left : Bool → ℕ → List Level → Level
-left true zero ls = joined ls
-left false zero ls = first_level ls
-left whole (suc d) [] = done
-left whole (suc d) (l ∷ ls) = left whole d ls
-
-none_left : (whole : Bool) (d : ℕ) → left whole d [] ≡ done
-none_left true zero = refl
-none_left false zero = refl
-none_left whole (suc d) = refl
-
-passed : (whole b : Bool) → (if not whole && false then false else b) ≡ b
-passed true b = refl
-passed false b = refl
-
-tested : (a b : Bool) → (if a then true else b) ≡ (a || b)
-tested true b = refl
-tested false b = refl
-
-module _ (test : Item → Bool) where
-  behind_item : (whole : Bool) (x : Item) (ls : List Level) → (test x || has_directly test (left whole zero ls)) ≡ has_directly test (left whole zero (also x (first_level ls) ∷ other_levels ls))
-  behind_item true x [] = refl
-  behind_item true x (l ∷ ls) = refl
-  behind_item false x ls = refl
-
-  behind_inner_item : (whole : Bool) (d : ℕ) (x : Item) (ls : List Level) → has_directly test (left whole (suc d) ls) ≡ has_directly test (left whole (suc d) (also x (first_level ls) ∷ other_levels ls))
-  behind_inner_item whole d x [] = sym (ap (has_directly test) (none_left whole d))
-  behind_inner_item whole d x (l ∷ ls) = refl
-
-  behind_opening : (whole : Bool) (d : ℕ) (from_term : Bool) (own : List ℕ) (ls : List Level)
-      → has_directly test (left whole (suc d) ls) ≡ has_directly test (left whole d (unless from_term own (first_level ls) (first_level (other_levels ls)) ∷ other_levels (other_levels ls)))
-  behind_opening true zero from_term own [] = refl
-  behind_opening true zero from_term own (l ∷ []) = refl
-  behind_opening true zero from_term own (l ∷ m ∷ ls) = refl
-  behind_opening false zero from_term own [] = refl
-  behind_opening false zero from_term own (l ∷ []) = refl
-  behind_opening false zero from_term own (l ∷ m ∷ ls) = refl
-  behind_opening whole (suc d) from_term own [] = sym (ap (has_directly test) (none_left whole d))
-  behind_opening whole (suc d) from_term own (l ∷ []) = sym (ap (has_directly test) (none_left whole d))
-  behind_opening whole (suc d) from_term own (l ∷ m ∷ ls) = refl
-
-  -- in a group that was opened here no item counts, and no end is the last
-  inside : (whole : Bool) (d : ℕ) (p : Piece) (ps : List Piece) → passes_from test whole (suc d) (p ∷ ps) ≡ passes_from test whole (depth_behind (suc d) p) ps
-  inside whole d p ps =
-      let deep : (suc d == 0) ≡ false = ne_eqb (suc d) 0 (λ e. absurd (omega (arith, e))) in
-      ap (λ b. if b && piece_passes test p then true else if b && not whole && is_end p then false else passes_from test whole (depth_behind (suc d) p) ps) deep
-
-  level_left : (whole : Bool) (d : ℕ) (ps : List Piece) → passes_from test whole d ps ≡ has_directly test (left whole d (open_levels ps))
-  level_left whole d [] = sym (ap (has_directly test) (none_left whole d))
-  level_left whole zero (item x ∷ ps) =
-      ap (λ b. if test x then true else b) (passed whole (passes_from test whole zero ps))
-      ∙ tested (test x) (passes_from test whole zero ps)
-      ∙ ap (λ b. test x || b) (level_left whole zero ps)
-      ∙ behind_item whole x (open_levels ps)
-  level_left whole (suc d) (item x ∷ ps) = inside whole d (item x) ps ∙ level_left whole (suc d) ps ∙ behind_inner_item whole d x (open_levels ps)
-  level_left whole zero (opening from_term own ∷ ps) = passed whole (passes_from test whole 1 ps) ∙ level_left whole 1 ps ∙ behind_opening whole zero from_term own (open_levels ps)
-  level_left whole (suc d) (opening from_term own ∷ ps) =
-      let deeper : suc d + 1 ≡ suc (suc d) = omega arith in
-      inside whole d (opening from_term own) ps
-      ∙ ap (λ n. passes_from test whole n ps) deeper
-      ∙ level_left whole (suc (suc d)) ps ∙ behind_opening whole (suc d) from_term own (open_levels ps)
-  level_left true zero (closing ∷ ps) = level_left true zero ps
-  level_left false zero (closing ∷ ps) = refl
-  level_left whole (suc d) (closing ∷ ps) =
-      let around : suc d - 1 ≡ d = omega arith in
-      inside whole d closing ps ∙ ap (λ n. passes_from test whole n ps) around ∙ level_left whole d ps
-
--- ---- groups
-
-all_agree : {X : Type 0} (p q : X → Bool) → ((x : X) → p x ≡ q x) → (xs : List X) → list_all p xs ≡ list_all q xs
-all_agree p q same [] = refl
-all_agree p q same (x ∷ xs) = let rest = all_agree p q same xs in λ k. same x k && rest k
-
-and_assoc : (a b c : Bool) → (a && (b && c)) ≡ ((a && b) && c)
-and_assoc true b c = refl
-and_assoc false b c = refl
-
 module _ (only : ℕ → Bool) (ts : List Term) (ids : List Id) (i : Id) where
-  -- for a variable that passes the test
-  abbrev idle_if : ℕ → Level → Bool
-  idle_if v l = not (only v) || is_idle_for ids i ts v l
-
-  variable_left : (whole : Bool) (ps : List Piece) (v : ℕ) → is_idle_from only ts whole ps ids i v ≡ idle_if v (left whole zero (open_levels ps))
+  variable_left : (whole : Bool) (ps : List Piece) (v : ℕ) → is_idle_from only ts whole ps ids i v ≡ (not (only v) || is_idle_for ids i ts v (left whole zero (open_levels ps)))
   variable_left whole ps v = ap (λ b. not (only v) || ((v == 0 || not (asks_for ts v i)) || b)) (level_left (item_lacks_of ids v) whole zero ps)
 
-  -- whether the variables of the groups in a level are
-  abbrev bound : Level → Bool
-  bound = groups_are_bound idle_if
-
-  first_and_others : (ls : List Level) → list_all bound ls ≡ (bound (first_level ls) && list_all bound (other_levels ls))
-  first_and_others [] = refl
-  first_and_others (l ∷ ls) = refl
-
-  groups_left : (ps : List Piece) → groups_idle only ts ids i ps ≡ list_all bound (open_levels ps)
-  groups_left [] = refl
-  groups_left (item x ∷ ps) = groups_left ps ∙ first_and_others (open_levels ps)
-  groups_left (opening from_term own ∷ ps) =
-      let ls = open_levels ps in
-      let owned = all_agree (is_idle_from only ts false ps ids i) (λ v. idle_if v (first_level ls)) (variable_left false ps) own in
-      let rest = groups_left ps ∙ first_and_others ls in
-      let others = first_and_others (other_levels ls) in
-      let here = list_all (λ v. idle_if v (first_level ls)) own in
-      (λ k. owned k && rest k)
-      ∙ (λ k. here && (bound (first_level ls) && others k))
-      ∙ and_assoc here (bound (first_level ls)) (bound (first_level (other_levels ls)) && list_all bound (other_levels (other_levels ls)))
-      ∙ and_assoc (here && bound (first_level ls)) (bound (first_level (other_levels ls))) (list_all bound (other_levels (other_levels ls)))
-  groups_left (closing ∷ ps) = groups_left ps
-
-  then_groups : (l m : Level) → bound (then_level l m) ≡ (bound l && bound m)
-  then_groups done m = refl
-  then_groups (also x l) m = then_groups l m
-  then_groups (unless from_term own inner l) m =
-      let before = list_all (λ v. idle_if v inner) own && bound inner in
-      ap (λ b. before && b) (then_groups l m) ∙ and_assoc before (bound l) (bound m)
-
-  joined_groups : (ls : List Level) → bound (joined ls) ≡ list_all bound ls
-  joined_groups [] = refl
-  joined_groups (l ∷ ls) = then_groups l (joined ls) ∙ ap (λ b. bound l && b) (joined_groups ls)
+  by_group : (ps : List Piece) → groups_idle only ts ids i ps ≡ each_group (λ qs v. is_idle_from only ts false qs ids i v) ps
+  by_group [] = refl
+  by_group (item x ∷ ps) = by_group ps
+  by_group (opening from_term own ∷ ps) = ap (λ b. list_all (is_idle_from only ts false ps ids i) own && b) (by_group ps)
+  by_group (closing ∷ ps) = by_group ps
 
 -- by the terms and the pieces of a query, and how many visible variables it has
 pub idle_left : (only : ℕ → Bool) (q : Query) (ts : List Term) (ps : List Piece) (n : ℕ) (ids : List Id) (i : Id) → ts ≡ terms q → ps ≡ q.pieces → n ≡ length q.variables
     → (list_all (is_idle_from only ts true ps ids i) (range_with_len 0 n) && groups_idle only ts ids i ps) ≡ are_all_bound (λ v l. not (only v) || is_idle_for ids i (terms q) v l) q
-unfolding top
 idle_left only q ts ps n ids i asked pieces count =
-    let all = all_agree (is_idle_from only (terms q) true q.pieces ids i) (λ v. idle_if only (terms q) ids i v (joined (open_levels q.pieces))) (variable_left only (terms q) ids i true q.pieces) (visible q) in
-    let groups = groups_left only (terms q) ids i q.pieces ∙ sym (joined_groups only (terms q) ids i (open_levels q.pieces)) in
     (λ k. list_all (is_idle_from only (asked k) true (pieces k) ids i) (range_with_len 0 (count k)) && groups_idle only (asked k) ids i (pieces k))
-    ∙ (λ k. all k && groups k)
+    ∙ ap (λ b. list_all (is_idle_from only (terms q) true q.pieces ids i) (range_with_len 0 (length q.variables)) && b) (by_group only (terms q) ids i q.pieces)
+    ∙ all_left (λ v l. not (only v) || is_idle_for ids i (terms q) v l) (λ whole qs v. is_idle_from only (terms q) whole qs ids i v) (variable_left only (terms q) ids i) q

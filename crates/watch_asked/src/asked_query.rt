@@ -11,18 +11,11 @@ ghost use Rattle.watch_asked.specs.Asked.{IsAskedBy, asked_concern, one_concern}
 use crate::asked::{AskedTerm, AskedTerms};
 use crate::asked_id::have_all;
 use ecs_id::Id;
-use ecs_model::built_ins::{REFLEXIVE, TRANSITIVE};
 use query_check::Query;
 use std::alloc::Allocator;
 use std::marker::Model;
 use watch_concerns::{
-    Concern, concern_of, concerns_below, concerns_others, is_asked_by_all, lacks, meets,
-};
-
-const NOBODY: Concern = Concern {
-    anyone: false,
-    others: false,
-    below: false,
+    Concern, NOBODY, concern_of, is_asked_by_all, joined, lacks, meets, says_how_far,
 };
 
 /// A query with what it asks, if that is kept. If not, each term is asked anew.
@@ -84,14 +77,14 @@ impl<'q, A: Allocator> AskedQuery<'q, A> {
     pub fn concerns_others(&self, id: Id) -> bool
         ensures { result ≡ concerns_others self.now id }
     {
-        concerns_others(self.query, id)
+        self.concern_of(id).others
     }
 
     /// Whether an id concerns it for those below its holder.
     pub fn concerns_below(&self, id: Id) -> bool
         ensures { result ≡ concerns_below self.now id }
     {
-        concerns_below(self.query, id)
+        self.concern_of(id).below
     }
 
     /// Whether an entity with these ids lacks what it asks of `$this` itself.
@@ -136,30 +129,6 @@ fn of_asked<A: Allocator>(asked: &AskedTerms<A>, id: Id) -> Concern
         below: false,
     };
     joined(of_tags, of_terms(asked.terms.as_slice(), id))
-}
-
-/// Whether an id is a tag that says how far a relationship reaches.
-#[inline(always)]
-fn says_how_far(id: Id) -> bool
-    ensures { result ≡ says_how_far id }
-{
-    if id.second().is_some() {
-        return false;
-    }
-    let tag = id.first();
-    tag == TRANSITIVE || tag == REFLEXIVE
-}
-
-/// For whom either does.
-#[inline(always)]
-fn joined(one: Concern, other: Concern) -> Concern
-    ensures { result ≡ joined one other }
-{
-    Concern {
-        anyone: one.anyone | other.anyone,
-        others: one.others | other.others,
-        below: one.below | other.below,
-    }
 }
 
 fn of_terms(terms: &[AskedTerm], id: Id) -> Concern

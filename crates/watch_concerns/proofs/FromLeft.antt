@@ -10,10 +10,10 @@ use Rattle.query_model.specs.Query.{Item, Piece, item, opening, closing, Query}
 use Rattle.query_check.specs.Terms.{terms}
 use Rattle.watch_concerns.specs.declared.bonds.Bond.{Bond}
 use Rattle.watch_concerns.specs.Bonds.{are_all_bound, groups_are_bound, has_directly}
-use Rattle.watch_concerns.specs.FromLeft.{binds, binds_from, depth_behind, groups_from, is_end, is_free, item_binds, passes_from, piece_passes}
+use Rattle.watch_concerns.specs.FromLeft.{binds, binds_from, depth_behind, each_group, groups_from, is_end, is_free, item_binds, passes_from, piece_passes}
 
 -- the level in which items count: the whole query's, or that of the group that is open, behind so many inner ones
-abbrev left : Bool → ℕ → List Level → Level
+abbrev pub left : Bool → ℕ → List Level → Level
 left true zero ls = joined ls
 left false zero ls = first_level ls
 left whole (suc d) [] = done
@@ -60,7 +60,7 @@ module _ (test : Item → Bool) where
       let deep : (suc d == 0) ≡ false = ne_eqb (suc d) 0 (λ e. absurd (omega (arith, e))) in
       ap (λ b. if b && piece_passes test p then true else if b && not whole && is_end p then false else passes_from test whole (depth_behind (suc d) p) ps) deep
 
-  level_left : (whole : Bool) (d : ℕ) (ps : List Piece) → passes_from test whole d ps ≡ has_directly test (left whole d (open_levels ps))
+  pub level_left : (whole : Bool) (d : ℕ) (ps : List Piece) → passes_from test whole d ps ≡ has_directly test (left whole d (open_levels ps))
   level_left whole d [] = sym (ap (has_directly test) (none_left whole d))
   level_left whole zero (item x ∷ ps) =
       ap (λ b. if test x then true else b) (passed whole (passes_from test whole zero ps))
@@ -90,49 +90,55 @@ and_assoc : (a b c : Bool) → (a && (b && c)) ≡ ((a && b) && c)
 and_assoc true b c = refl
 and_assoc false b c = refl
 
-module _ (bond : Bond) (all : List Term) where
-  bound_left : (whole : Bool) (ps : List Piece) (v : ℕ) → binds_from bond all whole ps v ≡ binds bond all v (left whole zero (open_levels ps))
-  bound_left whole ps v = ap (λ b. is_free bond all v || b) (level_left (item_binds bond v) whole zero ps)
+-- a test of variables in levels, and the same from the pieces with which a level begins
+module _ (bound : ℕ → Level → Bool) (from : Bool → List Piece → ℕ → Bool) (from_left : (whole : Bool) (ps : List Piece) (v : ℕ) → from whole ps v ≡ bound v (left whole zero (open_levels ps))) where
+  -- whether the variables of the groups in a level pass
+  abbrev in_groups : Level → Bool
+  in_groups = groups_are_bound bound
 
-  -- whether the groups in a level are bound
-  abbrev bound : Level → Bool
-  bound = groups_are_bound (binds bond all)
-
-  first_and_others : (ls : List Level) → list_all bound ls ≡ (bound (first_level ls) && list_all bound (other_levels ls))
+  first_and_others : (ls : List Level) → list_all in_groups ls ≡ (in_groups (first_level ls) && list_all in_groups (other_levels ls))
   first_and_others [] = refl
   first_and_others (l ∷ ls) = refl
 
-  groups_left : (ps : List Piece) → groups_from bond all ps ≡ list_all bound (open_levels ps)
+  groups_left : (ps : List Piece) → each_group (from false) ps ≡ list_all in_groups (open_levels ps)
   groups_left [] = refl
   groups_left (item x ∷ ps) = groups_left ps ∙ first_and_others (open_levels ps)
   groups_left (opening from_term own ∷ ps) =
       let ls = open_levels ps in
-      let owned = all_agree (binds_from bond all false ps) (λ v. binds bond all v (first_level ls)) (bound_left false ps) own in
+      let owned = all_agree (from false ps) (λ v. bound v (first_level ls)) (from_left false ps) own in
       let rest = groups_left ps ∙ first_and_others ls in
       let others = first_and_others (other_levels ls) in
-      let here = list_all (λ v. binds bond all v (first_level ls)) own in
+      let here = list_all (λ v. bound v (first_level ls)) own in
       (λ k. owned k && rest k)
-      ∙ (λ k. here && (bound (first_level ls) && others k))
-      ∙ and_assoc here (bound (first_level ls)) (bound (first_level (other_levels ls)) && list_all bound (other_levels (other_levels ls)))
-      ∙ and_assoc (here && bound (first_level ls)) (bound (first_level (other_levels ls))) (list_all bound (other_levels (other_levels ls)))
+      ∙ (λ k. here && (in_groups (first_level ls) && others k))
+      ∙ and_assoc here (in_groups (first_level ls)) (in_groups (first_level (other_levels ls)) && list_all in_groups (other_levels (other_levels ls)))
+      ∙ and_assoc (here && in_groups (first_level ls)) (in_groups (first_level (other_levels ls))) (list_all in_groups (other_levels (other_levels ls)))
   groups_left (closing ∷ ps) = groups_left ps
 
-  then_groups : (l m : Level) → bound (then_level l m) ≡ (bound l && bound m)
+  then_groups : (l m : Level) → in_groups (then_level l m) ≡ (in_groups l && in_groups m)
   then_groups done m = refl
   then_groups (also x l) m = then_groups l m
   then_groups (unless from_term own inner l) m =
-      let before = list_all (λ v. binds bond all v inner) own && bound inner in
-      ap (λ b. before && b) (then_groups l m) ∙ and_assoc before (bound l) (bound m)
+      let before = list_all (λ v. bound v inner) own && in_groups inner in
+      ap (λ b. before && b) (then_groups l m) ∙ and_assoc before (in_groups l) (in_groups m)
 
-  joined_groups : (ls : List Level) → bound (joined ls) ≡ list_all bound ls
+  joined_groups : (ls : List Level) → in_groups (joined ls) ≡ list_all in_groups ls
   joined_groups [] = refl
-  joined_groups (l ∷ ls) = then_groups l (joined ls) ∙ ap (λ b. bound l && b) (joined_groups ls)
+  joined_groups (l ∷ ls) = then_groups l (joined ls) ∙ ap (λ b. in_groups l && b) (joined_groups ls)
+
+  pub all_left : (q : Query) → (list_all (from true q.pieces) (visible q) && each_group (from false) q.pieces) ≡ are_all_bound bound q
+  unfolding top
+  all_left q =
+      let all = all_agree (from true q.pieces) (λ v. bound v (joined (open_levels q.pieces))) (from_left true q.pieces) (visible q) in
+      let groups = groups_left q.pieces ∙ sym (joined_groups (open_levels q.pieces)) in
+      λ k. all k && groups k
+
+bound_left : (bond : Bond) (all : List Term) (whole : Bool) (ps : List Piece) (v : ℕ) → binds_from bond all whole ps v ≡ binds bond all v (left whole zero (open_levels ps))
+bound_left bond all whole ps v = ap (λ b. is_free bond all v || b) (level_left (item_binds bond v) whole zero ps)
 
 -- by the terms and the pieces of a query, and how many visible variables it has
 pub all_bound_left : (bond : Bond) (q : Query) (ts : List Term) (ps : List Piece) (n : ℕ) → ts ≡ terms q → ps ≡ q.pieces → n ≡ length q.variables
     → (list_all (binds_from bond ts true ps) (range_with_len 0 n) && groups_from bond ts ps) ≡ are_all_bound (binds bond (terms q)) q
-unfolding top
 all_bound_left bond q ts ps n asked pieces count =
-    let all = all_agree (binds_from bond (terms q) true q.pieces) (λ v. binds bond (terms q) v (joined (open_levels q.pieces))) (bound_left bond (terms q) true q.pieces) (visible q) in
-    let groups = groups_left bond (terms q) q.pieces ∙ sym (joined_groups bond (terms q) (open_levels q.pieces)) in
-    (λ k. list_all (binds_from bond (asked k) true (pieces k)) (range_with_len 0 (count k)) && groups_from bond (asked k) (pieces k)) ∙ (λ k. all k && groups k)
+    (λ k. list_all (binds_from bond (asked k) true (pieces k)) (range_with_len 0 (count k)) && groups_from bond (asked k) (pieces k))
+    ∙ all_left (binds bond (terms q)) (binds_from bond (terms q)) (bound_left bond (terms q)) q

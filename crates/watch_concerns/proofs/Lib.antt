@@ -4,7 +4,6 @@ pub mod CoveredTerms
 pub mod LevelAgreement
 pub mod MatchingRows
 pub mod FromLeft
-pub mod Ranges
 pub mod Ancestors
 pub mod LivingVariables
 pub mod WhoeverLives
@@ -17,7 +16,6 @@ pub mod LinkedQueries
 pub mod StandingEntities
 pub mod UnaskedVariables
 pub mod MentionedOnce
-pub mod MentionTimes
 pub mod PinChanges
 pub mod LivesOn
 pub mod Deaths

@@ -1,27 +1,21 @@
 -- What a stored query more or less does to the counts of those whom stored queries mention.
-use Rattle.std.specs.Prelude.{◌≡◌, ℕ, ◌+◌, ◌-◌, ◌^◌, ◌<◌, ◌≤◌, ◌==◌, Bool, true, false, ◌||◌, List, [], ◌∷◌, All, count_by, fold, Option, Some, None, Ok, Err, cond, unwrap_or, if◌then◌else◌}
+use Rattle.std.specs.Prelude.{◌≡◌, ℕ, ◌+◌, ◌-◌, ◌<◌, ◌≤◌, ◌==◌, Bool, true, false, ◌||◌, List, [], ◌∷◌, All, count_by, fold, cond, if◌then◌else◌}
 use Rattle.std.specs.List.{list_any, list_all}
-use Rattle.std.specs.Cmp.{nat_cmp_total}
-use Rattle.std.specs.FinMap.{nat_cmp-IsAntisymmetric}
-use Rattle.std.specs.FinMap.Entries.{same_entries}
-use Rattle.std.specs.Ordering.{nat_cmp}
-use Rattle.std.proofs.Common.{refl, sym, ap, subst, ◌∙◌, arith, true≢false}
+use Rattle.std.proofs.Common.{refl, sym, ap, ◌∙◌, arith, true≢false}
 use Rattle.std.proofs.lemmas.Bool.Decides.{nat_tests}
 use Rattle.std.proofs.lemmas.List.Elements.{All-cons, All-nil, All-head, All-tail}
 use Rattle.ecs_id.specs.declared.EntityId.{EntityId}
-use Rattle.ecs_model.specs.declared.faults.Refusal.TheVariants.{Dead}
-use Rattle.ecs_model.specs.Map.{count_at, value_at}
+use Rattle.ecs_model.specs.Map.{count_at}
 use Rattle.ecs_model.specs.Query.{known_of}
-use Rattle.ecs_model.specs.World.{WorldState, is_alive, is_live}
+use Rattle.ecs_model.specs.World.{WorldState, is_alive}
 use Rattle.ecs_model.specs.rows.View.{view_of}
 use Rattle.ecs_model.specs.stored.Session.{pinned_by, unpinned_by}
-use Rattle.ecs_model.specs.traits.Keeps.{IsWellFormed}
-use Rattle.ecs_model.specs.traits.Pins.{most_pins, one_less, one_more, pin, unpin, with_pins}
-use Rattle.ecs_model.proofs.Maps.{both_true, of_some, to_T}
-use Rattle.ecs_model.proofs.Members.{eq_itself, eq_same}
+use Rattle.ecs_model.specs.traits.Pins.{most_pins, one_less, one_more, unpin, with_pins}
+use Rattle.ecs_model.proofs.Maps.{both_true}
+use Rattle.ecs_model.proofs.Members.{eq_same}
 use Rattle.ecs_model.proofs.Reasons.{neither}
 use Rattle.ecs_model.proofs.traits.Kept.{refuted}
-use Rattle.ecs_model.proofs.traits.Pinned.{count-with_count, pins_keep}
+use Rattle.ecs_model.proofs.traits.Pinned.{count-with_count}
 use Rattle.query_model.specs.declared.query.Mention.{Mention}
 use Rattle.query_model.specs.Query.{Query, is_as_checked, is_current}
 use Rattle.query_meaning.specs.Standing.{IsCurrentIn}
@@ -184,33 +178,7 @@ current_alive w q h = each q.mentions h.current
         let parts = both_true (is_as_checked (known_of w) m) (list_all (is_as_checked (known_of w)) ms) e in
         All-cons (λ m. is_alive w m.entity ≡ true) m ms (from_checked (known_of w) m parts.0).0 (each ms parts.1)
 
--- ---- well-formed worlds
-
--- a live entity's count one more leaves a well-formed world
-pub pinned_one_well_formed : (w : WorldState) (e : EntityId) → IsWellFormed w → is_alive w e ≡ true → IsWellFormed (with_pins w one_more e.index)
-unfolding pin
-pinned_one_well_formed w e h alive = (pins_keep w e h).0 (with_pins w one_more e.index) (ap (λ b. if b then Ok (with_pins w one_more e.index) else Err Dead) alive)
-
--- no count of 0 is kept, so the counts tell the map
-module _ (w : WorldState) (h : IsWellFormed w) where
-  abbrev if_counted : ℕ → Option ℕ
-  if_counted n = cond (n == 0) None (Some n)
-
--- ---- one more and one less
-
-back_of : (n : ℕ) → n + 1 < most_pins → one_less (one_more n) ≡ n
-back_of n l = ap one_less (more_of n (omega (arith, l))) ∙ by (n + 1 == most_pins) refl
-  where
-    by : (b : Bool) → (n + 1 == most_pins) ≡ b → cond b (n + 1) (n + 1 - 1) ≡ n
-    by true e = absurd (omega (arith, l, eq_same (n + 1) most_pins e))
-    by false e = omega arith
-
 -- ---- what a query asks stays
-
--- one stored query more of a live entity is not refused
-pub pin_alive : (w : WorldState) (e : EntityId) → is_alive w e ≡ true → pin w e ≡ Ok (with_pins w one_more e.index)
-unfolding pin
-pin_alive w e alive = ap (λ b. if b then Ok (with_pins w one_more e.index) else Err Dead) alive
 
 -- queries see the same
 pub pinned_view : (w : WorldState) (ms : List Mention) → view_of (pinned_by w ms) ≡ view_of w

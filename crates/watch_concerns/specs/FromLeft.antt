@@ -54,6 +54,14 @@ module _ (test : Item → Bool) where
       else if depth == 0 && not whole && is_end p then false
       else passes_from whole (depth_behind depth p) ps
 
+module _ (holds : List Piece → ℕ → Bool) where
+  -- whether each own variable of each group holds, by the pieces behind the group's begin
+  abbrev pub each_group : List Piece → Bool
+  each_group [] = true
+  each_group (item x ∷ ps) = each_group ps
+  each_group (opening from_term own ∷ ps) = list_all (holds ps) own && each_group ps
+  each_group (closing ∷ ps) = each_group ps
+
 -- by all terms of a query
 module _ (bond : Bond) (all : List Term) where
   -- whether a variable is bound in the level that begins here
@@ -62,7 +70,4 @@ module _ (bond : Bond) (all : List Term) where
 
   -- whether the own variables of each group are
   abbrev pub groups_from : List Piece → Bool
-  groups_from [] = true
-  groups_from (item x ∷ ps) = groups_from ps
-  groups_from (opening from_term own ∷ ps) = list_all (binds_from false ps) own && groups_from ps
-  groups_from (closing ∷ ps) = groups_from ps
+  groups_from ps = each_group (binds_from false) ps

@@ -1,26 +1,12 @@
-//! Which ids concern a query.
+//! Which ids concern a query, and which terms ask `$this`.
 
 ghost use Rattle.std.specs.Prelude.{◌≡◌};
-ghost use Rattle.std.specs.List.{list_any};
-ghost use Rattle.watch_concerns.specs.Concerns.{concerns, is_asked_by_all, is_pair_of, leads_up, may_be, may_match, term_concerns};
+ghost use Rattle.watch_concerns.specs.Concerns.{is_asked_by_all, is_pair_of, leads_up, may_be, may_match, term_concerns};
+ghost use Rattle.watch_concerns.specs.Others.{asks_this, says_how_far};
 
 use ecs_id::Id;
 use ecs_model::built_ins::{DISABLED, PREFAB, REFLEXIVE, TRANSITIVE};
-use query_check::Query;
 use query_model::query::{Ref, Term};
-use std::alloc::Allocator;
-
-/// Whether an id concerns a query. Where no fact of such an id comes or goes, and nobody is born or dies, its rows are of the same entities.
-///
-/// An id concerns a query if a term may match it, whatever variables stand for, if it is a pair along which a term asks ancestors, or one of the
-/// relationship that a term follows as transitive or reflexive, whatever its target. Transitive, Reflexive, Prefab and Disabled concern every query.
-/// Takes no memory, and time in the terms of the query.
-#[tactic(auto, unfolding(crate::specs::Concerns::concerns))]
-pub fn concerns<A: Allocator>(query: &Query<A>, id: Id) -> bool
-    ensures { result ≡ concerns query.now id }
-{
-    is_asked_by_all(id) || any_concerns(query.terms(), id)
-}
 
 /// Whether an id is a tag that says how far a relationship reaches, or who is passed over.
 #[inline(always)]
@@ -34,10 +20,23 @@ pub fn is_asked_by_all(id: Id) -> bool
     tag == TRANSITIVE || tag == REFLEXIVE || tag == PREFAB || tag == DISABLED
 }
 
-fn any_concerns(terms: &[Term], id: Id) -> bool
-    ensures { result ≡ list_any (term_concerns id) terms.now }
+/// Whether an id is a tag that says how far a relationship reaches.
+#[inline(always)]
+pub fn says_how_far(id: Id) -> bool
+    ensures { result ≡ says_how_far id }
 {
-    terms.iter().any(|term| term_concerns(term, id))
+    if id.second().is_some() {
+        return false;
+    }
+    let tag = id.first();
+    tag == TRANSITIVE || tag == REFLEXIVE
+}
+
+/// Whether a term asks `$this`, itself or its ancestors, for ids that are stored.
+pub(crate) fn asks_this(term: &Term) -> bool
+    ensures { result ≡ asks_this term.now }
+{
+    term.source.is_first() && !term.closed
 }
 
 /// Whether a term asks for an id, goes up along it, or follows it.
@@ -64,20 +63,14 @@ pub(crate) fn may_match(first: Ref, target: Option<Ref>, id: Id) -> bool
 fn leads_up(up: Option<u32>, id: Id) -> bool
     ensures { result ≡ leads_up up id }
 {
-    match up {
-        Some(relationship) => is_pair_of(Ref::Is(relationship), id),
-        None => false,
-    }
+    up.is_some_and(|relationship| is_pair_of(Ref::Is(relationship), id))
 }
 
 /// Whether an id is a pair of a relationship, whatever its target.
 fn is_pair_of(first: Ref, id: Id) -> bool
     ensures { result ≡ is_pair_of first id }
 {
-    match id.second() {
-        Some(_) => may_be(id.first(), first),
-        None => false,
-    }
+    id.second().is_some() && may_be(id.first(), first)
 }
 
 /// Whether a reference may stand for the entity at an index, whatever variables stand for.

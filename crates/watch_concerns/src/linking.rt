@@ -54,10 +54,7 @@ fn term_links(term: &Term, variable: usize) -> bool
 fn may_be_before(reference: Option<Ref>, variable: usize) -> bool
     ensures { result ≡ may_be_before variable reference }
 {
-    match reference {
-        Some(reference) => is_before(reference, variable),
-        None => false,
-    }
+    reference.is_some_and(|reference| is_before(reference, variable))
 }
 
 /// Whether a reference is a variable before this one.

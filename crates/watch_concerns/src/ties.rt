@@ -7,7 +7,7 @@ ghost use Rattle.watch_concerns.specs.Tied.{asks_near, is_tied, item_ties, needs
 
 use crate::anchoring::{is_variable, may_be_variable};
 use crate::bonds::{Bond, are_all_bound};
-use crate::others::asks_this;
+use crate::concerning::asks_this;
 use query_check::{Item, Query};
 use query_model::query::Term;
 use std::alloc::Allocator;

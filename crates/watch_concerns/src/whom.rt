@@ -3,8 +3,7 @@
 ghost use Rattle.std.specs.Prelude.{◌≡◌};
 ghost use Rattle.watch_concerns.specs.Whom.{concern_of, joined, term_concern, terms_concern};
 
-use crate::concerning::{is_asked_by_all, term_concerns};
-use crate::others::{asks_this, says_how_far};
+use crate::concerning::{asks_this, is_asked_by_all, says_how_far, term_concerns};
 use ecs_id::Id;
 use query_check::Query;
 use query_model::query::Term;
@@ -21,7 +20,8 @@ pub struct Concern {
     pub below: bool,
 }
 
-const NOBODY: Concern = Concern {
+/// For nobody.
+pub const NOBODY: Concern = Concern {
     anyone: false,
     others: false,
     below: false,
@@ -44,7 +44,7 @@ pub fn concern_of<A: Allocator>(query: &Query<A>, id: Id) -> Concern
 
 /// For whom either does.
 #[inline(always)]
-fn joined(one: Concern, other: Concern) -> Concern
+pub fn joined(one: Concern, other: Concern) -> Concern
     ensures { result ≡ joined one other }
 {
     Concern {
