@@ -26,9 +26,6 @@ filter_mapped f q (x ∷ xs) =
 abbrev pub keys_up_to : Block → ℕ → List TableKey
 keys_up_to b n = map (key_at b) (filter (λ k. bit_at b.bits k == 1) (range_with_len 0 n))
 
-pub none_yet : (b : Block) → [] ≡ keys_up_to b 0
-none_yet b = refl
-
 pub one_more : (b : Block) (n : ℕ) (had : Bool) (start found more : List TableKey) → had ≡ (bit_at b.bits n == 1) → found ≡ start ++ keys_up_to b n
     → more ≡ found ++ cond had (key_at b n ∷ []) [] → more ≡ start ++ keys_up_to b (n + 1)
 one_more b n had start found more bit so is =

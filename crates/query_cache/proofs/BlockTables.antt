@@ -2,9 +2,8 @@
 use Rattle.std.specs.Prelude.{filter, not}
 use Rattle.std.specs.List.{All}
 use Rattle.std.proofs.Common.{◌≡◌, ℕ, ◌+◌, ◌==◌, ◌<◌, ◌≤◌, Bool, true, false, cond, List, [], ◌∷◌, ◌++◌, append-nil, append_assoc, drop, length, set, get_or, take, sym, ap, ◌∙◌, arith, eqb-true, refl}
-use Rattle.std.proofs.lemmas.List.{at_drop_all, get_or-set_other, take_all, take_more, take_more_set, length-set}
+use Rattle.std.proofs.lemmas.List.{at_drop_all, take_all, take_more, take_more_set, length-set}
 use Rattle.std.proofs.lemmas.List.Concat.{flat_map-append}
-use Rattle.std.proofs.lemmas.List.Elements.{All-set, filter-append}
 use Rattle.ecs_id.specs.declared.TableKey.{TableKey}
 use Rattle.query_cache.specs.declared.table_block.Block.{Block}
 use Rattle.query_cache.specs.TableList.{IsBlock, keys_in, keys_of}
@@ -29,27 +28,6 @@ pub record AreRetained (keep : TableKey → Bool) (old new : List Block) (n : �
   pub long : length new ≡ length old
   pub keys : keys_in (take n new) ≡ filter keep (keys_in (take n old))
   pub rest : (k : ℕ) (d : Block) → n ≤ k → get_or new k d ≡ get_or old k d
-
-module _ (keep : TableKey → Bool) (old new : List Block) (n : ℕ) (are : AreRetained keep old new n) where
-  pub one_more : (b d : Block) → n < length new → IsBlock b → keys_of b ≡ filter keep (keys_of (get_or new n d)) → AreRetained keep old (set new n b) (n + 1)
-  one_more b d low is keys = record {
-    blocks = All-set IsBlock new n b is are.blocks;
-    long = length-set new n b ∙ are.long;
-    keys =
-        ap keys_in (take_more_set new n b low)
-        ∙ flat_map-append keys_of (take n new) (b ∷ [])
-        ∙ (λ i. are.keys i ++ append-nil (keys_of b) i)
-        ∙ ap (λ ks. filter keep (keys_in (take n old)) ++ ks) (keys ∙ ap (λ b. filter keep (keys_of b)) (are.rest n d (omega arith)) ∙ ap (filter keep) (sym (append-nil (keys_of (get_or old n d)))))
-        ∙ sym (filter-append keep (keys_in (take n old)) (keys_in (get_or old n d ∷ [])))
-        ∙ ap (filter keep) (sym (flat_map-append keys_of (take n old) (get_or old n d ∷ [])) ∙ ap keys_in (sym (take_more old n d (omega (arith, low, are.long)))));
-    rest = λ k e above. get_or-set_other new n k b e (λ same. omega (arith, above, same)) ∙ are.rest k e (omega (arith, above));
-  }
-
-  pub all_retained : length new ≤ n → keys_in new ≡ filter keep (keys_in old)
-  all_retained past = ap keys_in (sym (take_all n new past)) ∙ are.keys ∙ ap (λ bs. filter keep (keys_in bs)) (take_all n old (omega (arith, past, are.long)))
-
-pub none_retained : (keep : TableKey → Bool) (blocks : List Block) → All IsBlock blocks → AreRetained keep blocks blocks 0
-none_retained keep blocks all = record { blocks = all; long = refl; keys = refl; rest = λ k d above. refl }
 
 -- blocks of nothing are left out
 pub without_empty : (blocks : List Block) → keys_in (filter (λ b. not (b.bits == 0)) blocks) ≡ keys_in blocks

@@ -123,12 +123,10 @@ fn is_kept<B: Allocator>(
     ensures kept { result ≡ is_kept patterns.now tables.now key }
     ensures judged { judged.new ≡ min (judged.old + 1) 18446744073709551615 }
 {
-    let is_one = match tables.get(key) {
-        Some(table) => suits(patterns, table.ids()),
-        None => false,
-    };
     *judged = judged.saturating_add(1);
-    is_one
+    tables
+        .get(key)
+        .is_some_and(|table| suits(patterns, table.ids()))
 }
 
 /// Puts those tables above a serial that are of the query behind the keys. Answers the greatest serial that was given.
