@@ -77,20 +77,6 @@ impl<A: Allocator> Event<A> {
     {
         self.value
     }
-
-    /// The text by which the entity prints: that of before the command where it has left or lost the fact, else that of after it.
-    pub fn entity_text(&self) -> &[u8]
-        ensures { result.now ≡ (self.now).entity_text }
-    {
-        self.entity_text.as_slice()
-    }
-
-    /// The text by which the id prints, and nothing where there is none.
-    pub fn id_text(&self) -> &[u8]
-        ensures { result.now ≡ (self.now).id_text }
-    {
-        self.id_text.as_slice()
-    }
 }
 
 /// Puts an event behind others. Most commands tell one alone, for which no more room is made.

@@ -14,13 +14,10 @@ use std::alloc::{AllocError, Allocator};
 pub(crate) fn entity_now<A: Allocator>(world: &World<A>, index: u32) -> EntityId
     ensures { result ≡ record { index = index; generation = count_at world.now.state.live index } }
 {
-    match world.at(index) {
-        Some(entity) => entity,
-        None => EntityId {
-            index,
-            generation: 0,
-        },
-    }
+    world.at(index).unwrap_or(EntityId {
+        index,
+        generation: 0,
+    })
 }
 
 /// The text of an entity.

@@ -1,13 +1,10 @@
 -- What is gathered of lists, one after another.
-use Rattle.std.specs.Prelude.{◌≡◌, ℕ, Bool, List, [], ◌∷◌, ◌++◌, map, flat_map, if◌then◌else◌}
+use Rattle.std.specs.Prelude.{◌≡◌, ℕ, Bool, List, [], ◌∷◌, ◌++◌, flat_map, if◌then◌else◌}
 use Rattle.std.proofs.Common.{refl, sym, ap, ◌∙◌, append_assoc}
 use Rattle.std.proofs.lemmas.List.Concat.{flat_map-append}
-use Rattle.std.proofs.lemmas.List.Folds.{flat_map-map}
-use Rattle.component_index.specs.declared.pattern.Pattern.{Pattern}
 use Rattle.ecs_model.specs.World.{Key}
 use Rattle.watch_index.specs.declared.occasion.Occasion.{Occasion}
-use Rattle.watch_index.specs.declared.occasion.Occasion.TheVariants.{Life, Fact}
-use Rattle.watch_index.specs.declared.occasion.Way.{Way}
+use Rattle.watch_index.specs.declared.occasion.Occasion.TheVariants.{Life}
 use Rattle.watch_index.specs.declared.occasion.Way.TheVariants.{IsWritten}
 use Rattle.watch_index.specs.Listed.{Listings, listed}
 use Rattle.watch_index.specs.Occasions.{facts_of, happening, moved}
@@ -18,9 +15,6 @@ flat_twice f g [] = refl
 flat_twice f g (x ∷ xs) = flat_map-append f (g x) (flat_map g xs) ∙ ap (λ zs. flat_map f (g x) ++ zs) (flat_twice f g xs)
 
 module _ (ls : Listings) where
-  pub of_patterns : (way : Way) (ps : List Pattern) → flat_map (listed ls) (map (Fact way) ps) ≡ flat_map (λ p. listed ls (Fact way p)) ps
-  of_patterns way ps = flat_map-map (listed ls) (Fact way) ps
-
   module _ (lives : Bool) (came went written : List Key) where
     abbrev of_lives : List Occasion
     of_lives = if lives then Life ∷ [] else []

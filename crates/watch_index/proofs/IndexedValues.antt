@@ -8,7 +8,7 @@ use Rattle.std.proofs.lemmas.List.Edits.{get_or-remove_above, get_or-remove_belo
 use Rattle.std.proofs.lemmas.List.Folds.{list_any-append, list_any_none}
 use Rattle.std.proofs.lemmas.List.Sorted.{IsPermutation-remove, list_any-IsPermutation}
 use Rattle.watch_index.specs.declared.occasion.Occasion.{Occasion}
-use Rattle.watch_index.specs.Listed.{Adds, AreSame, Drops, Listings, is_among, is_listed}
+use Rattle.watch_index.specs.Listed.{Adds, Drops, Listings, is_among, is_listed}
 
 with_one : (a p q : Bool) → (a || (p && q)) ≡ (a || ((q && p) || false))
 with_one true p q = refl
@@ -16,17 +16,6 @@ with_one false true true = refl
 with_one false true false = refl
 with_one false false true = refl
 with_one false false false = refl
-
--- without one that nothing else stands for
-without_one : (a p q : Bool) → ((p && q) ≡ true → a ≡ false) → ((a || ((q && p) || false)) && not (p && q)) ≡ a
-without_one true true true alone = sym (alone refl)
-without_one false true true alone = refl
-without_one true true false alone = refl
-without_one false true false alone = refl
-without_one true false true alone = refl
-without_one false false true alone = refl
-without_one true false false alone = refl
-without_one false false false alone = refl
 
 without_first : (a p q : Bool) → ((p && q) ≡ true → a ≡ false) → (((q && p) || a) && not (p && q)) ≡ a
 without_first true true true alone = sym (alone refl)
@@ -70,21 +59,12 @@ module _ {X : Type 0} (number : X → ℕ) (occasions : X → List Occasion) whe
     pub free : AreIndexed ls xs → (n : ℕ) → All (λ x. number x < n) xs → (o : Occasion) → is_listed ls o n ≡ false
     free indexed n above o = indexed o n ∙ none_above n o xs above
 
-    pub same_indexed : AreIndexed ls xs → AreSame ls new → AreIndexed new xs
-    same_indexed indexed same o n = same o n ∙ indexed o n
-
     module _ (x : X) where
       pub entered : AreIndexed ls xs → Adds ls new (is_among (occasions x)) (number x) → AreIndexed new (xs ++ x ∷ [])
       entered indexed adds o n =
           adds o n ∙ (λ i. indexed o n i || (is_among (occasions x) o && number x == n))
           ∙ with_one (list_any (looks n o) xs) (is_among (occasions x) o) (number x == n)
           ∙ sym (list_any-append (looks n o) xs (x ∷ []))
-
-      pub forgotten : AreIndexed ls (xs ++ x ∷ []) → All (λ y. number y < number x) xs → Drops ls new (is_among (occasions x)) (number x) → AreIndexed new xs
-      forgotten indexed above drops o n =
-          drops o n ∙ (λ i. (indexed o n ∙ list_any-append (looks n o) xs (x ∷ [])) i && not (is_among (occasions x) o && number x == n))
-          ∙ without_one (list_any (looks n o) xs) (is_among (occasions x) o) (number x == n)
-          (λ both. none_above n o xs (subst (λ m. All (λ y. number y < m) xs) ((Decides-eqb (number x) n).0 (and_parts (is_among (occasions x) o) (number x == n) both).1) above))
 
       -- one is taken out of a place
       module _ (k : ℕ) (within : k < length xs) (there : (d : X) → slice_index_or xs k d ≡ x) (rise : AllPairs (λ a b. number a < number b) xs) where

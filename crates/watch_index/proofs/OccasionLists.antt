@@ -3,11 +3,9 @@ use Rattle.std.proofs.Common.{◌≡◌, ℕ, ◌≤◌, subst, ◌+◌, ◌<◌
 use Rattle.std.specs.Map.{lookup}
 use Rattle.std.specs.Option.{option_map_or}
 use Rattle.std.specs.List.{list_any}
-use Rattle.std.proofs.lemmas.Bool.{and_parts, or_right}
-use Rattle.std.proofs.lemmas.Bool.Decides.{Decides-eqb}
+use Rattle.std.proofs.lemmas.Bool.{or_right}
 use Rattle.std.proofs.lemmas.List.{take_all}
 use Rattle.std.proofs.lemmas.List.Folds.{list_any_more}
-use Rattle.std.proofs.Math.Bool.{and-false}
 use Rattle.component_index.proofs.ListedLemmas.{or_none, and_all, added_at, dropped_at, apart_from, or_steps, and_steps, gone_twice, any-take}
 pub use Rattle.component_index.proofs.ListedLemmas.{on_err}
 use Rattle.watch_index.specs.declared.occasion.Occasion.{Occasion}
@@ -56,15 +54,6 @@ module _ (m n : Listings) (occasion : Occasion) (number : ℕ) (o : Option (List
       by : (b : Bool) → occasion_eq occasion p ≡ b → is_listed n p k ≡ is_listed m p k
       by true e = one_at new p true (writes p) e k ∙ same k ∙ ap (λ x. some_has x k) (was_at p e)
       by false e = one_at new p false (writes p) e k
-
--- an occasion without a list has no number to lose
-pub Drops-none : (m : Listings) (occasion : Occasion) (number : ℕ) → lookup (occasion_eq occasion) m ≡ None → Drops m m (occasion_eq occasion) number
-Drops-none m occasion number none p k = by (occasion_eq occasion p) refl
-  where
-    by : (b : Bool) → occasion_eq occasion p ≡ b → is_listed m p k ≡ (is_listed m p k && not (occasion_eq occasion p && number == k))
-    by true e = let gone : lookup (occasion_eq p) m ≡ None = ap (λ x. lookup (occasion_eq x) m) (sym (same_occasion occasion p e)) ∙ none in
-        ap (λ x. some_has x k) gone ∙ (λ i. some_has (sym gone i) k && not (occasion_eq occasion p && number == k))
-    by false e = and_all (is_listed m p k) ∙ (λ i. is_listed m p k && not (sym e i && number == k))
 
 -- two steps are one
 module _ (m n o : Listings) (a b c : Occasion → Bool) (number : ℕ) where
@@ -129,13 +118,3 @@ module _ {X : Type 0} (test : X → Occasion → Bool) (xs : List X) where
       pub Keeps-more : Adds m n (of_first i) number → Keeps n o (test x) number → Keeps m o of_each number
       Keeps-more f g = Keeps-steps m n o (of_first i) (test x) of_each number (λ p h. any-take (λ y. test y p) xs i h)
           (λ p h. any-take (λ y. test y p) xs (i + 1) (more p ∙ or_right (of_first i p) _ h)) f g
-
--- ---- what was entered in part, and is taken out again
-pub undone : (m n o : Listings) (test : Occasion → Bool) (number : ℕ) → ((p : Occasion) → is_listed m p number ≡ false) → Keeps m n test number → Drops n o test number → AreSame m o
-undone m n o test number free kept dropped p k = by (test p && number == k) refl
-  where
-    by : (b : Bool) → (test p && number == k) ≡ b → is_listed o p k ≡ is_listed m p k
-    by true e =
-        let same : number ≡ k = (Decides-eqb number k).0 (and_parts (test p) (number == k) e).1 in
-        dropped p k ∙ (λ i. is_listed n p k && not (e i)) ∙ and-false (is_listed n p k) ∙ sym (ap (is_listed m p) (sym same) ∙ free p)
-    by false e = dropped p k ∙ (λ i. is_listed n p k && not (e i)) ∙ sym (and_all (is_listed n p k)) ∙ kept p k e

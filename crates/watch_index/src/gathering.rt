@@ -1,7 +1,6 @@
 //! The numbers of the stored queries that look out for what has happened.
 ghost use Rattle.std.specs.Prelude.{◌≡◌, ◌↔◌, ◌∷◌, ◌++◌, [], ℕ, Contains, OnOk, flat_map, if◌then◌else◌};
 ghost use Rattle.std.specs.List.Sorted.{IsStrictlyIncreasing};
-ghost use Rattle.ecs_id.specs.Id.{IsIndex, pair, plain};
 ghost use Rattle.watch_index.specs.Listed.{listed};
 ghost use Rattle.watch_index.specs.Occasions.{facts_of, happening, moved, of_all};
 ghost use Rattle.watch_index.specs.declared.occasion.Occasion.TheVariants.{Fact, Life};
@@ -118,43 +117,20 @@ fn push_fact<A: Allocator + Copy>(
     ensures { OnOk result (numbers.new.items ≡ numbers.old.items ++ flat_map (listed index.now) (facts_of way id)) }
 {
     match id.second() {
-        None => push_plain(index, way, id.first(), numbers),
-        Some(target) => push_pair(index, way, id.first(), target, numbers),
+        None => {
+            push_pattern(index, way, Part::Is(id.first()), None, numbers)?;
+            push_pattern(index, way, Part::Any, None, numbers)
+        }
+        Some(target) => {
+            let first = Part::Is(id.first());
+            let second = Some(Part::Is(target));
+            let any = Some(Part::Any);
+            push_pattern(index, way, first, second, numbers)?;
+            push_pattern(index, way, first, any, numbers)?;
+            push_pattern(index, way, Part::Any, second, numbers)?;
+            push_pattern(index, way, Part::Any, any, numbers)
+        }
     }
-}
-
-/// Adds the numbers that are listed for what happens to a fact of a plain id.
-#[inline(always)]
-fn push_plain<A: Allocator + Copy>(
-    index: &WatchIndex<A>,
-    way: Way,
-    first: u32,
-    numbers: &mut ShortNumbers<A>,
-) -> Result<(), AllocError>
-    ensures { OnOk result (numbers.new.items ≡ numbers.old.items ++ flat_map (listed index.now) (facts_of way (plain first))) }
-{
-    push_pattern(index, way, Part::Is(first), None, numbers)?;
-    push_pattern(index, way, Part::Any, None, numbers)
-}
-
-/// Adds the numbers that are listed for what happens to a fact of a pair.
-#[inline(always)]
-fn push_pair<A: Allocator + Copy>(
-    index: &WatchIndex<A>,
-    way: Way,
-    relationship: u32,
-    target: u32,
-    numbers: &mut ShortNumbers<A>,
-) -> Result<(), AllocError>
-    ensures { OnOk result (numbers.new.items ≡ numbers.old.items ++ flat_map (listed index.now) (facts_of way (pair relationship target))) }
-{
-    let first = Part::Is(relationship);
-    let second = Some(Part::Is(target));
-    let any = Some(Part::Any);
-    push_pattern(index, way, first, second, numbers)?;
-    push_pattern(index, way, first, any, numbers)?;
-    push_pattern(index, way, Part::Any, second, numbers)?;
-    push_pattern(index, way, Part::Any, any, numbers)
 }
 
 /// Adds the numbers that are listed for what happens to facts whose ids a pattern matches.

@@ -1,8 +1,8 @@
 //! What a stored query looks out for.
-ghost use Rattle.std.specs.Prelude.{◌≡◌, ◌++◌, IfOk, OnOk, flat_map, if◌then◌else◌};
+ghost use Rattle.std.specs.Prelude.{◌≡◌, ◌++◌, IfOk, OnOk, flat_map};
 ghost use Rattle.query_check.specs.Terms.{terms};
 ghost use Rattle.watch_concerns.specs.Anchored.{is_anchored};
-ghost use Rattle.watch_index.specs.Occasions.{closed_occasions, occasions_of, of_monitors, pairs_of, part_of, pattern_of, term_occasions, up_occasions};
+ghost use Rattle.watch_index.specs.Occasions.{occasions_of, of_monitors, pairs_of, part_of, pattern_of, term_occasions};
 
 use crate::occasion::{Occasion, Way};
 use component_index::{Part, Pattern};
@@ -83,30 +83,9 @@ fn push_term<A: Allocator>(
     ensures { OnOk result (found.new.items ≡ found.old.items ++ term_occasions way term.now) }
 {
     found.push(Occasion::Fact(way, pattern_of(term.first, term.target)))?;
-    push_up(term, way, found)?;
-    push_closed(term, way, found)
-}
-
-fn push_up<A: Allocator>(
-    term: &Term,
-    way: Way,
-    found: &mut Vec<Occasion, A>,
-) -> Result<(), AllocError>
-    ensures { OnOk result (found.new.items ≡ found.old.items ++ up_occasions way term.now.up) }
-{
     if let Some(relationship) = term.up {
         found.push(Occasion::Fact(way, pairs_of(Part::Is(relationship))))?;
     }
-    Ok(())
-}
-
-fn push_closed<A: Allocator>(
-    term: &Term,
-    way: Way,
-    found: &mut Vec<Occasion, A>,
-) -> Result<(), AllocError>
-    ensures { OnOk result (found.new.items ≡ found.old.items ++ closed_occasions way term.now) }
-{
     if term.closed {
         found.push(Occasion::Fact(way, pairs_of(part_of(term.first))))?;
     }
@@ -117,13 +96,9 @@ fn push_closed<A: Allocator>(
 fn pattern_of(first: Ref, target: Option<Ref>) -> Pattern
     ensures { result ≡ pattern_of first target }
 {
-    let second = match target {
-        Some(target) => Some(part_of(target)),
-        None => None,
-    };
     Pattern {
         first: part_of(first),
-        second,
+        second: target.map(part_of),
     }
 }
 
