@@ -56,10 +56,7 @@ fn marked_part(line: &[u8], span: Option<(usize, usize)>) -> Option<Part>
 {
     let (start, end) = span?;
     let word = word_from(line, 0);
-    let words = match command_of(word.of(line)) {
-        Some(command) => command.words_before_text(),
-        None => 1,
-    };
+    let words = command_of(word.of(line)).map_or(1, Command::words_before_text);
     let text = text_start(line, words);
     let room = line.len() - text;
     let start = text + start.min(room);
@@ -79,22 +76,14 @@ fn write_quoted<A: Allocator>(
     let end = quoted_end(line, part);
     write_parts(out, &["  "])?;
     write_quote(is_text, &line[..end], out)?;
-    write_parts(
-        out,
-        &[if end < len_without_blanks(line) {
-            " ..\n"
-        } else {
-            "\n"
-        }],
-    )?;
-    match part {
-        None => Ok(()),
-        Some(part) => {
-            write_parts(out, &["  "])?;
-            write_marks(is_text, line, part, out)?;
-            write_parts(out, &["\n"])
-        }
-    }
+    let is_whole = end >= len_without_blanks(line);
+    write_parts(out, &[if is_whole { "\n" } else { " ..\n" }])?;
+    let Some(part) = part else {
+        return Ok(());
+    };
+    write_parts(out, &["  "])?;
+    write_marks(is_text, line, part, out)?;
+    write_parts(out, &["\n"])
 }
 
 /// Up to where a line is quoted: without blanks at its end, and the first bytes of a long one, with the marked part.
@@ -102,10 +91,7 @@ fn quoted_end(line: &[u8], part: Option<Part>) -> usize
     requires { IfSome part (IsWithin line.now) }
     ensures { result ≤ length line.now }
 {
-    let least = match part {
-        None => 0,
-        Some(part) => part.end,
-    };
+    let least = part.map_or(0, |part| part.end);
     len_without_blanks(line).min(MOST_QUOTED).max(least)
 }
 
@@ -137,6 +123,7 @@ fn write_misfit<A: Allocator>(
 fn form_meant(misfit: &Misfit) -> Option<Command> {
     match misfit.reason {
         Reason::Unknown(nearest) => nearest,
+        Reason::NotUtf8 | Reason::Unclear => None,
         _ => misfit.command,
     }
 }

@@ -45,51 +45,34 @@ pub(crate) struct Misfit {
 pub(crate) fn misfit_of(line: &[u8]) -> Misfit
     ensures { IsWithin line.now result.part }
 {
-    match first_misfit(line) {
-        Some(misfit) => misfit,
-        None => Misfit {
-            part: Part {
-                start: 0,
-                end: line.len(),
-            },
-            reason: Reason::Unclear,
-            command: None,
-        },
+    let word = word_from(line, 0);
+    let command = command_of(word.of(line));
+    let end = line.len();
+    let (part, reason) = match line_fault(command, line, word) {
+        Err(found) => found,
+        Ok(()) => (Part { start: 0, end }, Reason::Unclear),
+    };
+    Misfit {
+        part,
+        reason,
+        command,
     }
 }
 
-fn first_misfit(line: &[u8]) -> Option<Misfit>
-    ensures { IfSome result (λ m. IsWithin line.now m.part) }
+/// Reads a line that begins with this word, which is this command, if it is one.
+fn line_fault(command: Option<Command>, line: &[u8], word: Part) -> Found<()>
+    requires { IsWithin line.now word }
+    ensures { IfErr result (λ e. IsWithin line.now e.0) }
 {
     if line.starts_with(b"\xEF\xBB\xBF".as_slice()) {
-        return Some(Misfit {
-            part: Part { start: 0, end: 3 },
-            reason: Reason::ByteOrderMark,
-            command: None,
-        });
+        return Err((Part { start: 0, end: 3 }, Reason::ByteOrderMark));
     }
     if let Some(start) = broken_at(line) {
-        return Some(Misfit {
-            part: Part { start, end: start },
-            reason: Reason::NotUtf8,
-            command: None,
-        });
+        return Err((Part { start, end: start }, Reason::NotUtf8));
     }
-    let word = word_from(line, 0);
-    match command_of(word.of(line)) {
-        None => Some(Misfit {
-            part: word,
-            reason: Reason::Unknown(nearest(word.of(line))),
-            command: None,
-        }),
-        Some(command) => {
-            let (part, reason) = rest_fault(command, line, word.end).err()?;
-            Some(Misfit {
-                part,
-                reason,
-                command: Some(command),
-            })
-        }
+    match command {
+        None => Err((word, Reason::Unknown(nearest(word.of(line))))),
+        Some(command) => rest_fault(command, line, word.end),
     }
 }
 
@@ -129,11 +112,12 @@ fn rest_fault(command: Command, line: &[u8], from: usize) -> Found<()>
         Command::Set => {
             let entity = entity_from(line, from)?;
             let id = id_from(line, entity.end)?;
-            values_from(line, id.end)
+            some_word(line, id.end)?;
+            words_from(line, id.end, false)
         }
         Command::Component => {
             let name = some_word(line, from)?;
-            fields_from(line, name.end)
+            words_from(line, name.end, true)
         }
         Command::Query => Ok(()),
         Command::Keep | Command::Monitor => some_word(line, from).map(|_| ()),
@@ -198,14 +182,10 @@ fn entity_from(line: &[u8], from: usize) -> Found<Part>
 
 /// Why a word names no entity.
 fn reference_fault(word: &[u8]) -> Option<Reason> {
-    if word.is_empty()
-        || word
-            .iter()
-            .any(|b| is_blank(*b) || *b == b'(' || *b == b')' || *b == b',')
-    {
-        return Some(Reason::Reference);
-    }
+    let parts = |byte: &u8| is_blank(*byte) || matches!(*byte, b'(' | b')' | b',');
     match word {
+        [] => Some(Reason::Reference),
+        _ if word.iter().any(parts) => Some(Reason::Reference),
         [b'#', handle @ ..] if !is_handle(handle) => Some(Reason::Handle),
         _ => None,
     }
@@ -236,21 +216,10 @@ fn id_from(line: &[u8], from: usize) -> Found<Part>
     }
     let Some(length) = place_of(&line[word.start..], b')') else {
         let end = len_without_blanks(line).max(word.end);
-        return Err((
-            Part {
-                start: word.start,
-                end,
-            },
-            Reason::Pair,
-        ));
+        return Err((Part { end, ..word }, Reason::Pair));
     };
-    pair_at(
-        line,
-        Part {
-            start: word.start,
-            end: word.start + length + 1,
-        },
-    )
+    let end = word.start + length + 1;
+    pair_at(line, Part { end, ..word })
 }
 
 /// A pair in its brackets, behind which a blank or the end of the line has to stand.
@@ -261,13 +230,8 @@ fn pair_at(line: &[u8], part: Part) -> Found<Part>
 {
     let after = word_from(line, part.end);
     if after.start == part.end && after.start < after.end {
-        return Err((
-            Part {
-                start: part.start,
-                end: after.end,
-            },
-            Reason::Pair,
-        ));
+        let end = after.end;
+        return Err((Part { end, ..part }, Reason::Pair));
     }
     match pair_fault(part.of(line)) {
         Some(reason) => Err((part, reason)),
@@ -282,14 +246,10 @@ fn pair_fault(text: &[u8]) -> Option<Reason> {
     };
     let behind = &text[comma + 1..];
     let target = &behind[..behind.len().saturating_sub(1)];
-    let relationship = &text[..comma];
-    match reference_fault(trimmed(&relationship[1.min(comma)..])) {
+    let relationship = &text[1.min(comma)..comma];
+    match reference_fault(trimmed(relationship)).or(reference_fault(trimmed(target))) {
         Some(Reason::Reference) => Some(Reason::Pair),
-        Some(reason) => Some(reason),
-        None => match reference_fault(trimmed(target)) {
-            Some(Reason::Reference) => Some(Reason::Pair),
-            other => other,
-        },
+        other => other,
     }
 }
 
@@ -299,24 +259,32 @@ fn trimmed(bytes: &[u8]) -> &[u8] {
     &bytes[crate::bytes::blanks_at_start(bytes)..]
 }
 
-/// One or more values, up to the end of the line.
-fn values_from(line: &[u8], from: usize) -> Found<()>
+/// Fields, or else values, up to the end of the line.
+fn words_from(line: &[u8], from: usize, are_fields: bool) -> Found<()>
     requires { from ≤ length line.now }
     ensures { IfErr result (λ e. IsWithin line.now e.0) }
 {
-    let first = some_word(line, from)?;
-    let mut at = first.start;
+    let mut at = from;
     for _ in 0..line.len() {
         let word = word_from(line, at);
         if word.start == word.end {
             return Ok(());
         }
-        if let Some(reason) = value_fault(word.of(line)) {
+        if let Some(reason) = word_fault(word.of(line), are_fields) {
             return Err((word, reason));
         }
         at = word.end;
     }
     Ok(())
+}
+
+/// Why a word is no field, or else no value.
+fn word_fault(word: &[u8], is_field: bool) -> Option<Reason> {
+    if is_field {
+        field_fault(word)
+    } else {
+        value_fault(word)
+    }
 }
 
 /// Why a word is no value.
@@ -335,25 +303,6 @@ fn value_fault(word: &[u8]) -> Option<Reason> {
         Some(dot) if is_number(&digits[..dot], usize::MAX) => Some(Reason::Fraction),
         _ => Some(Reason::Value),
     }
-}
-
-/// Fields, up to the end of the line.
-fn fields_from(line: &[u8], from: usize) -> Found<()>
-    requires { from ≤ length line.now }
-    ensures { IfErr result (λ e. IsWithin line.now e.0) }
-{
-    let mut at = from;
-    for _ in 0..line.len() {
-        let word = word_from(line, at);
-        if word.start == word.end {
-            return Ok(());
-        }
-        if let Some(reason) = field_fault(word.of(line)) {
-            return Err((word, reason));
-        }
-        at = word.end;
-    }
-    Ok(())
 }
 
 /// Why a word is no field.

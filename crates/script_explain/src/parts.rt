@@ -1,7 +1,6 @@
 //! Parts of a line.
-ghost use Rattle.std.specs.Prelude.{◌≡◌, ◌≤◌, drop, length, take};
+ghost use Rattle.std.specs.Prelude.{◌≡◌, ◌≤◌, drop, length};
 ghost use Rattle.ecs_model.specs.Script.{word_and_rest};
-ghost use Rattle.ecs_model.specs.Text.{trim_front};
 ghost use Rattle.script_explain.specs.Places.{IsWithin, text_behind};
 
 use crate::bytes::{blanks_at_start, word_len};
@@ -27,20 +26,11 @@ pub(crate) fn word_from(line: &[u8], from: usize) -> Part
     requires { from ≤ length line.now }
     ensures within { IsWithin line.now result }
     ensures ascends { from ≤ result.start }
+    ensures rest { drop result.end line.now ≡ (word_and_rest (drop from line.now)).1 }
 {
     let start = from + blanks_at_start(&line[from..]);
     let end = start + word_len(&line[start..]);
     Part { start, end }
-}
-
-/// Where the next word behind a place ends, or where the line ends.
-fn word_end(line: &[u8], from: usize) -> usize
-    requires { from ≤ length line.now }
-    ensures within { result ≤ length line.now }
-    ensures rest { drop result line.now ≡ (word_and_rest (drop from line.now)).1 }
-{
-    let start = from + blanks_at_start(&line[from..]);
-    start + word_len(&line[start..])
 }
 
 /// Where the text of a query begins, behind so many words of its line.
@@ -51,7 +41,7 @@ pub(crate) fn text_start(line: &[u8], words: usize) -> usize
     let mut at = 0;
     let mut left = words;
     while left > 0 {
-        at = word_end(line, at);
+        at = word_from(line, at).end;
         left -= 1;
     }
     at + blanks_at_start(&line[at..])

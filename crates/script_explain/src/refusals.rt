@@ -16,21 +16,17 @@ pub(crate) fn refusal_of(output: &[u8]) -> Option<Refusal<'_>> {
     let text = std::str::from_utf8(output).ok()?;
     let (number, rest) = text.strip_prefix("error ")?.split_once(' ')?;
     let line = number.parse::<usize>().ok()?;
-    match rest.split_once(' ') {
-        None => Some(Refusal {
-            line,
-            number,
-            kind: rest,
-            span: None,
-        }),
+    let (kind, span) = match rest.split_once(' ') {
+        None => (rest, None),
         Some((kind, span)) => {
             let (start, end) = span.split_once("..")?;
-            Some(Refusal {
-                line,
-                number,
-                kind,
-                span: Some((start.parse().ok()?, end.parse().ok()?)),
-            })
+            (kind, Some((start.parse().ok()?, end.parse().ok()?)))
         }
-    }
+    };
+    Some(Refusal {
+        line,
+        number,
+        kind,
+        span,
+    })
 }
