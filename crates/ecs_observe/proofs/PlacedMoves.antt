@@ -1,38 +1,17 @@
--- The moves of rows are made where they are kept, behind all others.
+-- Moves of rows stand behind all others, and are kept one after another from the last on.
 use Rattle.std.specs.Prelude.{◌≡◌, ℕ, ◌+◌, List, [], ◌∷◌, ◌++◌, Option, Some, length, map, slice_get, take}
 use Rattle.std.specs.declared.string.String.{String}
-use Rattle.std.proofs.Common.{refl, sym, subst, ap, ◌∙◌, arith, get_or, inl, inr}
+use Rattle.std.proofs.Common.{sym, subst, ◌∙◌, arith, get_or, inl, inr}
 use Rattle.std.proofs.Math.ListN.{set}
 use Rattle.std.proofs.lemmas.List.{take-set, take_all, take_more}
 use Rattle.watch_stored.specs.declared.moves.RowsAfter.{RowsAfter}
 use Rattle.watch_stored.specs.declared.stored.StoredQuery.{StoredQuery}
 use Rattle.watch_stored.specs.Held.{Held}
-use Rattle.ecs_observe.specs.Parts.{IsPut, held_of}
+use Rattle.watch_stored.specs.Parts.{IsPut}
+use Rattle.ecs_observe.specs.Parts.{held_of}
 use Rattle.ecs_observe.proofs.EventEffects.{ArePlacedUpTo, none_put_there, one_placed}
 
 module _ {X : Type 0} where
-  got_last : (xs : List X) (x d : X) → get_or (xs ++ x ∷ []) (length xs) d ≡ x
-  got_last [] x d = refl
-  got_last (y ∷ ys) x d = got_last ys x d
-
-  set_last : (xs : List X) (x y : X) → set (xs ++ x ∷ []) (length xs) y ≡ xs ++ y ∷ []
-  set_last [] x y = refl
-  set_last (z ∷ zs) x y = ap (λ ys. z ∷ ys) (set_last zs x y)
-
-  front_of : (xs : List X) (x : X) → take (length xs) (xs ++ x ∷ []) ≡ xs
-  front_of [] x = refl
-  front_of (y ∷ ys) x = ap (λ zs. y ∷ zs) (front_of ys x)
-
-  module _ (xs items : List X) (x : X) (i : ℕ) (last : i ≡ length xs) (is : items ≡ xs ++ x ∷ []) where
-    pub it_is : (d : X) → get_or items i d ≡ x
-    it_is d = (λ j. get_or (is j) (last j) d) ∙ got_last xs x d
-
-    pub written : (y : X) → set items i y ≡ xs ++ y ∷ []
-    written y = (λ j. set (is j) (last j) y) ∙ set_last xs x y
-
-    pub back : (y : X) (left : List X) (n : ℕ) → left ≡ take n (set items i y) → n ≡ i → left ≡ xs
-    back y left n front same = front ∙ (λ j. take (same j) (set items i y)) ∙ take-set items i y ∙ ((λ j. take (last j) (is j)) ∙ front_of xs x)
-
   -- what is left without the last, and that behind it
   pub split_last : (items left : List X) (i : ℕ) (x y : X) → i + 1 ≡ length items → x ≡ get_or items i x → (n : ℕ) → left ≡ take n (set items i y) → n ≡ i → left ++ x ∷ [] ≡ items
   split_last items left i x y all is n front same =

@@ -1,12 +1,12 @@
 -- What is seen of the parts of a session.
-use Rattle.std.specs.Prelude.{◌≡◌, ◌⊎◌, ℕ, zero, suc, List, [], ◌∷◌, ◌++◌, Option, None, Some, map}
+use Rattle.std.specs.Prelude.{◌≡◌, ℕ, zero, suc, List, [], ◌∷◌, Option, map}
 use Rattle.std.specs.declared.string.String.{String}
 use Rattle.std.specs.String.{string_bytes}
 use Rattle.watch_stored.specs.Held.{Held}
 use Rattle.ecs_observe.specs.Standing.{with_rows}
 use Rattle.watch_stored.specs.declared.moves.RowsAfter.{RowsAfter}
 use Rattle.watch_stored.specs.declared.stored.StoredQuery.{StoredQuery}
-use Rattle.watch_stored.specs.Parts.{held_as, kept_rows, with_kept}
+use Rattle.watch_stored.specs.Parts.{held_as, with_kept}
 
 -- a stored query under its name
 abbrev pub held_of : {A : Type 0} → String A × StoredQuery A → Held
@@ -22,10 +22,6 @@ with_kept_at (suc n) rows (e ∷ es) = e ∷ with_kept_at n rows es
 abbrev pub with_all_kept : {A : Type 0} → List (ℕ × RowsAfter A) → List (String A × StoredQuery A) → List (String A × StoredQuery A)
 with_all_kept [] es = es
 with_all_kept (p ∷ placed) es = with_kept_at p.0 p.1 (with_all_kept placed es)
-
--- behind others, each with its place, stands what is put of one more, unless nothing is
-abbrev pub IsPut : {A : Type 0} → Option (List ℕ) → ℕ → StoredQuery A → List (ℕ × RowsAfter A) → List (ℕ × RowsAfter A) → Type 0
-IsPut {A} put n q before after = ((put ≡ None) × (after ≡ before)) ⊎ ((rows : RowsAfter A) × ((put ≡ Some (kept_rows rows q.these).items) × (after ≡ before ++ (n, rows) ∷ [])))
 
 -- what is put, each behind the place of its query, is what is to be put of these stored queries, and no more
 abbrev pub ArePlaced : {A : Type 0} → (Held → Option (List ℕ)) → List (ℕ × RowsAfter A) → List (String A × StoredQuery A) → Type 0

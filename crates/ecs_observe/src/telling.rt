@@ -7,8 +7,8 @@ ghost use Rattle.ecs_model.specs.stored.Session.{after_events, events};
 ghost use Rattle.ecs_model.specs.stored.Watches.{event_text};
 ghost use Rattle.ecs_observe.specs.Following.{lists_of};
 ghost use Rattle.ecs_observe.specs.Lists.{KeepLists};
-ghost use Rattle.ecs_observe.specs.Parts.{ArePlaced, IsPut, held_of, with_all_kept, with_kept_at};
-ghost use Rattle.watch_stored.specs.Held.{IsHeld, WasNow, is_compared, is_searched, is_taken_whole, is_told_locally, rows_put, told_to};
+ghost use Rattle.ecs_observe.specs.Parts.{ArePlaced, held_of, with_all_kept, with_kept_at};
+ghost use Rattle.watch_stored.specs.Held.{IsHeld, WasNow, is_compared, is_searched, is_taken_whole, rows_put, told_to};
 ghost use Rattle.ecs_observe.specs.Standing.{has_searched, searched_in, session_of, taken_in};
 ghost use Rattle.ecs_observe.specs.Stored.{AreLedTo, IsStored, entries_of};
 ghost use Rattle.watch_stored.specs.Telling.{AreTouchedBy};
@@ -23,7 +23,7 @@ use query_local::Touched;
 use short_list::ShortNumbers;
 use std::alloc::{AllocError, Allocator};
 use watch_events::{Event, write_event};
-use watch_stored::{RowsAfter, StoredQuery, tell_compared, tell_uncompared};
+use watch_stored::{RowsAfter, tell_one};
 use watch_touched::touched;
 
 /// For so many events at most the session keeps the room in which they were told.
@@ -278,60 +278,11 @@ fn tell_all<A: Allocator + Copy>(
     for place in places {
         let place = *place as usize;
         if let Some((name, query)) = stored.get_index(place) {
-            tell_at(
+            tell_one(
                 alloc, world, changes, touched, place, name, query, room, rows, compared, events,
             )?;
         }
     }
-    Ok(())
-}
-
-/// Puts what the stored query at a place is told behind other events, and behind those of others the moves of its rows, unless they stay.
-fn tell_at<A: Allocator + Copy>(
-    alloc: A,
-    world: &World<A>,
-    changes: &Changes<A>,
-    touched: &[Touched<'_, A>],
-    place: usize,
-    name: &String<A>,
-    query: &StoredQuery<A>,
-    room: &mut AskingRoom<A>,
-    rows: &mut Vec<(usize, RowsAfter<A>), A>,
-    compared: &mut u64,
-    events: &mut Vec<Event<A>, A>,
-) -> Result<(), AllocError>
-    requires after { IsAfter world.now.state changes.now }
-    requires held { IsHeld world.now.state (held_of (name.now, query.now)) }
-    requires was { WasNow world.now.state changes.now (held_of (name.now, query.now)) }
-    requires touched { is_told_locally (held_of (name.now, query.now)) ≡ true → AreTouchedBy world.now.state changes.now touched.now }
-    ensures rows { OnOk result (IsPut (rows_put world.now.state changes.now (held_of (name.now, query.now))) place query.now rows.old.items rows.new.items) }
-    ensures told { OnOk result (events.new.items ≡ events.old.items ++ told_to world.now.state changes.now (held_of (name.now, query.now))) }
-    ensures compared { is_searched changes.now (held_of (name.now, query.now)) ≡ false → compared.new ≡ compared.old }
-    ensures counted { is_taken_whole changes.now (held_of (name.now, query.now)) ≡ true → OnOk result (compared.new ≡ min (compared.old + 1) 18446744073709551615) }
-    ensures grows { compared.old ≤ compared.new }
-    ensures few { compared.new ≤ compared.old + 1 }
-{
-    if !query.is_compared() {
-        return tell_uncompared(alloc, world, changes, touched, name, query, events);
-    }
-    // the moves are made where they are kept
-    rows.push((place, RowsAfter::new()))?;
-    let last = rows.len() - 1;
-    let put = tell_compared(
-        alloc,
-        world,
-        changes,
-        name,
-        query,
-        room,
-        compared,
-        events,
-        &mut rows[last].1,
-    )?;
-    if put {
-        return Ok(());
-    }
-    rows.pop();
     Ok(())
 }
 

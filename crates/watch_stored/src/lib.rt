@@ -4,15 +4,9 @@
 //! // what is held of a query that was read, as one of a kind
 //! let mut stored = stored_query(alloc, &world, kind, query, &mut compared)?;
 //!
-//! // after a command: its events, and of a monitor that is compared the moves of its rows if they don't stay
-//! if stored.is_compared() {
-//!     let mut rows = RowsAfter::new();
-//!     if tell_compared(alloc, &world, &changes, &name, &stored, &mut room, &mut compared, &mut events, &mut rows)? {
-//!         stored.keep(&mut rows);
-//!     }
-//! } else {
-//!     tell_uncompared(alloc, &world, &changes, &touched, &name, &stored, &mut events)?;
-//! }
+//! // after a command: its events, and the moves of its rows behind those of others, if they don't stay
+//! tell_one(alloc, &world, &changes, &touched, place, &name, &stored, &mut room, &mut rows, &mut compared, &mut events)?;
+//! stored.keep(&mut rows[0].1);
 //! ```
 #![tactic(auto)]
 
@@ -24,5 +18,5 @@ mod watched;
 
 pub use moves::RowsAfter;
 pub use stored::{JudgedPlan, StoredQuery, is_outgrown, is_told};
-pub use telling::{tell_compared, tell_uncompared};
+pub use telling::tell_one;
 pub use watched::{newest_table, stored_query};

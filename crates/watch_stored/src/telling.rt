@@ -4,7 +4,7 @@ ghost use Rattle.std.specs.Prelude.{◌≡◌, ◌+◌, ◌≤◌, ◌++◌, IfO
 ghost use Rattle.std.specs.String.{string_bytes};
 ghost use Rattle.ecs_print.specs.Stops.{StopsWithin};
 ghost use Rattle.watch_stored.specs.Moves.{AreNoMoves};
-ghost use Rattle.watch_stored.specs.Parts.{held_as, put_in};
+ghost use Rattle.watch_stored.specs.Parts.{IsPut, held_as, put_in};
 ghost use Rattle.watch_stored.specs.Held.{IsHeld, WasNow, is_compared, is_monitor, is_searched, is_taken_whole, is_told_locally, rows_put, told_to};
 ghost use Rattle.watch_stored.specs.Telling.{AreTouchedBy};
 ghost use Rattle.watch_concerns.specs.Since.{IsAfter};
@@ -17,10 +17,62 @@ use query_local::{Touched, local_told};
 use std::alloc::{AllocError, Allocator};
 use watch_events::{Audience, Event, Moves, may_tell, tell, tell_moves};
 
+/// Puts what the stored query at a place is told behind other events, and behind those of others the moves of its rows, unless they stay. Counts the whole rows taken.
+///
+/// Fails where memory is refused, and then the first of these events may stand behind the others.
+pub fn tell_one<A: Allocator + Copy>(
+    alloc: A,
+    world: &World<A>,
+    changes: &Changes<A>,
+    touched: &[Touched<'_, A>],
+    place: usize,
+    name: &String<A>,
+    query: &StoredQuery<A>,
+    room: &mut AskingRoom<A>,
+    rows: &mut Vec<(usize, RowsAfter<A>), A>,
+    compared: &mut u64,
+    events: &mut Vec<Event<A>, A>,
+) -> Result<(), AllocError>
+    requires after { IsAfter world.now.state changes.now }
+    requires held { IsHeld world.now.state (held_as (string_bytes name.now) query.now) }
+    requires was { WasNow world.now.state changes.now (held_as (string_bytes name.now) query.now) }
+    requires touched { is_told_locally (held_as (string_bytes name.now) query.now) ≡ true → AreTouchedBy world.now.state changes.now touched.now }
+    ensures rows { OnOk result (IsPut (rows_put world.now.state changes.now (held_as (string_bytes name.now) query.now)) place query.now rows.old.items rows.new.items) }
+    ensures told { OnOk result (events.new.items ≡ events.old.items ++ told_to world.now.state changes.now (held_as (string_bytes name.now) query.now)) }
+    ensures front { OnErr result (StopsWithin events.old.items events.new.items (told_to world.now.state changes.now (held_as (string_bytes name.now) query.now))) }
+    ensures compared { is_searched changes.now (held_as (string_bytes name.now) query.now) ≡ false → compared.new ≡ compared.old }
+    ensures counted { is_taken_whole changes.now (held_as (string_bytes name.now) query.now) ≡ true → OnOk result (compared.new ≡ min (compared.old + 1) 18446744073709551615) }
+    ensures grows { compared.old ≤ compared.new }
+    ensures few { compared.new ≤ compared.old + 1 }
+{
+    if !query.is_compared() {
+        return tell_uncompared(alloc, world, changes, touched, name, query, events);
+    }
+    // the moves are made where they are kept
+    rows.push((place, RowsAfter::new()))?;
+    let last = rows.len() - 1;
+    let put = tell_compared(
+        alloc,
+        world,
+        changes,
+        name,
+        query,
+        room,
+        compared,
+        events,
+        &mut rows[last].1,
+    )?;
+    if put {
+        return Ok(());
+    }
+    rows.pop();
+    Ok(())
+}
+
 /// Puts what a stored query is told behind other events, if it isn't a monitor whose query isn't local. Most observers are told nothing, which is asked first.
 ///
 /// Fails where memory is refused, and then the first of these events may stand behind the others.
-pub fn tell_uncompared<A: Allocator + Copy>(
+fn tell_uncompared<A: Allocator + Copy>(
     alloc: A,
     world: &World<A>,
     changes: &Changes<A>,
@@ -48,7 +100,7 @@ pub fn tell_uncompared<A: Allocator + Copy>(
 /// concerns its query. Counts the whole rows taken.
 ///
 /// Fails where memory is refused, and then the first of these events may stand behind the others.
-pub fn tell_compared<A: Allocator + Copy>(
+fn tell_compared<A: Allocator + Copy>(
     alloc: A,
     world: &World<A>,
     changes: &Changes<A>,

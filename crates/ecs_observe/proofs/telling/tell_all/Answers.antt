@@ -15,7 +15,7 @@ use Rattle.ecs_observe.proofs.PlacedMoves.{put_there}
 use Rattle.ecs_observe.proofs.PassedPlaces.{begin, put_here, told_all, told_none}
 use Rattle.ecs_observe.proofs.UnconcernedQueries.{others_silent}
 use Rattle.ecs_observe.proofs.telling.tell_all.Goals as goal
-use Rattle.ecs_observe.proofs.telling.tell_all.Goals.{in-Some+in_ok-tell_at, in_default}
+use Rattle.ecs_observe.proofs.telling.tell_all.Goals.{in-Some+in_ok-tell_one, in_default}
 
 pub loop-place-init : goal.loop-place-init
 loop-place-init g c =
@@ -33,21 +33,21 @@ loop-place-init g c =
       grows = omega arith;
     }
 
-pub tell_at-requires-clause-held : goal.tell_at-requires-clause-held
-tell_at-requires-clause-held g c =
+pub tell_one-requires-clause-held : goal.tell_one-requires-clause-held
+tell_one-requires-clause-held g c =
     all_at (IsHeld c.args.world.now.state) (entries_of c.args.stored.now) _ c.in-Some.name.now c.in-Some.query.now c.in-Some.ensures.entry c.requires.held
 
-pub tell_at-requires-clause-was : goal.tell_at-requires-clause-was
-tell_at-requires-clause-was g c =
+pub tell_one-requires-clause-was : goal.tell_one-requires-clause-was
+tell_one-requires-clause-was g c =
     all_at (WasNow c.args.world.now.state c.args.changes.now) (entries_of c.args.stored.now) _ c.in-Some.name.now c.in-Some.query.now c.in-Some.ensures.entry c.requires.was
 
-pub tell_at-requires-clause-touched : goal.tell_at-requires-clause-touched
-tell_at-requires-clause-touched g c = λ e.
+pub tell_one-requires-clause-touched : goal.tell_one-requires-clause-touched
+tell_one-requires-clause-touched g c = λ e.
     c.requires.touched (one_told_locally (entries_of c.args.stored.now) c.args.places.now c.loop-place.place-index 0 c.in-Some.name.now c.in-Some.query.now (omega arith) c.in-Some.ensures.entry e)
 
-pub returns-in_err-tell_at-clause-compared : goal.returns-in_err-tell_at-clause-compared
-returns-in_err-tell_at-clause-compared g c = λ none.
-    c.tell_at.ensures.compared (none_at (entries_of c.args.stored.now) _ c.in-Some.name.now c.in-Some.query.now c.in-Some.ensures.entry (is_searched c.args.changes.now) none)
+pub returns-in_err-tell_one-clause-compared : goal.returns-in_err-tell_one-clause-compared
+returns-in_err-tell_one-clause-compared g c = λ none.
+    c.tell_one.ensures.compared (none_at (entries_of c.args.stored.now) _ c.in-Some.name.now c.in-Some.query.now c.in-Some.ensures.entry (is_searched c.args.changes.now) none)
     ∙ c.loop-place.invariant.compared none
 
 pub loop-place-preserved : goal.loop-place-preserved
@@ -73,23 +73,23 @@ loop-place-preserved g c =
     let before = c.loop-place.compared in
     let after = c.match-get_index.compared in
     elim c.match-get_index.branch [
-      | in-Some+in_ok-tell_at b ↦
+      | in-Some+in_ok-tell_one b ↦
           let q = b.in-Some.query.now in
           let one = held_as (string_bytes b.in-Some.name.now) q in
           let there = held_at es p b.in-Some.name.now q b.in-Some.ensures.entry in
-          let few : after ≤ before + 1 = omega (arith, b.compared-is, b.in_ok-tell_at.ensures.few) in
-          let grows : before ≤ after = omega (arith, b.compared-is, b.in_ok-tell_at.ensures.grows) in
+          let few : after ≤ before + 1 = omega (arith, b.compared-is, b.in_ok-tell_one.ensures.few) in
+          let grows : before ≤ after = omega (arith, b.compared-is, b.in_ok-tell_one.ensures.grows) in
           record {
             told = here one there held_low c.loop-place.events.items (c.loop-place.rows.items, before) c.loop-place.invariant.told c.match-get_index.events.items (c.match-get_index.rows.items, after)
-                (ap (λ v. v.items) b.events-is ∙ b.in_ok-tell_at.ensures.told)
+                (ap (λ v. v.items) b.events-is ∙ b.in_ok-tell_one.ensures.told)
                 (λ so. (
                   subst (ArePlacedUpTo put es (p + 1)) (sym (ap (λ v. v.items) b.rows-is))
-                      (put_there put es p c.loop-place.rows.items b.tell_at.new.rows.items b.in-Some.name.now q so.0 there b.in-Some.ensures.entry b.in_ok-tell_at.ensures.rows),
-                  one_more searched taken hs counted p before after one there grows few (λ spared. b.compared-is ∙ b.in_ok-tell_at.ensures.compared spared) (λ whole. b.compared-is ∙ b.in_ok-tell_at.ensures.counted whole) so.1,
+                      (put_there put es p c.loop-place.rows.items b.tell_one.new.rows.items b.in-Some.name.now q so.0 there b.in-Some.ensures.entry b.in_ok-tell_one.ensures.rows),
+                  one_more searched taken hs counted p before after one there grows few (λ spared. b.compared-is ∙ b.in_ok-tell_one.ensures.compared spared) (λ whole. b.compared-is ∙ b.in_ok-tell_one.ensures.counted whole) so.1,
                 ));
             compared = λ none. b.compared-is
-                ∙ (b.in_ok-tell_at.ensures.compared (none_at es p b.in-Some.name.now q b.in-Some.ensures.entry (is_searched changed) none) ∙ c.loop-place.invariant.compared none);
-            grows = omega (arith, b.compared-is, b.in_ok-tell_at.ensures.grows, c.loop-place.invariant.grows);
+                ∙ (b.in_ok-tell_one.ensures.compared (none_at es p b.in-Some.name.now q b.in-Some.ensures.entry (is_searched changed) none) ∙ c.loop-place.invariant.compared none);
+            grows = omega (arith, b.compared-is, b.in_ok-tell_one.ensures.grows, c.loop-place.invariant.grows);
           }
       | in_default b ↦ absurd (true≢false (sym (c.get_index.ensures.found.1 low) ∙ ap is_some b.in_default.is))
     ]

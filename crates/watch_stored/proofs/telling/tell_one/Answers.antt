@@ -2,12 +2,13 @@ use Rattle.std.specs.Prelude.{◌++◌, ◌∷◌, ◌-◌, [], length}
 use Rattle.std.proofs.Common.{◌≡◌, ap, arith, inl, inr, refl, subst, sym, ◌∙◌}
 use Rattle.std.proofs.lemmas.List.{length-append, length-set}
 use Rattle.std.proofs.lemmas.Result.{on_ok_weaker}
-use Rattle.ecs_observe.specs.Parts.{held_of}
+use Rattle.std.specs.String.{string_bytes}
+use Rattle.ecs_print.proofs.Stops.{on_err_anyway, stops_before}
 use Rattle.watch_stored.specs.Moves.{AreNoMoves}
-use Rattle.watch_stored.specs.Parts.{put_in}
+use Rattle.watch_stored.specs.Parts.{held_as, put_in}
 use Rattle.watch_stored.proofs.StayingRows.{isnt_searched, none_put, spared_isnt_taken}
-use Rattle.ecs_observe.proofs.PlacedMoves.{back, it_is, written}
-use Rattle.ecs_observe.proofs.telling.tell_at.Goals as goal
+use Rattle.watch_stored.proofs.PlacedMoves.{back, it_is, written}
+use Rattle.watch_stored.proofs.telling.tell_one.Goals as goal
 
 -- ---- who isn't compared
 
@@ -18,14 +19,14 @@ pub returns-then-not-is_compared-clause-rows : goal.returns-then-not-is_compared
 returns-then-not-is_compared-clause-rows g c =
     let w = c.args.world.now.state in
     let changed = c.args.changes.now in
-    let h = held_of (c.args.name.now, c.args.query.now) in
+    let h = held_as (string_bytes c.args.name.now) c.args.query.now in
     let none = sym (none_put w changed h (isnt_searched changed h (sym c.is_compared.ensures ∙ c.if-not-is_compared.true))) in
     on_ok_weaker c.tell_uncompared.result (λ e. inl (none, refl)) c.tell_uncompared.ensures.told
 
 pub returns-then-not-is_compared-clause-counted : goal.returns-then-not-is_compared-clause-counted
 returns-then-not-is_compared-clause-counted g c = λ whole.
     let changed = c.args.changes.now in
-    let h = held_of (c.args.name.now, c.args.query.now) in
+    let h = held_as (string_bytes c.args.name.now) c.args.query.now in
     absurd (spared_isnt_taken changed h (isnt_searched changed h (sym c.is_compared.ensures ∙ c.if-not-is_compared.true)) whole)
 
 -- ---- who is
@@ -38,6 +39,9 @@ tell_compared-requires-clause-none g c =
     let before = c.args.rows.now.items in
     let last : c.len-last.result - 1 ≡ length before = omega (arith, ap length c.in_ok-push.ensures.items, length-append before ((c.args.place, c.new.result) ∷ [])) in
     subst (λ p. AreNoMoves p.1) (sym (c.index_mut.ensures.value ∙ it_is before c.push.new.self.items (c.args.place, c.new.result) (c.len-last.result - 1) last c.in_ok-push.ensures.items c.index_mut.result.now)) c.new.ensures
+
+pub returns-in_err-push-clause-front : goal.returns-in_err-push-clause-front
+returns-in_err-push-clause-front g c = on_err_anyway _ (stops_before _ _)
 
 pub returns-then-put-clause-rows : goal.returns-then-put-clause-rows
 returns-then-put-clause-rows g c =
