@@ -1,22 +1,21 @@
-//! Chunks, compared with the rows of a query as they print.
+//! Chunks and rows, compared with the rows of a query as they print.
 
 ghost use Rattle.std.specs.Prelude.{IsTrue};
 ghost use Rattle.query_chunks.specs.Asked.{has_chunks};
 
 use crate::kept::tables_in;
-use crate::lines::{expect, expect_rows, write_entity, write_fact, write_value};
+use crate::numbers::{Sum, expect, sum_of, with, with_fact, with_name, with_value};
 use crate::rows::compare_rows;
-use crate::worked::{add_all, first_at};
-use crate::worlds::new_world;
+use crate::worked::{Base, fill};
+use crate::worlds::{add_all, first_at, name_all, new_world};
 use ecs_id::Id;
 use ecs_model::built_ins::{DISABLED, PREFAB};
 use ecs_model::faults::CommandError;
-use ecs_schema::{Kind, Schema};
 use ecs_world::World;
 use query_check::Query;
 use query_chunks::{Chunk, Chunks, Column, has_chunks};
 use query_model::faults::QueryFault;
-use std::alloc::{AllocError, Global};
+use std::alloc::Global;
 use std::process::Abort;
 use std::test::Fail;
 use world_query::{read_query, write_rows};
@@ -62,159 +61,118 @@ const QUERIES: [(&str, usize); 12] = [
     ),
 ];
 
-fn make(alloc: Global, world: &mut World) -> Result<(), Fail> {
-    let plane = Schema::new(alloc, &[("x", Kind::I32), ("y", Kind::I32)])?;
-    drop(world.component("Position", plane)?);
-    let number = Schema::new(alloc, &[("value", Kind::U64)])?;
-    drop(world.component("Mass", number)?);
-    for name in &[
+/// Entities with a position, a mass and tags, of which one is disabled and one a prefab.
+const WORLD: Base = Base {
+    components: &["Position", "Mass"],
+    names: &[
         "Frozen", "Likes", "Sun", "Earth", "Moon", "Rock", "Ghost", "Mold",
-    ] {
-        drop(world.entity(name)?);
-    }
-    Ok(())
-}
-
-fn fill(world: &mut World) -> Result<(), CommandError> {
-    let facts = [
-        (MOON, MASS, None),
+    ],
+    facts: &[
         (EARTH, FROZEN, None),
         (EARTH, LIKES, Some(SUN)),
         (ROCK, FROZEN, None),
         (GHOST, DISABLED, None),
         (MOLD, PREFAB, None),
-    ];
-    add_all(world, &facts)?;
-    drop(world.set(first_at(MOON), Id::plain(MASS), &[7])?);
-    for (entity, x) in &[(SUN, 1), (EARTH, 2), (MOON, -3), (GHOST, 4), (MOLD, 5)] {
-        drop(world.set(first_at(*entity), Id::plain(POSITION), &[*x, 10])?);
-    }
-    Ok(())
-}
+    ],
+    values: &[
+        ((MOON, MASS, None), [7, 70]),
+        ((SUN, POSITION, None), [1, 10]),
+        ((EARTH, POSITION, None), [2, 10]),
+        ((MOON, POSITION, None), [-3, 10]),
+        ((GHOST, POSITION, None), [4, 10]),
+        ((MOLD, POSITION, None), [5, 10]),
+    ],
+    replaced: &[],
+};
 
 /// Leaves tables without rows behind, and one that is released with the id of its entity.
 fn leave_tables(world: &mut World) -> Result<(), CommandError> {
-    drop(world.entity("Gone")?);
-    drop(world.add(first_at(ROCK), Id::plain(MASS))?);
+    name_all(world, &["Gone"])?;
+    add_all(world, &[(ROCK, MASS, None), (SUN, GONE, None)])?;
     drop(world.remove(first_at(ROCK), Id::plain(MASS))?);
-    drop(world.add(first_at(SUN), Id::plain(GONE))?);
     drop(world.delete(first_at(GONE))?);
     Ok(())
 }
 
-/// Writes the field of an entity in a row of a column.
-fn write_column(
-    alloc: Global,
-    world: &World,
-    entity: u32,
-    row: usize,
-    column: &Column<'_>,
-    lines: &mut String,
-) -> Result<(), AllocError> {
+/// The number of a row that goes on with the field of its entity in a column.
+fn with_column(number: u64, world: &World, column: &Column<'_>, entity: u32, row: usize) -> u64 {
     match column {
-        Column::Unset => return lines.push_str(" [-]"),
-        Column::Id(id) => write_fact(world, *id, entity, lines)?,
+        Column::Unset => with(number, b" [-]"),
+        Column::Id(id) => with(with_fact(number, world, *id, entity), b"]"),
         Column::Values(id, schema, bytes) => {
             let value = bytes.chunks_exact(schema.size()).nth(row).unwrap_or(&[]);
-            write_fact(world, *id, entity, lines)?;
-            write_value(alloc, schema, value, lines)?;
+            let fact = with_fact(number, world, *id, entity);
+            with(with_value(fact, schema, value), b"]")
         }
     }
-    lines.push_str("]")
 }
 
-fn write_row(
-    alloc: Global,
-    world: &World,
-    chunk: &Chunk<'_>,
-    row: usize,
-    entity: u32,
-    lines: &mut String,
-) -> Result<(), AllocError> {
-    lines.push_str("row")?;
-    write_entity(world, "this", entity, lines)?;
-    for number in 0..64 {
-        let Some(column) = chunk.column(number) else {
+fn row_number(world: &World, chunk: &Chunk<'_>, entity: u32, row: usize) -> u64 {
+    let mut number = with_name(with(0, b"row $this="), world, entity);
+    for place in 0..64 {
+        let Some(column) = chunk.column(place) else {
             break;
         };
-        let written = write_column(alloc, world, entity, row, &column, lines);
+        number = with_column(number, world, &column, entity, row);
         drop(column);
-        written?;
     }
-    lines.push_str("\n")
+    number
 }
 
-fn write_chunk(
-    alloc: Global,
-    world: &World,
-    chunk: &Chunk<'_>,
-    lines: &mut String,
-) -> Result<(), AllocError> {
+/// Adds the rows of a chunk.
+fn add_chunk(world: &World, chunk: &Chunk<'_>, sum: &mut Sum) {
     for (row, entity) in chunk.entities().iter().enumerate() {
-        write_row(alloc, world, chunk, row, entity.index, lines)?;
+        let number = row_number(world, chunk, entity.index, row);
+        *sum = (sum.0.saturating_add(1), sum.1.wrapping_add(number));
     }
-    Ok(())
 }
 
-/// Writes the rows of the chunks to come.
-fn write_chunks(
-    alloc: Global,
-    world: &World,
-    chunks: &mut Chunks<'_>,
-    lines: &mut String,
-) -> Result<(), AllocError> {
+/// Takes the chunks to come.
+fn sum_chunks(world: &World, chunks: &mut Chunks<'_>) -> Sum {
+    let mut sum = (0, 0);
     for _ in 0..1000 {
         let Some(chunk) = chunks.next_chunk() else {
             break;
         };
-        let written = write_chunk(alloc, world, &chunk, lines);
+        add_chunk(world, &chunk, &mut sum);
         drop(chunk);
-        written?;
     }
-    Ok(())
+    sum
 }
 
-/// The rows of the chunks are those that a query prints. Behind the last there is none.
-fn compare(rt: &impl Abort, alloc: Global, world: &World, chunks: &mut Chunks<'_>, printed: &str) {
-    let mut lines = String::new(alloc);
-    let written = write_chunks(alloc, world, chunks, &mut lines);
-    expect_rows(rt, lines.as_str(), printed);
-    drop(lines);
-    assert!(rt; written.is_ok());
-    assert!(rt; chunks.next_chunk().is_none());
-}
-
-/// The same of the chunks from the tables that are kept for a query.
-fn compare_kept(rt: &impl Abort, alloc: Global, world: &World, query: &Query, printed: &str)
+/// The rows of the chunks from the tables that are kept for a query.
+fn kept_sum(rt: &impl Abort, alloc: Global, world: &World, query: &Query) -> Sum
     requires { IsTrue (has_chunks query.now) }
 {
     let tables = tables_in(rt, alloc, world, query);
     let mut chunks = Chunks::start_in(world, query, tables.as_slice());
-    compare(rt, alloc, world, &mut chunks, printed);
+    let sum = sum_chunks(world, &mut chunks);
     drop(chunks);
     drop(tables);
+    sum
 }
 
-/// The same of all chunks of a query, if it has any, and of those from the tables that are kept for it. Whether it has.
-fn compare_query(
+/// Whether a query has chunks. If so, their rows are those that are printed, also from the tables that are kept for it.
+fn compare_chunks(
     rt: &impl Abort,
     alloc: Global,
     world: &World,
     query: &Query,
-    printed: &str,
+    printed: Sum,
 ) -> bool {
     if !has_chunks(query) {
         return false;
     }
     let mut chunks = Chunks::start(world, query);
-    compare(rt, alloc, world, &mut chunks, printed);
+    let sum = sum_chunks(world, &mut chunks);
     drop(chunks);
-    compare_kept(rt, alloc, world, query, printed);
+    assert!(rt; sum == printed);
+    assert!(rt; kept_sum(rt, alloc, world, query) == printed);
     true
 }
 
-/// The chunks of a query, if it has any, have the rows that it prints. Whether it has.
-pub(crate) fn compare_chunks(
+/// The rows of a query, one at a time and in chunks, are those that it prints. Whether it has chunks.
+pub(crate) fn compare(
     rt: &impl Abort,
     alloc: Global,
     world: &World,
@@ -222,7 +180,9 @@ pub(crate) fn compare_chunks(
     printed: &str,
 ) -> bool {
     let query = read_query(alloc, world, text).expect(rt, "it is no query");
-    let chunked = compare_query(rt, alloc, world, &query, printed);
+    let printed = sum_of(printed);
+    compare_rows(rt, alloc, world, &query, text, printed);
+    let chunked = compare_chunks(rt, alloc, world, &query, printed);
     drop(query);
     chunked
 }
@@ -238,21 +198,19 @@ fn print(
     write_rows(alloc, world, query, printed).or(Err(QueryFault::Memory))
 }
 
-/// A query has as many rows as are wanted, and its chunks have those that it prints.
+/// A query has as many rows as are wanted, and these come in each way.
 fn try_query(rt: &impl Abort, alloc: Global, world: &World, text: &str, wanted: usize) {
     let mut printed = Vec::new(alloc);
     let done = print(alloc, world, text, &mut printed);
     let lines = str::from_utf8(printed.as_slice()).unwrap_or("");
     expect(rt, lines.lines().count() == wanted.saturating_add(1), text);
-    expect(rt, compare_chunks(rt, alloc, world, text, lines), text);
-    compare_rows(rt, alloc, world, text, lines);
+    expect(rt, compare(rt, alloc, world, text, lines), text);
     drop(printed);
     assert!(rt; done == Ok(()));
 }
 
 fn try_all(rt: &impl Abort, alloc: Global, world: &mut World) -> Result<(), Fail> {
-    make(alloc, world)?;
-    fill(world)?;
+    fill(alloc, world, &WORLD)?;
     for (text, wanted) in &QUERIES {
         try_query(rt, alloc, world, text, *wanted);
     }

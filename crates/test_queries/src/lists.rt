@@ -4,11 +4,8 @@ ghost use Rattle.std.specs.Prelude.{IfOk};
 ghost use Rattle.query_cache.specs.Kept.{Fits};
 ghost use Rattle.table_store.specs.Going.{TablesGoOn};
 
-use crate::commands::{add_all, component, name_all};
-use crate::worked::first_at;
-use crate::worlds::new_world;
+use crate::worlds::{add_all, component, first_at, name_all, new_world};
 use ecs_id::Id;
-use ecs_model::FactKey;
 use ecs_model::faults::CommandError;
 use ecs_world::World;
 use query_cache::Kept;
@@ -84,13 +81,9 @@ fn follow_query(
 }
 
 fn follow_text(rt: &impl Abort, alloc: Global, world: &mut World) -> Result<(), Fail> {
-    component(world, alloc, "Position")?;
+    component(alloc, world, "Position")?;
     name_all(world, &["Planet", "Hot", "Earth"])?;
-    let facts = [
-        FactKey::new(EARTH, Id::plain(POSITION)),
-        FactKey::new(EARTH, Id::plain(PLANET)),
-    ];
-    add_all(world, &facts)?;
+    add_all(world, &[(EARTH, POSITION, None), (EARTH, PLANET, None)])?;
     let query = read_query(alloc, world, "Position, Planet")?;
     let done = follow_query(rt, alloc, world, &query);
     drop(query);

@@ -6,21 +6,13 @@
 #[cfg(test)]
 mod chunks;
 #[cfg(test)]
-mod columns;
-#[cfg(test)]
-mod commands;
-#[cfg(test)]
-mod diamond;
-#[cfg(test)]
-mod growths;
-#[cfg(test)]
 mod judging;
 #[cfg(test)]
 mod kept;
 #[cfg(test)]
-mod lines;
-#[cfg(test)]
 mod lists;
+#[cfg(test)]
+mod numbers;
 #[cfg(test)]
 mod orders;
 #[cfg(test)]

@@ -1,13 +1,14 @@
 //! Whatever order the steps of a plan have, its rows are the same.
 //!
 //! Each item is taken in each way, and the steps of a group stay in it, as they do in every plan. Plans of more than six steps (those with two
-//! groups) are tried in the ways of plain terms alone, since in all six they have 186,624 orders.
+//! groups) are tried in the ways of plain terms alone, since in all six they have 186,624 orders. With each query one plan is tried that the planner
+//! doesn't choose, where it is one: each entity, and then the test of the only term.
 
 ghost use Rattle.std.specs.Prelude.{◌≡◌, ◌+◌, ◌<◌, ◌≤◌, length};
 ghost use Rattle.ecs_model.specs.rows.View.{view_of};
 ghost use Rattle.world_query.specs.Answerable.{IsAnswerable, IsAsked};
 
-use crate::lines::expect;
+use crate::numbers::expect;
 use crate::worked::WorkedRow;
 use ecs_world::World;
 use query_check::Query;
@@ -26,6 +27,9 @@ const PLAIN_MODES: usize = 3;
 
 /// Plans of more steps than these have more orders than can be tried, so their items, which are plain terms, are taken in the ways of these alone.
 const FEW_STEPS: usize = 6;
+
+/// Each entity, and then the test of the only term.
+const BY_EACH: [Step; 2] = [Step::Every(0), Step::Deal(Mode::Check, 0)];
 
 /// A query in a world, and the rows that it should give.
 #[derive(Clone, Copy)]
@@ -147,7 +151,7 @@ fn piece_at(steps: &[Step], at: usize, end: usize) -> usize
     }
 }
 
-/// How many orders of the planner's steps are plans, if all of these give the same rows, which are written after others.
+/// How many orders of the planner's steps are plans, and the steps by each entity, if all of these give the same rows, which are written after others.
 fn plans_of(
     alloc: Global,
     world: &World,
@@ -164,10 +168,16 @@ fn plans_of(
     let mut steps = copied?;
     let rows = rows.as_slice();
     let tried = Tried { world, query, rows };
+    let by_each = tried.runs(alloc, &BY_EACH);
     let plans = tried.all_run(alloc, steps.as_mut_slice(), 0);
     drop(steps);
     written?;
-    plans
+    Ok(both(by_each?, plans?))
+}
+
+/// How many there are together, if all are known.
+fn both(one: Option<usize>, other: Option<usize>) -> Option<usize> {
+    Some(one?.saturating_add(other?))
 }
 
 /// How many orders of the steps of a row's plan are plans, if all of these give the rows that are printed, and else 0.
@@ -182,14 +192,16 @@ fn plans_of_row(alloc: Global, world: &World, row: &WorkedRow) -> Result<usize, 
     Ok(if is_printed { plans } else { 0 })
 }
 
-/// All orders give what the worked row prints.
+/// All orders give what the worked row prints, if they can be tried.
 pub(crate) fn try_orders(
     rt: &impl Abort,
     alloc: Global,
     world: &World,
     row: &WorkedRow,
 ) -> Result<(), Fail> {
-    let plans = plans_of_row(alloc, world, row)?;
-    expect(rt, row.plans <= plans, row.query);
+    if row.plans > 0 {
+        let plans = plans_of_row(alloc, world, row)?;
+        expect(rt, row.plans <= plans, row.query);
+    }
     Ok(())
 }

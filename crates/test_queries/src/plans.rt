@@ -1,7 +1,7 @@
 //! Steps of a few queries, with the answers that rules written apart from the code give.
 
 use crate::ask;
-use crate::lines::expect;
+use crate::numbers::expect;
 use query_meaning::Mode::{Above, Check, Scan, Targets};
 use query_meaning::PlanRefusal::{MissingItem, RepeatedItem, UnboundMode};
 use query_meaning::Step::{Deal, Enter, Every, Leave};

@@ -9,8 +9,7 @@ ghost use Rattle.world_facts.specs.Shown.{Shown, reading_of};
 ghost use Rattle.world_query.specs.Answerable.{IsAsked, table_counts};
 
 use crate::runs::run_text;
-use crate::worked::first_at;
-use crate::worlds::new_world;
+use crate::worlds::{first_at, name_all, new_world};
 use ecs_id::Id;
 use ecs_model::faults::CommandError;
 use ecs_world::World;
@@ -86,7 +85,7 @@ const FIRST: u32 = 66;
 
 fn make_fresh(world: &mut World, count: u32) -> Result<(), CommandError> {
     for _ in 0..count {
-        world.fresh()?;
+        drop(world.fresh()?);
     }
     Ok(())
 }
@@ -98,21 +97,20 @@ fn tag_each(world: &mut World, from: u32, end: u32) -> Result<(), CommandError>
 {
     for tag in from..end {
         let entity = first_at(tag + 2000);
-        world.add(entity, Id::plain(C))?;
-        world.add(entity, Id::plain(tag))?;
+        drop(world.add(entity, Id::plain(C))?);
+        drop(world.add(entity, Id::plain(tag))?);
     }
     Ok(())
 }
 
 /// A run of a thousand million rows is given up after three. Of 2,000 tables with C, the one that has U is judged.
 fn expect_few(rt: &impl Abort, alloc: Global, world: &mut World) -> Result<(), Fail> {
-    world.entity("C")?;
-    world.entity("U")?;
+    name_all(world, &["C", "U"])?;
     make_fresh(world, 4000)?;
     tag_each(world, FIRST, FIRST + 1000)?;
     assert!(rt; run_text(rt, alloc, world, "C($a), C($b), C($c)", 3)? == 3);
     tag_each(world, FIRST + 1000, FIRST + 2000)?;
-    world.add(first_at(FIRST + 2007), Id::plain(U))?;
+    drop(world.add(first_at(FIRST + 2007), Id::plain(U))?);
     assert!(rt; run_text(rt, alloc, world, "C, U", 10)? == 1);
     let probes = probes_of_text(rt, alloc, world, "C, U", 10)?;
     assert!(rt; probes > 0 && probes <= 2);

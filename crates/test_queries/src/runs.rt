@@ -8,10 +8,9 @@ ghost use Rattle.whole_rows.specs.WholeRows.{Fits};
 ghost use Rattle.query_meaning.specs.Names.{GoesUpWithoutCycles};
 ghost use Rattle.world_query.specs.Answerable.{IsAsked};
 
-use crate::lines::expect;
+use crate::numbers::expect;
 use crate::worked::WorkedRow;
 use ecs_world::World;
-use plan_fields::ShownFact;
 use plan_steps::Facts;
 use query_check::Query;
 use query_plan::Plan;
@@ -23,42 +22,6 @@ use whole_rows::laws::rising_queries_start;
 use whole_rows::{Row, RowFrames, RowRun};
 use world_facts::WorldFacts;
 use world_query::{plan_in, read_query};
-
-/// A number that tells numbers in their order.
-fn with(number: u64, next: u64) -> u64 {
-    number.wrapping_mul(1_000_003).wrapping_add(next)
-}
-
-fn with_field(number: u64, field: Option<ShownFact>) -> u64 {
-    match field {
-        None => with(number, 0),
-        Some(shown) => with(with(number, u64::from(shown.source)), shown.id.packed()),
-    }
-}
-
-/// A number that tells the entities and the fields of a row.
-fn row_number(row: &Row) -> u64 {
-    let mut number: u64 = 1;
-    for entity in row.entities() {
-        number = with(number, u64::from(*entity));
-    }
-    for field in row.fields() {
-        number = with_field(number, *field);
-    }
-    number
-}
-
-/// A number that tells the live entities, and the ids of each.
-fn facts_number(world: &World) -> u64 {
-    let mut number: u64 = 1;
-    for entity in world.live() {
-        number = with(number, entity.packed());
-        for id in world.ids_of(entity).unwrap_or(&[]) {
-            number = with(number, id.packed());
-        }
-    }
-    number
-}
 
 /// Pulls rows until so many came or none is to come, and answers how many came.
 fn pull<F: Facts, A: Allocator>(run: &mut RowRun<'_, F, A>, row: &mut Row, most: usize) -> usize
@@ -74,16 +37,7 @@ fn pull<F: Facts, A: Allocator>(run: &mut RowRun<'_, F, A>, row: &mut Row, most:
     most
 }
 
-/// Whether no row comes after the end, twice, and the row stays as it was.
-fn stays_at_end<F: Facts, A: Allocator>(run: &mut RowRun<'_, F, A>, row: &mut Row) -> bool
-    requires fits { Fits row.old run.old }
-{
-    let before = row_number(row);
-    let more = run.next_into(row) || run.next_into(row);
-    !more && row_number(row) == before
-}
-
-/// Pulls as `pull` does, and after the end twice more.
+/// Pulls as `pull` does, and at the end once more: no row comes.
 fn pull_past_end<F: Facts, A: Allocator>(
     rt: &impl Abort,
     run: &mut RowRun<'_, F, A>,
@@ -93,9 +47,7 @@ fn pull_past_end<F: Facts, A: Allocator>(
     requires fits { Fits row.old run.old }
 {
     let rows = pull(run, row, most);
-    if rows < most {
-        assert!(rt; stays_at_end(run, row));
-    }
+    assert!(rt; rows == most || pull(run, row, 1) == 0);
     rows
 }
 
@@ -167,19 +119,17 @@ pub(crate) fn run_text(
     Ok(run_query(rt, alloc, world, query, most)?)
 }
 
-/// A run of a worked row gives as many rows as are printed, is given up after each number of them, and leaves the facts as they were.
+/// A run of a worked row gives as many rows as are printed, and is given up after each number of them.
 pub(crate) fn give_up_anywhere(
     rt: &impl Abort,
     alloc: Global,
     world: &World,
     row: &WorkedRow,
 ) -> Result<(), Fail> {
-    let before = facts_number(world);
     let rows = row.answer.lines().count().saturating_sub(1);
     for most in 0..rows.saturating_add(2) {
         let came = run_text(rt, alloc, world, row.query, most)?;
         expect(rt, came == most.min(rows), row.query);
     }
-    assert!(rt; facts_number(world) == before);
     Ok(())
 }

@@ -1,11 +1,8 @@
 //! Who stands above an entity, and whom a stored query keeps alive.
-use crate::commands::{add_all, component, name_all};
 use crate::searches::{first_above, first_five, leads};
-use crate::worked::first_at;
-use crate::worlds::new_world;
+use crate::worked::{Base, fill};
+use crate::worlds::{first_at, new_world};
 use component_index::{Part, Pattern};
-use ecs_id::Id;
-use ecs_model::FactKey;
 use ecs_model::built_ins::{CHILD_OF, IS_A};
 use ecs_model::faults::{CommandError, Refusal};
 use ecs_world::{Changes, World};
@@ -14,7 +11,7 @@ use std::alloc::{AllocError, Global};
 use std::process::Abort;
 use std::test::Fail;
 
-/// The component, and then the entities in the order of `NAMES`.
+/// The component, and then the entities in the order of their names.
 const POSITION: u32 = 64;
 
 const PLANET: u32 = 65;
@@ -33,24 +30,23 @@ const C: u32 = 71;
 
 const D: u32 = 72;
 
-const NAMES: [&str; 8] = ["Planet", "Sun", "Earth", "Moon", "A", "B", "C", "D"];
-
 /// The Earth is a child of the Sun, and the Moon one of the Earth; the first two have a Position. B and C are A, and D is both.
-fn fill(alloc: Global, world: &mut World) -> Result<(), CommandError> {
-    component(world, alloc, "Position")?;
-    name_all(world, &NAMES)?;
-    let facts = [
-        FactKey::new(SUN, Id::plain(POSITION)),
-        FactKey::new(EARTH, Id::plain(POSITION)),
-        FactKey::new(EARTH, Id::pair(CHILD_OF, SUN)),
-        FactKey::new(MOON, Id::pair(CHILD_OF, EARTH)),
-        FactKey::new(B, Id::pair(IS_A, A)),
-        FactKey::new(C, Id::pair(IS_A, A)),
-        FactKey::new(D, Id::pair(IS_A, B)),
-        FactKey::new(D, Id::pair(IS_A, C)),
-    ];
-    add_all(world, &facts)
-}
+const WORLD: Base = Base {
+    components: &["Position"],
+    names: &["Planet", "Sun", "Earth", "Moon", "A", "B", "C", "D"],
+    facts: &[
+        (SUN, POSITION, None),
+        (EARTH, POSITION, None),
+        (EARTH, CHILD_OF, Some(SUN)),
+        (MOON, CHILD_OF, Some(EARTH)),
+        (B, IS_A, Some(A)),
+        (C, IS_A, Some(A)),
+        (D, IS_A, Some(B)),
+        (D, IS_A, Some(C)),
+    ],
+    values: &[],
+    replaced: &[],
+};
 
 fn search(rt: &impl Abort, world: &World, scratch: &mut Scratch) -> Result<(), AllocError> {
     scratch.reserve(world.links().size())?;
@@ -91,7 +87,7 @@ fn search_and_delete(
     world: &mut World,
     scratch: &mut Scratch,
 ) -> Result<(), Fail> {
-    fill(alloc, world)?;
+    fill(alloc, world, &WORLD)?;
     search(rt, world, scratch)?;
     delete_pinned(rt, world)?;
     Ok(())

@@ -1,37 +1,32 @@
 //! Worked rows: a world, a query, and what it prints. Runs and all orders of a plan are tried with each.
 //!
-//! They are those of `tests/rows` on values, diamonds, parents, variables, groups and alternatives, and one more with sibling groups that find somebody.
-//! Of the components there `Position` is one here too, so its fields show values, and tags stand in place of the others.
+//! They are those of `tests/rows` on values, diamonds, parents, variables, groups, alternatives, instances, many terms and indexes that come again,
+//! and one more with sibling groups that find somebody. Of the components there those that show values are components here too, and tags stand in place of the others.
 
-ghost use Rattle.std.specs.Prelude.{IfOk};
-ghost use Rattle.ecs_id.specs.Id.{IsIndex};
-
-use crate::chunks::compare_chunks;
+use crate::chunks::compare;
 use crate::orders::try_orders;
-use crate::rows::compare_rows;
 use crate::runs::give_up_anywhere;
-use crate::worlds::new_world;
-use ecs_id::{EntityId, Id, LAST_INDEX};
-use ecs_model::built_ins::{CHILD_OF, DISABLED, IS_A};
-use ecs_model::faults::{CommandError, Refusal};
-use ecs_schema::{Kind, Schema};
+use crate::worlds::{Fact, add_all, component, name_all, new_world, replace_all, set_all};
+use ecs_model::built_ins::{
+    CHILD_OF, DISABLED, DONT_INHERIT, INHERIT, IS_A, ON_INSTANTIATE, PREFAB,
+};
+use ecs_model::faults::CommandError;
 use ecs_world::World;
-use std::alloc::{AllocError, Global};
+use std::alloc::Global;
 use std::process::Abort;
 use std::test::Fail;
 
-/// An entity, and what it gets: a tag, or a relationship and a target. All by their indexes.
-pub(crate) type Fact = (u32, u32, Option<u32>);
-
 /// The entities of a world, by name, and the facts with which several rows begin.
 #[derive(Clone, Copy)]
-struct Base {
-    /// A component whose values are two numbers. It comes before the entities.
-    component: Option<&'static str>,
-    names: &'static [&'static str],
-    facts: &'static [Fact],
-    /// Who has a position other than that of the origin.
-    positions: &'static [(u32, [i128; 2])],
+pub(crate) struct Base {
+    /// Components whose values are two numbers. They come before the entities.
+    pub(crate) components: &'static [&'static str],
+    pub(crate) names: &'static [&'static str],
+    pub(crate) facts: &'static [Fact],
+    /// Facts with other values than zeros.
+    pub(crate) values: &'static [(Fact, [i128; 2])],
+    /// Who goes then, and two others come.
+    pub(crate) replaced: &'static [u32],
 }
 
 /// A query in a world, and what it prints there.
@@ -41,7 +36,7 @@ pub(crate) struct WorkedRow {
     more: &'static [Fact],
     pub(crate) query: &'static str,
     pub(crate) answer: &'static str,
-    /// How many orders of its plan's steps are plans, at least.
+    /// How many orders of its plan's steps are plans, at least. None is tried where this is 0.
     pub(crate) plans: usize,
 }
 
@@ -57,23 +52,37 @@ const EARTH: u32 = 68;
 
 const MOON: u32 = 69;
 
+const SKY_NAMES: [&str; 5] = ["Planet", "Likes", "Sun", "Earth", "Moon"];
+
+const SKY_FACTS: [Fact; 5] = [
+    (EARTH, CHILD_OF, Some(SUN)),
+    (MOON, CHILD_OF, Some(EARTH)),
+    (SUN, POSITION, None),
+    (EARTH, POSITION, None),
+    (EARTH, PLANET, None),
+];
+
 /// Earth is a child of Sun, and Moon of Earth; Sun and Earth have a position.
 const SKY: Base = Base {
-    component: Some("Position"),
-    names: &["Planet", "Likes", "Sun", "Earth", "Moon"],
-    facts: &[
-        (EARTH, CHILD_OF, Some(SUN)),
-        (MOON, CHILD_OF, Some(EARTH)),
-        (SUN, POSITION, None),
-        (EARTH, POSITION, None),
-        (EARTH, PLANET, None),
-    ],
-    positions: &[(EARTH, [10, -3])],
+    components: &["Position"],
+    names: &SKY_NAMES,
+    facts: &SKY_FACTS,
+    values: &[((EARTH, POSITION, None), [10, -3])],
+    replaced: &[],
+};
+
+/// The sun has gone, and with it the earth and the moon. Two others have come to their indexes.
+const EMPTY_SKY: Base = Base {
+    components: &["Position"],
+    names: &SKY_NAMES,
+    facts: &SKY_FACTS,
+    values: &[],
+    replaced: &[SUN],
 };
 
 /// B and C are A, and D is both.
-const DIAMOND: Base = Base {
-    component: None,
+pub(crate) const DIAMOND: Base = Base {
+    components: &[],
     names: &["A", "B", "C", "D"],
     facts: &[
         (65, IS_A, Some(64)),
@@ -81,13 +90,54 @@ const DIAMOND: Base = Base {
         (67, IS_A, Some(65)),
         (67, IS_A, Some(66)),
     ],
-    positions: &[],
+    values: &[],
+    replaced: &[],
 };
+
+/// A box holds a weight: a pair has the values of its target's type, as its relationship has none.
+const BOX: Base = Base {
+    components: &["Weight"],
+    names: &["Holds", "Box"],
+    facts: &[],
+    values: &[((66, 65, Some(64)), [7, 1])],
+    replaced: &[],
+};
+
+/// A ship with a hull, a mass and fuel, of which an instance is read to have the hull, copies the mass, and has no fuel.
+const SHIP: Base = Base {
+    components: &["Mass", "Fuel"],
+    names: &["Hull", "Ship", "One"],
+    facts: &[
+        (66, ON_INSTANTIATE, Some(INHERIT)),
+        (65, ON_INSTANTIATE, Some(DONT_INHERIT)),
+        (67, PREFAB, None),
+        (67, 66, None),
+    ],
+    values: &[((67, 64, None), [9, 1]), ((67, 65, None), [5, 1])],
+    replaced: &[],
+};
+
+/// The instance of the ship.
+const INSTANCE: [Fact; 1] = [(68, IS_A, Some(67))];
 
 /// Whom a query finds by two groups that each have a variable of their own.
 const SIBLINGS: &str = "Position, !{ (Likes,$x), Planet($x) }, !{ (ChildOf,$x), Position($x) }";
 
-const ROWS: [WorkedRow; 27] = [
+/// A query of 32 equal terms, and its row, with a field for each.
+const PLANETS: &str = "\
+Planet, Planet, Planet, Planet, Planet, Planet, Planet, Planet, \
+Planet, Planet, Planet, Planet, Planet, Planet, Planet, Planet, \
+Planet, Planet, Planet, Planet, Planet, Planet, Planet, Planet, \
+Planet, Planet, Planet, Planet, Planet, Planet, Planet, Planet";
+
+const PLANETS_ROW: &str = "row $this=Earth \
+[Planet@Earth] [Planet@Earth] [Planet@Earth] [Planet@Earth] [Planet@Earth] [Planet@Earth] [Planet@Earth] \
+[Planet@Earth] [Planet@Earth] [Planet@Earth] [Planet@Earth] [Planet@Earth] [Planet@Earth] [Planet@Earth] \
+[Planet@Earth] [Planet@Earth] [Planet@Earth] [Planet@Earth] [Planet@Earth] [Planet@Earth] [Planet@Earth] \
+[Planet@Earth] [Planet@Earth] [Planet@Earth] [Planet@Earth] [Planet@Earth] [Planet@Earth] [Planet@Earth] \
+[Planet@Earth] [Planet@Earth] [Planet@Earth] [Planet@Earth]\nrows 1\n";
+
+const ROWS: [WorkedRow; 35] = [
     WorkedRow {
         base: SKY,
         more: &[],
@@ -121,7 +171,7 @@ const ROWS: [WorkedRow; 27] = [
         more: &[],
         query: "IsA(D,$x)",
         answer: "row $x=A [(IsA,A)@D]\nrow $x=B [(IsA,B)@D]\nrow $x=C [(IsA,C)@D]\nrow $x=D [(IsA,D)@D]\nrows 4\n",
-        plans: 1,
+        plans: 2,
     },
     WorkedRow {
         base: DIAMOND,
@@ -285,70 +335,79 @@ const ROWS: [WorkedRow; 27] = [
         answer: "rows 0\n",
         plans: 1,
     },
+    WorkedRow {
+        base: BOX,
+        more: &[],
+        query: "(Holds,Weight)",
+        answer: "row $this=Box [(Holds,Weight)@Box=7,1]\nrows 1\n",
+        plans: 1,
+    },
+    WorkedRow {
+        base: BOX,
+        more: &[],
+        query: "[none] (Holds,Weight)",
+        answer: "row $this=Box [(Holds,Weight)@Box]\nrows 1\n",
+        plans: 1,
+    },
+    WorkedRow {
+        base: SHIP,
+        more: &INSTANCE,
+        query: "Mass",
+        answer: "row $this=One [Mass@One=9,1]\nrows 1\n",
+        plans: 1,
+    },
+    WorkedRow {
+        base: SHIP,
+        more: &INSTANCE,
+        query: "Hull",
+        answer: "row $this=One [Hull@Ship]\nrows 1\n",
+        plans: 1,
+    },
+    WorkedRow {
+        base: SHIP,
+        more: &INSTANCE,
+        query: "Hull(self)",
+        answer: "rows 0\n",
+        plans: 1,
+    },
+    WorkedRow {
+        base: SHIP,
+        more: &INSTANCE,
+        query: "Fuel",
+        answer: "rows 0\n",
+        plans: 1,
+    },
+    WorkedRow {
+        base: SKY,
+        more: &[],
+        query: PLANETS,
+        answer: PLANETS_ROW,
+        plans: 0,
+    },
+    WorkedRow {
+        base: EMPTY_SKY,
+        more: &[],
+        query: "Position",
+        answer: "rows 0\n",
+        plans: 1,
+    },
 ];
 
-/// The entity that first stands at an index.
-pub(crate) fn first_at(index: u32) -> EntityId {
-    EntityId {
-        index,
-        generation: 0,
+/// Makes the entities of a world, with their facts, and replaces some.
+pub(crate) fn fill(alloc: Global, world: &mut World, base: &Base) -> Result<(), CommandError> {
+    for name in base.components {
+        component(alloc, world, name)?;
     }
-}
-
-/// An index that an entity can have. At any other there is no live one.
-fn index_in_range(index: u32) -> Result<u32, CommandError>
-    ensures { IfOk result IsIndex }
-{
-    if index == 0 || index > LAST_INDEX {
-        return Err(CommandError::Refused(Refusal::Dead));
-    }
-    Ok(index)
-}
-
-fn id_of(first: u32, target: Option<u32>) -> Result<Id, CommandError> {
-    let first = index_in_range(first)?;
-    let Some(target) = target else {
-        return Ok(Id::plain(first));
-    };
-    let target = index_in_range(target)?;
-    Ok(Id::pair(first, target))
-}
-
-pub(crate) fn add_all(world: &mut World, facts: &[Fact]) -> Result<(), CommandError> {
-    for (entity, first, target) in facts {
-        let id = id_of(*first, *target)?;
-        drop(world.add(first_at(*entity), id)?);
-    }
-    Ok(())
-}
-
-/// Makes the component of a row's world, if it has one.
-fn make_component(alloc: Global, world: &mut World, name: Option<&str>) -> Result<(), Fail> {
-    if let Some(name) = name {
-        let plane = Schema::new(alloc, &[("x", Kind::I32), ("y", Kind::I32)])?;
-        drop(world.component(name, plane)?);
-    }
-    Ok(())
-}
-
-/// Makes the entities of a row's world, with their facts.
-fn fill(world: &mut World, row: &WorkedRow) -> Result<(), CommandError> {
-    for name in row.base.names {
-        drop(world.entity(name)?);
-    }
-    add_all(world, row.base.facts)?;
-    add_all(world, row.more)?;
-    for (entity, position) in row.base.positions {
-        drop(world.set(first_at(*entity), Id::plain(POSITION), position)?);
-    }
-    Ok(())
+    name_all(world, base.names)?;
+    add_all(world, base.facts)?;
+    set_all(world, base.values)?;
+    replace_all(world, base.replaced)
 }
 
 fn try_row(rt: &impl Abort, alloc: Global, world: &mut World, row: &WorkedRow) -> Result<(), Fail> {
-    make_component(alloc, world, row.base.component)?;
-    fill(world, row)?;
-    compare_chunks(rt, alloc, world, row.query, row.answer);
-    compare_rows(rt, alloc, world, row.query, row.answer);
+    fill(alloc, world, &row.base)?;
+    add_all(world, row.more)?;
+    compare(rt, alloc, world, row.query, row.answer);
     give_up_anywhere(rt, alloc, world, row)?;
     try_orders(rt, alloc, world, row)
 }
@@ -362,53 +421,4 @@ fn worked_rows_come_in_each_way_and_are_given_up_anywhere(rt: HostRuntime) -> Re
         done?;
     }
     Ok(())
-}
-
-/// How many terms a query has that names one thing again and again.
-const MANY: usize = 32;
-
-/// A text that begins, goes on in the same way for each further term, and ends.
-fn repeated(alloc: Global, first: &str, next: &str, last: &str) -> Result<String, AllocError> {
-    let mut text = String::new(alloc);
-    text.push_str(first)?;
-    for _ in 1..MANY {
-        text.push_str(next)?;
-    }
-    text.push_str(last)?;
-    Ok(text)
-}
-
-/// A field comes for each of many equal terms.
-fn compare_many_terms(rt: &impl Abort, alloc: Global, world: &World) {
-    let text = repeated(alloc, "Planet", ", Planet", "").expect(rt, "out of memory");
-    let first = "row $this=Earth [Planet@Earth]";
-    let row = repeated(alloc, first, " [Planet@Earth]", "\nrows 1\n").expect(rt, "out of memory");
-    compare_rows(rt, alloc, world, text.as_str(), row.as_str());
-    drop(row);
-    drop(text);
-}
-
-/// The sun goes, and with it the earth and the moon; two others come to their indexes.
-fn replace_sun(world: &mut World) -> Result<(), CommandError> {
-    drop(world.delete(first_at(SUN))?);
-    drop(world.fresh()?);
-    drop(world.fresh()?);
-    Ok(())
-}
-
-fn try_sky(rt: &impl Abort, alloc: Global, world: &mut World) -> Result<(), Fail> {
-    make_component(alloc, world, SKY.component)?;
-    fill(world, &ROWS[0])?;
-    compare_many_terms(rt, alloc, world);
-    replace_sun(world)?;
-    compare_rows(rt, alloc, world, "Position", "rows 0\n");
-    Ok(())
-}
-
-#[test]
-fn rows_of_many_terms_come_and_those_of_the_dead_do_not(rt: HostRuntime) -> Result<(), Fail> {
-    let mut world = new_world(&rt)?;
-    let done = try_sky(&rt, rt.alloc(), &mut world);
-    drop(world);
-    done
 }

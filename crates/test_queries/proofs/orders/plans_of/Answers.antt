@@ -18,3 +18,6 @@ write_planned_rows-written-requires c =
 
 pub all_run-plans-requires-clause-answerable : goal.all_run-plans-requires-clause-answerable
 all_run-plans-requires-clause-answerable c = answerable c.args.world.now.state c.args.query.now c.keeps.ensures c.requires
+
+pub runs-by_each-requires : goal.runs-by_each-requires
+runs-by_each-requires c = answerable c.args.world.now.state c.args.query.now c.keeps.ensures c.requires
