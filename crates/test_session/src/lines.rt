@@ -7,6 +7,7 @@ use ecs_id::{EntityId, Id, LAST_INDEX};
 use ecs_model::faults::{Refusal, SessionRefusal};
 use ecs_model::watches::StoredKind;
 use ecs_observe::{Command, EntityRef, Event, IdRef, Session, SessionError, write_event};
+use ecs_print::write_handle_line;
 use ecs_schema::{Kind, Schema};
 use std::alloc::{AllocError, Allocator};
 use std::hash::RandomState;
@@ -155,21 +156,29 @@ pub(crate) fn carry_out<A: Allocator + Copy>(
 }
 
 /// Writes of an answer a new entity that has no name, or why a line is refused.
-fn print_answer<A: Allocator + Copy>(
+pub(crate) fn print_answer<A: Allocator + Copy>(
     alloc: A,
     line: Line,
     answer: Answer,
     out: &mut Vec<u8, A>,
 ) -> Result<(), AllocError> {
-    let text = match (line, answer) {
-        (Line::Fresh, Ok(Some(born))) => {
-            format!(in alloc; "#{}.{}\n", born.index, born.generation)?
-        }
-        (_, Ok(_)) => return Ok(()),
-        (_, Err(SessionError::Refused(refusal))) => format!(in alloc; "error {refusal:?}\n")?,
-        (_, Err(SessionError::Memory)) => return Err(AllocError),
-    };
-    out.extend_from_slice(text.as_bytes())
+    match (line, answer) {
+        (Line::Fresh, Ok(Some(born))) => write_handle_line(born, out),
+        (_, Ok(_)) => Ok(()),
+        (_, Err(SessionError::Refused(refusal))) => print_refusal(alloc, refusal, out),
+        (_, Err(SessionError::Memory)) => Err(AllocError),
+    }
+}
+
+fn print_refusal<A: Allocator + Copy>(
+    alloc: A,
+    refusal: SessionRefusal,
+    out: &mut Vec<u8, A>,
+) -> Result<(), AllocError> {
+    let text = format!(in alloc; "error {refusal:?}\n")?;
+    let written = out.extend_from_slice(text.as_bytes());
+    drop(text);
+    written
 }
 
 /// Carries out lines with ample memory, and writes what they print.

@@ -4,6 +4,7 @@ ghost use Rattle.ecs_observe.specs.Following.{IsUpToDateAt};
 
 use crate::lines::{Line, Named, new_session, print_lines};
 use crate::scripts::{EARTH, HOT, KEPT_QUERY, MOON, PLANET, POSITION};
+use ecs_id::Id;
 use ecs_model::faults::SessionRefusal;
 use ecs_model::watches::StoredKind;
 use ecs_observe::{Session, SessionError};
@@ -50,14 +51,26 @@ fn judged(rt: &impl Abort, session: &Session, name: &str) -> u64 {
     judged.unwrap_or(0)
 }
 
+/// The values of all entities of a table are set at once, where no stored query is a watch.
+fn expect_column(rt: &impl Abort, alloc: Global, session: &mut Session) -> Result<(), Fail> {
+    let mut tables = Vec::new(alloc);
+    session.kept_tables("k", &mut tables)?;
+    let key = tables.first().expect(rt, "no table is kept").key();
+    drop(tables);
+    let set = session.set_column(key, Id::plain(POSITION), &[1, 0, 0, 0, 255, 255, 255, 255]);
+    assert!(rt; set.is_ok());
+    Ok(())
+}
+
 /// A `rows` line judges the tables that came, and none where none came; a list that isn't asked for judges none.
 fn expect_judged(rt: &impl Abort, alloc: Global, session: &mut Session) -> Result<(), Fail> {
     run(alloc, session, KEPT_QUERY.base)?;
-    run(alloc, session, &STORED)?;
+    run(alloc, session, &STORED[..2])?;
     assert!(rt; judged(rt, session, "k") == 0);
     run(alloc, session, &ROWS)?;
     let first = judged(rt, session, "k");
     assert!(rt; first > 0);
+    expect_column(rt, alloc, session)?;
     run(alloc, session, &ROWS)?;
     assert!(rt; judged(rt, session, "k") == first);
     run(alloc, session, &HEATED)?;
@@ -80,14 +93,12 @@ fn each_table_is_judged_once(rt: HostRuntime) -> Result<(), Fail> {
     done
 }
 
-/// There is no list of a name that nothing has, nor of a monitor's.
-fn expect_no_list(rt: &impl Abort, alloc: Global, session: &mut Session, name: &str) {
-    let refusal = SessionRefusal::UnknownQuery;
-    assert!(rt; session.judged(name) == Err(refusal));
+/// There is no list of a monitor's name.
+fn expect_no_list(rt: &impl Abort, alloc: Global, session: &mut Session) {
+    let refused = Err(SessionError::Refused(SessionRefusal::UnknownQuery));
     let mut tables = Vec::new(alloc);
-    let told = session.kept_tables(name, &mut tables);
-    assert!(rt; told == Err(SessionError::Refused(refusal)));
-    assert!(rt; session.sync_kept(name) == Err(SessionError::Refused(refusal)));
+    assert!(rt; session.kept_tables("m", &mut tables) == refused);
+    assert!(rt; session.sync_kept("m") == refused);
 }
 
 /// Takes in the entities of the rows to come.
@@ -153,8 +164,7 @@ fn expect_probes(rt: &impl Abort, alloc: Global, session: &mut Session) -> Resul
 fn expect_listed(rt: &impl Abort, alloc: Global, session: &mut Session) -> Result<(), Fail> {
     run(alloc, session, KEPT_QUERY.base)?;
     run(alloc, session, &STORED)?;
-    expect_no_list(rt, alloc, session, "nobody");
-    expect_no_list(rt, alloc, session, "m");
+    expect_no_list(rt, alloc, session);
     expect_rows(rt, alloc, session, &[EARTH])?;
     run(alloc, session, &HEATED)?;
     expect_rows(rt, alloc, session, &[EARTH])?;

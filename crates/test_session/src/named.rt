@@ -24,9 +24,24 @@ const CHILD_OF_SUN: IdRef = IdRef::Pair {
 /// The entity that is made after the component and the sun.
 const THIRD: u32 = 66;
 
-fn handle(index: u32, generation: u16) -> EntityRef<'static> {
-    EntityRef::Handle(EntityId { index, generation })
-}
+const FIRST: EntityRef = EntityRef::Handle(EntityId {
+    index: THIRD,
+    generation: 0,
+});
+
+/// The one that is made after that one was deleted.
+const AGAIN: EntityId = EntityId {
+    index: THIRD,
+    generation: 1,
+};
+
+/// Facts that name nobody, or one who died: where a fact does both, the dead is told.
+const REFUSED: [(EntityRef, IdRef, Refusal); 4] = [
+    (NOBODY, POSITION, Refusal::UnknownName),
+    (SUN, IdRef::Plain(NOBODY), Refusal::UnknownName),
+    (FIRST, POSITION, Refusal::Dead),
+    (NOBODY, IdRef::Plain(FIRST), Refusal::Dead),
+];
 
 fn refused(refusal: Refusal) -> Result<Answer, SessionError> {
     Err(SessionError::Refused(SessionRefusal::OfWorld(refusal)))
@@ -45,6 +60,10 @@ fn expect_done(rt: &impl Abort, session: &mut Session, command: Command<'_>) {
     expect(rt, session, command, Ok(Answer::Done));
 }
 
+fn expect_born(rt: &impl Abort, session: &mut Session, command: Command<'_>, born: EntityId) {
+    expect(rt, session, command, Ok(Answer::Born(born)));
+}
+
 fn add(entity: EntityRef<'static>, id: IdRef<'static>) -> Command<'static> {
     Command::Add { entity, id }
 }
@@ -53,71 +72,59 @@ fn add(entity: EntityRef<'static>, id: IdRef<'static>) -> Command<'static> {
 fn expect_facts(rt: &impl Abort, alloc: Global, session: &mut Session) -> Result<(), Fail> {
     let schema = Schema::new(alloc, &[("x", Kind::I32)])?;
     let name = "Position";
-    let born = |index| Ok(Answer::Born(first_at(index)));
-    expect(rt, session, Command::Component { name, schema }, born(64));
-    expect(rt, session, Command::Entity { name: "Sun" }, born(65));
-    expect(rt, session, Command::New, born(THIRD));
+    expect_born(
+        rt,
+        session,
+        Command::Component { name, schema },
+        first_at(64),
+    );
+    expect_born(rt, session, Command::Entity { name: "Sun" }, first_at(65));
+    expect_born(rt, session, Command::New, first_at(THIRD));
     let (entity, id) = (SUN, POSITION);
     let values = &[3];
     expect_done(rt, session, Command::Set { entity, id, values });
-    expect_done(rt, session, add(handle(THIRD, 0), CHILD_OF_SUN));
-    let (entity, id) = (handle(THIRD, 0), CHILD_OF_SUN);
+    expect_done(rt, session, add(FIRST, CHILD_OF_SUN));
+    let (entity, id) = (FIRST, CHILD_OF_SUN);
     expect_done(rt, session, Command::Remove { entity, id });
     expect_done(rt, session, Command::Delete { entity });
     Ok(())
 }
 
-/// A name of nobody, a handle of one who died, and both: then the handle is told.
+/// Who died stays dead when another comes to the index.
 fn expect_refusals(rt: &impl Abort, session: &mut Session) {
-    let dead = handle(THIRD, 0);
-    let next = EntityId {
-        index: THIRD,
-        generation: 1,
-    };
-    expect(rt, session, Command::New, Ok(Answer::Born(next)));
-    expect(
-        rt,
-        session,
-        add(NOBODY, POSITION),
-        refused(Refusal::UnknownName),
-    );
-    expect(
-        rt,
-        session,
-        add(SUN, IdRef::Plain(NOBODY)),
-        refused(Refusal::UnknownName),
-    );
-    expect(rt, session, add(dead, POSITION), refused(Refusal::Dead));
-    expect(
-        rt,
-        session,
-        add(NOBODY, IdRef::Plain(dead)),
-        refused(Refusal::Dead),
-    );
-    let delete = Command::Delete { entity: dead };
+    expect_born(rt, session, Command::New, AGAIN);
+    for (entity, id, refusal) in &REFUSED {
+        expect(rt, session, add(*entity, *id), refused(*refusal));
+    }
+    let delete = Command::Delete { entity: FIRST };
     expect(rt, session, delete, refused(Refusal::Dead));
     let delete = Command::Delete { entity: NOBODY };
     expect(rt, session, delete, refused(Refusal::UnknownName));
 }
 
-/// While events wait, that is told of a command whatever it names.
+/// While events wait, each command is refused; once they were told, it is carried out.
 fn expect_watched(rt: &impl Abort, session: &mut Session) -> Result<(), Fail> {
-    let (kind, name, text) = (StoredKind::OnAdd, "a", "*");
+    let (kind, name, text) = (StoredKind::Monitor, "a", "Position");
     expect_done(rt, session, Command::Store { kind, name, text });
-    expect_done(rt, session, add(handle(THIRD, 1), POSITION));
+    expect_done(rt, session, add(EntityRef::Handle(AGAIN), POSITION));
     let pending = Err(SessionError::Refused(SessionRefusal::EventsPending));
-    expect(rt, session, add(NOBODY, POSITION), pending);
-    expect(rt, session, Command::Drop { name }, pending);
+    expect(
+        rt,
+        session,
+        add(EntityRef::Handle(AGAIN), CHILD_OF_SUN),
+        pending,
+    );
     let told = session.events()?;
     assert!(rt; told.len() == 1);
     drop(told);
+    expect_done(rt, session, add(EntityRef::Handle(AGAIN), CHILD_OF_SUN));
+    drop(session.events()?);
     expect_done(rt, session, Command::Drop { name });
-    let unknown = Err(SessionError::Refused(SessionRefusal::UnknownQuery));
-    expect(rt, session, Command::Drop { name }, unknown);
     Ok(())
 }
 
-fn expect_all(rt: &impl Abort, alloc: Global, session: &mut Session) -> Result<(), Fail> {
+/// Entities are named by names and by handles, in commands and where events wait.
+fn expect_named(rt: &impl Abort, alloc: Global, session: &mut Session) -> Result<(), Fail> {
     expect_facts(rt, alloc, session)?;
     expect_refusals(rt, session);
     expect_watched(rt, session)
@@ -126,7 +133,7 @@ fn expect_all(rt: &impl Abort, alloc: Global, session: &mut Session) -> Result<(
 #[test]
 fn commands_name_entities(rt: HostRuntime) -> Result<(), Fail> {
     let mut session = new_session(&rt)?;
-    let done = expect_all(&rt, rt.alloc(), &mut session);
+    let done = expect_named(&rt, rt.alloc(), &mut session);
     drop(session);
     done
 }

@@ -58,7 +58,7 @@ const SYSTEM: [Line; 11] = [
 ];
 
 /// What the others stand on, by itself.
-pub(crate) const SYSTEM_ALONE: Script = Script {
+const SYSTEM_ALONE: Script = Script {
     base: &[],
     lines: &SYSTEM,
     output: Some(SILENT),
@@ -101,7 +101,7 @@ error OfWorld(InUse)
 };
 
 /// The worked script monitor-through-parents.
-pub(crate) const MONITOR_OF_PARENTS: Script = Script {
+const MONITOR_OF_PARENTS: Script = Script {
     base: &SYSTEM,
     lines: &[
         Line::Store(StoredKind::Monitor, "m", "Position(up)"),
@@ -115,7 +115,7 @@ pub(crate) const MONITOR_OF_PARENTS: Script = Script {
 };
 
 /// A monitor of which few entities are asked: whole rows are taken when it is stored, and not again.
-pub(crate) const ASKING_MONITOR: Script = Script {
+const ASKING_MONITOR: Script = Script {
     base: &SYSTEM,
     lines: &[
         Line::Entity("Hot"),
@@ -135,7 +135,7 @@ pub(crate) const ASKING_MONITOR: Script = Script {
 };
 
 /// A monitor of which all rows are taken, since whoever lives may be in them.
-pub(crate) const WHOLE_ROWS: Script = Script {
+const WHOLE_ROWS: Script = Script {
     base: &SYSTEM,
     lines: &[
         Line::Store(StoredKind::Monitor, "m", "!Position(up)"),
@@ -157,7 +157,7 @@ leave m Moon
 };
 
 /// The worked script local-monitor-tells-once.
-pub(crate) const LOCAL_MONITOR: Script = Script {
+const LOCAL_MONITOR: Script = Script {
     base: &SYSTEM,
     lines: &[
         Line::Store(StoredKind::Monitor, "m", "Position, !Planet"),
@@ -173,7 +173,7 @@ pub(crate) const LOCAL_MONITOR: Script = Script {
 };
 
 /// A local monitor that is told of a new entity.
-pub(crate) const NEW_ENTITY: Script = Script {
+const NEW_ENTITY: Script = Script {
     base: &SYSTEM,
     lines: &[
         Line::Store(StoredKind::Monitor, "n", "!Planet"),
@@ -215,7 +215,7 @@ leave m Sun
 };
 
 /// The worked script delete-parents-and-reuse-indexes.
-pub(crate) const DELETED_PARENTS: Script = Script {
+const DELETED_PARENTS: Script = Script {
     base: &SYSTEM,
     lines: &[
         Line::Delete(SUN),
@@ -230,7 +230,7 @@ pub(crate) const DELETED_PARENTS: Script = Script {
 };
 
 /// The worked script stored-query-names.
-pub(crate) const QUERY_NAMES: Script = Script {
+const QUERY_NAMES: Script = Script {
     base: &SYSTEM,
     lines: &[
         Line::Store(StoredKind::Kept, "k", "Planet"),
@@ -261,7 +261,7 @@ const SHIP: u32 = 67;
 const ONE: u32 = 68;
 
 /// The worked script with-and-event-observers.
-pub(crate) const OBSERVERS: Script = Script {
+const OBSERVERS: Script = Script {
     base: &[],
     lines: &[
         Line::Component("Mass", &[("kg", Kind::U8)]),
@@ -296,7 +296,7 @@ const BOB: u32 = 66;
 const CY: u32 = 67;
 
 /// The worked script symmetric-exclusive-replacement.
-pub(crate) const MARRIAGES: Script = Script {
+const MARRIAGES: Script = Script {
     base: &[],
     lines: &[
         Line::Entity("Married"),
@@ -313,7 +313,7 @@ pub(crate) const MARRIAGES: Script = Script {
 };
 
 /// The worked script instance-copies-and-inherits: the facts of a base come with it.
-pub(crate) const INSTANCES: Script = Script {
+const INSTANCES: Script = Script {
     base: &[],
     lines: &[
         Line::Component("Mass", &[("kg", Kind::U8)]),
@@ -337,7 +337,7 @@ pub(crate) const INSTANCES: Script = Script {
 };
 
 /// In a new session the next index needs room.
-pub(crate) const FIRST_ENTITY: Script = Script {
+const FIRST_ENTITY: Script = Script {
     base: &[],
     lines: &[
         Line::New,
@@ -349,7 +349,7 @@ pub(crate) const FIRST_ENTITY: Script = Script {
 };
 
 /// Each call of a session that has a query of each kind, and a monitor that asks ancestors.
-pub(crate) const EACH_CALL: Script = Script {
+const EACH_CALL: Script = Script {
     base: &SYSTEM,
     lines: &[
         Line::Store(StoredKind::Kept, "k", "Position, Planet"),
@@ -377,7 +377,7 @@ pub(crate) const EACH_CALL: Script = Script {
 };
 
 /// A second query of each kind after the first ones.
-pub(crate) const SECOND_QUERIES: Script = Script {
+const SECOND_QUERIES: Script = Script {
     base: &[
         Line::Component("Position", &[("x", Kind::I32)]),
         Line::Store(StoredKind::Kept, "k", "Position"),
@@ -395,3 +395,50 @@ pub(crate) const SECOND_QUERIES: Script = Script {
     ],
     output: None,
 };
+
+const TAG: u32 = 65;
+
+const VESSEL: u32 = 66;
+
+const HOLDS: u32 = 67;
+
+/// An exclusive pair with a value takes the place of another.
+const REPLACED_PAIR: Script = Script {
+    base: &[],
+    lines: &[
+        Line::Component("Position", &[("x", Kind::I32)]),
+        Line::Entity("Tag"),
+        Line::Entity("Vessel"),
+        Line::Entity("Holds"),
+        Line::Add(HOLDS, Named::Plain(EXCLUSIVE)),
+        Line::Set(VESSEL, Named::Plain(POSITION), &[7]),
+        Line::Add(VESSEL, Named::Pair(HOLDS, TAG)),
+        Line::Set(VESSEL, Named::Pair(HOLDS, POSITION), &[8]),
+        Line::Store(StoredKind::Kept, "k", "(Holds,*), Position"),
+        Line::Rows("k"),
+    ],
+    output: Some(Output {
+        text: b"row $this=Vessel [(Holds,Position)@Vessel=8] [Position@Vessel=7]\nrows 1\n",
+        compared: 0,
+    }),
+};
+
+/// All scripts in which memory is refused.
+pub(crate) const SCRIPTS: [Script; 16] = [
+    SYSTEM_ALONE,
+    MARRIAGES,
+    DELETED_PARENTS,
+    INSTANCES,
+    REPLACED_PAIR,
+    FIRST_ENTITY,
+    QUERY_NAMES,
+    SECOND_QUERIES,
+    KEPT_QUERY,
+    OBSERVERS,
+    LOCAL_MONITOR,
+    NEW_ENTITY,
+    MONITOR_OF_PARENTS,
+    ASKING_MONITOR,
+    WHOLE_ROWS,
+    EACH_CALL,
+];

@@ -205,7 +205,12 @@ fn a_script_without_end_is_too_long_after_its_output(rt: HostRuntime) -> Result<
 /// What is written where so many bytes of the script with deletions were read.
 fn told_after(count: usize) -> &'static [u8] {
     let read = DELETIONS.get(..count).unwrap_or(DELETIONS);
-    let lines = read.iter().filter(|byte| **byte == b'\n').count();
+    let mut lines = 0usize;
+    for byte in read {
+        if *byte == b'\n' {
+            lines = lines.saturating_add(1);
+        }
+    }
     let written = TOLD_AFTER.get(lines).copied().unwrap_or(0);
     TOLD.get(..written).unwrap_or(TOLD)
 }
