@@ -13,7 +13,6 @@ use crate::patterns::patterns_of;
 use crate::{Keep, TableList};
 use component_index::{ListedKey, Pattern};
 use ecs_id::TableKey;
-use ecs_world::World;
 use query_check::Query;
 use std::alloc::{AllocError, Allocator, Global};
 use std::marker::Model;
@@ -86,20 +85,18 @@ impl<A: Allocator> Kept<A> {
     /// Takes in the tables that came since the last `sync`, each judged once, and drops those that were released.
     ///
     /// Where memory is refused the list stays as it was, and a later `sync` goes on from it.
-    pub fn sync<B: Allocator>(&mut self, world: &World<B>) -> Result<(), AllocError>
-        requires { Fits self.old world.now.tables }
-        ensures listed { (q : model.Query) → self.old.patterns ≡ patterns_of q → OnOk result (AreListed q world.now.tables self.new.keys) }
-        ensures exact { OnOk result ((k : TableKey) → Contains self.new.keys k ↔ IsTrue (is_kept self.new.patterns world.now.tables k)) }
+    pub fn sync<B: Allocator>(&mut self, tables: &TableStore<B>) -> Result<(), AllocError>
+        requires { Fits self.old tables.now }
+        ensures listed { (q : model.Query) → self.old.patterns ≡ patterns_of q → OnOk result (AreListed q tables.now self.new.keys) }
+        ensures exact { OnOk result ((k : TableKey) → Contains self.new.keys k ↔ IsTrue (is_kept self.new.patterns tables.now k)) }
         ensures once { IsRising self.new.keys }
-        ensures judged { Judges world.now.tables self.old.last result self.old.judged self.new.judged }
-        ensures again { IsSynced self.old world.now.tables → self.new.judged ≡ self.old.judged }
-        ensures synced { OnOk result (IsSynced self.new world.now.tables) }
+        ensures judged { Judges tables.now self.old.last result self.old.judged self.new.judged }
+        ensures again { IsSynced self.old tables.now → self.new.judged ≡ self.old.judged }
+        ensures synced { OnOk result (IsSynced self.new tables.now) }
         ensures patterns { self.new.patterns ≡ self.old.patterns }
         ensures refused { OnErr result (self.new ≡ record self.old { judged = self.new.judged }) }
-        ensures fits { Fits self.new world.now.tables }
+        ensures fits { Fits self.new tables.now }
     {
-        let graph = world.graph();
-        let tables = graph.store();
         let last = take_in(
             &mut self.keys,
             &mut self.judged,

@@ -4,11 +4,11 @@
 //! let mut kept = Kept::new(rt.alloc(), &query)?;
 //!
 //! // each table is judged once, when it is new
-//! kept.sync(&world)?;
+//! kept.sync(world.graph().store())?;
 //! kept.push_tables(&mut tables)?;
 //!
 //! // later, whatever commands the world has taken: those that came, without those that were released
-//! kept.sync(&world)?;
+//! kept.sync(world.graph().store())?;
 //! ```
 //!
 //! A list follows one world: what its caller proves is that it fits that world (`Fits`). A new list fits each, `sync` leaves it so, and so does

@@ -19,7 +19,7 @@ pub(crate) fn tables_in(
     ensures { AreTablesOf query.now world.now.tables result.items }
 {
     let mut kept = Kept::new(alloc, query).expect(rt, "out of memory");
-    kept.sync(world).expect(rt, "out of memory");
+    kept.sync(world.graph().store()).expect(rt, "out of memory");
     let mut tables = Vec::new(alloc);
     kept.push_tables(&mut tables).expect(rt, "out of memory");
     tables

@@ -50,7 +50,7 @@ fn expect_listed(
     requires { Fits kept.old world.now.tables }
     ensures { Fits kept.new world.now.tables }
 {
-    kept.sync(world)?;
+    kept.sync(world.graph().store())?;
     let mut tables = Vec::new(alloc);
     kept.push_tables(&mut tables)?;
     assert!(rt; tables.len() == listed);

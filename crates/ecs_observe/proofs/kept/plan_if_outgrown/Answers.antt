@@ -20,16 +20,16 @@ pub returns-then-not-is_outgrown-clause-synced : goal.returns-then-not-is_outgro
 returns-then-not-is_outgrown-clause-synced g c = inl refl
 
 pub returns-in_err-sync-clause-follows : goal.returns-in_err-sync-clause-follows
-returns-in_err-sync-clause-follows g c = follows_sync c.args.world.now.tables c.args.list.now c.sync.new.self c.sync.result (record { fits = c.requires.list.fits; patterns = c.sync.ensures.patterns; exact = c.sync.ensures.exact; synced = c.sync.ensures.synced; refused = c.sync.ensures.refused; judges = c.sync.ensures.judged; again = c.sync.ensures.again })
+returns-in_err-sync-clause-follows g c = follows_sync c.args.world.now.tables c.args.list.now c.sync.new.list c.sync.result (record { fits = c.requires.list.fits; patterns = c.sync.ensures.patterns; exact = c.sync.ensures.exact; synced = c.sync.ensures.synced; refused = c.sync.ensures.refused; judges = c.sync.ensures.judged; again = c.sync.ensures.again })
 
 pub returns-in_err-put_tables-clause-follows : goal.returns-in_err-put_tables-clause-follows
-returns-in_err-put_tables-clause-follows g c = follows_sync c.args.world.now.tables c.args.list.now c.sync.new.self c.sync.result (record { fits = c.requires.list.fits; patterns = c.sync.ensures.patterns; exact = c.sync.ensures.exact; synced = c.sync.ensures.synced; refused = c.sync.ensures.refused; judges = c.sync.ensures.judged; again = c.sync.ensures.again })
+returns-in_err-put_tables-clause-follows g c = follows_sync c.args.world.now.tables c.args.list.now c.sync.new.list c.sync.result (record { fits = c.requires.list.fits; patterns = c.sync.ensures.patterns; exact = c.sync.ensures.exact; synced = c.sync.ensures.synced; refused = c.sync.ensures.refused; judges = c.sync.ensures.judged; again = c.sync.ensures.again })
 
 pub returns-in_err-planned-clause-follows : goal.returns-in_err-planned-clause-follows
-returns-in_err-planned-clause-follows g c = follows_sync c.args.world.now.tables c.args.list.now c.sync.new.self c.sync.result (record { fits = c.requires.list.fits; patterns = c.sync.ensures.patterns; exact = c.sync.ensures.exact; synced = c.sync.ensures.synced; refused = c.sync.ensures.refused; judges = c.sync.ensures.judged; again = c.sync.ensures.again })
+returns-in_err-planned-clause-follows g c = follows_sync c.args.world.now.tables c.args.list.now c.sync.new.list c.sync.result (record { fits = c.requires.list.fits; patterns = c.sync.ensures.patterns; exact = c.sync.ensures.exact; synced = c.sync.ensures.synced; refused = c.sync.ensures.refused; judges = c.sync.ensures.judged; again = c.sync.ensures.again })
 
 pub returns-clause-follows : goal.returns-clause-follows
-returns-clause-follows g c = follows_sync c.args.world.now.tables c.args.list.now c.sync.new.self c.sync.result (record { fits = c.requires.list.fits; patterns = c.sync.ensures.patterns; exact = c.sync.ensures.exact; synced = c.sync.ensures.synced; refused = c.sync.ensures.refused; judges = c.sync.ensures.judged; again = c.sync.ensures.again })
+returns-clause-follows g c = follows_sync c.args.world.now.tables c.args.list.now c.sync.new.list c.sync.result (record { fits = c.requires.list.fits; patterns = c.sync.ensures.patterns; exact = c.sync.ensures.exact; synced = c.sync.ensures.synced; refused = c.sync.ensures.refused; judges = c.sync.ensures.judged; again = c.sync.ensures.again })
 
 pub returns-clause-synced : goal.returns-clause-synced
 returns-clause-synced g c = inr c.in_ok-sync.ensures.synced

@@ -44,12 +44,12 @@ send_rows_from-requires-clause-tables g c =
 
 pub returns-in_err-sync-clause-follows : goal.returns-in_err-sync-clause-follows
 returns-in_err-sync-clause-follows g c =
-    follows_again c.args.world.now.tables c.args.list.now c.plan_if_outgrown.new.list c.sync.new.self c.sync.result
+    follows_again c.args.world.now.tables c.args.list.now c.plan_if_outgrown.new.list c.sync.new.list c.sync.result
     (record { fits = c.plan_if_outgrown.ensures.list.fits; patterns = c.sync.ensures.patterns; exact = c.sync.ensures.exact; synced = c.sync.ensures.synced; refused = c.sync.ensures.refused; judges = c.sync.ensures.judged; again = c.sync.ensures.again }) c.plan_if_outgrown.ensures.follows c.in_ok-plan_if_outgrown.ensures.synced
 
 pub returns-clause-follows : goal.returns-clause-follows
 returns-clause-follows g c =
-    follows_again c.args.world.now.tables c.args.list.now c.plan_if_outgrown.new.list c.sync.new.self c.sync.result
+    follows_again c.args.world.now.tables c.args.list.now c.plan_if_outgrown.new.list c.sync.new.list c.sync.result
     (record { fits = c.plan_if_outgrown.ensures.list.fits; patterns = c.sync.ensures.patterns; exact = c.sync.ensures.exact; synced = c.sync.ensures.synced; refused = c.sync.ensures.refused; judges = c.sync.ensures.judged; again = c.sync.ensures.again }) c.plan_if_outgrown.ensures.follows c.in_ok-plan_if_outgrown.ensures.synced
 
 pub returns-then-not-begins_in_tables-clause-reads : goal.returns-then-not-begins_in_tables-clause-reads
@@ -60,7 +60,7 @@ pub returns-clause-reads : goal.returns-clause-reads
 returns-clause-reads g c =
     let q = (c.args.plan.now).query in
     λ begins.
-    subst (λ (x : Query). IsUpToDate x (c.args.world.now).tables c.sync.new.self) (sym c.plan_if_outgrown.ensures.query)
+    subst (λ (x : Query). IsUpToDate x (c.args.world.now).tables c.sync.new.list) (sym c.plan_if_outgrown.ensures.query)
     (record { synced = c.in_ok-sync.ensures.synced; tables = record { listed = c.in_ok-sync.ensures.listed q c.plan_if_outgrown.ensures.list.patterns; rising = c.sync.ensures.once } })
 
 -- where memory is refused before a row is written
@@ -84,7 +84,7 @@ returns-in_err-sync-clause-held g c = fault_memory _ _ _ _ c.from_residual-in_er
 
 pub returns-in_err-put_tables-clause-follows : goal.returns-in_err-put_tables-clause-follows
 returns-in_err-put_tables-clause-follows g c =
-    follows_again c.args.world.now.tables c.args.list.now c.plan_if_outgrown.new.list c.sync.new.self c.sync.result
+    follows_again c.args.world.now.tables c.args.list.now c.plan_if_outgrown.new.list c.sync.new.list c.sync.result
     (record { fits = c.plan_if_outgrown.ensures.list.fits; patterns = c.sync.ensures.patterns; exact = c.sync.ensures.exact; synced = c.sync.ensures.synced; refused = c.sync.ensures.refused; judges = c.sync.ensures.judged; again = c.sync.ensures.again }) c.plan_if_outgrown.ensures.follows c.in_ok-plan_if_outgrown.ensures.synced
 
 pub returns-in_err-put_tables-clause-front : goal.returns-in_err-put_tables-clause-front
@@ -99,7 +99,7 @@ returns-in_err-send_planned_rows-clause-follows g c = c.plan_if_outgrown.ensures
 
 pub returns-in_err-send_rows_from-clause-follows : goal.returns-in_err-send_rows_from-clause-follows
 returns-in_err-send_rows_from-clause-follows g c =
-    follows_again c.args.world.now.tables c.args.list.now c.plan_if_outgrown.new.list c.sync.new.self c.sync.result
+    follows_again c.args.world.now.tables c.args.list.now c.plan_if_outgrown.new.list c.sync.new.list c.sync.result
     (record { fits = c.plan_if_outgrown.ensures.list.fits; patterns = c.sync.ensures.patterns; exact = c.sync.ensures.exact; synced = c.sync.ensures.synced; refused = c.sync.ensures.refused; judges = c.sync.ensures.judged; again = c.sync.ensures.again }) c.plan_if_outgrown.ensures.follows c.in_ok-plan_if_outgrown.ensures.synced
 
 pub returns-in_err-send_planned_rows-clause-front : goal.returns-in_err-send_planned_rows-clause-front
@@ -148,7 +148,7 @@ pub returns-clause-found : goal.returns-clause-found
 returns-clause-found g c = (
   sym c.begins_in_tables.ensures ∙ c.if-not-begins_in_tables.false,
   (
-    c.sync.new.self,
+    c.sync.new.list,
     refl,
     subst (λ (keys : List TableKey). StaysInTables c.args.world.now c.plan_if_outgrown.new.plan keys c.in_ok-send_rows_from.field-0) (c.as_slice.ensures.value ∙ c.in_ok-put_tables.ensures)
         (subst (λ (p : Plan). StaysInTables c.args.world.now p c.as_slice.result.now c.in_ok-send_rows_from.field-0) c.plan-2.ensures c.in_ok-send_rows_from.ensures.probes),

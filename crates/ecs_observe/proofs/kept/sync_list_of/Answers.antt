@@ -26,14 +26,14 @@ returns-in_err-sync-clause-list g c = record {
 }
 
 pub returns-in_err-sync-clause-follows : goal.returns-in_err-sync-clause-follows
-returns-in_err-sync-clause-follows g c = inr (c.in-Some.list, c.sync.new.self, c.in-Some.is, refl, follows_sync c.args.world.now.tables c.in-Some.list c.sync.new.self c.sync.result (record { fits = (its_list c.args.world.now.tables c.args.query.now c.requires.list c.in-Some.list c.in-Some.is).fits; patterns = c.sync.ensures.patterns; exact = c.sync.ensures.exact; synced = c.sync.ensures.synced; refused = c.sync.ensures.refused; judges = c.sync.ensures.judged; again = c.sync.ensures.again }))
+returns-in_err-sync-clause-follows g c = inr (c.in-Some.list, c.sync.new.list, c.in-Some.is, refl, follows_sync c.args.world.now.tables c.in-Some.list c.sync.new.list c.sync.result (record { fits = (its_list c.args.world.now.tables c.args.query.now c.requires.list c.in-Some.list c.in-Some.is).fits; patterns = c.sync.ensures.patterns; exact = c.sync.ensures.exact; synced = c.sync.ensures.synced; refused = c.sync.ensures.refused; judges = c.sync.ensures.judged; again = c.sync.ensures.again }))
 
 pub returns-clause-synced : goal.returns-clause-synced
 returns-clause-synced g c =
     let its = its_list c.args.world.now.tables c.args.query.now c.requires.list c.in-Some.list c.in-Some.is in (
       kept_kind c.args.world.now.tables c.args.query.now c.requires.list c.in-Some.list c.in-Some.is,
       (
-        c.sync.new.self,
+        c.sync.new.list,
         refl,
         record {
           synced = c.in_ok-sync.ensures.synced;
@@ -49,4 +49,4 @@ returns-clause-list g c = record {
 }
 
 pub returns-clause-follows : goal.returns-clause-follows
-returns-clause-follows g c = inr (c.in-Some.list, c.sync.new.self, c.in-Some.is, refl, follows_sync c.args.world.now.tables c.in-Some.list c.sync.new.self c.sync.result (record { fits = (its_list c.args.world.now.tables c.args.query.now c.requires.list c.in-Some.list c.in-Some.is).fits; patterns = c.sync.ensures.patterns; exact = c.sync.ensures.exact; synced = c.sync.ensures.synced; refused = c.sync.ensures.refused; judges = c.sync.ensures.judged; again = c.sync.ensures.again }))
+returns-clause-follows g c = inr (c.in-Some.list, c.sync.new.list, c.in-Some.is, refl, follows_sync c.args.world.now.tables c.in-Some.list c.sync.new.list c.sync.result (record { fits = (its_list c.args.world.now.tables c.args.query.now c.requires.list c.in-Some.list c.in-Some.is).fits; patterns = c.sync.ensures.patterns; exact = c.sync.ensures.exact; synced = c.sync.ensures.synced; refused = c.sync.ensures.refused; judges = c.sync.ensures.judged; again = c.sync.ensures.again }))

@@ -9,15 +9,16 @@ use Rattle.test_queries.proofs.kept.tables_in.Goals as goal
 
 pub sync-requires : goal.sync-requires
 sync-requires g c =
-    let tables = c.args.world.now.tables in
+    let tables = c.store.result.now in
     subst (λ r. IfOk r (λ kept. Fits kept tables)) c.expect-kept.ensures (IfOk-weaker c.new.result _ _ (λ kept fits. fits tables) c.new.ensures.fits)
 
 pub returns : goal.returns
 returns g c =
     let q = c.args.query.now in
     let patterns = subst (λ r. IfOk r (λ kept. kept.patterns ≡ patterns_of q)) c.expect-kept.ensures c.new.ensures.patterns in
+    let same = c.store.ensures.store ∙ c.graph.ensures.tables in
     let synced : AreTablesOf q c.args.world.now.tables c.sync.new.self.keys = record {
-      listed = subst (λ r. OnOk r (AreListed q c.args.world.now.tables c.sync.new.self.keys)) c.expect.ensures (c.sync.ensures.listed q patterns);
+      listed = subst (λ r. OnOk r (AreListed q c.args.world.now.tables c.sync.new.self.keys)) c.expect.ensures (subst (λ s. OnOk c.sync.result (AreListed q s c.sync.new.self.keys)) same (c.sync.ensures.listed q patterns));
       rising = c.sync.ensures.once;
     } in
     let pushed : c.push_tables.new.tables.items ≡ c.new-tables.result.items ++ c.sync.new.self.keys

@@ -7,30 +7,27 @@ use Rattle.query_cache.proofs.kept.Kept.sync.Goals as goal
 
 pub returns-in_err-last-clause-again : goal.returns-in_err-last-clause-again
 returns-in_err-last-clause-again g c = λ synced.
-    let same = c.store-tables.ensures.store ∙ c.graph-graph.ensures.tables in
-    unjudged c.store-tables.result.now c.args.world.now.tables same c.self.inside.last _ _ _ c.in_err-last.ensures.judges
-    (subst (λ v. IsSynced v c.args.world.now.tables) (sym c.self.view_is) synced) ∙ ap (λ v. v.judged) c.self.view_is
+    unjudged c.args.tables.now c.args.tables.now refl c.self.inside.last _ _ _ c.in_err-last.ensures.judges
+    (subst (λ v. IsSynced v c.args.tables.now) (sym c.self.view_is) synced) ∙ ap (λ v. v.judged) c.self.view_is
 
 pub returns-in_err-last-clause-fits : goal.returns-in_err-last-clause-fits
 returns-in_err-last-clause-fits g c =
-    fits_still c.args.world.now.tables _ _ (subst (λ v. Fits v c.args.world.now.tables) (sym c.self.view_is) c.requires) refl c.in_err-last.ensures.err refl
+    fits_still c.args.tables.now _ _ (subst (λ v. Fits v c.args.tables.now) (sym c.self.view_is) c.requires) refl c.in_err-last.ensures.err refl
 
 pub returns-clause-again : goal.returns-clause-again
 returns-clause-again g c = λ synced.
-    let same = c.store-tables.ensures.store ∙ c.graph-graph.ensures.tables in
-    unjudged c.store-tables.result.now c.args.world.now.tables same c.self.inside.last _ _ _ c.in_ok-last.ensures.judges
-    (subst (λ v. IsSynced v c.args.world.now.tables) (sym c.self.view_is) synced) ∙ ap (λ v. v.judged) c.self.view_is
+    unjudged c.args.tables.now c.args.tables.now refl c.self.inside.last _ _ _ c.in_ok-last.ensures.judges
+    (subst (λ v. IsSynced v c.args.tables.now) (sym c.self.view_is) synced) ∙ ap (λ v. v.judged) c.self.view_is
 
 pub take_in-requires : goal.take_in-requires
-take_in-requires g c = (subst (λ v. Fits v c.args.world.now.tables) (sym c.self.view_is) c.requires).given
+take_in-requires g c = (subst (λ v. Fits v c.args.tables.now) (sym c.self.view_is) c.requires).given
 
 -- what the call leaves
 left : (g : Over) (c : goal.After-self-1 g)
-    → Leaves c.args.world.now.tables (record { patterns = c.self.inside.patterns.items; keys = c.self.inside.keys.items; last = c.self.inside.last; judged = c.self.inside.judged }) c.drop_released.new.keys.items c.in_ok-last.last
+    → Leaves c.args.tables.now (record { patterns = c.self.inside.patterns.items; keys = c.self.inside.keys.items; last = c.self.inside.last; judged = c.self.inside.judged }) c.drop_released.new.keys.items c.in_ok-last.last
 left g c =
     let before : Kept = record { patterns = c.self.inside.patterns.items; keys = c.self.inside.keys.items; last = c.self.inside.last; judged = c.self.inside.judged } in
-    let same = c.store-tables.ensures.store ∙ c.graph-graph.ensures.tables in
-    leaves c.store-tables.result.now c.args.world.now.tables same before (subst (λ v. Fits v c.args.world.now.tables) (sym c.self.view_is) c.requires)
+    leaves c.args.tables.now c.args.tables.now refl before (subst (λ v. Fits v c.args.tables.now) (sym c.self.view_is) c.requires)
     c.as_slice.result.now c.as_slice.ensures.value c.in_ok-last.last _ _ c.take_in.new.keys.items c.drop_released.new.keys.items c.in_ok-last.ensures c.drop_released.ensures
 
 pub returns-clause-exact : goal.returns-clause-exact
@@ -38,7 +35,7 @@ returns-clause-exact g c = (left g c).exact
 
 pub returns-clause-listed : goal.returns-clause-listed
 returns-clause-listed g c = λ q of_query.
-    are_listed q c.args.world.now.tables c.self.inside.patterns.items c.drop_released.new.keys.items (ap (λ v. v.patterns) c.self.view_is ∙ of_query) (left g c).exact
+    are_listed q c.args.tables.now c.self.inside.patterns.items c.drop_released.new.keys.items (ap (λ v. v.patterns) c.self.view_is ∙ of_query) (left g c).exact
 
 pub returns-clause-once : goal.returns-clause-once
 returns-clause-once g c = (left g c).once
