@@ -75,11 +75,11 @@ module _ (w : View) (e : ℕ) where
 
   some_shown : (t : Term) → asks_first t ≡ true → some (shown_fields w (one e) t) ≡ has_hit e (w.ids e) t
   some_shown t h =
-      let stored = and_parts _ _ h in
+      let source = and_parts _ _ h in
+      let stored = and_parts _ _ source.1 in
       let up = and_parts _ _ stored.0 in
-      let source = and_parts _ _ up.0 in
       some-map (λ f. shown w t f ∷ []) (fields_of_term w (one e) t)
-      ∙ ap some (fields-on_this w e t (source_first t.source source.0) source.1 (none_of t.up up.1) (not-true t.closed stored.1))
+      ∙ ap some (fields-on_this w e t (source_first t.source source.0) up.0 (none_of t.up up.1) (not-true t.closed stored.1))
       ∙ some-first (map (λ j. (e, j)) (hits w (one e) t e) ∷ [])
       ∙ ap (λ b. b || false) (some-map (λ j. (e, j)) (hits w (one e) t e) ∙ some_hits t)
       ∙ or_none (has_hit e (w.ids e) t)

@@ -8,9 +8,13 @@ use Rattle.query_model.specs.declared.query.Term.{Term}
 use Rattle.query_model.specs.Query.{Piece, item, opening, closing, must, may, either, equal, differ, Query}
 use Rattle.query_model.specs.Observers.{is_first}
 
--- whether a term asks the first variable itself, for ids that are stored
+-- whether a term asks its source alone, for ids that are stored
+abbrev pub is_direct : Term → Bool
+is_direct t = t.on_source && is_none t.up && not t.closed
+
+-- whether it asks the first variable so
 abbrev pub asks_first : Term → Bool
-asks_first t = is_first t.source && t.on_source && is_none t.up && not t.closed
+asks_first t = is_first t.source && is_direct t
 
 -- whether the terms of a piece do so, and a group has no variables of its own
 abbrev pub is_local_piece : Piece → Bool

@@ -1,7 +1,7 @@
 //! What a checked query is made of, and what a reference is to its part.
 
 ghost use Rattle.std.specs.Prelude.{◌≡◌};
-ghost use Rattle.query_model.specs.Local.{asks_first, asks_one_id, is_name};
+ghost use Rattle.query_model.specs.Local.{asks_first, asks_one_id, is_direct, is_name};
 ghost use Rattle.query_model.specs.Observers.{is_constant, is_first};
 
 use ecs_id::EntityId;
@@ -71,11 +71,18 @@ pub struct Term {
 }
 
 impl Term {
-    /// Whether it asks the first variable itself, for ids that are stored.
+    /// Whether it asks its source alone, for ids that are stored.
+    pub fn is_direct(&self) -> bool
+        ensures { result ≡ is_direct self.now }
+    {
+        self.on_source && self.up.is_none() && !self.closed
+    }
+
+    /// Whether it asks the first variable so.
     pub fn asks_first(&self) -> bool
         ensures { result ≡ asks_first self.now }
     {
-        self.source.is_first() && self.on_source && self.up.is_none() && !self.closed
+        self.source.is_first() && self.is_direct()
     }
 
     /// Whether it asks it for one id.

@@ -134,9 +134,9 @@ asked_of_this w a e t this asks =
 -- where it asks that alone
 pub asked_itself : (w : View) (a : Assignment) (e : ℕ) (t : Term) → at a 0 ≡ Some e → asks_first t ≡ true → fields_of_term w a t ≡ first_nonempty (map (λ m. at_each m (hits w a t m)) (e ∷ []))
 asked_itself w a e t this asks =
-    let outer = and_parts _ _ asks in
-    let middle = and_parts _ _ outer.0 in
-    let inner = and_parts _ _ middle.0 in
-    let up = none_of t.up middle.1 in
-    asked_of_this w a e t this (and_from _ _ inner.0 outer.1)
-    ∙ (λ i. first_nonempty (map (λ m. at_each m (hits w a t m)) ((if inner.1 i then e ∷ [] else []) ++ option_map_or (λ r. line w.ids w.entities r e) (up i) [])))
+    let source = and_parts _ _ asks in
+    let stored = and_parts _ _ source.1 in
+    let itself = and_parts _ _ stored.0 in
+    let up = none_of t.up itself.1 in
+    asked_of_this w a e t this (and_from _ _ source.0 stored.1)
+    ∙ (λ i. first_nonempty (map (λ m. at_each m (hits w a t m)) ((if itself.0 i then e ∷ [] else []) ++ option_map_or (λ r. line w.ids w.entities r e) (up i) [])))

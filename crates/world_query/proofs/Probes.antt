@@ -28,7 +28,7 @@ use Rattle.query_meaning.specs.declared.steps.Step.TheVariants.{Deal}
 use Rattle.query_model.specs.declared.query.Ref.{Ref}
 use Rattle.query_model.specs.declared.query.Ref.TheVariants.{Is, Var, Any, One}
 use Rattle.query_model.specs.declared.query.Term.{Term}
-use Rattle.query_model.specs.Local.{asks_first, asks_one_id, is_must, is_name, is_name_if_written, is_simple, is_simple_piece}
+use Rattle.query_model.specs.Local.{asks_first, asks_one_id, is_direct, is_must, is_name, is_name_if_written, is_simple, is_simple_piece}
 use Rattle.query_model.specs.Observers.{is_constant, is_constant_target, is_first}
 use Rattle.query_model.specs.Query.{must, may, either, equal, differ, Piece, item, opening, closing, Query}
 use Rattle.query_plan.proofs.SimpleQueries.{simple_queries_are_led}
@@ -89,12 +89,12 @@ asks_one : (t : Term) → asks_one_id t ≡ true → AsksOne t
 asks_one t h =
     let whole = and_parts (asks_first t && is_name t.first) (is_name_if_written t.target) h in
     let half = and_parts (asks_first t) (is_name t.first) whole.0 in
-    let stored = and_parts (is_first t.source && t.on_source && is_none t.up) (not t.closed) half.0 in
-    let plain = and_parts (is_first t.source && t.on_source) (is_none t.up) stored.0 in
-    let itself = and_parts (is_first t.source) t.on_source plain.0 in
-    let own : t.on_source ≡ true = itself.1 in
+    let source = and_parts (is_first t.source) (is_direct t) half.0 in
+    let stored = and_parts (t.on_source && is_none t.up) (not t.closed) source.1 in
+    let plain = and_parts t.on_source (is_none t.up) stored.0 in
+    let own : t.on_source ≡ true = plain.0 in
     record {
-      source = itself.0;
+      source = source.0;
       first = half.1;
       target = whole.1;
       test = (λ k. if not-true t.closed stored.1 k then Reaches (name_of t.first) t.source (target_or_any t) else hit_test (own k) (none_there t.up plain.1 k) t);
