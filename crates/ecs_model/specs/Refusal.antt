@@ -6,8 +6,8 @@ use Rattle.ecs_model.specs.declared.faults.Refusal.TheVariants.{Dead, UnknownNam
 use Rattle.ecs_model.specs.declared.faults.SchemaFault.{SchemaFault}
 use Rattle.ecs_model.specs.declared.faults.SchemaFault.TheVariants.{TooManyFields, NoFields, BadField}
 
--- the first reason whose test is true
-abbrev pub first_reason : List (Bool × Refusal) → Option Refusal
+-- the first reason whose test is true, of a world's command or of a session's
+abbrev pub first_reason : {A : Type 0} → List (Bool × A) → Option A
 first_reason reasons = option_map (λ p. p.1) (find (λ p. p.0) reasons)
 
 -- the place of a refusal in the order of refusals

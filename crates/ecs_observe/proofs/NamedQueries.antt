@@ -13,7 +13,7 @@ use Rattle.ecs_model.specs.declared.faults.SessionRefusal.{SessionRefusal}
 use Rattle.ecs_model.specs.declared.faults.SessionRefusal.TheVariants.{EventsPending, OfWorld, QueryTaken, TooManyStored}
 use Rattle.ecs_model.specs.Command.{Changed}
 use Rattle.ecs_model.specs.Text.{is_name}
-use Rattle.ecs_model.specs.stored.Refusal.{first_session_reason}
+use Rattle.ecs_model.specs.Refusal.{first_reason}
 use Rattle.ecs_model.specs.stored.Session.{SessionState, most_stored, stored_at}
 use Rattle.ecs_world.specs.Standing as world
 use Rattle.watch_stored.specs.declared.stored.StoredQuery.{StoredQuery}
@@ -119,7 +119,7 @@ module _ (s : SessionState) (n : List ℕ) where
   pub refusal_is : store_refusal s n ≡ first_of (is_some s.waiting) (is_name n) (is_some (stored_at s n)) (nat_le most_stored (length s.stored))
   refusal_is = by (is_some s.waiting) (is_name n) (is_some (stored_at s n)) (nat_le most_stored (length s.stored))
     where
-      by : (a b c d : Bool) → (if a then Some EventsPending else first_session_reason ((not b, OfWorld BadName) ∷ (c, QueryTaken) ∷ (d, TooManyStored) ∷ [])) ≡ first_of a b c d
+      by : (a b c d : Bool) → (if a then Some EventsPending else first_reason ((not b, OfWorld BadName) ∷ (c, QueryTaken) ∷ (d, TooManyStored) ∷ [])) ≡ first_of a b c d
       by true b c d = refl
       by false false c d = refl
       by false true true d = refl

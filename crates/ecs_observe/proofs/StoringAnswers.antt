@@ -24,7 +24,7 @@ use Rattle.ecs_observe.specs.Answers.{AnswersApply}
 use Rattle.ecs_observe.specs.declared.errors.SessionError.{SessionError}
 use Rattle.ecs_observe.specs.declared.errors.SessionError.TheVariants.{Refused, Memory}
 use Rattle.ecs_model.specs.Query.{query_of}
-use Rattle.ecs_model.specs.stored.Refusal.{first_session_reason}
+use Rattle.ecs_model.specs.Refusal.{first_reason}
 use Rattle.ecs_model.specs.stored.Session.{SessionState, Answer, Drop, Store, apply, free_order, most_stored, pinned_by, store_reasons, stored_at, watched_if_read, with_stored, without_stored}
 use Rattle.ecs_model.specs.stored.Watches.{Stored, matching, watched}
 use Rattle.watch_stored.specs.Held.{AreThese, Held, IsHeld, IsNow, told_to}
@@ -38,7 +38,7 @@ use Rattle.ecs_observe.proofs.OneMore.{none_waits}
 module _ (s : SessionState) (kind : StoredKind) (n text : List ℕ) where
   store_by : apply s (Store kind n text) ≡ option_map_or Err (store_refusal s n) (with_stored s kind n (watched_if_read kind (query_of s.world text)))
   unfolding apply free_order
-  store_by = by (is_some s.waiting) (first_session_reason (store_reasons s n)) (with_stored s kind n (watched_if_read kind (query_of s.world text)))
+  store_by = by (is_some s.waiting) (first_reason (store_reasons s n)) (with_stored s kind n (watched_if_read kind (query_of s.world text)))
     where
       by : (b : Bool) (o : Option SessionRefusal) (a : Answer) → (if b then Err EventsPending else option_map_or Err o a) ≡ option_map_or Err (if b then Some EventsPending else o) a
       by true o a = refl

@@ -7,7 +7,7 @@ use Rattle.ecs_model.specs.declared.faults.SessionRefusal.TheVariants.{EventsPen
 use Rattle.ecs_model.specs.declared.watches.StoredKind.{StoredKind}
 use Rattle.ecs_model.specs.Query.{query_of}
 use Rattle.ecs_model.specs.World.{WorldState}
-use Rattle.ecs_model.specs.stored.Refusal.{first_session_reason}
+use Rattle.ecs_model.specs.Refusal.{first_reason}
 use Rattle.ecs_model.specs.stored.Session.{SessionState, pinned_by, store_reasons, unpinned_by, watched_if_read}
 use Rattle.ecs_model.specs.stored.Watches.{watched}
 use Rattle.ecs_world.specs.Standing as world
@@ -18,7 +18,7 @@ use Rattle.ecs_observe.specs.declared.errors.SessionError.TheVariants.{Refused, 
 
 -- the first reason against a new stored query but for its text
 abbrev pub store_refusal : SessionState → List ℕ → Option SessionRefusal
-store_refusal s n = if is_some s.waiting then Some EventsPending else first_session_reason (store_reasons s n)
+store_refusal s n = if is_some s.waiting then Some EventsPending else first_reason (store_reasons s n)
 
 -- a query as one of a kind: that which the text asks, or the first fault of the text or of its query for this kind; where memory is refused, it may say so in place of either
 abbrev pub AnswersWatched : WorldState → StoredKind → List ℕ → Result Query SessionError → Type 0

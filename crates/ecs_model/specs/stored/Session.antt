@@ -17,7 +17,7 @@ use Rattle.ecs_model.specs.traits.Command.{Command, step}
 use Rattle.ecs_model.specs.traits.Pins.{with_pins, one_more, unpin}
 use Rattle.ecs_model.specs.declared.faults.SessionRefusal.{SessionRefusal}
 use Rattle.ecs_model.specs.declared.faults.SessionRefusal.TheVariants.{OfWorld, EventsPending, UnknownQuery, QueryTaken, TooManyStored, Faulty}
-use Rattle.ecs_model.specs.stored.Refusal.{first_session_reason}
+use Rattle.ecs_model.specs.Refusal.{first_reason}
 use Rattle.ecs_model.specs.declared.watches.StoredKind.{StoredKind}
 use Rattle.ecs_model.specs.declared.watches.StoredKind.TheVariants.{Kept}
 use Rattle.ecs_model.specs.stored.Watches.{Stored, is_watch, Event, told, watched}
@@ -98,7 +98,7 @@ module _ (s : SessionState) where
   unfoldable pub free_order : SessionOrder → Answer
   free_order (InWorld order) = in_world (command_of s.world order)
   free_order (Store kind n text) =
-      option_map_or Err (first_session_reason (store_reasons n)) (with_stored kind n (watched_if_read kind (query_of s.world text)))
+      option_map_or Err (first_reason (store_reasons n)) (with_stored kind n (watched_if_read kind (query_of s.world text)))
   free_order (Drop n) = option_map_or (λ x. Ok (without_stored x, None)) (stored_at n) (Err UnknownQuery)
 
   -- the answer to a command: none is carried out while events wait
