@@ -146,9 +146,9 @@ module _ (w : View) (q : Query) where
       let parts = and_parts _ _ local in
       let this = and_parts _ _ parts.0 in
       let holds = some_of_level w e (top q) (top_local q parts.1) ∙ sym (holds_is e (w.ids e) q) in
-      ap (λ b. not (b && (meant.is_cut w q prefab e || meant.is_cut w q disabled e)) && some (solutions w (top q) (one e))) this.0
-      ∙ ap (λ b. not (meant.is_cut w q prefab e || meant.is_cut w q disabled e) && b) holds
-      ∙ turned (meant.is_cut w q prefab e) (meant.is_cut w q disabled e) _
+      ap (λ b. not (b && (meant.is_cut q (w.ids e) prefab || meant.is_cut q (w.ids e) disabled)) && some (solutions w (top q) (one e))) this.0
+      ∙ ap (λ b. not (meant.is_cut q (w.ids e) prefab || meant.is_cut q (w.ids e) disabled) && b) holds
+      ∙ turned (meant.is_cut q (w.ids e) prefab) (meant.is_cut q (w.ids e) disabled) _
     where
       turned : (a b c : Bool) → (not (a || b) && c) ≡ (c && not a && not b)
       turned true b true = refl

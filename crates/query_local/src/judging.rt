@@ -3,13 +3,14 @@
 ghost use Rattle.std.specs.Prelude.{◌≡◌, ◌+◌, ◌<◌, ◌≤◌, ◌^◌, map, Contains};
 ghost use Rattle.ecs_id.specs.Id.{IsIndex, plain};
 ghost use Rattle.ecs_model.specs.Links.{is_held};
+ghost use Rattle.ecs_model.specs.rows.Rows.{is_cut};
 ghost use Rattle.ecs_model.specs.rows.View.{View};
 ghost use Rattle.ecs_model.specs.stored.Watches.{matching};
 ghost use Rattle.query_check.specs.Seen.{seen_piece};
 ghost use Rattle.query_meaning.specs.Local.{IsLocal};
 ghost use Rattle.query_meaning.specs.Variables.{contains};
 ghost use Rattle.query_local.specs.declared.nesting.Nesting.TheVariants.{Holding};
-ghost use Rattle.query_local.specs.Judging.{behind, holds_from, is_cut, judged, open_groups};
+ghost use Rattle.query_local.specs.Judging.{behind, holds_from, judged, open_groups};
 
 use crate::items::item_holds;
 use crate::nesting::{Nesting, at_end, end_of_failed, end_of_holding, with_item};

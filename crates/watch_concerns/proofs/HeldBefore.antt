@@ -49,7 +49,7 @@ module _ (w v : WorldState) (written : List Key) where
       by false false = refl
 
   -- so entities were passed over as they are seen in the world before
-  pub is_cut_before_is : (q : Query) (tag e : ℕ) → is_cut_before v (differences w v written) q tag e ≡ is_cut (view_of w) q tag e
+  pub is_cut_before_is : (q : Query) (tag e : ℕ) → is_cut_before v (differences w v written) q tag e ≡ is_cut q ((view_of w).ids e) tag
   is_cut_before_is q tag e = ap (λ b. b && not (level_mentions tag (top q))) (held_before_is e (plain tag) ∙ sym (is_held-holds w e (plain tag)))
 
   -- and observers were told of facts

@@ -10,7 +10,7 @@ use Rattle.ecs_id.specs.Id.{Id, plain, pair}
 use Rattle.ecs_model.specs.Links.{is_held}
 use Rattle.ecs_model.specs.Map.{with_value}
 use Rattle.ecs_model.specs.rows.Level.{Level, unless, first_level, joined, open_levels, other_levels, top}
-use Rattle.ecs_model.specs.rows.Rows.{Assignment, Unset, assignments, candidates, fields_of_item, fields_of_term, fits, is_cut, level_mentions, matches, passes_over, rows, shown, shown_fields, solutions, visible}
+use Rattle.ecs_model.specs.rows.Rows.{Assignment, Unset, assignments, candidates, fields_of_item, fields_of_term, fits, is_passed_over, level_mentions, matches, passes_over, rows, shown, shown_fields, solutions, visible}
 use Rattle.ecs_model.specs.rows.View.{View}
 use Rattle.ecs_model.specs.stored.Watches.{is_this, matching}
 use Rattle.ecs_model.specs.traits.Rules.{prefab, disabled}
@@ -176,7 +176,7 @@ meeting_match w q sound e lives h =
     let no_prefab = not-true (is_held (w.ids e) (plain prefab)) inner.1 in
     let no_disabled = not-true (is_held (w.ids e) (plain disabled)) middle.1 in
     let kept : passes_over w q a ≡ false
-    = (λ k. q.has_this && option_map_or (λ x. is_cut w q prefab x || is_cut w q disabled x) (this k) false)
+    = (λ k. q.has_this && option_map_or (λ x. is_passed_over q (w.ids x)) (this k) false)
     ∙ (λ k. q.has_this && (no_prefab k && not (level_mentions prefab (top q)) || no_disabled k && not (level_mentions disabled (top q))))
     ∙ neither q.has_this (not (level_mentions prefab (top q))) (not (level_mentions disabled (top q))) in
     let asked : Contains (candidates w q) a = (filtered (λ a. not (passes_over w q a)) (assignments (visible q) w.entities []) a).1

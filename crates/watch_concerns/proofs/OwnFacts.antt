@@ -11,7 +11,7 @@ use Rattle.ecs_model.specs.Links.{AreLinks, is_held, line, target_under, upward}
 use Rattle.ecs_model.specs.Reach.{HasChain, Reached, itself, onward}
 use Rattle.ecs_model.proofs.LivePairs.{upward_lives}
 use Rattle.ecs_model.specs.rows.Level.{Level, done, also, unless, top}
-use Rattle.ecs_model.specs.rows.Rows.{Assignment, asked, assignments, candidates, fields_of_item, fields_of_term, hits, is_cut, keeps_one, level_mentions, matches, passes_over, rows, shown, shown_fields, solutions, visible}
+use Rattle.ecs_model.specs.rows.Rows.{Assignment, asked, assignments, candidates, fields_of_item, fields_of_term, hits, is_passed_over, keeps_one, level_mentions, matches, passes_over, rows, shown, shown_fields, solutions, visible}
 use Rattle.ecs_model.specs.rows.View.{View}
 use Rattle.ecs_model.specs.stored.Watches.{is_this, matching}
 use Rattle.ecs_model.specs.traits.Rules.{prefab, disabled}
@@ -174,9 +174,9 @@ module _ (q : Query) (w v : View) (e : ℕ) (own : filter (concerns q) (w.ids e)
       = λ tag h. any_same (concerns q) (w.ids e) (v.ids e) own (λ j. id_eq j (plain tag)) (λ j t. ap (concerns q) (id_eq_same j (plain tag) t) ∙ h) in
       let in_prefab = tagged prefab (asked_by_all q (plain prefab) refl) in
       let in_disabled = tagged disabled (asked_by_all q (plain disabled) refl) in
-      (λ k. q.has_this && option_map_or (λ x. is_cut w q prefab x || is_cut w q disabled x) (this k) false)
+      (λ k. q.has_this && option_map_or (λ x. is_passed_over q (w.ids x)) (this k) false)
       ∙ (λ k. q.has_this && (in_prefab k && not (level_mentions prefab (top q)) || in_disabled k && not (level_mentions disabled (top q))))
-      ∙ sym (λ k. q.has_this && option_map_or (λ x. is_cut v q prefab x || is_cut v q disabled x) (this k) false)
+      ∙ sym (λ k. q.has_this && option_map_or (λ x. is_passed_over q (v.ids x)) (this k) false)
 
 asked_of_others : (q : Query) (i : Id) → says_how_far i ≡ true → concerns_others q i ≡ true
 unfolding concerns_others

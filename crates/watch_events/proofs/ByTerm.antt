@@ -10,7 +10,7 @@ use Rattle.query_model.specs.Query.{Piece, item, opening, closing, must, may, ei
 use Rattle.ecs_model.specs.Command.{Changed}
 use Rattle.ecs_model.specs.World.{WorldState, Key, holds}
 use Rattle.ecs_model.specs.rows.Level.{joined, open_levels, top}
-use Rattle.ecs_model.specs.rows.Rows.{asks_this, is_cut, level_mentions, matches}
+use Rattle.ecs_model.specs.rows.Rows.{asks_this, is_passed_over, level_mentions, matches}
 use Rattle.ecs_model.specs.rows.View.{view_of}
 use Rattle.ecs_model.specs.stored.Watches.{observes, only_term}
 use Rattle.ecs_model.specs.traits.Rules.{prefab, disabled}
@@ -49,7 +49,7 @@ module _ (w : WorldState) (q : Query) (ks : List Key) where
   pub none_observed : only_term q.pieces ≡ None → filter (observes (view_of w) q) ks ≡ []
   none_observed e =
       alike (observes (view_of w) q) (λ k. false) ks
-      (λ k. ap (λ o. option_map_or (λ (u : Term). matches [] u.first u.target k.1) o false && not (is_cut (view_of w) q prefab k.0 || is_cut (view_of w) q disabled k.0)) e)
+      (λ k. ap (λ o. option_map_or (λ (u : Term). matches [] u.first u.target k.1) o false && not (is_passed_over q ((view_of w).ids k.0))) e)
       ∙ filter_none ks
 
 -- and by that before

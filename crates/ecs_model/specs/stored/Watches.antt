@@ -16,9 +16,8 @@ use Rattle.ecs_model.specs.Command.{Changed}
 use Rattle.ecs_model.specs.Map.{count_at}
 use Rattle.ecs_model.specs.Print.{entity_text, id_text, value_text}
 use Rattle.ecs_model.specs.World.{WorldState, Key, value_of}
-use Rattle.ecs_model.specs.traits.Rules.{prefab, disabled}
 use Rattle.ecs_model.specs.rows.View.{View, view_of}
-use Rattle.ecs_model.specs.rows.Rows.{Row, matches, is_cut, rows}
+use Rattle.ecs_model.specs.rows.Rows.{Row, matches, is_passed_over, rows}
 
 -- a query that a session keeps under a name
 pub record Stored : Type 0 where
@@ -74,7 +73,7 @@ matches_term q i = option_map_or (λ t. matches [] t.first t.target i) (only_ter
 
 -- whether an observer is told of a fact: it matches, and its entity is not passed over
 abbrev pub observes : View → Query → Key → Bool
-observes w q k = matches_term q k.1 && not (is_cut w q prefab k.0 || is_cut w q disabled k.0)
+observes w q k = matches_term q k.1 && not (is_passed_over q (w.ids k.0))
 
 -- the events of a watch with this name, by the names of a world
 module _ (watch : List ℕ) (kind : EventKind) (w : WorldState) where
