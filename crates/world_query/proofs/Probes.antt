@@ -21,7 +21,7 @@ use Rattle.ecs_model.specs.traits.Rules.{prefab, disabled}
 use Rattle.query_meaning.proofs.Flat.{items_from, items-entries}
 use Rattle.query_meaning.specs.Names.{entry_names, name_in, term_names}
 use Rattle.query_meaning.specs.Plan.{target_or_any}
-use Rattle.query_meaning.specs.Variables.{Entry, simple, group, entries, entry_at}
+use Rattle.query_meaning.specs.Variables.{Entry, simple, group, entries, entry_at, simple_of}
 use Rattle.query_meaning.specs.declared.steps.Mode.TheVariants as mode
 use Rattle.query_meaning.specs.declared.steps.Step.{Step}
 use Rattle.query_meaning.specs.declared.steps.Step.TheVariants.{Deal}
@@ -34,7 +34,7 @@ use Rattle.query_model.specs.Query.{must, may, either, equal, differ, Piece, ite
 use Rattle.query_plan.proofs.SimpleQueries.{simple_queries_are_led}
 use Rattle.query_plan.specs.Plans.{IsPlanned}
 use Rattle.query_plan.specs.Simple.{has_terms, is_leading}
-use Rattle.plan_steps.specs.Actions.{cut, cuts, entry_instructions, hit_test, instructions_of, is_fixed, item_takes_this, moves_of, name_of, pattern_of, simple_of, takes_this, term_test, variable_of, with_cuts}
+use Rattle.plan_steps.specs.Actions.{cut, cuts, entry_instructions, hit_test, instructions_of, is_fixed, item_takes_this, moves_of, name_of, pattern_of, takes_this, term_test, variable_of, with_cuts}
 use Rattle.plan_steps.specs.declared.action.Action.TheVariants.{Walk, Match, Keep}
 use Rattle.plan_steps.specs.declared.action.Instruction.{Instruction}
 use Rattle.plan_steps.specs.declared.action.Instruction.TheVariants.{By}
