@@ -1,7 +1,8 @@
 //! The references of a query, in the order of the text.
 
 ghost use Rattle.std.specs.Prelude.{◌≡◌, ◌++◌, length, map, option_map, IfOk, Some};
-ghost use Rattle.query_check.specs.Found.{AreFound, found_of};
+ghost use Rattle.query_model.specs.Query.{entity_named};
+ghost use Rattle.query_check.specs.Found.{AreFound};
 ghost use Rattle.query_check.specs.Places.{places_of};
 ghost use Rattle.query_check.specs.Seen.{at_level, level_uses, seen_use};
 ghost use Rattle.query_model.specs.Seen.{seen_part, seen_reference, seen_term};
@@ -121,7 +122,7 @@ fn add<'a, A: Allocator, W: Lookup>(
 
 /// The entity that a reference names.
 fn entity_named<W: Lookup>(world: &W, reference: &Reference<'_>) -> Option<EntityId>
-    ensures { result ≡ found_of (W.known world.now) (seen_reference reference.now).spoken }
+    ensures { result ≡ entity_named (W.known world.now) (seen_reference reference.now).spoken }
 {
     match reference.spoken {
         Spoken::Word(word) => world.find(word),
