@@ -3,7 +3,7 @@ use Rattle.std.specs.Prelude.{ℤ, flat_map, codes, OnOk, Some, Result, Ok, Err}
 use Rattle.std.specs.Fmt.{signed_decimal}
 use Rattle.std.proofs.Common.{◌≡◌, ℕ, List, [], ◌∷◌, ◌++◌, sym, ap, ◌∙◌, append-nil, append_assoc}
 use Rattle.ecs_model.specs.Print.{value_text, values_text}
-use Rattle.watch_events.specs.Values.{behind_comma}
+use Rattle.ecs_print.specs.Values.{behind_comma}
 
 -- numbers with commas between are the first and the others each behind a comma
 values_text-cons : (n : ℤ) (ns : List ℤ) → values_text (n ∷ ns) ≡ signed_decimal n ++ flat_map behind_comma ns

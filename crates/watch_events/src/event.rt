@@ -4,7 +4,7 @@ ghost use Rattle.std.specs.Prelude.{◌≡◌, ◌++◌, ◌∷◌, [], OnErr, O
 ghost use Rattle.std.specs.Fmt.{signed_decimal};
 ghost use Rattle.ecs_model.specs.Print.{value_text};
 ghost use Rattle.ecs_model.specs.stored.Watches.{event_id_text, event_text, event_word};
-ghost use Rattle.watch_events.specs.Values.{behind_comma};
+ghost use Rattle.ecs_print.specs.Values.{behind_comma};
 
 use crate::text::Text;
 use ecs_id::{EntityId, Id};

@@ -1,5 +1,5 @@
 use Rattle.std.proofs.Common.{◌≡◌, ◌++◌, take, flat_map}
-use Rattle.watch_events.specs.Values.{behind_comma}
+use Rattle.ecs_print.specs.Values.{behind_comma}
 use Rattle.watch_events.proofs.event.write_others.Given as goal
 
 abbrev pub invariant-loop-number : goal.invariant-loop-number
