@@ -16,7 +16,7 @@ use Rattle.table_store.specs.Kept.{IsMade}
 use Rattle.table_store.specs.Rows.{IsStored, row_at, rows_in}
 use Rattle.table_store.specs.Store.{Shape, Store, changed_at, ids_at, key_eq, made_at, released_at, room_at, shape_at, shape_of, shaped, table_at}
 use Rattle.ecs_archetypes.specs.Archetypes.{known_in}
-use Rattle.ecs_archetypes.specs.Holdings.{KeepsSizes, Sizes}
+use Rattle.ecs_archetypes.specs.Holdings.{KeepsSizes}
 use Rattle.ecs_archetypes.specs.Housing.{AreEntered, HaveGrown}
 use Rattle.table_store.specs.Going.{TablesGoOn, goes_on_same, goes_on_then}
 use Rattle.ecs_archetypes.specs.Tables.{HasGrown, StandAlike}
@@ -144,7 +144,7 @@ module _ (s n : Store) (same : (k : TableKey) → table_at n k ≡ table_at s k)
   grown_back = grown_by s n (record { stood = λ k ids given h. ap (option_map (λ t. t.ids)) (sym (same k)) ∙ h; last = last }) (λ k t h. (t, same k ∙ h, refl, omega arith)) rows
 
 -- a table that is found or made, and is entered then
-module _ (added : Sizes) (s n : Store) (key : TableKey) (f : Shape) (m : IsMade s f key n) (x : Entered) (are : AreEntered s x) (sizes : KeepsSizes (known_in s) added (known_in n)) where
+module _ (added : Shape) (s n : Store) (key : TableKey) (f : Shape) (m : IsMade s f key n) (x : Entered) (are : AreEntered s x) (sizes : KeepsSizes (known_in s) added (known_in n)) where
   grown_made : HasGrown s n
   grown_made = grown_by s n (goes_on_made s n key f m.made m.newest m.last) (λ k t h. (t, made_stands s n key f m.made m.newest m.last k t h, refl, omega arith)) m.rows
 
@@ -218,7 +218,7 @@ pub entered_alike : (s n : Store) (x : Entered) → ((k : TableKey) → shape_at
 entered_alike s n x same are k = are k ∙ sym (same_ids s n k (same k))
 
 -- room is made, or is refused
-pub kept_reserved : {T E : Type 0} (added : Sizes) (s m n : Store) (x : Entered) (key : TableKey) (more : ℕ) (r : Result T E) → OnOk r ((q : TableKey) → table_at n q ≡ changed_at m key (roomier more) q) → OnErr r (n ≡ m)
+pub kept_reserved : {T E : Type 0} (added : Shape) (s m n : Store) (x : Entered) (key : TableKey) (more : ℕ) (r : Result T E) → OnOk r ((q : TableKey) → table_at n q ≡ changed_at m key (roomier more) q) → OnErr r (n ≡ m)
     → ((k : TableKey) → shape_at n k ≡ shape_at m k) → n.last ≡ m.last → ((p : Place) → row_at n p ≡ row_at m p) → IsStored n → HaveGrown added s m x → HaveGrown added s n x
 kept_reserved added s m n x key more (Ok v) tables same shapes last rows whole kept = record {
   grown = grown_then s m n kept.grown (grown_reserved m n key more tables shapes last rows);
@@ -233,7 +233,7 @@ room_wanted m n key more least (Ok v) tables there enough = let room = room_rese
 room_wanted m n key more least (Err e) tables there enough = tt
 
 -- nothing has happened
-pub kept_same : (added : Sizes) (s n : Store) (x : Entered) → n ≡ s → AreEntered s x → IsStored n → HaveGrown added s n x
+pub kept_same : (added : Shape) (s n : Store) (x : Entered) → n ≡ s → AreEntered s x → IsStored n → HaveGrown added s n x
 kept_same added s n x same are whole = record {
   grown = grown_same s n same;
   sizes = λ test old new. subst (λ z. list_all test (known_in z) ≡ true) (sym same) old;

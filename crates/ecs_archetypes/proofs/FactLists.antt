@@ -12,7 +12,6 @@ use Rattle.ecs_id.specs.Id.{Id, id_cmp, id_cmp_total, id_eq, id_eq_itself, id_eq
 use Rattle.ecs_model.proofs.Maps.{both_true, less as lt_less}
 use Rattle.table_store.specs.Store.{Shape}
 use Rattle.ecs_archetypes.specs.FactChanges.{begins_before, begins_with, changed_shape, is_among}
-use Rattle.ecs_archetypes.specs.Holdings.{Sizes}
 use Rattle.ecs_archetypes.proofs.MapLists.{both}
 
 -- an order read from its two sides
@@ -35,7 +34,7 @@ above x y low apart = by (id_cmp x y) refl
     by Greater e = absurd (true≢false (sym (ap is_lt (id_cmp_total.antisymm y x ∙ ap ordering_reverse e)) ∙ low))
 
 -- one id more in a list of sizes
-abbrev pub put_size : Sizes → Id × ℕ → Sizes
+abbrev pub put_size : Shape → Id × ℕ → Shape
 put_size m c = put id_cmp c.0 c.1 m
 
 below_filter : {X : Type 0} (k : Id) (p : Id × X → Bool) (es : List (Id × X)) → below_all id_cmp k es ≡ true → below_all id_cmp k (filter p es) ≡ true
@@ -47,12 +46,12 @@ below_filter k p (e ∷ es) h =
     by true now rest = both (is_lt (id_cmp k e.0)) (below_all id_cmp k (filter p es)) now rest
     by false now rest = rest
 
-put_front : (c : Id × ℕ) (m : Sizes) → below_all id_cmp c.0 m ≡ true → put_size m c ≡ c ∷ m
+put_front : (c : Id × ℕ) (m : Shape) → below_all id_cmp c.0 m ≡ true → put_size m c ≡ c ∷ m
 put_front c [] h = refl
 put_front c (e ∷ m) h = ap (λ r. by_order r (c ∷ e ∷ m) ((e.0, c.1) ∷ m) (e ∷ put_size m c)) (lt_less (id_cmp c.0 e.0) (both_true (is_lt (id_cmp c.0 e.0)) (below_all id_cmp c.0 m) h).0)
 
 -- an id below all that come stays in front
-fold_front : (x : Id × ℕ) (m cs : Sizes) → below_all id_cmp x.0 cs ≡ true → fold put_size (x ∷ m) cs ≡ x ∷ fold put_size m cs
+fold_front : (x : Id × ℕ) (m cs : Shape) → below_all id_cmp x.0 cs ≡ true → fold put_size (x ∷ m) cs ≡ x ∷ fold put_size m cs
 fold_front x m [] h = refl
 fold_front x m (c ∷ cs) h =
     let parts = both_true (is_lt (id_cmp x.0 c.0)) (below_all id_cmp x.0 cs) h in
@@ -69,7 +68,7 @@ filter_same p q k same (e ∷ es) h =
 passed : (k : Id) (ks : List Id) (i : Id) → id_cmp k i ≡ Less → is_among (k ∷ ks) i ≡ is_among ks i
 passed k ks i less = ap (λ b. b || is_among ks i) (apart_below k i less)
 
-module _ (cs : Sizes) (ks : List Id) where
+module _ (cs : Shape) (ks : List Id) where
   -- the first id that comes is below the first that is held
   pub comes_first : (c x : Id × ℕ) (f : Shape) → is_sorted id_cmp (c ∷ cs) ≡ true → is_sorted id_cmp (x ∷ f) ≡ true → is_lt (id_cmp c.0 x.0) ≡ true
       → changed_shape (c ∷ cs) (is_among ks) (x ∷ f) ≡ c ∷ changed_shape cs (is_among ks) (x ∷ f)
@@ -98,14 +97,14 @@ module _ (cs : Sizes) (ks : List Id) where
       ∙ fold_front x (filter (λ e. not (is_among ks e.0)) f) cs low
 
 -- where none is held any more, all that come are left
-pub all_come : (cs : Sizes) (ks : List Id) → is_sorted id_cmp cs ≡ true → changed_shape cs (is_among ks) [] ≡ cs
+pub all_come : (cs : Shape) (ks : List Id) → is_sorted id_cmp cs ≡ true → changed_shape cs (is_among ks) [] ≡ cs
 all_come [] ks up = refl
 all_come (c ∷ cs) ks up =
     let ups = both_true (below_all id_cmp c.0 cs) (is_sorted id_cmp cs) up in
     fold_front c [] cs ups.0 ∙ ap (λ m. c ∷ m) (all_come cs ks ups.1)
 
 -- no id that comes is held: the first held is below all of them, unless the first of them is below it
-pub all_above : (cs : Sizes) (x : Id × ℕ) → is_sorted id_cmp cs ≡ true → begins_before (map (λ c. c.0) cs) x.0 ≡ false → list_all (λ c. not (id_eq c.0 x.0)) cs ≡ true → below_all id_cmp x.0 cs ≡ true
+pub all_above : (cs : Shape) (x : Id × ℕ) → is_sorted id_cmp cs ≡ true → begins_before (map (λ c. c.0) cs) x.0 ≡ false → list_all (λ c. not (id_eq c.0 x.0)) cs ≡ true → below_all id_cmp x.0 cs ≡ true
 all_above [] x up low apart = refl
 all_above (c ∷ cs) x up low apart =
     let ups = both_true (below_all id_cmp c.0 cs) (is_sorted id_cmp cs) up in

@@ -13,7 +13,8 @@ use Rattle.ecs_model.specs.World.{Key, key_cmp, key_eq}
 use Rattle.ecs_model.proofs.Maps.{absent_below, both_true}
 use Rattle.table_store.specs.Rows.{Cells}
 use Rattle.ecs_archetypes.specs.FactChanges.{Coming, changed_cells, coming_to, goes_from, with_facts_changed}
-use Rattle.ecs_archetypes.specs.Holdings.{Holdings, Sizes, bytes_at, cells_at}
+use Rattle.ecs_table.specs.Archetype.{Shape}
+use Rattle.ecs_archetypes.specs.Holdings.{Holdings, bytes_at, cells_at}
 use Rattle.ecs_archetypes.proofs.FactSections.{ascend, ascend_from, id_lt, key_other, key_own, same_of}
 use Rattle.ecs_archetypes.proofs.MapLists.{both, find_mapped}
 
@@ -25,7 +26,7 @@ come_or (Some n) kept = Some (replicate n 0)
 abbrev zeros_put : Cells → Id × ℕ → Cells
 zeros_put m c = put id_cmp c.0 (replicate c.1 0) m
 
-read_on : (i : Id) (cs : Sizes) (m : Cells) → is_sorted id_cmp cs ≡ true → find id_cmp i (fold zeros_put m cs) ≡ come_or (find id_cmp i cs) (find id_cmp i m)
+read_on : (i : Id) (cs : Shape) (m : Cells) → is_sorted id_cmp cs ≡ true → find id_cmp i (fold zeros_put m cs) ≡ come_or (find id_cmp i cs) (find id_cmp i m)
 read_on i [] m up = refl
 read_on i (c ∷ cs) m up =
     let ups = both_true (below_all id_cmp c.0 cs) (is_sorted id_cmp cs) up in
@@ -36,7 +37,7 @@ read_on i (c ∷ cs) m up =
     by false other low = refl
 
 -- the value of an id in changed cells
-pub value_changed : (i : Id) (cs : Sizes) (goes : Id → Bool) (cells : Cells) → is_sorted id_cmp cs ≡ true → find id_cmp i (changed_cells cs goes cells) ≡ come_or (find id_cmp i cs) (cond (not (goes i)) (find id_cmp i cells) None)
+pub value_changed : (i : Id) (cs : Shape) (goes : Id → Bool) (cells : Cells) → is_sorted id_cmp cs ≡ true → find id_cmp i (changed_cells cs goes cells) ≡ come_or (find id_cmp i cs) (cond (not (goes i)) (find id_cmp i cells) None)
 value_changed i cs goes cells up = read_on i cs (filter (λ e. not (goes e.0)) cells) up
     ∙ ap (come_or (find id_cmp i cs)) (find-where_key id_cmp (λ k. not (goes k)) i (λ x h. ap (λ k. not (goes k)) (sym (id_cmp_same i x h))) cells)
 

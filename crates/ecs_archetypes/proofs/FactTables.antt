@@ -18,7 +18,7 @@ use Rattle.table_store.specs.Rows.{Cells, carried, shape_of_cells}
 use Rattle.table_store.specs.Store.{Shape, Store, shape_at, with_id, without_id}
 use Rattle.ecs_archetypes.specs.Archetypes.{IsSound, known_in, meaning}
 use Rattle.ecs_archetypes.specs.FactChanges.{Coming, changed_cells, changed_shape, ids_among, ids_coming, is_among}
-use Rattle.ecs_archetypes.specs.Holdings.{AreHoldings, Holdings, KeepsSizes, Sizes, agrees, cells_at, held_at, is_settled, lives, sizes_of}
+use Rattle.ecs_archetypes.specs.Holdings.{AreHoldings, Holdings, KeepsSizes, agrees, cells_at, held_at, is_settled, lives, sizes_of}
 use Rattle.ecs_archetypes.specs.Housing.{Housing, IsHoused, holdings_of}
 use Rattle.ecs_archetypes.proofs.ArchetypeCalls.{found_settled}
 use Rattle.ecs_archetypes.proofs.CarriedCells.{carried_self}
@@ -28,20 +28,20 @@ use Rattle.ecs_archetypes.proofs.MapLists.{both, list_all_filter, list_all_put, 
 use Rattle.ecs_archetypes.proofs.Soundness.{alive_found, held_row, holdings, placed_alive, row_shape, row_sorted}
 
 -- ids that come keep a list in order, and what is said of all
-put_sorted : (cs m : Sizes) → is_sorted id_cmp m ≡ true → is_sorted id_cmp (fold put_size m cs) ≡ true
+put_sorted : (cs m : Shape) → is_sorted id_cmp m ≡ true → is_sorted id_cmp (fold put_size m cs) ≡ true
 put_sorted [] m h = h
 put_sorted (c ∷ cs) m h = put_sorted cs (put_size m c) (from_T (is_sorted id_cmp (put_size m c)) (is_sorted-put id_cmp id_cmp_total c.0 c.1 m (to_T (is_sorted id_cmp m) h)))
 
-pub changed_sorted : (cs : Sizes) (goes : Id → Bool) (f : Shape) → is_sorted id_cmp f ≡ true → is_sorted id_cmp (changed_shape cs goes f) ≡ true
+pub changed_sorted : (cs : Shape) (goes : Id → Bool) (f : Shape) → is_sorted id_cmp f ≡ true → is_sorted id_cmp (changed_shape cs goes f) ≡ true
 changed_sorted cs goes f h = put_sorted cs (filter (λ e. not (goes e.0)) f) (from_T (is_sorted id_cmp (filter (λ e. not (goes e.0)) f)) (is_sorted-where_key id_cmp (λ k. not (goes k)) f (to_T (is_sorted id_cmp f) h)))
 
-put_all : (test : Id × ℕ → Bool) (cs m : Sizes) → list_all test m ≡ true → list_all test cs ≡ true → list_all test (fold put_size m cs) ≡ true
+put_all : (test : Id × ℕ → Bool) (cs m : Shape) → list_all test m ≡ true → list_all test cs ≡ true → list_all test (fold put_size m cs) ≡ true
 put_all test [] m old new = old
 put_all test (c ∷ cs) m old new =
     let parts = both_true (test c) (list_all test cs) new in
     put_all test cs (put_size m c) (list_all_put id_cmp id_cmp_same test c.0 c.1 m old parts.0) parts.1
 
-pub changed_all : (test : Id × ℕ → Bool) (cs : Sizes) (goes : Id → Bool) (f : Shape) → list_all test f ≡ true → list_all test cs ≡ true → list_all test (changed_shape cs goes f) ≡ true
+pub changed_all : (test : Id × ℕ → Bool) (cs : Shape) (goes : Id → Bool) (f : Shape) → list_all test f ≡ true → list_all test cs ≡ true → list_all test (changed_shape cs goes f) ≡ true
 changed_all test cs goes f old new = put_all test cs (filter (λ e. not (goes e.0)) f) (list_all_filter test (λ e. not (goes e.0)) f old) new
 
 -- the cells that are carried to such a table
@@ -77,13 +77,13 @@ module _ (cells : Cells) where
       by Equal is rest = ap (λ o. (e.0, unwrap_or o (replicate c.1 0)) ∷ carried f cells) (ap (λ k. find id_cmp k cells) (sym (id_cmp_same c.0 e.0 is)) ∙ none)
       by Greater is rest = ap (λ z. (e.0, own e) ∷ z) rest
 
-  carried_puts : (cs : Sizes) (f : Shape) → list_all (λ c. not (is_some (find id_cmp c.0 cells))) cs ≡ true → carried (fold put_size f cs) cells ≡ fold zeros (carried f cells) cs
+  carried_puts : (cs : Shape) (f : Shape) → list_all (λ c. not (is_some (find id_cmp c.0 cells))) cs ≡ true → carried (fold put_size f cs) cells ≡ fold zeros (carried f cells) cs
   carried_puts [] f new = refl
   carried_puts (c ∷ cs) f new =
       let parts = both_true (not (is_some (find id_cmp c.0 cells))) (list_all (λ c. not (is_some (find id_cmp c.0 cells))) cs) new in
       carried_puts cs (put_size f c) parts.1 ∙ ap (λ m. fold zeros m cs) (carried_put c f (absent (find id_cmp c.0 cells) parts.0))
 
-  pub carried_changed : (cs : Sizes) (goes : Id → Bool) → is_sorted id_cmp cells ≡ true → list_all (λ c. not (is_some (find id_cmp c.0 cells))) cs ≡ true
+  pub carried_changed : (cs : Shape) (goes : Id → Bool) → is_sorted id_cmp cells ≡ true → list_all (λ c. not (is_some (find id_cmp c.0 cells))) cs ≡ true
       → carried (changed_shape cs goes (shape_of_cells cells)) cells ≡ changed_cells cs goes cells
   carried_changed cs goes order new =
       carried_puts cs (filter (λ e. not (goes e.0)) (shape_of_cells cells)) new
@@ -168,7 +168,7 @@ module _ (h : Housing) (whole : IsHoused h) (e : EntityId) (r : Cells) (settled 
   pub facts_rise : is_sorted id_cmp r ≡ true
   facts_rise = each.0
 
-  module _ (from : TableKey) (at : shape_at h.tables from ≡ Some (shape_of_cells (held_at (holdings_of h) e.index))) (came : Coming) (goes : Id → Bool) (ids : Sizes) (is : ids ≡ changed_shape (ids_coming came) goes (shape_of_cells r)) where
+  module _ (from : TableKey) (at : shape_at h.tables from ≡ Some (shape_of_cells (held_at (holdings_of h) e.index))) (came : Coming) (goes : Id → Bool) (ids : Shape) (is : ids ≡ changed_shape (ids_coming came) goes (shape_of_cells r)) where
     here : shape_at h.tables from ≡ Some (shape_of_cells r)
     here = at ∙ ap (λ c. Some (shape_of_cells c)) (sym (facts_held (holdings_of h) e r settled read).1)
 

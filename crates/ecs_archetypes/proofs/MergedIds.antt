@@ -13,12 +13,12 @@ use Rattle.ecs_model.proofs.Maps.{both_true}
 use Rattle.table_store.specs.Rows.{Cells, shape_of_cells}
 use Rattle.table_store.proofs.RowCalls.{if_ok}
 use Rattle.ecs_archetypes.specs.FactChanges.{Coming, begins_before, begins_with, changed_shape, ids_among, ids_coming, is_among}
-use Rattle.ecs_archetypes.specs.Holdings.{Sizes}
+use Rattle.ecs_table.specs.Archetype.{Shape}
 use Rattle.ecs_archetypes.proofs.FactLists.{all_above, all_come, comes_first, goes_held, goes_unheld, none_goes, one_goes, stays_held}
 use Rattle.ecs_archetypes.proofs.MapLists.{both, sorted_mapped}
 
 -- these ids are put together, and the others are left
-pub record IsMerging (held : Cells) (came : Coming) (went : List Key) (facts : Cells) (comes : Coming) (goes : List Key) (place : ℕ) (ids : Sizes) : Type 0 where
+pub record IsMerging (held : Cells) (came : Coming) (went : List Key) (facts : Cells) (comes : Coming) (goes : List Key) (place : ℕ) (ids : Shape) : Type 0 where
   pub same : facts ≡ held
   pub within : place ≤ length facts
   pub order : is_sorted id_cmp (drop place facts) ≡ true
@@ -43,7 +43,7 @@ shape_order : (x : Id × List ℕ) (f : Cells) → is_sorted id_cmp (x ∷ f) �
 shape_order x f order = sorted_mapped id_cmp (λ _ c. length c) (x ∷ f) ∙ order
 
 -- ids that are apart from cells are apart from the first of them, and from the others
-apart_parts : (x : Id × List ℕ) (f : Cells) (cs : Sizes) → list_all (λ c. not (has_key id_cmp (x ∷ f) c.0)) cs ≡ true → (list_all (λ c. not (id_eq c.0 x.0)) cs ≡ true) × (list_all (λ c. not (has_key id_cmp f c.0)) cs ≡ true)
+apart_parts : (x : Id × List ℕ) (f : Cells) (cs : Shape) → list_all (λ c. not (has_key id_cmp (x ∷ f) c.0)) cs ≡ true → (list_all (λ c. not (id_eq c.0 x.0)) cs ≡ true) × (list_all (λ c. not (has_key id_cmp f c.0)) cs ≡ true)
 apart_parts x f [] h = (refl, refl)
 apart_parts x f (c ∷ cs) h =
     let here = both_true (not (has_key id_cmp (x ∷ f) c.0)) (list_all (λ c. not (has_key id_cmp (x ∷ f) c.0)) cs) h in
@@ -56,7 +56,7 @@ apart_parts x f (c ∷ cs) h =
     by false h = (refl, h)
 
 module _ (held : Cells) (came : Coming) (went : List Key) (facts : Cells) where
-  pub merging_none : is_sorted id_cmp facts ≡ true → is_sorted id_cmp (ids_coming came) ≡ true → IsStrictlySortedBy id_cmp (ids_among went) → list_all (λ c. not (has_key id_cmp facts c.0)) (ids_coming came) ≡ true → (ids : Sizes) → ids ≡ []
+  pub merging_none : is_sorted id_cmp facts ≡ true → is_sorted id_cmp (ids_coming came) ≡ true → IsStrictlySortedBy id_cmp (ids_among went) → list_all (λ c. not (has_key id_cmp facts c.0)) (ids_coming came) ≡ true → (ids : Shape) → ids ≡ []
       → IsMerging facts came went facts came went 0 ids
   merging_none order up rising apart ids none = record {
     same = refl;
@@ -68,15 +68,15 @@ module _ (held : Cells) (came : Coming) (went : List Key) (facts : Cells) where
     all = ap (λ z. z ++ changed_shape (ids_coming came) (is_among (ids_among went)) (shape_of_cells facts)) none;
   }
 
-  module _ (place : ℕ) (ids : Sizes) where
+  module _ (place : ℕ) (ids : Shape) where
     -- nothing that is held is left
-    merged : (comes : Coming) (goes : List Key) → IsMerging held came went facts comes goes place ids → length facts ≤ place → (more : Sizes) → more ≡ ids ++ ids_coming comes
+    merged : (comes : Coming) (goes : List Key) → IsMerging held came went facts comes goes place ids → length facts ≤ place → (more : Shape) → more ≡ ids ++ ids_coming comes
         → more ≡ changed_shape (ids_coming came) (is_among (ids_among went)) (shape_of_cells held)
     merged comes goes m end more is =
         let none : drop place facts ≡ [] = drop_of_length-le facts end in
         is ∙ ap (λ z. ids ++ z) (sym (ap (λ f. changed_shape (ids_coming comes) (is_among (ids_among goes)) (shape_of_cells f)) none ∙ all_come (ids_coming comes) (ids_among goes) m.up)) ∙ m.all
 
-    pub merged_ok : {T E : Type 0} (comes : Coming) (goes : List Key) → IsMerging held came went facts comes goes place ids → length facts ≤ place → (r : Result T E) (more : Sizes) → OnOk r (more ≡ ids ++ ids_coming comes)
+    pub merged_ok : {T E : Type 0} (comes : Coming) (goes : List Key) → IsMerging held came went facts comes goes place ids → length facts ≤ place → (r : Result T E) (more : Shape) → OnOk r (more ≡ ids ++ ids_coming comes)
         → OnOk r (more ≡ changed_shape (ids_coming came) (is_among (ids_among went)) (shape_of_cells held))
     merged_ok comes goes m end r more = if_ok r (more ≡ ids ++ ids_coming comes) (more ≡ changed_shape (ids_coming came) (is_among (ids_among went)) (shape_of_cells held)) (merged comes goes m end more)
 
@@ -89,7 +89,7 @@ module _ (held : Cells) (came : Coming) (went : List Key) (facts : Cells) where
 
       -- the first id that comes is next
       pub merged_coming : (comes : Coming) (goes : List Key) → IsMerging held came went facts comes goes place ids → begins_before (map (λ c. c.0) (ids_coming comes)) x.0 ≡ true
-          → (first later : Coming) → first ≡ take 1 comes → later ≡ drop 1 comes → (more : Sizes) → more ≡ ids ++ ids_coming first → IsMerging held came went facts later goes place more
+          → (first later : Coming) → first ≡ take 1 comes → later ≡ drop 1 comes → (more : Shape) → more ≡ ids ++ ids_coming first → IsMerging held came went facts later goes place more
       merged_coming [] goes m low first later taken left more is = absurd (true≢false (sym low))
       merged_coming (c ∷ cs) goes m low first later taken left more is =
           let ups = both_true (below_all id_cmp c.0.1 (ids_coming cs)) (is_sorted id_cmp (ids_coming cs)) m.up in
@@ -141,7 +141,7 @@ module _ (held : Cells) (came : Coming) (went : List Key) (facts : Cells) where
         parts : (list_all (λ c. not (id_eq c.0 x.0)) (ids_coming comes) ≡ true) × (list_all (λ c. not (has_key id_cmp rest c.0)) (ids_coming comes) ≡ true)
         parts = apart_parts x rest (ids_coming comes) (ap (λ z. list_all (λ c. not (has_key id_cmp z c.0)) (ids_coming comes)) (sym here) ∙ m.apart)
 
-        next : (more : Sizes) → more ++ changed_shape (ids_coming comes) (is_among (ids_among goes)) (shape_of_cells rest) ≡ ids ++ changed_shape (ids_coming comes) (is_among (ids_among goes)) (sized x ∷ shape_of_cells rest)
+        next : (more : Shape) → more ++ changed_shape (ids_coming comes) (is_among (ids_among goes)) (shape_of_cells rest) ≡ ids ++ changed_shape (ids_coming comes) (is_among (ids_among goes)) (sized x ∷ shape_of_cells rest)
             → IsMerging held came went facts comes goes (place + 1) more
         next more is = record {
           same = m.same;
@@ -154,12 +154,12 @@ module _ (held : Cells) (came : Coming) (went : List Key) (facts : Cells) where
         }
 
         -- the first id that is held goes
-        pub merged_going : begins_with (ids_among goes) x.0 ≡ true → (more : Sizes) → more ≡ ids → IsMerging held came went facts comes goes (place + 1) more
+        pub merged_going : begins_with (ids_among goes) x.0 ≡ true → (more : Shape) → more ≡ ids → IsMerging held came went facts comes goes (place + 1) more
         merged_going is more same = next more (ap (λ z. z ++ changed_shape (ids_coming comes) (is_among (ids_among goes)) (shape_of_cells rest)) same
             ∙ ap (λ z. ids ++ z) (sym (goes_held (ids_coming comes) (ids_among goes) (sized x) (shape_of_cells rest) (one_goes (ids_among goes) x.0 is))))
 
         -- or it stays
-        pub merged_staying : begins_before (map (λ c. c.0) (ids_coming comes)) x.0 ≡ false → begins_before (ids_among goes) x.0 ≡ false → begins_with (ids_among goes) x.0 ≡ false → (more : Sizes) → more ≡ ids ++ sized x ∷ []
+        pub merged_staying : begins_before (map (λ c. c.0) (ids_coming comes)) x.0 ≡ false → begins_before (ids_among goes) x.0 ≡ false → begins_with (ids_among goes) x.0 ≡ false → (more : Shape) → more ≡ ids ++ sized x ∷ []
             → IsMerging held came went facts comes goes (place + 1) more
         merged_staying high above apart more same = next more (ap (λ z. z ++ changed_shape (ids_coming comes) (is_among (ids_among goes)) (shape_of_cells rest)) same
             ∙ append_assoc ids (sized x ∷ []) (changed_shape (ids_coming comes) (is_among (ids_among goes)) (shape_of_cells rest))

@@ -15,11 +15,11 @@ use Rattle.ecs_id.specs.declared.Place.{Place}
 use Rattle.ecs_id.specs.Id.{Id, id_cmp, id_eq, id_eq_itself, id_eq_same, id_eq_turned}
 use Rattle.ecs_model.specs.Map.{keys}
 use Rattle.ecs_table.specs.Archetype as table
-use Rattle.ecs_table.specs.Archetype.{Archetype, ids_with_data, index_in, value_of, values_at}
+use Rattle.ecs_table.specs.Archetype.{Archetype, Cells, ids_with_data, index_in, value_of, values_at}
 use Rattle.entity_index.specs.Entities.{Entities, is_alive, place_of}
 use Rattle.entity_index.specs.Entities as index
 use Rattle.ecs_archetypes.specs.Archetypes.{IsSound, cells_there, meaning}
-use Rattle.ecs_archetypes.specs.Holdings.{Cells, Holdings, bytes_at, cells_at, held_at, holds_id, lives}
+use Rattle.ecs_archetypes.specs.Holdings.{Holdings, bytes_at, cells_at, held_at, holds_id, lives}
 use Rattle.table_store.specs.Rows.{Row, cells_of, row_at}
 use Rattle.table_store.specs.Store.{Store, table_at}
 use Rattle.ecs_archetypes.proofs.Placings.{content}

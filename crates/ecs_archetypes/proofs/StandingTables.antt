@@ -10,7 +10,6 @@ use Rattle.component_index.specs.Entered.{Entered}
 use Rattle.entity_index.specs.Entities.{Entities}
 use Rattle.table_store.specs.Going.{goes_on_same, goes_on_then}
 use Rattle.ecs_archetypes.specs.Archetypes.{IsSound, known_in}
-use Rattle.ecs_archetypes.specs.Holdings.{Sizes}
 use Rattle.ecs_archetypes.specs.Housing.{HasRoomMade, HaveGrown, Housing, IsHoused}
 use Rattle.ecs_archetypes.specs.Lasting.{TablesLast}
 use Rattle.ecs_archetypes.specs.Scans.{HasMatch, StandApart}
@@ -35,7 +34,7 @@ pub stay_moved : (r s t : Store) → HasGrown r s → StandAlike s t → TablesS
 stay_moved r s t grown alike = stay_then none_goes r s t (stay_grown r s grown) (stay_alike s t alike)
 
 -- room is made, and then the same tables stand
-pub last_grown : (added : Sizes) (h n : Housing) → HasRoomMade added h n → TablesLast added h n
+pub last_grown : (added : Shape) (h n : Housing) → HasRoomMade added h n → TablesLast added h n
 last_grown added h n kept = record {
   sizes = kept.sizes;
   goes_on = kept.grown.goes_on;
@@ -44,7 +43,7 @@ last_grown added h n kept = record {
   whole = kept.whole;
 }
 
-pub last_then : (added : Sizes) (h m n : Housing) → TablesLast added h m → StandAlike m.tables n.tables → IsHoused n → TablesLast added h n
+pub last_then : (added : Shape) (h m n : Housing) → TablesLast added h m → StandAlike m.tables n.tables → IsHoused n → TablesLast added h n
 last_then added h m n kept alike whole = record {
   sizes = KeepsSizes-then (known_in h.tables) added (known_in m.tables) (known_in n.tables) kept.sizes (same_kept m.tables n.tables whole.stored.0 alike.shapes);
   goes_on = goes_on_then h.tables m.tables n.tables kept.goes_on (goes_on_alike m.tables n.tables alike);
@@ -53,13 +52,13 @@ last_then added h m n kept alike whole = record {
   whole = whole;
 }
 
-pub last_moved : (added : Sizes) (h m n : Housing) → HasRoomMade added h m → StandAlike m.tables n.tables → IsHoused n → TablesLast added h n
+pub last_moved : (added : Shape) (h m n : Housing) → HasRoomMade added h m → StandAlike m.tables n.tables → IsHoused n → TablesLast added h n
 last_moved added h m n kept alike whole = last_then added h m n (last_grown added h m kept) alike whole
 
-pub last_more : {added : Sizes} {h n : Housing} → TablesLast [] h n → TablesLast added h n
+pub last_more : {added : Shape} {h n : Housing} → TablesLast [] h n → TablesLast added h n
 last_more kept = record { sizes = λ test old new. kept.sizes test old refl; goes_on = kept.goes_on; stay = kept.stay; holdings = kept.holdings; whole = kept.whole }
 
-pub last_same : (added : Sizes) (h : Housing) → IsHoused h → TablesLast added h h
+pub last_same : (added : Shape) (h : Housing) → IsHoused h → TablesLast added h h
 last_same added h whole = record {
   sizes = λ test old new. old;
   goes_on = goes_on_same h.tables;
@@ -70,7 +69,7 @@ last_same added h whole = record {
 
 -- the tables that stand for a view of entities in them
 module _ (w : Entities) (s : Store) (h : Housing) (view : ◌≡◌ {A = Housing} (record { entities = w; tables = s }) h) (sound : IsSound w s) where
-  pub room_made : (added : Sizes) (n : Store) (x : Entered) → HaveGrown added s n x → HasRoomMade added h (record { entities = w; tables = n })
+  pub room_made : (added : Shape) (n : Store) (x : Entered) → HaveGrown added s n x → HasRoomMade added h (record { entities = w; tables = n })
   room_made added n x kept = subst (λ z. HasRoomMade added z (record { entities = w; tables = n })) view (record {
     grown = kept.grown;
     held = alike_same w s n sound kept.grown.rows kept.whole;
@@ -78,11 +77,11 @@ module _ (w : Entities) (s : Store) (h : Housing) (view : ◌≡◌ {A = Housing
     whole = sound_same w s n sound kept.grown.rows kept.whole;
   })
 
-  pub last_room : (added : Sizes) (n : Store) (x : Entered) → HaveGrown added s n x → TablesLast added h (record { entities = w; tables = n })
+  pub last_room : (added : Shape) (n : Store) (x : Entered) → HaveGrown added s n x → TablesLast added h (record { entities = w; tables = n })
   last_room added n x kept = last_grown added h _ (room_made added n x kept)
 
   -- and then rows move
-  pub last_rows : (added : Sizes) (n : Store) (x : Entered) → HaveGrown added s n x → (u : Entities) (t : Store) → StandAlike n t → IsSound u t → TablesLast added h (record { entities = u; tables = t })
+  pub last_rows : (added : Shape) (n : Store) (x : Entered) → HaveGrown added s n x → (u : Entities) (t : Store) → StandAlike n t → IsSound u t → TablesLast added h (record { entities = u; tables = t })
   last_rows added n x kept u t alike whole = last_moved added h _ _ (room_made added n x kept) alike whole
 
   pub last_alike : (u : Entities) (t : Store) → StandAlike s t → IsSound u t → TablesLast [] h (record { entities = u; tables = t })

@@ -5,7 +5,8 @@ use Rattle.std.specs.Ordering.{is_lt}
 use Rattle.ecs_id.specs.Id.{Id, id_cmp, id_eq}
 use Rattle.ecs_model.specs.Map.{Map, with_value, without}
 use Rattle.ecs_model.specs.World.{Key, key_eq}
-use Rattle.ecs_archetypes.specs.Holdings.{Cells, Holdings, Sizes}
+use Rattle.ecs_table.specs.Archetype.{Cells}
+use Rattle.ecs_archetypes.specs.Holdings.{Holdings}
 use Rattle.table_store.specs.Store.{Shape}
 
 -- facts that come, each with how many bytes its value has
@@ -13,11 +14,11 @@ abbrev pub Coming : Type 0
 Coming = Map Key ℕ
 
 -- their ids, each with its size
-abbrev pub ids_coming : Coming → Sizes
+abbrev pub ids_coming : Coming → Shape
 ids_coming came = map (λ c. (c.0.1, c.1)) came
 
 -- the ids that come to the entity at an index
-abbrev pub coming_to : ℕ → Coming → Sizes
+abbrev pub coming_to : ℕ → Coming → Shape
 coming_to e came = filter_map (λ c. if c.0.0 == e then Some (c.0.1, c.1) else None) came
 
 -- whether an id goes from the entity at an index
@@ -25,11 +26,11 @@ abbrev pub goes_from : ℕ → List Key → Id → Bool
 goes_from e went i = list_any (key_eq (e, i)) went
 
 -- cells without the ids that go, and with zeros for those that come
-abbrev pub changed_cells : Sizes → (Id → Bool) → Cells → Cells
+abbrev pub changed_cells : Shape → (Id → Bool) → Cells → Cells
 changed_cells came goes cells = fold (λ m c. with_value id_cmp m c.0 (replicate c.1 0)) (without id_cmp cells goes) came
 
 -- the shape of such cells
-abbrev pub changed_shape : Sizes → (Id → Bool) → Shape → Shape
+abbrev pub changed_shape : Shape → (Id → Bool) → Shape → Shape
 changed_shape came goes f = fold (λ m c. with_value id_cmp m c.0 c.1) (without id_cmp f goes) came
 
 -- each settled entity without its facts that go, and with zeros for those that come

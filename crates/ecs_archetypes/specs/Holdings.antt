@@ -7,14 +7,8 @@ use Rattle.ecs_id.specs.declared.EntityId.{EntityId}
 use Rattle.ecs_id.specs.Id.{Id, id_cmp, id_eq}
 use Rattle.ecs_model.specs.Map.{Map, IsMap, count_at, has_key, value_at, with_value, without}
 use Rattle.ecs_model.specs.World.{last_built_in, last_index, next_among}
-
--- ids with the bytes of their values, none for a tag
-abbrev pub Cells : Type 0
-Cells = Map Id (List ℕ)
-
--- ids, each with how many bytes its values have, 0 for a tag
-abbrev pub Sizes : Type 0
-Sizes = List (Id × ℕ)
+pub use Rattle.ecs_table.specs.Archetype.{Cells}
+use Rattle.ecs_table.specs.Archetype.{Shape}
 
 -- the entities, and what they hold
 pub record Holdings : Type 0 where
@@ -25,18 +19,18 @@ pub record Holdings : Type 0 where
   -- what each settled entity holds
   pub cells : Map ℕ Cells
   -- the ids of all tables, each with the size of its values there
-  pub known : Sizes
+  pub known : Shape
 
 -- whether an id has this size wherever it is known
-abbrev pub agrees : Sizes → Id → ℕ → Bool
+abbrev pub agrees : Shape → Id → ℕ → Bool
 agrees known i n = list_all (λ c. not (id_eq c.0 i) || c.1 == n) known
 
 -- zeros for each of these ids
-abbrev pub zero_cells : Sizes → Cells
+abbrev pub zero_cells : Shape → Cells
 zero_cells sizes = map (λ c. (c.0, replicate c.1 0)) sizes
 
 -- the sizes that cells have
-abbrev pub sizes_of : Cells → Sizes
+abbrev pub sizes_of : Cells → Shape
 sizes_of cells = map (λ c. (c.0, length c.1)) cells
 
 module _ (h : Holdings) where
@@ -108,7 +102,7 @@ pub record HoldAlike (g h : Holdings) : Type 0 where
   pub cells : g.cells ≡ h.cells
 
 -- every size that passes this test at first passes it at the end, if these pass it
-abbrev pub KeepsSizes : Sizes → Sizes → Sizes → Type 0
+abbrev pub KeepsSizes : Shape → Shape → Shape → Type 0
 KeepsSizes old added new = (test : Id × ℕ → Bool) → IsTrue (list_all test old) → IsTrue (list_all test added) → IsTrue (list_all test new)
 
 -- what holdings have

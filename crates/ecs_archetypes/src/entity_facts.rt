@@ -19,7 +19,7 @@ pub struct EntityFacts<'w, A: Allocator = Global> {
 
 impl<'w, A: Allocator> Model for EntityFacts<'w, A> {
     ghost use Rattle.std.specs.Prelude.{◌<◌, length};
-    ghost use Rattle.ecs_archetypes.specs.Holdings.{Cells};
+    ghost use Rattle.ecs_table.specs.Archetype.{Cells};
     ghost use Rattle.table_store.specs.Rows.{cells_of};
 
     ghost Value = { Cells };

@@ -24,7 +24,8 @@ use Rattle.ecs_model.proofs.traits.Held.{removes_held_alone}
 use Rattle.rel_traits.specs.Simple.{ComesAlone, ComesInPlace, is_unmirrored}
 use Rattle.ecs_world.specs.Singles.{without_one}
 use Rattle.name_index.specs.Names.{IsUnnamed, Names}
-use Rattle.ecs_archetypes.specs.Holdings.{AreHoldings, HoldAlike, Holdings, KeepsSizes, Sizes, agrees, cells_at, held_at, holds_id, is_settled, lives, upcoming, with_cells, with_entity}
+use Rattle.ecs_table.specs.Archetype.{Shape}
+use Rattle.ecs_archetypes.specs.Holdings.{AreHoldings, HoldAlike, Holdings, KeepsSizes, agrees, cells_at, held_at, holds_id, is_settled, lives, upcoming, with_cells, with_entity}
 use Rattle.rel_traits.specs.PinCounts.{Counts}
 use Rattle.ecs_world.specs.State.{IsWorld, Parts, parts_of, byte_count, is_known_rightly, state_of, type_of, value_in}
 use Rattle.ecs_world.proofs.Births.{birth_left, component_known, effect-component, effect-entity, effect-fresh, none_live, other_schemas, state_component, state_fresh, state_named, tags_empty, tags_tagged}
@@ -94,7 +95,7 @@ module _ {parts : Parts} (world : IsWorld parts) {v : WorldState} (is : state_of
   unchanged = (world, is)
 
   -- a refusal of memory leaves the world as it was
-  pub failed : (added : Sizes) → list_all (is_known_rightly h schemas) added ≡ true → (h' : Holdings) → AreHoldings h' → HoldAlike h' h → KeepsSizes h.known added h'.known
+  pub failed : (added : Shape) → list_all (is_known_rightly h schemas) added ≡ true → (h' : Holdings) → AreHoldings h' → HoldAlike h' h → KeepsSizes h.known added h'.known
       → IsWorld (parts_of h' names schemas pins accepted) × (state_of (parts_of h' names schemas pins accepted) ≡ v)
   failed added fits h' whole' alike keeps = (world_alike h' h names schemas pins accepted added world whole' alike keeps fits, state_alike h' h names schemas pins accepted alike ∙ is)
 
@@ -131,7 +132,7 @@ module _ {parts : Parts} (world : IsWorld parts) {v : WorldState} (is : state_of
 
       -- a value is written
       pub written_left : (h' : Holdings) (bytes : List ℕ) (vs : List ℤ) → AreHoldings h' → HoldAlike h' (with_cells h e.index (with_value id_cmp (held_at h e.index) i bytes))
-          → (added : Sizes) → KeepsSizes h.known added h'.known → list_all (is_known_rightly h schemas) added ≡ true → value_in (type_of_id v i) bytes ≡ vs → (accepted' : ℕ) (u : WorldState) → record v { facts = with_value key_cmp v.facts (e.index, i) vs; accepted = accepted' } ≡ u → IsWellFormed u
+          → (added : Shape) → KeepsSizes h.known added h'.known → list_all (is_known_rightly h schemas) added ≡ true → value_in (type_of_id v i) bytes ≡ vs → (accepted' : ℕ) (u : WorldState) → record v { facts = with_value key_cmp v.facts (e.index, i) vs; accepted = accepted' } ≡ u → IsWellFormed u
           → IsWorld (parts_of h' names schemas pins accepted') × (state_of (parts_of h' names schemas pins accepted') ≡ u)
       written_left h' bytes vs whole' alike added keeps fits value accepted' u to sound =
           let state : state_of (parts_of h' names schemas pins accepted') ≡ u =

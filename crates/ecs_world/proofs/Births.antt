@@ -19,7 +19,8 @@ use Rattle.ecs_model.specs.traits.Command.{Fresh, Entity, Component, effect}
 use Rattle.ecs_model.proofs.Maps.{both_true, key_cmp_same, nat_value_at}
 use Rattle.ecs_model.proofs.Reasons.{next_is_free}
 use Rattle.name_index.specs.Names.{Names}
-use Rattle.ecs_archetypes.specs.Holdings.{AreHoldings, Cells, HoldAlike, Holdings, KeepsSizes, Sizes, cells_at, holds_id, with_cells, with_entity}
+use Rattle.ecs_table.specs.Archetype.{Cells, Shape}
+use Rattle.ecs_archetypes.specs.Holdings.{AreHoldings, HoldAlike, Holdings, KeepsSizes, cells_at, holds_id, with_cells, with_entity}
 use Rattle.ecs_archetypes.proofs.ArchetypeCalls.{none_where}
 use Rattle.rel_traits.specs.PinCounts.{Counts}
 use Rattle.ecs_world.specs.State.{IsWorld, Parts, parts_of, all_facts, byte_count, is_known_rightly, names_of, state_of, type_of, value_in}
@@ -113,7 +114,7 @@ module _ {parts : Parts} (world : IsWorld parts) (e : EntityId) (next : next_ent
         let live : list_all (has_key nat_cmp h'.live) (mentioned c.0) ≡ true = ap (λ m. list_all (has_key nat_cmp m) (mentioned c.0)) alike.live ∙ all_implied (has_key nat_cmp h.live) (has_key nat_cmp born) still_live (mentioned c.0) parts.1 in
         λ i. size i && live i
 
-    pub birth_left : e.index < pins.reach → (names' : Names) → AreNamed names' born → (added : Sizes) → KeepsSizes h.known added h'.known → list_all (is_known_rightly h' schemas') added ≡ true
+    pub birth_left : e.index < pins.reach → (names' : Names) → AreNamed names' born → (added : Shape) → KeepsSizes h.known added h'.known → list_all (is_known_rightly h' schemas') added ≡ true
         → (accepted' : ℕ) → IsWellFormed (state_of (parts_of h' names' schemas' pins accepted')) → IsWorld (parts_of h' names' schemas' pins accepted')
     birth_left covers names' named' added keeps fits accepted' sound = record {
       whole = whole';

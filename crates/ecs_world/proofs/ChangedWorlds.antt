@@ -21,7 +21,8 @@ use Rattle.ecs_model.proofs.traits.Facts.{key_there}
 use Rattle.ecs_model.proofs.traits.Kept.{each_passes}
 use Rattle.name_index.specs.Names.{Names}
 use Rattle.ecs_archetypes.specs.FactChanges.{Coming, changed_cells, coming_to, goes_from, with_facts_changed}
-use Rattle.ecs_archetypes.specs.Holdings.{AreHoldings, Cells, HoldAlike, Holdings, bytes_at, cells_at, holds_id}
+use Rattle.ecs_table.specs.Archetype.{Cells}
+use Rattle.ecs_archetypes.specs.Holdings.{AreHoldings, HoldAlike, Holdings, bytes_at, cells_at, holds_id}
 use Rattle.ecs_archetypes.proofs.FactReads.{bytes_changed, cells_changed, come_or}
 use Rattle.rel_traits.specs.PinCounts.{Counts}
 use Rattle.ecs_world.specs.State.{IsWorld, Parts, parts_of, all_facts, is_known_rightly, names_of, state_of, type_of, value_in}

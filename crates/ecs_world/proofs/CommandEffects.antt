@@ -20,7 +20,8 @@ use Rattle.ecs_model.proofs.Maps.{IsMap-with_value, from_T, key_cmp_same, keys-w
 use Rattle.ecs_model.proofs.Additions.{not_spent}
 use Rattle.rel_traits.specs.Simple.{ComesAlone, is_unmirrored}
 use Rattle.name_index.specs.Names.{Names}
-use Rattle.ecs_archetypes.specs.Holdings.{AreHoldings, Cells, HoldAlike, Holdings, KeepsSizes, Sizes, cells_at, held_at, holds_id, with_cells}
+use Rattle.ecs_table.specs.Archetype.{Cells, Shape}
+use Rattle.ecs_archetypes.specs.Holdings.{AreHoldings, HoldAlike, Holdings, KeepsSizes, cells_at, held_at, holds_id, with_cells}
 use Rattle.rel_traits.specs.PinCounts.{Counts}
 use Rattle.ecs_world.specs.Singles.{with_one, without_one}
 use Rattle.ecs_world.specs.State.{IsWorld, Parts, parts_of, all_facts, byte_count, is_known_rightly, names_of, state_of, type_of, value_in}
@@ -97,7 +98,7 @@ module _ {parts : Parts} (world : IsWorld parts) (e : EntityId) (i : Id) (can : 
   pub there : (cs : Cells) × (cells_at h e.index ≡ Some cs)
   there = settled_at world e.index (ap is_some (generation_of (value_at nat_cmp h.live e.index) e.generation can.alive))
 
-  module _ (h' : Holdings) (whole' : AreHoldings h') (cs' : Cells) (alike : HoldAlike h' (with_cells h e.index cs')) (added : Sizes) (keeps : KeepsSizes h.known added h'.known)
+  module _ (h' : Holdings) (whole' : AreHoldings h') (cs' : Cells) (alike : HoldAlike h' (with_cells h e.index cs')) (added : Shape) (keeps : KeepsSizes h.known added h'.known)
       (fits : list_all (is_known_rightly h schemas) added ≡ true) (tags : (r : ℕ) → holds_id h' r (plain pair_is_tag) ≡ holds_id h r (plain pair_is_tag)) where
     pub types_left : (j : Id) → type_of h' schemas j ≡ type_of h schemas j
     types_left j = type_in-same schemas schemas (λ r. holds_id h r (plain pair_is_tag)) (λ r. holds_id h' r (plain pair_is_tag)) (λ x. true) j (all_true (mentioned j)) (λ k t. refl) tags

@@ -40,7 +40,8 @@ use Rattle.ecs_model.proofs.traits.Facts.{key_there, listed_live, there_key}
 use Rattle.ecs_model.proofs.traits.Kept.{all_pass, refuted}
 use Rattle.ecs_model.proofs.traits.SameKeys.{IsMap-within}
 use Rattle.ecs_archetypes.specs.FactChanges.{changed_cells, coming_to, goes_from, with_facts_changed}
-use Rattle.ecs_archetypes.specs.Holdings.{AreHoldings, Cells, HoldAlike, Holdings, KeepsSizes, bytes_at, cells_at, holds_id, is_settled, lives, without_entity}
+use Rattle.ecs_table.specs.Archetype.{Cells}
+use Rattle.ecs_archetypes.specs.Holdings.{AreHoldings, HoldAlike, Holdings, KeepsSizes, bytes_at, cells_at, holds_id, is_settled, lives, without_entity}
 use Rattle.ecs_archetypes.specs.Moves.{are_apart, are_deletable, without_each}
 use Rattle.ecs_archetypes.proofs.FactReads.{bytes_changed, cells_changed}
 use Rattle.ecs_archetypes.proofs.MapLists.{eq_tells}

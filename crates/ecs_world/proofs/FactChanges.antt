@@ -10,7 +10,7 @@ use Rattle.ecs_model.specs.Schema.{Schema}
 use Rattle.ecs_model.specs.World.{Key, key_cmp, key_eq}
 use Rattle.ecs_model.proofs.Maps.{key_cmp_total, key_cmp_same, nat_value_at, IsMap-with_value}
 use Rattle.ecs_model.proofs.Removals.{value_at-without, IsMap-without}
-use Rattle.ecs_archetypes.specs.Holdings.{Cells}
+use Rattle.ecs_table.specs.Archetype.{Cells}
 use Rattle.ecs_world.specs.State.{all_facts, value_in}
 use Rattle.ecs_world.proofs.Facts.{bytes_in, AllRise, IsMap-facts, find-facts, same_facts, eq_same, eq_apart}
 

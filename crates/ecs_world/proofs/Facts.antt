@@ -15,7 +15,7 @@ use Rattle.ecs_model.specs.Map.{Map, IsMap, value_at, keys}
 use Rattle.ecs_model.specs.Schema.{Schema}
 use Rattle.ecs_model.specs.World.{Key, key_cmp}
 use Rattle.ecs_model.proofs.Maps.{to_T, both_true, key_cmp_total, key_cmp_same, eq_itself, absent_below}
-use Rattle.ecs_archetypes.specs.Holdings.{Cells}
+use Rattle.ecs_table.specs.Archetype.{Cells}
 use Rattle.ecs_archetypes.proofs.MoveCounts.{unequal}
 use Rattle.ecs_world.specs.State.{all_facts, facts_of, value_in}
 

@@ -19,7 +19,8 @@ use Rattle.ecs_model.specs.World.{built_in_names, first_world, is_built_in, key_
 use Rattle.ecs_model.proofs.traits.FirstTraits.{first_world_keeps_traits}
 use Rattle.ecs_model.proofs.Maps.{both_true}
 use Rattle.name_index.specs.Names.{IsUnnamed, Names}
-use Rattle.ecs_archetypes.specs.Holdings.{AreHoldings, HoldAlike, Holdings, KeepsSizes, Sizes, agrees, cells_at, first_holdings, holds_id, lives, with_cells, zero_cells}
+use Rattle.ecs_table.specs.Archetype.{Shape}
+use Rattle.ecs_archetypes.specs.Holdings.{AreHoldings, HoldAlike, Holdings, KeepsSizes, agrees, cells_at, first_holdings, holds_id, lives, with_cells, zero_cells}
 use Rattle.rel_traits.specs.PinCounts.{Counts}
 use Rattle.ecs_world.specs.State.{IsWorld, parts_of, all_facts, byte_count, is_known_rightly, names_of, state_of, type_in, type_of}
 use Rattle.ecs_world.specs.BuiltIn.{AreFirstNames, IsSettled, first_cells, first_live, is_first_tag, settled_to, tags_of}
@@ -77,15 +78,15 @@ module _ (h : Holdings) (k index : ℕ) (next : k + 1 ≡ index) (few : index �
       or_true true b p = refl
       or_true false b p = p
 
-  pub tags_agree : (ids : Sizes) → list_all is_first_tag ids ≡ true → list_all (λ c. agrees h.known c.0 c.1) ids ≡ true
+  pub tags_agree : (ids : Shape) → list_all is_first_tag ids ≡ true → list_all (λ c. agrees h.known c.0 c.1) ids ≡ true
   tags_agree ids tags = all_implied is_first_tag (λ c. agrees h.known c.0 c.1)
       (λ c t. subst (λ n. agrees h.known c.0 n ≡ true) (sym ((Decides-eqb c.1 0).0 (both_true (c.1 == 0) (list_all is_built_in (mentioned c.0)) t).0)) (tag_agrees c.0)) ids tags
 
-  pub tags_small : (ids : Sizes) → list_all is_first_tag ids ≡ true → list_all (λ c. nat_le c.1 64) ids ≡ true
+  pub tags_small : (ids : Shape) → list_all is_first_tag ids ≡ true → list_all (λ c. nat_le c.1 64) ids ≡ true
   tags_small ids tags = all_implied is_first_tag (λ c. nat_le c.1 64) (λ c t. ap (λ n. nat_le n 64) ((Decides-eqb c.1 0).0 (both_true (c.1 == 0) (list_all is_built_in (mentioned c.0)) t).0)) ids tags
 
   -- one more is settled
-  pub settled_more : (h' : Holdings) (ids : Sizes) → ids ≡ tags_of index → list_all is_first_tag ids ≡ true → AreHoldings h' → HoldAlike h' (with_cells h index (zero_cells ids)) → KeepsSizes h.known ids h'.known → IsSettled h' index
+  pub settled_more : (h' : Holdings) (ids : Shape) → ids ≡ tags_of index → list_all is_first_tag ids ≡ true → AreHoldings h' → HoldAlike h' (with_cells h index (zero_cells ids)) → KeepsSizes h.known ids h'.known → IsSettled h' index
   settled_more h' ids are tags whole alike keeps = record {
     whole = whole;
     alike = record {

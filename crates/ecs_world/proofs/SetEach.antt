@@ -24,7 +24,8 @@ use Rattle.ecs_model.specs.traits.Keeps.{IsWellFormed}
 use Rattle.ecs_model.proofs.Maps.{IsMap-with_value, key_cmp_total, keys-with_value, nat_value_at, of_some, some_of}
 use Rattle.ecs_model.proofs.traits.Kept.{refuted}
 use Rattle.ecs_archetypes.specs.declared.facts.Found.{Found}
-use Rattle.ecs_archetypes.specs.Holdings.{AreHoldings, Cells, HoldAlike, Holdings, agrees, cells_at, held_at, holds_id, sizes_of, with_cells, with_each_written}
+use Rattle.ecs_table.specs.Archetype.{Cells}
+use Rattle.ecs_archetypes.specs.Holdings.{AreHoldings, HoldAlike, Holdings, agrees, cells_at, held_at, holds_id, sizes_of, with_cells, with_each_written}
 use Rattle.ecs_archetypes.proofs.MapLists.{list_all_put}
 use Rattle.rel_traits.specs.Additions.{is_of_built_in}
 use Rattle.rel_traits.specs.Simple.{ComesAlone}

@@ -15,7 +15,8 @@ use Rattle.ecs_model.specs.World.{WorldState, pair_is_tag, holds, value_of, ids_
 use Rattle.ecs_model.proofs.Maps.{of_some, some_of, both_true}
 use Rattle.ecs_schema.proofs.UnwrittenBytes.{values_in-zeros}
 use Rattle.name_index.specs.Names.{Names}
-use Rattle.ecs_archetypes.specs.Holdings.{AreHoldings, Cells, HoldAlike, Holdings, KeepsSizes, Sizes, agrees, bytes_at, cells_at, entity_at, held_at, holds_id, is_settled, lives, sizes_of}
+use Rattle.ecs_table.specs.Archetype.{Cells, Shape}
+use Rattle.ecs_archetypes.specs.Holdings.{AreHoldings, HoldAlike, Holdings, KeepsSizes, agrees, bytes_at, cells_at, entity_at, held_at, holds_id, is_settled, lives, sizes_of}
 use Rattle.ecs_archetypes.specs.Archetypes.{known_in}
 use Rattle.ecs_archetypes.specs.Housing.{Housing, IsHoused}
 use Rattle.ecs_archetypes.proofs.KnownIds.{of_all_shapes}
@@ -244,7 +245,7 @@ pub state_alike : (g h : Holdings) (names : Names) (schemas : Map ℕ Schema) (p
 state_alike g h names schemas pins accepted alike = λ k. state_of (parts_of (record { live = alike.live k; deletions = alike.deletions k; cells = alike.cells k; known = [] }) names schemas pins accepted)
 
 -- a world whose entities hold the same in other tables
-pub world_alike : (g h : Holdings) (names : Names) (schemas : Map ℕ Schema) (pins : Counts) (accepted : ℕ) (added : Sizes) → IsWorld (parts_of h names schemas pins accepted) → AreHoldings g → HoldAlike g h
+pub world_alike : (g h : Holdings) (names : Names) (schemas : Map ℕ Schema) (pins : Counts) (accepted : ℕ) (added : Shape) → IsWorld (parts_of h names schemas pins accepted) → AreHoldings g → HoldAlike g h
     → KeepsSizes h.known added g.known → list_all (is_known_rightly h schemas) added ≡ true → IsWorld (parts_of g names schemas pins accepted)
 world_alike g h names schemas pins accepted added world whole alike keeps fits = record {
   whole = whole;

@@ -11,7 +11,8 @@ use Rattle.ecs_model.specs.Schema.{Schema}
 use Rattle.ecs_model.specs.World.{WorldState, Key, key_cmp, pair_is_tag, holds, is_alive, type_of_id}
 use Rattle.ecs_model.specs.traits.Keeps.{IsWellFormed}
 use Rattle.ecs_model.proofs.Maps.{key_cmp_same, keys-with_value}
-use Rattle.ecs_archetypes.specs.Holdings.{AreHoldings, Cells, HoldAlike, Holdings, KeepsSizes, agrees, cells_at, held_at, holds_id, is_settled, lives, with_cells}
+use Rattle.ecs_table.specs.Archetype.{Cells}
+use Rattle.ecs_archetypes.specs.Holdings.{AreHoldings, HoldAlike, Holdings, KeepsSizes, agrees, cells_at, held_at, holds_id, is_settled, lives, with_cells}
 use Rattle.ecs_world.specs.Changes.{with_bytes}
 use Rattle.ecs_world.specs.State.{IsWorld, Parts, parts_of, byte_count, is_known_rightly, names_of, state_of, type_of, value_in}
 use Rattle.ecs_world.proofs.ChangedWorlds.{state_left}

@@ -8,11 +8,12 @@ use Rattle.ecs_id.specs.Id.{Id, mentioned}
 use Rattle.ecs_model.specs.Map.{Map, value_at}
 use Rattle.ecs_model.specs.World.{built_in_ids, built_in_names, is_built_in}
 use Rattle.name_index.specs.Names.{IsOneToOne, Names}
-use Rattle.ecs_archetypes.specs.Holdings.{AreHoldings, Cells, HoldAlike, Holdings, Sizes, first_holdings, zero_cells}
+use Rattle.ecs_table.specs.Archetype.{Cells, Shape}
+use Rattle.ecs_archetypes.specs.Holdings.{AreHoldings, HoldAlike, Holdings, first_holdings, zero_cells}
 use Rattle.ecs_world.specs.State.{names_of}
 
 -- the ids of a built-in entity, all of them tags
-abbrev pub tags_of : ℕ → Sizes
+abbrev pub tags_of : ℕ → Shape
 tags_of i = map (λ c. (c, 0)) (unwrap_or (value_at nat_cmp built_in_ids i) [])
 
 -- the first n built-in entities

@@ -21,7 +21,8 @@ use Rattle.ecs_model.specs.Command.{Changed}
 use Rattle.name_index.specs.Names.{Names, IsOneToOne, entity_eq}
 use Rattle.rel_traits.specs.PinCounts.{Counts}
 use Rattle.ecs_archetypes.specs.declared.facts.Found.{Found}
-use Rattle.ecs_archetypes.specs.Holdings.{AreHoldings, Cells, Holdings, holds_id, lives}
+use Rattle.ecs_table.specs.Archetype.{Cells}
+use Rattle.ecs_archetypes.specs.Holdings.{AreHoldings, Holdings, holds_id, lives}
 
 -- the fields of an id's values, by the components' fields and by whether a relationship keeps its pairs without data
 abbrev pub type_in : Map ℕ Schema → (ℕ → Bool) → Id → Option Schema
