@@ -2,6 +2,7 @@ pub mod Map
 pub mod Text
 pub mod Schema
 pub mod Bytes
+pub mod BitWords
 pub mod World
 pub mod FactOrder
 pub mod Values

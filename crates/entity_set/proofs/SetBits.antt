@@ -14,7 +14,8 @@ use Rattle.std.proofs.lemmas.List.Kept.{IsStrictlyIncreasing-filter}
 pub use Rattle.ecs_model.proofs.Ranges.{number_more, ranges_join}
 use Rattle.ecs_model.proofs.Ranges.{filter_twice, none_between}
 use Rattle.ecs_model.proofs.Members.{alike, any_passes, eq_itself, eq_same, filtered, passing}
-use Rattle.entity_set.specs.Members.{has, has_else, indexes_of, members}
+use Rattle.ecs_model.specs.BitWords.{has_bit}
+use Rattle.entity_set.specs.Members.{has_else, indexes_of, members}
 use Rattle.entity_set.proofs.Words.{has_none, nothing_else}
 
 pub range_rises : (a n : ℕ) → IsStrictlyIncreasing (range_with_len a n)
@@ -28,30 +29,30 @@ pub in_range : (n e : ℕ) → e < n → Contains (range_with_len 0 n) e
 in_range n e lt = (e, omega (arith, length-range_with_len 0 n), get_or-range_with_len 0 n e e lt ∙ omega arith)
 
 -- who has a bit has a word
-pub has_word : (words : List ℕ) (e : ℕ) → has words e ≡ true → e < 64 * length words
+pub has_word : (words : List ℕ) (e : ℕ) → has_bit words e ≡ true → e < 64 * length words
 has_word words e h =
     elim (cases_lt (e / 64) (length words)) [
       | inl within ↦ omega (arith, within)
       | inr past ↦ absurd (true≢false (sym h ∙ has_none words e (get_or_past words (e / 64) 0 past)))
     ]
 
-pub in_members : (words : List ℕ) (e : ℕ) → Contains (members words) e ↔ (has words e ≡ true)
+pub in_members : (words : List ℕ) (e : ℕ) → Contains (members words) e ↔ (has_bit words e ≡ true)
 unfolding members
 in_members words e =
     let all = range_with_len 0 (64 * length words) in (
-      λ h. ((filtered (has words) all e).0 h).1,
-      λ h. (filtered (has words) all e).1 (in_range (64 * length words) e (has_word words e h), h),
+      λ h. ((filtered (has_bit words) all e).0 h).1,
+      λ h. (filtered (has_bit words) all e).1 (in_range (64 * length words) e (has_word words e h), h),
     )
 
-pub any_members : (words : List ℕ) (e : ℕ) → list_any (λ x. x == e) (members words) ≡ has words e
+pub any_members : (words : List ℕ) (e : ℕ) → list_any (λ x. x == e) (members words) ≡ has_bit words e
 any_members words e =
-    alike (list_any (λ x. x == e) (members words)) (has words e)
+    alike (list_any (λ x. x == e) (members words)) (has_bit words e)
     (λ t. let x = passing (λ x. x == e) (members words) t in (in_members words e).0 (subst (Contains (members words)) (eq_same x.0 e x.2) x.1))
     (λ h. any_passes (λ x. x == e) (members words) e ((in_members words e).1 h) (eq_itself e))
 
 pub members_rise : (words : List ℕ) → IsStrictlyIncreasing (members words)
 unfolding members
-members_rise words = IsStrictlyIncreasing-filter (has words) (range_with_len 0 (64 * length words)) (range_rises 0 (64 * length words))
+members_rise words = IsStrictlyIncreasing-filter (has_bit words) (range_with_len 0 (64 * length words)) (range_rises 0 (64 * length words))
 
 pub none_members : members [] ≡ []
 unfolding members
@@ -63,7 +64,7 @@ pub others_are : (words others : List ℕ) → filter (λ x. not (list_any (λ y
 unfolding members
 others_are words others =
     (λ i. filter (λ x. not (any_members others x i)) (members words))
-    ∙ filter_twice (has words) (λ x. not (has others x)) (range_with_len 0 (64 * length words))
+    ∙ filter_twice (has_bit words) (λ x. not (has_bit others x)) (range_with_len 0 (64 * length words))
 
 -- one word more
 pub others_more : (words others : List ℕ) (place : ℕ) (found more : List ℕ) → found ≡ filter (has_else words others) (range_with_len 0 (64 * place))

@@ -8,7 +8,8 @@ use Rattle.std.proofs.lemmas.List.Elements.{Contains-get_or}
 use Rattle.std.proofs.lemmas.List.Kept.{IsStrictlyIncreasing-filter}
 use Rattle.ecs_model.proofs.Members.{alike, any_passes, eq_itself, eq_same, filtered, passing}
 use Rattle.ecs_model.proofs.Ranges.{filter_alike}
-use Rattle.entity_set.specs.Members.{Entities, entities_in, exchanged, has, members}
+use Rattle.ecs_model.specs.BitWords.{has_bit}
+use Rattle.entity_set.specs.Members.{Entities, entities_in, exchanged, members}
 use Rattle.entity_set.proofs.SetBits.{any_members, has_word, in_members, in_range, range_rises}
 
 -- who is in a set has a word in it
@@ -17,14 +18,14 @@ members_low words = λ k d low. has_word words (get_or (members words) k d) ((in
 
 -- by its bits
 pub exchanged_bits : (old new left entered : List ℕ) → length new ≡ length old
-    → ((e : ℕ) → e < 64 * length old → has new e ≡ ((has old e && not (list_any (λ x. x == e) left)) || list_any (λ x. x == e) entered))
+    → ((e : ℕ) → e < 64 * length old → has_bit new e ≡ ((has_bit old e && not (list_any (λ x. x == e) left)) || list_any (λ x. x == e) entered))
     → entities_in new ≡ exchanged left entered (entities_in old)
 unfolding exchanged members
 exchanged_bits old new left entered same bits =
     let stands : ℕ → Bool = λ e. (list_any (λ x. x == e) (members old) && not (list_any (λ x. x == e) left)) || list_any (λ x. x == e) entered in
-    let items : filter (has new) (range_with_len 0 (64 * length new)) ≡ filter stands (range_with_len 0 (64 * length old))
-    = ap (λ n. filter (has new) (range_with_len 0 (64 * n))) same
-    ∙ filter_alike (has new) stands 0 (64 * length old) (λ e low high. bits e (omega (arith, high)) ∙ (λ i. (sym (any_members old e) i && not (list_any (λ x. x == e) left)) || list_any (λ x. x == e) entered)) in
+    let items : filter (has_bit new) (range_with_len 0 (64 * length new)) ≡ filter stands (range_with_len 0 (64 * length old))
+    = ap (λ n. filter (has_bit new) (range_with_len 0 (64 * n))) same
+    ∙ filter_alike (has_bit new) stands 0 (64 * length old) (λ e low high. bits e (omega (arith, high)) ∙ (λ i. (sym (any_members old e) i && not (list_any (λ x. x == e) left)) || list_any (λ x. x == e) entered)) in
     λ i. record { items = items i; room = 64 * same i }
 
 -- as it is seen
@@ -55,5 +56,5 @@ exchanged_members left entered these own all e =
     any_passes (λ x. x == e) (filter stands range) e ((filtered stands range e).1 (in_range these.room e low, h)) (eq_itself e))
 
 -- a bit that has no word isn't that of one who has
-pub set_elsewhere : (words : List ℕ) (k e : ℕ) → length words ≤ k / 64 → e < 64 * length words → has words e ≡ (e == k || has words e)
-set_elsewhere words k e past low = sym (ap (λ b. b || has words e) (ne_eqb e k (λ same. omega (arith, past, low, same))))
+pub set_elsewhere : (words : List ℕ) (k e : ℕ) → length words ≤ k / 64 → e < 64 * length words → has_bit words e ≡ (e == k || has_bit words e)
+set_elsewhere words k e past low = sym (ap (λ b. b || has_bit words e) (ne_eqb e k (λ same. omega (arith, past, low, same))))

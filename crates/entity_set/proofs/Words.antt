@@ -7,7 +7,8 @@ use Rattle.std.proofs.lemmas.Bool.Decides.{nat_tests}
 use Rattle.std.proofs.lemmas.List.{at_drop_all, get_or_past, take_all}
 use Rattle.std.proofs.lemmas.Nat.Bits.{bit_at-lt, bit_at-zero, bit_at_and, bit_at_not, bit_at_clear_other, bit_at_clear_same, shr_and_one}
 use Rattle.ecs_model.proofs.Bits.{at_place, elsewhere, other_bit, set_at, set_other, small}
-use Rattle.entity_set.specs.Members.{has, has_else}
+use Rattle.ecs_model.specs.BitWords.{has_bit}
+use Rattle.entity_set.specs.Members.{has_else}
 
 -- a slice that is written back whole
 pub written_back : (new old : List ℕ) (n : ℕ) → length new ≡ length old → length old ≡ n → take n (new ++ drop (length new) old) ≡ new
@@ -16,8 +17,8 @@ written_back new old n same long =
 
 -- a bit that is set
 module _ (old new : List ℕ) (k : ℕ) (within : k / 64 < length old) (is : new ≡ set old (k / 64) (bit_or (get_or old (k / 64) 0) (1 * 2 ^ (k % 64) % 2 ^ 64))) where
-  pub has_one_more : (e : ℕ) → has new e ≡ (e == k || has old e)
-  unfolding has
+  pub has_one_more : (e : ℕ) → has_bit new e ≡ (e == k || has_bit old e)
+  unfolding has_bit
   has_one_more e =
       elim (cases_eq e k) [
         | inl same ↦ eq-eqb _ 1 (set_at old new k within is e same) ∙ sym (ap (λ b. b || (bit_at (get_or old (e / 64) 0) (e % 64) == 1)) (eq-eqb e k same))
@@ -57,8 +58,8 @@ module _ (old new : List ℕ) (k : ℕ) (within : k / 64 < length old) (is : new
         | inr apart ↦ ap (λ x. bit_at x (e % 64)) (elsewhere old new k without_bit within is e apart)
       ]
 
-  pub has_one_less : (e : ℕ) → has new e ≡ (has old e && not (e == k))
-  unfolding has
+  pub has_one_less : (e : ℕ) → has_bit new e ≡ (has_bit old e && not (e == k))
+  unfolding has_bit
   has_one_less e =
       elim (cases_eq e k) [
         | inl same ↦ ap (λ b. b == 1) (clear_at e same) ∙ sym (and_not (bit_at (get_or old (e / 64) 0) (e % 64) == 1) (e == k) (eq-eqb e k same))
@@ -66,27 +67,27 @@ module _ (old new : List ℕ) (k : ℕ) (within : k / 64 < length old) (is : new
       ]
 
 -- what has no word isn't there
-pub has_none : (words : List ℕ) (e : ℕ) → get_or words (e / 64) 0 ≡ 0 → has words e ≡ false
-unfolding has
+pub has_none : (words : List ℕ) (e : ℕ) → get_or words (e / 64) 0 ≡ 0 → has_bit words e ≡ false
+unfolding has_bit
 has_none words e none = ap (λ x. bit_at x (e % 64) == 1) none ∙ ap (λ b. b == 1) (bit_at-zero (e % 64))
 
-pub same_word : (words others : List ℕ) (e : ℕ) → get_or words (e / 64) 0 ≡ get_or others (e / 64) 0 → has words e ≡ has others e
-unfolding has
+pub same_word : (words others : List ℕ) (e : ℕ) → get_or words (e / 64) 0 ≡ get_or others (e / 64) 0 → has_bit words e ≡ has_bit others e
+unfolding has_bit
 same_word words others e same = ap (λ x. bit_at x (e % 64) == 1) same
 
 -- a number that has no word isn't there to be cleared
-pub past_words : (words : List ℕ) (k : ℕ) → length words ≤ k / 64 → (e : ℕ) → has words e ≡ (has words e && not (e == k))
+pub past_words : (words : List ℕ) (k : ℕ) → length words ≤ k / 64 → (e : ℕ) → has_bit words e ≡ (has_bit words e && not (e == k))
 past_words words k past e =
     elim (cases_eq e k) [
       | inl same ↦
-          let none : has words e ≡ false = has_none words e (get_or_past words (e / 64) 0 (omega (arith, past, same))) in
+          let none : has_bit words e ≡ false = has_none words e (get_or_past words (e / 64) 0 (omega (arith, past, same))) in
           none ∙ sym (ap (λ b. b && not (e == k)) none)
-      | inr other ↦ sym (and_other (has words e) (e == k) (ne_eqb e k other))
+      | inr other ↦ sym (and_other (has_bit words e) (e == k) (ne_eqb e k other))
     ]
 
 -- more words, of which no bit is set
 pub grown_has : (old new : List ℕ) (m n : ℕ) → length old ≡ m → length new ≡ n → ((k d : ℕ) → k < n → k < m → get_or new k d ≡ get_or old k d)
-    → ((k d : ℕ) → m ≤ k → k < n → get_or new k d ≡ 0) → m ≤ n → (e : ℕ) → has new e ≡ has old e
+    → ((k d : ℕ) → m ≤ k → k < n → get_or new k d ≡ 0) → m ≤ n → (e : ℕ) → has_bit new e ≡ has_bit old e
 grown_has old new m n before after same more wider e =
     same_word new old e (elim (cases_lt (e / 64) m) [
       | inl within ↦ same (e / 64) 0 (omega arith) within
@@ -98,8 +99,8 @@ grown_has old new m n before after same more wider e =
     ])
 
 -- the test of a bit
-pub has_tests : (words : List ℕ) (e : ℕ) → (bit_and (get_or words (e / 64) 0 / 2 ^ (e % 64)) 1 == 1) ≡ has words e
-unfolding has
+pub has_tests : (words : List ℕ) (e : ℕ) → (bit_and (get_or words (e / 64) 0 / 2 ^ (e % 64)) 1 == 1) ≡ has_bit words e
+unfolding has_bit
 has_tests words e = ap (λ b. b == 1) (shr_and_one (get_or words (e / 64) 0) (e % 64))
 
 -- a word that has no bit that another lacks
@@ -113,7 +114,7 @@ none_else a b i fits low none =
 
 pub nothing_else : (words others : List ℕ) (place e : ℕ) → e / 64 ≡ place → get_or others place 0 < 2 ^ 64 → bit_and (get_or words place 0) (bit_not w64 (get_or others place 0)) ≡ 0
     → has_else words others e ≡ false
-unfolding has
+unfolding has_bit
 nothing_else words others place e at fits none =
     ap (λ p. (bit_at (get_or words p 0) (e % 64) == 1) && not (bit_at (get_or others p 0) (e % 64) == 1)) at
     ∙ none_else (get_or words place 0) (get_or others place 0) (e % 64) fits (small e) none

@@ -1,15 +1,11 @@
 -- The numbers whose bits are set in words.
-use Rattle.std.specs.Prelude.{ℕ, ◌*◌, ◌/◌, ◌%◌, ◌==◌, ◌&&◌, ◌||◌, Bool, not, List, filter, length, slice_index}
-use Rattle.std.specs.Int.{bit_at}
+use Rattle.std.specs.Prelude.{ℕ, ◌*◌, ◌==◌, ◌&&◌, ◌||◌, Bool, not, List, filter, length}
 use Rattle.std.specs.List.{list_any, range_with_len}
-
--- whether the bit of a number is set
-unfoldable pub has : List ℕ → ℕ → Bool
-has words e = bit_at (slice_index words (e / 64)) (e % 64) == 1
+use Rattle.ecs_model.specs.BitWords.{has_bit}
 
 -- whether it is set in some words and not in others
 abbrev pub has_else : List ℕ → List ℕ → ℕ → Bool
-has_else words others e = has words e && not (has others e)
+has_else words others e = has_bit words e && not (has_bit others e)
 
 -- the numbers of the word at a place
 unfoldable pub indexes_of : ℕ → List ℕ
@@ -17,7 +13,7 @@ indexes_of place = range_with_len (64 * place) 64
 
 -- all whose bits are set, in ascending order
 unfoldable pub members : List ℕ → List ℕ
-members words = filter (has words) (range_with_len 0 (64 * length words))
+members words = filter (has_bit words) (range_with_len 0 (64 * length words))
 
 -- what is seen of a set: who is in it, and below which number there is room in it
 pub record Entities : Type 0 where

@@ -2,13 +2,14 @@
 
 ghost use Rattle.std.specs.Prelude.{◌≡◌, ◌↔◌, ◌<◌, ◌≤◌, ◌*◌, ◌==◌, ◌&&◌, ◌||◌, ◌++◌, [], ◌∷◌, ℕ, All, IsTrue, OnOk, filter, if◌then◌else◌, length, not, slice_index};
 ghost use Rattle.std.specs.List.{list_any};
-ghost use Rattle.entity_set.specs.Members.{has, has_else, indexes_of};
+ghost use Rattle.ecs_model.specs.BitWords.{has_bit};
+ghost use Rattle.entity_set.specs.Members.{has_else, indexes_of};
 
 use std::alloc::{AllocError, Allocator};
 
 /// Whether the bit of a number is set.
 pub(crate) fn has(words: &[u64], number: u32) -> bool
-    ensures { result ≡ has words.now number }
+    ensures { result ≡ has_bit words.now number }
 {
     let place = (number / 64) as usize;
     if place >= words.len() {
@@ -22,7 +23,7 @@ pub(crate) fn has(words: &[u64], number: u32) -> bool
 /// Fails where memory is refused.
 pub(crate) fn put<A: Allocator>(words: &mut Vec<u64, A>, number: u32) -> Result<(), AllocError>
     requires few { length words.old.items ≤ 67108864 }
-    ensures has { OnOk result ((e : ℕ) → has words.new.items e ≡ (e == number || has words.old.items e)) }
+    ensures has { OnOk result ((e : ℕ) → has_bit words.new.items e ≡ (e == number || has_bit words.old.items e)) }
     ensures few { length words.new.items ≤ 67108864 }
 {
     grow(words, number)?;
@@ -33,7 +34,7 @@ pub(crate) fn put<A: Allocator>(words: &mut Vec<u64, A>, number: u32) -> Result<
 /// Adds words up to that of a number.
 fn grow<A: Allocator>(words: &mut Vec<u64, A>, number: u32) -> Result<(), AllocError>
     requires few { length words.old.items ≤ 67108864 }
-    ensures same { OnOk result ((e : ℕ) → has words.new.items e ≡ has words.old.items e) }
+    ensures same { OnOk result ((e : ℕ) → has_bit words.new.items e ≡ has_bit words.old.items e) }
     ensures within { OnOk result (number < 64 * length words.new.items) }
     ensures few { length words.new.items ≤ 67108864 }
 {
@@ -49,7 +50,7 @@ fn grow<A: Allocator>(words: &mut Vec<u64, A>, number: u32) -> Result<(), AllocE
 fn set(words: &mut [u64], number: u32)
     requires within { number < 64 * length words.old }
     ensures length { length words.new ≡ length words.old }
-    ensures has { (e : ℕ) → has words.new e ≡ (e == number || has words.old e) }
+    ensures has { (e : ℕ) → has_bit words.new e ≡ (e == number || has_bit words.old e) }
 {
     words[(number / 64) as usize] |= 1u64 << (number % 64);
 }
@@ -57,14 +58,14 @@ fn set(words: &mut [u64], number: u32)
 /// Clears the bit of a number.
 pub(crate) fn take_out<A: Allocator>(words: &mut Vec<u64, A>, number: u32)
     ensures length { length words.new.items ≡ length words.old.items }
-    ensures has { (e : ℕ) → has words.new.items e ≡ (has words.old.items e && not (e == number)) }
+    ensures has { (e : ℕ) → has_bit words.new.items e ≡ (has_bit words.old.items e && not (e == number)) }
 {
     clear(words.as_mut_slice(), number);
 }
 
 fn clear(words: &mut [u64], number: u32)
     ensures length { length words.new ≡ length words.old }
-    ensures has { (e : ℕ) → has words.new e ≡ (has words.old e && not (e == number)) }
+    ensures has { (e : ℕ) → has_bit words.new e ≡ (has_bit words.old e && not (e == number)) }
 {
     let place = (number / 64) as usize;
     if place < words.len() {
@@ -88,7 +89,7 @@ pub(crate) fn have_words(words: &[u64], numbers: &[u32]) -> bool
 pub(crate) fn exchange<A: Allocator>(words: &mut Vec<u64, A>, left: &[u32], entered: &[u32])
     ensures length { length words.new.items ≡ length words.old.items }
     ensures has { (e : ℕ) → e < 64 * length words.old.items
-        → has words.new.items e ≡ ((has words.old.items e && not (list_any (λ x. x == e) left.now)) || list_any (λ x. x == e) entered.now) }
+        → has_bit words.new.items e ≡ ((has_bit words.old.items e && not (list_any (λ x. x == e) left.now)) || list_any (λ x. x == e) entered.now) }
 {
     exchange_in(words.as_mut_slice(), left, entered);
 }
@@ -96,7 +97,7 @@ pub(crate) fn exchange<A: Allocator>(words: &mut Vec<u64, A>, left: &[u32], ente
 fn exchange_in(words: &mut [u64], left: &[u32], entered: &[u32])
     ensures length { length words.new ≡ length words.old }
     ensures has { (e : ℕ) → e < 64 * length words.old
-        → has words.new e ≡ ((has words.old e && not (list_any (λ x. x == e) left.now)) || list_any (λ x. x == e) entered.now) }
+        → has_bit words.new e ≡ ((has_bit words.old e && not (list_any (λ x. x == e) left.now)) || list_any (λ x. x == e) entered.now) }
 {
     for number in left {
         clear(words, *number);
@@ -109,7 +110,7 @@ fn exchange_in(words: &mut [u64], left: &[u32], entered: &[u32])
 /// Sets the bit of a number, if it has a word.
 fn set_if_within(words: &mut [u64], number: u32)
     ensures length { length words.new ≡ length words.old }
-    ensures has { (e : ℕ) → e < 64 * length words.old → has words.new e ≡ (e == number || has words.old e) }
+    ensures has { (e : ℕ) → e < 64 * length words.old → has_bit words.new e ≡ (e == number || has_bit words.old e) }
 {
     let place = (number / 64) as usize;
     if place < words.len() {

@@ -12,14 +12,15 @@ use Rattle.component_index.proofs.ListedLemmas.{or_none}
 use Rattle.ecs_model.proofs.Bits.{set_at, set_other}
 use Rattle.watch_index.specs.declared.occasion.Occasion.{Occasion}
 use Rattle.watch_index.specs.Listed.{Adds, AreMarked, Drops, Keeps, Listings, has as has_number, is_among, is_listed, listed, shares_mark}
-use Rattle.watch_index.specs.Marks.{has, mark_of}
+use Rattle.ecs_model.specs.BitWords.{has_bit}
+use Rattle.watch_index.specs.Marks.{mark_of}
 use Rattle.watch_index.specs.SameOccasion.{occasion_eq, same_occasion}
 
 -- ---- bits in words
 -- a bit that is set
 module _ (old new : List ℕ) (k : ℕ) (within : k / 64 < length old) (is : new ≡ set old (k / 64) (bit_or (get_or old (k / 64) 0) (1 * 2 ^ (k % 64) % 2 ^ 64))) where
-  pub has_one_more : (e : ℕ) → has new e ≡ (e == k || has old e)
-  unfolding has
+  pub has_one_more : (e : ℕ) → has_bit new e ≡ (e == k || has_bit old e)
+  unfolding has_bit
   has_one_more e =
       elim (cases_eq e k) [
         | inl same ↦ eq-eqb _ 1 (set_at old new k within is e same) ∙ sym (ap (λ b. b || (bit_at (get_or old (e / 64) 0) (e % 64) == 1)) (eq-eqb e k same))
@@ -27,8 +28,8 @@ module _ (old new : List ℕ) (k : ℕ) (within : k / 64 < length old) (is : new
       ]
 
 -- the test of a bit
-pub has_tests : (words : List ℕ) (e : ℕ) → (bit_and (get_or words (e / 64) 0 / 2 ^ (e % 64)) 1 == 1) ≡ has words e
-unfolding has
+pub has_tests : (words : List ℕ) (e : ℕ) → (bit_and (get_or words (e / 64) 0 / 2 ^ (e % 64)) 1 == 1) ≡ has_bit words e
+unfolding has_bit
 has_tests words e = ap (λ b. b == 1) (shr_and_one (get_or words (e / 64) 0) (e % 64))
 
 -- where no word has a bit, none is set
@@ -37,8 +38,8 @@ zeros zero k = refl
 zeros (suc n) zero = refl
 zeros (suc n) (suc k) = zeros n k
 
-pub none_set : (n e : ℕ) → has (replicate n 0) e ≡ false
-unfolding has
+pub none_set : (n e : ℕ) → has_bit (replicate n 0) e ≡ false
+unfolding has_bit
 none_set n e = ap (λ x. bit_at x (e % 64) == 1) (zeros n (e / 64)) ∙ ap (λ b. b == 1) (bit_at-zero (e % 64))
 
 -- ---- marks of one occasion after another
@@ -52,21 +53,21 @@ either_way false false false = refl
 
 -- the marks of the first of these are set, and those that were set before
 abbrev pub AreSet : List ℕ → List ℕ → List Occasion → Type 0
-AreSet old new os = (m : ℕ) → has new m ≡ (has old m || shares_mark os m)
+AreSet old new os = (m : ℕ) → has_bit new m ≡ (has_bit old m || shares_mark os m)
 
 pub none_added : (words : List ℕ) → AreSet words words []
-none_added words m = or_none (has words m)
+none_added words m = or_none (has_bit words m)
 
 module _ (old mid new : List ℕ) (os : List Occasion) (i : ℕ) (d x : Occasion) (is : x ≡ slice_index_or os i d) (within : i < length os) where
-  pub one_added : AreSet old mid (take i os) → (k : ℕ) → k ≡ mark_of x → ((m : ℕ) → has new m ≡ (m == k || has mid m)) → AreSet old new (take (i + 1) os)
+  pub one_added : AreSet old mid (take i os) → (k : ℕ) → k ≡ mark_of x → ((m : ℕ) → has_bit new m ≡ (m == k || has_bit mid m)) → AreSet old new (take (i + 1) os)
   one_added were k mark step m =
       step m ∙ (λ j. m == mark j || were m j)
-      ∙ either_way (has old m) (shares_mark (take i os) m) (m == mark_of x)
-      ∙ (λ j. has old m || (shares_mark (take i os) m || m == mark_of (is j)))
-      ∙ ap (λ b. has old m || b) (sym (list_any_more (λ one. m == mark_of one) os i d within))
+      ∙ either_way (has_bit old m) (shares_mark (take i os) m) (m == mark_of x)
+      ∙ (λ j. has_bit old m || (shares_mark (take i os) m || m == mark_of (is j)))
+      ∙ ap (λ b. has_bit old m || b) (sym (list_any_more (λ one. m == mark_of one) os i d within))
 
 pub all_added : (old new : List ℕ) (os : List Occasion) (i : ℕ) → length os ≤ i → AreSet old new (take i os) → AreSet old new os
-all_added old new os i e h m = h m ∙ ap (λ ps. has old m || shares_mark ps m) (take_all i os e)
+all_added old new os i e h m = h m ∙ ap (λ ps. has_bit old m || shares_mark ps m) (take_all i os e)
 
 -- ---- marks and lists
 -- an occasion whose mark none of these has is none of them
@@ -81,9 +82,9 @@ none_of_these (one ∷ os) o h =
     by false e apart rest = rest
 
 module _ (words more : List ℕ) (os : List Occasion) (set_all : AreSet words more os) (ls : Listings) (were : AreMarked words ls) (number : ℕ) where
-  unset : (o : Occasion) → has more (mark_of o) ≡ false → (has words (mark_of o) ≡ false) × (is_among os o ≡ false)
+  unset : (o : Occasion) → has_bit more (mark_of o) ≡ false → (has_bit words (mark_of o) ≡ false) × (is_among os o ≡ false)
   unset o h =
-      let parts = or_parts (has words (mark_of o)) (shares_mark os (mark_of o)) (sym (set_all (mark_of o)) ∙ h) in
+      let parts = or_parts (has_bit words (mark_of o)) (shares_mark os (mark_of o)) (sym (set_all (mark_of o)) ∙ h) in
       (parts.0, none_of_these os o parts.1)
 
   pub marked_more : (new : Listings) → Adds ls new (is_among os) number → AreMarked more new
@@ -101,7 +102,7 @@ pub none_marked : (words : List ℕ) (ls : Listings) → ls ≡ [] → AreMarked
 none_marked words ls none o n h = ap (λ ms. is_listed ms o n) none
 
 -- what has no mark has no numbers
-pub unmarked : (words : List ℕ) (ls : Listings) → AreMarked words ls → (o : Occasion) → has words (mark_of o) ≡ false → listed ls o ≡ []
+pub unmarked : (words : List ℕ) (ls : Listings) → AreMarked words ls → (o : Occasion) → has_bit words (mark_of o) ≡ false → listed ls o ≡ []
 unmarked words ls were o h = by (lookup (occasion_eq o) ls) (λ n. were o n h)
   where
     by : (found : Option (List ℕ)) → ((n : ℕ) → option_map_or (λ ns. has_number ns n) found false ≡ false) → unwrap_or found [] ≡ []
@@ -109,5 +110,5 @@ unmarked words ls were o h = by (lookup (occasion_eq o) ls) (λ n. were o n h)
     by (Some []) none = refl
     by (Some (x ∷ xs)) none = absurd (true≢false (sym (ap (λ b. b || has_number xs x) (eq-eqb x x refl)) ∙ none x))
 
-pub none_pushed : (words : List ℕ) (ls seen : Listings) → ls ≡ seen → AreMarked words ls → (o : Occasion) → has words (mark_of o) ≡ false → (ns : List ℕ) → ns ≡ ns ++ listed seen o
+pub none_pushed : (words : List ℕ) (ls seen : Listings) → ls ≡ seen → AreMarked words ls → (o : Occasion) → has_bit words (mark_of o) ≡ false → (ns : List ℕ) → ns ≡ ns ++ listed seen o
 none_pushed words ls seen same were o h ns = sym (ap (λ ms. ns ++ listed ms o) (sym same) ∙ ap (λ ms. ns ++ ms) (unmarked words ls were o h) ∙ append-nil ns)

@@ -4,7 +4,8 @@ use Rattle.std.specs.Option.{option_map_or}
 use Rattle.std.specs.List.{list_any}
 use Rattle.std.specs.Map.{lookup}
 use Rattle.watch_index.specs.declared.occasion.Occasion.{Occasion}
-use Rattle.watch_index.specs.Marks.{has as is_set, mark_of}
+use Rattle.ecs_model.specs.BitWords.{has_bit as is_set}
+use Rattle.watch_index.specs.Marks.{mark_of}
 use Rattle.watch_index.specs.SameOccasion.{occasion_eq}
 
 -- occasions, each with the numbers of the stored queries that look out for it

@@ -1,6 +1,5 @@
 -- The marks of what is looked out for: a few thousand bits, so that occasions may share one.
-use Rattle.std.specs.Prelude.{ℕ, ◌+◌, ◌*◌, ◌/◌, ◌%◌, ◌==◌, Bool, List, Option, Some, None, slice_index}
-use Rattle.std.specs.Int.{bit_at}
+use Rattle.std.specs.Prelude.{ℕ, ◌+◌, ◌*◌, ◌/◌, ◌%◌, Option, Some, None}
 use Rattle.component_index.specs.declared.pattern.Part.{Part}
 use Rattle.component_index.specs.declared.pattern.Part.TheVariants.{Is, Any}
 use Rattle.watch_index.specs.declared.occasion.Occasion.{Occasion}
@@ -27,7 +26,3 @@ abbrev pub mark_of : Occasion → ℕ
 mark_of Life = 0
 mark_of AskedByAll = 1
 mark_of (Fact way p) = ((number_of p.first * 663608941 + second_number p.second * 444758425 + way_number way) / 262144) % 4096
-
--- whether a mark is set
-unfoldable pub has : List ℕ → ℕ → Bool
-has words m = bit_at (slice_index words (m / 64)) (m % 64) == 1

@@ -1,7 +1,8 @@
 //! A mark for each thing that is looked out for.
 ghost use Rattle.std.specs.Prelude.{◌≡◌, ◌<◌, ◌≤◌, ◌==◌, ◌||◌, ℕ, false};
 ghost use Rattle.watch_index.specs.Listed.{shares_mark};
-ghost use Rattle.watch_index.specs.Marks.{has, mark_of, number_of, second_number, way_number};
+ghost use Rattle.ecs_model.specs.BitWords.{has_bit};
+ghost use Rattle.watch_index.specs.Marks.{mark_of, number_of, second_number, way_number};
 ghost use Rattle.watch_index.specs.declared.occasion.Occasion.{Occasion as Awaited};
 
 use crate::occasion::{Occasion, Way};
@@ -19,7 +20,7 @@ pub struct Marks {
 impl Marks {
     /// None is set.
     pub fn none() -> Self
-        ensures { (o : Awaited) → has result.words (mark_of o) ≡ false }
+        ensures { (o : Awaited) → has_bit result.words (mark_of o) ≡ false }
     {
         Marks { words: [0; 64] }
     }
@@ -27,7 +28,7 @@ impl Marks {
     /// Whether the mark of an occasion is set.
     #[inline(always)]
     pub fn has(&self, occasion: &Occasion) -> bool
-        ensures { result ≡ has self.now.words (mark_of occasion.now) }
+        ensures { result ≡ has_bit self.now.words (mark_of occasion.now) }
     {
         let mark = mark_of(occasion);
         self.words[(mark / 64) as usize] >> (mark % 64) & 1 == 1
@@ -35,7 +36,7 @@ impl Marks {
 
     /// Sets the marks of these occasions, and no others.
     pub fn set_all(&mut self, occasions: &[Occasion])
-        ensures { (m : ℕ) → has self.new.words m ≡ (has self.old.words m || shares_mark occasions.now m) }
+        ensures { (m : ℕ) → has_bit self.new.words m ≡ (has_bit self.old.words m || shares_mark occasions.now m) }
     {
         for occasion in occasions {
             let mark = mark_of(occasion);
@@ -45,7 +46,7 @@ impl Marks {
 
     fn set(&mut self, mark: u32)
         requires { mark < 4096 }
-        ensures { (m : ℕ) → has self.new.words m ≡ (m == mark || has self.old.words m) }
+        ensures { (m : ℕ) → has_bit self.new.words m ≡ (m == mark || has_bit self.old.words m) }
     {
         self.words[(mark / 64) as usize] |= 1u64 << (mark % 64);
     }

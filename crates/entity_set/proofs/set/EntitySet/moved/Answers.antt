@@ -2,7 +2,7 @@ use Rattle.std.specs.Prelude.{◌==◌, ◌&&◌, ◌||◌, not}
 use Rattle.std.specs.List.{list_any}
 use Rattle.std.proofs.Common.{◌≤◌, ap, length, subst, sym, ◌∙◌}
 use Rattle.std.proofs.lemmas.List.{take_all}
-use Rattle.entity_set.specs.Members.{has}
+use Rattle.ecs_model.specs.BitWords.{has_bit}
 use Rattle.entity_set.proofs.SetBits.{and_all, any_members, members_rise, or_none, puts_one, takes_one}
 use Rattle.entity_set.proofs.set.EntitySet.moved.Goals as goal
 
@@ -12,7 +12,7 @@ loop-entity-init g c =
     record {
       few = subst (λ ws. length ws ≤ 67108864) (sym same) c.self.invariant;
       has = λ e.
-          ap (λ ws. has ws e) same ∙ sym (any_members c.self.inside.words.items e) ∙ ap (λ s. list_any (λ x. x == e) s.items) c.self.view_is
+          ap (λ ws. has_bit ws e) same ∙ sym (any_members c.self.inside.words.items e) ∙ ap (λ s. list_any (λ x. x == e) s.items) c.self.view_is
           ∙ and_all (list_any (λ x. x == e) c.args.self.now.items);
     }
 

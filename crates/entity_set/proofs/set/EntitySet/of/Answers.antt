@@ -2,7 +2,7 @@ use Rattle.std.specs.Prelude.{◌==◌}
 use Rattle.std.specs.List.{list_any}
 use Rattle.std.proofs.Common.{◌≡◌, [], ap, arith, false, length, refl, ◌∙◌}
 use Rattle.std.proofs.lemmas.List.{take_all}
-use Rattle.entity_set.specs.Members.{has}
+use Rattle.ecs_model.specs.BitWords.{has_bit}
 use Rattle.entity_set.proofs.Words.{has_none}
 use Rattle.entity_set.proofs.SetBits.{any_members, members_rise, puts_one}
 use Rattle.entity_set.proofs.set.EntitySet.of.Goals as goal
@@ -12,7 +12,7 @@ loop-entity-init g c =
     let none : length c.new-words.result.items ≡ 0 = ap length c.new-words.ensures.items in
     record {
       few = omega (arith, none);
-      has = λ e. ap (λ ws. has ws e) c.new-words.ensures.items ∙ has_none [] e refl;
+      has = λ e. ap (λ ws. has_bit ws e) c.new-words.ensures.items ∙ has_none [] e refl;
     }
 
 pub loop-entity-preserved : goal.loop-entity-preserved

@@ -1,7 +1,7 @@
 use Rattle.std.proofs.Common.{ap, ◌∙◌}
-use Rattle.watch_index.specs.Marks.{has}
+use Rattle.ecs_model.specs.BitWords.{has_bit}
 use Rattle.watch_index.proofs.MarkChanges.{has_tests}
 use Rattle.watch_index.proofs.marks.Marks.has.Goals as goal
 
 pub returns : goal.returns
-returns c = has_tests c.args.self.now.words c.mark_of-mark.result ∙ ap (has c.args.self.now.words) c.mark_of-mark.ensures.mark
+returns c = has_tests c.args.self.now.words c.mark_of-mark.result ∙ ap (has_bit c.args.self.now.words) c.mark_of-mark.ensures.mark
