@@ -1,12 +1,12 @@
 -- What one bit set or cleared, and words more, change of all bits.
-use Rattle.std.specs.Prelude.{◌==◌, ◌&&◌, ◌||◌, not, bit_and, bit_or}
+use Rattle.std.specs.Prelude.{◌==◌, ◌&&◌, not, bit_and}
 use Rattle.std.specs.Int.{bit_at, bit_not}
 use Rattle.std.proofs.Common.{◌≡◌, ℕ, ◌-◌, ◌*◌, ◌/◌, ◌%◌, ◌^◌, ◌<◌, ◌≤◌, min, Bool, true, false, List, ◌++◌, append-nil, length, get_or, set, take, drop, sym, ap, ◌∙◌, inl, inr, arith, eq-eqb, w64, refl}
 use Rattle.std.proofs.lemmas.Bool.{cases_eq, cases_lt, ne_eqb}
 use Rattle.std.proofs.lemmas.Bool.Decides.{nat_tests}
 use Rattle.std.proofs.lemmas.List.{at_drop_all, get_or_past, take_all}
-use Rattle.std.proofs.lemmas.Nat.Bits.{bit_at-lt, bit_at-zero, bit_at_and, bit_at_not, bit_at_clear_other, bit_at_clear_same, shr_and_one}
-use Rattle.ecs_model.proofs.Bits.{at_place, elsewhere, other_bit, set_at, set_other, small}
+use Rattle.std.proofs.lemmas.Nat.Bits.{bit_at-lt, bit_at-zero, bit_at_and, bit_at_not, bit_at_clear_other, bit_at_clear_same}
+use Rattle.ecs_model.proofs.Bits.{at_place, elsewhere, other_bit, small}
 use Rattle.ecs_model.specs.BitWords.{has_bit}
 use Rattle.entity_set.specs.Members.{has_else}
 
@@ -14,16 +14,6 @@ use Rattle.entity_set.specs.Members.{has_else}
 pub written_back : (new old : List ℕ) (n : ℕ) → length new ≡ length old → length old ≡ n → take n (new ++ drop (length new) old) ≡ new
 written_back new old n same long =
     at_drop_all (λ d. take n (new ++ d)) old (length new) (omega (arith, same)) ∙ ap (take n) (append-nil new) ∙ take_all n new (omega (arith, same, long))
-
--- a bit that is set
-module _ (old new : List ℕ) (k : ℕ) (within : k / 64 < length old) (is : new ≡ set old (k / 64) (bit_or (get_or old (k / 64) 0) (1 * 2 ^ (k % 64) % 2 ^ 64))) where
-  pub has_one_more : (e : ℕ) → has_bit new e ≡ (e == k || has_bit old e)
-  unfolding has_bit
-  has_one_more e =
-      elim (cases_eq e k) [
-        | inl same ↦ eq-eqb _ 1 (set_at old new k within is e same) ∙ sym (ap (λ b. b || (bit_at (get_or old (e / 64) 0) (e % 64) == 1)) (eq-eqb e k same))
-        | inr other ↦ ap (λ b. b == 1) (set_other old new k within is e other) ∙ sym (ap (λ b. b || (bit_at (get_or old (e / 64) 0) (e % 64) == 1)) (ne_eqb e k other))
-      ]
 
 and_not : (a b : Bool) → b ≡ true → (a && not b) ≡ false
 and_not true true h = refl
@@ -97,11 +87,6 @@ grown_has old new m n before after same more wider e =
             | inr beyond ↦ get_or_past new (e / 64) 0 (omega arith)
           ] ∙ sym (get_or_past old (e / 64) 0 (omega arith))
     ])
-
--- the test of a bit
-pub has_tests : (words : List ℕ) (e : ℕ) → (bit_and (get_or words (e / 64) 0 / 2 ^ (e % 64)) 1 == 1) ≡ has_bit words e
-unfolding has_bit
-has_tests words e = ap (λ b. b == 1) (shr_and_one (get_or words (e / 64) 0) (e % 64))
 
 -- a word that has no bit that another lacks
 bits_apart : (x y z : ℕ) → x < 2 → y < 2 → z ≡ 1 - y → min x z ≡ 0 → ((x == 1) && not (y == 1)) ≡ false

@@ -1,15 +1,14 @@
 -- What a mark more changes, and that marks stay true to the lists.
-use Rattle.std.specs.Prelude.{◌==◌, ◌&&◌, ◌||◌, not, bit_and, bit_or, unwrap_or}
+use Rattle.std.specs.Prelude.{◌==◌, ◌&&◌, ◌||◌, not, unwrap_or}
 use Rattle.std.specs.Int.{bit_at}
 use Rattle.std.specs.Map.{lookup}
 use Rattle.std.specs.Option.{option_map_or}
-use Rattle.std.proofs.Common.{◌≡◌, ℕ, zero, suc, ◌+◌, ◌*◌, ◌/◌, ◌%◌, ◌^◌, ◌<◌, ◌≤◌, Bool, true, false, List, [], ◌∷◌, ◌++◌, append-nil, length, get_or, replicate, slice_index_or, set, take, Option, Some, None, sym, ap, ◌∙◌, inl, inr, eq-eqb, refl, true≢false}
-use Rattle.std.proofs.lemmas.Bool.{cases_eq, ne_eqb, or_parts}
+use Rattle.std.proofs.Common.{◌≡◌, ℕ, zero, suc, ◌+◌, ◌/◌, ◌%◌, ◌<◌, ◌≤◌, Bool, true, false, List, [], ◌∷◌, ◌++◌, append-nil, length, get_or, replicate, slice_index_or, take, Option, Some, None, sym, ap, ◌∙◌, eq-eqb, refl, true≢false}
+use Rattle.std.proofs.lemmas.Bool.{or_parts}
 use Rattle.std.proofs.lemmas.List.{take_all}
 use Rattle.std.proofs.lemmas.List.Folds.{list_any_more}
-use Rattle.std.proofs.lemmas.Nat.Bits.{bit_at-zero, shr_and_one}
+use Rattle.std.proofs.lemmas.Nat.Bits.{bit_at-zero}
 use Rattle.component_index.proofs.ListedLemmas.{or_none}
-use Rattle.ecs_model.proofs.Bits.{set_at, set_other}
 use Rattle.watch_index.specs.declared.occasion.Occasion.{Occasion}
 use Rattle.watch_index.specs.Listed.{Adds, AreMarked, Drops, Keeps, Listings, has as has_number, is_among, is_listed, listed, shares_mark}
 use Rattle.ecs_model.specs.BitWords.{has_bit}
@@ -17,21 +16,6 @@ use Rattle.watch_index.specs.Marks.{mark_of}
 use Rattle.watch_index.specs.SameOccasion.{occasion_eq, same_occasion}
 
 -- ---- bits in words
--- a bit that is set
-module _ (old new : List ℕ) (k : ℕ) (within : k / 64 < length old) (is : new ≡ set old (k / 64) (bit_or (get_or old (k / 64) 0) (1 * 2 ^ (k % 64) % 2 ^ 64))) where
-  pub has_one_more : (e : ℕ) → has_bit new e ≡ (e == k || has_bit old e)
-  unfolding has_bit
-  has_one_more e =
-      elim (cases_eq e k) [
-        | inl same ↦ eq-eqb _ 1 (set_at old new k within is e same) ∙ sym (ap (λ b. b || (bit_at (get_or old (e / 64) 0) (e % 64) == 1)) (eq-eqb e k same))
-        | inr other ↦ ap (λ b. b == 1) (set_other old new k within is e other) ∙ sym (ap (λ b. b || (bit_at (get_or old (e / 64) 0) (e % 64) == 1)) (ne_eqb e k other))
-      ]
-
--- the test of a bit
-pub has_tests : (words : List ℕ) (e : ℕ) → (bit_and (get_or words (e / 64) 0 / 2 ^ (e % 64)) 1 == 1) ≡ has_bit words e
-unfolding has_bit
-has_tests words e = ap (λ b. b == 1) (shr_and_one (get_or words (e / 64) 0) (e % 64))
-
 -- where no word has a bit, none is set
 zeros : (n k : ℕ) → ◌≡◌ {A = ℕ} (get_or (replicate n 0) k 0) 0
 zeros zero k = refl

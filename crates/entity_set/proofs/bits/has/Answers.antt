@@ -1,6 +1,7 @@
 use Rattle.std.proofs.Common.{sym}
 use Rattle.std.proofs.lemmas.List.{get_or_past}
-use Rattle.entity_set.proofs.Words.{has_none, has_tests}
+use Rattle.ecs_model.proofs.Bits.{has_tests}
+use Rattle.entity_set.proofs.Words.{has_none}
 use Rattle.entity_set.proofs.bits.has.Goals as goal
 
 pub returns-then-place-words : goal.returns-then-place-words

@@ -1,5 +1,5 @@
 use Rattle.std.proofs.Common.{arith, refl}
-use Rattle.entity_set.proofs.Words.{has_one_more}
+use Rattle.ecs_model.proofs.Bits.{has_one_more}
 use Rattle.entity_set.proofs.bits.set.Goals as goal
 
 pub returns-clause-has : goal.returns-clause-has

@@ -1,6 +1,6 @@
 use Rattle.std.proofs.Common.{ap, ◌∙◌}
 use Rattle.ecs_model.specs.BitWords.{has_bit}
-use Rattle.watch_index.proofs.MarkChanges.{has_tests}
+use Rattle.ecs_model.proofs.Bits.{has_tests}
 use Rattle.watch_index.proofs.marks.Marks.has.Goals as goal
 
 pub returns : goal.returns

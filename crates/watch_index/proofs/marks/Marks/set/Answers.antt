@@ -1,5 +1,5 @@
 use Rattle.std.proofs.Common.{arith, refl}
-use Rattle.watch_index.proofs.MarkChanges.{has_one_more}
+use Rattle.ecs_model.proofs.Bits.{has_one_more}
 use Rattle.watch_index.proofs.marks.Marks.set.Goals as goal
 
 pub returns : goal.returns
