@@ -13,7 +13,8 @@ use Rattle.ecs_id.specs.Id.{Id}
 use Rattle.ecs_id.specs.declared.TableKey.{TableKey}
 use Rattle.component_index.specs.declared.pattern.Pattern.{Pattern}
 use Rattle.component_index.specs.Patterns.{matches}
-use Rattle.component_index.specs.Entered.{Entered, IsMatched, table_cmp, table_eq, table_cmp_total, eq_by-table_cmp, same_table}
+use Rattle.ecs_id.specs.TableKeys.{table_eq}
+use Rattle.component_index.specs.Entered.{Entered, IsMatched, table_cmp, table_cmp_total, eq_by-table_cmp, same_table}
 use Rattle.component_index.specs.Listed.{is_listed, is_matched, Adds, Drops, AreListed, IsNewest, Keeps as KeepsOthers}
 use Rattle.component_index.specs.Mentions.{AreMarked, Keeps, may_match}
 use Rattle.component_index.specs.TableList.{has}

@@ -8,7 +8,7 @@ use Rattle.std.proofs.lemmas.List.Folds.{list_any_more}
 use Rattle.std.proofs.lemmas.Bool.{or_right}
 use Rattle.ecs_id.specs.declared.TableKey.{TableKey}
 use Rattle.component_index.specs.declared.pattern.Pattern.{Pattern}
-use Rattle.component_index.specs.Entered.{table_eq}
+use Rattle.ecs_id.specs.TableKeys.{table_eq}
 use Rattle.component_index.specs.Listed.{is_listed, Adds, Drops, IsNewest, Keeps}
 use Rattle.component_index.specs.TableList.{has, IsNewOrLast}
 use Rattle.component_index.specs.SamePattern.{pattern_eq, same_pattern}

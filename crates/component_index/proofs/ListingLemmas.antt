@@ -11,7 +11,8 @@ use Rattle.indexmap.proofs.CallerLemmas.{Contains-insert_key}
 use Rattle.indexmap.proofs.SetLemmas.{set_all_distinct}
 use Rattle.ecs_id.specs.declared.TableKey.{TableKey}
 use Rattle.component_index.specs.declared.pattern.Pattern.{Pattern}
-use Rattle.component_index.specs.Entered.{Entered, IsMatched, same_table, table_eq}
+use Rattle.ecs_id.specs.TableKeys.{table_eq}
+use Rattle.component_index.specs.Entered.{Entered, IsMatched, same_table}
 use Rattle.component_index.specs.Listed.{AreListed}
 use Rattle.component_index.specs.Listings.{Lists, ListsEntered, listed_in, lists_of}
 use Rattle.component_index.specs.Mentions.{MayBeListed, may_match}

@@ -17,7 +17,8 @@ use Rattle.std.proofs.lemmas.Map.Keys.{IsDistinct-IsPermutation, IsDistinct-head
 use Rattle.std.proofs.Math.Bool.{or-false}
 use Rattle.indexmap.specs.IndexSet.{insert_key}
 use Rattle.ecs_id.specs.declared.TableKey.{TableKey}
-use Rattle.component_index.specs.Entered.{table_cmp_total, table_eq, eq_by-table_cmp, same_table}
+use Rattle.ecs_id.specs.TableKeys.{table_eq}
+use Rattle.component_index.specs.Entered.{table_cmp_total, eq_by-table_cmp, same_table}
 use Rattle.component_index.specs.TableList.{has, is_last, IsNewOrLast, IsPlace, Loses}
 pub use Rattle.component_index.proofs.ListedLemmas.{on_err}
 

@@ -11,6 +11,7 @@ use Rattle.std.specs.Coded.{Coded, code_by, coded×, coded_ℕ}
 use Rattle.std.specs.List.{list_any}
 use Rattle.std.specs.FinMap as finite
 use Rattle.ecs_id.specs.Id.{Id}
+use Rattle.ecs_id.specs.TableKeys.{table_eq}
 use Rattle.ecs_id.specs.declared.TableKey.{TableKey}
 use Rattle.component_index.specs.declared.pattern.Pattern.{Pattern}
 use Rattle.component_index.specs.Patterns.{matches}
@@ -18,10 +19,6 @@ use Rattle.component_index.specs.Patterns.{matches}
 -- keys of tables by slot, then by serial number
 abbrev pub table_cmp : TableKey → TableKey → Ordering
 table_cmp = then_cmp (on (λ key. key.slot) nat_cmp) (on (λ key. key.serial) nat_cmp)
-
--- whether two keys are the same
-abbrev pub table_eq : TableKey → TableKey → Bool
-table_eq x y = x.slot == y.slot && x.serial == y.serial
 
 -- a key is stored as its slot and its serial number
 abbrev pub table_code : Coded TableKey

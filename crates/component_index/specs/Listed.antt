@@ -10,7 +10,8 @@ use Rattle.component_index.specs.declared.pattern.Part.TheVariants.{Is, Any}
 use Rattle.component_index.specs.declared.pattern.Pattern.{Pattern}
 use Rattle.component_index.specs.Patterns.{matches, matches_some}
 use Rattle.component_index.specs.SamePattern.{pattern_eq}
-use Rattle.component_index.specs.Entered.{Entered, table_eq}
+use Rattle.ecs_id.specs.TableKeys.{table_eq}
+use Rattle.component_index.specs.Entered.{Entered}
 use Rattle.component_index.specs.TableList.{has, IsNewOrLast}
 
 -- the pattern is one of these

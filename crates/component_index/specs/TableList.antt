@@ -3,7 +3,7 @@ use Rattle.std.specs.Prelude.{◌≡◌, ◌<◌, ◌-◌, ℕ, Bool, true, fals
 use Rattle.std.specs.List.{list_any}
 use Rattle.std.specs.Option.{option_map_or}
 use Rattle.ecs_id.specs.declared.TableKey.{TableKey}
-use Rattle.component_index.specs.Entered.{table_eq}
+use Rattle.ecs_id.specs.TableKeys.{table_eq}
 
 -- the list has the table
 abbrev pub has : List TableKey → TableKey → Bool

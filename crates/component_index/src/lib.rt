@@ -5,7 +5,8 @@ ghost use Rattle.std.specs.Prelude.{◌≡◌, ◌↔◌, Contains, None, Some, 
 ghost use Rattle.std.specs.List.{IsDistinct};
 ghost use Rattle.std.specs.FinMap as finite;
 ghost use Rattle.ecs_id.specs.declared.TableKey.{TableKey};
-ghost use Rattle.component_index.specs.Entered.{table_eq, IsMatched};
+ghost use Rattle.ecs_id.specs.TableKeys.{table_eq};
+ghost use Rattle.component_index.specs.Entered.{IsMatched};
 ghost use Rattle.component_index.specs.Listings.{listed_in, ListsEntered};
 ghost use Rattle.component_index.specs.declared.pattern.Pattern.{Pattern as Asked};
 

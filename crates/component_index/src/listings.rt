@@ -1,7 +1,7 @@
 //! The lists of tables, for reading.
 ghost use Rattle.std.specs.Prelude.{◌≡◌};
 ghost use Rattle.std.specs.List.{IsDistinct};
-ghost use Rattle.component_index.specs.Entered.{table_eq};
+ghost use Rattle.ecs_id.specs.TableKeys.{table_eq};
 ghost use Rattle.component_index.specs.Listings.{listed_in, lists_of};
 ghost use Rattle.component_index.specs.Mentions.{MayBeListed};
 

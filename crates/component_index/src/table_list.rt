@@ -2,7 +2,7 @@
 ghost use Rattle.std.specs.Prelude.{◌≡◌, ◌∷◌, ◌++◌, [], ◌↔◌, IfOk, IsTrue, OnErr, OnOk, Some, length, position};
 ghost use Rattle.std.specs.List.{IsDistinct};
 ghost use Rattle.indexmap.specs.IndexSet.{insert_key};
-ghost use Rattle.component_index.specs.Entered.{table_eq};
+ghost use Rattle.ecs_id.specs.TableKeys.{table_eq};
 ghost use Rattle.component_index.specs.TableList.{IsNewOrLast, IsPlace, Loses, is_last};
 ghost use Rattle.component_index.specs.Tables.{keys_of};
 
@@ -30,7 +30,7 @@ impl<A: Allocator> Model for TableList<A> {
     ghost use Rattle.std.specs.Prelude.{List};
     ghost use Rattle.std.specs.List.{IsDistinct};
     ghost use Rattle.ecs_id.specs.declared.TableKey.{TableKey as Key};
-    ghost use Rattle.component_index.specs.Entered.{table_eq};
+    ghost use Rattle.ecs_id.specs.TableKeys.{table_eq};
     ghost use Rattle.component_index.specs.Tables.{keys_of};
 
     ghost Value = { List Key };

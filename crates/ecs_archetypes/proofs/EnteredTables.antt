@@ -14,13 +14,14 @@ use Rattle.ecs_table.specs.Archetype.{Archetype, byte_size}
 use Rattle.ecs_model.proofs.Maps.{some_of}
 use Rattle.table_store.specs.Kept.{IsMade}
 use Rattle.table_store.specs.Rows.{IsStored, row_at, rows_in}
-use Rattle.table_store.specs.Store.{Shape, Store, changed_at, ids_at, key_eq, made_at, released_at, room_at, shape_at, shape_of, shaped, table_at}
+use Rattle.ecs_id.specs.TableKeys.{table_eq}
+use Rattle.table_store.specs.Store.{Shape, Store, changed_at, ids_at, made_at, released_at, room_at, shape_at, shape_of, shaped, table_at}
 use Rattle.ecs_archetypes.specs.Archetypes.{known_in}
 use Rattle.ecs_archetypes.specs.Holdings.{KeepsSizes}
 use Rattle.ecs_archetypes.specs.Housing.{AreEntered, HaveGrown}
 use Rattle.table_store.specs.Going.{TablesGoOn, goes_on_same, goes_on_then}
 use Rattle.ecs_archetypes.specs.Tables.{HasGrown, StandAlike}
-use Rattle.ecs_archetypes.proofs.Placings.{key_eq-tells}
+use Rattle.ecs_archetypes.proofs.Placings.{table_eq-tells}
 use Rattle.ecs_archetypes.proofs.KnownIds.{KeepsSizes-then, released_kept, same_kept}
 
 -- the ids of a table are those of its shape
@@ -86,7 +87,7 @@ under_max a b c e = grind (arith, common_steps)
 -- a table that is found or made
 module _ (s n : Store) (key : TableKey) (f : Shape) (made : (q : TableKey) → table_at n q ≡ made_at s key (shaped f) q) (newest : IsNone (table_at s key) ↔ (s.last < key.serial)) (last : n.last ≡ max s.last key.serial) where
   pub made_stands : (k : TableKey) (t : Archetype) → table_at s k ≡ Some t → table_at n k ≡ Some t
-  made_stands k t h = made k ∙ by (key_eq k key)
+  made_stands k t h = made k ∙ by (table_eq k key)
     where
       by : (b : Bool) → cond b (Some (unwrap_or (table_at s k) (shaped f))) (table_at s k) ≡ Some t
       by true = ap (λ o. Some (unwrap_or o (shaped f))) h
@@ -94,7 +95,7 @@ module _ (s n : Store) (key : TableKey) (f : Shape) (made : (q : TableKey) → t
 
   -- under each key stands what stood there, or it is the new one's
   pub made_new : (k : TableKey) → (table_at n k ≡ table_at s k) ⊎ ((k ≡ key) × (table_at s key ≡ None) × (s.last < key.serial))
-  made_new k = by (key_eq k key) (key_eq-tells k key).0 (table_at s k) refl (made k)
+  made_new k = by (table_eq k key) (table_eq-tells k key).0 (table_at s k) refl (made k)
     where
       by : (b : Bool) → (b ≡ true → k ≡ key) → (o : Option Archetype) → table_at s k ≡ o → table_at n k ≡ cond b (Some (unwrap_or o (shaped f))) o
           → (table_at n k ≡ table_at s k) ⊎ ((k ≡ key) × (table_at s key ≡ None) × (s.last < key.serial))
@@ -110,12 +111,12 @@ module _ (s n : Store) (key : TableKey) (f : Shape) (made : (q : TableKey) → t
 
   -- of a new one it comes
   pub entered_made : (x y : Entered) (ids : List Id) → AreEntered s x → y ≡ finite.insert x key ids → ids_at n key ≡ Some ids → AreEntered n y
-  entered_made x y ids are new own k = by (key_eq k key) (key_eq-tells k key) refl
+  entered_made x y ids are new own k = by (table_eq k key) (table_eq-tells k key) refl
     where
       other : k ≢ key → finite.get y k ≡ ids_at n k
       other apart = ap (λ z. finite.get z k) new ∙ get-entered_other x key ids k apart ∙ are k ∙ either (made_new k) (λ same. ap (option_map (λ t. t.ids)) (sym same)) (λ n. absurd (apart n.0))
 
-      by : (b : Bool) → ((b ≡ true → k ≡ key) × (k ≡ key → b ≡ true)) → key_eq k key ≡ b → finite.get y k ≡ ids_at n k
+      by : (b : Bool) → ((b ≡ true → k ≡ key) × (k ≡ key → b ≡ true)) → table_eq k key ≡ b → finite.get y k ≡ ids_at n k
       by true d e = ap (finite.get y) (d.0 refl) ∙ ap (λ z. finite.get z key) new ∙ get-entered x key ids ∙ sym own ∙ ap (ids_at n) (sym (d.0 refl))
       by false d e = other (λ same. let no : true ≡ false = sym (d.1 same) in cc)
 
@@ -129,7 +130,7 @@ module _ (s n : Store) (key : TableKey) (f : Shape) (made : (q : TableKey) → t
         by (Some t) h = cc
 
     pub undone : (k : TableKey) → table_at m k ≡ table_at s k
-    undone k = released k ∙ by (key_eq k key) (key_eq-tells k key).0 (made k)
+    undone k = released k ∙ by (table_eq k key) (table_eq-tells k key).0 (made k)
       where
         by : (b : Bool) → (b ≡ true → k ≡ key) → table_at n k ≡ cond b (Some (unwrap_or (table_at s k) (shaped f))) (table_at s k) → cond b None (table_at n k) ≡ table_at s k
         by true d h = sym (ap (table_at s) (d refl) ∙ vacant)
@@ -172,7 +173,7 @@ module _ (added : Shape) (s n : Store) (key : TableKey) (f : Shape) (m : IsMade 
 -- a table that is new has no rows
 pub made_empty : (s n : Store) (key : TableKey) (f : Shape) {last : ℕ} → s.last ≡ last → IsMade s f key n → last < key.serial → rows_in n key ≡ 0
 made_empty s n key f is m new =
-    ap (λ o. unwrap_or (option_map (λ t. length t.entities) o) 0) (m.made key ∙ ap (λ b. cond b (Some (unwrap_or (table_at s key) (shaped f))) (table_at s key)) ((key_eq-tells key key).1 refl))
+    ap (λ o. unwrap_or (option_map (λ t. length t.entities) o) 0) (m.made key ∙ ap (λ b. cond b (Some (unwrap_or (table_at s key) (shaped f))) (table_at s key)) ((table_eq-tells key key).1 refl))
     ∙ by (table_at s key) (m.newest.1 (let e = is in omega (arith, e, new)))
   where
     by : (o : Option Archetype) → IsNone o → length (unwrap_or o (shaped f)).entities ≡ 0
@@ -199,7 +200,7 @@ module _ (s n : Store) (key : TableKey) (more : ℕ) (tables : (q : TableKey) �
   enough a b e = grind (arith, common_steps)
 
   pub grown_reserved : ((k : TableKey) → shape_at n k ≡ shape_at s k) → n.last ≡ s.last → ((p : Place) → row_at n p ≡ row_at s p) → HasGrown s n
-  grown_reserved shapes last rows = grown_by s n (goes_on_alike s n (record { shapes = shapes; last = last })) (λ k t h. by k t h (key_eq k key) (tables k)) rows
+  grown_reserved shapes last rows = grown_by s n (goes_on_alike s n (record { shapes = shapes; last = last })) (λ k t h. by k t h (table_eq k key) (tables k)) rows
     where
       by : (k : TableKey) (t : Archetype) → table_at s k ≡ Some t → (b : Bool) → table_at n k ≡ cond b (option_map (roomier more) (table_at s k)) (table_at s k)
           → (u : Archetype) × (table_at n k ≡ Some u) × (shape_of u ≡ shape_of t) × (t.room ≤ u.room)
@@ -211,7 +212,7 @@ module _ (s n : Store) (key : TableKey) (more : ℕ) (tables : (q : TableKey) �
       let t = some_of (table_at s key) there in
       enough (room_at n key) (t.0).room
       (ap (λ o. unwrap_or (option_map (λ t. t.room) o) 0)
-      (tables key ∙ ap (λ b. cond b (option_map (roomier more) (table_at s key)) (table_at s key)) ((key_eq-tells key key).1 refl) ∙ ap (option_map (roomier more)) t.1))
+      (tables key ∙ ap (λ b. cond b (option_map (roomier more) (table_at s key)) (table_at s key)) ((table_eq-tells key key).1 refl) ∙ ap (option_map (roomier more)) t.1))
 
 -- where the same tables stand, the same entries do
 pub entered_alike : (s n : Store) (x : Entered) → ((k : TableKey) → shape_at n k ≡ shape_at s k) → AreEntered s x → AreEntered n x
@@ -243,7 +244,7 @@ kept_same added s n x same are whole = record {
 
 no_table : (s : Store) → s.tables ≡ [] → (k : TableKey) → table_at s k ≡ None
 unfolding table_at
-no_table s none k = ap (λ ts. option_map {T = TableKey × Archetype} (λ e. e.1) (find (λ e. key_eq k e.0) ts)) none
+no_table s none k = ap (λ ts. option_map {T = TableKey × Archetype} (λ e. e.1) (find (λ e. table_eq k e.0) ts)) none
 
 -- without tables there are no entries
 pub entered_first : (s : Store) (x : Entered) → s.tables ≡ [] → x ≡ finite.empty → AreEntered s x
@@ -252,7 +253,7 @@ entered_first s x none empty k = ap (λ z. finite.get z k) empty ∙ get-empty t
 -- a table that is released leaves the entries
 pub entered_released : (s n : Store) (key : TableKey) (x y : Entered) → ((q : TableKey) → table_at n q ≡ released_at s key q) → AreEntered s x → y ≡ finite.remove x key → AreEntered n y
 entered_released s n key x y tables are left k =
-    ap (λ z. finite.get z k) left ∙ get-remove table_cmp_total x key k ∙ (λ i. cond (eq_by-table_cmp k key i) None (are k i)) ∙ by (key_eq k key) (table_at s k) ∙ ap (option_map (λ t. t.ids)) (sym (tables k))
+    ap (λ z. finite.get z k) left ∙ get-remove table_cmp_total x key k ∙ (λ i. cond (eq_by-table_cmp k key i) None (are k i)) ∙ by (table_eq k key) (table_at s k) ∙ ap (option_map (λ t. t.ids)) (sym (tables k))
   where
     by : (b : Bool) (o : Option Archetype) → cond b None (option_map (λ t. t.ids) o) ≡ option_map (λ t. t.ids) (cond b None o)
     by true o = refl

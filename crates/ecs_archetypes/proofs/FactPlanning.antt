@@ -31,7 +31,7 @@ use Rattle.ecs_archetypes.proofs.FactTables.{carried_changed}
 use Rattle.ecs_archetypes.proofs.KnownIds.{room_stands}
 use Rattle.ecs_archetypes.proofs.MapLists.{both, eq_tells, find_mapped, nat_same, sorted_mapped}
 use Rattle.ecs_archetypes.proofs.TableMoves.{alike_then, moved_alike}
-use Rattle.ecs_archetypes.proofs.Placings.{key_eq-tells}
+use Rattle.ecs_archetypes.proofs.Placings.{table_eq-tells}
 use Rattle.ecs_archetypes.proofs.Soundness.{holdings}
 use Rattle.ecs_archetypes.proofs.EnteredTables.{grown_same, grown_then}
 
@@ -81,7 +81,7 @@ module _ (h : Holdings) (order : is_sorted nat_cmp h.cells ≡ true) (e : ℕ) (
 pub moved_grown : (s n : Store) → HasGrown s n → (ms : List Move) → ((q : TableKey) → moves_to q ms ≤ room_at s q) → (h : Holdings) → with_all_moved n ms h ≡ with_all_moved s ms h
 moved_grown s n grown [] room h = refl
 moved_grown s n grown (m ∷ ms) room h =
-    let one : one_in m.to m.to ≡ 1 = ap (λ b. cond b 1 0) ((key_eq-tells m.to m.to).1 refl) in
+    let one : one_in m.to m.to ≡ 1 = ap (λ b. cond b 1 0) ((table_eq-tells m.to m.to).1 refl) in
     let own = room m.to in
     let f = room_stands s m.to (omega (arith, own, one)) in
     let same : shape_at n m.to ≡ shape_at s m.to = grown.shapes m.to f.0 f.1 ∙ sym f.1 in

@@ -8,7 +8,8 @@ use Rattle.entity_index.specs.Entities as index
 use Rattle.ecs_archetypes.specs.Archetypes.{IsSound, meaning}
 use Rattle.ecs_archetypes.specs.Holdings.{first_holdings, upcoming}
 use Rattle.table_store.specs.Rows.{IsStored, row_at, row_of}
-use Rattle.table_store.specs.Store.{Store, key_eq, shape_of, table_at}
+use Rattle.ecs_id.specs.TableKeys.{table_eq}
+use Rattle.table_store.specs.Store.{Store, shape_of, table_at}
 use Rattle.std.specs.Option.{option_and_then}
 use Rattle.std.specs.List.{find, flat_map}
 
@@ -18,7 +19,7 @@ same_next w s last = ap (next_among w.live w.deletions) last
 
 no_row : (s : Store) → s.tables ≡ [] → (p : Place) → row_at s p ≡ None
 unfolding row_at table_at
-no_row s none p = ap (λ ts. option_and_then (λ t. row_of t p.row) (option_map (λ e. e.1) (find (λ e. key_eq p.table e.0) ts))) none
+no_row s none p = ap (λ ts. option_and_then (λ t. row_of t p.row) (option_map (λ e. e.1) (find (λ e. table_eq p.table e.0) ts))) none
 
 nowhere : (b : Bool) → cond {A = Option Place} b None None ≡ None
 nowhere true = refl

@@ -7,11 +7,11 @@ use Rattle.std.specs.Ordering.{nat_cmp, is_eq}
 use Rattle.std.proofs.lemmas.Bool.Decides.{Decides-eqb, nat_tests}
 use Rattle.std.proofs.lemmas.List.{length-append}
 use Rattle.ecs_id.specs.declared.TableKey.{TableKey}
-use Rattle.table_store.specs.Store.{key_eq}
+use Rattle.ecs_id.specs.TableKeys.{table_eq}
 use Rattle.ecs_archetypes.specs.declared.plans.Move.{Move}
 use Rattle.ecs_archetypes.specs.Moves.{moves_to}
 use Rattle.ecs_archetypes.specs.Plans.{AreCounted}
-use Rattle.ecs_archetypes.proofs.Placings.{key_eq-tells}
+use Rattle.ecs_archetypes.proofs.Placings.{table_eq-tells}
 use Rattle.ecs_archetypes.proofs.MovePlans.{moves_more}
 
 pub unequal : (a b : ℕ) → a ≢ b → is_eq (nat_cmp a b) ≡ false
@@ -30,12 +30,12 @@ module _ (ms : List Move) (m : Move) (old new : BTreeMap ℕ ℕ) (counted : Are
   elsewhere s apart = set.2 s (unequal (m.to).serial s (λ h. apart (sym h)))
 
   enough_more : (q : TableKey) → moves_to q (ms ++ m ∷ []) ≤ unwrap_or (ordered.get nat_cmp new q.serial) 0
-  enough_more q = subst (λ z. z ≤ unwrap_or (ordered.get nat_cmp new q.serial) 0) (sym (moves_more q ms m)) (by (q.serial == (m.to).serial) refl (key_eq q m.to) refl)
+  enough_more q = subst (λ z. z ≤ unwrap_or (ordered.get nat_cmp new q.serial) 0) (sym (moves_more q ms m)) (by (q.serial == (m.to).serial) refl (table_eq q m.to) refl)
     where
-      by : (b : Bool) → (q.serial == (m.to).serial) ≡ b → (k : Bool) → key_eq q m.to ≡ k → moves_to q ms + cond k 1 0 ≤ unwrap_or (ordered.get nat_cmp new q.serial) 0
+      by : (b : Bool) → (q.serial == (m.to).serial) ≡ b → (k : Bool) → table_eq q m.to ≡ k → moves_to q ms + cond k 1 0 ≤ unwrap_or (ordered.get nat_cmp new q.serial) 0
       by true e true k = let same = (Decides-eqb q.serial (m.to).serial).0 e in let le = all q same in subst (λ o. moves_to q ms + 1 ≤ unwrap_or o 0) (sym (at_serial q.serial same)) le
       by true e false k = let same = (Decides-eqb q.serial (m.to).serial).0 e in let le = all q same in subst (λ o. moves_to q ms + 0 ≤ unwrap_or o 0) (sym (at_serial q.serial same)) (omega (arith, le))
-      by false e true k = absurd (true≢false (sym ((Decides-eqb q.serial (m.to).serial).1 (ap (λ z. z.serial) ((key_eq-tells q m.to).0 k))) ∙ e))
+      by false e true k = absurd (true≢false (sym ((Decides-eqb q.serial (m.to).serial).1 (ap (λ z. z.serial) ((table_eq-tells q m.to).0 k))) ∙ e))
       by false e false k = let apart : q.serial ≢ (m.to).serial = λ h. true≢false (sym ((Decides-eqb q.serial (m.to).serial).1 h) ∙ e) in
           let le = counted.enough q in subst (λ o. moves_to q ms + 0 ≤ unwrap_or o 0) (sym (elsewhere q.serial apart)) (omega (arith, le))
 

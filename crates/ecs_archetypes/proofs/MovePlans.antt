@@ -6,14 +6,15 @@ use Rattle.std.specs.FinMap.{find}
 use Rattle.std.proofs.lemmas.List.Folds.{list_all-append}
 use Rattle.ecs_id.specs.declared.EntityId.{EntityId}
 use Rattle.ecs_id.specs.declared.TableKey.{TableKey}
-use Rattle.table_store.specs.Store.{key_eq, room_at}
+use Rattle.ecs_id.specs.TableKeys.{table_eq}
+use Rattle.table_store.specs.Store.{room_at}
 use Rattle.ecs_archetypes.specs.declared.plans.Move.{Move}
 use Rattle.ecs_archetypes.specs.Holdings.{HoldAlike, Holdings, is_settled, lives}
 use Rattle.ecs_archetypes.specs.Housing.{Housing, holdings_of}
 use Rattle.ecs_archetypes.specs.Moves.{AreReady, moves_to}
 use Rattle.ecs_archetypes.specs.Tables.{HasGrown, one_in}
 use Rattle.ecs_archetypes.proofs.MapLists.{both}
-use Rattle.ecs_archetypes.proofs.Placings.{key_eq-tells}
+use Rattle.ecs_archetypes.proofs.Placings.{table_eq-tells}
 
 pub moves_more : (q : TableKey) (ms : List Move) (m : Move) → moves_to q (ms ++ m ∷ []) ≡ moves_to q ms + one_in m.to q
 moves_more q [] m = omega arith
@@ -41,7 +42,7 @@ ready_more h n ms m ready settled alike grown enough =
     record {
       settled = list_all-append (λ m. is_settled (holdings_of n) m.entity) ms (m ∷ [])
           ∙ both (list_all (λ m. is_settled (holdings_of n) m.entity) ms) (is_settled (holdings_of n) m.entity && true) kept.settled (both (is_settled (holdings_of n) m.entity) true (settled_alike (holdings_of n) (holdings_of h) alike m.entity ∙ settled) refl);
-      room = λ q. subst (λ z. z ≤ room_at n.tables q) (sym (moves_more q ms m)) (by q (key_eq q m.to) (key_eq-tells q m.to).0 (kept.room q));
+      room = λ q. subst (λ z. z ≤ room_at n.tables q) (sym (moves_more q ms m)) (by q (table_eq q m.to) (table_eq-tells q m.to).0 (kept.room q));
     }
   where
     by : (q : TableKey) (b : Bool) → (b ≡ true → q ≡ m.to) → moves_to q ms ≤ room_at n.tables q → moves_to q ms + cond b 1 0 ≤ room_at n.tables q

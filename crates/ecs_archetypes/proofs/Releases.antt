@@ -13,10 +13,11 @@ use Rattle.component_index.specs.declared.pattern.Pattern.{Pattern}
 use Rattle.component_index.specs.Entered.{Entered, IsMatched, table_cmp, table_cmp_total}
 use Rattle.table_store.specs.Going.{goes_on_same}
 use Rattle.table_store.specs.Rows.{IsStored, row_at, rows_in}
-use Rattle.table_store.specs.Store.{Store, key_eq, released_at, table_at}
+use Rattle.ecs_id.specs.TableKeys.{table_eq}
+use Rattle.table_store.specs.Store.{Store, released_at, table_at}
 use Rattle.ecs_archetypes.specs.Housing.{AreEntered}
 use Rattle.ecs_archetypes.specs.Scans.{HasMatch, StandApart}
-use Rattle.ecs_archetypes.proofs.Placings.{key_eq-tells}
+use Rattle.ecs_archetypes.proofs.Placings.{table_eq-tells}
 
 -- an entry that goes leaves one less
 pub one_less : (s : Store) (key : TableKey) (x y : Entered) → AreEntered s x → IsSome (table_at s key) → y ≡ finite.remove x key → len y < len x
@@ -87,10 +88,10 @@ module _ (pattern : Pattern) (before now : Store) (x : Entered) (so_far : AreRel
     released_by false k t h = h
 
     fewer : (k : TableKey) (t : Archetype) → table_at next k ≡ Some t → table_at before k ≡ Some t
-    fewer k t h = so_far.fewer k t (released_by (key_eq k key) k t (sym (tables k) ∙ h))
+    fewer k t h = so_far.fewer k t (released_by (table_eq k key) k t (sym (tables k) ∙ h))
 
     others : (k : TableKey) → (HasMatch before pattern k → ⊥) → table_at next k ≡ table_at before k
-    others k apart = tables k ∙ by (key_eq k key) (key_eq-tells k key).0 ∙ so_far.apart.others k apart
+    others k apart = tables k ∙ by (table_eq k key) (table_eq-tells k key).0 ∙ so_far.apart.others k apart
       where
         by : (b : Bool) → (b ≡ true → k ≡ key) → cond b None (table_at now k) ≡ table_at now k
         by true same = absurd (apart (subst (HasMatch before pattern) (sym (same refl)) (matched_before key has)))

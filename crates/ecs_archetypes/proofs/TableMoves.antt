@@ -15,7 +15,8 @@ use Rattle.ecs_table.specs.Archetype as table
 use Rattle.ecs_model.proofs.Maps.{both_true, to_T}
 use Rattle.entity_index.specs.Entities.{Entities, place_of}
 use Rattle.table_store.specs.Rows.{Cells, carried, row_at, shape_of_cells}
-use Rattle.table_store.specs.Store.{Shape, Store, key_eq, moved_at, room_at, shape_at, table_at}
+use Rattle.ecs_id.specs.TableKeys.{table_eq}
+use Rattle.table_store.specs.Store.{Shape, Store, moved_at, room_at, shape_at, table_at}
 use Rattle.ecs_archetypes.specs.declared.plans.Move.{Move}
 use Rattle.ecs_archetypes.specs.Archetypes.{IsSound, meaning}
 use Rattle.ecs_archetypes.specs.Holdings.{HoldAlike, Holdings, cells_at, held_at, is_settled, lives, with_cells}
@@ -26,7 +27,7 @@ use Rattle.ecs_archetypes.proofs.ArchetypeCalls.{cells_view, row_here}
 use Rattle.ecs_archetypes.proofs.CarriedCells.{carried_self}
 use Rattle.ecs_archetypes.proofs.KnownIds.{room_stands}
 use Rattle.ecs_archetypes.proofs.MapLists.{both, nat_same}
-use Rattle.ecs_archetypes.proofs.Placings.{content, key_eq-tells}
+use Rattle.ecs_archetypes.proofs.Placings.{content, table_eq-tells}
 use Rattle.ecs_archetypes.proofs.Soundness.{holdings, row_shape, row_sorted}
 
 abbrev room_of : Option Archetype → ℕ
@@ -34,7 +35,7 @@ room_of o = unwrap_or (option_map (λ t. t.room) o) 0
 
 -- the row that comes takes room, and the one that goes leaves some
 pub moved_room : (s n : Store) (from to : TableKey) (row : ℕ) (t : Archetype) → ((q : TableKey) → table_at n q ≡ moved_at s from to t row q) → TakesRoom to s n
-moved_room s n from to row t tables q = by (key_eq q to) (key_eq q from) (table_at s q) (table_at n q) (tables q)
+moved_room s n from to row t tables q = by (table_eq q to) (table_eq q from) (table_at s q) (table_at n q) (tables q)
   where
     by : (b d : Bool) (o m : Option Archetype) → m ≡ cond b (option_map (λ u. table.with_moved u t row) o) (cond d (option_map (λ u. without_row u row) o) o) → room_of o ≤ room_of m + cond b 1 0
     by true d None m e = omega arith
@@ -99,7 +100,7 @@ pub next_room : (before now : Housing) (moves rest : List Move) (m : Move) → A
 next_room before now moves rest m so_far = let le = so_far.ready.room m.to in let one = itself m.to in omega (arith, le, one)
   where
     itself : (k : TableKey) → one_in k k ≡ 1
-    itself k = ap (λ b. cond b 1 0) ((key_eq-tells k k).1 refl)
+    itself k = ap (λ b. cond b 1 0) ((table_eq-tells k k).1 refl)
 
 pub next_settled : (before now : Housing) (moves rest : List Move) (m : Move) → AreCarried before moves now (m ∷ rest) → is_settled (holdings_of now) m.entity ≡ true
 next_settled before now moves rest m so_far = (both_true (is_settled (holdings_of now) m.entity) (list_all (λ m. is_settled (holdings_of now) m.entity) rest) so_far.ready.settled).0

@@ -16,12 +16,13 @@ use Rattle.ecs_model.specs.Map.{Map, IsMap}
 use Rattle.ecs_model.proofs.Maps.{IsMap-with_value, eq_itself, to_T}
 use Rattle.entity_index.specs.Entities.{Entities, is_alive, place_of}
 use Rattle.table_store.specs.Rows.{Cells, IsStored, Row, cells_of, row_at, row_of, with_cell, with_column_at}
-use Rattle.table_store.specs.Store.{Store, key_eq, table_at}
+use Rattle.ecs_id.specs.TableKeys.{table_eq}
+use Rattle.table_store.specs.Store.{Store, table_at}
 use Rattle.table_store.proofs.Changes.{row_here}
 use Rattle.ecs_archetypes.specs.Archetypes.{IsSound, all_cells, cells_there, meaning}
 use Rattle.ecs_archetypes.specs.Holdings.{HoldAlike, Holdings, with_each_written}
 use Rattle.ecs_archetypes.proofs.MapLists.{nat_same}
-use Rattle.ecs_archetypes.proofs.Placings.{key_eq-tells}
+use Rattle.ecs_archetypes.proofs.Placings.{table_eq-tells}
 use Rattle.ecs_archetypes.proofs.Soundness.{alive_place, alive_same, cells_found, found_alive, holdings, own_row, place_here, placed_alive, placed_found, row_table}
 
 -- ---- a map after each of these entities has got its value
@@ -88,7 +89,7 @@ owner_is o x c e = ap (option_map (λ r. r.0)) e
 module _ (w : Entities) (s s' : Store) (sound : IsSound w s) (stored : IsStored s') (key : TableKey) (i : Id) (n : ℕ) (bytes : List ℕ)
     (rows : (p : Place) → row_at s' p ≡ with_column_at (row_at s) key i n bytes p) where
   same_owner : (p : Place) → option_map (λ r. r.0) (row_at s' p) ≡ option_map (λ r. r.0) (row_at s p)
-  same_owner p = ap (option_map (λ r. r.0)) (rows p) ∙ by (key_eq p.table key) (row_at s p)
+  same_owner p = ap (option_map (λ r. r.0)) (rows p) ∙ by (table_eq p.table key) (row_at s p)
     where
       by : (b : Bool) (o : Option Row) → option_map {U = EntityId} (λ r. r.0) (if b then option_map {U = Row} (λ v. with_cell v i (take n (drop (p.row * n) bytes))) o else o) ≡ option_map (λ r. r.0) o
       by true None = refl
@@ -140,27 +141,27 @@ module _ (w : Entities) (s s' : Store) (sound : IsSound w s) (stored : IsStored 
           let had : cells_there s p ≡ row.0 = ap (λ o. unwrap_or (option_map (λ r. r.1) o) []) row.1 in
           let has : cells_there s' p ≡ put id_cmp i (take n (drop (p.row * n) bytes)) row.0 =
           ap (λ o. unwrap_or (option_map (λ r. r.1) o) []) (rows p)
-          ∙ ap (λ b. unwrap_or (option_map (λ r. r.1) (if b then option_map {U = Row} (λ v. with_cell v i (take n (drop (p.row * n) bytes))) (row_at s p) else row_at s p)) []) ((key_eq-tells p.table key).1 same_table)
+          ∙ ap (λ b. unwrap_or (option_map (λ r. r.1) (if b then option_map {U = Row} (λ v. with_cell v i (take n (drop (p.row * n) bytes))) (row_at s p) else row_at s p)) []) ((table_eq-tells p.table key).1 same_table)
           ∙ ap (λ o. unwrap_or (option_map (λ r. r.1) (option_map {U = Row} (λ v. with_cell v i (take n (drop (p.row * n) bytes))) o)) []) row.1 in
           ap Some (has ∙ ap (put id_cmp i (take n (drop (p.row * n) bytes))) (sym had))
           ∙ sym (each_own i n d t.entities bytes (all_cells w.places s) p.row x in_row refl (λ q y there same. sym (ap (λ z. z.row) (one_place d p found q y there same)))
           ∙ ap (λ o. Some (put id_cmp i (take n (drop (p.row * n) bytes)) (unwrap_or o []))) (had_there p found))
 
       -- and all others keep what they have
-      left_there : (p : Place) → find nat_cmp d w.places ≡ Some p → key_eq p.table key ≡ false → Some (cells_there s' p) ≡ after
+      left_there : (p : Place) → find nat_cmp d w.places ≡ Some p → table_eq p.table key ≡ false → Some (cells_there s' p) ≡ after
       left_there p found other =
           let kept : cells_there s' p ≡ cells_there s p =
           ap (λ o. unwrap_or (option_map (λ r. r.1) o) []) (rows p)
           ∙ ap (λ b. unwrap_or (option_map (λ r. r.1) (if b then option_map {U = Row} (λ v. with_cell v i (take n (drop (p.row * n) bytes))) (row_at s p) else row_at s p)) []) other in
           ap Some kept
           ∙ sym (each_other i n d t.entities bytes (all_cells w.places s)
-          (λ q y there same. true≢false (sym ((key_eq-tells p.table key).1 (ap (λ z. z.table) (one_place d p found q y there same))) ∙ other)) ∙ had_there p found)
+          (λ q y there same. true≢false (sym ((table_eq-tells p.table key).1 (ap (λ z. z.table) (one_place d p found q y there same))) ∙ other)) ∙ had_there p found)
 
       some_there : (p : Place) → find nat_cmp d w.places ≡ Some p → Some (cells_there s' p) ≡ after
-      some_there p found = by (key_eq p.table key) refl
+      some_there p found = by (table_eq p.table key) refl
         where
-          by : (b : Bool) → key_eq p.table key ≡ b → Some (cells_there s' p) ≡ after
-          by true here = written_there p found ((key_eq-tells p.table key).0 here)
+          by : (b : Bool) → table_eq p.table key ≡ b → Some (cells_there s' p) ≡ after
+          by true here = written_there p found ((table_eq-tells p.table key).0 here)
           by false here = left_there p found here
 
       now : (o : Option Place) → find nat_cmp d w.places ≡ o → option_map (cells_there s') o ≡ after

@@ -5,7 +5,7 @@ use Rattle.std.specs.Option.{option_map_or}
 use Rattle.ecs_id.specs.declared.TableKey.{TableKey}
 use Rattle.ecs_id.specs.Id.{Id}
 use Rattle.component_index.specs.declared.pattern.Pattern.{Pattern}
-use Rattle.component_index.specs.Entered.{table_eq}
+use Rattle.ecs_id.specs.TableKeys.{table_eq}
 use Rattle.component_index.specs.Listings.{Lists, listed_in}
 use Rattle.ecs_archetypes.specs.Holdings.{held_at}
 use Rattle.ecs_archetypes.specs.Housing.{Housing, holdings_of}

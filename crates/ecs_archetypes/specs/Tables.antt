@@ -4,7 +4,8 @@ use Rattle.ecs_id.specs.declared.Place.{Place}
 use Rattle.ecs_id.specs.declared.TableKey.{TableKey}
 use Rattle.table_store.specs.Going.{TablesGoOn}
 use Rattle.table_store.specs.Rows.{row_at}
-use Rattle.table_store.specs.Store.{Shape, Store, key_eq, room_at, shape_at}
+use Rattle.ecs_id.specs.TableKeys.{table_eq}
+use Rattle.table_store.specs.Store.{Shape, Store, room_at, shape_at}
 
 -- tables or room may have come; each table that stood stands on, and each row is as it was
 pub record HasGrown (s n : Store) : Type 0 where
@@ -20,7 +21,7 @@ pub record StandAlike (s n : Store) : Type 0 where
 
 -- one row in the table under a key, and none in another
 abbrev pub one_in : TableKey → TableKey → ℕ
-one_in k q = if key_eq q k then 1 else 0
+one_in k q = if table_eq q k then 1 else 0
 
 -- no table loses room, but the one under a key loses that of one row
 abbrev pub TakesRoom : TableKey → Store → Store → Type 0

@@ -9,7 +9,8 @@ use Rattle.ecs_id.specs.declared.Place.{Place}
 use Rattle.ecs_id.specs.declared.TableKey.{TableKey}
 use Rattle.ecs_table.specs.Archetype.{Archetype, IsSound}
 use Rattle.table_store.specs.declared.store.Slot.{Slot}
-use Rattle.table_store.specs.Store.{Store, table_at, shape_at, shape_of, key_eq, changed_at, room_at}
+use Rattle.ecs_id.specs.TableKeys.{table_eq}
+use Rattle.table_store.specs.Store.{Store, table_at, shape_at, shape_of, changed_at, room_at}
 use Rattle.table_store.specs.Rows.{Row, row_at, row_of, rows_in, IsStored, with_row_at}
 use Rattle.table_store.specs.Kept.{ByIds, Held, store_of, standing, IsKept, IsSlot}
 use Rattle.table_store.specs.ByIds.{HasSlot, ids_hash}
@@ -71,16 +72,16 @@ module _ {Y : Type 0} (tables new : Slab (Held Y)) (last : ℕ) (s : Store) (vie
       let mine = serial_here tables last s view k t at x is in
       subst (λ v. table_at (store_of new last) q ≡ changed_at v k f q) view (table_at-changed tables new last last k x y f is u mine (serial ∙ mine) made q)
 
-  at_key : (q : TableKey) → key_eq q k ≡ true → table_at s q ≡ Some t
+  at_key : (q : TableKey) → table_eq q k ≡ true → table_at s q ≡ Some t
   at_key q b = ap (table_at s) (same_key q k b) ∙ at
 
-  pub row_changed : (p : Place) → row_at (store_of new last) p ≡ (if key_eq p.table k then row_of (f t) p.row else row_at s p)
+  pub row_changed : (p : Place) → row_at (store_of new last) p ≡ (if table_eq p.table k then row_of (f t) p.row else row_at s p)
   unfolding row_at
-  row_changed p = ap (option_and_then (λ v. row_of v p.row)) (changed p.table) ∙ changed_row f t p.row (key_eq p.table k) (table_at s p.table) (at_key p.table)
+  row_changed p = ap (option_and_then (λ v. row_of v p.row)) (changed p.table) ∙ changed_row f t p.row (table_eq p.table k) (table_at s p.table) (at_key p.table)
 
   module _ (same : shape_of (f t) ≡ shape_of t) where
     pub shapes : (q : TableKey) → shape_at (store_of new last) q ≡ shape_at s q
-    shapes q = ap (option_map shape_of) (changed q) ∙ changed_shape f t (key_eq q k) (table_at s q) (at_key q) same
+    shapes q = ap (option_map shape_of) (changed q) ∙ changed_shape f t (table_eq q k) (table_at s q) (at_key q) same
 
   module _ (by_ids : ByIds Y) (by_serial : Vec TableKey Y) (kept : IsKept tables by_ids by_serial last) (same : shape_of (f t) ≡ shape_of t) (sound : IsSound (f t))
       (more : y.value.more ≡ x.value.more) (less : y.value.less ≡ x.value.less) where
@@ -152,7 +153,7 @@ module _ {Y : Type 0} (tables : Slab (Held Y)) (last : ℕ) (s : Store) (view : 
   pub written : (q : TableKey) → table_at (store_of new last) q ≡ changed_at s k f q
   written = changed tables new last s view k t at x y is updates f made serial
 
-  pub written_row : (p : Place) → row_at (store_of new last) p ≡ (if key_eq p.table k then row_of (f t) p.row else row_at s p)
+  pub written_row : (p : Place) → row_at (store_of new last) p ≡ (if table_eq p.table k then row_of (f t) p.row else row_at s p)
   written_row = row_changed tables new last s view k t at x y is updates f made serial
 
   pub written_shapes : shape_of (f t) ≡ shape_of t → (q : TableKey) → shape_at (store_of new last) q ≡ shape_at s q
@@ -177,17 +178,17 @@ module _ {Y : Type 0} (tables : Slab (Held Y)) (last : ℕ) (s : Store) (view : 
   -- the rows stay, where those of the table do
   pub written_same_rows : ((r : ℕ) → row_of (f t) r ≡ row_of t r) → (p : Place) → row_at (store_of new last) p ≡ row_at s p
   unfolding row_at
-  written_same_rows rows p = written_row p ∙ by (key_eq p.table k) refl
+  written_same_rows rows p = written_row p ∙ by (table_eq p.table k) refl
     where
-      by : (b : Bool) → key_eq p.table k ≡ b → (if b then row_of (f t) p.row else row_at s p) ≡ row_at s p
+      by : (b : Bool) → table_eq p.table k ≡ b → (if b then row_of (f t) p.row else row_at s p) ≡ row_at s p
       by true e = rows p.row ∙ sym (ap (option_and_then (λ v. row_of v p.row)) (ap (table_at s) (same_key p.table k e) ∙ at))
       by false e = refl
 
   -- one row is new, or written
   pub written_one_row : (r : ℕ) (v : Row) → ((m : ℕ) → row_of (f t) m ≡ cond (m == r) (Some v) (row_of t m)) → (p : Place) → row_at (store_of new last) p ≡ with_row_at (row_at s) (record { table = k; row = r }) v p
   unfolding row_at
-  written_one_row r v rows p = written_row p ∙ by (key_eq p.table k) refl
+  written_one_row r v rows p = written_row p ∙ by (table_eq p.table k) refl
     where
-      by : (b : Bool) → key_eq p.table k ≡ b → (if b then row_of (f t) p.row else row_at s p) ≡ cond (b && p.row == r) (Some v) (row_at s p)
+      by : (b : Bool) → table_eq p.table k ≡ b → (if b then row_of (f t) p.row else row_at s p) ≡ cond (b && p.row == r) (Some v) (row_at s p)
       by true e = rows p.row ∙ ap (cond (p.row == r) (Some v)) (sym (ap (option_and_then (λ w. row_of w p.row)) (ap (table_at s) (same_key p.table k e) ∙ at)))
       by false e = refl

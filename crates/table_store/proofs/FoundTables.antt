@@ -8,7 +8,8 @@ use Rattle.ecs_id.specs.Id.{Id, id_cmp}
 use Rattle.ecs_id.specs.declared.TableKey.{TableKey}
 use Rattle.ecs_table.specs.Archetype.{Archetype, IsSound}
 use Rattle.ecs_table.proofs.Soundness.{sound_empty}
-use Rattle.table_store.specs.Store.{Store, Shape, IsStore, table_at, ids_at, shape_at, shape_of, shaped, key_eq}
+use Rattle.ecs_id.specs.TableKeys.{table_eq}
+use Rattle.table_store.specs.Store.{Store, Shape, IsStore, table_at, ids_at, shape_at, shape_of, shaped}
 use Rattle.table_store.specs.Kept.{ByIds, HasNoEdge, Held, tables_from, store_of, IsKept, IsOrder, IsSlot, IsMade, IsPut}
 use Rattle.table_store.specs.ByIds.{HasSlot, KeepsSlots, has_ids, ids_hash}
 use Rattle.table_store.proofs.Slots.{same_key, none_is_some, one_some}
@@ -112,8 +113,8 @@ IsMade-found s f key is e =
     let t = there (table_at s key) h in
     let old = (is.serials key h).1 in
     record {
-      made = λ q. made_of q t.0 t.1 (key_eq q key) refl;
-      shapes = λ q. shape_in q (key_eq q key) refl;
+      made = λ q. made_of q t.0 t.1 (table_eq q key) refl;
+      shapes = λ q. shape_in q (table_eq q key) refl;
       newest = (λ none. absurd (no_none (table_at s key) t.0 t.1 none), λ lt. absurd (omega (arith, lt, old)));
       last = largest s.last key.serial old;
       rows = λ p. refl;
@@ -125,11 +126,11 @@ IsMade-found s f key is e =
     largest : (m n : ℕ) → n ≤ m → m ≡ max m n
     largest m n e = search rules
 
-    made_of : (q : TableKey) (t : Archetype) → table_at s key ≡ Some t → (b : Bool) → key_eq q key ≡ b → table_at s q ≡ (if b then Some (unwrap_or (table_at s q) (shaped f)) else table_at s q)
+    made_of : (q : TableKey) (t : Archetype) → table_at s key ≡ Some t → (b : Bool) → table_eq q key ≡ b → table_at s q ≡ (if b then Some (unwrap_or (table_at s q) (shaped f)) else table_at s q)
     made_of q t is true k = let at : table_at s q ≡ Some t = ap (table_at s) (same_key q key k) ∙ is in at ∙ ap (λ o. Some (unwrap_or o (shaped f))) (sym at)
     made_of q t is false k = refl
 
-    shape_in : (q : TableKey) (b : Bool) → key_eq q key ≡ b → shape_at s q ≡ (if b then Some f else shape_at s q)
+    shape_in : (q : TableKey) (b : Bool) → table_eq q key ≡ b → shape_at s q ≡ (if b then Some f else shape_at s q)
     shape_in q true k = ap (shape_at s) (same_key q key k) ∙ e
     shape_in q false k = refl
 

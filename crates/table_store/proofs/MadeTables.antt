@@ -11,7 +11,8 @@ use Rattle.ecs_id.specs.declared.Place.{Place}
 use Rattle.ecs_id.specs.declared.TableKey.{TableKey}
 use Rattle.ecs_table.specs.Archetype.{Archetype, IsSound}
 use Rattle.table_store.specs.declared.store.Slot.{Slot}
-use Rattle.table_store.specs.Store.{Store, Shape, IsStore, table_at, ids_at, shape_at, shape_of, shaped, shaped_at, with_id, without_id, find_in, key_eq, made_at}
+use Rattle.ecs_id.specs.TableKeys.{table_eq}
+use Rattle.table_store.specs.Store.{Store, Shape, IsStore, table_at, ids_at, shape_at, shape_of, shaped, shaped_at, with_id, without_id, find_in, made_at}
 use Rattle.table_store.specs.Rows.{row_at, row_of}
 use Rattle.table_store.specs.Kept.{ByIds, Held, HasNoEdge, store_of, IsKept, IsSlot, IsIndex, IsOrder}
 use Rattle.table_store.specs.ByIds.{HasSlot, KeepsSlots, ids_hash}
@@ -64,9 +65,9 @@ module _ {Y : Type 0} (tables new : Slab (Held Y)) (by_ids named : ByIds Y) (by_
   Cases q = ((q ≡ k) × (table_at n q ≡ Some (shaped f))) ⊎ ((q ≢ k) × (table_at n q ≡ table_at s q))
 
   cases : (q : TableKey) → Cases q
-  cases q = by (key_eq q k) refl (made q)
+  cases q = by (table_eq q k) refl (made q)
     where
-      by : (b : Bool) → key_eq q k ≡ b → table_at n q ≡ (if b then Some (unwrap_or (table_at s q) (shaped f)) else table_at s q) → Cases q
+      by : (b : Bool) → table_eq q k ≡ b → table_at n q ≡ (if b then Some (unwrap_or (table_at s q) (shaped f)) else table_at s q) → Cases q
       by true e m = let same = same_key q k e in inl (same, m ∙ ap (λ o. Some (unwrap_or o (shaped f))) (ap (table_at s) same ∙ is_new))
       by false e m = inr (λ h. true≢false (sym (key_eq_true q k h) ∙ e), m)
 

@@ -12,7 +12,8 @@ use Rattle.ecs_id.specs.declared.TableKey.{TableKey}
 use Rattle.ecs_table.specs.Archetype.{Archetype}
 use Rattle.ecs_table.proofs.Rows.{row_past}
 use Rattle.table_store.specs.declared.store.Slot.{Slot}
-use Rattle.table_store.specs.Store.{Store, Shape, IsStore, table_at, ids_at, shape_at, shape_of, with_id, without_id, key_eq, released_at}
+use Rattle.ecs_id.specs.TableKeys.{table_eq}
+use Rattle.table_store.specs.Store.{Store, Shape, IsStore, table_at, ids_at, shape_at, shape_of, with_id, without_id, released_at}
 use Rattle.table_store.specs.Rows.{row_at, row_of, rows_in, IsStored}
 use Rattle.table_store.specs.Kept.{ByIds, Held, store_of, is_held, standing, IsKept, IsSlot, IsIndex, IsOrder}
 use Rattle.table_store.specs.ByIds.{HasSlot, ids_hash}
@@ -24,9 +25,9 @@ use Rattle.table_store.proofs.Order.{order_forgotten}
 
 -- where no table stands, none is released
 gone : (s : Store) (k : TableKey) → table_at s k ≡ None → (q : TableKey) → table_at s q ≡ released_at s k q
-gone s k none q = by (key_eq q k) refl
+gone s k none q = by (table_eq q k) refl
   where
-    by : (b : Bool) → key_eq q k ≡ b → table_at s q ≡ (if b then None else table_at s q)
+    by : (b : Bool) → table_eq q k ≡ b → table_at s q ≡ (if b then None else table_at s q)
     by true e = ap (table_at s) (same_key q k e) ∙ none
     by false e = refl
 
@@ -76,9 +77,9 @@ module _ {Y : Type 0} (tables new : Slab (Held Y)) (by_ids named : ByIds Y) (by_
   Cases q = ((q ≡ k) × (table_at n q ≡ None)) ⊎ ((q ≢ k) × (table_at n q ≡ table_at s q))
 
   cases : (q : TableKey) → Cases q
-  cases q = by (key_eq q k) refl (taken q)
+  cases q = by (table_eq q k) refl (taken q)
     where
-      by : (b : Bool) → key_eq q k ≡ b → table_at n q ≡ (if b then None else table_at s q) → Cases q
+      by : (b : Bool) → table_eq q k ≡ b → table_at n q ≡ (if b then None else table_at s q) → Cases q
       by true e m = inl (same_key q k e, m)
       by false e m = inr (λ h. true≢false (sym (key_eq_true q k h) ∙ e), m)
 

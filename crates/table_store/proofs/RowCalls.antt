@@ -15,7 +15,8 @@ use Rattle.ecs_id.specs.Id.{id_eq}
 use Rattle.ecs_table.specs.Archetype.{Archetype, IsSound, cells_of, moved_into, size_of, value_of, with_cell as with_bytes, with_value as with_value_of, without_row}
 use Rattle.ecs_table.proofs.Rows.{found_in_row, moved_into_row, not_in_shape, row_of_removed, row_of_set}
 use Rattle.ecs_table.proofs.TableIds.{cells_rise, with_cell_put}
-use Rattle.table_store.specs.Store.{Store, key_eq, shape_at, shape_of, table_at}
+use Rattle.ecs_id.specs.TableKeys.{table_eq}
+use Rattle.table_store.specs.Store.{Store, shape_at, shape_of, table_at}
 use Rattle.table_store.specs.Rows.{Row, filler, gap_filled, removed_rows, row_at, row_of, same_place, with_cell, without_row_at}
 use Rattle.table_store.specs.Kept.{ByIds, Held, store_of, IsKept, IsSlot}
 use Rattle.table_store.proofs.Slots.{key_eq_true, none_is_some, one_some, same_key}
@@ -97,17 +98,17 @@ module _ (s : Store) (k : TableKey) (t : Archetype) (at : table_at s k ≡ Some 
       by true = refl
       by false = refl
 
-  same_row_here : (q : Place) → key_eq q.table k ≡ true → row_at s q ≡ row_of t q.row
+  same_row_here : (q : Place) → table_eq q.table k ≡ true → row_at s q ≡ row_of t q.row
   unfolding row_at
   same_row_here q b = ap (λ x. option_and_then (λ v. row_of v q.row) (table_at s x)) (same_key q.table k b) ∙ ap (option_and_then (λ v. row_of v q.row)) at
 
   -- what each place holds after it
-  pub removed_is : IsSound t → (new : Store) → ((q : Place) → row_at new q ≡ (if key_eq q.table k then row_of (without_row t row) q.row else row_at s q)) → (q : Place) → row_at new q ≡ removed_rows s here q
+  pub removed_is : IsSound t → (new : Store) → ((q : Place) → row_at new q ≡ (if table_eq q.table k then row_of (without_row t row) q.row else row_at s q)) → (q : Place) → row_at new q ≡ removed_rows s here q
   removed_is sound new changed q =
       let n = length t.entities in
       changed q
-      ∙ ap (λ o. if key_eq q.table k then o else row_at s q) (row_of_removed t row q.row there sound)
-      ∙ removed_by (key_eq q.table k) (q.row == n - 1) (q.row == row) (n - 1 == row) (row_of t (n - 1)) (row_of t q.row) (row_at s q)
+      ∙ ap (λ o. if table_eq q.table k then o else row_at s q) (row_of_removed t row q.row there sound)
+      ∙ removed_by (table_eq q.table k) (q.row == n - 1) (q.row == row) (n - 1 == row) (row_of t (n - 1)) (row_of t q.row) (row_at s q)
       (row_stands t (n - 1) (omega (arith, there))) (same_row_here q) (same_test q.row (n - 1) row) (one_number q.row (n - 1) row)
       ∙ ap (λ o. elim o [ None ↦ cond (same_place q here) None (row_at s q) | Some v ↦ cond (same_place q here) (Some v) (cond (same_place q (record { table = k; row = n - 1 })) None (cond (same_place q here) None (row_at s q))) ]) (sym filler_is)
       ∙ sym (gap_at (row_at s) (record { table = k; row = n - 1 }) here q (filler s here))

@@ -12,7 +12,8 @@ use Rattle.ecs_table.proofs.Rows.{equal_sizes, row_of_moved, row_past, shape_of_
 use Rattle.ecs_table.proofs.Soundness.{sound_with_moved, sound_without_row}
 use Rattle.ecs_table.proofs.TableIds.{both_first}
 use Rattle.table_store.specs.declared.store.Slot.{Slot}
-use Rattle.table_store.specs.Store.{Shape, Store, changed_at, key_eq, moved_at, shape_at, shape_of, table_at}
+use Rattle.ecs_id.specs.TableKeys.{table_eq}
+use Rattle.table_store.specs.Store.{Shape, Store, changed_at, moved_at, shape_at, shape_of, table_at}
 use Rattle.table_store.specs.Rows.{IsStored, Row, carried, filler, gap_filled, last_place, moved_rows, removed_rows, row_at, row_of, same_place, with_row_at, without_row_at}
 use Rattle.table_store.specs.Kept.{AreMarked, ByIds, Held, store_of, IsKept}
 use Rattle.table_store.proofs.Marks.{marked_moved, pushed_fills}
@@ -49,7 +50,7 @@ places_apart rows p last q (Some w) v r one two = by (same_place r q) (same_plac
 
 -- a place in one table is none in another
 other_table : (r q p : Place) → q.table ≢ p.table → same_place r q ≡ true → same_place r p ≡ false
-other_table r q p apart e = ap (λ b. b && r.row == p.row) (key_eq_false r.table p.table (λ same. apart (sym (same_key r.table q.table (both_first (key_eq r.table q.table) (r.row == q.row) e)) ∙ same)))
+other_table r q p apart e = ap (λ b. b && r.row == p.row) (key_eq_false r.table p.table (λ same. apart (sym (same_key r.table q.table (both_first (table_eq r.table q.table) (r.row == q.row) e)) ∙ same)))
 
 module _ {Y : Type 0} (tables out back : Slab (Held Y)) (last : ℕ) (s : Store) (view : store_of tables last ≡ s) (by_ids : ByIds Y) (by_serial : Vec TableKey Y) (kept : IsKept tables by_ids by_serial last)
     (from to : TableKey) (apart : from ≢ to) (src tgt : Archetype) (at_from : table_at s from ≡ Some src) (at_to : table_at s to ≡ Some tgt) (row : ℕ) (there : row < length src.entities)
@@ -163,9 +164,9 @@ module _ {Y : Type 0} (tables out back : Slab (Held Y)) (last : ℕ) (s : Store)
       moved_stored = stored back by_ids by_serial last moved_kept (store_of back last) refl
 
       pub moved_tables : (q : TableKey) → table_at (store_of back last) q ≡ moved_at s from to src row q
-      moved_tables q = changed mid back last s1 refl to tgt at_to1 z z1 is_z1 u3 f made (ap (λ v. v.serial) lent_z) q ∙ by (key_eq q to) refl
+      moved_tables q = changed mid back last s1 refl to tgt at_to1 z z1 is_z1 u3 f made (ap (λ v. v.serial) lent_z) q ∙ by (table_eq q to) refl
         where
-          by : (b : Bool) → key_eq q to ≡ b → (if b then option_map f (table_at s1 q) else table_at s1 q) ≡ (if b then option_map f (table_at s q) else changed_at s from (λ t. without_row t row) q)
+          by : (b : Bool) → table_eq q to ≡ b → (if b then option_map f (table_at s1 q) else table_at s1 q) ≡ (if b then option_map f (table_at s q) else changed_at s from (λ t. without_row t row) q)
           by true e = ap (option_map f) (ap (table_at s1) (same_key q to e) ∙ at_to1 ∙ sym (ap (table_at s) (same_key q to e) ∙ at_to))
           by false e = tables1 q
 
@@ -178,9 +179,9 @@ module _ {Y : Type 0} (tables out back : Slab (Held Y)) (last : ℕ) (s : Store)
       -- one row came
       came_row : (v : Row) → row_of src row ≡ Some v → (p : Place) → row_at (store_of back last) p ≡ with_row_at (row_at s1) (record { table = to; row = length tgt.entities }) (v.0, carried (shape_of tgt) v.1) p
       unfolding row_at
-      came_row v is p = row_changed mid back last s1 refl to tgt at_to1 z z1 is_z1 u3 f made (ap (λ v. v.serial) lent_z) p ∙ by (key_eq p.table to) refl
+      came_row v is p = row_changed mid back last s1 refl to tgt at_to1 z z1 is_z1 u3 f made (ap (λ v. v.serial) lent_z) p ∙ by (table_eq p.table to) refl
         where
-          by : (b : Bool) → key_eq p.table to ≡ b → (if b then row_of (f tgt) p.row else row_at s1 p) ≡ cond (b && p.row == length tgt.entities) (Some (v.0, carried (shape_of tgt) v.1)) (row_at s1 p)
+          by : (b : Bool) → table_eq p.table to ≡ b → (if b then row_of (f tgt) p.row else row_at s1 p) ≡ cond (b && p.row == length tgt.entities) (Some (v.0, carried (shape_of tgt) v.1)) (row_at s1 p)
           by true e = row_of_moved tgt src row p.row there sound_src sound_tgt sizes_alike
               ∙ (λ i. cond (p.row == length tgt.entities) (option_map {U = Row} (λ w. (w.0, carried (shape_of tgt) w.1)) (is i)) (sym (ap (option_and_then (λ w. row_of w p.row)) (ap (table_at s1) (same_key p.table to e) ∙ at_to1)) i))
           by false e = refl

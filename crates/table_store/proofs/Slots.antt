@@ -8,22 +8,23 @@ use Rattle.slab.specs.Slab as slots
 use Rattle.slab.specs.Slab.{Slab, Updates, with_value}
 use Rattle.ecs_id.specs.declared.TableKey.{TableKey}
 use Rattle.ecs_table.specs.Archetype.{Archetype}
-use Rattle.table_store.specs.Store.{table_at, key_eq, changed_at, made_at, released_at}
+use Rattle.ecs_id.specs.TableKeys.{table_eq}
+use Rattle.table_store.specs.Store.{table_at, changed_at, made_at, released_at}
 use Rattle.table_store.specs.Kept.{Held, tables_from, store_of, standing}
 
 -- the test of keys tells whether they are one
-pub same_key : (k q : TableKey) → key_eq k q ≡ true → k ≡ q
+pub same_key : (k q : TableKey) → table_eq k q ≡ true → k ≡ q
 same_key k q h =
     let tests = both (k.slot == q.slot) (k.serial == q.serial) h in
     λ i. record { slot = (Decides-eqb k.slot q.slot).0 tests.0 i; serial = (Decides-eqb k.serial q.serial).0 tests.1 i }
 
-pub key_eq_true : (k q : TableKey) → k ≡ q → key_eq k q ≡ true
+pub key_eq_true : (k q : TableKey) → k ≡ q → table_eq k q ≡ true
 key_eq_true k q e = both_true ((Decides-eqb k.slot q.slot).1 (ap (λ v. v.slot) e)) ((Decides-eqb k.serial q.serial).1 (ap (λ v. v.serial) e))
 
-pub key_eq_false : (k q : TableKey) → k ≢ q → key_eq k q ≡ false
-key_eq_false k q d = by (key_eq k q) refl
+pub key_eq_false : (k q : TableKey) → k ≢ q → table_eq k q ≡ false
+key_eq_false k q d = by (table_eq k q) refl
   where
-    by : (b : Bool) → key_eq k q ≡ b → key_eq k q ≡ false
+    by : (b : Bool) → table_eq k q ≡ b → table_eq k q ≡ false
     by true e = absurd (d (same_key k q e))
     by false e = e
 
@@ -51,12 +52,12 @@ pub one_some : {X : Type 0} (x y : X) → Some x ≡ Some y → x ≡ y
 one_some x y e = ap (λ o. unwrap_or o x) e
 
 module _ {Y : Type 0} where
-  below : (n : ℕ) (xs : List (Option (Held Y))) (k : TableKey) → k.slot < n → option_map (λ e. e.1) (find (λ e. key_eq k e.0) (tables_from n xs)) ≡ None
+  below : (n : ℕ) (xs : List (Option (Held Y))) (k : TableKey) → k.slot < n → option_map (λ e. e.1) (find (λ e. table_eq k e.0) (tables_from n xs)) ≡ None
   below n [] k h = refl
   below n (None ∷ xs) k h = below (suc n) xs k (omega arith)
   below n (Some x ∷ xs) k h = later (k.slot == n) (k.serial == x.value.serial) _ _ (differ k.slot n (λ e. omega arith)) ∙ below (suc n) xs k (omega arith)
 
-  from : (n : ℕ) (xs : List (Option (Held Y))) (k : TableKey) (j : ℕ) → k.slot ≡ n + j → option_map (λ e. e.1) (find (λ e. key_eq k e.0) (tables_from n xs)) ≡ standing (slice_index_or xs j None) k.serial
+  from : (n : ℕ) (xs : List (Option (Held Y))) (k : TableKey) (j : ℕ) → k.slot ≡ n + j → option_map (λ e. e.1) (find (λ e. table_eq k e.0) (tables_from n xs)) ≡ standing (slice_index_or xs j None) k.serial
   from n [] k zero e = refl
   from n [] k (suc j) e = refl
   from n (None ∷ xs) k zero e = below (suc n) xs k (omega arith)

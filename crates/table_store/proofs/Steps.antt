@@ -13,7 +13,8 @@ use Rattle.ecs_id.specs.Id.{Id, id_eq, id_cmp, id_cmp_total, id_eq_itself}
 use Rattle.ecs_id.specs.declared.TableKey.{TableKey}
 use Rattle.ecs_table.specs.Archetype.{Archetype, IsSound}
 use Rattle.table_store.specs.declared.store.Slot.{Slot}
-use Rattle.table_store.specs.Store.{Store, Shape, IsStore, HasSize, table_at, ids_at, shape_at, shape_of, shaped, key_eq, find_in, with_id, without_id}
+use Rattle.ecs_id.specs.TableKeys.{table_eq}
+use Rattle.table_store.specs.Store.{Store, Shape, IsStore, HasSize, table_at, ids_at, shape_at, shape_of, shaped, find_in, with_id, without_id}
 use Rattle.table_store.specs.Kept.{IsOrder, ByIds, Held, store_of, standing, stepped, edge_of, edges_of, IsKept, IsSlot, IsMore, IsLess, IsPut, IsMade, IsWritten}
 use Rattle.table_store.specs.ByIds.{HasSlot, ids_hash}
 use Rattle.table_store.proofs.Slots.{key_eq_true, table_at-slots, same_seen, one_some}
@@ -184,7 +185,7 @@ module _ {Y : Type 0} (tables : Slab (Held Y)) (by_ids : ByIds Y) (by_serial : V
 
 -- a table that stood is as it was, after a table is found or made
 standing_still : (s n : Store) (f : Shape) (to : TableKey) → IsMade s f to n → (q : TableKey) (t : Archetype) → table_at s q ≡ Some t → table_at n q ≡ Some t
-standing_still s n f to h q t e = h.made q ∙ by (key_eq q to) (table_at s q) e
+standing_still s n f to h q t e = h.made q ∙ by (table_eq q to) (table_at s q) e
   where
     by : (b : Bool) (o : Option Archetype) → o ≡ Some t → (if b then Some (unwrap_or o (shaped f)) else o) ≡ Some t
     by true o e = ap (λ v. Some (unwrap_or v (shaped f))) e

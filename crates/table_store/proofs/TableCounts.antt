@@ -14,7 +14,8 @@ use Rattle.slab.specs.Slab as slots
 use Rattle.slab.specs.Slab.{Slab, Updates, slab_len}
 use Rattle.ecs_id.specs.declared.TableKey.{TableKey}
 use Rattle.ecs_table.specs.Archetype.{Archetype}
-use Rattle.table_store.specs.Store.{Store, key_eq, table_at}
+use Rattle.ecs_id.specs.TableKeys.{table_eq}
+use Rattle.table_store.specs.Store.{Store, table_at}
 use Rattle.table_store.specs.Kept.{Held, IsOrder, is_held, store_of, tables_from}
 use Rattle.table_store.proofs.Order.{IsRising, passed, rising_filter, serials_of, to_filter}
 use Rattle.table_store.proofs.Slots.{both, table_at-slots}
@@ -67,12 +68,12 @@ distinct : (keys : List TableKey) → IsRising keys → IsDistinct same_number (
 distinct keys rise = subst (λ (e : ℕ → ℕ → Bool). IsDistinct e (serials_of keys)) (λ i x y. unsigned_tied x y i) (IsDistinct-from_sorted nat_cmp (serials_of keys) rise)
 
 -- a key under which a table stands has the serial of one that is listed
-serial_listed : (k : TableKey) (es : List (TableKey × Archetype)) → is_some (option_map (λ e. e.1) (find (λ e. key_eq k e.0) es)) ≡ true → list_any (same_number k.serial) (map (λ e. e.0.serial) es) ≡ true
+serial_listed : (k : TableKey) (es : List (TableKey × Archetype)) → is_some (option_map (λ e. e.1) (find (λ e. table_eq k e.0) es)) ≡ true → list_any (same_number k.serial) (map (λ e. e.0.serial) es) ≡ true
 serial_listed k [] h = absurd (true≢false (sym h))
-serial_listed k (e ∷ es) h = by (key_eq k e.0) refl h (serial_listed k es)
+serial_listed k (e ∷ es) h = by (table_eq k e.0) refl h (serial_listed k es)
   where
-    by : (b : Bool) → key_eq k e.0 ≡ b → is_some (option_map (λ v. v.1) (cond b (Some e) (find (λ v. key_eq k v.0) es))) ≡ true
-        → (is_some (option_map (λ v. v.1) (find (λ v. key_eq k v.0) es)) ≡ true → list_any (same_number k.serial) (map (λ v. v.0.serial) es) ≡ true)
+    by : (b : Bool) → table_eq k e.0 ≡ b → is_some (option_map (λ v. v.1) (cond b (Some e) (find (λ v. table_eq k v.0) es))) ≡ true
+        → (is_some (option_map (λ v. v.1) (find (λ v. table_eq k v.0) es)) ≡ true → list_any (same_number k.serial) (map (λ v. v.0.serial) es) ≡ true)
         → (k.serial == e.0.serial || list_any (same_number k.serial) (map (λ v. v.0.serial) es)) ≡ true
     by true t there rest = ap (λ b. b || list_any (same_number k.serial) (map (λ v. v.0.serial) es)) (both (k.slot == e.0.slot) (k.serial == e.0.serial) t).1
     by false t there rest = or_right (k.serial == e.0.serial) _ (rest there)

@@ -13,7 +13,8 @@ use Rattle.ecs_table.proofs.WholeColumns.{row_of_column}
 use Rattle.table_store.specs.declared.store.Slot.{Slot}
 use Rattle.table_store.specs.Kept.{Held, store_of}
 use Rattle.table_store.specs.Rows.{AreValues, Row, row_at, row_of, with_cell, with_column_at}
-use Rattle.table_store.specs.Store.{Store, find_in, key_eq, shape_of, size_in, table_at}
+use Rattle.ecs_id.specs.TableKeys.{table_eq}
+use Rattle.table_store.specs.Store.{Store, find_in, shape_of, size_in, table_at}
 use Rattle.table_store.proofs.Changes.{rows_here, written_row}
 use Rattle.table_store.proofs.RowCalls.{cell_there, cells_in_row}
 use Rattle.table_store.proofs.Slots.{none_is_some, same_key}
@@ -51,9 +52,9 @@ module _ {Y : Type 0} (tables : Slab (Held Y)) (last : ℕ) (s : Store) (view : 
   pub written_column : (i : Id) (n : ℕ) (bytes : List ℕ) → ((m : ℕ) → row_of (f t) m ≡ option_map (λ v. with_cell v i (take n (drop (m * n) bytes))) (row_of t m))
       → (p : Place) → row_at (store_of (with_value tables k.slot (record x { value = record d { table = table } })) last) p ≡ with_column_at (row_at s) k i n bytes p
   unfolding row_at
-  written_column i n bytes rows p = written_row tables last s view k t at x is d lent table f own p ∙ by (key_eq p.table k) refl
+  written_column i n bytes rows p = written_row tables last s view k t at x is d lent table f own p ∙ by (table_eq p.table k) refl
     where
-      by : (b : Bool) → key_eq p.table k ≡ b
+      by : (b : Bool) → table_eq p.table k ≡ b
           → (if b then row_of (f t) p.row else row_at s p) ≡ (if b then option_map (λ v. with_cell v i (take n (drop (p.row * n) bytes))) (row_at s p) else row_at s p)
       by true e = rows p.row ∙ ap (option_map (λ v. with_cell v i (take n (drop (p.row * n) bytes)))) (sym (ap (option_and_then (λ w. row_of w p.row)) (ap (table_at s) (same_key p.table k e) ∙ at)))
       by false e = refl

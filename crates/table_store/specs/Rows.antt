@@ -6,7 +6,8 @@ use Rattle.ecs_id.specs.declared.Place.{Place}
 use Rattle.ecs_id.specs.declared.TableKey.{TableKey}
 use Rattle.ecs_id.specs.Id.{Id, id_cmp}
 pub use Rattle.ecs_table.specs.Archetype.{Cells, carried, cells_of, row_of, zero_cells}
-use Rattle.table_store.specs.Store.{Store, IsStore, Shape, key_eq, shape_at, size_in, table_at}
+use Rattle.ecs_id.specs.TableKeys.{table_eq}
+use Rattle.table_store.specs.Store.{Store, IsStore, Shape, shape_at, size_in, table_at}
 
 -- an entity with its cells
 abbrev pub Row : Type 0
@@ -21,7 +22,7 @@ abbrev pub rows_in : Store → TableKey → ℕ
 rows_in s k = unwrap_or (option_map (λ t. length t.entities) (table_at s k)) 0
 
 abbrev pub same_place : Place → Place → Bool
-same_place p q = key_eq p.table q.table && p.row == q.row
+same_place p q = table_eq p.table q.table && p.row == q.row
 
 -- the rows with this one at a place
 abbrev pub with_row_at : (Place → Option Row) → Place → Row → Place → Option Row
@@ -58,7 +59,7 @@ with_cell v i bytes = (v.0, put id_cmp i bytes v.1)
 
 -- the rows with other values of an id, of n bytes each, in all rows of one table: those of one row after another
 abbrev pub with_column_at : (Place → Option Row) → TableKey → Id → ℕ → List ℕ → Place → Option Row
-with_column_at rows k i n bytes p = if key_eq p.table k then option_map (λ v. with_cell v i (take n (drop (p.row * n) bytes))) (rows p) else rows p
+with_column_at rows k i n bytes p = if table_eq p.table k then option_map (λ v. with_cell v i (take n (drop (p.row * n) bytes))) (rows p) else rows p
 
 -- these are values of an id with data, one for each row of the table under a key
 abbrev pub AreValues : Store → TableKey → Id → List ℕ → Type 0

@@ -1,8 +1,9 @@
 -- What a contract sees of a store: the table under each key.
-use Rattle.std.specs.Prelude.{◌≡◌, ℕ, ◌-◌, ◌^◌, ◌<◌, ◌≤◌, ◌==◌, Bool, ◌&&◌, List, map, Option, Some, None, option_map, option_and_then, unwrap_or, if◌then◌else◌, IsTrue, IsSome, IfSome, nat_le, slice_get, not}
+use Rattle.std.specs.Prelude.{◌≡◌, ℕ, ◌-◌, ◌^◌, ◌<◌, ◌≤◌, List, map, Option, Some, None, option_map, option_and_then, unwrap_or, if◌then◌else◌, IsTrue, IsSome, IfSome, nat_le, slice_get, not}
 use Rattle.std.specs.List.{find, filter, list_all}
 use Rattle.std.specs.FinMap.{put, is_sorted}
 use Rattle.std.specs.FinMap as finite
+use Rattle.ecs_id.specs.TableKeys.{table_eq}
 use Rattle.ecs_id.specs.declared.TableKey.{TableKey}
 use Rattle.ecs_id.specs.Id.{Id, id_cmp, id_eq}
 use Rattle.ecs_table.specs.Archetype.{Archetype, empty_table, with_moved, without_row}
@@ -13,12 +14,9 @@ pub record Store : Type 0 where
   pub tables : List (TableKey × Archetype)
   pub last : ℕ
 
-abbrev pub key_eq : TableKey → TableKey → Bool
-key_eq k q = k.slot == q.slot && k.serial == q.serial
-
 -- the table under a key, if one stands there
 unfoldable pub table_at : Store → TableKey → Option Archetype
-table_at s k = option_map (λ e. e.1) (find (λ e. key_eq k e.0) s.tables)
+table_at s k = option_map (λ e. e.1) (find (λ e. table_eq k e.0) s.tables)
 
 -- the ids of the table under a key
 abbrev pub ids_at : Store → TableKey → Option (List Id)
@@ -30,19 +28,19 @@ find_in i entries = finite.find id_cmp i entries
 
 -- what stands under each key, after what this makes of one of the tables
 abbrev pub changed_at : Store → TableKey → (Archetype → Archetype) → TableKey → Option Archetype
-changed_at s k change q = if key_eq q k then option_map change (table_at s q) else table_at s q
+changed_at s k change q = if table_eq q k then option_map change (table_at s q) else table_at s q
 
 -- what stands under each key, after a row of the table s under one has moved to the table under another
 abbrev pub moved_at : Store → TableKey → TableKey → Archetype → ℕ → TableKey → Option Archetype
-moved_at st from to s row q = if key_eq q to then option_map (λ t. with_moved t s row) (table_at st q) else changed_at st from (λ t. without_row t row) q
+moved_at st from to s row q = if table_eq q to then option_map (λ t. with_moved t s row) (table_at st q) else changed_at st from (λ t. without_row t row) q
 
 -- what stands under each key, where this table is made unless its key is taken
 abbrev pub made_at : Store → TableKey → Archetype → TableKey → Option Archetype
-made_at s k t q = if key_eq q k then Some (unwrap_or (table_at s q) t) else table_at s q
+made_at s k t q = if table_eq q k then Some (unwrap_or (table_at s q) t) else table_at s q
 
 -- what stands under each key, without one of them
 abbrev pub released_at : Store → TableKey → TableKey → Option Archetype
-released_at s k q = if key_eq q k then None else table_at s q
+released_at s k q = if table_eq q k then None else table_at s q
 
 -- how many more rows fit in the table under a key
 abbrev pub room_at : Store → TableKey → ℕ
@@ -58,7 +56,7 @@ size_in s k i = option_and_then (find_in i) (shape_at s k)
 
 -- the shapes with this one under a key
 abbrev pub shaped_at : Store → TableKey → Shape → TableKey → Option Shape
-shaped_at s k f q = if key_eq q k then Some f else shape_at s q
+shaped_at s k f q = if table_eq q k then Some f else shape_at s q
 
 -- an empty table of this shape
 abbrev pub shaped : Shape → Archetype

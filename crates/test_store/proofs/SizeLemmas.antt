@@ -6,7 +6,8 @@ use Rattle.ecs_id.specs.declared.TableKey.{TableKey}
 use Rattle.std.specs.FinMap.{is_sorted}
 use Rattle.ecs_id.specs.Id.{Id, id_cmp, id_eq, packed, plain}
 use Rattle.ecs_table.specs.Archetype.{Archetype}
-use Rattle.table_store.specs.Store.{HasSize, Shape, Store, find_in, key_eq, shape_at, shape_of, shaped_at, table_at, with_id, without_id}
+use Rattle.ecs_id.specs.TableKeys.{table_eq}
+use Rattle.table_store.specs.Store.{HasSize, Shape, Store, find_in, shape_at, shape_of, shaped_at, table_at, with_id, without_id}
 use Rattle.table_store.specs.Kept.{IsPut}
 use Rattle.test_store.specs.Sizes.{IsOfSizes, IsSized, bytes_of}
 use Rattle.table_store.proofs.MadeTables.{some_of}
@@ -52,7 +53,7 @@ pub sized_without : (f : Shape) (i : Id) → IsOfSizes f → IsOfSizes (without_
 sized_without f i h = each_place _ (λ j c e. let m = get_filtered (λ c. not (id_eq c.0 i)) f j c e in at_place f m.0 c h m.1)
 
 sized_made : (s n : Store) (k : TableKey) (f : Shape) → IsOfSizes f → ((q : TableKey) → shape_at n q ≡ shaped_at s k f q) → IsSized s → IsSized n
-sized_made s n k f h shapes is q g e = by (key_eq q k) (sym (shapes q) ∙ e)
+sized_made s n k f h shapes is q g e = by (table_eq q k) (sym (shapes q) ∙ e)
   where
     by : (b : Bool) → (if b then Some f else shape_at s q) ≡ Some g → IsOfSizes g
     by true x = subst IsOfSizes (one_some f g x) h
@@ -60,7 +61,7 @@ sized_made s n k f h shapes is q g e = by (key_eq q k) (sym (shapes q) ∙ e)
 
 pub sized_empty : (s : Store) → s.tables ≡ [] → IsSized s
 unfolding table_at
-sized_empty s none k f e = absurd (none_is_some f (ap (λ l. option_map shape_of (option_map (λ x. x.1) (find (λ x. key_eq k x.0) l))) (sym none) ∙ e))
+sized_empty s none k f e = absurd (none_is_some f (ap (λ l. option_map shape_of (option_map (λ x. x.1) (find (λ x. table_eq k x.0) l))) (sym none) ∙ e))
 
 -- the table that `get` answers stands
 pub stands : {X : Type 0} (r : Option X) (o : Option Archetype) (t : X → Archetype) → is_some r ≡ true → MatchOption r (o ≡ None) (λ x. o ≡ Some (t x)) → IsSome o

@@ -1,6 +1,6 @@
 use Rattle.std.proofs.Common.{◌≡◌, Some, false, subst, sym, ◌∙◌}
 use Rattle.std.specs.List.{IsDistinct}
-use Rattle.component_index.specs.Entered.{table_eq}
+use Rattle.ecs_id.specs.TableKeys.{table_eq}
 use Rattle.component_index.specs.TableList.{has, IsPlace}
 use Rattle.component_index.proofs.TableLemmas.{Loses-none, Loses-only, Loses-taken, none_once, once-taken, only_has, table_eq_equiv}
 use Rattle.component_index.proofs.table_list.Tables.remove.Goals as goal
