@@ -1,5 +1,5 @@
 -- Which entities live, and what each of them holds: ids with the bytes of their values.
-use Rattle.std.specs.Prelude.{◌≡◌, ℕ, ◌==◌, ◌+◌, Bool, not, ◌&&◌, ◌||◌, List, [], ◌∷◌, map, take, drop, length, replicate, Option, Some, is_some, unwrap_or, option_map, IsTrue, IfSome}
+use Rattle.std.specs.Prelude.{◌≡◌, ℕ, ◌==◌, ◌+◌, Bool, not, ◌&&◌, ◌||◌, List, [], ◌∷◌, map, take, drop, length, Option, Some, is_some, unwrap_or, option_map, IsTrue, IfSome}
 use Rattle.std.specs.List.{list_all, range_with_len}
 use Rattle.std.specs.Option.{option_eq}
 use Rattle.std.specs.Ordering.{nat_cmp}
@@ -24,10 +24,6 @@ pub record Holdings : Type 0 where
 -- whether an id has this size wherever it is known
 abbrev pub agrees : Shape → Id → ℕ → Bool
 agrees known i n = list_all (λ c. not (id_eq c.0 i) || c.1 == n) known
-
--- zeros for each of these ids
-abbrev pub zero_cells : Shape → Cells
-zero_cells sizes = map (λ c. (c.0, replicate c.1 0)) sizes
 
 -- the sizes that cells have
 abbrev pub sizes_of : Cells → Shape

@@ -19,8 +19,8 @@ use Rattle.ecs_model.specs.World.{built_in_names, first_world, is_built_in, key_
 use Rattle.ecs_model.proofs.traits.FirstTraits.{first_world_keeps_traits}
 use Rattle.ecs_model.proofs.Maps.{both_true}
 use Rattle.name_index.specs.Names.{IsUnnamed, Names}
-use Rattle.ecs_table.specs.Archetype.{Shape}
-use Rattle.ecs_archetypes.specs.Holdings.{AreHoldings, HoldAlike, Holdings, KeepsSizes, agrees, cells_at, first_holdings, holds_id, lives, with_cells, zero_cells}
+use Rattle.ecs_table.specs.Archetype.{Shape, zero_cells}
+use Rattle.ecs_archetypes.specs.Holdings.{AreHoldings, HoldAlike, Holdings, KeepsSizes, agrees, cells_at, first_holdings, holds_id, lives, with_cells}
 use Rattle.rel_traits.specs.PinCounts.{Counts}
 use Rattle.ecs_world.specs.State.{IsWorld, parts_of, all_facts, byte_count, is_known_rightly, names_of, state_of, type_in, type_of}
 use Rattle.ecs_world.specs.BuiltIn.{AreFirstNames, IsSettled, first_cells, first_live, is_first_tag, settled_to, tags_of}

@@ -8,8 +8,8 @@ use Rattle.ecs_id.specs.Id.{Id, mentioned}
 use Rattle.ecs_model.specs.Map.{Map, value_at}
 use Rattle.ecs_model.specs.World.{built_in_ids, built_in_names, is_built_in}
 use Rattle.name_index.specs.Names.{IsOneToOne, Names}
-use Rattle.ecs_table.specs.Archetype.{Cells, Shape}
-use Rattle.ecs_archetypes.specs.Holdings.{AreHoldings, HoldAlike, Holdings, first_holdings, zero_cells}
+use Rattle.ecs_table.specs.Archetype.{Cells, Shape, zero_cells}
+use Rattle.ecs_archetypes.specs.Holdings.{AreHoldings, HoldAlike, Holdings, first_holdings}
 use Rattle.ecs_world.specs.State.{names_of}
 
 -- the ids of a built-in entity, all of them tags

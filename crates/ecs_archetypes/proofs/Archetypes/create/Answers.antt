@@ -1,5 +1,5 @@
 -- The new entity enters the table that is found or made.
-use Rattle.ecs_archetypes.specs.Holdings.{zero_cells}
+use Rattle.ecs_table.specs.Archetype.{zero_cells}
 use Rattle.ecs_archetypes.specs.Housing.{holdings_of}
 use Rattle.ecs_archetypes.proofs.ArchetypeCalls.{born_over}
 use Rattle.ecs_archetypes.proofs.StandingTables.{last_grown, last_moved}
