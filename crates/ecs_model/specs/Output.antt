@@ -26,8 +26,12 @@ pub record Effect : Type 0 where
   pub refused : Bool
 
 -- `error LINE KIND`
+abbrev pub refused_text : ℕ → List ℕ → List ℕ
+refused_text n kind = codes "error " ++ decimal n ++ codes " " ++ kind ++ codes "\n"
+
+-- a line that is refused changes nothing
 abbrev pub refused_line : SessionState → ℕ → List ℕ → Effect
-refused_line s n kind = record { session = s; printed = codes "error " ++ decimal n ++ codes " " ++ kind ++ codes "\n"; refused = true }
+refused_line s n kind = record { session = s; printed = refused_text n kind; refused = true }
 
 -- an accepted line, and what it prints
 abbrev pub accepted_line : SessionState → List ℕ → Effect

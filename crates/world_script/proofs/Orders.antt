@@ -31,7 +31,8 @@ use Rattle.ecs_observe.specs.Standing.{Standing, session_of}
 use Rattle.ecs_observe.specs.declared.errors.SessionError.{SessionError}
 use Rattle.ecs_observe.specs.declared.errors.SessionError.TheVariants.{Refused, Memory}
 use Rattle.world_script.specs.Run.{IsDone}
-use Rattle.world_script.specs.Told.{TellsAccepted, TellsRefusal, TellsError, TellsAnswer, TellsBorn, FindsBoth}
+use Rattle.ecs_observe.specs.Commands.{FindsBoth}
+use Rattle.world_script.specs.Told.{TellsAccepted, TellsRefusal, TellsError, TellsAnswer, TellsBorn}
 use Rattle.world_script.proofs.WaitingEvents.{waits-none}
 
 -- a line that was refused

@@ -1,21 +1,13 @@
 -- What is told of a line that a session has answered.
-use Rattle.std.specs.Prelude.{◌≡◌, ℕ, Bool, true, false, List, [], ◌++◌, flat_map, codes, decimal, Option, Result, Ok, Err}
+use Rattle.std.specs.Prelude.{◌≡◌, ℕ, Bool, true, false, List, [], ◌++◌, flat_map, Option, Result, Ok, Err}
 use Rattle.ecs_id.specs.declared.EntityId.{EntityId}
-use Rattle.ecs_id.specs.Id.{Id}
-use Rattle.ecs_model.specs.declared.faults.Refusal.{Refusal}
-use Rattle.ecs_model.specs.World.{WorldState}
-use Rattle.ecs_model.specs.traits.Command.{Command}
-use Rattle.ecs_model.specs.Orders.{EntityRef, IdRef, MakeFresh, with_both}
-use Rattle.ecs_model.specs.Output.{own_text}
+use Rattle.ecs_model.specs.Orders.{MakeFresh}
+use Rattle.ecs_model.specs.Output.{own_text, refused_text}
 use Rattle.ecs_model.specs.stored.Refusal.{session_refusal_text}
 use Rattle.ecs_model.specs.stored.Session.{SessionState, InWorld, after_events, events}
 use Rattle.ecs_model.specs.stored.Watches.{event_text}
 use Rattle.ecs_observe.specs.declared.errors.SessionError.{SessionError}
 use Rattle.ecs_observe.specs.declared.errors.SessionError.TheVariants.{Refused, Memory}
-
--- `error LINE KIND` and a line feed
-abbrev pub refused_text : ℕ → List ℕ → List ℕ
-refused_text n kind = codes "error " ++ decimal n ++ codes " " ++ kind ++ codes "\n"
 
 -- a refusal was told in the output
 abbrev pub TellsRefusal : ℕ → List ℕ → List ℕ → List ℕ → Bool → Type 0
@@ -41,8 +33,3 @@ TellsAnswer (Err error) n old new before after refused = TellsError error n befo
 abbrev pub TellsBorn : Result (Option EntityId) SessionError → ℕ → SessionState → SessionState → List ℕ → List ℕ → Bool → Type 0
 TellsBorn (Ok born) n old new before after refused = TellsAccepted (own_text (InWorld MakeFresh) born) old new before after refused
 TellsBorn (Err error) n old new before after refused = TellsAnswer (Err error) n old new before after refused
-
--- the entity and the id of references were found, or the line is refused: so for each command of an entity and an id
-abbrev pub FindsBoth : WorldState → EntityRef → IdRef → Result (EntityId × Id) Refusal → Type 0
-FindsBoth w entity id (Err reason) = (f : EntityId → Id → Command) → with_both w f entity id ≡ Err reason
-FindsBoth w entity id (Ok both) = (f : EntityId → Id → Command) → with_both w f entity id ≡ Ok (f both.0 both.1)

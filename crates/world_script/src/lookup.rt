@@ -5,7 +5,7 @@ ghost use Rattle.ecs_id.specs.Id.{IsIndex};
 ghost use Rattle.ecs_model.specs.World.{is_alive};
 ghost use Rattle.ecs_model.specs.Orders.{entity_found, found, id_found, is_dead_handle, refs_of_id};
 ghost use Rattle.script_line.specs.Line.{seen_id, seen_reference};
-ghost use Rattle.world_script.specs.Told.{FindsBoth};
+ghost use Rattle.ecs_observe.specs.Commands.{FindsBoth};
 
 use ecs_id::{EntityId, Id};
 use ecs_model::faults::Refusal;

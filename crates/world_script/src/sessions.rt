@@ -8,7 +8,7 @@ ghost use Rattle.ecs_model.specs.stored.Session.{Drop, InWorld, Store};
 ghost use Rattle.ecs_observe.specs.Standing.{session_of};
 ghost use Rattle.script_line.specs.Line.{deed_form, deed_line, form_opened, seen, seen_deed, seen_field, seen_id, seen_reference};
 ghost use Rattle.world_script.specs.Run.{DoesLine, IsDone, line_effect, unsent};
-ghost use Rattle.world_script.specs.Told.{FindsBoth};
+ghost use Rattle.ecs_observe.specs.Commands.{FindsBoth};
 
 use crate::lookup::{find_both, find_entity};
 use crate::showing::show_entity;

@@ -6,7 +6,7 @@ ghost use Rattle.ecs_model.specs.stored.Refusal.{session_refusal_text};
 ghost use Rattle.ecs_model.specs.stored.Session.{after_events, events};
 ghost use Rattle.ecs_model.specs.stored.Watches.{event_text};
 ghost use Rattle.ecs_observe.specs.Standing.{session_of};
-ghost use Rattle.world_script.specs.Told.{refused_text, TellsAnswer, TellsBorn, TellsError, TellsRefusal};
+ghost use Rattle.world_script.specs.Told.{TellsAnswer, TellsBorn, TellsError, TellsRefusal};
 
 use ecs_id::EntityId;
 use ecs_model::faults::{Refusal, SchemaFault, SessionRefusal};

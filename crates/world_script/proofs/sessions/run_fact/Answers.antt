@@ -11,7 +11,8 @@ use Rattle.script_line.specs.declared.Deed.{Deed}
 use Rattle.script_line.specs.declared.Deed.TheVariants.{Set, Add, Remove}
 use Rattle.script_line.specs.Line.{deed_form, seen_reference, seen_id}
 use Rattle.world_script.specs.Run.{IsDone}
-use Rattle.world_script.specs.Told.{TellsRefusal, FindsBoth}
+use Rattle.ecs_observe.specs.Commands.{FindsBoth}
+use Rattle.world_script.specs.Told.{TellsRefusal}
 use Rattle.world_script.proofs.Orders.{IfOk-add_unfound, IfOk-remove_unfound, IfOk-set_unfound}
 use Rattle.world_script.proofs.sessions.run_fact.Goals as goal
 
