@@ -1,10 +1,11 @@
 -- The tables that are entered: a finite map from the key of a table to its ids.
-use Rattle.std.specs.Prelude.{◌≡◌, ◌≢◌, ℕ, ◌==◌, ◌&&◌, ◌⊎◌, Bool, true, false, cond, List, Some, None, IsTrue, refl}
+use Rattle.std.specs.Prelude.{◌≡◌, ◌≢◌, ℕ, ◌==◌, ◌⊎◌, Bool, true, false, cond, List, Some, None, IsTrue, refl}
 use Rattle.std.specs.declared.cmp.Ordering.{Ordering}
 use Rattle.std.specs.Ordering.{nat_cmp, eq_by_cmp, on, then_cmp}
 use Rattle.std.specs.Cmp.{IsTotalOrder}
 use Rattle.std.specs.FinMap.{get-empty, get-insert, get-remove}
 use Rattle.std.proofs.Common.{true≢false, inl, inr, sym, ◌∙◌, arith}
+use Rattle.std.proofs.lemmas.Bool.{and_parts}
 use Rattle.std.proofs.lemmas.Bool.Decides.{Decides-eqb, nat_tests}
 use Rattle.std.proofs.lemmas.Cmp.{nat_cmp_total, on_total, then_total, eq_by_cmp_equiv}
 use Rattle.std.specs.Coded.{Coded, code_by, coded×, coded_ℕ}
@@ -40,14 +41,10 @@ table_cmp_total = then_total (on_total (λ key. key.slot) nat_cmp_total) (on_tot
 pub eq_by-table_cmp : (x y : TableKey) → eq_by_cmp table_cmp x y ≡ table_eq x y
 eq_by-table_cmp x y = grind (arith, nat_tests)
 
-both : (a b : Bool) → (a && b) ≡ true → (a ≡ true) × (b ≡ true)
-both true b h = (refl, h)
-both false b h = absurd (true≢false (sym h))
-
 -- keys that compare equal are one
 pub same_table : (x y : TableKey) → table_eq x y ≡ true → x ≡ y
 same_table x y h =
-    let tests = both (x.slot == y.slot) (x.serial == y.serial) h in
+    let tests = and_parts (x.slot == y.slot) (x.serial == y.serial) h in
     λ i. record { slot = (Decides-eqb x.slot y.slot).0 tests.0 i; serial = (Decides-eqb x.serial y.serial).0 tests.1 i }
 
 table_eq_itself : (x : TableKey) → table_eq x x ≡ true

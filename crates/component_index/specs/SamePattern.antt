@@ -1,5 +1,6 @@
 -- When two patterns are the same.
 use Rattle.std.proofs.Common.{◌≡◌, ℕ, ◌==◌, ◌&&◌, Bool, true, false, true≢false, Option, Some, None, refl, sym, ap}
+use Rattle.std.proofs.lemmas.Bool.{and_parts}
 use Rattle.std.proofs.lemmas.Bool.Decides.{Decides-eqb}
 use Rattle.component_index.specs.declared.pattern.Part.{Part}
 use Rattle.component_index.specs.declared.pattern.Part.TheVariants.{Is, Any}
@@ -10,28 +11,24 @@ use Rattle.component_index.specs.contracts.pattern.PatternPartialEq.TheImpl as s
 abbrev pub pattern_eq : Pattern → Pattern → Bool
 pattern_eq = same_patterns.ghosts.eq
 
-both : (a b : Bool) → (a && b) ≡ true → (a ≡ true) × (b ≡ true)
-both true b h = (refl, h)
-both false b h = absurd (true≢false (sym h))
-
 number : (m n : ℕ) → (m == n) ≡ true → m ≡ n
 number m n h = (Decides-eqb m n).0 h
 
 -- parts alone
 same_first : (a b : Part) → pattern_eq (record { first = a; second = None }) (record { first = b; second = None }) ≡ true → a ≡ b
-same_first (Is i) (Is j) h = ap Is (number i j (both (i == j) true h).0)
+same_first (Is i) (Is j) h = ap Is (number i j (and_parts (i == j) true h).0)
 same_first (Is i) Any h = absurd (true≢false (sym h))
 same_first Any (Is j) h = absurd (true≢false (sym h))
 same_first Any Any h = refl
 
 first_alone : (a b : Part) (s t : Option Part) → pattern_eq (record { first = a; second = s }) (record { first = b; second = t }) ≡ true → pattern_eq (record { first = a; second = None }) (record { first = b; second = None }) ≡ true
-first_alone (Is i) (Is j) s t h = ap (λ c. c && true) (both (i == j) _ h).0
+first_alone (Is i) (Is j) s t h = ap (λ c. c && true) (and_parts (i == j) _ h).0
 first_alone (Is i) Any s t h = h
 first_alone Any (Is j) s t h = h
 first_alone Any Any s t h = refl
 
 second_alone : (a b : Part) (s t : Option Part) → pattern_eq (record { first = a; second = s }) (record { first = b; second = t }) ≡ true → pattern_eq (record { first = Any; second = s }) (record { first = Any; second = t }) ≡ true
-second_alone (Is i) (Is j) s t h = (both (i == j) _ h).1
+second_alone (Is i) (Is j) s t h = (and_parts (i == j) _ h).1
 second_alone (Is i) Any s t h = absurd (true≢false (sym h))
 second_alone Any (Is j) s t h = absurd (true≢false (sym h))
 second_alone Any Any s t h = h
