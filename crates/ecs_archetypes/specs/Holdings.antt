@@ -1,12 +1,11 @@
 -- Which entities live, and what each of them holds: ids with the bytes of their values.
-use Rattle.std.specs.Prelude.{◌≡◌, ℕ, ◌==◌, ◌+◌, Bool, not, ◌&&◌, ◌||◌, List, [], ◌∷◌, map, take, drop, length, Option, Some, is_some, unwrap_or, option_map, IsTrue, IfSome}
+use Rattle.std.specs.Prelude.{◌≡◌, ℕ, ◌==◌, ◌+◌, Bool, not, ◌&&◌, ◌||◌, List, [], ◌∷◌, map, take, drop, length, Option, is_some, unwrap_or, IsTrue, IfSome}
 use Rattle.std.specs.List.{list_all, range_with_len}
-use Rattle.std.specs.Option.{option_eq}
 use Rattle.std.specs.Ordering.{nat_cmp}
 use Rattle.ecs_id.specs.declared.EntityId.{EntityId}
 use Rattle.ecs_id.specs.Id.{Id, id_cmp, id_eq}
 use Rattle.ecs_model.specs.Map.{Map, IsMap, count_at, has_key, value_at, with_value, without}
-use Rattle.ecs_model.specs.World.{last_built_in, last_index, next_among}
+use Rattle.ecs_model.specs.World.{last_built_in, last_index, lives_in, living, living_at, next_among}
 pub use Rattle.ecs_table.specs.Archetype.{Cells}
 use Rattle.ecs_table.specs.Archetype.{Shape}
 
@@ -32,7 +31,7 @@ sizes_of cells = map (λ c. (c.0, length c.1)) cells
 module _ (h : Holdings) where
   -- whether this very entity is alive
   abbrev pub lives : EntityId → Bool
-  lives e = option_eq ◌==◌ (value_at nat_cmp h.live e.index) (Some e.generation)
+  lives e = lives_in h.live e
 
   -- what the entity at an index holds, if it is settled
   abbrev pub cells_at : ℕ → Option Cells
@@ -56,11 +55,11 @@ module _ (h : Holdings) where
 
   -- the live entity at an index
   abbrev pub entity_at : ℕ → Option EntityId
-  entity_at i = option_map (λ g. record { index = i; generation = g }) (value_at nat_cmp h.live i)
+  entity_at i = living_at h.live i
 
   -- the live entities by index
   abbrev pub live_entities : List EntityId
-  live_entities = map (λ e. record { index = e.0; generation = e.1 }) h.live
+  live_entities = living h.live
 
   -- the entity that the next birth makes
   abbrev pub upcoming : Option EntityId

@@ -92,7 +92,21 @@ abbrev pub first_passing : (ℕ → Bool) → ℕ → ℕ → Option ℕ
 first_passing test zero i = None
 first_passing test (suc n) i = elim (test i) [ true ↦ Some i | false ↦ first_passing test n (i + 1) ]
 
--- of the generation of each live entity, and how often an index was deleted
+-- of the generation of each live entity
+module _ (live : Map ℕ ℕ) where
+  -- whether this very entity lives
+  abbrev pub lives_in : EntityId → Bool
+  lives_in e = option_eq ◌==◌ (value_at nat_cmp live e.index) (Some e.generation)
+
+  -- the entity that lives at an index
+  abbrev pub living_at : ℕ → Option EntityId
+  living_at i = option_map (λ g. record { index = i; generation = g }) (value_at nat_cmp live i)
+
+  -- all that live, by index
+  abbrev pub living : List EntityId
+  living = map (λ e. record { index = e.0; generation = e.1 }) live
+
+-- and of how often an index was deleted
 module _ (live deletions : Map ℕ ℕ) where
   -- whether an index can be given to a new entity: it is neither live nor deleted 65,536 times
   abbrev pub is_free : ℕ → Bool
@@ -109,11 +123,11 @@ module _ (w : WorldState) where
 
   -- whether this very entity is alive
   abbrev pub is_alive : EntityId → Bool
-  is_alive e = option_eq ◌==◌ (value_at nat_cmp w.live e.index) (Some e.generation)
+  is_alive e = lives_in w.live e
 
   -- the live entity at an index
   abbrev pub entity_at : ℕ → Option EntityId
-  entity_at i = option_map (λ g. record { index = i; generation = g }) (value_at nat_cmp w.live i)
+  entity_at i = living_at w.live i
 
   -- the live entities' indexes, in order
   abbrev pub entities : List ℕ

@@ -1,12 +1,11 @@
 -- The entities of an index: which live, how often each index was deleted, and where rows stand.
-use Rattle.std.specs.Prelude.{◌≡◌, ◌⊎◌, ℕ, ◌+◌, ◌^◌, ◌≤◌, ◌<◌, ◌==◌, Bool, false, not, ◌&&◌, List, [], map, Option, Some, None, option_map, if◌then◌else◌, IsTrue, IfSome}
+use Rattle.std.specs.Prelude.{◌≡◌, ◌⊎◌, ℕ, ◌+◌, ◌^◌, ◌≤◌, ◌<◌, ◌==◌, Bool, false, not, ◌&&◌, List, [], map, Option, Some, None, if◌then◌else◌, IsTrue, IfSome}
 use Rattle.std.specs.List.{range_with_len}
-use Rattle.std.specs.Option.{option_eq}
 use Rattle.std.specs.Ordering.{nat_cmp}
 use Rattle.ecs_id.specs.declared.EntityId.{EntityId}
 use Rattle.ecs_id.specs.declared.Place.{Place}
 use Rattle.ecs_model.specs.Map.{Map, IsMap, count_at, has_key, value_at, with_value, without}
-use Rattle.ecs_model.specs.World.{first_index, is_built_in, is_free, last_built_in, next_among}
+use Rattle.ecs_model.specs.World.{first_index, is_built_in, is_free, last_built_in, lives_in, living, living_at, next_among}
 
 -- the value of an index: maps by index
 pub record Entities : Type 0 where
@@ -30,15 +29,15 @@ module _ (w : Entities) where
 
   -- whether this very entity is alive
   abbrev pub is_alive : EntityId → Bool
-  is_alive e = option_eq ◌==◌ (value_at nat_cmp w.live e.index) (Some e.generation)
+  is_alive e = lives_in w.live e
 
   -- the live entity at an index
   abbrev pub entity_at : ℕ → Option EntityId
-  entity_at i = option_map (λ g. record { index = i; generation = g }) (value_at nat_cmp w.live i)
+  entity_at i = living_at w.live i
 
   -- the live entities by index
   abbrev pub live_entities : List EntityId
-  live_entities = map (λ e. record { index = e.0; generation = e.1 }) w.live
+  live_entities = living w.live
 
   -- where a live entity's row stands
   abbrev pub place_of : EntityId → Option Place
