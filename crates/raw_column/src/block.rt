@@ -33,8 +33,6 @@ pub struct Block<A: Allocator = Global> {
     capacity: usize,
     sizes: Sizes<A>,
     len: usize,
-    // A column with places for a multiple of so many rows has a multiple of eight bytes.
-    step: usize,
 }
 
 impl<A: Allocator> Model for Block<A> {
@@ -57,7 +55,6 @@ impl<A: Allocator + Copy> Block<A> {
     {
         Ok(Block {
             sizes: Sizes::new(alloc, sizes)?,
-            step: step_of(sizes),
             buffer: Buffer::new(alloc),
             capacity: 0,
             len: 0,
@@ -245,20 +242,7 @@ impl<A: Allocator> Block<A> {
         ensures enough { rows ≤ result }
         ensures none { rows ≡ 0 → result ≡ 0 }
     {
-        rows.checked_next_multiple_of(self.step).unwrap_or(rows)
-    }
-}
-
-/// The least of 1, 2, 4 and 8 by which each of these sizes becomes a multiple of eight.
-fn step_of(sizes: &[usize]) -> usize {
-    let bits = sizes.iter().fold(0, |bits, size| bits | *size);
-    if bits % 8 == 0 {
-        1
-    } else if bits % 4 == 0 {
-        2
-    } else if bits % 2 == 0 {
-        4
-    } else {
-        8
+        rows.checked_next_multiple_of(self.sizes.step())
+            .unwrap_or(rows)
     }
 }

@@ -19,6 +19,8 @@ pub(crate) struct Sizes<A: Allocator> {
     spans: Vec<Span, A>,
     // the bytes of a row in all columns
     width: u32,
+    // by which each size becomes a multiple of eight
+    step: u32,
 }
 
 impl<A: Allocator> Model for Sizes<A> {
@@ -37,6 +39,7 @@ impl<A: Allocator> Sizes<A> {
         requires { (k : ℕ) → k < length sizes.now → (0 < slice_index sizes.now k) × (slice_index sizes.now k ≤ 64) }
         ensures { IfOk result (λ all. all ≡ sizes.now) }
     {
+        let step = step_of(sizes);
         let mut spans = Vec::with_capacity(alloc, sizes.len())?;
         let mut width = 0u32;
         for size in sizes {
@@ -51,7 +54,7 @@ impl<A: Allocator> Sizes<A> {
             list_growth::push(&mut spans, span)?;
             width = more;
         }
-        Ok(Sizes { spans, width })
+        Ok(Sizes { spans, width, step })
     }
 
     /// How many columns there are.
@@ -69,6 +72,12 @@ impl<A: Allocator> Sizes<A> {
         ensures small { result < 2 ^ 32 }
     {
         self.width as usize
+    }
+
+    /// A column with places for a multiple of so many rows has a multiple of eight bytes.
+    #[inline(always)]
+    pub(crate) fn step(&self) -> usize {
+        self.step as usize
     }
 
     /// The bytes of a value in a column.
@@ -93,5 +102,19 @@ impl<A: Allocator> Sizes<A> {
     {
         let span = self.spans[column];
         span.before as usize * capacity + row * span.size as usize
+    }
+}
+
+/// The least of 1, 2, 4 and 8 by which each of these sizes becomes a multiple of eight.
+fn step_of(sizes: &[usize]) -> u32 {
+    let bits = sizes.iter().fold(0, |bits, size| bits | *size);
+    if bits % 8 == 0 {
+        1
+    } else if bits % 4 == 0 {
+        2
+    } else if bits % 2 == 0 {
+        4
+    } else {
+        8
     }
 }
