@@ -1,4 +1,5 @@
 pub mod Archetype
+pub mod DataIds
 pub mod EntityList
 pub mod IdList
 pub mod TableData
