@@ -32,9 +32,11 @@ pub(crate) fn tell_facts<A: Allocator + Copy>(
     events: &mut Vec<Event<A>, A>,
 ) -> Result<(), AllocError>
     ensures told { OnOk result (events.new.items ≡ events.old.items
-        ++ map (fact_event (audience.entry.name).now kind world.now.state (told_value world.now.state kind)) (filter (observes (view_of world.now.state) (audience.entry.query).now) (told_facts changes.now kind))) }
+        ++ map (fact_event (audience.entry.name).now kind world.now.state (told_value world.now.state kind))
+        (filter (observes (view_of world.now.state) (audience.entry.query).now) (told_facts changes.now kind))) }
     ensures front { OnErr result (StopsWithin events.old.items events.new.items
-        (map (fact_event (audience.entry.name).now kind world.now.state (told_value world.now.state kind)) (filter (observes (view_of world.now.state) (audience.entry.query).now) (told_facts changes.now kind)))) }
+        (map (fact_event (audience.entry.name).now kind world.now.state (told_value world.now.state kind))
+        (filter (observes (view_of world.now.state) (audience.entry.query).now) (told_facts changes.now kind)))) }
 {
     let Some(term) = only_term(audience.query) else {
         return Ok(());

@@ -29,9 +29,11 @@ pub(crate) fn tell_removals<A: Allocator + Copy>(
 ) -> Result<(), AllocError>
     requires { IsAfter world.now.state changes.now }
     ensures told { OnOk result (events.new.items ≡ events.old.items
-        ++ map (removed_event world.now.state changes.now (audience.entry.name).now) (filter (observed_before world.now.state changes.now (audience.entry.query).now) changes.now.went)) }
+        ++ map (removed_event world.now.state changes.now (audience.entry.name).now)
+        (filter (observed_before world.now.state changes.now (audience.entry.query).now) changes.now.went)) }
     ensures front { OnErr result (StopsWithin events.old.items events.new.items
-        (map (removed_event world.now.state changes.now (audience.entry.name).now) (filter (observed_before world.now.state changes.now (audience.entry.query).now) changes.now.went))) }
+        (map (removed_event world.now.state changes.now (audience.entry.name).now)
+        (filter (observed_before world.now.state changes.now (audience.entry.query).now) changes.now.went))) }
 {
     let Some(term) = only_term(audience.query) else {
         return Ok(());
