@@ -21,7 +21,7 @@ PARTS = [
     ("Output", r"ecs_model/(Output|Print)"),
     ("Lines", r"ecs_model/(Script|Text)"),
     ("Notifications", r"ecs_model/stored/.*|watch_concerns/Since"),
-    ("Rows", r"ecs_model/(rows/.*|Query|Depth|Links|Line|Reach|Cycles)"),
+    ("Rows", r"ecs_model/(rows/.*|Query|Depth|Links|AncestorLine|Reach|Cycles)"),
     ("Queries", r"query_model/.*|query_.*"),
     ("Commands", r".*"),
 ]
@@ -45,7 +45,7 @@ LAWS = {
     "DeletedIsLeast": "deleted",
     "CycleIsTold": "has_cycle",
     "ReachIsComputed": "reaches",
-    "LinesUnfold": "line",
+    "LinesUnfold": "ancestor_line",
     "DepthsAreOfLongestChains": "depth",
     "FirstReasonIsLeast": "first_reason",
 }

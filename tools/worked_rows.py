@@ -37,11 +37,11 @@ use Rattle.std.specs.Str.{{chars, is_utf8}}
 use Rattle.ecs_id.specs.Id.{{id_cmp}}
 use Rattle.ecs_model.specs.World.{{first_world, key_cmp, next_among}}
 use Rattle.ecs_model.specs.Sets.{{has_chain, within}}
-use Rattle.ecs_model.specs.Command.{{with_born, with_named, with_component, differences}}
-use Rattle.ecs_model.specs.traits.Changes.{{added, replaced, facts_with_added, new_base, copied, facts_after_add, facts_after_remove, deleted, facts_after_delete}}
-use Rattle.ecs_model.specs.traits.Command.{{without_entities, reasons, effect, step}}
+use Rattle.ecs_model.specs.steps.Outcomes.{{with_born, with_named, with_component, differences}}
+use Rattle.ecs_model.specs.steps.FactChanges.{{added, replaced, facts_with_added, new_base, copied, facts_after_add, facts_after_remove, deleted, facts_after_delete}}
+use Rattle.ecs_model.specs.steps.Step.{{without_entities, reasons, effect, step}}
 use Rattle.ecs_model.specs.Depth.{{depth_within}}
-use Rattle.ecs_model.specs.Line.{{line_within}}
+use Rattle.ecs_model.specs.AncestorLine.{{ancestor_line_within}}
 use Rattle.ecs_model.specs.Links.{{reaches}}
 use Rattle.ecs_model.specs.rows.Level.{{top}}
 use Rattle.ecs_model.specs.rows.Rows.{{hits, fields_of_term, fields_of_item, solutions, rows}}
@@ -53,7 +53,7 @@ use Rattle.ecs_model.specs.Script.{{lines_of, forms, form_among}}
 use Rattle.ecs_model.specs.Output.{{Effect, effect_of, effects_of, output_of, count_of}}
 use Rattle.ecs_model.specs.stored.Session.{{free_order, apply}}
 use Rattle.ecs_model.specs.stored.Watches.{{matching, told_of_rows, told_of}}
-use Rattle.ecs_model.specs.traits.Pins.{{unpin}}
+use Rattle.ecs_model.specs.steps.Pins.{{unpin}}
 use Rattle.std.proofs.Common.{{ap}}
 use lib.Utf8.{{encode}}
 
@@ -72,7 +72,7 @@ gives script output lines refused h = (ap (λ t. drop 2 t) h, ap (λ t. (get_or 
 """
 UNFOLDING = (
     "id_cmp key_cmp first_world next_among within has_chain added replaced facts_with_added new_base copied facts_after_add facts_after_remove deleted facts_after_delete without_entities "
-    "with_born with_named with_component reasons effect differences step line_within depth_within reaches top hits fields_of_term fields_of_item solutions rows "
+    "with_born with_named with_component reasons effect differences step ancestor_line_within depth_within reaches top hits fields_of_term fields_of_item solutions rows "
     "tokens_from tokens_of faults checked_query query_of command_of free_order apply matching told_of_rows told_of unpin lines_of forms form_among effect_of effects_of digits chars is_utf8 encode"
 )
 

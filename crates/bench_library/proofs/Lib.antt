@@ -1,1 +1,1 @@
-mod Sound
+mod SoundQueries

@@ -4,7 +4,7 @@ use crate::by_rows::sum_by_rows;
 use crate::commands::{Fault, add, fresh, set};
 use crate::is_asked;
 use crate::values::{component, tag};
-use crate::writing::{Turn, move_all};
+use crate::writing::{TableBytes, move_all};
 use ecs_id::{EntityId, Id};
 use ecs_schema::Kind;
 use ecs_world::World;
@@ -229,7 +229,7 @@ fn sum_of_rows(alloc: Global, world: &World, values: bool, times: u32) -> Result
 
 /// Moves the entities of a query so often by their velocities.
 fn move_often(
-    turn: &mut Turn,
+    turn: &mut TableBytes,
     world: &mut World,
     query: &Query,
     position: Id,
@@ -249,7 +249,7 @@ fn sum_of_written(
     times: u32,
 ) -> Result<u64, Fault> {
     let query = read_query(alloc, world, TEXT).or(Err(Fault::World))?;
-    let mut turn = Turn::new(alloc);
+    let mut turn = TableBytes::new(alloc);
     let moved = move_often(&mut turn, world, &query, position, times);
     drop(turn);
     let sum = sum_by_chunks(world, &query, true);

@@ -42,7 +42,7 @@ fn text_of(alloc: Global, name: &str) -> Result<String, AllocError> {
 }
 
 /// The query of a text. It is sound, as every query is that a text asks.
-#[tactic(auto, using(crate::proofs::Sound::asked_is_sound))]
+#[tactic(auto, using(crate::proofs::SoundQueries::asked_is_sound))]
 fn ask(alloc: Global, text: &str) -> Result<Query, QueryFault>
     ensures { IfOk result (λ query. IsSound query) }
 {

@@ -10,7 +10,7 @@ use std::alloc::{AllocError, Global};
 
 /// The bytes that tables get for one id, one table's behind those of another. The room stays from one turn to the next.
 #[derive(Drop)]
-pub(crate) struct Turn {
+pub(crate) struct TableBytes {
     /// Each table, and how many bytes it gets.
     tables: Vec<(TableKey, usize)>,
     bytes: Vec<u8>,
@@ -39,9 +39,9 @@ pub(crate) fn move_all(positions: &mut [u8], velocities: &[u8]) {
     }
 }
 
-impl Turn {
-    pub(crate) fn new(alloc: Global) -> Turn {
-        Turn {
+impl TableBytes {
+    pub(crate) fn new(alloc: Global) -> TableBytes {
+        TableBytes {
             tables: Vec::new(alloc),
             bytes: Vec::new(alloc),
         }

@@ -3,4 +3,4 @@ pub mod ListedLemmas
 mod ListingLemmas
 mod MentionLemmas
 pub mod TableLemmas
-mod Walks
+mod RegisterWalks

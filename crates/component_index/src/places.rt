@@ -15,7 +15,7 @@ const SHIFT: u64 = 1 << 32;
 
 /// Where a table stands in a list, of whose word the half is left that a multiplication by a secret number mixes most.
 #[derive(Clone, Copy)]
-struct Place {
+struct ListPlace {
     half: u32,
     at: u32,
 }
@@ -42,7 +42,7 @@ const NONE: Range = Range { start: 0, count: 0 };
 #[derive(Drop)]
 pub struct Places<A: Allocator> {
     // Those of one table stand together, since a table comes into all its lists at once.
-    places: Vec<Place, A>,
+    places: Vec<ListPlace, A>,
     heads: Vec<Head, A>,
     // by slot the number of the head
     by_slot: Vec<u32, A>,
@@ -78,7 +78,7 @@ impl<A: Allocator> Places<A> {
         }
         let half = self.half_of(word);
         let at = u32::try_from(at).unwrap_or(u32::MAX);
-        list_growth::push(&mut self.places, Place { half, at })?;
+        list_growth::push(&mut self.places, ListPlace { half, at })?;
         Ok(())
     }
 
@@ -230,7 +230,7 @@ fn set_number<A: Allocator>(by_slot: &mut Vec<u32, A>, slot: u32, number: u32) {
 }
 
 // Moves the places of a table to others, from one on, which are not behind them.
-fn move_places<A: Allocator>(places: &mut Vec<Place, A>, range: Range, start: usize) {
+fn move_places<A: Allocator>(places: &mut Vec<ListPlace, A>, range: Range, start: usize) {
     for index in 0..range.count {
         let Some(&place) = places.get(range.start.saturating_add(index)) else {
             return;

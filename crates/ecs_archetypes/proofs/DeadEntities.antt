@@ -7,7 +7,7 @@ use Rattle.ecs_id.specs.Id.{Id}
 use Rattle.ecs_model.specs.Links.{AreLinks}
 use Rattle.ecs_model.specs.Map.{Map, has_key, keys}
 use Rattle.std.specs.Cmp.{nat_cmp_total}
-use Rattle.ecs_model.proofs.traits.Facts.{there_key}
+use Rattle.ecs_model.proofs.steps.Facts.{there_key}
 
 pub none_in : {X : Type 0} (xs : List X) → ((x : X) → Contains xs x → ⊥) → xs ≡ []
 none_in [] none = refl

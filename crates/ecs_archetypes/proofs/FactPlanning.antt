@@ -18,7 +18,7 @@ use Rattle.ecs_model.specs.World.{Key, is_built_in, key_cmp}
 use Rattle.ecs_model.proofs.Maps.{both_true, from_T, of_some, to_T}
 use Rattle.table_store.specs.Rows.{Cells, carried, shape_of_cells}
 use Rattle.table_store.specs.Store.{Shape, Store, room_at, shape_at}
-use Rattle.ecs_archetypes.specs.declared.plans.Move.{Move}
+use Rattle.ecs_archetypes.specs.declared.plans.EntityMove.{EntityMove}
 use Rattle.ecs_archetypes.specs.Archetypes.{known_in}
 use Rattle.ecs_archetypes.specs.FactChanges.{Coming, changed_cells, changed_shape, coming_to, first_entity, goes_from, ids_among, ids_coming, is_among, with_facts_changed}
 use Rattle.ecs_archetypes.specs.Holdings.{AreHoldings, HoldAlike, Holdings, KeepsSizes, agrees, cells_at, held_at, holds_id, is_settled, lives, sizes_of, with_cells}
@@ -78,7 +78,7 @@ module _ (h : Holdings) (order : is_sorted nat_cmp h.cells ≡ true) (e : ℕ) (
   one_changed = ap (λ m. record h { cells = m }) entries
 
 -- moves in tables that have grown, and one more of them
-pub moved_grown : (s n : Store) → HasGrown s n → (ms : List Move) → ((q : TableKey) → moves_to q ms ≤ room_at s q) → (h : Holdings) → with_all_moved n ms h ≡ with_all_moved s ms h
+pub moved_grown : (s n : Store) → HasGrown s n → (ms : List EntityMove) → ((q : TableKey) → moves_to q ms ≤ room_at s q) → (h : Holdings) → with_all_moved n ms h ≡ with_all_moved s ms h
 moved_grown s n grown [] room h = refl
 moved_grown s n grown (m ∷ ms) room h =
     let one : one_in m.to m.to ≡ 1 = ap (λ b. cond b 1 0) ((table_eq-tells m.to m.to).1 refl) in
@@ -88,7 +88,7 @@ moved_grown s n grown (m ∷ ms) room h =
     moved_grown s n grown ms (λ q. let r = room q in omega (arith, r)) (with_moved h m.entity (shape_in n m.to))
     ∙ ap (λ o. with_all_moved s ms (with_moved h m.entity (unwrap_or o []))) same
 
-pub moved_more : (s : Store) (ms : List Move) (m : Move) (h : Holdings) → with_all_moved s (ms ++ m ∷ []) h ≡ with_moved (with_all_moved s ms h) m.entity (shape_in s m.to)
+pub moved_more : (s : Store) (ms : List EntityMove) (m : EntityMove) (h : Holdings) → with_all_moved s (ms ++ m ∷ []) h ≡ with_moved (with_all_moved s ms h) m.entity (shape_in s m.to)
 moved_more s [] m h = refl
 moved_more s (n ∷ ms) m h = moved_more s ms m (with_moved h n.entity (shape_in s n.to))
 
@@ -96,7 +96,7 @@ apart_from : (n b d : ℕ) → nat_lt n b ≡ true → b ≤ d → (d == n) ≡ 
 apart_from n b d low high = grind (arith, nat_tests)
 
 -- moves of others leave an entity's cells
-pub others_moved : (s : Store) (ms : List Move) (h : Holdings) (b d : ℕ) → list_all (λ m. nat_lt m.entity.index b) ms ≡ true → b ≤ d → cells_at (with_all_moved s ms h) d ≡ cells_at h d
+pub others_moved : (s : Store) (ms : List EntityMove) (h : Holdings) (b d : ℕ) → list_all (λ m. nat_lt m.entity.index b) ms ≡ true → b ≤ d → cells_at (with_all_moved s ms h) d ≡ cells_at h d
 others_moved s [] h b d low high = refl
 others_moved s (m ∷ ms) h b d low high =
     let parts = both_true (nat_lt m.entity.index b) (list_all (λ m. nat_lt m.entity.index b) ms) low in
@@ -104,7 +104,7 @@ others_moved s (m ∷ ms) h b d low high =
     ∙ find-put nat_cmp nat_cmp_total d m.entity.index (carried (shape_in s m.to) (held_at h m.entity.index)) h.cells
     ∙ ap (λ t. cond t (Some (carried (shape_in s m.to) (held_at h m.entity.index))) (cells_at h d)) (eq_tells d m.entity.index ∙ apart_from m.entity.index b d parts.0 high)
 
-pub moved_sorted : (s : Store) (ms : List Move) (h : Holdings) → is_sorted nat_cmp h.cells ≡ true → is_sorted nat_cmp (with_all_moved s ms h).cells ≡ true
+pub moved_sorted : (s : Store) (ms : List EntityMove) (h : Holdings) → is_sorted nat_cmp h.cells ≡ true → is_sorted nat_cmp (with_all_moved s ms h).cells ≡ true
 moved_sorted s [] h order = order
 moved_sorted s (m ∷ ms) h order =
     let f = carried (shape_in s m.to) (held_at h m.entity.index) in
@@ -115,7 +115,7 @@ list_all_map test f [] = refl
 list_all_map test f (x ∷ xs) = ap (λ b. test (f x) && b) (list_all_map test f xs)
 
 -- the moves so far, and the facts that are left: together they change what was asked for
-pub record ArePlannedFacts (before : Housing) (came : Coming) (went : List Key) (now : Housing) (moves : List Move) (comes : Coming) (goes : List Key) : Type 0 where
+pub record ArePlannedFacts (before : Housing) (came : Coming) (went : List Key) (now : Housing) (moves : List EntityMove) (comes : Coming) (goes : List Key) : Type 0 where
   pub ready : AreReady now moves
   pub held : HoldAlike (holdings_of now) (holdings_of before)
   pub grown : HasGrown before.tables now.tables
@@ -145,7 +145,7 @@ all_zero f (x ∷ xs) = both (nat_le 0 (f x)) (list_all (λ x. nat_le 0 (f x)) x
 
 pub facts_planned_none : (before : Housing) (came : Coming) (went : List Key) → IsHoused before → IsStrictlySortedBy key_cmp (keys came) → IsStrictlySortedBy key_cmp went
     → list_all (λ k. is_some (cells_at (holdings_of before) k.0)) (keys came ++ went) ≡ true → list_all (λ k. not (holds_id (holdings_of before) k.0 k.1)) (keys came) ≡ true → list_all (λ c. nat_le c.1 64) came ≡ true
-    → list_all (λ c. agrees (known_in before.tables ++ ids_coming came) c.0 c.1) (ids_coming came) ≡ true → (moves : List Move) → moves ≡ [] → ArePlannedFacts before came went before moves came went
+    → list_all (λ c. agrees (known_in before.tables ++ ids_coming came) c.0 c.1) (ids_coming came) ≡ true → (moves : List EntityMove) → moves ≡ [] → ArePlannedFacts before came went before moves came went
 facts_planned_none before came went whole up rising settled unheld small agree moves none =
     let parts = both_true (list_all (λ k. is_some (cells_at (holdings_of before) k.0)) (keys came)) (list_all (λ k. is_some (cells_at (holdings_of before) k.0)) went)
     (sym (list_all-append (λ k. is_some (cells_at (holdings_of before) k.0)) (keys came) went) ∙ settled) in
@@ -197,7 +197,7 @@ unheld_own h e (c ∷ cs) own apart =
     let a = both_true (not (holds_id h c.0.0 c.0.1)) (list_all (λ c. not (holds_id h c.0.0 c.0.1)) cs) apart in
     both (not (holds_id h e c.0.1)) (list_all (λ c. not (holds_id h e c.0)) (ids_coming cs)) (ap (λ d. not (holds_id h d c.0.1)) (sym ((Decides-eqb c.0.0 e).0 o.0)) ∙ a.0) (unheld_own h e cs o.1 a.1)
 
-module _ (before now : Housing) (came : Coming) (went : List Key) (moves : List Move) (comes : Coming) (goes : List Key) (planned : ArePlannedFacts before came went now moves comes goes) where
+module _ (before now : Housing) (came : Coming) (went : List Key) (moves : List EntityMove) (comes : Coming) (goes : List Key) (planned : ArePlannedFacts before came went now moves comes goes) where
   -- nothing is left
   pub facts_planned : first_entity comes goes ≡ None → with_all_moved now.tables moves (holdings_of before) ≡ with_facts_changed came went (holdings_of before)
   facts_planned is =
@@ -275,7 +275,7 @@ module _ (before now : Housing) (came : Coming) (went : List Key) (moves : List 
     pub fewer_left : (a b : ℕ) → a + n ≡ length comes → b + m ≡ length goes → a + b < length comes + length goes
     fewer_left a b x y = let some = firsts.some in omega (arith, x, y, count, amount, some)
 
-    module _ (next : Housing) (more : List Move)
+    module _ (next : Housing) (more : List EntityMove)
         (one : (x : EntityId) × (x.index ≡ e) × IsPlanned next.tables moves x (changed_shape (ids_coming first) (is_among (ids_among these)) (shape_of_cells (held_at (holdings_of now) e))) more)
         (ready : AreReady next more) (held : HoldAlike (holdings_of next) (holdings_of now)) (grown : HasGrown now.tables next.tables) (sizes : KeepsSizes (known_in now.tables) (ids_coming first) (known_in next.tables)) (whole : IsHoused next) where
       abbrev was : Holdings
@@ -338,7 +338,7 @@ module _ (before now : Housing) (came : Coming) (went : List Key) (moves : List 
         bound = e + 1;
         below = ap (list_all (λ m. nat_lt m.entity.index (e + 1))) (one.2).moves ∙ list_all-append (λ m. nat_lt m.entity.index (e + 1)) moves (record { entity = one.0; from = (one.2).from; to = (one.2).to } ∷ [])
             ∙ both (list_all (λ m. nat_lt m.entity.index (e + 1)) moves) (nat_lt (one.0).index (e + 1) && true)
-            (all_then (λ (m : Move). nat_lt m.entity.index planned.bound) (λ m. nat_lt m.entity.index (e + 1)) (λ m low. lt_more m.entity.index planned.bound e low bounded) moves planned.below)
+            (all_then (λ (m : EntityMove). nat_lt m.entity.index planned.bound) (λ m. nat_lt m.entity.index (e + 1)) (λ m low. lt_more m.entity.index planned.bound e low bounded) moves planned.below)
             (both (nat_lt (one.0).index (e + 1)) true (lt_self (one.0).index e one.1) refl);
         coming_beyond = split.later_above;
         going_beyond = split.after_above;
@@ -356,7 +356,7 @@ changed_deletable : (came : Coming) (went : List Key) (h : Holdings) (es : List 
 changed_deletable came went h [] = refl
 changed_deletable came went h (d ∷ es) = λ k. ((lives h d && changed_there came went h d.index k) && not (is_built_in d.index)) && changed_deletable came went h es k
 
-pub facts_changed : (came : Coming) (went : List Key) (before now next : Housing) (moves : List Move) → with_all_moved now.tables moves (holdings_of before) ≡ with_facts_changed came went (holdings_of before)
+pub facts_changed : (came : Coming) (went : List Key) (before now next : Housing) (moves : List EntityMove) → with_all_moved now.tables moves (holdings_of before) ≡ with_facts_changed came went (holdings_of before)
     → HoldAlike (holdings_of now) (holdings_of before) → HoldAlike (holdings_of next) (with_all_moved now.tables moves (holdings_of now)) → HoldAlike (holdings_of next) (with_facts_changed came went (holdings_of before))
 facts_changed came went before now next moves planned same carried_out = subst (HoldAlike (holdings_of next)) planned
     (alike_then (holdings_of next) (with_all_moved now.tables moves (holdings_of now)) (with_all_moved now.tables moves (holdings_of before)) carried_out (moved_alike now.tables moves (holdings_of now) (holdings_of before) same))

@@ -17,8 +17,8 @@ use Rattle.component_index.specs.Patterns.{matches}
 use Rattle.ecs_model.specs.Map.{has_key, keys, value_at}
 use Rattle.ecs_model.proofs.Maps.{of_some, some_of}
 use Rattle.ecs_model.proofs.Members.{filtered, from_flat_map, in_flat_map, passing}
-use Rattle.ecs_model.proofs.traits.Adding.{from_map, in_map}
-use Rattle.ecs_model.proofs.traits.Facts.{key_there, there_key}
+use Rattle.ecs_model.proofs.steps.AddedSets.{from_map, in_map}
+use Rattle.ecs_model.proofs.steps.Facts.{key_there, there_key}
 use Rattle.table_store.specs.Rows.{Cells, Row, cells_of, row_at}
 use Rattle.ecs_table.specs.Archetype.{Archetype}
 use Rattle.table_store.specs.Store.{Store, table_at}

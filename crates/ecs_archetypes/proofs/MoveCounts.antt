@@ -8,7 +8,7 @@ use Rattle.std.proofs.lemmas.Bool.Decides.{Decides-eqb, nat_tests}
 use Rattle.std.proofs.lemmas.List.{length-append}
 use Rattle.ecs_id.specs.declared.TableKey.{TableKey}
 use Rattle.ecs_id.specs.TableKeys.{table_eq}
-use Rattle.ecs_archetypes.specs.declared.plans.Move.{Move}
+use Rattle.ecs_archetypes.specs.declared.plans.EntityMove.{EntityMove}
 use Rattle.ecs_archetypes.specs.Moves.{moves_to}
 use Rattle.ecs_archetypes.specs.Plans.{AreCounted}
 use Rattle.ecs_archetypes.proofs.Placings.{table_eq-tells}
@@ -17,11 +17,11 @@ use Rattle.ecs_archetypes.proofs.MovePlans.{moves_more}
 pub unequal : (a b : ℕ) → a ≢ b → is_eq (nat_cmp a b) ≡ false
 unequal a b d = grind (arith, nat_tests)
 
-length_more : (ms : List Move) (m : Move) → length (ms ++ m ∷ []) ≡ length ms + 1
+length_more : (ms : List EntityMove) (m : EntityMove) → length (ms ++ m ∷ []) ≡ length ms + 1
 length_more ms m = length-append ms (m ∷ [])
 
 -- what is counted after one move more, whose table's count has risen
-module _ (ms : List Move) (m : Move) (old new : BTreeMap ℕ ℕ) (counted : AreCounted ms old) (n : ℕ) (set : ordered.Updates nat_cmp old new (m.to).serial (Some n))
+module _ (ms : List EntityMove) (m : EntityMove) (old new : BTreeMap ℕ ℕ) (counted : AreCounted ms old) (n : ℕ) (set : ordered.Updates nat_cmp old new (m.to).serial (Some n))
     (all : (q : TableKey) → q.serial ≡ (m.to).serial → moves_to q ms + 1 ≤ n) (few : n ≤ length ms + 1) where
   at_serial : (s : ℕ) → s ≡ (m.to).serial → ordered.get nat_cmp new s ≡ Some n
   at_serial s same = ap (ordered.get nat_cmp new) same ∙ set.1

@@ -8,7 +8,7 @@ use Rattle.ecs_id.specs.declared.EntityId.{EntityId}
 use Rattle.ecs_id.specs.declared.TableKey.{TableKey}
 use Rattle.ecs_id.specs.TableKeys.{table_eq}
 use Rattle.table_store.specs.Store.{room_at}
-use Rattle.ecs_archetypes.specs.declared.plans.Move.{Move}
+use Rattle.ecs_archetypes.specs.declared.plans.EntityMove.{EntityMove}
 use Rattle.ecs_archetypes.specs.Holdings.{HoldAlike, Holdings, is_settled, lives}
 use Rattle.ecs_archetypes.specs.Housing.{Housing, holdings_of}
 use Rattle.ecs_archetypes.specs.Moves.{AreReady, moves_to}
@@ -16,26 +16,26 @@ use Rattle.ecs_archetypes.specs.Tables.{HasGrown, one_in}
 use Rattle.ecs_archetypes.proofs.MapLists.{both}
 use Rattle.ecs_archetypes.proofs.Placings.{table_eq-tells}
 
-pub moves_more : (q : TableKey) (ms : List Move) (m : Move) → moves_to q (ms ++ m ∷ []) ≡ moves_to q ms + one_in m.to q
+pub moves_more : (q : TableKey) (ms : List EntityMove) (m : EntityMove) → moves_to q (ms ++ m ∷ []) ≡ moves_to q ms + one_in m.to q
 moves_more q [] m = omega arith
 moves_more q (n ∷ ms) m = let e = moves_more q ms m in omega (arith, e)
 
 settled_alike : (g h : Holdings) → HoldAlike g h → (e : EntityId) → is_settled g e ≡ is_settled h e
 settled_alike g h x e = λ k. lives (record h { live = x.live k }) e && is_some (find nat_cmp e.index (x.cells k))
 
-all_alike : (g h : Holdings) → HoldAlike g h → (ms : List Move) → list_all (λ m. is_settled g m.entity) ms ≡ list_all (λ m. is_settled h m.entity) ms
+all_alike : (g h : Holdings) → HoldAlike g h → (ms : List EntityMove) → list_all (λ m. is_settled g m.entity) ms ≡ list_all (λ m. is_settled h m.entity) ms
 all_alike g h x [] = refl
 all_alike g h x (m ∷ ms) = λ k. settled_alike g h x m.entity k && all_alike g h x ms k
 
 -- moves that are ready stay so in a larger store
-pub ready_grown : (h n : Housing) (ms : List Move) → AreReady h ms → HoldAlike (holdings_of n) (holdings_of h) → HasGrown h.tables n.tables → AreReady n ms
+pub ready_grown : (h n : Housing) (ms : List EntityMove) → AreReady h ms → HoldAlike (holdings_of n) (holdings_of h) → HasGrown h.tables n.tables → AreReady n ms
 ready_grown h n ms ready alike grown = record {
   settled = all_alike (holdings_of n) (holdings_of h) alike ms ∙ ready.settled;
   room = λ q. let a = ready.room q in let b = grown.room q in omega (arith, a, b);
 }
 
 -- and one more is ready where its table has room for all of them
-pub ready_more : (h n : Housing) (ms : List Move) (m : Move) → AreReady h ms → is_settled (holdings_of h) m.entity ≡ true → HoldAlike (holdings_of n) (holdings_of h) → HasGrown h.tables n.tables → moves_to m.to ms + 1 ≤ room_at n.tables m.to
+pub ready_more : (h n : Housing) (ms : List EntityMove) (m : EntityMove) → AreReady h ms → is_settled (holdings_of h) m.entity ≡ true → HoldAlike (holdings_of n) (holdings_of h) → HasGrown h.tables n.tables → moves_to m.to ms + 1 ≤ room_at n.tables m.to
     → AreReady n (ms ++ m ∷ [])
 ready_more h n ms m ready settled alike grown enough =
     let kept = ready_grown h n ms ready alike grown in

@@ -17,7 +17,7 @@ use Rattle.entity_index.specs.Entities.{Entities, place_of}
 use Rattle.table_store.specs.Rows.{Cells, carried, row_at, shape_of_cells}
 use Rattle.ecs_id.specs.TableKeys.{table_eq}
 use Rattle.table_store.specs.Store.{Shape, Store, moved_at, room_at, shape_at, table_at}
-use Rattle.ecs_archetypes.specs.declared.plans.Move.{Move}
+use Rattle.ecs_archetypes.specs.declared.plans.EntityMove.{EntityMove}
 use Rattle.ecs_archetypes.specs.Archetypes.{IsSound, meaning}
 use Rattle.ecs_archetypes.specs.Holdings.{HoldAlike, Holdings, cells_at, held_at, is_settled, lives, with_cells}
 use Rattle.ecs_archetypes.specs.Housing.{Housing, holdings_of}
@@ -64,7 +64,7 @@ module _ (w : Entities) (s : Store) (sound : IsSound w s) (h : Holdings) (view :
       let in_order : is_sorted nat_cmp h.cells ≡ true = ap (λ z. is_sorted nat_cmp z.cells) (sym view) ∙ (holdings w s sound).cells in
       record { live = refl; deletions = refl; cells = put_same e.index (carried f (held_at h e.index)) h.cells in_order (there ∙ ap Some (sym all)) }
 
-pub moved_alike : (s : Store) (ms : List Move) (a b : Holdings) → HoldAlike a b → HoldAlike (with_all_moved s ms a) (with_all_moved s ms b)
+pub moved_alike : (s : Store) (ms : List EntityMove) (a b : Holdings) → HoldAlike a b → HoldAlike (with_all_moved s ms a) (with_all_moved s ms b)
 moved_alike s [] a b x = x
 moved_alike s (m ∷ ms) a b x = moved_alike s ms (with_moved a m.entity (shape_in s m.to)) (with_moved b m.entity (shape_in s m.to))
     (record { live = x.live; deletions = x.deletions; cells = ap (λ c. put nat_cmp m.entity.index (carried (shape_in s m.to) (unwrap_or (find nat_cmp m.entity.index c) [])) c) x.cells })
@@ -83,29 +83,29 @@ still_settled h g i v e x was =
     by true o t = refl
     by false o t = t
 
-pub all_settled : (h g : Holdings) (i : ℕ) (v : Cells) → HoldAlike g (with_cells h i v) → (ms : List Move) → list_all (λ m. is_settled h m.entity) ms ≡ true → list_all (λ m. is_settled g m.entity) ms ≡ true
+pub all_settled : (h g : Holdings) (i : ℕ) (v : Cells) → HoldAlike g (with_cells h i v) → (ms : List EntityMove) → list_all (λ m. is_settled h m.entity) ms ≡ true → list_all (λ m. is_settled g m.entity) ms ≡ true
 all_settled h g i v x [] was = refl
 all_settled h g i v x (m ∷ ms) was =
     let parts = both_true (is_settled h m.entity) (list_all (λ m. is_settled h m.entity) ms) was in
     both (is_settled g m.entity) (list_all (λ m. is_settled g m.entity) ms) (still_settled h g i v m.entity x parts.0) (all_settled h g i v x ms parts.1)
 
 -- the moves so far are carried out, and these are left
-pub record AreCarried (before : Housing) (moves : List Move) (now : Housing) (rest : List Move) : Type 0 where
+pub record AreCarried (before : Housing) (moves : List EntityMove) (now : Housing) (rest : List EntityMove) : Type 0 where
   pub ready : AreReady now rest
   pub held : HoldAlike (with_all_moved before.tables rest (holdings_of now)) (with_all_moved before.tables moves (holdings_of before))
   pub alike : StandAlike before.tables now.tables
 
 -- the table of the next move has room
-pub next_room : (before now : Housing) (moves rest : List Move) (m : Move) → AreCarried before moves now (m ∷ rest) → 0 < room_at now.tables m.to
+pub next_room : (before now : Housing) (moves rest : List EntityMove) (m : EntityMove) → AreCarried before moves now (m ∷ rest) → 0 < room_at now.tables m.to
 next_room before now moves rest m so_far = let le = so_far.ready.room m.to in let one = itself m.to in omega (arith, le, one)
   where
     itself : (k : TableKey) → one_in k k ≡ 1
     itself k = ap (λ b. cond b 1 0) ((table_eq-tells k k).1 refl)
 
-pub next_settled : (before now : Housing) (moves rest : List Move) (m : Move) → AreCarried before moves now (m ∷ rest) → is_settled (holdings_of now) m.entity ≡ true
+pub next_settled : (before now : Housing) (moves rest : List EntityMove) (m : EntityMove) → AreCarried before moves now (m ∷ rest) → is_settled (holdings_of now) m.entity ≡ true
 next_settled before now moves rest m so_far = (both_true (is_settled (holdings_of now) m.entity) (list_all (λ m. is_settled (holdings_of now) m.entity) rest) so_far.ready.settled).0
 
-pub carried_more : (before now next : Housing) (moves rest : List Move) (m : Move) → AreCarried before moves now (m ∷ rest)
+pub carried_more : (before now next : Housing) (moves rest : List EntityMove) (m : EntityMove) → AreCarried before moves now (m ∷ rest)
     → ((f : Shape) → shape_at now.tables m.to ≡ Some f → HoldAlike (holdings_of next) (with_moved (holdings_of now) m.entity f)) → StandAlike now.tables next.tables → TakesRoom m.to now.tables next.tables
     → AreCarried before moves next rest
 carried_more before now next moves rest m so_far held alike room =
@@ -134,7 +134,7 @@ shrunk_more before now next so_far held alike = record {
 }
 
 -- one move more, where the moves that are left are the last of the list
-pub carried_on : (before now next : Housing) (moves : List Move) (i : ℕ) (d m : Move) → m ≡ get_or moves i d → i < length moves → AreCarried before moves now (drop i moves)
+pub carried_on : (before now next : Housing) (moves : List EntityMove) (i : ℕ) (d m : EntityMove) → m ≡ get_or moves i d → i < length moves → AreCarried before moves now (drop i moves)
     → ((f : Shape) → shape_at now.tables m.to ≡ Some f → HoldAlike (holdings_of next) (with_moved (holdings_of now) m.entity f)) → StandAlike now.tables next.tables → TakesRoom m.to now.tables next.tables
     → AreCarried before moves next (drop (i + 1) moves)
 carried_on before now next moves i d m is within so_far held alike room =

@@ -3,7 +3,7 @@ use Rattle.std.specs.Prelude.{◌≡◌, ◌≤◌, ◌+◌, ℕ, ◌&&◌, ◌=
 use Rattle.std.specs.List.{list_all}
 use Rattle.ecs_id.specs.declared.EntityId.{EntityId}
 use Rattle.ecs_id.specs.declared.TableKey.{TableKey}
-use Rattle.ecs_archetypes.specs.declared.plans.Move.{Move}
+use Rattle.ecs_archetypes.specs.declared.plans.EntityMove.{EntityMove}
 use Rattle.ecs_archetypes.specs.Holdings.{Holdings, held_at, is_settled, with_cells, without_entity}
 use Rattle.ecs_archetypes.specs.Housing.{Housing, holdings_of}
 use Rattle.ecs_archetypes.specs.Tables.{one_in}
@@ -26,12 +26,12 @@ without_each [] h = h
 without_each (e ∷ es) h = without_each es (without_entity h e.index)
 
 -- how many of the moves lead to a table
-abbrev pub moves_to : TableKey → List Move → ℕ
+abbrev pub moves_to : TableKey → List EntityMove → ℕ
 moves_to q [] = 0
 moves_to q (m ∷ ms) = one_in m.to q + moves_to q ms
 
 -- each entity stands somewhere, and each table has room for all moves that lead to it
-pub record AreReady (h : Housing) (moves : List Move) : Type 0 where
+pub record AreReady (h : Housing) (moves : List EntityMove) : Type 0 where
   pub settled : IsTrue (list_all (λ m. is_settled (holdings_of h) m.entity) moves)
   pub room : (q : TableKey) → moves_to q moves ≤ room_at h.tables q
 
@@ -44,12 +44,12 @@ abbrev pub shape_in : Store → TableKey → Shape
 shape_in s k = unwrap_or (shape_at s k) []
 
 -- the holdings after each move
-abbrev pub with_all_moved : Store → List Move → Holdings → Holdings
+abbrev pub with_all_moved : Store → List EntityMove → Holdings → Holdings
 with_all_moved s [] h = h
 with_all_moved s (m ∷ ms) h = with_all_moved s ms (with_moved h m.entity (shape_in s m.to))
 
 -- one move more is planned, to a table of this shape
-pub record IsPlanned (s : Store) (old : List Move) (e : EntityId) (f : Shape) (new : List Move) : Type 0 where
+pub record IsPlanned (s : Store) (old : List EntityMove) (e : EntityId) (f : Shape) (new : List EntityMove) : Type 0 where
   pub from : TableKey
   pub to : TableKey
   pub shape : shape_at s to ≡ Some f

@@ -62,7 +62,8 @@ impl<A: Allocator> Archetypes<A> {
         requires left { IsSome (upcoming (holdings_of self.old)) }
         requires room { 0 < room_at self.old.tables to }
         ensures next { IfOk result (λ e. upcoming (holdings_of self.old) ≡ Some e) }
-        ensures born { (f : Shape) → shape_at self.old.tables to ≡ Some f → IfOk result (λ e. HoldAlike (holdings_of self.new) (with_cells (with_entity (holdings_of self.old) e) e.index (zero_cells f))) }
+        ensures born { (f : Shape) → shape_at self.old.tables to ≡ Some f
+            → IfOk result (λ e. HoldAlike (holdings_of self.new) (with_cells (with_entity (holdings_of self.old) e) e.index (zero_cells f))) }
         ensures refused { OnErr result (self.new ≡ self.old) }
         ensures alike { StandAlike self.old.tables self.new.tables }
         ensures holdings { AreHoldings (holdings_of self.new) }

@@ -11,7 +11,7 @@ ghost use Rattle.ecs_archetypes.specs.Tables.{StandAlike, TakesRoom};
 ghost use Rattle.table_store.specs.Store.{Shape, room_at, shape_at};
 
 use crate::Archetypes;
-use crate::plans::{Move, Plan, Room};
+use crate::plans::{EntityMove, MovePlan, Room};
 use crate::rows::carry;
 use crate::tables::table_for;
 use ecs_id::{EntityId, TableKey};
@@ -51,7 +51,7 @@ impl<A: Allocator + Copy> Archetypes<A> {
     }
 
     // Carries out the moves that were planned, one after another. The tables that they left then give memory back.
-    pub(crate) fn carry_out(&mut self, plan: &Plan<A>)
+    pub(crate) fn carry_out(&mut self, plan: &MovePlan<A>)
         requires ready { AreReady self.old plan.now }
         ensures held { HoldAlike (holdings_of self.new) (with_all_moved self.old.tables plan.now (holdings_of self.old)) }
         ensures alike { StandAlike self.old.tables self.new.tables }
@@ -64,7 +64,7 @@ impl<A: Allocator + Copy> Archetypes<A> {
     }
 
     // The moves, while each table keeps the room for those that are left.
-    fn move_all(&mut self, moves: &[Move])
+    fn move_all(&mut self, moves: &[EntityMove])
         requires ready { AreReady self.old moves.now }
         ensures held { HoldAlike (holdings_of self.new) (with_all_moved self.old.tables moves.now (holdings_of self.old)) }
         ensures alike { StandAlike self.old.tables self.new.tables }
@@ -77,7 +77,7 @@ impl<A: Allocator + Copy> Archetypes<A> {
     }
 
     // Gives the memory back that rows left behind in the tables from which the moves led.
-    fn shrink_left(&mut self, moves: &[Move])
+    fn shrink_left(&mut self, moves: &[EntityMove])
         ensures held { HoldAlike (holdings_of self.new) (holdings_of self.old) }
         ensures alike { StandAlike self.old.tables self.new.tables }
         ensures whole { IsHoused self.new }

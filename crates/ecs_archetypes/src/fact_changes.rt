@@ -17,7 +17,7 @@ ghost use Rattle.table_store.specs.Rows.{shape_of_cells};
 ghost use Rattle.table_store.specs.Store.{Shape, room_at, shape_at, table_at, with_id, without_id};
 
 use crate::fact_plan::{FactPlan, SizedFact, count_coming, count_going, first_entity, merge_ids};
-use crate::plans::{Move, Plan};
+use crate::plans::{EntityMove, MovePlan};
 use crate::tables::{narrower, wider};
 use crate::{Archetypes, Memory};
 use ecs_id::{EntityId, Id, TableKey};
@@ -91,7 +91,8 @@ impl<A: Allocator + Copy> Archetypes<A> {
         requires unheld { IsTrue (list_all (λ k. not (holds_id (holdings_of self.old) k.0 k.1)) (keys came.now)) }
         requires small { IsTrue (list_all (λ c. nat_le c.1 64) came.now) }
         requires agree { IsTrue (list_all (λ c. agrees (known_in self.old.tables ++ ids_coming came.now) c.0 c.1) (ids_coming came.now)) }
-        ensures planned { OnOk result (with_all_moved self.new.tables plan.new.moves (holdings_of self.old) ≡ with_facts_changed came.now went.now (holdings_of self.old)) }
+        ensures planned { OnOk result (with_all_moved self.new.tables plan.new.moves (holdings_of self.old)
+            ≡ with_facts_changed came.now went.now (holdings_of self.old)) }
         ensures ready { OnOk result (AreReady self.new plan.new.moves) }
         ensures kept { HasRoomMade (ids_coming came.now) self.old self.new }
     {
@@ -123,14 +124,16 @@ impl<A: Allocator + Copy> Archetypes<A> {
         requires unheld { IsTrue (list_all (λ c. not (holds_id (holdings_of self.old) index c.0)) (ids_coming came.now)) }
         requires small { IsTrue (list_all (λ c. nat_le c.1 64) (ids_coming came.now)) }
         requires agree { IsTrue (list_all (λ c. agrees (known_in self.old.tables) c.0 c.1) (ids_coming came.now)) }
-        ensures planned { OnOk result ((e : EntityId) × (e.index ≡ index) × IsPlanned self.new.tables plan.old.moves e (changed_shape (ids_coming came.now) (is_among (ids_among went.now)) (shape_of_cells (held_at (holdings_of self.old) index))) plan.new.moves) }
+        ensures planned { OnOk result ((e : EntityId) × (e.index ≡ index)
+            × IsPlanned self.new.tables plan.old.moves e (changed_shape (ids_coming came.now) (is_among (ids_among went.now))
+            (shape_of_cells (held_at (holdings_of self.old) index))) plan.new.moves) }
         ensures ready { OnOk result (AreReady self.new plan.new.moves) }
         ensures kept { HasRoomMade (ids_coming came.now) self.old self.new }
     {
         let entity = self.entities.at(index).unwrap();
         let from = self.entities.place(entity).unwrap().table;
         let to = self.table_after(plan, entity, from, came, went)?;
-        plan.moves.push(Move { entity, from, to })?;
+        plan.moves.push(EntityMove { entity, from, to })?;
         Ok(())
     }
 
@@ -151,7 +154,8 @@ impl<A: Allocator + Copy> Archetypes<A> {
         requires unheld { IsTrue (list_all (λ c. not (holds_id (holdings_of self.old) entity.index c.0)) (ids_coming came.now)) }
         requires small { IsTrue (list_all (λ c. nat_le c.1 64) (ids_coming came.now)) }
         requires agree { IsTrue (list_all (λ c. agrees (known_in self.old.tables) c.0 c.1) (ids_coming came.now)) }
-        ensures shape { IfOk result (λ key. shape_at self.new.tables key ≡ Some (changed_shape (ids_coming came.now) (is_among (ids_among went.now)) (shape_of_cells (held_at (holdings_of self.old) entity.index)))) }
+        ensures shape { IfOk result (λ key. shape_at self.new.tables key
+            ≡ Some (changed_shape (ids_coming came.now) (is_among (ids_among went.now)) (shape_of_cells (held_at (holdings_of self.old) entity.index)))) }
         ensures room { IfOk result (λ key. moves_to key plan.new.moves + 1 ≤ room_at self.new.tables key) }
         ensures moves { plan.new.moves ≡ plan.old.moves }
         ensures entities { self.new.entities ≡ self.old.entities }
@@ -178,7 +182,7 @@ impl<A: Allocator + Copy> Archetypes<A> {
         from: TableKey,
         id: Id,
         size: usize,
-        plan: &Plan<A>,
+        plan: &MovePlan<A>,
     ) -> Result<TableKey, Memory>
         requires stands { IsSome (table_at self.old.tables from) }
         requires small { size ≤ 64 }
@@ -196,7 +200,7 @@ impl<A: Allocator + Copy> Archetypes<A> {
         &mut self,
         from: TableKey,
         id: Id,
-        plan: &Plan<A>,
+        plan: &MovePlan<A>,
     ) -> Result<TableKey, Memory>
         requires stands { IsSome (table_at self.old.tables from) }
         ensures shape { (f : Shape) → shape_at self.old.tables from ≡ Some f → IfOk result (λ to. shape_at self.new.tables to ≡ Some (without_id f id)) }

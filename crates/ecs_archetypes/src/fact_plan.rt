@@ -8,7 +8,7 @@ ghost use Rattle.ecs_archetypes.specs.FactChanges.{begins_before, begins_with, c
 ghost use Rattle.table_store.specs.Rows.{shape_of_cells};
 
 use crate::entity_facts::EntityFacts;
-use crate::plans::Plan;
+use crate::plans::MovePlan;
 use ecs_id::Id;
 use ecs_model::FactKey;
 use raw_column::Memory;
@@ -60,7 +60,7 @@ impl SizedFact {
 /// What changes of facts are planned in. Whoever makes many keeps one, so that its memory serves them all.
 #[derive(Drop)]
 pub struct FactPlan<A: Allocator = Global> {
-    pub(crate) moves: Plan<A>,
+    pub(crate) moves: MovePlan<A>,
     /// The ids of one entity, while its move is planned.
     pub(crate) ids: Vec<SizedId, A>,
 }
@@ -71,7 +71,7 @@ impl<A: Allocator + Copy> FactPlan<A> {
         ensures { result.moves ≡ [] }
     {
         FactPlan {
-            moves: Plan::new(alloc),
+            moves: MovePlan::new(alloc),
             ids: Vec::new(alloc),
         }
     }

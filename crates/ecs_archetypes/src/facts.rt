@@ -1,5 +1,6 @@
 //! One entity's ids and values: what it holds is found, and then changed at its place.
-ghost use Rattle.std.specs.Prelude.{◌≡◌, ◌≢◌, ℕ, ◌<◌, ◌≤◌, [], ◌∷◌, Some, IfOk, IfSome, OnOk, OnErr, IsTrue, is_some, length, option_map, replicate, false, true};
+ghost use Rattle.std.specs.Prelude.{◌≡◌, ◌≢◌, ℕ, ◌<◌, ◌≤◌, [], ◌∷◌, Some, IfOk, IfSome, OnOk, OnErr, IsTrue, is_some, length, option_map, replicate, false};
+ghost use Rattle.std.specs.Prelude.{true};
 ghost use Rattle.ecs_id.specs.Id.{id_cmp, id_eq};
 ghost use Rattle.ecs_model.specs.Map.{with_value, without};
 ghost use Rattle.entity_index.specs.Entities.{place_of};
@@ -25,7 +26,7 @@ use std::alloc::Allocator;
 
 /// Where the row of an entity stands, whether the entity holds an id that was looked for, and how many ids it holds.
 #[derive(Clone, Copy)]
-pub struct Found {
+pub struct FoundFact {
     pub place: Place,
     pub is_held: bool,
     pub count: usize,
@@ -46,7 +47,8 @@ impl<A: Allocator + Copy> Archetypes<A> {
         requires small { size ≤ 64 }
         requires agree { IsTrue (agrees (known_in self.old.tables) id size) }
         ensures placed { IfOk result (λ now. place_of self.new.entities entity ≡ Some now) }
-        ensures added { OnOk result (HoldAlike (holdings_of self.new) (with_cells (holdings_of self.old) entity.index (with_value id_cmp (held_at (holdings_of self.old) entity.index) id (replicate size 0)))) }
+        ensures added { OnOk result (HoldAlike (holdings_of self.new)
+            (with_cells (holdings_of self.old) entity.index (with_value id_cmp (held_at (holdings_of self.old) entity.index) id (replicate size 0)))) }
         ensures refused { OnErr result (HoldAlike (holdings_of self.new) (holdings_of self.old)) }
         ensures kept { TablesLast ((id, size) ∷ []) self.old self.new }
     {
@@ -67,7 +69,7 @@ impl<A: Allocator + Copy> Archetypes<A> {
     pub fn put(
         &mut self,
         entity: EntityId,
-        found: &Found,
+        found: &FoundFact,
         id: Id,
         bytes: &[u8],
     ) -> Result<(), Memory>
@@ -76,7 +78,8 @@ impl<A: Allocator + Copy> Archetypes<A> {
         requires data { 0 < length bytes.now }
         requires small { length bytes.now ≤ 64 }
         requires agree { IsTrue (agrees (known_in self.old.tables) id (length bytes.now)) }
-        ensures put { OnOk result (HoldAlike (holdings_of self.new) (with_cells (holdings_of self.old) entity.index (with_value id_cmp (held_at (holdings_of self.old) entity.index) id bytes.now))) }
+        ensures put { OnOk result (HoldAlike (holdings_of self.new)
+            (with_cells (holdings_of self.old) entity.index (with_value id_cmp (held_at (holdings_of self.old) entity.index) id bytes.now))) }
         ensures refused { OnErr result (HoldAlike (holdings_of self.new) (holdings_of self.old)) }
         ensures kept { TablesLast ((id, length bytes.now) ∷ []) self.old self.new }
     {
@@ -93,7 +96,8 @@ impl<A: Allocator + Copy> Archetypes<A> {
     pub fn remove(&mut self, entity: EntityId, place: Place, id: Id) -> Result<(), Memory>
         requires there { place_of self.old.entities entity ≡ Some place }
         requires held { holds_id (holdings_of self.old) entity.index id ≡ true }
-        ensures removed { OnOk result (HoldAlike (holdings_of self.new) (with_cells (holdings_of self.old) entity.index (without id_cmp (held_at (holdings_of self.old) entity.index) (λ i. id_eq i id)))) }
+        ensures removed { OnOk result (HoldAlike (holdings_of self.new)
+            (with_cells (holdings_of self.old) entity.index (without id_cmp (held_at (holdings_of self.old) entity.index) (λ i. id_eq i id)))) }
         ensures refused { OnErr result (HoldAlike (holdings_of self.new) (holdings_of self.old)) }
         ensures kept { TablesLast [] self.old self.new }
     {
@@ -124,7 +128,9 @@ impl<A: Allocator + Copy> Archetypes<A> {
         requires small { size ≤ 64 }
         requires agree { IsTrue (agrees (known_in self.old.tables) id size) }
         ensures placed { IfOk result (λ now. place_of self.new.entities entity ≡ Some now) }
-        ensures replaced { OnOk result (HoldAlike (holdings_of self.new) (with_cells (holdings_of self.old) entity.index (with_value id_cmp (without id_cmp (held_at (holdings_of self.old) entity.index) (λ i. id_eq i old)) id (replicate size 0)))) }
+        ensures replaced { OnOk result (HoldAlike (holdings_of self.new)
+            (with_cells (holdings_of self.old) entity.index (with_value id_cmp
+            (without id_cmp (held_at (holdings_of self.old) entity.index) (λ i. id_eq i old)) id (replicate size 0)))) }
         ensures refused { OnErr result (HoldAlike (holdings_of self.new) (holdings_of self.old)) }
         ensures kept { TablesLast ((id, size) ∷ []) self.old self.new }
     {
@@ -157,7 +163,8 @@ impl<A: Allocator> Archetypes<A> {
         requires held { holds_id (holdings_of self.old) entity.index id ≡ true }
         requires data { 0 < length bytes.now }
         requires size { IsTrue (agrees (known_in self.old.tables) id (length bytes.now)) }
-        ensures written { HoldAlike (holdings_of self.new) (with_cells (holdings_of self.old) entity.index (with_value id_cmp (held_at (holdings_of self.old) entity.index) id bytes.now)) }
+        ensures written { HoldAlike (holdings_of self.new) (with_cells (holdings_of self.old) entity.index
+            (with_value id_cmp (held_at (holdings_of self.old) entity.index) id bytes.now)) }
         ensures entities { self.new.entities ≡ self.old.entities }
         ensures alike { StandAlike self.old.tables self.new.tables }
         ensures kept { TablesLast [] self.old self.new }
@@ -169,7 +176,8 @@ impl<A: Allocator> Archetypes<A> {
     /// Overwrites the values of an id with data of all entities of a table, by row, with as many bytes, those of one row after another.
     pub fn set_column(&mut self, key: TableKey, id: Id, bytes: &[u8])
         requires { AreValues self.old.tables key id bytes.now }
-        ensures written { (t : Archetype) (n : ℕ) → table_at self.old.tables key ≡ Some t → size_in self.old.tables key id ≡ Some n → HoldAlike (holdings_of self.new) (with_each_written id n t.entities bytes.now (holdings_of self.old)) }
+        ensures written { (t : Archetype) (n : ℕ) → table_at self.old.tables key ≡ Some t → size_in self.old.tables key id ≡ Some n
+            → HoldAlike (holdings_of self.new) (with_each_written id n t.entities bytes.now (holdings_of self.old)) }
         ensures entities { self.new.entities ≡ self.old.entities }
         ensures alike { StandAlike self.old.tables self.new.tables }
         ensures kept { TablesLast [] self.old self.new }
@@ -180,7 +188,7 @@ impl<A: Allocator> Archetypes<A> {
     /// Finds the row of a settled entity, and looks there for an id.
     // A call would write the answer to memory, and its caller clear that before.
     #[inline(always)]
-    pub fn find(&self, entity: EntityId, id: Id) -> Option<Found>
+    pub fn find(&self, entity: EntityId, id: Id) -> Option<FoundFact>
         ensures settled { is_some result ≡ is_settled (holdings_of self.now) entity }
         ensures place { option_map (λ f. f.place) result ≡ place_of self.now.entities entity }
         ensures held { IfSome result (λ f. f.is_held ≡ holds_id (holdings_of self.now) entity.index id) }
@@ -188,7 +196,7 @@ impl<A: Allocator> Archetypes<A> {
     {
         let place = self.entities.place(entity)?;
         let ids = self.tables.get(place.table)?.ids();
-        Some(Found {
+        Some(FoundFact {
             place,
             is_held: ids.contains(&id),
             count: ids.len(),

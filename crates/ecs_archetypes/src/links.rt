@@ -3,7 +3,7 @@
 ghost use Rattle.std.specs.Prelude.{◌≡◌};
 ghost use Rattle.ecs_archetypes.specs.Linked.{AreLinked, AreListsOf, Linked};
 
-use crate::{Archetypes, Graph as Tables};
+use crate::{Archetypes, TableGraph as Tables};
 use component_index::{ListedKey, Listings, Pattern};
 use ecs_id::{EntityId, Id};
 use rel_travel::{Graph, Holders};

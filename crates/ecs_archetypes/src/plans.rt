@@ -11,7 +11,7 @@ use std::marker::Model;
 
 /// A move that is planned: an entity, the table where it stood, and the table that it moves to.
 #[derive(Clone, Copy, Debug, PartialEq, Eq)]
-pub struct Move {
+pub struct EntityMove {
     pub entity: EntityId,
     pub from: TableKey,
     pub to: TableKey,
@@ -19,15 +19,15 @@ pub struct Move {
 
 /// Moves that are planned one after another, for which all memory was taken.
 #[derive(Drop)]
-pub struct Plan<A: Allocator = Global> {
-    moves: Vec<Move, A>,
+pub struct MovePlan<A: Allocator = Global> {
+    moves: Vec<EntityMove, A>,
     /// How many moves lead to the table of a serial, so that each table gets room for its own alone.
     counts: BTreeMap<u128, usize, A>,
 }
 
-impl<A: Allocator> Model for Plan<A> {
+impl<A: Allocator> Model for MovePlan<A> {
     ghost use Rattle.std.specs.Prelude.{List};
-    ghost use Rattle.ecs_archetypes.specs.declared.plans.Move.{Move as OneMove};
+    ghost use Rattle.ecs_archetypes.specs.declared.plans.EntityMove.{EntityMove as OneMove};
     ghost use Rattle.ecs_archetypes.specs.Plans.{AreCounted};
 
     ghost Value = { List OneMove };
@@ -37,12 +37,12 @@ impl<A: Allocator> Model for Plan<A> {
     ghost invariant = { λ p. AreCounted p.moves.items p.counts };
 }
 
-impl<A: Allocator + Copy> Plan<A> {
+impl<A: Allocator + Copy> MovePlan<A> {
     /// A plan without moves, which takes no memory.
-    pub fn new(alloc: A) -> Plan<A>
+    pub fn new(alloc: A) -> MovePlan<A>
         ensures { result ≡ [] }
     {
-        Plan {
+        MovePlan {
             moves: Vec::new(alloc),
             counts: BTreeMap::new(alloc),
         }
@@ -57,7 +57,7 @@ impl<A: Allocator + Copy> Plan<A> {
     }
 
     /// One move more, at the end.
-    pub(crate) fn push(&mut self, one: Move) -> Result<(), Memory>
+    pub(crate) fn push(&mut self, one: EntityMove) -> Result<(), Memory>
         ensures pushed { OnOk result (self.new ≡ self.old ++ one ∷ []) }
         ensures refused { OnErr result (self.new ≡ self.old) }
     {
@@ -74,9 +74,9 @@ impl<A: Allocator + Copy> Plan<A> {
     }
 }
 
-impl<A: Allocator> Plan<A> {
+impl<A: Allocator> MovePlan<A> {
     /// The moves, in the order in which they are carried out.
-    pub fn moves(&self) -> &[Move]
+    pub fn moves(&self) -> &[EntityMove]
         ensures { result.now ≡ self.now }
     {
         self.moves.as_slice()
@@ -118,7 +118,7 @@ impl Room for OneRow {
 }
 
 /// Room for the moves to the table that are planned, and for a row more.
-impl<A: Allocator> Room for Plan<A> {
+impl<A: Allocator> Room for MovePlan<A> {
     ghost wanted = { λ p q. moves_to q p + 1 };
 
     fn rows(&self, key: TableKey) -> usize {

@@ -9,7 +9,7 @@ ghost use Rattle.ecs_archetypes.specs.Housing.{IsHoused, holdings_of};
 
 use crate::entity_facts::EntityFacts;
 use crate::rows::value_in;
-use crate::{Archetypes, Graph};
+use crate::{Archetypes, TableGraph};
 use ecs_id::{EntityId, Id, TableKey};
 use entity_index::Live;
 use std::alloc::Allocator;
@@ -27,7 +27,8 @@ impl<A: Allocator> Archetypes<A> {
 
     /// The ids of a settled entity, in order.
     pub fn ids_of(&self, entity: EntityId) -> Option<&[Id]>
-        ensures { option_copied result ≡ (if lives (holdings_of self.now) entity then option_map (λ c. keys c) (cells_at (holdings_of self.now) entity.index) else None) }
+        ensures { option_copied result ≡ (if lives (holdings_of self.now) entity then option_map (λ c. keys c)
+            (cells_at (holdings_of self.now) entity.index) else None) }
     {
         let place = self.entities.place(entity)?;
         let table = self.tables.get(place.table)?;
@@ -91,9 +92,9 @@ impl<A: Allocator> Archetypes<A> {
     }
 
     /// What queries and traversal read.
-    pub fn graph(&self) -> Graph<'_, A>
+    pub fn graph(&self) -> TableGraph<'_, A>
         ensures { result ≡ self.now }
     {
-        Graph::new(&self.entities, &self.tables, &self.components)
+        TableGraph::new(&self.entities, &self.tables, &self.components)
     }
 }

@@ -29,7 +29,8 @@ pub fn enter<A: Allocator>(
     requires nowhere { place_of entities.old entity ≡ None }
     requires room { 0 < room_at tables.old key }
     ensures sound { IsSound entities.new tables.new }
-    ensures held { (f : Shape) → shape_at tables.old key ≡ Some f → HoldAlike (meaning entities.new tables.new) (with_cells (meaning entities.old tables.old) entity.index (zero_cells f)) }
+    ensures held { (f : Shape) → shape_at tables.old key ≡ Some f
+        → HoldAlike (meaning entities.new tables.new) (with_cells (meaning entities.old tables.old) entity.index (zero_cells f)) }
     ensures alike { StandAlike tables.old tables.new }
     ensures room { TakesRoom key tables.old tables.new }
 {
@@ -52,7 +53,9 @@ pub fn carry<A: Allocator>(
     requires room { 0 < room_at tables.old to }
     ensures sound { IsSound entities.new tables.new }
     ensures placed { place_of entities.new entity ≡ Some result }
-    ensures held { (f : Shape) → shape_at tables.old to ≡ Some f → HoldAlike (meaning entities.new tables.new) (with_cells (meaning entities.old tables.old) entity.index (carried f (held_at (meaning entities.old tables.old) entity.index))) }
+    ensures held { (f : Shape) → shape_at tables.old to ≡ Some f
+        → HoldAlike (meaning entities.new tables.new) (with_cells (meaning entities.old tables.old) entity.index
+        (carried f (held_at (meaning entities.old tables.old) entity.index))) }
     ensures alike { StandAlike tables.old tables.new }
     ensures room { TakesRoom to tables.old tables.new }
 {
@@ -79,7 +82,9 @@ pub fn carry_alone<A: Allocator + Copy>(
     requires room { 0 < room_at tables.old to }
     ensures sound { IsSound entities.new tables.new }
     ensures placed { place_of entities.new entity ≡ Some result }
-    ensures held { (f : Shape) → shape_at tables.old to ≡ Some f → HoldAlike (meaning entities.new tables.new) (with_cells (meaning entities.old tables.old) entity.index (carried f (held_at (meaning entities.old tables.old) entity.index))) }
+    ensures held { (f : Shape) → shape_at tables.old to ≡ Some f
+        → HoldAlike (meaning entities.new tables.new) (with_cells (meaning entities.old tables.old) entity.index
+        (carried f (held_at (meaning entities.old tables.old) entity.index))) }
     ensures alike { StandAlike tables.old tables.new }
 {
     let now = carry(entities, tables, entity, place, to);

@@ -100,7 +100,8 @@ fn enter_made<A: Allocator + Copy, R: Room>(
     requires empty { last < key.serial → rows_in tables.old key ≡ 0 }
     ensures shapes { OnOk result ((q : TableKey) → shape_at tables.new q ≡ shape_at tables.old q) }
     ensures room { OnOk result (R.wanted room.now key ≤ room_at tables.new key) }
-    ensures kept { (s : Store) (f added : Shape) → s.last ≡ last → IsMade s f key tables.old → AreEntered s components.old → KeepsSizes (known_in s) added (known_in tables.old) → HaveGrown added s tables.new components.new }
+    ensures kept { (s : Store) (f added : Shape) → s.last ≡ last → IsMade s f key tables.old → AreEntered s components.old
+        → KeepsSizes (known_in s) added (known_in tables.old) → HaveGrown added s tables.new components.new }
 {
     // (any answer tells that the tables are whole)
     let _ = tables.get(key);
@@ -125,7 +126,8 @@ fn enter_new<A: Allocator + Copy>(
     requires fresh { finite.get components.old key ≡ None }
     requires empty { rows_in tables.old key ≡ 0 }
     ensures tables { OnOk result (tables.new ≡ tables.old) }
-    ensures kept { (s : Store) (f added : Shape) → s.last < key.serial → IsMade s f key tables.old → AreEntered s components.old → KeepsSizes (known_in s) added (known_in tables.old) → HaveGrown added s tables.new components.new }
+    ensures kept { (s : Store) (f added : Shape) → s.last < key.serial → IsMade s f key tables.old → AreEntered s components.old
+        → KeepsSizes (known_in s) added (known_in tables.old) → HaveGrown added s tables.new components.new }
 {
     let table = tables.get(key).unwrap();
     let Ok(()) = components.enter(key, table.ids()) else {

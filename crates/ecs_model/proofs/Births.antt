@@ -11,8 +11,8 @@ use Rattle.ecs_model.specs.Map.{Map, IsMap, value_at, with_value, count_at, keys
 use Rattle.ecs_model.specs.Text.{is_name}
 use Rattle.ecs_model.specs.Schema.{Schema, schema_fault}
 use Rattle.ecs_model.specs.World.{WorldState, Key, key_cmp, component, is_live, is_built_in, holds, value_of, name_of, named, type_of_id, pair_is_tag, first_index, last_index}
-use Rattle.ecs_model.specs.Command.{is_spent}
-use Rattle.ecs_model.specs.traits.Keeps.{IsWellFormed, KeepsTraits}
+use Rattle.ecs_model.specs.steps.Outcomes.{is_spent}
+use Rattle.ecs_model.specs.steps.WellFormed.{IsWellFormed, KeepsTraits}
 use Rattle.ecs_model.proofs.Maps.{of_some, if_some, both_true, nat_value_at, IsMap-with_value}
 use Rattle.ecs_model.proofs.Reasons.{IsFree}
 use Rattle.ecs_model.proofs.TypedValues.{IsTyped, same_type}

@@ -14,13 +14,13 @@ use Rattle.ecs_id.specs.Id.{plain}
 use Rattle.ecs_model.specs.Map.{Map, value_at, has_key, with_value, without, keys}
 use Rattle.ecs_model.specs.Schema.{Schema}
 use Rattle.ecs_model.specs.World.{WorldState, Key, key_cmp, component, is_live, entity_at, entities, name_of}
-use Rattle.ecs_model.specs.Command.{next_entity, with_born, with_named, with_component, counted, differences}
-use Rattle.ecs_model.specs.traits.Command.{Fresh, Entity, Component, effect, written_by}
-use Rattle.ecs_model.specs.traits.Keeps.{IsWellFormed}
+use Rattle.ecs_model.specs.steps.Outcomes.{next_entity, with_born, with_named, with_component, counted, differences}
+use Rattle.ecs_model.specs.steps.Step.{Fresh, Entity, Component, effect, written_by}
+use Rattle.ecs_model.specs.steps.WellFormed.{IsWellFormed}
 use Rattle.ecs_model.proofs.Maps.{key_cmp_total, key_cmp_same, eq_itself, value_at-with_value}
 use Rattle.ecs_model.proofs.Reasons.{next_is_free}
 use Rattle.ecs_model.proofs.Births.{with_birth}
-use Rattle.ecs_model.proofs.Steps.{no_fact}
+use Rattle.ecs_model.proofs.MadeEntities.{no_fact}
 
 module _ {K : Type 0} (R : K → K → Ordering) (o : IsTotalOrder R) where
   -- the first key is there, and so are those behind it

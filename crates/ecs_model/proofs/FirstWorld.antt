@@ -13,7 +13,7 @@ use Rattle.ecs_id.specs.Id.{Id, plain, pair, mentioned, id_cmp}
 use Rattle.ecs_model.specs.Map.{Map, value_at, keys, count_at}
 use Rattle.ecs_model.specs.Text.{is_name}
 use Rattle.ecs_model.specs.World.{Key, key_cmp, first_world, is_live, is_built_in, holds, value_of, name_of, named, ids_of, type_of_id, pair_is_tag}
-use Rattle.ecs_model.specs.traits.Keeps.{IsWellFormed, KeepsTraits}
+use Rattle.ecs_model.specs.steps.WellFormed.{IsWellFormed, KeepsTraits}
 use Rattle.ecs_model.proofs.Maps.{if_some, some_of, both_true, key_cmp_same}
 use Rattle.ecs_model.proofs.TypedValues.{IsTyped}
 

@@ -8,11 +8,11 @@ pub mod Removals
 pub mod NewEntity
 pub mod StepAnswers
 pub mod RefusedLines
-pub mod Steps
+pub mod MadeEntities
 pub mod Differences
 pub mod FirstWorld
-mod Computed
-mod ReachComputed
+mod DefinitionChecks
+mod ReachChecks
 pub mod Members
 pub mod Ranges
 pub mod LivePairs
@@ -22,7 +22,7 @@ pub mod LeastSets
 pub mod ReachSteps
 pub mod ClosedChains
 pub mod ReachTests
-pub mod traits
+pub mod steps
 mod stored
 pub mod Bits
 pub mod RisingLists

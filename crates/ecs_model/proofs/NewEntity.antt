@@ -13,7 +13,7 @@ use Rattle.ecs_id.specs.declared.EntityId.{EntityId}
 use Rattle.ecs_model.specs.Map.{Map, value_at, has_key, with_value, keys}
 use Rattle.ecs_model.specs.Schema.{Schema}
 use Rattle.ecs_model.specs.World.{WorldState, is_live, entities, entity_at}
-use Rattle.ecs_model.specs.Command.{next_entity, counted, with_born, with_named, with_component}
+use Rattle.ecs_model.specs.steps.Outcomes.{next_entity, counted, with_born, with_named, with_component}
 use Rattle.ecs_model.proofs.Maps.{both_true, nat_value_at, eq_itself}
 use Rattle.ecs_model.proofs.Reasons.{next_is_free}
 use Rattle.ecs_model.proofs.Births.{all_more}

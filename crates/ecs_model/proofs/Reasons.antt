@@ -8,7 +8,7 @@ use Rattle.ecs_model.specs.declared.faults.Refusal.{Refusal}
 use Rattle.ecs_model.specs.Map.{count_at}
 use Rattle.ecs_model.specs.Refusal.{first_reason}
 use Rattle.ecs_model.specs.World.{WorldState, is_live, first_index, last_index, first_passing, is_free, next_among}
-use Rattle.ecs_model.specs.Command.{next_entity}
+use Rattle.ecs_model.specs.steps.Outcomes.{next_entity}
 use Rattle.ecs_model.proofs.Maps.{both_true}
 
 -- the first reason does not apply, nor those behind it

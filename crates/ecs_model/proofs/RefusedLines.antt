@@ -11,9 +11,9 @@ use Rattle.ecs_model.specs.Query.{query_of}
 use Rattle.ecs_model.specs.Orders.{MakeComponent, entity_found}
 use Rattle.ecs_model.specs.stored.Session.{SessionState, SessionOrder, InWorld, Answer, apply, kept_query}
 use Rattle.ecs_model.specs.declared.faults.SessionRefusal.{SessionRefusal}
-use Rattle.ecs_model.specs.Script.{Nothing, LongLine, BadLine, Obey, Define, Show, Ask, AskKept}
+use Rattle.ecs_model.specs.Script.{Nothing, LongLine, BadLine, CarryOut, Define, Show, Ask, AskKept}
 use Rattle.ecs_model.specs.Output.{Effect, order_effect, define_effect, show_effect, ask_effect, kept_effect, effect_of}
-use Rattle.ecs_model.specs.Laws.{RefusedLinesChangeNothing}
+use Rattle.ecs_model.specs.LineLaws.{RefusedLinesChangeNothing}
 
 -- the line is accepted, or leaves the session as it was
 abbrev IsStill : SessionState → Effect → Type 0
@@ -44,7 +44,7 @@ unfolding effect_of
 refused_lines_change_nothing s n Nothing h = refl
 refused_lines_change_nothing s n LongLine h = refl
 refused_lines_change_nothing s n BadLine h = refl
-refused_lines_change_nothing s n (Obey order) h = of_order s n order (apply s order) h
+refused_lines_change_nothing s n (CarryOut order) h = of_order s n order (apply s order) h
 refused_lines_change_nothing s n (Define name fs) h = of_define s n name fs (schema_fault fs) h
 refused_lines_change_nothing s n (Show r) h = of_show s n (entity_found s.world r) h
 refused_lines_change_nothing s n (Ask text) h = of_ask s n (query_of s.world text) h

@@ -12,8 +12,8 @@ use Rattle.ecs_model.specs.Map.{Map, IsMap, has_key, keys, without}
 use Rattle.ecs_model.specs.Sets.{Set}
 use Rattle.ecs_model.proofs.Maps.{both_true, from_T, less, to_T}
 use Rattle.ecs_model.proofs.Members.{alike}
-use Rattle.ecs_model.proofs.traits.Facts.{key_there, there_key}
-use Rattle.ecs_model.proofs.traits.SameKeys.{same_keys}
+use Rattle.ecs_model.proofs.steps.Facts.{key_there, there_key}
+use Rattle.ecs_model.proofs.steps.SameKeys.{same_keys}
 
 module _ {K : Type 0} (R : K → K → Ordering) where
   below_keys : {X : Type 0} (k : K) (m : Map K X) → below_all R k m ≡ true → AllByRecursion (λ y. R k y ≡ Less) (keys m)

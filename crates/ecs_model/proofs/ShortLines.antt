@@ -2,7 +2,7 @@
 use Rattle.std.proofs.Common.{◌≡◌, ℕ, zero, suc, ◌≤◌, List, [], ◌∷◌, length, refl, ap, arith}
 use Rattle.std.specs.List.{Contains, flat_map}
 use Rattle.std.proofs.lemmas.List.Elements.{Contains-append_right}
-use Rattle.ecs_model.specs.Line.{line_within}
+use Rattle.ecs_model.specs.AncestorLine.{ancestor_line_within}
 use Rattle.ecs_model.specs.Reach.{Reached, itself, onward, HasChain}
 use Rattle.ecs_model.specs.ReachLaws.{LinesUnfold}
 use Rattle.ecs_model.proofs.LivePairs.{upward_lives}
@@ -30,14 +30,14 @@ module _ {A : Type 0} where
   from_nothing f (x ∷ xs) none = absurd (none x (0, omega arith, refl))
 
   pub short_line : (next : A → List A) → ((x : A) → ¬ (HasChain next x x)) → (n : ℕ) (live : List A) → length live ≤ n → (s : A) → ((x : A) → HasChain next s x → Contains live x)
-      → line_within next n s ≡ line_within next (suc n) s
-  unfolding line_within
+      → ancestor_line_within next n s ≡ ancestor_line_within next (suc n) s
+  unfolding ancestor_line_within
   short_line next acyclic zero live l s in' = from_nothing (λ t. t ∷ []) (next s) (λ t h. absurd (omega (arith, (in' t (one_step next s t h)).1)))
   short_line next acyclic (suc n) live l s in' =
-      flat_map_agree (λ t. t ∷ line_within next n t) (λ t. t ∷ line_within next (suc n) t) (next s) (λ t h. ap (λ ts. t ∷ ts) (shorter (short_line next acyclic n) t h))
+      flat_map_agree (λ t. t ∷ ancestor_line_within next n t) (λ t. t ∷ ancestor_line_within next (suc n) t) (next s) (λ t h. ap (λ ts. t ∷ ts) (shorter (short_line next acyclic n) t h))
     where
-      shorter : ((less : List A) → length less ≤ n → (t : A) → ((x : A) → HasChain next t x → Contains less x) → line_within next n t ≡ line_within next (suc n) t)
-          → (t : A) → Contains (next s) t → line_within next n t ≡ line_within next (suc n) t
+      shorter : ((less : List A) → length less ≤ n → (t : A) → ((x : A) → HasChain next t x → Contains less x) → ancestor_line_within next n t ≡ ancestor_line_within next (suc n) t)
+          → (t : A) → Contains (next s) t → ancestor_line_within next n t ≡ ancestor_line_within next (suc n) t
       shorter with_less t h =
           let m = in' t (one_step next s t h) in
           with_less (others live m.0) (omega (arith, others_fewer live m.0 m.1)) t
@@ -53,8 +53,8 @@ module _ {A : Type 0} where
 
   -- with as many steps as there are things to lead to, a line is made of those of what follows
   pub line_unfolds : (next : A → List A) (all : List A) → ((x y : A) → Contains (next x) y → Contains all y) → ((x : A) → ¬ (HasChain next x x)) → (s : A)
-      → line_within next (length all) s ≡ flat_map (λ t. t ∷ line_within next (length all) t) (next s)
-  unfolding line_within
+      → ancestor_line_within next (length all) s ≡ flat_map (λ t. t ∷ ancestor_line_within next (length all) t) (next s)
+  unfolding ancestor_line_within
   line_unfolds next all live acyclic s = short_line next acyclic (length all) all (omega arith) s (λ x c. chain_ends next all live s x c)
 
 pub lines_unfold : LinesUnfold

@@ -6,10 +6,10 @@ use Rattle.ecs_model.specs.declared.faults.Refusal.{Refusal}
 use Rattle.ecs_model.specs.declared.faults.CommandError.TheVariants.{Refused}
 use Rattle.ecs_model.specs.Refusal.{first_reason}
 use Rattle.ecs_model.specs.World.{WorldState}
-use Rattle.ecs_model.specs.Command.{Changed, counted, differences, AnswersStep}
-use Rattle.ecs_model.specs.traits.Command.{Command, IsCommand, reasons, effect, written_by, step}
-use Rattle.ecs_model.specs.traits.Keeps.{IsWellFormed}
-use Rattle.ecs_model.proofs.traits.Steps.{effect_keeps}
+use Rattle.ecs_model.specs.steps.Outcomes.{Changed, counted, differences, AnswersStep}
+use Rattle.ecs_model.specs.steps.Step.{Command, IsCommand, reasons, effect, written_by, step}
+use Rattle.ecs_model.specs.steps.WellFormed.{IsWellFormed}
+use Rattle.ecs_model.proofs.steps.AcceptedCommands.{effect_keeps}
 
 -- what a command changes where no reason is against it
 abbrev pub changes_of : WorldState → Command → Changed

@@ -1,2 +1,2 @@
 -- What is computed of stored queries.
-mod Computed
+mod StoredChecks

@@ -4,7 +4,7 @@ use Rattle.std.specs.List.{list_any}
 use Rattle.ecs_id.specs.Id.{Id, IsIndex, plain, pair, id_eq, mentioned}
 use Rattle.ecs_model.specs.BuiltIns.{transitive, reflexive}
 use Rattle.ecs_model.specs.Depth.{depth_within}
-use Rattle.ecs_model.specs.Line.{line_within}
+use Rattle.ecs_model.specs.AncestorLine.{ancestor_line_within}
 use Rattle.ecs_model.specs.Reach.{HasChain, Reaches}
 use Rattle.ecs_model.specs.Sets.{has_chain}
 
@@ -49,8 +49,8 @@ module _ (ids : ℕ → List Id) where
   IsAcyclic r = (x : ℕ) → ¬ (HasChain (upward r) x x)
 
   -- the ancestors of an entity along a relationship without cycle: each target by ascending index, followed by its own ancestors
-  abbrev pub line : List ℕ → ℕ → ℕ → List ℕ
-  line entities r s = line_within (upward r) (length entities) s
+  abbrev pub ancestor_line : List ℕ → ℕ → ℕ → List ℕ
+  ancestor_line entities r s = ancestor_line_within (upward r) (length entities) s
 
   -- how many steps the longest chain from an entity has, along a relationship without cycle
   abbrev pub depth : List ℕ → ℕ → ℕ → ℕ

@@ -10,7 +10,7 @@ use Rattle.ecs_model.specs.World.{WorldState, is_alive, entity_at, named}
 use Rattle.ecs_model.specs.declared.faults.Refusal.{Refusal}
 use Rattle.ecs_model.specs.declared.faults.Refusal.TheVariants.{Dead, UnknownName}
 use Rattle.ecs_model.specs.Refusal.{first_reason}
-use Rattle.ecs_model.specs.traits.Command.{Command, Fresh, Entity, Component, Add, SetValue, Remove, Delete}
+use Rattle.ecs_model.specs.steps.Step.{Command, Fresh, Entity, Component, Add, SetValue, Remove, Delete}
 
 -- an entity by its name, or by its index and its generation
 pub data EntityRef : Type 0 where
@@ -23,14 +23,14 @@ pub data IdRef : Type 0 where
   pair_of : EntityRef → EntityRef → IdRef
 
 -- the commands of a world
-pub data Order : Type 0 where
-  MakeFresh : Order
-  MakeEntity : List ℕ → Order
-  MakeComponent : List ℕ → Schema → Order
-  AddTo : EntityRef → IdRef → Order
-  SetIn : EntityRef → IdRef → List ℤ → Order
-  RemoveFrom : EntityRef → IdRef → Order
-  DeleteOne : EntityRef → Order
+pub data WorldOrder : Type 0 where
+  MakeFresh : WorldOrder
+  MakeEntity : List ℕ → WorldOrder
+  MakeComponent : List ℕ → Schema → WorldOrder
+  AddTo : EntityRef → IdRef → WorldOrder
+  SetIn : EntityRef → IdRef → List ℤ → WorldOrder
+  RemoveFrom : EntityRef → IdRef → WorldOrder
+  DeleteOne : EntityRef → WorldOrder
 
 -- the references in an id
 abbrev pub refs_of_id : IdRef → List EntityRef
@@ -72,7 +72,7 @@ module _ (w : WorldState) where
       (option_map_or Ok (option_and_then (λ e. option_map (f e) (id_found i)) (found r)) (Err Dead))
 
 -- the command of the world that an order means
-unfoldable pub command_of : WorldState → Order → Result Command Refusal
+unfoldable pub command_of : WorldState → WorldOrder → Result Command Refusal
 command_of w MakeFresh = Ok Fresh
 command_of w (MakeEntity n) = Ok (Entity n)
 command_of w (MakeComponent n fs) = Ok (Component n fs)

@@ -17,7 +17,7 @@ use Rattle.ecs_model.specs.stored.Refusal.{session_refusal_text}
 use Rattle.ecs_model.specs.stored.Session.{SessionState, first_session, SessionOrder, InWorld, Answer, apply, events, after_events, kept_query}
 use Rattle.ecs_model.specs.stored.Watches.{event_text}
 use Rattle.ecs_model.specs.declared.faults.SessionRefusal.{SessionRefusal}
-use Rattle.ecs_model.specs.Script.{Form, Nothing, LongLine, BadLine, Obey, Define, Show, Ask, AskKept, form_of, lines_of}
+use Rattle.ecs_model.specs.Script.{Form, Nothing, LongLine, BadLine, CarryOut, Define, Show, Ask, AskKept, form_of, lines_of}
 
 -- what a line does: the session after it, what it prints, and whether it was refused
 pub record Effect : Type 0 where
@@ -80,7 +80,7 @@ unfoldable pub effect_of : SessionState → ℕ → Form → Effect
 effect_of s n Nothing = accepted_line s []
 effect_of s n LongLine = refused_line s n (codes "LineTooLong")
 effect_of s n BadLine = refused_line s n (codes "BadLine")
-effect_of s n (Obey order) = order_effect s n order (apply s order)
+effect_of s n (CarryOut order) = order_effect s n order (apply s order)
 effect_of s n (Define name fs) = define_effect s n name fs (schema_fault fs)
 effect_of s n (Show r) = show_effect s n (entity_found s.world r)
 effect_of s n (Ask text) = ask_effect s n (query_of s.world text)

@@ -4,7 +4,7 @@ use Rattle.std.specs.Ordering.{nat_cmp}
 use Rattle.ecs_id.specs.Id.{Id}
 use Rattle.ecs_model.specs.Depth.{IsDepth}
 use Rattle.ecs_model.specs.Cycles.{HasCycle, after_step}
-use Rattle.ecs_model.specs.Links.{AreLinks, IsAcyclic, IsReached, depth, line, reaches, upward}
+use Rattle.ecs_model.specs.Links.{AreLinks, IsAcyclic, IsReached, ancestor_line, depth, reaches, upward}
 use Rattle.ecs_model.specs.Reach.{Reached, HasChain, Reaches}
 use Rattle.ecs_model.specs.Sets.{IsLeastFrom, has_chain, within}
 
@@ -30,7 +30,7 @@ ReachIsComputed = (n : ℕ) (entities : List ℕ) (ids : ℕ → List Id) → Ar
 
 -- where there is no cycle, a line is made of the targets, each followed by its own line
 abbrev pub LinesUnfold : Type 0
-LinesUnfold = (n : ℕ) (entities : List ℕ) (ids : ℕ → List Id) → AreLinks n entities ids → (r : ℕ) → IsAcyclic ids r → (s : ℕ) → line ids entities r s ≡ flat_map (λ t. t ∷ line ids entities r t) (upward ids r s)
+LinesUnfold = (n : ℕ) (entities : List ℕ) (ids : ℕ → List Id) → AreLinks n entities ids → (r : ℕ) → IsAcyclic ids r → (s : ℕ) → ancestor_line ids entities r s ≡ flat_map (λ t. t ∷ ancestor_line ids entities r t) (upward ids r s)
 
 -- where there is no cycle, the depth of an entity is the length of the longest chain from it
 abbrev pub DepthsAreOfLongestChains : Type 0

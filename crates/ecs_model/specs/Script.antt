@@ -14,7 +14,7 @@ use Rattle.ecs_model.specs.stored.Session.{SessionOrder, InWorld, Store, Drop}
 -- what a line asks
 pub data Form : Type 0 where
   Nothing LongLine BadLine : Form
-  Obey : SessionOrder → Form
+  CarryOut : SessionOrder → Form
   Define : List ℕ → Schema → Form
   Show : EntityRef → Form
   Ask : List ℕ → Form
@@ -132,7 +132,7 @@ nothing_more f _ = BadLine
 -- behind the entity and the id of `set`: one or more values
 abbrev pub set_line : EntityRef → IdRef → List (List ℕ) → Form
 set_line r i [] = BadLine
-set_line r i (v ∷ vs) = form_or_bad (λ values. Obey (InWorld (SetIn r i values))) (all_of value_of_word (v ∷ vs))
+set_line r i (v ∷ vs) = form_or_bad (λ values. CarryOut (InWorld (SetIn r i values))) (all_of value_of_word (v ∷ vs))
 
 -- behind `component`: a name and fields
 abbrev pub component_line : List (List ℕ) → Form
@@ -142,7 +142,7 @@ component_line (n ∷ fields) = form_or_bad (Define n) (all_of field_of_word fie
 -- a new stored query of this kind: a word for its name, and a text, which may be empty
 abbrev pub named_text : StoredKind → List ℕ × List ℕ → Form
 named_text kind ([], rest) = BadLine
-named_text kind (n, rest) = Obey (Store kind n (trimmed rest))
+named_text kind (n, rest) = CarryOut (Store kind n (trimmed rest))
 
 abbrev pub store_line : StoredKind → List ℕ → Form
 store_line kind rest = named_text kind (word_and_rest rest)
@@ -158,20 +158,20 @@ on_line rest = let split = word_and_rest rest in form_or_bad (λ kind. store_lin
 -- the forms of lines, by their first word
 unfoldable pub forms : List (List ℕ × (List ℕ → Form))
 forms =
-    (codes "entity", λ rest. one_word (λ n. Obey (InWorld (MakeEntity n))) (words rest))
+    (codes "entity", λ rest. one_word (λ n. CarryOut (InWorld (MakeEntity n))) (words rest))
     ∷ (codes "component", λ rest. component_line (words rest))
-    ∷ (codes "add", fact_line (λ r i. nothing_more (Obey (InWorld (AddTo r i)))))
+    ∷ (codes "add", fact_line (λ r i. nothing_more (CarryOut (InWorld (AddTo r i)))))
     ∷ (codes "set", fact_line set_line)
     ∷ (codes "query", λ rest. Ask (trimmed rest))
-    ∷ (codes "new", λ rest. nothing_more (Obey (InWorld MakeFresh)) (words rest))
-    ∷ (codes "remove", fact_line (λ r i. nothing_more (Obey (InWorld (RemoveFrom r i)))))
+    ∷ (codes "new", λ rest. nothing_more (CarryOut (InWorld MakeFresh)) (words rest))
+    ∷ (codes "remove", fact_line (λ r i. nothing_more (CarryOut (InWorld (RemoveFrom r i)))))
     ∷ (codes "show", entity_line Show)
-    ∷ (codes "delete", entity_line (λ r. Obey (InWorld (DeleteOne r))))
+    ∷ (codes "delete", entity_line (λ r. CarryOut (InWorld (DeleteOne r))))
     ∷ (codes "keep", store_line Kept)
     ∷ (codes "monitor", store_line Monitor)
     ∷ (codes "on", on_line)
     ∷ (codes "rows", λ rest. one_word AskKept (words rest))
-    ∷ (codes "drop", λ rest. one_word (λ n. Obey (Drop n)) (words rest))
+    ∷ (codes "drop", λ rest. one_word (λ n. CarryOut (Drop n)) (words rest))
     ∷ []
 
 -- whether a line is blank or a comment

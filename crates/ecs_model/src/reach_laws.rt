@@ -1,6 +1,7 @@
 //! What is proved of chains, lines and least sets: each function's contract is a law, and its body does nothing.
 
-ghost use Rattle.ecs_model.specs.ReachLaws.{ChainsAreShort, DepthsAreOfLongestChains, LinesUnfold, ReachComposes, ReachIsComputed, RoundsAreEnough, StepsCloseChains};
+ghost use Rattle.ecs_model.specs.ReachLaws.{ChainsAreShort, DepthsAreOfLongestChains, LinesUnfold, ReachComposes, ReachIsComputed, RoundsAreEnough};
+ghost use Rattle.ecs_model.specs.ReachLaws.{StepsCloseChains};
 
 /// Law: as many rounds as there are things to be reached, less one, give the least set that is closed under what follows.
 pub fn rounds_are_enough()

@@ -6,18 +6,18 @@ use Rattle.ecs_id.specs.declared.EntityId.{EntityId}
 use Rattle.ecs_model.specs.declared.faults.CommandError.{CommandError}
 use Rattle.ecs_model.specs.declared.faults.CommandError.TheVariants as world
 use Rattle.ecs_model.specs.declared.faults.SessionRefusal.TheVariants.{EventsPending}
-use Rattle.ecs_model.specs.Command.{AnswersStep, Changed}
+use Rattle.ecs_model.specs.steps.Outcomes.{AnswersStep, Changed}
 use Rattle.ecs_model.specs.Map.{count_at}
 use Rattle.ecs_model.specs.World.{WorldState}
 use Rattle.ecs_model.specs.stored.Session.{in_world, world_answer}
 use Rattle.ecs_model.specs.stored.Watches.{is_told, is_watch, told}
-use Rattle.ecs_model.specs.traits.Command.{Command, step}
-use Rattle.ecs_model.specs.traits.Keeps.{IsWellFormed}
+use Rattle.ecs_model.specs.steps.Step.{Command, step}
+use Rattle.ecs_model.specs.steps.WellFormed.{IsWellFormed}
 use Rattle.ecs_world.specs.Standing as store
 use Rattle.query_meaning.proofs.StandingQueries.{steps_keep_pins, steps_keep_queries_current}
 use Rattle.watch_touched.proofs.UnconcernedCommands.{queries_matched_before}
 use Rattle.watch_concerns.specs.Since.{IsAfter}
-use Rattle.ecs_observe.specs.Answers.{AnswersApply, AnswersCommand, awaited, obeyed}
+use Rattle.ecs_observe.specs.Answers.{AnswersApply, AnswersCommand, awaited, carried_out}
 use Rattle.watch_stored.specs.Held.{IsHeld, IsNow, WasNow, told_to}
 use Rattle.ecs_observe.specs.Standing.{IsSession, Standing, session_of, stored_of}
 use Rattle.ecs_observe.specs.declared.errors.SessionError.{SessionError}
@@ -35,11 +35,11 @@ waits s = by s.waiting
     by (Some changed) = refl
 
 -- a command is refused while events wait
-pub pending : (s : Standing) (c : Command) → is_some s.waiting ≡ true → AnswersApply (Err (Refused EventsPending)) (obeyed (session_of s) c) s s
+pub pending : (s : Standing) (c : Command) → is_some s.waiting ≡ true → AnswersApply (Err (Refused EventsPending)) (carried_out (session_of s) c) s s
 pending s c waiting = (ap (λ b. if b then Err EventsPending else in_world (session_of s) (Ok c)) (waits s ∙ waiting), refl)
 
 -- and else the world carries it out
-free : (s : Standing) (c : Command) → is_some s.waiting ≡ false → obeyed (session_of s) c ≡ world_answer (session_of s) (step (s.world).state c)
+free : (s : Standing) (c : Command) → is_some s.waiting ≡ false → carried_out (session_of s) c ≡ world_answer (session_of s) (step (s.world).state c)
 unfolding session_of
 free s c none = ap (λ b. if b then Err EventsPending else in_world (session_of s) (Ok c)) (waits s ∙ none)
 
@@ -105,7 +105,7 @@ module _ (s : Standing) (session : IsSession s) (none : is_some s.waiting ≡ fa
         ap (λ b. if b then Some (flat_map (told (s.world).state v.state changed) (map stored_of s.stored)) else None) (any_watch s.stored)
         ∙ waiting_same (list_any (λ h. is_told h.kind) s.stored)
 
-    pub accepted_answer : obeyed (session_of s) c ≡ Ok (session_of (left_by s v (awaited s.stored changed)), changed.born)
+    pub accepted_answer : carried_out (session_of s) c ≡ Ok (session_of (left_by s v (awaited s.stored changed)), changed.born)
     unfolding session_of
     accepted_answer =
         free s c none
@@ -145,22 +145,22 @@ module _ (s : Standing) (session : IsSession s) (none : is_some s.waiting ≡ fa
 
     pub answer_after : (done : Result Changed CommandError) (answer : Result (Option EntityId) SessionError) (waiting : Option Changed)
         → AnswersStep done (step (s.world).state c) (s.world).state v.state → AnswersCommand s.stored s.waiting done answer waiting
-        → AnswersApply answer (obeyed (session_of s) c) s (left_by s v waiting)
+        → AnswersApply answer (carried_out (session_of s) c) s (left_by s v waiting)
     answer_after (Ok changed) answer waiting stepped told =
-        subst (λ o. AnswersApply answer (obeyed (session_of s) c) s (left_by s v o)) (sym told.1)
-        (subst (λ a. AnswersApply a (obeyed (session_of s) c) s (left_by s v (awaited s.stored changed))) (sym told.0) (accepted_answer v c changed kept stepped))
+        subst (λ o. AnswersApply answer (carried_out (session_of s) c) s (left_by s v o)) (sym told.1)
+        (subst (λ a. AnswersApply a (carried_out (session_of s) c) s (left_by s v (awaited s.stored changed))) (sym told.0) (accepted_answer v c changed kept stepped))
     answer_after (Err (world.Refused reason)) answer waiting stepped told =
-        subst (λ o. AnswersApply answer (obeyed (session_of s) c) s (left_by s v o)) (sym told.1)
-        (subst (λ a. AnswersApply a (obeyed (session_of s) c) s (left_by s v s.waiting)) (sym told.0)
+        subst (λ o. AnswersApply answer (carried_out (session_of s) c) s (left_by s v o)) (sym told.1)
+        (subst (λ a. AnswersApply a (carried_out (session_of s) c) s (left_by s v s.waiting)) (sym told.0)
         (free s c none ∙ ap (world_answer (session_of s)) stepped.0, refused_state v stepped.1))
     answer_after (Err world.Memory) answer waiting stepped told =
-        subst (λ o. AnswersApply answer (obeyed (session_of s) c) s (left_by s v o)) (sym told.1)
-        (subst (λ a. AnswersApply a (obeyed (session_of s) c) s (left_by s v s.waiting)) (sym told.0) (refused_state v stepped))
+        subst (λ o. AnswersApply answer (carried_out (session_of s) c) s (left_by s v o)) (sym told.1)
+        (subst (λ a. AnswersApply a (carried_out (session_of s) c) s (left_by s v s.waiting)) (sym told.0) (refused_state v stepped))
 
 -- ---- the same of a session as a call takes it
 module _ (s now : Standing) (view_is : s ≡ now) (waits : Bool) (is_waiting : waits ≡ is_some now.waiting) where
   -- a command is refused while events wait
-  pub pending_now : (c : Command) → waits ≡ true → AnswersApply (Err (Refused EventsPending)) (obeyed (session_of now) c) now now
+  pub pending_now : (c : Command) → waits ≡ true → AnswersApply (Err (Refused EventsPending)) (carried_out (session_of now) c) now now
   pending_now c true_now = pending now c (sym is_waiting ∙ true_now)
 
   module _ (session : IsSession s) (none : waits ≡ false) (v : store.Standing) (c : Command) (kept : IsWellFormed (s.world).state)
@@ -172,7 +172,7 @@ module _ (s now : Standing) (view_is : s ≡ now) (waits : Bool) (is_waiting : w
     pub session_left : IsSession (left_by s v waiting)
     session_left = session_after s session none_then v c kept done answer waiting stepped told
 
-    pub answer_left : AnswersApply answer (obeyed (session_of now) c) now (left_by s v waiting)
+    pub answer_left : AnswersApply answer (carried_out (session_of now) c) now (left_by s v waiting)
     answer_left =
-        subst (λ x. AnswersApply answer (obeyed (session_of x) c) x (left_by s v waiting)) view_is
+        subst (λ x. AnswersApply answer (carried_out (session_of x) c) x (left_by s v waiting)) view_is
         (answer_after s session none_then v c kept done answer waiting stepped told)

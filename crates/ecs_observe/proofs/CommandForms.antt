@@ -6,15 +6,15 @@ use Rattle.ecs_id.specs.declared.EntityId.{EntityId}
 use Rattle.ecs_id.specs.Id.{Id}
 use Rattle.ecs_model.specs.declared.faults.Refusal.{Refusal}
 use Rattle.ecs_model.specs.declared.faults.SessionRefusal.TheVariants.{EventsPending, OfWorld}
-use Rattle.ecs_model.specs.Orders.{DeleteOne, EntityRef, IdRef, Order, command_of, entity_found}
+use Rattle.ecs_model.specs.Orders.{DeleteOne, EntityRef, IdRef, WorldOrder, command_of, entity_found}
 use Rattle.ecs_model.specs.stored.Session.{InWorld, SessionState, apply, free_order, in_world}
-use Rattle.ecs_model.specs.traits.Command.{Command, Delete}
-use Rattle.ecs_observe.specs.Answers.{obeyed}
+use Rattle.ecs_model.specs.steps.Step.{Command, Delete}
+use Rattle.ecs_observe.specs.Answers.{carried_out}
 use Rattle.ecs_observe.specs.Commands.{FindsBoth, FindsIn, FindsOne}
 
-module _ (s : SessionState) (order : Order) where
+module _ (s : SessionState) (order : WorldOrder) where
   -- one that means a command of the world
-  pub as_obeyed : (c : Command) → command_of s.world order ≡ Ok c → obeyed s c ≡ apply s (InWorld order)
+  pub as_obeyed : (c : Command) → command_of s.world order ≡ Ok c → carried_out s c ≡ apply s (InWorld order)
   unfolding apply free_order
   as_obeyed c e = ap (λ r. if is_some s.waiting then Err EventsPending else in_world s r) (sym e)
 

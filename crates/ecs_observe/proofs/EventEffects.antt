@@ -14,12 +14,12 @@ use Rattle.query_cache.specs.Kept.{Kept as Lists}
 use Rattle.query_model.specs.Local.{is_local}
 use Rattle.query_meaning.specs.declared.steps.Step.{Step}
 use Rattle.ecs_model.specs.declared.watches.StoredKind.TheVariants.{Monitor}
-use Rattle.ecs_model.specs.Command.{Changed}
+use Rattle.ecs_model.specs.steps.Outcomes.{Changed}
 use Rattle.ecs_model.specs.World.{WorldState}
 use Rattle.ecs_model.specs.rows.View.{view_of}
 use Rattle.ecs_model.specs.stored.Session.{after_events, events}
 use Rattle.ecs_model.specs.stored.Watches.{Event, matching}
-use Rattle.ecs_model.specs.traits.Keeps.{IsWellFormed}
+use Rattle.ecs_model.specs.steps.WellFormed.{IsWellFormed}
 use Rattle.watch_concerns.specs.Mentions.{times}
 use Rattle.watch_concerns.specs.Since.{IsAfter}
 use Rattle.ecs_observe.specs.Following.{lists_of}

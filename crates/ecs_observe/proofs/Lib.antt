@@ -3,11 +3,11 @@ pub mod ComparedCounts
 pub mod Entries
 pub mod FirstSession
 pub mod NamedQueries
-pub mod KeptFound
+pub mod KeptQueries
 pub mod CommandAnswers
-pub mod OneLess
-pub mod OneListed
-pub mod OneMore
+pub mod DroppedQueries
+pub mod ChangedLists
+pub mod NewQueries
 pub mod CommandForms
 pub mod StoringAnswers
 pub mod PinnedCounts

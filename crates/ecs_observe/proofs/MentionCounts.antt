@@ -7,7 +7,7 @@ use Rattle.ecs_model.specs.declared.faults.Refusal.{Refusal}
 use Rattle.ecs_model.specs.declared.faults.Refusal.TheVariants.{Dead}
 use Rattle.ecs_model.specs.World.{WorldState, is_alive}
 use Rattle.ecs_model.specs.stored.Session.{pinned_by}
-use Rattle.ecs_model.specs.traits.Pins.{one_more, pin, with_pins}
+use Rattle.ecs_model.specs.steps.Pins.{one_more, pin, with_pins}
 use Rattle.ecs_world.specs.Standing.{AnswersPin}
 use Rattle.query_model.specs.declared.query.Mention.{Mention}
 use Rattle.watch_concerns.proofs.PinChanges.{AreAlive, pinned_alone}

@@ -31,7 +31,7 @@ use Rattle.watch_stored.specs.Held.{AreThese, Held, IsHeld, IsNow, told_to}
 use Rattle.ecs_observe.specs.Standing.{Standing, session_of, stored_of}
 use Rattle.ecs_observe.specs.Storing.{AnswersWatched, store_refusal, with_held}
 use Rattle.ecs_observe.proofs.NamedQueries.{as_many, first_of, refusal_is, stored_is, waits, world_is}
-use Rattle.ecs_observe.proofs.OneMore.{none_waits}
+use Rattle.ecs_observe.proofs.NewQueries.{none_waits}
 
 -- ---- a new stored query
 

@@ -8,12 +8,12 @@ use Rattle.ecs_id.specs.declared.EntityId.{EntityId}
 use Rattle.ecs_model.specs.declared.faults.CommandError.{CommandError}
 use Rattle.ecs_model.specs.declared.watches.StoredKind.{StoredKind}
 use Rattle.ecs_model.specs.declared.watches.StoredKind.TheVariants.{Kept, Monitor, OnAdd, OnRemove, OnSet}
-use Rattle.ecs_model.specs.Command.{Changed}
+use Rattle.ecs_model.specs.steps.Outcomes.{Changed}
 use Rattle.ecs_model.specs.World.{WorldState}
 use Rattle.ecs_model.specs.rows.View.{view_of}
 use Rattle.ecs_model.specs.stored.Watches.{is_told, is_watch, matching, told}
-use Rattle.ecs_model.specs.traits.Command.{Command, step}
-use Rattle.ecs_model.specs.traits.Keeps.{IsWellFormed}
+use Rattle.ecs_model.specs.steps.Step.{Command, step}
+use Rattle.ecs_model.specs.steps.WellFormed.{IsWellFormed}
 use Rattle.ecs_model.proofs.Reasons.{neither}
 use Rattle.watch_concerns.specs.Since.{told_since}
 use Rattle.ecs_observe.specs.Answers.{AnswersCommand}
@@ -24,7 +24,7 @@ use Rattle.ecs_observe.specs.Standing.{stored_of}
 use Rattle.query_model.specs.Local.{is_local}
 use Rattle.watch_touched.specs.Before.{view_before}
 use Rattle.watch_touched.proofs.UnconcernedCommands.{queries_matched_before}
-use Rattle.watch_concerns.proofs.ToldSince.{watches_are_told_since}
+use Rattle.watch_concerns.proofs.EventsSince.{watches_are_told_since}
 
 -- whether one is a watch is seen of what is held
 pub any_watch : (hs : List Held) → list_any is_watch (map stored_of hs) ≡ list_any (λ h. is_told h.kind) hs

@@ -12,7 +12,7 @@ use Rattle.watch_index.specs.NameOrder.{name_in, number_in}
 use Rattle.watch_index.specs.Occasions.{occasions_of}
 use Rattle.watch_index.specs.WatchOrder.{Boxed, occasions_in}
 use Rattle.watch_index.specs.declared.watch_order.Watcher.{Watcher}
-use Rattle.watch_index.proofs.WatchWritten.{mapped, still_watched}
+use Rattle.watch_index.proofs.WrittenWatches.{mapped, still_watched}
 use Rattle.ecs_model.specs.stored.Watches.{is_told}
 use Rattle.ecs_observe.specs.Stored.{IsFit, IsOpened, IsStored, entries_in, is_watch_in, made_of}
 use Rattle.ecs_observe.specs.declared.queries.StoredQueries.{StoredQueries}

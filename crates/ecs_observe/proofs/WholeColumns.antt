@@ -6,16 +6,16 @@ use Rattle.ecs_id.specs.declared.EntityId.{EntityId}
 use Rattle.ecs_id.specs.declared.TableKey.{TableKey}
 use Rattle.ecs_id.specs.Id.{Id}
 use Rattle.ecs_model.specs.Bytes.{size_of, values_in}
-use Rattle.ecs_model.specs.Command.{Changed}
+use Rattle.ecs_model.specs.steps.Outcomes.{Changed}
 use Rattle.ecs_model.specs.Schema.{Schema}
 use Rattle.ecs_model.specs.stored.Watches.{is_told}
-use Rattle.ecs_model.specs.traits.Command.{Command, SetValue}
-use Rattle.ecs_model.specs.traits.Keeps.{IsWellFormed}
-use Rattle.ecs_model.proofs.traits.Steps.{step_keeps}
+use Rattle.ecs_model.specs.steps.Step.{Command, SetValue}
+use Rattle.ecs_model.specs.steps.WellFormed.{IsWellFormed}
+use Rattle.ecs_model.proofs.steps.AcceptedCommands.{step_keeps}
 use Rattle.ecs_world.specs.Columns.{AreSet, IsColumnSet, column_fault}
 use Rattle.ecs_world.specs.Standing as store
 use Rattle.ecs_world.specs.State.{no_change}
-use Rattle.ecs_observe.specs.Answers.{awaited, obeyed}
+use Rattle.ecs_observe.specs.Answers.{awaited, carried_out}
 use Rattle.ecs_observe.specs.Columns.{AreSetIn, IsColumnSetIn, set_column_error}
 use Rattle.ecs_observe.specs.Standing.{IsSession, Standing, session_of}
 use Rattle.ecs_observe.specs.declared.errors.SetColumnError.{SetColumnError}
@@ -36,8 +36,8 @@ module _ (i : Id) (fs : Schema) where
       let u : store.Standing = record { state = set.0; tables = (s.world).tables } in
       let silent : awaited s.stored changed ≡ None = ap (λ b. if b then Some changed else None) quiet in
       let there : IsSession (left_by s u None) = subst (λ o. IsSession (left_by s u o)) silent (accepted_session s session free u c changed kept set.1) in
-      let done : obeyed (session_of s) c ≡ Ok (session_of (left_by s u None), None)
-      = subst (λ o. obeyed (session_of s) c ≡ Ok (session_of (left_by s u o), None)) silent (accepted_answer s session free u c changed kept set.1) in
+      let done : carried_out (session_of s) c ≡ Ok (session_of (left_by s u None), None)
+      = subst (λ o. carried_out (session_of s) c ≡ Ok (session_of (left_by s u o), None)) silent (accepted_answer s session free u c changed kept set.1) in
       let rest = all_set es (drop (size_of fs) bytes) (left_by s u None) v there refl quiet (step_keeps (s.world).state set.0 c changed kept tt set.1) set.2 in
       (rest.0, (session_of (left_by s u None), done, rest.1))
 

@@ -13,7 +13,7 @@ use Rattle.query_meaning.specs.declared.steps.Step.{Step}
 use Rattle.table_store.specs.Store.{Store}
 use Rattle.watch_index.specs.NameOrder.{IsPlaceOf, name_in}
 use Rattle.watch_index.specs.WatchOrder.{Boxed}
-use Rattle.ecs_model.specs.Command.{Changed}
+use Rattle.ecs_model.specs.steps.Outcomes.{Changed}
 use Rattle.ecs_model.specs.stored.Session.{kept_query}
 use Rattle.ecs_world.specs.Standing as world
 use Rattle.query_plan.specs.Plans.{Plan}
@@ -33,10 +33,10 @@ use Rattle.ecs_observe.specs.declared.queries.StoredQueries.{StoredQueries}
 use Rattle.watch_stored.specs.declared.stored.StoredQuery.{StoredQuery}
 use Rattle.ecs_observe.proofs.Entries.{as_many, entry_written, lists_written, look_stored, stored_in}
 use Rattle.ecs_observe.proofs.NamedQueries.{is_key, named, seen}
-use Rattle.ecs_observe.proofs.KeptFound.{kept_found, other_kind}
+use Rattle.ecs_observe.proofs.KeptQueries.{kept_found, other_kind}
 use Rattle.ecs_observe.proofs.KeptLists.{kept_kind}
-use Rattle.ecs_observe.proofs.OneLess.{AreApart, first_named}
-use Rattle.ecs_observe.proofs.OneListed.{as_it_was, found_then, one_listed, place_named, same_session, still_session}
+use Rattle.ecs_observe.proofs.DroppedQueries.{AreApart, first_named}
+use Rattle.ecs_observe.proofs.ChangedLists.{as_it_was, found_then, one_listed, place_named, same_session, still_session}
 
 abbrev pub query_in : {A : Type 0} → Boxed (StoredQuery A) A → StoredQuery A
 query_in b = b.value.value.value

@@ -2,7 +2,7 @@
 use Rattle.std.specs.Prelude.{◌≡◌, ◌≢◌, ⊤, ℕ, List, length, max, ◌++◌, Option, Some, None, is_some, Result, Ok, Err, if◌then◌else◌}
 use Rattle.std.specs.List.{list_any}
 use Rattle.ecs_id.specs.declared.EntityId.{EntityId}
-use Rattle.ecs_model.specs.Command.{Changed}
+use Rattle.ecs_model.specs.steps.Outcomes.{Changed}
 use Rattle.ecs_model.specs.declared.faults.CommandError.{CommandError}
 use Rattle.ecs_model.specs.declared.faults.CommandError.TheVariants as world
 use Rattle.ecs_model.specs.declared.faults.SessionRefusal.TheVariants.{EventsPending, OfWorld, UnknownQuery}
@@ -11,7 +11,7 @@ use Rattle.ecs_model.specs.rows.Text.{rows_text}
 use Rattle.ecs_model.specs.stored.Session.{SessionState, Answer, in_world, kept_query}
 use Rattle.ecs_model.specs.stored.Watches.{is_told}
 use Rattle.ecs_model.specs.World.{WorldState}
-use Rattle.ecs_model.specs.traits.Command.{Command}
+use Rattle.ecs_model.specs.steps.Step.{Command}
 use Rattle.ecs_print.specs.Stops.{StopsWithin}
 use Rattle.watch_stored.specs.Held.{Held}
 use Rattle.ecs_observe.specs.Standing.{Standing, session_of}
@@ -27,8 +27,8 @@ use Rattle.ecs_observe.specs.declared.errors.SessionError.TheVariants.{Refused, 
 use Rattle.watch_stored.specs.declared.stored.StoredQuery.{StoredQuery}
 
 -- the answer to a command of the world: none is carried out while events wait
-abbrev pub obeyed : SessionState → Command → Answer
-obeyed s c = if is_some s.waiting then Err EventsPending else in_world s (Ok c)
+abbrev pub carried_out : SessionState → Command → Answer
+carried_out s c = if is_some s.waiting then Err EventsPending else in_world s (Ok c)
 
 -- why the world did not carry out a command, as a session answers it
 abbrev pub session_error : CommandError → SessionError

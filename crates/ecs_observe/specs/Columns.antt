@@ -9,10 +9,10 @@ use Rattle.ecs_model.specs.Schema.{Schema}
 use Rattle.ecs_model.specs.World.{type_of_id}
 use Rattle.ecs_model.specs.stored.Session.{SessionState}
 use Rattle.ecs_model.specs.stored.Watches.{is_told}
-use Rattle.ecs_model.specs.traits.Command.{SetValue}
+use Rattle.ecs_model.specs.steps.Step.{SetValue}
 use Rattle.table_store.specs.Store.{table_at}
 use Rattle.ecs_world.specs.Columns.{column_fault}
-use Rattle.ecs_observe.specs.Answers.{obeyed}
+use Rattle.ecs_observe.specs.Answers.{carried_out}
 use Rattle.ecs_observe.specs.Standing.{Standing, session_of}
 use Rattle.ecs_observe.specs.declared.errors.SetColumnError.{SetColumnError}
 use Rattle.ecs_observe.specs.declared.errors.SetColumnError.TheVariants.{EventsPending, Watched, OfWorld}
@@ -21,7 +21,7 @@ use Rattle.ecs_observe.specs.declared.errors.SetColumnError.TheVariants.{EventsP
 abbrev pub AreSetIn : Id → Schema → List EntityId → List ℕ → SessionState → SessionState → Type 0
 AreSetIn i fs [] bytes s t = t ≡ s
 AreSetIn i fs (e ∷ es) bytes s t =
-    (u : SessionState) × (obeyed s (SetValue e i (values_in fs (take (size_of fs) bytes))) ≡ Ok (u, None)) × AreSetIn i fs es (drop (size_of fs) bytes) u t
+    (u : SessionState) × (carried_out s (SetValue e i (values_in fs (take (size_of fs) bytes))) ≡ Ok (u, None)) × AreSetIn i fs es (drop (size_of fs) bytes) u t
 
 -- and so of the entities of the table under a key, by row
 abbrev pub IsColumnSetIn : Standing → TableKey → Id → List ℕ → SessionState → Type 0

@@ -4,13 +4,13 @@ use Rattle.ecs_id.specs.declared.EntityId.{EntityId}
 use Rattle.ecs_id.specs.Id.{Id}
 use Rattle.ecs_model.specs.declared.faults.Refusal.{Refusal}
 use Rattle.ecs_model.specs.declared.faults.SessionRefusal.{SessionRefusal}
-use Rattle.ecs_model.specs.Orders.{by_name, by_handle, plain_of, pair_of, MakeFresh, MakeEntity, MakeComponent, AddTo, SetIn, RemoveFrom, DeleteOne, Order, command_of, with_both}
+use Rattle.ecs_model.specs.Orders.{by_name, by_handle, plain_of, pair_of, MakeFresh, MakeEntity, MakeComponent, AddTo, SetIn, RemoveFrom, DeleteOne, WorldOrder, command_of, with_both}
 use Rattle.ecs_model.specs.Orders as orders
 use Rattle.ecs_model.specs.World.{WorldState}
 use Rattle.ecs_model.specs.stored.Session.{InWorld, SessionOrder, SessionState, apply}
 use Rattle.ecs_model.specs.stored.Session as session
-use Rattle.ecs_model.specs.traits.Command as world
-use Rattle.ecs_observe.specs.Answers.{obeyed}
+use Rattle.ecs_model.specs.steps.Step as world
+use Rattle.ecs_observe.specs.Answers.{carried_out}
 use Rattle.ecs_observe.specs.Following.{ListsOneLess, ListsOneMore}
 use Rattle.ecs_observe.specs.Standing.{Standing}
 use Rattle.ecs_observe.specs.Storing.{CountsStored}
@@ -60,12 +60,12 @@ FindsBoth w entity id (Ok both) = (f : EntityId → Id → world.Command) → wi
 
 -- the entity and the id were found, so that a command of them is what the session does; or each such command is refused for them
 abbrev pub FindsIn : SessionState → orders.EntityRef → orders.IdRef → Result (EntityId × Id) SessionRefusal → Type 0
-FindsIn s r i (Ok both) = (f : EntityId → Id → world.Command) (order : Order) → command_of s.world order ≡ with_both s.world f r i → obeyed s (f both.0 both.1) ≡ apply s (InWorld order)
-FindsIn s r i (Err reason) = (f : EntityId → Id → world.Command) (order : Order) → command_of s.world order ≡ with_both s.world f r i → apply s (InWorld order) ≡ Err reason
+FindsIn s r i (Ok both) = (f : EntityId → Id → world.Command) (order : WorldOrder) → command_of s.world order ≡ with_both s.world f r i → carried_out s (f both.0 both.1) ≡ apply s (InWorld order)
+FindsIn s r i (Err reason) = (f : EntityId → Id → world.Command) (order : WorldOrder) → command_of s.world order ≡ with_both s.world f r i → apply s (InWorld order) ≡ Err reason
 
 -- the same of an entity that is to go
 abbrev pub FindsOne : SessionState → orders.EntityRef → Result EntityId SessionRefusal → Type 0
-FindsOne s r (Ok e) = obeyed s (world.Delete e) ≡ apply s (InWorld (DeleteOne r))
+FindsOne s r (Ok e) = carried_out s (world.Delete e) ≡ apply s (InWorld (DeleteOne r))
 FindsOne s r (Err reason) = apply s (InWorld (DeleteOne r)) ≡ Err reason
 
 -- what becomes of the lists of kept queries, and of the tables where a query is stored or dropped: they stay

@@ -2,7 +2,7 @@
 use Rattle.std.specs.Prelude.{◌≡◌, ◌≢◌, ℕ, ◌≤◌, Bool, false, List, [], ◌∷◌, All, AllPairs, map, flat_map, length, Option, Some, None, option_map, IfSome}
 use Rattle.std.specs.List.{count_by, list_any}
 use Rattle.std.specs.Option.{option_map_or}
-use Rattle.ecs_model.specs.Command.{Changed}
+use Rattle.ecs_model.specs.steps.Outcomes.{Changed}
 use Rattle.ecs_model.specs.Map.{count_at}
 use Rattle.ecs_model.specs.stored.Session.{SessionState, most_stored}
 use Rattle.ecs_model.specs.stored.Watches.{Stored}

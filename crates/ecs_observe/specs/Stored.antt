@@ -2,7 +2,7 @@
 use Rattle.std.specs.Prelude.{◌≡◌, ℕ, ◌<◌, Bool, true, List, map, length, slice_index_or}
 use Rattle.std.specs.List.{All, Contains, count_by}
 use Rattle.std.specs.declared.string.String.{String}
-use Rattle.ecs_model.specs.Command.{Changed}
+use Rattle.ecs_model.specs.steps.Outcomes.{Changed}
 use Rattle.ecs_model.specs.stored.Watches.{is_told}
 use Rattle.watch_touched.specs.Concerned.{has_births_or_deaths}
 use Rattle.watch_index.specs.Laws.{may_concern}

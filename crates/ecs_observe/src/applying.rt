@@ -85,14 +85,14 @@ impl<A: Allocator + Copy> Session<A> {
         ensures counted { CountsApply (order_of command.entry) result self.old self.new }
         ensures grows { (self.old).compared ≤ (self.new).compared }
     {
-        match self.obey(command) {
+        match self.carry_out(command) {
             Ok(Some(entity)) => Ok(Answer::Born(entity)),
             Ok(None) => Ok(Answer::Done),
             Err(error) => Err(error),
         }
     }
 
-    fn obey(&mut self, command: Command<'_, A>) -> Result<Option<EntityId>, SessionError>
+    fn carry_out(&mut self, command: Command<'_, A>) -> Result<Option<EntityId>, SessionError>
         ensures answers { AnswersApply result (apply (session_of self.old) (order_of command.entry)) self.old self.new }
         ensures lists { ListsApply (order_of command.entry) result self.old self.new }
         ensures goes_on { TablesGoOn (self.old).world.tables (self.new).world.tables }
@@ -139,7 +139,8 @@ impl<A: Allocator + Copy> Session<A> {
         id: IdRef<'_>,
         values: &[i128],
     ) -> Result<Option<EntityId>, SessionError>
-        ensures answers { AnswersApply result (apply (session_of self.old) (InWorld (SetIn (seen_entity entity.entry) (seen_id id.entry) values.now))) self.old self.new }
+        ensures answers { AnswersApply result (apply (session_of self.old) (InWorld (SetIn (seen_entity entity.entry) (seen_id id.entry) values.now))) self.old
+            self.new }
         ensures compared { (self.new).compared ≡ (self.old).compared }
         ensures lists { (self.new).stored ≡ (self.old).stored }
         ensures goes_on { TablesGoOn (self.old).world.tables (self.new).world.tables }
@@ -157,7 +158,8 @@ impl<A: Allocator + Copy> Session<A> {
         entity: EntityRef<'_>,
         id: IdRef<'_>,
     ) -> Result<Option<EntityId>, SessionError>
-        ensures answers { AnswersApply result (apply (session_of self.old) (InWorld (RemoveFrom (seen_entity entity.entry) (seen_id id.entry)))) self.old self.new }
+        ensures answers { AnswersApply result (apply (session_of self.old) (InWorld (RemoveFrom (seen_entity entity.entry) (seen_id id.entry)))) self.old
+            self.new }
         ensures compared { (self.new).compared ≡ (self.old).compared }
         ensures lists { (self.new).stored ≡ (self.old).stored }
         ensures goes_on { TablesGoOn (self.old).world.tables (self.new).world.tables }

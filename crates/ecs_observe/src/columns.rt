@@ -19,7 +19,8 @@ impl<A: Allocator> Session<A> {
     /// no memory.
     pub fn set_column(&mut self, key: TableKey, id: Id, bytes: &[u8]) -> Result<(), SetColumnError>
         ensures set { OnOk result (IsColumnSetIn self.old key id bytes.now (session_of self.new)) }
-        ensures judged { MatchResult result (λ _. set_column_error self.old key id (length bytes.now) ≡ None) (λ error. set_column_error self.old key id (length bytes.now) ≡ Some error) }
+        ensures judged { MatchResult result (λ _. set_column_error self.old key id (length bytes.now) ≡ None)
+            (λ error. set_column_error self.old key id (length bytes.now) ≡ Some error) }
         ensures unchanged { OnErr result (self.new ≡ self.old) }
         ensures rest { self.new ≡ record self.old { world = (self.new).world } }
         ensures goes_on { TablesGoOn (self.old).world.tables (self.new).world.tables }

@@ -1,8 +1,8 @@
 //! The commands of the world.
 
 ghost use Rattle.std.specs.Prelude.{◌≡◌, map};
-ghost use Rattle.ecs_model.specs.traits.Command.{Add, Component, Delete, Entity, Fresh, Remove, SetValue};
-ghost use Rattle.ecs_observe.specs.Answers.{AnswersApply, AnswersCommand, obeyed};
+ghost use Rattle.ecs_model.specs.steps.Step.{Add, Component, Delete, Entity, Fresh, Remove, SetValue};
+ghost use Rattle.ecs_observe.specs.Answers.{AnswersApply, AnswersCommand, carried_out};
 ghost use Rattle.ecs_observe.specs.Parts.{held_of};
 ghost use Rattle.ecs_observe.specs.Standing.{session_of};
 ghost use Rattle.ecs_observe.specs.Stored.{IsStored, entries_of};
@@ -22,7 +22,7 @@ use std::alloc::Allocator;
 impl<A: Allocator + Copy> Session<A> {
     /// Makes an entity without a name and without facts, and answers it.
     pub fn fresh(&mut self) -> Result<Option<EntityId>, SessionError>
-        ensures answers { AnswersApply result (obeyed (session_of self.old) (Fresh)) self.old self.new }
+        ensures answers { AnswersApply result (carried_out (session_of self.old) (Fresh)) self.old self.new }
         ensures compared { (self.new).compared ≡ (self.old).compared }
         ensures lists { (self.new).stored ≡ (self.old).stored }
         ensures goes_on { TablesGoOn (self.old).world.tables (self.new).world.tables }
@@ -38,7 +38,7 @@ impl<A: Allocator + Copy> Session<A> {
 
     /// Makes an entity with a name and without facts, and answers it.
     pub fn entity(&mut self, name: &str) -> Result<Option<EntityId>, SessionError>
-        ensures answers { AnswersApply result (obeyed (session_of self.old) (Entity name.now)) self.old self.new }
+        ensures answers { AnswersApply result (carried_out (session_of self.old) (Entity name.now)) self.old self.new }
         ensures compared { (self.new).compared ≡ (self.old).compared }
         ensures lists { (self.new).stored ≡ (self.old).stored }
         ensures goes_on { TablesGoOn (self.old).world.tables (self.new).world.tables }
@@ -58,7 +58,7 @@ impl<A: Allocator + Copy> Session<A> {
         name: &str,
         schema: Schema<A>,
     ) -> Result<Option<EntityId>, SessionError>
-        ensures answers { AnswersApply result (obeyed (session_of self.old) (Component name.now schema)) self.old self.new }
+        ensures answers { AnswersApply result (carried_out (session_of self.old) (Component name.now schema)) self.old self.new }
         ensures compared { (self.new).compared ≡ (self.old).compared }
         ensures lists { (self.new).stored ≡ (self.old).stored }
         ensures goes_on { TablesGoOn (self.old).world.tables (self.new).world.tables }
@@ -74,7 +74,7 @@ impl<A: Allocator + Copy> Session<A> {
 
     /// Adds a fact. With it come those that traits ask for.
     pub fn add(&mut self, entity: EntityId, id: Id) -> Result<Option<EntityId>, SessionError>
-        ensures answers { AnswersApply result (obeyed (session_of self.old) (Add entity id)) self.old self.new }
+        ensures answers { AnswersApply result (carried_out (session_of self.old) (Add entity id)) self.old self.new }
         ensures compared { (self.new).compared ≡ (self.old).compared }
         ensures lists { (self.new).stored ≡ (self.old).stored }
         ensures goes_on { TablesGoOn (self.old).world.tables (self.new).world.tables }
@@ -95,7 +95,7 @@ impl<A: Allocator + Copy> Session<A> {
         id: Id,
         values: &[i128],
     ) -> Result<Option<EntityId>, SessionError>
-        ensures answers { AnswersApply result (obeyed (session_of self.old) (SetValue entity id values.now)) self.old self.new }
+        ensures answers { AnswersApply result (carried_out (session_of self.old) (SetValue entity id values.now)) self.old self.new }
         ensures compared { (self.new).compared ≡ (self.old).compared }
         ensures lists { (self.new).stored ≡ (self.old).stored }
         ensures goes_on { TablesGoOn (self.old).world.tables (self.new).world.tables }
@@ -111,7 +111,7 @@ impl<A: Allocator + Copy> Session<A> {
 
     /// Removes a fact, if it is held.
     pub fn remove(&mut self, entity: EntityId, id: Id) -> Result<Option<EntityId>, SessionError>
-        ensures answers { AnswersApply result (obeyed (session_of self.old) (Remove entity id)) self.old self.new }
+        ensures answers { AnswersApply result (carried_out (session_of self.old) (Remove entity id)) self.old self.new }
         ensures compared { (self.new).compared ≡ (self.old).compared }
         ensures lists { (self.new).stored ≡ (self.old).stored }
         ensures goes_on { TablesGoOn (self.old).world.tables (self.new).world.tables }
@@ -127,7 +127,7 @@ impl<A: Allocator + Copy> Session<A> {
 
     /// Deletes an entity, and what its relationships say goes with it.
     pub fn delete(&mut self, entity: EntityId) -> Result<Option<EntityId>, SessionError>
-        ensures answers { AnswersApply result (obeyed (session_of self.old) (Delete entity)) self.old self.new }
+        ensures answers { AnswersApply result (carried_out (session_of self.old) (Delete entity)) self.old self.new }
         ensures compared { (self.new).compared ≡ (self.old).compared }
         ensures lists { (self.new).stored ≡ (self.old).stored }
         ensures goes_on { TablesGoOn (self.old).world.tables (self.new).world.tables }

@@ -60,7 +60,12 @@ impl<A: Allocator> Model for Session<A> {
 
     ghost view = { λ s. record { world = s.world; stored = map held_of (entries_of s.stored); waiting = s.waiting; compared = s.compared } };
 
-    ghost invariant = { λ s. IsSession (record { world = s.world; stored = map held_of (entries_of s.stored); waiting = s.waiting; compared = s.compared }) × HaveLists (s.world).tables (entries_of s.stored) × IsStored s.stored };
+    ghost invariant = { λ s. IsSession (record {
+      world = s.world;
+      stored = map held_of (entries_of s.stored);
+      waiting = s.waiting;
+      compared = s.compared;
+    }) × HaveLists (s.world).tables (entries_of s.stored) × IsStored s.stored };
 }
 
 impl<A: Allocator + Copy> Session<A> {

@@ -170,7 +170,8 @@ fn tell_led<A: Allocator + Copy>(
     ensures compared { list_any (is_searched changes.now) (map held_of (entries_of stored.now)) ≡ false → compared.new ≡ compared.old }
     ensures grows { compared.old ≤ compared.new }
     ensures few { OnOk result (compared.new ≤ compared.old + count_by (is_searched changes.now) (map held_of (entries_of stored.now))) }
-    ensures counted { OnOk result (min (compared.old + count_by (is_taken_whole changes.now) (map held_of (entries_of stored.now))) 18446744073709551615 ≤ compared.new) }
+    ensures counted { OnOk result (min (compared.old + count_by (is_taken_whole changes.now) (map held_of (entries_of stored.now))) 18446744073709551615
+        ≤ compared.new) }
 {
     let mut found = ShortNumbers::new();
     stored.led(alloc, changes, &mut found)?;
@@ -209,7 +210,8 @@ fn tell_places<A: Allocator + Copy>(
     ensures compared { list_any (is_searched changes.now) (map held_of (entries_of stored.now)) ≡ false → compared.new ≡ compared.old }
     ensures grows { compared.old ≤ compared.new }
     ensures few { OnOk result (compared.new ≤ compared.old + count_by (is_searched changes.now) (map held_of (entries_of stored.now))) }
-    ensures counted { OnOk result (min (compared.old + count_by (is_taken_whole changes.now) (map held_of (entries_of stored.now))) 18446744073709551615 ≤ compared.new) }
+    ensures counted { OnOk result (min (compared.old + count_by (is_taken_whole changes.now) (map held_of (entries_of stored.now))) 18446744073709551615
+        ≤ compared.new) }
 {
     let touched = touched_if_asked(alloc, world, changes, stored, places)?;
     let touched = touched.as_slice();
@@ -227,7 +229,8 @@ fn touched_if_asked<'w, A: Allocator + Copy>(
     places: &[u64],
 ) -> Result<Vec<Touched<'w, A>, A>, AllocError>
     requires after { IsAfter world.now.state changes.now }
-    ensures touched { any_locally_at (entries_of stored.now) places.now ≡ true → IfOk result (λ touched. AreTouchedBy world.now.state changes.now touched.items) }
+    ensures touched { any_locally_at (entries_of stored.now) places.now ≡ true
+        → IfOk result (λ touched. AreTouchedBy world.now.state changes.now touched.items) }
 {
     if is_told_locally_at(stored, places) {
         touched(alloc, world, changes)
@@ -272,7 +275,8 @@ fn tell_all<A: Allocator + Copy>(
     ensures compared { list_any (is_searched changes.now) (map held_of (entries_of stored.now)) ≡ false → compared.new ≡ compared.old }
     ensures grows { compared.old ≤ compared.new }
     ensures few { OnOk result (compared.new ≤ compared.old + count_by (is_searched changes.now) (map held_of (entries_of stored.now))) }
-    ensures counted { OnOk result (min (compared.old + count_by (is_taken_whole changes.now) (map held_of (entries_of stored.now))) 18446744073709551615 ≤ compared.new) }
+    ensures counted { OnOk result (min (compared.old + count_by (is_taken_whole changes.now) (map held_of (entries_of stored.now))) 18446744073709551615
+        ≤ compared.new) }
 {
     world.keeps();
     for place in places {

@@ -11,7 +11,7 @@ use Rattle.ecs_model.specs.Map.{keys, value_at}
 use Rattle.ecs_model.specs.Output.{fact_text}
 use Rattle.ecs_model.specs.Print.{id_text, value_text}
 use Rattle.ecs_model.specs.Schema.{Schema, schema_fault}
-use Rattle.ecs_model.specs.traits.Keeps.{IsWellFormed}
+use Rattle.ecs_model.specs.steps.WellFormed.{IsWellFormed}
 use Rattle.ecs_model.specs.World.{WorldState, holds, ids_of, is_live, pair_is_tag, type_of_id, value_of}
 use Rattle.ecs_schema.proofs.NumberPlaces.{size_of-first}
 use Rattle.ecs_archetypes.specs.Holdings.{Cells}

@@ -1,9 +1,11 @@
 //! The table.
-ghost use Rattle.std.specs.Prelude.{◌≡◌, ℕ, ◌*◌, ◌-◌, ◌<◌, ◌≤◌, max, min, IfOk, IfSome, OnOk, OnErr, IsOk, MatchOption, length, List, map, None, option_map, replicate, Some, option_copied, slice_get, slice_index, slice_index_or, slice_set};
+ghost use Rattle.std.specs.Prelude.{◌≡◌, ℕ, ◌*◌, ◌-◌, ◌<◌, ◌≤◌, max, min, IfOk, IfSome, OnOk, OnErr, IsOk, MatchOption, length, List, map, None, option_map};
+ghost use Rattle.std.specs.Prelude.{replicate, Some, option_copied, slice_get, slice_index, slice_index_or, slice_set};
 ghost use Rattle.std.specs.List.{zip};
 ghost use Rattle.raw_column.specs.Contents.{column_at};
 ghost use Rattle.ecs_id.specs.Id.{Id};
-ghost use Rattle.ecs_table.specs.Archetype.{byte_size, column_of, empty_table, moved_into, replaced, size_of, value_of, values_at, with_column, with_moved, with_row, with_value, without_row, HaveEqualSizes, IsSound};
+ghost use Rattle.ecs_table.specs.Archetype.{byte_size, column_of, empty_table, moved_into, replaced, size_of, value_of, values_at, with_column, with_moved};
+ghost use Rattle.ecs_table.specs.Archetype.{with_row, with_value, without_row, HaveEqualSizes, IsSound};
 
 use crate::entity_list::EntityList;
 use crate::id_list::IdList;
@@ -247,7 +249,8 @@ impl<A: Allocator> Table<A> {
         ensures came { target.new ≡ with_moved target.old self.old row }
 
         // What this says of each id: with data in both tables it keeps its value, and without data here it has zeros.
-        ensures kept { (i : Id) (n : ℕ) (bytes : List ℕ) → size_of target.old i ≡ Some n → value_of self.old row i ≡ Some bytes → value_of target.new result.0 i ≡ Some bytes }
+        ensures kept { (i : Id) (n : ℕ) (bytes : List ℕ) → size_of target.old i ≡ Some n → value_of self.old row i ≡ Some bytes
+            → value_of target.new result.0 i ≡ Some bytes }
         ensures zeros { (i : Id) → value_of self.old row i ≡ None → value_of target.new result.0 i ≡ option_map (λ n. replicate n 0) (size_of target.old i) }
     {
         let last = target.entities.len();
@@ -261,8 +264,10 @@ impl<A: Allocator> Table<A> {
         requires room { 0 < self.old.room }
         requires sizes { HaveEqualSizes source.now self.old }
         ensures came { self.new ≡ with_moved self.old source.now row }
-        ensures kept { (i : Id) (n : ℕ) (bytes : List ℕ) → size_of self.old i ≡ Some n → value_of source.now row i ≡ Some bytes → value_of self.new (length self.old.entities) i ≡ Some bytes }
-        ensures zeros { (i : Id) → value_of source.now row i ≡ None → value_of self.new (length self.old.entities) i ≡ option_map (λ n. replicate n 0) (size_of self.old i) }
+        ensures kept { (i : Id) (n : ℕ) (bytes : List ℕ) → size_of self.old i ≡ Some n → value_of source.now row i ≡ Some bytes
+            → value_of self.new (length self.old.entities) i ≡ Some bytes }
+        ensures zeros { (i : Id) → value_of source.now row i ≡ None
+            → value_of self.new (length self.old.entities) i ≡ option_map (λ n. replicate n 0) (size_of self.old i) }
     {
         self.entities.push(source.entities.at(row));
         self.values.push_zero();
@@ -281,7 +286,10 @@ pub(crate) fn copy_values<A: Allocator>(
     requires row { row < length source.now.entities }
     requires last { 0 < columns.old.len }
     requires paired { length ids.now ≡ length columns.old.columns }
-    ensures { columns.new ≡ record columns.old { columns = map (λ p. replaced (columns.old.len - 1) (value_of source.now row p.0) p.1) (zip ids.now columns.old.columns) } }
+    ensures { columns.new ≡ record columns.old {
+      columns = map (λ p. replaced (columns.old.len - 1) (value_of source.now row p.0) p.1)
+          (zip ids.now columns.old.columns);
+    } }
 {
     let last = columns.len() - 1;
     let mut from = 0;
@@ -296,7 +304,10 @@ pub(crate) fn copy_values<A: Allocator>(
 fn copy_value<A: Allocator>(columns: &mut Block<A>, column: usize, row: usize, value: Option<&[u8]>)
     requires column { column < length columns.old.columns }
     requires row { row < columns.old.len }
-    ensures { columns.new ≡ record columns.old { columns = slice_set columns.old.columns column (replaced row (option_copied value.entry) (column_at columns.old column)) } }
+    ensures { columns.new ≡ record columns.old {
+      columns = slice_set columns.old.columns column
+          (replaced row (option_copied value.entry) (column_at columns.old column));
+    } }
 {
     if let Some(bytes) = value
         && bytes.len() == columns.size(column)

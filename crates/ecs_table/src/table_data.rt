@@ -1,5 +1,6 @@
 //! The ids with data of a table and their columns, for which a table of tags has no memory.
-ghost use Rattle.std.specs.Prelude.{◌≡◌, ℕ, ◌+◌, ◌-◌, ◌*◌, ◌^◌, ◌<◌, ◌≤◌, [], length, map, min, nat_lt, slice_get, slice_index, IfOk, IfSome, IsOk, OnErr, OnOk, Some};
+ghost use Rattle.std.specs.Prelude.{◌≡◌, ℕ, ◌+◌, ◌-◌, ◌*◌, ◌^◌, ◌<◌, ◌≤◌, [], length, map, min, nat_lt, slice_get, slice_index, IfOk, IfSome, IsOk, OnErr};
+ghost use Rattle.std.specs.Prelude.{OnOk, Some};
 ghost use Rattle.std.specs.List.{concat, filter, zip};
 ghost use Rattle.raw_column.specs.Contents.{capacity_of, column_at, empty_contents, row_bytes, with_column, with_item_in, with_zeros, without_row};
 ghost use Rattle.ecs_table.specs.Archetype.{ids_with_data, index_in, replaced, value_of};
@@ -265,7 +266,10 @@ impl<A: Allocator> TableData<A> {
         requires last { 0 < self.old.block.len }
         requires paired { length self.old.ids ≡ length self.old.block.columns }
         ensures ids { self.new.ids ≡ self.old.ids }
-        ensures block { self.new.block ≡ record self.old.block { columns = map (λ p. replaced (self.old.block.len - 1) (value_of source.now row p.0) p.1) (zip self.old.ids self.old.block.columns) } }
+        ensures block { self.new.block ≡ record self.old.block {
+          columns = map (λ p. replaced (self.old.block.len - 1) (value_of source.now row p.0) p.1)
+              (zip self.old.ids self.old.block.columns);
+        } }
     {
         match &mut self.stored {
             Stored::Tags(_) => {}
@@ -280,7 +284,10 @@ impl<A: Allocator> Columns<A> {
         requires last { 0 < self.old.block.len }
         requires paired { length self.old.ids ≡ length self.old.block.columns }
         ensures ids { self.new.ids ≡ self.old.ids }
-        ensures block { self.new.block ≡ record self.old.block { columns = map (λ p. replaced (self.old.block.len - 1) (value_of source.now row p.0) p.1) (zip self.old.ids self.old.block.columns) } }
+        ensures block { self.new.block ≡ record self.old.block {
+          columns = map (λ p. replaced (self.old.block.len - 1) (value_of source.now row p.0) p.1)
+              (zip self.old.ids self.old.block.columns);
+        } }
     {
         copy_values(&mut self.block, self.ids.as_slice(), source, row);
     }

@@ -11,16 +11,16 @@ use Rattle.ecs_id.specs.declared.EntityId.{EntityId}
 use Rattle.ecs_id.specs.Id.{Id, plain, mentioned, id_cmp, id_eq}
 use Rattle.ecs_model.specs.Map.{Map, value_at, has_key, with_value, without}
 use Rattle.ecs_model.specs.Schema.{Schema, schema_fault, zeros}
-use Rattle.ecs_model.specs.traits.Keeps.{IsWellFormed}
+use Rattle.ecs_model.specs.steps.WellFormed.{IsWellFormed}
 use Rattle.ecs_model.specs.Refusal.{first_reason}
-use Rattle.ecs_model.specs.traits.Changes.{facts_after_add, facts_after_remove}
+use Rattle.ecs_model.specs.steps.FactChanges.{facts_after_add, facts_after_remove}
 use Rattle.ecs_model.specs.World.{WorldState, key_cmp, component, holds, ids_of, is_alive, type_of_id, new_value}
-use Rattle.ecs_model.specs.Command.{counted, is_spent, next_entity, with_facts}
-use Rattle.ecs_model.specs.traits.Command.{Command, IsCommand, Fresh, Entity, Component, Add, SetValue, Remove, reasons, effect}
+use Rattle.ecs_model.specs.steps.Outcomes.{counted, is_spent, next_entity, with_facts}
+use Rattle.ecs_model.specs.steps.Step.{Command, IsCommand, Fresh, Entity, Component, Add, SetValue, Remove, reasons, effect}
 use Rattle.ecs_model.proofs.StepAnswers.{effect_well_formed}
 use Rattle.ecs_model.proofs.Differences.{last_value}
 use Rattle.ecs_model.proofs.Maps.{both_true, key_cmp_total, of_some}
-use Rattle.ecs_model.proofs.traits.Held.{removes_held_alone}
+use Rattle.ecs_model.proofs.steps.IdleRemovals.{removes_held_alone}
 use Rattle.rel_traits.specs.Simple.{ComesAlone, ComesInPlace, is_unmirrored}
 use Rattle.ecs_world.specs.Singles.{without_one}
 use Rattle.name_index.specs.Names.{IsUnnamed, Names}

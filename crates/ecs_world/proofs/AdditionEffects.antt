@@ -11,27 +11,27 @@ use Rattle.std.specs.Option.{option_or}
 use Rattle.std.specs.Ordering.{nat_cmp}
 use Rattle.ecs_id.specs.declared.EntityId.{EntityId}
 use Rattle.ecs_id.specs.Id.{Id, plain, pair, mentioned, id_eq, id_eq_same}
-use Rattle.ecs_model.specs.Command.{counted, with_facts}
+use Rattle.ecs_model.specs.steps.Outcomes.{counted, with_facts}
 use Rattle.ecs_model.specs.Map.{Map, has_key, keys, value_at, without}
 use Rattle.ecs_model.specs.Refusal.{first_reason}
 use Rattle.ecs_model.specs.Schema.{Schema}
 use Rattle.ecs_model.specs.Sets.{Set}
 use Rattle.ecs_model.specs.World.{WorldState, Key, key_cmp, key_eq, pair_is_tag, holds, is_live, new_value, type_of_id}
-use Rattle.ecs_model.specs.traits.Changes.{coming, copied, facts_after_add, facts_with_added, new_base, replaced}
-use Rattle.ecs_model.specs.traits.Command.{Add, effect, reasons}
-use Rattle.ecs_model.specs.traits.Keeps.{IsWellFormed}
+use Rattle.ecs_model.specs.steps.FactChanges.{coming, copied, facts_after_add, facts_with_added, new_base, replaced}
+use Rattle.ecs_model.specs.steps.Step.{Add, effect, reasons}
+use Rattle.ecs_model.specs.steps.WellFormed.{IsWellFormed}
 use Rattle.ecs_model.proofs.Maps.{both_true, eq_itself, key_cmp_same, key_cmp_total}
 use Rattle.ecs_model.proofs.Members.{any_passes, filtered, from_or, passing}
 use Rattle.ecs_model.proofs.Removals.{value_at-without}
-use Rattle.ecs_model.proofs.traits.Accepted.{IsAccepted, accepted_add, base_is_addition, keeps_add}
-use Rattle.ecs_model.proofs.traits.Adding.{added_are_members, added_form, form_lives, from_map, in_map}
-use Rattle.ecs_model.proofs.traits.AfterAdd.{IsMap-added, none_replaced}
-use Rattle.ecs_model.proofs.traits.Copies.{facts_brought, held_brought, none_brought, partly_written, value_brought, writing_keeps}
-use Rattle.ecs_model.proofs.traits.Copying.{Comes, IsMap-coming, coming_at, coming_with, of_base, with_base}
-use Rattle.ecs_model.proofs.traits.Facts.{key_there, there_key}
-use Rattle.ecs_model.proofs.traits.Kept.{all_pass, each_passes, refuted}
-use Rattle.ecs_model.proofs.traits.KeptByAdd.{IsAddition, came_or_was, plain_stays, trait_before, types_kept}
-use Rattle.ecs_model.proofs.traits.Replacing.{is_replaced, key_eq_same}
+use Rattle.ecs_model.proofs.steps.AcceptedFacts.{IsAccepted, accepted_add, base_is_addition, keeps_add}
+use Rattle.ecs_model.proofs.steps.AddedSets.{added_are_members, added_form, form_lives, from_map, in_map}
+use Rattle.ecs_model.proofs.steps.AddEffects.{IsMap-added, none_replaced}
+use Rattle.ecs_model.proofs.steps.CopiedFacts.{facts_brought, held_brought, none_brought, partly_written, value_brought, writing_keeps}
+use Rattle.ecs_model.proofs.steps.CopiedIds.{Comes, IsMap-coming, coming_at, coming_with, of_base, with_base}
+use Rattle.ecs_model.proofs.steps.Facts.{key_there, there_key}
+use Rattle.ecs_model.proofs.steps.LivingIds.{all_pass, each_passes, refuted}
+use Rattle.ecs_model.proofs.steps.Additions.{IsAddition, came_or_was, plain_stays, trait_before, types_kept}
+use Rattle.ecs_model.proofs.steps.ReplacedFacts.{is_replaced, key_eq_same}
 use Rattle.ecs_archetypes.specs.FactChanges.{Coming, ids_coming, with_facts_changed}
 use Rattle.ecs_archetypes.specs.Holdings.{AreHoldings, HoldAlike, Holdings, KeepsSizes, agrees, bytes_at, cells_at, holds_id}
 use Rattle.ecs_archetypes.proofs.FactReads.{come_or}

@@ -10,21 +10,21 @@ use Rattle.std.proofs.lemmas.List.Sums.{fold-append}
 use Rattle.std.proofs.Math.Seq.{take-append_seam}
 use Rattle.ecs_id.specs.declared.EntityId.{EntityId}
 use Rattle.ecs_id.specs.Id.{Id, plain, pair, mentioned}
-use Rattle.ecs_model.specs.Command.{with_facts}
+use Rattle.ecs_model.specs.steps.Outcomes.{with_facts}
 use Rattle.ecs_model.specs.declared.Kind.{Kind}
 use Rattle.ecs_model.specs.declared.Kind.TheVariants.{I8, U8, I16, U16, I32, U32, I64, U64}
 use Rattle.ecs_model.specs.Map.{Map, IsMap, value_at, with_value}
 use Rattle.ecs_model.specs.Refusal.{first_reason}
 use Rattle.ecs_model.specs.Schema.{Schema, all_fit, width, zeros}
 use Rattle.ecs_model.specs.World.{WorldState, Key, key_cmp, holds, is_alive, is_live, type_of_id, value_of}
-use Rattle.ecs_model.specs.traits.Changes.{copied, facts_after_add, new_base}
-use Rattle.ecs_model.specs.traits.Command.{Add, reasons}
-use Rattle.ecs_model.specs.traits.Keeps.{IsWellFormed}
+use Rattle.ecs_model.specs.steps.FactChanges.{copied, facts_after_add, new_base}
+use Rattle.ecs_model.specs.steps.Step.{Add, reasons}
+use Rattle.ecs_model.specs.steps.WellFormed.{IsWellFormed}
 use Rattle.ecs_model.proofs.Maps.{IsMap-with_value, fact_value_at, key_cmp_same, key_cmp_total, to_T}
-use Rattle.ecs_model.proofs.traits.Accepted.{accepted_add}
-use Rattle.ecs_model.proofs.traits.Copies.{base_read, facts_brought, partly_written, writing_keeps, written_is_added}
-use Rattle.ecs_model.proofs.traits.Copying.{base_value, of_base, some_value, with_each}
-use Rattle.ecs_model.proofs.traits.Adding.{from_map}
+use Rattle.ecs_model.proofs.steps.AcceptedFacts.{accepted_add}
+use Rattle.ecs_model.proofs.steps.CopiedFacts.{base_read, facts_brought, partly_written, writing_keeps, written_is_added}
+use Rattle.ecs_model.proofs.steps.CopiedIds.{base_value, of_base, some_value, with_each}
+use Rattle.ecs_model.proofs.steps.AddedSets.{from_map}
 use Rattle.ecs_schema.proofs.NumberPlaces.{size_of-first}
 use Rattle.ecs_world.specs.Changes.{AreCopies, with_bytes, with_copies}
 use Rattle.ecs_world.specs.State.{byte_count, value_in}

@@ -12,10 +12,10 @@ use Rattle.ecs_id.specs.declared.EntityId.{EntityId}
 use Rattle.ecs_id.specs.Id.{Id, plain, mentioned, first_of}
 use Rattle.ecs_model.specs.Map.{Map, value_at, has_key, keys, with_value}
 use Rattle.ecs_model.specs.Schema.{Schema}
-use Rattle.ecs_model.specs.traits.Keeps.{IsWellFormed}
+use Rattle.ecs_model.specs.steps.WellFormed.{IsWellFormed}
 use Rattle.ecs_model.specs.World.{WorldState, key_cmp, component, pair_is_tag}
-use Rattle.ecs_model.specs.Command.{next_entity, with_born, with_named, with_component}
-use Rattle.ecs_model.specs.traits.Command.{Fresh, Entity, Component, effect}
+use Rattle.ecs_model.specs.steps.Outcomes.{next_entity, with_born, with_named, with_component}
+use Rattle.ecs_model.specs.steps.Step.{Fresh, Entity, Component, effect}
 use Rattle.ecs_model.proofs.Maps.{both_true, key_cmp_same, nat_value_at}
 use Rattle.ecs_model.proofs.Reasons.{next_is_free}
 use Rattle.name_index.specs.Names.{Names}

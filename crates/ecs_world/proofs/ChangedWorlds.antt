@@ -11,14 +11,14 @@ use Rattle.std.specs.declared.cmp.Ordering.{Ordering}
 use Rattle.std.specs.declared.cmp.Ordering.TheVariants.{Less, Equal, Greater}
 pub use Rattle.component_index.proofs.ListedLemmas.{on_err as when_err}
 use Rattle.ecs_id.specs.Id.{Id, plain, pair, id_cmp}
-use Rattle.ecs_model.specs.Command.{with_facts}
+use Rattle.ecs_model.specs.steps.Outcomes.{with_facts}
 use Rattle.ecs_model.specs.Map.{Map, IsMap, has_key, keys, value_at}
 use Rattle.ecs_model.specs.Schema.{Schema}
 use Rattle.ecs_model.specs.World.{WorldState, Key, key_cmp, key_eq, pair_is_tag, holds, type_of_id}
-use Rattle.ecs_model.specs.traits.Keeps.{IsWellFormed}
+use Rattle.ecs_model.specs.steps.WellFormed.{IsWellFormed}
 use Rattle.ecs_model.proofs.Maps.{both_true, key_cmp_same}
-use Rattle.ecs_model.proofs.traits.Facts.{key_there}
-use Rattle.ecs_model.proofs.traits.Kept.{each_passes}
+use Rattle.ecs_model.proofs.steps.Facts.{key_there}
+use Rattle.ecs_model.proofs.steps.LivingIds.{each_passes}
 use Rattle.name_index.specs.Names.{Names}
 use Rattle.ecs_archetypes.specs.FactChanges.{Coming, changed_cells, coming_to, goes_from, with_facts_changed}
 use Rattle.ecs_table.specs.Archetype.{Cells}

@@ -2,11 +2,11 @@
 use Rattle.std.proofs.Common.{◌≡◌, ◌+◌, refl, sym, ap, subst}
 use Rattle.std.specs.Prelude.{None}
 use Rattle.ecs_id.specs.Id.{Id, plain, pair}
-use Rattle.ecs_model.specs.Command.{counted}
+use Rattle.ecs_model.specs.steps.Outcomes.{counted}
 use Rattle.ecs_model.specs.Refusal.{first_reason}
 use Rattle.ecs_model.specs.World.{WorldState, type_of_id}
-use Rattle.ecs_model.specs.traits.Command.{Command, IsCommand, effect, reasons}
-use Rattle.ecs_model.specs.traits.Keeps.{IsWellFormed}
+use Rattle.ecs_model.specs.steps.Step.{Command, IsCommand, effect, reasons}
+use Rattle.ecs_model.specs.steps.WellFormed.{IsWellFormed}
 use Rattle.ecs_world.specs.State.{IsWorld, Parts, parts_of, state_of}
 use Rattle.ecs_model.proofs.StepAnswers.{effect_well_formed}
 

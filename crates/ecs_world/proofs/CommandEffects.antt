@@ -9,12 +9,12 @@ use Rattle.ecs_id.specs.declared.EntityId.{EntityId}
 use Rattle.ecs_id.specs.Id.{Id, plain, pair, mentioned, id_cmp, id_eq}
 use Rattle.ecs_model.specs.Map.{Map, IsMap, value_at, has_key, keys, with_value, without}
 use Rattle.ecs_model.specs.Schema.{Schema, zeros, all_fit}
-use Rattle.ecs_model.specs.traits.Keeps.{IsWellFormed}
-use Rattle.ecs_model.specs.traits.Changes.{facts_after_add, facts_after_remove}
-use Rattle.ecs_model.specs.traits.Rules.{is_trait}
+use Rattle.ecs_model.specs.steps.WellFormed.{IsWellFormed}
+use Rattle.ecs_model.specs.steps.FactChanges.{facts_after_add, facts_after_remove}
+use Rattle.ecs_model.specs.steps.Rules.{is_trait}
 use Rattle.ecs_model.specs.World.{WorldState, Key, key_cmp, pair_is_tag, holds, ids_of, type_of_id, new_value, value_of}
-use Rattle.ecs_model.specs.Command.{counted, is_spent, with_facts}
-use Rattle.ecs_model.specs.traits.Command.{SetValue, Remove, effect}
+use Rattle.ecs_model.specs.steps.Outcomes.{counted, is_spent, with_facts}
+use Rattle.ecs_model.specs.steps.Step.{SetValue, Remove, effect}
 use Rattle.ecs_model.proofs.Differences.{last_value}
 use Rattle.ecs_model.proofs.Maps.{IsMap-with_value, from_T, key_cmp_same, keys-with_value, nat_value_at, to_T}
 use Rattle.ecs_model.proofs.Additions.{not_spent}

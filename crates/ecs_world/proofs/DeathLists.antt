@@ -14,7 +14,7 @@ use Rattle.rel_traits.proofs.DeletedSets.{flipped}
 use Rattle.ecs_id.specs.declared.EntityId.{EntityId}
 use Rattle.ecs_model.specs.Map.{IsMap, Map, without}
 use Rattle.ecs_model.specs.World.{WorldState, entity_at, name_of}
-use Rattle.ecs_model.proofs.traits.Deletions.{nat_IsMap-without}
+use Rattle.ecs_model.proofs.steps.Deletions.{nat_IsMap-without}
 use Rattle.name_index.specs.Names.{IsUnnamed, Names, OthersKeepTheirs, entity_eq}
 use Rattle.ecs_world.specs.Changes.{deaths_of, entities_at}
 use Rattle.ecs_world.specs.State.{listed}

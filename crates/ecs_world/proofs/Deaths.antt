@@ -6,16 +6,16 @@ use Rattle.std.specs.Cmp.{nat_cmp_total}
 use Rattle.std.specs.Ordering.{nat_cmp}
 use Rattle.std.proofs.lemmas.List.Elements.{Contains-append_right}
 use Rattle.ecs_id.specs.declared.EntityId.{EntityId}
-use Rattle.ecs_model.specs.Falls.{falling, falls_by}
+use Rattle.ecs_model.specs.Cleanup.{falling, falls_by}
 use Rattle.ecs_model.specs.Map.{count_at, has_key, keys, value_at, without}
 use Rattle.ecs_model.specs.Reach.{Reached, itself, onward}
 use Rattle.ecs_model.specs.World.{WorldState, entities, ids_of, is_live, name_of}
-use Rattle.ecs_model.specs.traits.Changes.{deleted}
-use Rattle.ecs_model.specs.traits.Keeps.{IsWellFormed}
+use Rattle.ecs_model.specs.steps.FactChanges.{deleted}
+use Rattle.ecs_model.specs.steps.WellFormed.{IsWellFormed}
 use Rattle.ecs_model.proofs.Members.{filtered}
-use Rattle.ecs_model.proofs.traits.Deleted.{deleted_is_least}
-use Rattle.ecs_model.proofs.traits.Differences.{with_name}
-use Rattle.ecs_model.proofs.traits.Facts.{listed_live, there_key}
+use Rattle.ecs_model.proofs.steps.DeletedSets.{deleted_is_least}
+use Rattle.ecs_model.proofs.steps.Differences.{with_name}
+use Rattle.ecs_model.proofs.steps.Facts.{listed_live, there_key}
 use Rattle.rel_traits.proofs.DyingEntities.{died_are}
 use Rattle.ecs_world.specs.Changes.{deaths_of, entities_at}
 

@@ -17,28 +17,28 @@ pub use Rattle.component_index.proofs.ListedLemmas.{on_err as whatever}
 use Rattle.ecs_id.specs.declared.EntityId.{EntityId}
 use Rattle.ecs_id.specs.Id.{Id, plain, pair, mentioned, id_cmp}
 use Rattle.ecs_model.specs.declared.faults.Refusal.TheVariants.{Dead, BuiltIn, InUse, Panic, Full}
-use Rattle.ecs_model.specs.Command.{counted, is_spent}
-use Rattle.ecs_model.specs.Falls.{falling, falls_by}
+use Rattle.ecs_model.specs.steps.Outcomes.{counted, is_spent}
+use Rattle.ecs_model.specs.Cleanup.{falling, falls_by}
 use Rattle.ecs_model.specs.Map.{IsMap, Map, count_at, has_key, keys, value_at, without}
 use Rattle.ecs_model.specs.Reach.{Reached, itself, onward}
 use Rattle.ecs_model.specs.Refusal.{first_reason}
 use Rattle.ecs_model.specs.Schema.{Schema, zeros, all_fit}
 use Rattle.ecs_model.specs.Sets.{Set}
 use Rattle.ecs_model.specs.World.{WorldState, Key, key_cmp, key_eq, entities, ids_of, is_alive, is_built_in, is_live, new_value, pair_is_tag, type_of_id, value_of}
-use Rattle.ecs_model.specs.traits.Changes.{deleted, is_forbidden, mentions_gone, facts_after_delete}
-use Rattle.ecs_model.specs.traits.Command.{Delete, delete_reasons, is_pinned, reasons, without_entities}
-use Rattle.ecs_model.specs.traits.Keeps.{IsWellFormed}
+use Rattle.ecs_model.specs.steps.FactChanges.{deleted, is_forbidden, mentions_gone, facts_after_delete}
+use Rattle.ecs_model.specs.steps.Step.{Delete, delete_reasons, is_pinned, reasons, without_entities}
+use Rattle.ecs_model.specs.steps.WellFormed.{IsWellFormed}
 use Rattle.ecs_model.proofs.Maps.{both_true, key_cmp_total, less}
 use Rattle.ecs_model.proofs.Members.{filtered}
 use Rattle.ecs_model.proofs.Reasons.{neither, passed}
 use Rattle.ecs_model.proofs.Removals.{IsMap-without, value_at-without}
-use Rattle.ecs_model.proofs.traits.Adding.{from_map, in_map}
-use Rattle.ecs_model.proofs.traits.Deleted.{deleted_reached, may_go}
-use Rattle.ecs_model.proofs.traits.Deletions.{MayGo, counted_up, deletion_keeps, nat_IsMap-without, nat_value_at-without, was_there}
-use Rattle.ecs_model.proofs.traits.Differences.{keys-without}
-use Rattle.ecs_model.proofs.traits.Facts.{key_there, listed_live, there_key}
-use Rattle.ecs_model.proofs.traits.Kept.{all_pass, refuted}
-use Rattle.ecs_model.proofs.traits.SameKeys.{IsMap-within}
+use Rattle.ecs_model.proofs.steps.AddedSets.{from_map, in_map}
+use Rattle.ecs_model.proofs.steps.DeletedSets.{deleted_reached, may_go}
+use Rattle.ecs_model.proofs.steps.Deletions.{MayGo, counted_up, deletion_keeps, nat_IsMap-without, nat_value_at-without, was_there}
+use Rattle.ecs_model.proofs.steps.Differences.{keys-without}
+use Rattle.ecs_model.proofs.steps.Facts.{key_there, listed_live, there_key}
+use Rattle.ecs_model.proofs.steps.LivingIds.{all_pass, refuted}
+use Rattle.ecs_model.proofs.steps.SameKeys.{IsMap-within}
 use Rattle.ecs_archetypes.specs.FactChanges.{changed_cells, coming_to, goes_from, with_facts_changed}
 use Rattle.ecs_table.specs.Archetype.{Cells}
 use Rattle.ecs_archetypes.specs.Holdings.{AreHoldings, HoldAlike, Holdings, KeepsSizes, bytes_at, cells_at, holds_id, is_settled, lives, without_entity}

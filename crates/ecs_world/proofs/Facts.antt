@@ -9,7 +9,7 @@ use Rattle.std.specs.Ordering.{nat_cmp, eq_by_cmp, is_eq, is_lt, ordering_then}
 use Rattle.std.specs.FinMap.{find, is_sorted}
 use Rattle.std.specs.FinMap.Entries.{below_all, same_entries}
 use Rattle.std.proofs.lemmas.Bool.{and_from}
-use Rattle.rel_traits.proofs.PinsListed.{tied as nat_self}
+use Rattle.rel_traits.proofs.PinLists.{tied as nat_self}
 use Rattle.ecs_id.specs.Id.{Id, id_cmp, id_cmp_same}
 use Rattle.ecs_model.specs.Map.{Map, IsMap, value_at, keys}
 use Rattle.ecs_model.specs.Schema.{Schema}
@@ -104,11 +104,11 @@ AllRise-first : (x : ℕ × Cells) (xs : Map ℕ Cells) → AllRise (x ∷ xs) �
 AllRise-first x xs rise = rise x.0 x.1 (ap (λ b. cond b (Some x.1) (value_at nat_cmp xs x.0)) (eq_itself nat_cmp nat_cmp_total x.0))
 
 module _ (types : Id → Option Schema) where
-  abbrev valued : Id → List ℕ → List ℤ
-  valued i bytes = value_in (types i) bytes
+  abbrev shows_value : Id → List ℕ → List ℤ
+  shows_value i bytes = value_in (types i) bytes
 
-  map-cond : (b : Bool) (i j : Id) (bytes : List ℕ) (o : Option (List ℕ)) → (b ≡ true → i ≡ j) → cond b (Some (valued j bytes)) (option_map (valued i) o) ≡ option_map (valued i) (cond b (Some bytes) o)
-  map-cond true i j bytes o same = ap (λ k. Some (valued k bytes)) (sym (same refl))
+  map-cond : (b : Bool) (i j : Id) (bytes : List ℕ) (o : Option (List ℕ)) → (b ≡ true → i ≡ j) → cond b (Some (shows_value j bytes)) (option_map (shows_value i) o) ≡ option_map (shows_value i) (cond b (Some bytes) o)
+  map-cond true i j bytes o same = ap (λ k. Some (shows_value k bytes)) (sym (same refl))
   map-cond false i j bytes o same = refl
 
   same_id : (i j : Id) → eq_by_cmp id_cmp i j ≡ true → i ≡ j
@@ -119,13 +119,13 @@ module _ (types : Id → Option Schema) where
       tied Equal h = refl
       tied Greater h = absurd (true≢false (sym h))
 
-  find-own : (e : ℕ) (i : Id) (cs : Cells) → find key_cmp (e, i) (facts_of types e cs) ≡ option_map (valued i) (value_at id_cmp cs i)
+  find-own : (e : ℕ) (i : Id) (cs : Cells) → find key_cmp (e, i) (facts_of types e cs) ≡ option_map (shows_value i) (value_at id_cmp cs i)
   find-own e i [] = refl
-  find-own e i (c ∷ cs) = (λ k. cond (eq_same e i c.0 k) (Some (valued c.0 c.1)) (find-own e i cs k)) ∙ map-cond (eq_by_cmp id_cmp i c.0) i c.0 c.1 (value_at id_cmp cs i) (same_id i c.0)
+  find-own e i (c ∷ cs) = (λ k. cond (eq_same e i c.0 k) (Some (shows_value c.0 c.1)) (find-own e i cs k)) ∙ map-cond (eq_by_cmp id_cmp i c.0) i c.0 c.1 (value_at id_cmp cs i) (same_id i c.0)
 
   find-other : (d e : ℕ) (i : Id) (cs : Cells) → d ≢ e → find key_cmp (d, i) (facts_of types e cs) ≡ None
   find-other d e i [] ne = refl
-  find-other d e i (c ∷ cs) ne = ap (λ b. cond b (Some (valued c.0 c.1)) (find key_cmp (d, i) (facts_of types e cs))) (eq_apart d e i c.0 ne) ∙ find-other d e i cs ne
+  find-other d e i (c ∷ cs) ne = ap (λ b. cond b (Some (shows_value c.0 c.1)) (find key_cmp (d, i) (facts_of types e cs))) (eq_apart d e i c.0 ne) ∙ find-other d e i cs ne
 
   below-own : (e : ℕ) (i : Id) (cs : Cells) → below_all id_cmp i cs ≡ true → below_all key_cmp (e, i) (facts_of types e cs) ≡ true
   below-own e i [] h = refl
@@ -164,18 +164,18 @@ module _ (types : Id → Option Schema) where
       ∙ (λ k. or_else (find-other d e.0 i e.1 (apart d e.0 parts.0) k) (find-below d i es parts.1 k))
 
   -- the value of a fact is what its bytes mean
-  pub find-facts : (d : ℕ) (i : Id) (es : Map ℕ Cells) → IsMap nat_cmp es → value_at key_cmp (all_facts types es) (d, i) ≡ option_map (valued i) (bytes_in es d i)
+  pub find-facts : (d : ℕ) (i : Id) (es : Map ℕ Cells) → IsMap nat_cmp es → value_at key_cmp (all_facts types es) (d, i) ≡ option_map (shows_value i) (bytes_in es d i)
   find-facts d i [] h = refl
   find-facts d i (e ∷ es) h =
       let parts = both_true (below_all nat_cmp e.0 es) (is_sorted nat_cmp es) h in
       find-join key_cmp (d, i) (facts_of types e.0 e.1) (all_facts types es) ∙ by (eq_by_cmp nat_cmp d e.0) refl parts.0 (find-facts d i es parts.1)
     where
-      by : (b : Bool) → eq_by_cmp nat_cmp d e.0 ≡ b → below_all nat_cmp e.0 es ≡ true → find key_cmp (d, i) (all_facts types es) ≡ option_map (valued i) (bytes_in es d i)
+      by : (b : Bool) → eq_by_cmp nat_cmp d e.0 ≡ b → below_all nat_cmp e.0 es ≡ true → find key_cmp (d, i) (all_facts types es) ≡ option_map (shows_value i) (bytes_in es d i)
           → or_else (find key_cmp (d, i) (facts_of types e.0 e.1)) (find key_cmp (d, i) (all_facts types es))
-          ≡ option_map (valued i) (value_at id_cmp (unwrap_or (cond b (Some e.1) (value_at nat_cmp es d)) []) i)
+          ≡ option_map (shows_value i) (value_at id_cmp (unwrap_or (cond b (Some e.1) (value_at nat_cmp es d)) []) i)
       by true p low rest =
           let same : d ≡ e.0 = grind (arith, nat_tests) in
-          let own : find key_cmp (d, i) (facts_of types e.0 e.1) ≡ option_map (valued i) (value_at id_cmp e.1 i) = ap (λ z. find key_cmp (z, i) (facts_of types e.0 e.1)) same ∙ find-own e.0 i e.1 in
+          let own : find key_cmp (d, i) (facts_of types e.0 e.1) ≡ option_map (shows_value i) (value_at id_cmp e.1 i) = ap (λ z. find key_cmp (z, i) (facts_of types e.0 e.1)) same ∙ find-own e.0 i e.1 in
           let none : find key_cmp (d, i) (all_facts types es) ≡ None = ap (λ z. find key_cmp (z, i) (all_facts types es)) same ∙ find-below e.0 i es low in
           (λ k. or_else (own k) (none k)) ∙ or_else-none _
       by false p low rest =

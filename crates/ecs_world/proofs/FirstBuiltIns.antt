@@ -14,9 +14,9 @@ use Rattle.ecs_id.specs.declared.EntityId.{EntityId}
 use Rattle.ecs_id.specs.Id.{Id, plain, pair, mentioned, id_cmp, id_eq}
 use Rattle.ecs_model.specs.Map.{Map, IsMap, value_at, has_key, keys, with_value}
 use Rattle.ecs_model.specs.Schema.{Schema}
-use Rattle.ecs_model.specs.traits.Keeps.{IsWellFormed}
+use Rattle.ecs_model.specs.steps.WellFormed.{IsWellFormed}
 use Rattle.ecs_model.specs.World.{built_in_names, first_world, is_built_in, key_cmp, pair_is_tag}
-use Rattle.ecs_model.proofs.traits.FirstTraits.{first_world_keeps_traits}
+use Rattle.ecs_model.proofs.steps.FirstTraits.{first_world_keeps_traits}
 use Rattle.ecs_model.proofs.Maps.{both_true}
 use Rattle.name_index.specs.Names.{IsUnnamed, Names}
 use Rattle.ecs_table.specs.Archetype.{Shape, zero_cells}

@@ -6,12 +6,12 @@ use Rattle.ecs_model.specs.declared.faults.CommandError.{CommandError}
 use Rattle.ecs_model.specs.declared.faults.CommandError.TheVariants.{Refused, Memory}
 use Rattle.ecs_model.specs.declared.faults.Refusal.{Refusal}
 use Rattle.ecs_model.specs.declared.faults.Refusal.TheVariants.{Dead, BuiltIn, TraitFixed, Full}
-use Rattle.ecs_model.specs.Command.{is_dead, is_spent, value_reasons, AnswersStep}
+use Rattle.ecs_model.specs.steps.Outcomes.{is_dead, is_spent, value_reasons, AnswersStep}
 use Rattle.ecs_model.specs.Refusal.{first_reason}
 use Rattle.ecs_model.specs.World.{WorldState, component, is_alive, is_built_in, type_of_id}
-use Rattle.ecs_model.specs.traits.Changes.{deleted}
-use Rattle.ecs_model.specs.traits.Command.{Add, SetValue, Remove, Delete, add_reasons, adds_built_in, delete_reasons, reasons, step}
-use Rattle.ecs_model.specs.traits.Rules.{is_trait}
+use Rattle.ecs_model.specs.steps.FactChanges.{deleted}
+use Rattle.ecs_model.specs.steps.Step.{Add, SetValue, Remove, Delete, add_reasons, adds_built_in, delete_reasons, reasons, step}
+use Rattle.ecs_model.specs.steps.Rules.{is_trait}
 use Rattle.ecs_world.specs.Changes.{TellsRefusal}
 use Rattle.ecs_model.proofs.StepAnswers.{answers_refused}
 use Rattle.ecs_world.proofs.RefusalReasons.{none_first, told_first}

@@ -7,22 +7,22 @@ use Rattle.std.specs.Ordering.{nat_cmp}
 use Rattle.std.proofs.lemmas.Bool.{or_left, or_right}
 use Rattle.ecs_id.specs.declared.EntityId.{EntityId}
 use Rattle.ecs_id.specs.Id.{Id, plain, pair, mentioned}
-use Rattle.ecs_model.specs.Command.{counted, differences}
+use Rattle.ecs_model.specs.steps.Outcomes.{counted, differences}
 use Rattle.ecs_model.specs.Map.{has_key, keys, value_at, without}
 use Rattle.ecs_model.specs.Refusal.{first_reason}
 use Rattle.ecs_model.specs.World.{WorldState, Key, holds, is_alive, is_live, key_cmp, key_eq, pair_is_tag}
-use Rattle.ecs_model.specs.traits.Changes.{deleted}
-use Rattle.ecs_model.specs.traits.Command.{Add, Delete, SetValue, effect, reasons, without_entities}
-use Rattle.ecs_model.specs.traits.Keeps.{IsWellFormed}
+use Rattle.ecs_model.specs.steps.FactChanges.{deleted}
+use Rattle.ecs_model.specs.steps.Step.{Add, Delete, SetValue, effect, reasons, without_entities}
+use Rattle.ecs_model.specs.steps.WellFormed.{IsWellFormed}
 use Rattle.ecs_model.proofs.Maps.{key_cmp_total}
 use Rattle.ecs_model.proofs.Members.{any_passes, filtered, passing}
-use Rattle.ecs_model.proofs.traits.Accepted.{accepted_add, accepted_set}
-use Rattle.ecs_model.proofs.traits.Adding.{from_map, in_map}
-use Rattle.ecs_model.proofs.traits.AfterAdd.{differences_of_add, differences_of_set}
-use Rattle.ecs_model.proofs.traits.Deleted.{deleted_is_least}
-use Rattle.ecs_model.proofs.traits.Deletions.{nat_value_at-without}
-use Rattle.ecs_model.proofs.traits.Facts.{there_key}
-use Rattle.ecs_model.proofs.traits.Replacing.{key_eq_same}
+use Rattle.ecs_model.proofs.steps.AcceptedFacts.{accepted_add, accepted_set}
+use Rattle.ecs_model.proofs.steps.AddedSets.{from_map, in_map}
+use Rattle.ecs_model.proofs.steps.AddEffects.{differences_of_add, differences_of_set}
+use Rattle.ecs_model.proofs.steps.DeletedSets.{deleted_is_least}
+use Rattle.ecs_model.proofs.steps.Deletions.{nat_value_at-without}
+use Rattle.ecs_model.proofs.steps.Facts.{there_key}
+use Rattle.ecs_model.proofs.steps.ReplacedFacts.{key_eq_same}
 use Rattle.rel_traits.specs.Additions.{TellsAddition}
 use Rattle.table_store.specs.Store.{Store}
 use Rattle.ecs_archetypes.specs.Staying.{TablesStay, stay_more}

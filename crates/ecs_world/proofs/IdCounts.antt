@@ -9,8 +9,8 @@ use Rattle.std.specs.List.{cons_option, list_any}
 use Rattle.std.specs.Ordering.{nat_cmp, is_eq, eq_by_cmp}
 use Rattle.ecs_id.specs.Id.{Id}
 use Rattle.ecs_model.specs.Map.{Map, has_key, keys, value_at, with_value, without}
-use Rattle.ecs_model.specs.Command.{is_crowded, with_facts}
-use Rattle.ecs_model.specs.traits.Keeps.{IsWellFormed}
+use Rattle.ecs_model.specs.steps.Outcomes.{is_crowded, with_facts}
+use Rattle.ecs_model.specs.steps.WellFormed.{IsWellFormed}
 use Rattle.ecs_model.specs.World.{WorldState, Key, key_cmp, key_eq, holds, ids_of, is_live, new_value}
 use Rattle.ecs_model.proofs.Maps.{key_cmp_same, key_cmp_total, filter_map-with_value}
 use Rattle.ecs_model.proofs.Removals.{fewer, value_at-without}

@@ -8,10 +8,10 @@ use Rattle.ecs_model.specs.declared.faults.Refusal.TheVariants.{Dead, BuiltIn, T
 use Rattle.ecs_model.specs.Refusal.{first_reason}
 use Rattle.ecs_model.specs.Schema.{Schema}
 use Rattle.ecs_model.specs.World.{WorldState, type_of_id, is_alive, is_live}
-use Rattle.ecs_model.specs.Command.{is_dead, is_spent, is_crowded, with_facts, value_reasons, birth_reasons, name_reasons, next_entity}
-use Rattle.ecs_model.specs.traits.Changes.{facts_after_add}
-use Rattle.ecs_model.specs.traits.Command.{Fresh, Entity, Component, Add, SetValue, Remove, reasons, add_reasons, adds_built_in, changes_trait, has_cycle}
-use Rattle.ecs_model.specs.traits.Rules.{is_trait}
+use Rattle.ecs_model.specs.steps.Outcomes.{is_dead, is_spent, is_crowded, with_facts, value_reasons, birth_reasons, name_reasons, next_entity}
+use Rattle.ecs_model.specs.steps.FactChanges.{facts_after_add}
+use Rattle.ecs_model.specs.steps.Step.{Fresh, Entity, Component, Add, SetValue, Remove, reasons, add_reasons, adds_built_in, changes_trait, has_cycle}
+use Rattle.ecs_model.specs.steps.Rules.{is_trait}
 use Rattle.rel_traits.specs.Additions.{is_of_built_in}
 use Rattle.ecs_model.proofs.Reasons.{passed, neither, denied}
 use Rattle.ecs_world.proofs.RefusalReasons.{passed_over}

@@ -33,6 +33,6 @@ pub mod ToldRemovals
 pub mod ToldDeletions
 pub mod Ranges
 pub mod QuietFacts
-pub mod SetEach
+pub mod SetValues
 pub mod WholeColumns
 pub mod ForgottenTables

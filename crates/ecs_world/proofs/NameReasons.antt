@@ -6,8 +6,8 @@ use Rattle.ecs_model.specs.declared.faults.CommandError.{CommandError}
 use Rattle.ecs_model.specs.declared.faults.CommandError.TheVariants.{Refused, Memory}
 use Rattle.ecs_model.specs.declared.faults.Refusal.{Refusal}
 use Rattle.ecs_model.specs.declared.faults.Refusal.TheVariants.{BadName, NameTaken}
-use Rattle.ecs_model.specs.Command.{AnswersStep, birth_reasons, name_reasons}
-use Rattle.ecs_model.specs.traits.Command.{Component, Entity, reasons, step}
+use Rattle.ecs_model.specs.steps.Outcomes.{AnswersStep, birth_reasons, name_reasons}
+use Rattle.ecs_model.specs.steps.Step.{Component, Entity, reasons, step}
 use Rattle.ecs_model.specs.Refusal.{first_reason}
 use Rattle.ecs_model.specs.Schema.{Schema}
 use Rattle.ecs_model.specs.Text.{is_name}

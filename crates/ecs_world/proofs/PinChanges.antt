@@ -3,12 +3,12 @@ use Rattle.std.proofs.Common.{◌≡◌, ℕ, ◌^◌, ◌<◌, ◌≤◌, true,
 use Rattle.std.specs.Ordering.{nat_cmp}
 use Rattle.ecs_id.specs.declared.EntityId.{EntityId}
 use Rattle.ecs_model.specs.declared.faults.Refusal.TheVariants.{Dead}
-use Rattle.ecs_model.specs.traits.Keeps.{IsWellFormed}
+use Rattle.ecs_model.specs.steps.WellFormed.{IsWellFormed}
 use Rattle.ecs_model.specs.Map.{count_at, value_at}
 use Rattle.ecs_model.specs.World.{WorldState, is_alive, is_live}
-use Rattle.ecs_model.specs.traits.Pins.{one_less, one_more, pin, unpin, with_count, with_pins}
-use Rattle.ecs_model.proofs.Steps.{there}
-use Rattle.ecs_model.proofs.traits.Pinned.{count_keeps}
+use Rattle.ecs_model.specs.steps.Pins.{one_less, one_more, pin, unpin, with_count, with_pins}
+use Rattle.ecs_model.proofs.MadeEntities.{there}
+use Rattle.ecs_model.proofs.steps.PinCounts.{count_keeps}
 use Rattle.rel_traits.specs.PinCounts.{Counts}
 use Rattle.ecs_world.specs.State.{IsWorld, Parts, parts_of, state_of}
 

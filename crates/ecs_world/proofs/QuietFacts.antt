@@ -15,12 +15,12 @@ use Rattle.std.specs.Ordering.{nat_cmp}
 use Rattle.std.specs.Option.{option_or}
 use Rattle.ecs_model.specs.Schema.{Schema}
 use Rattle.ecs_model.specs.World.{WorldState, Key, key_cmp, first_world, holds, ids_of, is_built_in, pair_is_tag, type_of_id}
-use Rattle.ecs_model.specs.traits.Keeps.{IsWellFormed}
-use Rattle.ecs_model.specs.traits.Laws.{ClosesAt}
-use Rattle.ecs_model.specs.traits.Rules.{is_trait}
+use Rattle.ecs_model.specs.steps.WellFormed.{IsWellFormed}
+use Rattle.ecs_model.specs.steps.StepLaws.{ClosesAt}
+use Rattle.ecs_model.specs.steps.Rules.{is_trait}
 use Rattle.ecs_model.proofs.Reasons.{denied, neither, refused}
-use Rattle.ecs_model.proofs.traits.Facts.{holds_leads, is_held-holds, leads_holds}
-use Rattle.ecs_model.proofs.traits.Kept.{built_in_mentions, refuted}
+use Rattle.ecs_model.proofs.steps.Facts.{holds_leads, is_held-holds, leads_holds}
+use Rattle.ecs_model.proofs.steps.LivingIds.{built_in_mentions, refuted}
 use Rattle.rel_traits.specs.Simple.{ComesAlone, is_unmirrored, leads_to_copies}
 use Rattle.ecs_world.specs.Columns.{may_bring}
 

@@ -8,12 +8,12 @@ use Rattle.std.specs.List.{list_all}
 use Rattle.std.specs.Ordering.{nat_cmp}
 use Rattle.std.proofs.Math.Bool.{or-true}
 use Rattle.ecs_model.specs.Refusal.{first_reason}
-use Rattle.ecs_model.specs.traits.Keeps.{IsWellFormed}
+use Rattle.ecs_model.specs.steps.WellFormed.{IsWellFormed}
 use Rattle.ecs_model.specs.Map.{value_at}
 use Rattle.ecs_model.specs.World.{WorldState, holds, ids_of, is_alive, is_live, type_of_id}
-use Rattle.ecs_model.specs.Command.{is_dead, is_spent, value_reasons}
-use Rattle.ecs_model.specs.traits.Command.{Add, SetValue, reasons, add_reasons, adds_built_in}
-use Rattle.ecs_archetypes.specs.declared.facts.Found.{Found}
+use Rattle.ecs_model.specs.steps.Outcomes.{is_dead, is_spent, value_reasons}
+use Rattle.ecs_model.specs.steps.Step.{Add, SetValue, reasons, add_reasons, adds_built_in}
+use Rattle.ecs_archetypes.specs.declared.facts.FoundFact.{FoundFact}
 use Rattle.ecs_world.specs.State.{growth_reasons}
 use Rattle.ecs_world.proofs.IdCounts.{crowds}
 use Rattle.rel_traits.specs.Simple.{ComesAlone}
@@ -49,7 +49,7 @@ module _ (w : WorldState) (e : EntityId) (i : Id) where
   not_dead alive mentions = λ k. not (alive k) || not (mentions k)
 
   -- of an entity of which this was found, where nothing else comes with the id
-  pub growth_told : (found : Found) → ComesAlone (ids_of w) (e.index, i) → IsWellFormed w → is_alive w e ≡ true → found.is_held ≡ holds w e.index i → found.count ≡ length (ids_of w e.index)
+  pub growth_told : (found : FoundFact) → ComesAlone (ids_of w) (e.index, i) → IsWellFormed w → is_alive w e ≡ true → found.is_held ≡ holds w e.index i → found.count ≡ length (ids_of w e.index)
       → is_dead w e i ≡ false → adds_built_in w e.index i ≡ false → first_reason (growth_reasons found (is_spent w)) ≡ first_reason (add_reasons w e.index i)
   growth_told found alone sound alive held counted dead own =
       ap (λ b. first_reason ((b, TooManyIds) ∷ (is_spent w, Full) ∷ []))

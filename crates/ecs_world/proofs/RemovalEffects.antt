@@ -7,23 +7,23 @@ use Rattle.std.specs.Ordering.{nat_cmp}
 use Rattle.ecs_id.specs.declared.EntityId.{EntityId}
 use Rattle.ecs_id.specs.Id.{Id, plain, mentioned, id_eq}
 use Rattle.ecs_model.specs.declared.faults.Refusal.TheVariants.{Dead, BuiltIn, TraitFixed, Full}
-use Rattle.ecs_model.specs.Command.{counted, is_dead, is_spent, with_facts}
+use Rattle.ecs_model.specs.steps.Outcomes.{counted, is_dead, is_spent, with_facts}
 use Rattle.ecs_model.specs.Map.{Map, has_key, keys, value_at}
 use Rattle.ecs_model.specs.Refusal.{first_reason}
 use Rattle.ecs_model.specs.Schema.{Schema}
 use Rattle.ecs_model.specs.World.{WorldState, Key, key_cmp, key_eq, component, holds, is_built_in, pair_is_tag, value_of}
-use Rattle.ecs_model.specs.traits.Changes.{facts_after_remove, removed}
-use Rattle.ecs_model.specs.traits.Command.{Remove, reasons}
-use Rattle.ecs_model.specs.traits.Keeps.{IsWellFormed}
-use Rattle.ecs_model.specs.traits.Rules.{is_trait}
+use Rattle.ecs_model.specs.steps.FactChanges.{facts_after_remove, removed}
+use Rattle.ecs_model.specs.steps.Step.{Remove, reasons}
+use Rattle.ecs_model.specs.steps.WellFormed.{IsWellFormed}
+use Rattle.ecs_model.specs.steps.Rules.{is_trait}
 use Rattle.ecs_model.proofs.Maps.{key_cmp_total}
 use Rattle.ecs_model.proofs.Members.{filtered}
 use Rattle.ecs_model.proofs.Reasons.{neither, passed}
 use Rattle.ecs_model.proofs.Removals.{value_at-without}
-use Rattle.ecs_model.proofs.traits.Accepted.{keeps_remove}
-use Rattle.ecs_model.proofs.traits.Facts.{there_key}
-use Rattle.ecs_model.proofs.traits.Kept.{all_pass}
-use Rattle.ecs_model.proofs.traits.KeptByRemove.{removal_types}
+use Rattle.ecs_model.proofs.steps.AcceptedFacts.{keeps_remove}
+use Rattle.ecs_model.proofs.steps.Facts.{there_key}
+use Rattle.ecs_model.proofs.steps.LivingIds.{all_pass}
+use Rattle.ecs_model.proofs.steps.Removals.{removal_types}
 use Rattle.ecs_archetypes.specs.FactChanges.{with_facts_changed}
 use Rattle.ecs_archetypes.specs.Holdings.{AreHoldings, HoldAlike, Holdings, KeepsSizes, bytes_at, cells_at, holds_id}
 use Rattle.ecs_world.specs.State.{IsWorld, Parts, parts_of, byte_count, is_known_rightly, state_of, type_of, value_in}

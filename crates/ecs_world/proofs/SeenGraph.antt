@@ -6,12 +6,12 @@ use Rattle.std.specs.List.{list_all}
 use Rattle.std.specs.Ordering.{nat_cmp}
 use Rattle.ecs_id.specs.declared.EntityId.{EntityId}
 use Rattle.ecs_id.specs.Id.{Id, mentioned}
-use Rattle.ecs_model.specs.Command.{is_spent}
+use Rattle.ecs_model.specs.steps.Outcomes.{is_spent}
 use Rattle.ecs_model.specs.Links.{AreLinks}
 use Rattle.ecs_model.specs.Map.{keys, value_at}
 use Rattle.ecs_model.specs.World.{WorldState, is_alive, is_live, entity_at, entities, ids_of}
-use Rattle.ecs_model.proofs.traits.Facts.{live_listed}
-use Rattle.ecs_model.proofs.traits.Kept.{each_passes, links_below}
+use Rattle.ecs_model.proofs.steps.Facts.{live_listed}
+use Rattle.ecs_model.proofs.steps.LivingIds.{each_passes, links_below}
 use Rattle.entity_index.specs.Sizes.{live_size}
 use Rattle.entity_index.proofs.Tops.{top_is}
 use Rattle.ecs_archetypes.specs.Holdings.{Holdings, held_at}

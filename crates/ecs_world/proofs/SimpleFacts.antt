@@ -12,25 +12,24 @@ use Rattle.ecs_model.specs.declared.faults.Refusal.TheVariants.{TraitFixed, Cycl
 use Rattle.ecs_model.specs.Added.{IsAdded, brought, displaced, is_exclusive, is_symmetric, is_used, mirror}
 use Rattle.ecs_model.specs.BuiltIns.{is_a, symmetric, traversable, with_trait}
 use Rattle.ecs_model.specs.Copied.{has_pair, is_copied, is_inherited, is_withheld, stays_behind, takes}
-use Rattle.ecs_model.specs.Changes.{with_new}
-use Rattle.ecs_model.specs.Command.{is_crowded, is_dead, is_spent, with_facts}
+use Rattle.ecs_model.specs.steps.FactChanges.{IsCopied, added, coming, copied, facts_after_add, facts_after_remove, facts_with_added, new_base, own_ids, removed, replaced, with_new}
+use Rattle.ecs_model.specs.steps.Outcomes.{is_crowded, is_dead, is_spent, with_facts}
 use Rattle.ecs_model.specs.Links.{is_held, upward}
 use Rattle.ecs_model.specs.Map.{Map, has_key, keys, with_value, without}
 use Rattle.ecs_model.specs.Reach.{Reached, itself, onward}
 use Rattle.ecs_model.specs.Refusal.{first_reason}
 use Rattle.ecs_model.specs.Sets.{grown, with_member, within}
 use Rattle.ecs_model.specs.World.{WorldState, Key, key_cmp, key_eq, component, entities, holds, ids_of, is_built_in, new_value}
-use Rattle.ecs_model.specs.traits.Changes.{IsCopied, added, coming, copied, facts_after_add, facts_after_remove, facts_with_added, new_base, own_ids, removed, replaced}
-use Rattle.ecs_model.specs.traits.Command.{add_reasons, adds_built_in, changes_trait, has_cycle, is_pinned}
-use Rattle.ecs_model.specs.traits.Keeps.{IsWellFormed}
-use Rattle.ecs_model.specs.traits.Rules.{is_trait}
+use Rattle.ecs_model.specs.steps.Step.{add_reasons, adds_built_in, changes_trait, has_cycle, is_pinned}
+use Rattle.ecs_model.specs.steps.WellFormed.{IsWellFormed}
+use Rattle.ecs_model.specs.steps.Rules.{is_trait}
 use Rattle.ecs_model.proofs.Reasons.{neither, refused}
-use Rattle.ecs_model.proofs.traits.Copying.{base_value, coming_with, with_base, with_each}
-use Rattle.ecs_model.proofs.traits.Cycles.{added_pairs_close}
-use Rattle.ecs_model.proofs.traits.Kept.{refuted}
-use Rattle.ecs_model.proofs.traits.KeptByAdd.{same_parts}
-use Rattle.ecs_model.proofs.traits.Facts.{is_held-holds}
-use Rattle.ecs_model.proofs.traits.Replacing.{GivesWay, from_displaced, key_eq_same}
+use Rattle.ecs_model.proofs.steps.CopiedIds.{base_value, coming_with, with_base, with_each}
+use Rattle.ecs_model.proofs.steps.Cycles.{added_pairs_close}
+use Rattle.ecs_model.proofs.steps.LivingIds.{refuted}
+use Rattle.ecs_model.proofs.steps.Additions.{same_parts}
+use Rattle.ecs_model.proofs.steps.Facts.{is_held-holds}
+use Rattle.ecs_model.proofs.steps.ReplacedFacts.{GivesWay, from_displaced, key_eq_same}
 use Rattle.rel_traits.specs.Additions.{is_of_built_in}
 use Rattle.rel_traits.specs.Simple.{ComesAlone, ComesInPlace, is_unmirrored, leads_to_copies}
 use Rattle.rel_traits.proofs.LoneFacts.{unmirrored}

@@ -10,7 +10,7 @@ use Rattle.ecs_id.specs.Id.{Id, plain, pair, mentioned, id_cmp, id_eq, id_eq_sam
 use Rattle.ecs_model.specs.Map.{Map, IsMap, value_at, has_key, keys}
 use Rattle.ecs_model.specs.Schema.{Schema, zeros}
 use Rattle.ecs_model.specs.Bytes.{size_of, values_in}
-use Rattle.ecs_model.specs.traits.Keeps.{IsWellFormed}
+use Rattle.ecs_model.specs.steps.WellFormed.{IsWellFormed}
 use Rattle.ecs_model.specs.World.{WorldState, pair_is_tag, holds, value_of, ids_of, is_alive, type_of_id, name_of}
 use Rattle.ecs_model.proofs.Maps.{of_some, some_of, both_true}
 use Rattle.ecs_schema.proofs.UnwrittenBytes.{values_in-zeros}

@@ -2,17 +2,17 @@
 use Rattle.std.proofs.Common.{◌≡◌, ℕ, true, List, [], ◌∷◌, ℤ, Option, None, Ok, sym, ap, subst, ◌∙◌, inl}
 use Rattle.ecs_id.specs.declared.EntityId.{EntityId}
 use Rattle.ecs_id.specs.Id.{Id}
-use Rattle.ecs_model.specs.Command.{AnswersStep, Changed, counted, with_facts}
+use Rattle.ecs_model.specs.steps.Outcomes.{AnswersStep, Changed, counted, with_facts}
 use Rattle.ecs_model.specs.Map.{with_value}
 use Rattle.ecs_model.specs.Reach.{itself}
 use Rattle.ecs_model.specs.Refusal.{first_reason}
 use Rattle.ecs_model.specs.World.{WorldState, Key, holds, key_cmp, type_of_id}
-use Rattle.ecs_model.specs.traits.Changes.{facts_after_add, new_base}
-use Rattle.ecs_model.specs.traits.Command.{Add, SetValue, effect, reasons, step}
-use Rattle.ecs_model.specs.traits.Keeps.{IsWellFormed}
-use Rattle.ecs_model.proofs.traits.Accepted.{accepted_add, accepted_set, add_is_addition, keeps_set}
-use Rattle.ecs_model.proofs.traits.AfterAdd.{differences_of_add, differences_of_set}
-use Rattle.ecs_model.proofs.traits.KeptByAdd.{types_kept}
+use Rattle.ecs_model.specs.steps.FactChanges.{facts_after_add, new_base}
+use Rattle.ecs_model.specs.steps.Step.{Add, SetValue, effect, reasons, step}
+use Rattle.ecs_model.specs.steps.WellFormed.{IsWellFormed}
+use Rattle.ecs_model.proofs.steps.AcceptedFacts.{accepted_add, accepted_set, add_is_addition, keeps_set}
+use Rattle.ecs_model.proofs.steps.AddEffects.{differences_of_add, differences_of_set}
+use Rattle.ecs_model.proofs.steps.Additions.{types_kept}
 use Rattle.rel_traits.specs.Additions.{TellsAddition}
 use Rattle.ecs_world.specs.Changes.{with_bytes}
 use Rattle.ecs_world.specs.State.{no_change, value_in}

@@ -7,19 +7,19 @@ use Rattle.std.specs.Cmp.{Equal-is, eq_by_cmp_equiv}
 use Rattle.ecs_id.specs.declared.EntityId.{EntityId}
 use Rattle.ecs_id.specs.Id.{Id, plain}
 use Rattle.ecs_model.specs.Schema.{Schema}
-use Rattle.ecs_model.specs.traits.Keeps.{IsWellFormed}
+use Rattle.ecs_model.specs.steps.WellFormed.{IsWellFormed}
 use Rattle.ecs_model.specs.Map.{IsMap, Map, has_key, keys, value_at}
 use Rattle.ecs_model.specs.Refusal.{first_reason}
 use Rattle.ecs_model.specs.World.{WorldState, Key, component, holds, ids_of, key_cmp, key_eq}
-use Rattle.ecs_model.specs.traits.Changes.{coming, removed}
-use Rattle.ecs_model.specs.Command.{Changed, AnswersStep, counted, differences, next_entity}
-use Rattle.ecs_model.specs.traits.Command.{Fresh, Entity, Component, Add, SetValue, Remove, reasons, effect, step, written_by}
+use Rattle.ecs_model.specs.steps.FactChanges.{coming, removed}
+use Rattle.ecs_model.specs.steps.Outcomes.{Changed, AnswersStep, counted, differences, next_entity}
+use Rattle.ecs_model.specs.steps.Step.{Fresh, Entity, Component, Add, SetValue, Remove, reasons, effect, step, written_by}
 use Rattle.ecs_model.proofs.StepAnswers.{answers_accepted}
 use Rattle.ecs_model.proofs.Differences.{differences_of_birth, differences_of_named_birth, differences_of_component}
 use Rattle.ecs_model.proofs.Maps.{absent_below, both_true, key_cmp_same, key_cmp_total}
-use Rattle.ecs_model.proofs.traits.AfterAdd.{differences_of_add, differences_of_set}
-use Rattle.ecs_model.proofs.traits.Differences.{differences_of_remove}
-use Rattle.ecs_model.proofs.traits.Replacing.{is_replaced}
+use Rattle.ecs_model.proofs.steps.AddEffects.{differences_of_add, differences_of_set}
+use Rattle.ecs_model.proofs.steps.Differences.{differences_of_remove}
+use Rattle.ecs_model.proofs.steps.ReplacedFacts.{is_replaced}
 use Rattle.ecs_world.proofs.JudgedCommands.{add_of_set, judged-add}
 use Rattle.ecs_world.proofs.SimpleFacts.{alone_comes, new_there, old_there, only_comes, removed_alone, replaced_none, replaced_one}
 use Rattle.rel_traits.specs.Simple.{ComesAlone, ComesInPlace, is_unmirrored}

@@ -3,14 +3,14 @@ use Rattle.std.proofs.Common.{◌≡◌, true, None, Ok, is_some, refl, sym, ap,
 use Rattle.std.specs.Prelude.{filter}
 use Rattle.std.specs.Ordering.{nat_cmp}
 use Rattle.ecs_id.specs.declared.EntityId.{EntityId}
-use Rattle.ecs_model.specs.Command.{AnswersStep, Changed, counted}
+use Rattle.ecs_model.specs.steps.Outcomes.{AnswersStep, Changed, counted}
 use Rattle.ecs_model.specs.Map.{keys, value_at}
 use Rattle.ecs_model.specs.Refusal.{first_reason}
 use Rattle.ecs_model.specs.World.{WorldState, is_alive}
-use Rattle.ecs_model.specs.traits.Changes.{deleted, mentions_gone}
-use Rattle.ecs_model.specs.traits.Command.{Delete, effect, reasons, step, without_entities}
-use Rattle.ecs_model.specs.traits.Keeps.{IsWellFormed}
-use Rattle.ecs_model.proofs.traits.Differences.{differences_of_delete}
+use Rattle.ecs_model.specs.steps.FactChanges.{deleted, mentions_gone}
+use Rattle.ecs_model.specs.steps.Step.{Delete, effect, reasons, step, without_entities}
+use Rattle.ecs_model.specs.steps.WellFormed.{IsWellFormed}
+use Rattle.ecs_model.proofs.steps.Differences.{differences_of_delete}
 use Rattle.ecs_world.specs.Changes.{deaths_of}
 use Rattle.ecs_world.specs.State.{no_change}
 use Rattle.ecs_model.proofs.StepAnswers.{answers_accepted}

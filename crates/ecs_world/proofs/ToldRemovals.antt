@@ -4,13 +4,13 @@ use Rattle.std.specs.Prelude.{filter}
 use Rattle.std.specs.List.{list_any}
 use Rattle.ecs_id.specs.declared.EntityId.{EntityId}
 use Rattle.ecs_id.specs.Id.{Id}
-use Rattle.ecs_model.specs.Command.{AnswersStep, Changed, counted}
+use Rattle.ecs_model.specs.steps.Outcomes.{AnswersStep, Changed, counted}
 use Rattle.ecs_model.specs.Map.{keys}
 use Rattle.ecs_model.specs.Refusal.{first_reason}
 use Rattle.ecs_model.specs.World.{WorldState, key_eq}
-use Rattle.ecs_model.specs.traits.Changes.{removed}
-use Rattle.ecs_model.specs.traits.Command.{Remove, effect, reasons, step}
-use Rattle.ecs_model.proofs.traits.Differences.{differences_of_remove}
+use Rattle.ecs_model.specs.steps.FactChanges.{removed}
+use Rattle.ecs_model.specs.steps.Step.{Remove, effect, reasons, step}
+use Rattle.ecs_model.proofs.steps.Differences.{differences_of_remove}
 use Rattle.ecs_world.specs.State.{no_change}
 use Rattle.ecs_model.proofs.StepAnswers.{answers_accepted}
 

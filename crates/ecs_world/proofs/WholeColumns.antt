@@ -37,7 +37,7 @@ use Rattle.ecs_world.specs.State.{IsWorld, Parts, byte_count, is_known_rightly, 
 use Rattle.ecs_world.specs.declared.columns.ColumnFault.{ColumnFault}
 use Rattle.ecs_world.specs.declared.columns.ColumnFault.TheVariants.{Gone, NotHeld, NoData, Brings, Size, Full}
 use Rattle.ecs_world.proofs.AcceptedCommands.{failed}
-use Rattle.ecs_world.proofs.SetEach.{Ready, each_set}
+use Rattle.ecs_world.proofs.SetValues.{Ready, each_set}
 use Rattle.ecs_world.proofs.Ranges.{AreBytes}
 use Rattle.ecs_world.proofs.States.{holds_is, type_is}
 

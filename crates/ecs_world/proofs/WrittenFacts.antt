@@ -9,7 +9,7 @@ use Rattle.ecs_id.specs.Id.{Id, plain, mentioned, id_cmp}
 use Rattle.ecs_model.specs.Map.{Map, has_key, keys, value_at, with_value}
 use Rattle.ecs_model.specs.Schema.{Schema}
 use Rattle.ecs_model.specs.World.{WorldState, Key, key_cmp, pair_is_tag, holds, is_alive, type_of_id}
-use Rattle.ecs_model.specs.traits.Keeps.{IsWellFormed}
+use Rattle.ecs_model.specs.steps.WellFormed.{IsWellFormed}
 use Rattle.ecs_model.proofs.Maps.{key_cmp_same, keys-with_value}
 use Rattle.ecs_table.specs.Archetype.{Cells}
 use Rattle.ecs_archetypes.specs.Holdings.{AreHoldings, HoldAlike, Holdings, KeepsSizes, agrees, cells_at, held_at, holds_id, is_settled, lives, with_cells}

@@ -3,15 +3,14 @@ use Rattle.std.specs.List.{list_any}
 use Rattle.std.specs.Prelude.{◌≡◌, ℕ, ℤ, true, List, [], ◌∷◌, Contains, filter_map, fold, map, take, Option, Some, unwrap_or}
 use Rattle.ecs_id.specs.declared.EntityId.{EntityId}
 use Rattle.ecs_id.specs.Id.{Id}
-use Rattle.ecs_model.specs.Changes.{with_new}
-use Rattle.ecs_model.specs.Command.{Changed, with_facts}
+use Rattle.ecs_model.specs.steps.FactChanges.{coming, replaced, with_new}
+use Rattle.ecs_model.specs.steps.Outcomes.{Changed, with_facts}
 use Rattle.ecs_model.specs.declared.faults.CommandError.{CommandError}
 use Rattle.ecs_model.specs.declared.faults.CommandError.TheVariants.{Refused, Memory}
 use Rattle.ecs_model.specs.declared.faults.Refusal.{Refusal}
 use Rattle.ecs_model.specs.Map.{Map, keys, with_value, without}
 use Rattle.ecs_model.specs.World.{WorldState, Key, entity_at, holds, is_alive, key_cmp, key_eq, name_of, type_of_id, value_of}
-use Rattle.ecs_model.specs.traits.Changes.{coming, replaced}
-use Rattle.ecs_model.specs.traits.Keeps.{IsWellFormed}
+use Rattle.ecs_model.specs.steps.WellFormed.{IsWellFormed}
 use Rattle.ecs_world.specs.State.{birth, byte_count, listed, no_change, value_in}
 use Rattle.ecs_world.specs.declared.changes.ChangeLists.{ChangeLists}
 use Rattle.ecs_world.specs.declared.changes.Told.{Told}

@@ -10,7 +10,7 @@ use Rattle.ecs_model.specs.Bytes.{size_of, values_in}
 use Rattle.ecs_model.specs.Links.{is_held, target_under}
 use Rattle.ecs_model.specs.Schema.{Schema}
 use Rattle.ecs_model.specs.World.{WorldState, ids_of, type_of_id}
-use Rattle.ecs_model.specs.traits.Command.{SetValue, step}
+use Rattle.ecs_model.specs.steps.Step.{SetValue, step}
 use Rattle.ecs_table.specs.Archetype.{Archetype}
 use Rattle.rel_traits.specs.Simple.{is_unmirrored}
 use Rattle.table_store.specs.Store.{table_at}

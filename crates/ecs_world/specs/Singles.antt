@@ -2,7 +2,7 @@
 use Rattle.std.specs.Prelude.{ℕ, List, [], ◌∷◌, ℤ}
 use Rattle.std.specs.List.{list_any}
 use Rattle.ecs_id.specs.Id.{Id}
-use Rattle.ecs_model.specs.Changes.{with_new}
+use Rattle.ecs_model.specs.steps.FactChanges.{with_new}
 use Rattle.ecs_model.specs.Map.{Map, with_value, without}
 use Rattle.ecs_model.specs.World.{WorldState, Key, key_cmp, key_eq, new_value}
 

@@ -9,7 +9,7 @@ use Rattle.ecs_id.specs.Id.{Id, plain, pair, mentioned, id_cmp}
 use Rattle.ecs_model.specs.Map.{Map, has_key, keys, value_at}
 use Rattle.ecs_model.specs.Schema.{Schema}
 use Rattle.ecs_model.specs.Bytes.{size_of, values_in}
-use Rattle.ecs_model.specs.traits.Keeps.{IsWellFormed}
+use Rattle.ecs_model.specs.steps.WellFormed.{IsWellFormed}
 use Rattle.ecs_model.specs.Refusal.{first_reason}
 use Rattle.ecs_model.specs.Text.{is_name}
 use Rattle.ecs_model.specs.declared.faults.Refusal.{Refusal}
@@ -17,10 +17,10 @@ use Rattle.ecs_model.specs.declared.faults.Refusal.TheVariants.{BadName, NameTak
 use Rattle.ecs_model.specs.declared.faults.CommandError.{CommandError}
 use Rattle.ecs_model.specs.declared.faults.CommandError.TheVariants.{Refused, Memory}
 use Rattle.ecs_model.specs.World.{WorldState, Key, holds, ids_of, most_ids, pair_is_tag, type_of_id, value_of}
-use Rattle.ecs_model.specs.Command.{Changed}
+use Rattle.ecs_model.specs.steps.Outcomes.{Changed}
 use Rattle.name_index.specs.Names.{Names, IsOneToOne, entity_eq}
 use Rattle.rel_traits.specs.PinCounts.{Counts}
-use Rattle.ecs_archetypes.specs.declared.facts.Found.{Found}
+use Rattle.ecs_archetypes.specs.declared.facts.FoundFact.{FoundFact}
 use Rattle.ecs_table.specs.Archetype.{Cells}
 use Rattle.ecs_archetypes.specs.Holdings.{AreHoldings, Holdings, holds_id, lives}
 
@@ -112,7 +112,7 @@ pub record IsEncoded (type : Option Schema) (vs : List ℤ) (size : ℕ) (buffer
   pub value : value_in type (take size buffer) ≡ vs
 
 -- the reasons against one id more for an entity of which this was found
-abbrev pub growth_reasons : Found → Bool → List (Bool × Refusal)
+abbrev pub growth_reasons : FoundFact → Bool → List (Bool × Refusal)
 growth_reasons found is_spent = (not found.is_held && nat_le most_ids found.count, TooManyIds) ∷ (is_spent, Full) ∷ []
 
 -- why a name is not bound: it is none, an entity has it, or memory was refused

@@ -4,13 +4,13 @@ ghost use Rattle.std.specs.Prelude.{◌≡◌, ◌<◌, [], ◌∷◌, false, tr
 ghost use Rattle.std.specs.List.{list_all, list_any};
 ghost use Rattle.ecs_archetypes.specs.Staying.{TablesStay};
 ghost use Rattle.ecs_id.specs.Id.{mentioned};
-ghost use Rattle.ecs_model.specs.Command.{with_facts};
+ghost use Rattle.ecs_model.specs.steps.Outcomes.{with_facts};
 ghost use Rattle.ecs_model.specs.Map.{keys};
 ghost use Rattle.ecs_model.specs.Refusal.{first_reason};
 ghost use Rattle.ecs_model.specs.World.{entities, holds, is_alive, is_live, key_eq, type_of_id};
-ghost use Rattle.ecs_model.specs.traits.Changes.{facts_after_add, facts_after_remove, removed};
-ghost use Rattle.ecs_model.specs.traits.Command.{Add, Remove, add_reasons, adds_built_in as brings_built_in, reasons};
-ghost use Rattle.ecs_model.specs.traits.Keeps.{IsWellFormed};
+ghost use Rattle.ecs_model.specs.steps.FactChanges.{facts_after_add, facts_after_remove, removed};
+ghost use Rattle.ecs_model.specs.steps.Step.{Add, Remove, add_reasons, adds_built_in as brings_built_in, reasons};
+ghost use Rattle.ecs_model.specs.steps.WellFormed.{IsWellFormed};
 ghost use Rattle.ecs_world.specs.Changes.{AreCopies, facts_with_new, sized_by, with_bytes, with_copies};
 ghost use Rattle.ecs_world.specs.Releases.{NoneGo, gets_no_data};
 ghost use Rattle.ecs_world.specs.State.{byte_count};
@@ -38,7 +38,8 @@ impl<A: Allocator + Copy> World<A> {
         requires alive { is_alive self.old.state entity ≡ true }
         requires mentions { list_all (is_live self.old.state) (mentioned id) ≡ true }
         ensures same { self.new ≡ self.old }
-        ensures tells { OnOk result (TellsAddition self.old.state (entity.index, id) additions.new.base additions.new.added.items additions.new.copies.items additions.new.came.items additions.new.went.items) }
+        ensures tells { OnOk result (TellsAddition self.old.state (entity.index, id) additions.new.base additions.new.added.items additions.new.copies.items
+            additions.new.came.items additions.new.went.items) }
         ensures live { OnOk result (All (IsOfLive (entities self.old.state)) additions.new.added.items) }
         ensures copies_live { OnOk result (All (IsOfLive (entities self.old.state)) additions.new.copies.items) }
     {
@@ -60,7 +61,8 @@ impl<A: Allocator + Copy> World<A> {
     ) -> Result<Option<Refusal>, Memory>
         requires alive { is_alive self.old.state entity ≡ true }
         requires mentions { list_all (is_live self.old.state) (mentioned id) ≡ true }
-        requires tells { TellsAddition self.old.state (entity.index, id) additions.now.base additions.now.added.items additions.now.copies.items additions.now.came.items additions.now.went.items }
+        requires tells { TellsAddition self.old.state (entity.index, id) additions.now.base additions.now.added.items additions.now.copies.items
+            additions.now.came.items additions.now.went.items }
         requires live { All (IsOfLive (entities self.old.state)) additions.now.added.items }
         requires copies_live { All (IsOfLive (entities self.old.state)) additions.now.copies.items }
         requires others { brings_built_in self.old.state entity.index id ≡ false }
@@ -91,7 +93,8 @@ impl<A: Allocator + Copy> World<A> {
         additions: &Additions<A>,
     ) -> Result<(), Memory>
         requires judged { first_reason (reasons self.old.state (Add entity id)) ≡ None }
-        requires tells { TellsAddition self.old.state (entity.index, id) additions.now.base additions.now.added.items additions.now.copies.items additions.now.came.items additions.now.went.items }
+        requires tells { TellsAddition self.old.state (entity.index, id) additions.now.base additions.now.added.items additions.now.copies.items
+            additions.now.came.items additions.now.went.items }
         ensures brought { OnOk result (self.new.state ≡ with_facts self.old.state (facts_after_add self.old.state entity.index id)) }
         ensures refused { OnErr result (self.new.state ≡ self.old.state) }
         ensures goes_on { TablesGoOn self.old.tables self.new.tables }
@@ -114,7 +117,8 @@ impl<A: Allocator + Copy> World<A> {
         additions: &Additions<A>,
     ) -> Result<(), Memory>
         requires judged { first_reason (reasons self.old.state (Add entity id)) ≡ None }
-        requires tells { TellsAddition self.old.state (entity.index, id) additions.now.base additions.now.added.items additions.now.copies.items additions.now.came.items additions.now.went.items }
+        requires tells { TellsAddition self.old.state (entity.index, id) additions.now.base additions.now.added.items additions.now.copies.items
+            additions.now.came.items additions.now.went.items }
         ensures brought { OnOk result (self.new.state ≡ with_facts self.old.state (facts_with_new self.old.state entity.index id)) }
         ensures refused { OnErr result (self.new.state ≡ self.old.state) }
         ensures goes_on { TablesGoOn self.old.tables self.new.tables }

@@ -2,9 +2,9 @@
 
 ghost use Rattle.std.specs.Prelude.{◌≡◌, ◌<◌, ◌≤◌, IfErr, None, OnErr, OnOk, true};
 ghost use Rattle.std.specs.FinMap as finite;
-ghost use Rattle.ecs_model.specs.Command.{AnswersStep};
+ghost use Rattle.ecs_model.specs.steps.Outcomes.{AnswersStep};
 ghost use Rattle.ecs_model.specs.declared.faults.CommandError.TheVariants.{Memory};
-ghost use Rattle.ecs_model.specs.traits.Command.{Component, Entity, Fresh, step};
+ghost use Rattle.ecs_model.specs.steps.Step.{Component, Entity, Fresh, step};
 ghost use Rattle.ecs_model.specs.Text.{is_name};
 ghost use Rattle.name_index.specs.Names.{IsUnnamed};
 ghost use Rattle.ecs_world.specs.State.{IsUnbound};

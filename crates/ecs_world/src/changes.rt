@@ -153,7 +153,7 @@ pub struct Changes<A: Allocator = Global> {
 }
 
 impl<A: Allocator> Model for Changes<A> {
-    ghost use Rattle.ecs_model.specs.Command.{Changed};
+    ghost use Rattle.ecs_model.specs.steps.Outcomes.{Changed};
     ghost use Rattle.ecs_world.specs.Changes.{changed_by};
 
     ghost Value = { Changed };

@@ -49,7 +49,8 @@ impl<A: Allocator> World<A> {
     /// It is as one `set` of each of them in turn, and counted as so many commands. It looks nothing up for a row, and takes no memory.
     pub fn set_column(&mut self, key: TableKey, id: Id, bytes: &[u8]) -> Result<(), ColumnFault>
         ensures set { OnOk result (IsColumnSet self.old key id bytes.now self.new.state) }
-        ensures judged { MatchResult result (λ _. column_fault self.old key id (length bytes.now) ≡ None) (λ fault. column_fault self.old key id (length bytes.now) ≡ Some fault) }
+        ensures judged { MatchResult result (λ _. column_fault self.old key id (length bytes.now) ≡ None)
+            (λ fault. column_fault self.old key id (length bytes.now) ≡ Some fault) }
         ensures unchanged { OnErr result (self.new ≡ self.old) }
         ensures alike { StandAlike self.old.tables self.new.tables }
         ensures goes_on { TablesGoOn self.old.tables self.new.tables }

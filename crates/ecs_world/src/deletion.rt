@@ -6,12 +6,12 @@ ghost use Rattle.std.specs.Ordering.{nat_cmp};
 ghost use Rattle.std.specs.FinMap as finite;
 ghost use Rattle.ecs_archetypes.specs.Staying.{TablesStay};
 ghost use Rattle.ecs_id.specs.declared.EntityId.{EntityId};
-ghost use Rattle.ecs_model.specs.Command.{AnswersStep};
+ghost use Rattle.ecs_model.specs.steps.Outcomes.{AnswersStep};
 ghost use Rattle.ecs_model.specs.Map.{IsMap, keys, without};
 ghost use Rattle.ecs_model.specs.Refusal.{first_reason};
 ghost use Rattle.ecs_model.specs.World.{is_alive, is_built_in as is_built_in_index, name_of};
-ghost use Rattle.ecs_model.specs.traits.Changes.{deleted, mentions_gone};
-ghost use Rattle.ecs_model.specs.traits.Command.{Delete, delete_reasons, reasons, step, without_entities};
+ghost use Rattle.ecs_model.specs.steps.FactChanges.{deleted, mentions_gone};
+ghost use Rattle.ecs_model.specs.steps.Step.{Delete, delete_reasons, reasons, step, without_entities};
 ghost use Rattle.ecs_world.specs.Changes.{TellsRefusal, deaths_of, entities_at};
 ghost use Rattle.ecs_world.specs.State.{listed, no_change};
 ghost use Rattle.ecs_world.specs.Releases.{NoneGo, OnlyForgottenGo, mentions_one};
@@ -89,7 +89,8 @@ impl<A: Allocator + Copy> World<A> {
         ensures same { self.new ≡ self.old }
         ensures dead { OnOk result (deletion.new.dead.items ≡ keys (deleted self.old.state entity.index)) }
         ensures lost { OnOk result (deletion.new.lost.items ≡ filter (is_lost self.old.state entity.index) (keys self.old.state.facts)) }
-        ensures went { OnOk result (deletion.new.went.items ≡ filter (mentions_gone self.old.state (deleted self.old.state entity.index)) (keys self.old.state.facts)) }
+        ensures went { OnOk result (deletion.new.went.items ≡ filter (mentions_gone self.old.state (deleted self.old.state entity.index))
+            (keys self.old.state.facts)) }
         ensures judged { OnOk result (first_reason (delete_reasons self.old.state (deleted self.old.state entity.index)) ≡ None) }
         ensures refused { IfErr result (TellsRefusal (first_reason (delete_reasons self.old.state (deleted self.old.state entity.index)))) }
     {
@@ -117,7 +118,10 @@ impl<A: Allocator + Copy> World<A> {
 
     /// What a deletion will have changed. All memory that this takes is got here.
     fn tell_deletion(&self, deletion: &mut Deletion<A>) -> Result<Changes<A>, Memory>
-        ensures told { IfOk result (λ changes. changes ≡ record no_change { died = deaths_of self.now.state deletion.old.dead.items; went = deletion.old.went.items }) }
+        ensures told { IfOk result (λ changes. changes ≡ record no_change {
+          died = deaths_of self.now.state deletion.old.dead.items;
+          went = deletion.old.went.items;
+        }) }
         ensures dead { deletion.new.dead ≡ deletion.old.dead }
         ensures lost { deletion.new.lost ≡ deletion.old.lost }
     {
@@ -240,7 +244,8 @@ fn forget<A: Allocator + Copy>(
     dead: &[EntityId],
 )
     ensures names { (n : List ℕ) (e : EntityId) → (finite.get names.new n ≡ Some e) ↔ ((finite.get names.old n ≡ Some e) × (Contains dead.now e → ⊥)) }
-    ensures schemas { IsMap nat_cmp schemas.old.entries → schemas.new.entries ≡ without nat_cmp schemas.old.entries (λ i. list_any (λ e. e.index == i) dead.now) }
+    ensures schemas { IsMap nat_cmp schemas.old.entries → schemas.new.entries
+        ≡ without nat_cmp schemas.old.entries (λ i. list_any (λ e. e.index == i) dead.now) }
 {
     for entity in dead {
         names.unbind(*entity);

@@ -1,7 +1,7 @@
 //! Commands on facts.
 
-ghost use Rattle.ecs_model.specs.Command.{AnswersStep};
-ghost use Rattle.ecs_model.specs.traits.Command.{Add, Remove, SetValue, step};
+ghost use Rattle.ecs_model.specs.steps.Outcomes.{AnswersStep};
+ghost use Rattle.ecs_model.specs.steps.Step.{Add, Remove, SetValue, step};
 ghost use Rattle.ecs_world.specs.Releases.{NoneGo, OnlyForgottenGo};
 ghost use Rattle.table_store.specs.Going.{TablesGoOn};
 

@@ -47,7 +47,7 @@ mod single_facts;
 pub use changes::{Changes, Death};
 pub use columns::ColumnFault;
 use ecs_archetypes::{Archetypes, FactPlan};
-pub use ecs_archetypes::{EntityFacts, Graph, Links};
+pub use ecs_archetypes::{EntityFacts, Links, TableGraph};
 pub use ecs_model::FactKey;
 use ecs_schema::Schema;
 use name_index::NameIndex;

@@ -2,7 +2,7 @@
 
 ghost use Rattle.std.specs.Prelude.{◌≡◌};
 ghost use Rattle.ecs_model.specs.Map.{count_at};
-ghost use Rattle.ecs_model.specs.traits.Pins.{one_less, one_more, pin, unpin};
+ghost use Rattle.ecs_model.specs.steps.Pins.{one_less, one_more, pin, unpin};
 ghost use Rattle.ecs_world.specs.Standing.{AnswersPin};
 
 use crate::World;

@@ -5,14 +5,14 @@ ghost use Rattle.std.specs.Option.{option_copied};
 ghost use Rattle.std.specs.Ordering.{nat_cmp};
 ghost use Rattle.ecs_model.specs.Bytes.{size_of, values_in};
 ghost use Rattle.ecs_model.specs.Map.{value_at};
-ghost use Rattle.ecs_model.specs.traits.Keeps.{IsWellFormed};
+ghost use Rattle.ecs_model.specs.steps.WellFormed.{IsWellFormed};
 ghost use Rattle.ecs_model.specs.World.{entity_at, holds, ids_of, is_alive, is_live, name_of, named, type_of_id, value_of};
 ghost use Rattle.ecs_world.specs.Standing.{IsGraphOf, IsLinksOf};
 ghost use Rattle.ecs_world.specs.State.{AreFactsOf, byte_count, value_in};
 
 use crate::World;
 use crate::built_in::PAIR_IS_TAG;
-use ecs_archetypes::{EntityFacts, Graph, Links};
+use ecs_archetypes::{EntityFacts, Links, TableGraph};
 use ecs_id::{EntityId, Id};
 use ecs_model::Value;
 use ecs_schema::Schema;
@@ -134,7 +134,7 @@ impl<A: Allocator> World<A> {
     }
 
     /// Where the entities stand, and the tables with their rows.
-    pub fn graph(&self) -> Graph<'_, A>
+    pub fn graph(&self) -> TableGraph<'_, A>
         ensures { IsGraphOf self.now result }
     {
         self.archetypes.graph()

@@ -3,17 +3,17 @@
 ghost use Rattle.std.specs.Prelude.{◌≡◌, ◌++◌, ◌||◌, IfErr, IfOk, IsTrue, None, OnOk, Some, length, true};
 ghost use Rattle.std.specs.List.{list_all};
 ghost use Rattle.ecs_id.specs.Id.{mentioned};
-ghost use Rattle.ecs_model.specs.Command.{birth_reasons, is_spent, name_reasons, next_entity, value_reasons};
+ghost use Rattle.ecs_model.specs.steps.Outcomes.{birth_reasons, is_spent, name_reasons, next_entity, value_reasons};
 ghost use Rattle.ecs_model.specs.Refusal.{first_reason};
 ghost use Rattle.ecs_model.specs.World.{holds, ids_of, is_alive, is_built_in, is_live, type_of_id};
-ghost use Rattle.ecs_model.specs.traits.Command.{Add, Remove, SetValue, reasons};
+ghost use Rattle.ecs_model.specs.steps.Step.{Add, Remove, SetValue, reasons};
 ghost use Rattle.rel_traits.specs.Additions.{is_of_built_in};
 ghost use Rattle.rel_traits.specs.Simple.{Arrives, ComesAlone, ComesInPlace, is_unmirrored};
 ghost use Rattle.ecs_world.specs.State.{IsEncoded, growth_reasons};
 
 use crate::World;
 use crate::built_in::COMPONENT;
-use ecs_archetypes::Found;
+use ecs_archetypes::FoundFact;
 use ecs_id::{EntityId, Id};
 use ecs_model::built_ins::SYMMETRIC;
 use ecs_model::faults::Refusal;
@@ -49,7 +49,12 @@ impl<A: Allocator> World<A> {
     }
 
     /// Why a fact that comes alone is not added to a live entity.
-    pub(crate) fn single_refusal(&self, entity: EntityId, id: Id, found: &Found) -> Option<Refusal>
+    pub(crate) fn single_refusal(
+        &self,
+        entity: EntityId,
+        id: Id,
+        found: &FoundFact,
+    ) -> Option<Refusal>
         requires alone { ComesAlone (ids_of self.now.state) (entity.index, id) }
         requires alive { IsTrue (is_alive self.now.state entity) }
         requires held { (found.now).is_held ≡ holds self.now.state entity.index id }
@@ -73,7 +78,7 @@ impl<A: Allocator> World<A> {
         entity: EntityId,
         id: Id,
         values: &[i128],
-        found: &Found,
+        found: &FoundFact,
         buffer: &mut [u8; 64],
     ) -> Result<usize, Refusal>
         requires alone { ComesAlone (ids_of self.now.state) (entity.index, id) }
@@ -175,7 +180,7 @@ impl<A: Allocator> World<A> {
     }
 
     /// Why an entity does not get one id more, if it gets one.
-    fn growth_refusal(&self, found: &Found) -> Option<Refusal>
+    fn growth_refusal(&self, found: &FoundFact) -> Option<Refusal>
         ensures { result ≡ first_reason (growth_reasons found.now (is_spent self.now.state)) }
     {
         if !found.is_held && found.count >= MOST_IDS {

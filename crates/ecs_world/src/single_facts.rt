@@ -1,9 +1,9 @@
 //! Commands on facts with which no others come, and none goes or just one of the same entity: each moves one row, or none.
 
 ghost use Rattle.std.specs.Prelude.{◌≡◌, true};
-ghost use Rattle.ecs_model.specs.Command.{AnswersStep};
+ghost use Rattle.ecs_model.specs.steps.Outcomes.{AnswersStep};
 ghost use Rattle.ecs_model.specs.World.{ids_of};
-ghost use Rattle.ecs_model.specs.traits.Command.{Add, Remove, SetValue, step};
+ghost use Rattle.ecs_model.specs.steps.Step.{Add, Remove, SetValue, step};
 ghost use Rattle.rel_traits.specs.Simple.{ComesAlone, ComesInPlace, is_unmirrored};
 ghost use Rattle.ecs_world.specs.Releases.{NoneGo};
 ghost use Rattle.table_store.specs.Going.{TablesGoOn};

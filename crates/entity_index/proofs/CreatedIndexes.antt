@@ -12,7 +12,7 @@ use Rattle.ecs_id.specs.declared.EntityId.{EntityId}
 use Rattle.ecs_id.specs.declared.Place.{Place}
 use Rattle.entity_index.specs.declared.index.CreateError.{CreateError}
 use Rattle.entity_index.specs.declared.index.CreateError.TheVariants.{Full, Memory}
-use Rattle.entity_index.specs.declared.slot.Slot.{Slot}
+use Rattle.entity_index.specs.declared.slot.EntitySlot.{EntitySlot}
 use Rattle.entity_index.specs.Entities.{Entities, next_entity, with_entity, place_of, IsNext, IsWellFormed}
 use Rattle.entity_index.specs.Slots.{unused, generations, slot_at, place_at, is_free_slot, is_waiting, meaning, IsSound}
 use Rattle.entity_index.proofs.EntryLists.{Changes, Changes-set, Changes-push}
@@ -23,7 +23,7 @@ use Rattle.entity_index.proofs.NextLaws.{place_of-born}
 use Rattle.entity_index.proofs.WaitingIndexes.{waiting_parts, free_is_dead}
 
 -- an index comes out of the heap
-module _ {Z : Type 0} (slots : List Slot) (places : List (Option Place)) (heap rest : BinaryHeap (Reverse ℕ) Z) (last : ℕ) (sound : IsSound slots places heap last) (x : Reverse ℕ)
+module _ {Z : Type 0} (slots : List EntitySlot) (places : List (Option Place)) (heap rest : BinaryHeap (Reverse ℕ) Z) (last : ℕ) (sound : IsSound slots places heap last) (x : Reverse ℕ)
     (moved : IsPermutation (heap_items heap) (x ∷ heap_items rest)) (order : PopsGreatest (λ a b. nat_cmp b.0 a.0) (heap_items heap) x (heap_items rest)) where
   waits : is_waiting slots x.0 ≡ true
   waits = popped_waits slots (heap_items heap) sound.members x (heap_items rest) moved
@@ -31,7 +31,7 @@ module _ {Z : Type 0} (slots : List Slot) (places : List (Option Place)) (heap r
   pub popped_within : x.0 < length slots
   popped_within = (waiting_parts slots x.0 waits).1
 
-  module _ (s : Slot) (is : s ≡ get_or slots x.0 s) where
+  module _ (s : EntitySlot) (is : s ≡ get_or slots x.0 s) where
     at : slot_at slots x.0 ≡ s
     at = sym (is ∙ get_or_default slots x.0 s unused popped_within)
 
@@ -48,7 +48,7 @@ module _ {Z : Type 0} (slots : List Slot) (places : List (Option Place)) (heap r
     popped_sound len capacity = IsSound-reuse slots places heap last sound rest x.0 s at x refl (order sound.ordered).0 waits moved len capacity
 
 -- the heap is empty
-module _ {Z : Type 0} (slots : List Slot) (places : List (Option Place)) (heap : BinaryHeap (Reverse ℕ) Z) (last : ℕ) (sound : IsSound slots places heap last) (empty : heap_len heap ≡ 0) where
+module _ {Z : Type 0} (slots : List EntitySlot) (places : List (Option Place)) (heap : BinaryHeap (Reverse ℕ) Z) (last : ℕ) (sound : IsSound slots places heap last) (empty : heap_len heap ≡ 0) where
   none : (q : ℕ) → is_waiting slots q ≡ false
   none = none_waits slots (heap_items heap) sound.members (sym heap.data.ok.0 ∙ empty)
 
@@ -61,10 +61,10 @@ module _ {Z : Type 0} (slots : List Slot) (places : List (Option Place)) (heap :
     pub fresh_none : last < n → next_entity (meaning slots places last) ≡ None
     fresh_none full = next-none slots places last sound.least sound.first sound.within none (omega (arith, len))
 
-    pub fresh_born : (new : List Slot) (new_places : List (Option Place)) → new ≡ slots ++ record { deletions = 0; live = true } ∷ [] → new_places ≡ places ++ None ∷ []
+    pub fresh_born : (new : List EntitySlot) (new_places : List (Option Place)) → new ≡ slots ++ record { deletions = 0; live = true } ∷ [] → new_places ≡ places ++ None ∷ []
         → meaning new new_places last ≡ with_entity (meaning slots places last) (record { index = n; generation = 0 })
     fresh_born new new_places e f =
-        let s : Slot = record { deletions = 0; live = true } in
+        let s : EntitySlot = record { deletions = 0; live = true } in
         let entity : ℕ → EntityId = λ i. record { index = i; generation = 0 } in
         let past : place_at places (length slots) ≡ None = get_or_past places (length slots) None (omega (arith, sound.paired)) in
         let stays = subst (λ m. Changes None places (places ++ None ∷ []) m (place_at places (length slots))) sound.paired
@@ -75,14 +75,14 @@ module _ {Z : Type 0} (slots : List Slot) (places : List (Option Place)) (heap :
 
     -- a slot and a place more, and room for them in the heap
     pub fresh_well : (new_heap : BinaryHeap (Reverse ℕ) Z) → n ≤ last → heap_items new_heap ≡ heap_items heap → heap_len new_heap ≡ heap_len heap → n + 1 ≤ heap_capacity new_heap
-        → (new : List Slot) (new_places : List (Option Place)) → new ≡ slots ++ record { deletions = 0; live = true } ∷ [] → new_places ≡ places ++ None ∷ [] → IsWellFormed (meaning new new_places last)
+        → (new : List EntitySlot) (new_places : List (Option Place)) → new ≡ slots ++ record { deletions = 0; live = true } ∷ [] → new_places ≡ places ++ None ∷ [] → IsWellFormed (meaning new new_places last)
     fresh_well new_heap within items count room new new_places e f =
         let grown = IsSound-extend slots places heap last sound new_heap (omega (arith, len)) items count (omega (arith, len, room)) in
         subst (λ xs. IsWellFormed (meaning xs new_places last)) (sym e) (subst (λ ps. IsWellFormed (meaning (slots ++ record { deletions = 0; live = true } ∷ []) ps last)) (sym f)
         (IsWellFormed-sound (slots ++ record { deletions = 0; live = true } ∷ []) (places ++ None ∷ []) new_heap last grown))
 
 -- a refused growth leaves the slots and the places
-pub refused_well : {Z : Type 0} (slots new : List Slot) (places new_places : List (Option Place)) (heap : BinaryHeap (Reverse ℕ) Z) (last : ℕ) → IsSound slots places heap last → new ≡ slots → new_places ≡ places
+pub refused_well : {Z : Type 0} (slots new : List EntitySlot) (places new_places : List (Option Place)) (heap : BinaryHeap (Reverse ℕ) Z) (last : ℕ) → IsSound slots places heap last → new ≡ slots → new_places ≡ places
     → IsWellFormed (meaning new new_places last)
 refused_well slots new places new_places heap last sound e f =
     subst (λ xs. IsWellFormed (meaning xs new_places last)) (sym e) (subst (λ ps. IsWellFormed (meaning slots ps last)) (sym f) (IsWellFormed-sound slots places heap last sound))

@@ -10,7 +10,7 @@ use Rattle.std.specs.declared.collections.binary_heap.BinaryHeap.{BinaryHeap}
 use Rattle.std.specs.declared.cmp.Reverse.{Reverse}
 use Rattle.ecs_id.specs.declared.EntityId.{EntityId}
 use Rattle.ecs_id.specs.declared.Place.{Place}
-use Rattle.entity_index.specs.declared.slot.Slot.{Slot}
+use Rattle.entity_index.specs.declared.slot.EntitySlot.{EntitySlot}
 use Rattle.ecs_model.specs.World.{first_index, is_built_in}
 use Rattle.entity_index.specs.Entities.{Entities, is_alive, is_deletable, without_entity, IsWellFormed}
 use Rattle.entity_index.specs.Slots.{unused, generations, slot_at, meaning, IsSound}
@@ -25,7 +25,7 @@ module _ (w : Entities) (e : EntityId) where
   live_at None h = absurd (true≢false (sym h))
   live_at (Some g) h = refl
 
-module _ {Z : Type 0} (slots : List Slot) (places : List (Option Place)) (heap : BinaryHeap (Reverse ℕ) Z) (last : ℕ) (sound : IsSound slots places heap last) (e : EntityId) (alive : is_alive (meaning slots places last) e ≡ true) (s : Slot) (is : s ≡ get_or slots e.index s) where
+module _ {Z : Type 0} (slots : List EntitySlot) (places : List (Option Place)) (heap : BinaryHeap (Reverse ℕ) Z) (last : ℕ) (sound : IsSound slots places heap last) (e : EntityId) (alive : is_alive (meaning slots places last) e ≡ true) (s : EntitySlot) (is : s ≡ get_or slots e.index s) where
   within : e.index < length slots
   within = alive_within slots places last e alive
 

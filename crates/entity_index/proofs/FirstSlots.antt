@@ -10,19 +10,19 @@ use Rattle.std.specs.BinaryHeap.{heap_items, heap_len, heap_capacity, IsHeap}
 use Rattle.std.specs.declared.collections.binary_heap.BinaryHeap.{BinaryHeap}
 use Rattle.std.specs.declared.cmp.Reverse.{Reverse}
 use Rattle.ecs_id.specs.declared.Place.{Place}
-use Rattle.entity_index.specs.declared.slot.Slot.{Slot}
+use Rattle.entity_index.specs.declared.slot.EntitySlot.{EntitySlot}
 use Rattle.ecs_model.specs.World.{first_index}
 use Rattle.entity_index.specs.Entities.{built_in_entities}
 use Rattle.entity_index.specs.Slots.{unused, slot_at, place_at, first_slot, is_free_slot, meaning, IsSlot, IsSound}
 use Rattle.entity_index.proofs.WaitingIndexes.{count_in}
 
-abbrev first_slots : List Slot
+abbrev first_slots : List EntitySlot
 first_slots = map first_slot (range_with_len 0 64)
 
 abbrev first_places : List (Option Place)
 first_places = replicate 64 None
 
-pub meaning-first : (last : ℕ) (slots : List Slot) (places : List (Option Place)) → slots ≡ map first_slot (range_with_len 0 64) → places ≡ replicate 64 None → meaning slots places last ≡ built_in_entities last
+pub meaning-first : (last : ℕ) (slots : List EntitySlot) (places : List (Option Place)) → slots ≡ map first_slot (range_with_len 0 64) → places ≡ replicate 64 None → meaning slots places last ≡ built_in_entities last
 meaning-first last slots places e f = λ k. meaning (e k) (f k) last
 
 -- no place stands there
@@ -46,7 +46,7 @@ not_waiting : (i n : ℕ) (b : Bool) → n ≡ 64 → (leb first_index i && (ltb
 not_waiting i n true e = grind (arith, nat_tests)
 not_waiting i n false e = grind (arith, nat_tests)
 
-pub IsSound-first : {Z : Type 0} (slots : List Slot) (places : List (Option Place)) (heap : BinaryHeap (Reverse ℕ) Z) (last : ℕ) → slots ≡ map first_slot (range_with_len 0 64) → places ≡ replicate 64 None
+pub IsSound-first : {Z : Type 0} (slots : List EntitySlot) (places : List (Option Place)) (heap : BinaryHeap (Reverse ℕ) Z) (last : ℕ) → slots ≡ map first_slot (range_with_len 0 64) → places ≡ replicate 64 None
     → first_index ≤ last → last < 2 ^ 24 → heap_items heap ≡ [] → heap_len heap ≡ 0 → 64 ≤ heap_capacity heap → IsHeap (λ x y. nat_cmp y.0 x.0) (heap_items heap) → IsSound slots places heap last
 IsSound-first slots places heap last e f least range empty len room ordered =
     let n : length slots ≡ 64 = ap length e ∙ first_length in

@@ -12,7 +12,7 @@ use Rattle.std.specs.Ordering.{nat_cmp, is_lt}
 use Rattle.std.specs.BinaryHeap.{IsUpperBound}
 use Rattle.std.specs.declared.cmp.Reverse.{Reverse}
 use Rattle.ecs_id.specs.declared.Place.{Place}
-use Rattle.entity_index.specs.declared.slot.Slot.{Slot}
+use Rattle.entity_index.specs.declared.slot.EntitySlot.{EntitySlot}
 use Rattle.ecs_model.specs.Map.{count_at}
 use Rattle.ecs_model.specs.World.{first_index, first_passing, is_free, next_among}
 use Rattle.entity_index.specs.Entities.{Entities, next_entity}
@@ -36,19 +36,19 @@ first_passing-none : (test : ℕ → Bool) (i n : ℕ) → ((q : ℕ) → i ≤ 
 first_passing-none test i zero all = refl
 first_passing-none test i (suc n) all = step test i n false (all i (omega arith) (omega arith)) ∙ first_passing-none test (i + 1) n (λ q l r. all q (omega arith) (omega arith))
 
-not_free_here : (slots : List Slot) (q : ℕ) → first_index ≤ q → q < length slots → is_waiting slots q ≡ false → is_free_slot (slot_at slots q) ≡ false
+not_free_here : (slots : List EntitySlot) (q : ℕ) → first_index ≤ q → q < length slots → is_waiting slots q ≡ false → is_free_slot (slot_at slots q) ≡ false
 not_free_here slots q first within h = by (is_free_slot (slot_at slots q)) refl
   where
     by : (b : Bool) → is_free_slot (slot_at slots q) ≡ b → is_free_slot (slot_at slots q) ≡ false
     by true e = absurd (true≢false (sym (is_waiting-free slots q first within e) ∙ h))
     by false e = e
 
-module _ (slots : List Slot) (places : List (Option Place)) (last : ℕ) (least_given : first_index ≤ last) (given : first_index ≤ length slots) (bounded : length slots ≤ last + 1) where
+module _ (slots : List EntitySlot) (places : List (Option Place)) (last : ℕ) (least_given : first_index ≤ last) (given : first_index ≤ length slots) (bounded : length slots ≤ last + 1) where
   abbrev world : Entities
   world = meaning slots places last
 
   -- the least index that waits
-  pub next-least : (i : ℕ) (s : Slot) → slot_at slots i ≡ s → is_waiting slots i ≡ true → ((q : ℕ) → q < i → is_waiting slots q ≡ false) → next_entity world ≡ Some (record { index = i; generation = s.deletions })
+  pub next-least : (i : ℕ) (s : EntitySlot) → slot_at slots i ≡ s → is_waiting slots i ≡ true → ((q : ℕ) → q < i → is_waiting slots q ≡ false) → next_entity world ≡ Some (record { index = i; generation = s.deletions })
   unfolding next_among
   next-least i s at waits least =
       let parts = waiting_parts slots i waits in
@@ -95,7 +95,7 @@ one_waits true n h e = refl
 one_waits false n h e = absurd (omega arith)
 
 -- what the heap tells of who waits
-module _ (slots : List Slot) (items : List (Reverse ℕ)) (has : HasWaiting slots items) where
+module _ (slots : List EntitySlot) (items : List (Reverse ℕ)) (has : HasWaiting slots items) where
   pub none_waits : length items ≡ 0 → (q : ℕ) → is_waiting slots q ≡ false
   none_waits empty q = zero_waits _ (count_in items q) (ap (λ xs. count_in xs q) (nil_from_length items empty)) (has q)
 

@@ -8,7 +8,7 @@ use Rattle.std.specs.Ordering.{nat_cmp}
 use Rattle.std.specs.FinMap.{find}
 use Rattle.ecs_id.specs.declared.EntityId.{EntityId}
 use Rattle.ecs_id.specs.declared.Place.{Place}
-use Rattle.entity_index.specs.declared.slot.Slot.{Slot}
+use Rattle.entity_index.specs.declared.slot.EntitySlot.{EntitySlot}
 use Rattle.ecs_model.specs.Map.{count_at}
 use Rattle.ecs_model.specs.World.{is_free}
 use Rattle.entity_index.specs.Entities.{is_live, is_alive, entity_at, place_of}
@@ -16,10 +16,10 @@ use Rattle.entity_index.specs.Slots.{unused, slot_at, generation_of, deletions_o
 use Rattle.entity_index.proofs.EntryLists.{find-entries}
 
 -- the slot that a look-up gives, or does not
-pub slot_read : (xs slots : List Slot) (i : ℕ) (s : Slot) → xs ≡ slots → true ≡ ltb i (length xs) → s ≡ get_or xs i s → slot_at slots i ≡ s
+pub slot_read : (xs slots : List EntitySlot) (i : ℕ) (s : EntitySlot) → xs ≡ slots → true ≡ ltb i (length xs) → s ≡ get_or xs i s → slot_at slots i ≡ s
 slot_read xs slots i s e h is = let lt : i < length xs = grind (arith, nat_tests) in ap (λ ys. slot_at ys i) (sym e) ∙ get_or_default xs i unused s lt ∙ sym is
 
-pub slot_missed : {A : Type 0} (xs slots : List Slot) (i : ℕ) (o : Option A) → xs ≡ slots → o ≡ None → is_some o ≡ ltb i (length xs) → slot_at slots i ≡ unused
+pub slot_missed : {A : Type 0} (xs slots : List EntitySlot) (i : ℕ) (o : Option A) → xs ≡ slots → o ≡ None → is_some o ≡ ltb i (length xs) → slot_at slots i ≡ unused
 slot_missed xs slots i o e none h =
     let past : ltb i (length xs) ≡ false = sym h ∙ ap is_some none in
     let le : length xs ≤ i = grind (arith, nat_tests) in
@@ -40,7 +40,7 @@ some_is false d = refl
 counted : (d : ℕ) → ltb 0 d ≡ false → d ≡ 0
 counted d e = grind (arith, nat_tests)
 
-module _ (slots : List Slot) (places : List (Option Place)) (last : ℕ) where
+module _ (slots : List EntitySlot) (places : List (Option Place)) (last : ℕ) where
   pub generation_found : (i : ℕ) → find nat_cmp i (meaning slots places last).live ≡ generation_of (slot_at slots i)
   generation_found i = find-entries generation_of unused refl slots i
 
@@ -62,13 +62,13 @@ module _ (slots : List Slot) (places : List (Option Place)) (last : ℕ) where
   abbrev entity_of : ℕ → Option ℕ → Option EntityId
   entity_of i o = option_map (λ g. record { index = i; generation = g }) o
 
-  pub entity_live : (i : ℕ) (s : Slot) → slot_at slots i ≡ s → s.live ≡ true → Some (record { index = i; generation = s.deletions }) ≡ entity_at (meaning slots places last) i
+  pub entity_live : (i : ℕ) (s : EntitySlot) → slot_at slots i ≡ s → s.live ≡ true → Some (record { index = i; generation = s.deletions }) ≡ entity_at (meaning slots places last) i
   entity_live i s e live = sym (ap (entity_of i) (generation_found i ∙ ap generation_of e ∙ ap (λ b. cond b (Some s.deletions) None) live))
 
-  pub entity_dead : (i : ℕ) (s : Slot) → slot_at slots i ≡ s → s.live ≡ false → None ≡ entity_at (meaning slots places last) i
+  pub entity_dead : (i : ℕ) (s : EntitySlot) → slot_at slots i ≡ s → s.live ≡ false → None ≡ entity_at (meaning slots places last) i
   entity_dead i s e dead = sym (ap (entity_of i) (generation_found i ∙ ap generation_of e ∙ ap (λ b. cond b (Some s.deletions) None) dead))
 
-  pub alive_at_slot : (e : EntityId) (s : Slot) → slot_at slots e.index ≡ s → is_alive (meaning slots places last) e ≡ (s.live && eqb s.deletions e.generation)
+  pub alive_at_slot : (e : EntityId) (s : EntitySlot) → slot_at slots e.index ≡ s → is_alive (meaning slots places last) e ≡ (s.live && eqb s.deletions e.generation)
   alive_at_slot e s is = alive_found e ∙ ap (λ t. t.live && eqb t.deletions e.generation) is
 
   pub place_at_slot : (e : EntityId) → is_alive (meaning slots places last) e ≡ true → place_of (meaning slots places last) e ≡ place_at places e.index
@@ -83,7 +83,7 @@ module _ (slots : List Slot) (places : List (Option Place)) (last : ℕ) where
       ]
 
   -- a live entity's slot is live
-  pub alive_is_live : (e : EntityId) (s : Slot) → slot_at slots e.index ≡ s → is_alive (meaning slots places last) e ≡ true → s.live ≡ true
+  pub alive_is_live : (e : EntityId) (s : EntitySlot) → slot_at slots e.index ≡ s → is_alive (meaning slots places last) e ≡ true → s.live ≡ true
   alive_is_live e s at alive = front s.live (eqb s.deletions e.generation) (sym (alive_at_slot e s at) ∙ alive)
     where
       front : (a b : Bool) → (a && b) ≡ true → a ≡ true

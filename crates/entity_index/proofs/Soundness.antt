@@ -11,7 +11,7 @@ use Rattle.std.specs.BinaryHeap.{heap_items, heap_len, heap_capacity, IsHeap}
 use Rattle.std.specs.declared.collections.binary_heap.BinaryHeap.{BinaryHeap}
 use Rattle.std.specs.declared.cmp.Reverse.{Reverse}
 use Rattle.ecs_id.specs.declared.Place.{Place}
-use Rattle.entity_index.specs.declared.slot.Slot.{Slot}
+use Rattle.entity_index.specs.declared.slot.EntitySlot.{EntitySlot}
 use Rattle.ecs_model.specs.Map.{count_at}
 use Rattle.ecs_model.specs.World.{first_index, is_built_in}
 use Rattle.entity_index.specs.Entities.{IsWellFormed, is_live}
@@ -20,7 +20,7 @@ use Rattle.entity_index.proofs.EntryLists.{Changes, Changes-set, Changes-push, i
 use Rattle.entity_index.proofs.Readings.{generation_found, place_found, count_found, live_found}
 use Rattle.entity_index.proofs.WaitingIndexes.{count_in, waiting_parts, free_is_dead, is_waiting-taken, is_waiting-live, HasWaiting-pop, HasWaiting-push, HasWaiting-keep, HasWaiting-extend, free_count, free_count-set, not_free, not_below}
 
-module _ (old new : List Slot) (places new_places : List (Option Place)) (i : ℕ) (s : Slot) (p : Option Place) (change : Changes unused old new i s) (move : Changes None places new_places i p) where
+module _ (old new : List EntitySlot) (places new_places : List (Option Place)) (i : ℕ) (s : EntitySlot) (p : Option Place) (change : Changes unused old new i s) (move : Changes None places new_places i p) where
   each-change : ((q : ℕ) → IsSlot q (slot_at old q) (place_at places q)) → IsSlot i s p → (q : ℕ) → IsSlot q (slot_at new q) (place_at new_places q)
   each-change each is q = elim (cases_eq q i) [
     | inl e ↦ subst (λ j. IsSlot j (slot_at new j) (place_at new_places j)) (sym e) (subst (IsSlot i (slot_at new i)) (sym move.changed) (subst (λ t. IsSlot i t p) (sym change.changed) is))
@@ -32,7 +32,7 @@ pub Changes-stay : (places : List (Option Place)) (i : ℕ) → Changes None pla
 Changes-stay places i = record { changed = refl; others = λ q ne. refl }
 
 -- what an index has after a change
-module _ (i : ℕ) (was : Slot) (p : Option Place) where
+module _ (i : ℕ) (was : EntitySlot) (p : Option Place) where
   IsSlot-born : first_index ≤ i → is_free_slot was ≡ true → IsSlot i was p → IsSlot i (record was { live = true }) p
   IsSlot-born first free is = record {
     built_in = λ h. absurd (omega arith);
@@ -55,17 +55,17 @@ module _ (i : ℕ) (was : Slot) (p : Option Place) where
 IsSlot-fresh : (i : ℕ) → first_index ≤ i → IsSlot i (record { deletions = 0; live = true }) None
 IsSlot-fresh i first = record { built_in = λ h. absurd (omega arith); generation = λ _. omega arith; deleted = omega arith; placed = λ e. absurd (true≢false e) }
 
-module _ {Z : Type 0} (slots : List Slot) (places : List (Option Place)) (heap : BinaryHeap (Reverse ℕ) Z) (last : ℕ) (sound : IsSound slots places heap last) where
-  each_at : (i : ℕ) (was : Slot) → slot_at slots i ≡ was → IsSlot i was (place_at places i)
+module _ {Z : Type 0} (slots : List EntitySlot) (places : List (Option Place)) (heap : BinaryHeap (Reverse ℕ) Z) (last : ℕ) (sound : IsSound slots places heap last) where
+  each_at : (i : ℕ) (was : EntitySlot) → slot_at slots i ≡ was → IsSlot i was (place_at places i)
   each_at i was at = subst (λ t. IsSlot i t (place_at places i)) at (sound.each i)
 
   module _ (new_heap : BinaryHeap (Reverse ℕ) Z) where
-    module _ (i : ℕ) (was : Slot) (at : slot_at slots i ≡ was) (x : Reverse ℕ) (is : x.0 ≡ i) (ordered : IsHeap (λ a b. nat_cmp b.0 a.0) (heap_items new_heap)) where
+    module _ (i : ℕ) (was : EntitySlot) (at : slot_at slots i ≡ was) (x : Reverse ℕ) (is : x.0 ≡ i) (ordered : IsHeap (λ a b. nat_cmp b.0 a.0) (heap_items new_heap)) where
       -- a slot that waited lives again
       pub IsSound-reuse : is_waiting slots i ≡ true → IsPermutation (heap_items heap) (x ∷ heap_items new_heap)
           → heap_len new_heap + 1 ≡ heap_len heap → heap_capacity new_heap ≡ heap_capacity heap → IsSound (set slots i (record was { live = true })) places new_heap last
       IsSound-reuse waits moved len capacity =
-          let s : Slot = record was { live = true } in
+          let s : EntitySlot = record was { live = true } in
           let new = set slots i s in
           let parts = waiting_parts slots i waits in
           let same : length new ≡ length slots = length-set slots i s in
@@ -89,7 +89,7 @@ module _ {Z : Type 0} (slots : List Slot) (places : List (Option Place)) (heap :
       pub IsSound-delete : first_index ≤ i → was.live ≡ true → was.deletions + 1 < generations → i < length slots → IsPermutation (x ∷ heap_items heap) (heap_items new_heap)
           → heap_len new_heap ≡ heap_len heap + 1 → heap_capacity heap ≤ heap_capacity new_heap → IsSound (set slots i (record { deletions = was.deletions + 1; live = false })) (set places i None) new_heap last
       IsSound-delete first live fits within moved len capacity =
-          let s : Slot = record { deletions = was.deletions + 1; live = false } in
+          let s : EntitySlot = record { deletions = was.deletions + 1; live = false } in
           let new = set slots i s in
           let same : length new ≡ length slots = length-set slots i s in
           let change = Changes-set unused slots i s within in
@@ -112,7 +112,7 @@ module _ {Z : Type 0} (slots : List Slot) (places : List (Option Place)) (heap :
     pub IsSound-extend : length slots ≤ last → heap_items new_heap ≡ heap_items heap → heap_len new_heap ≡ heap_len heap → length slots + 1 ≤ heap_capacity new_heap
         → IsSound (slots ++ record { deletions = 0; live = true } ∷ []) (places ++ None ∷ []) new_heap last
     IsSound-extend within items len room =
-        let s : Slot = record { deletions = 0; live = true } in
+        let s : EntitySlot = record { deletions = 0; live = true } in
         let grown : length (slots ++ s ∷ []) ≡ length slots + 1 = length_push slots s in
         let count : free_count (slots ++ s ∷ []) ≡ free_count slots + 0 = sum_by_push (λ t. cond (is_free_slot t) 1 0) slots s in
         record {
@@ -129,11 +129,11 @@ module _ {Z : Type 0} (slots : List Slot) (places : List (Option Place)) (heap :
           few = omega (arith, count, sound.few, len);
         }
 
-  module _ (i : ℕ) (was : Slot) (at : slot_at slots i ≡ was) (live : was.live ≡ true) (within : i < length slots) where
+  module _ (i : ℕ) (was : EntitySlot) (at : slot_at slots i ≡ was) (live : was.live ≡ true) (within : i < length slots) where
     -- a live slot is retired
     pub IsSound-retire : first_index ≤ i → generations ≤ was.deletions + 1 → IsSound (set slots i (record { deletions = was.deletions + 1; live = false })) (set places i None) heap last
     IsSound-retire first spent =
-        let s : Slot = record { deletions = was.deletions + 1; live = false } in
+        let s : EntitySlot = record { deletions = was.deletions + 1; live = false } in
         let new = set slots i s in
         let same : length new ≡ length slots = length-set slots i s in
         let change = Changes-set unused slots i s within in

@@ -3,11 +3,12 @@ ghost use Rattle.std.specs.Prelude.{◌≡◌, ◌↔◌, ◌≤◌, None, Some,
 ghost use Rattle.std.specs.Bool.{OnTrue, OnFalse};
 ghost use Rattle.ecs_id.specs.Id.{last_index};
 ghost use Rattle.ecs_model.specs.World.{first_index};
-ghost use Rattle.entity_index.specs.Entities.{built_in_entities, entity_at, is_alive, is_deletable, live_entities, next_entity, place_of, with_entity, with_place, without_entity, IsFull, IsNext, IsWellFormed};
+ghost use Rattle.entity_index.specs.Entities.{built_in_entities, entity_at, is_alive, is_deletable, live_entities, next_entity, place_of, with_entity};
+ghost use Rattle.entity_index.specs.Entities.{with_place, without_entity, IsFull, IsNext, IsWellFormed};
 
 use crate::live::Live;
 use crate::packed::{PackedPlace, unpacked};
-use crate::slot::{Slot, first_places, first_slots};
+use crate::slot::{EntitySlot, first_places, first_slots};
 use ecs_id::{EntityId, Place};
 use ecs_model::FIRST_INDEX;
 use std::alloc::{AllocError, Allocator, Global};
@@ -44,7 +45,7 @@ impl From<AllocError> for CreateError {
 #[derive(Drop)]
 pub struct SlotIndex<A: Allocator = Global> {
     // by index, up to the greatest that was used
-    slots: Vec<Slot, A>,
+    slots: Vec<EntitySlot, A>,
     // by index too, apart from the slots so that these stay small
     places: Vec<Option<PackedPlace>, A>,
     // the indexes of slots that can be given out again, with the smallest on top
@@ -112,7 +113,7 @@ impl<A: Allocator> SlotIndex<A> {
         }
         self.free.reserve(used + 1)?;
         list_growth::make_room(&mut self.places)?;
-        let slot = Slot {
+        let slot = EntitySlot {
             deletions: 0,
             live: true,
         };

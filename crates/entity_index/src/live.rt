@@ -2,14 +2,14 @@
 ghost use Rattle.std.specs.Prelude.{◌≡◌};
 ghost use Rattle.entity_index.specs.Slots.{live_from, IsRest};
 
-use crate::slot::Slot;
+use crate::slot::EntitySlot;
 use ecs_id::EntityId;
 use std::marker::Model;
 
 /// The live entities by ascending index, from `EntityIndex::live`.
 #[derive(Drop)]
 pub struct Live<'a> {
-    rest: &'a [Slot],
+    rest: &'a [EntitySlot],
     index: u32,
 }
 
@@ -27,7 +27,7 @@ impl<'a> Model for Live<'a> {
 
 impl<'a> Live<'a> {
     /// The live entities of slots of which the first has this number.
-    pub(crate) fn new(index: u32, slots: &'a [Slot]) -> Live<'a>
+    pub(crate) fn new(index: u32, slots: &'a [EntitySlot]) -> Live<'a>
         requires { IsRest index slots.now }
         ensures { result ≡ live_from index slots.now }
     {

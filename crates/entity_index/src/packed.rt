@@ -27,7 +27,10 @@ impl Model for PackedPlace {
 
     ghost Value = { Place };
 
-    ghost view = { λ p. record { table = record { slot = p.slot; serial = from_le_bytes w64 p.low + from_le_bytes w64 p.high * 2 ^ 64 }; row = from_le_bytes w64 p.row } };
+    ghost view = { λ p. record {
+      table = record { slot = p.slot; serial = from_le_bytes w64 p.low + from_le_bytes w64 p.high * 2 ^ 64 };
+      row = from_le_bytes w64 p.row;
+    } };
 }
 
 impl PackedPlace {

@@ -3,7 +3,8 @@ ghost use Rattle.std.specs.Prelude.{◌≡◌, ◌↔◌, ◌≤◌, ◌<◌, �
 ghost use Rattle.std.specs.Bool.{OnTrue, OnFalse};
 ghost use Rattle.ecs_id.specs.Id.{last_index};
 ghost use Rattle.ecs_model.specs.World.{first_index};
-ghost use Rattle.entity_index.specs.Entities.{built_in_entities, entity_at, is_alive, is_deletable, is_live, live_entities, next_entity, place_of, with_entity, with_place, without_entity, IsFull, IsNext, IsWellFormed};
+ghost use Rattle.entity_index.specs.Entities.{built_in_entities, entity_at, is_alive, is_deletable, is_live, live_entities, next_entity, place_of, with_entity};
+ghost use Rattle.entity_index.specs.Entities.{with_place, without_entity, IsFull, IsNext, IsWellFormed};
 ghost use Rattle.entity_index.specs.Sizes.{live_size};
 
 use crate::index::{CreateError, SlotIndex};

@@ -12,23 +12,23 @@ use std::alloc::{AllocError, Allocator};
 ///
 /// The generation of the live entity is the number of deletions.
 #[derive(Clone, Copy)]
-pub struct Slot {
+pub struct EntitySlot {
     pub deletions: u32,
     pub live: bool,
 }
 
 /// The slot that an index has at first.
-fn first_slot_of(index: u32) -> Slot
+fn first_slot_of(index: u32) -> EntitySlot
     ensures { result ≡ first_slot index }
 {
-    Slot {
+    EntitySlot {
         deletions: 0,
         live: 1 <= index && index <= LAST_BUILT_IN,
     }
 }
 
 /// The slots of the indexes that are not given out: those of the built-in entities live.
-pub fn first_slots<A: Allocator>(alloc: A) -> Result<Vec<Slot, A>, AllocError>
+pub fn first_slots<A: Allocator>(alloc: A) -> Result<Vec<EntitySlot, A>, AllocError>
     ensures { IfOk result (λ slots. slots.items ≡ map first_slot (range_with_len 0 first_index)) }
 {
     (0..FIRST_INDEX).map(first_slot_of).collect(alloc)

@@ -1,6 +1,7 @@
 //! Bits in words: that of a number `e` is bit `e % 64` of the word `e / 64`.
 
-ghost use Rattle.std.specs.Prelude.{◌≡◌, ◌↔◌, ◌<◌, ◌≤◌, ◌*◌, ◌==◌, ◌&&◌, ◌||◌, ◌++◌, [], ◌∷◌, ℕ, All, IsTrue, OnOk, filter, if◌then◌else◌, length, not, slice_index};
+ghost use Rattle.std.specs.Prelude.{◌≡◌, ◌↔◌, ◌<◌, ◌≤◌, ◌*◌, ◌==◌, ◌&&◌, ◌||◌, ◌++◌, [], ◌∷◌, ℕ, All, IsTrue, OnOk, filter, if◌then◌else◌, length, not};
+ghost use Rattle.std.specs.Prelude.{slice_index};
 ghost use Rattle.std.specs.List.{list_any};
 ghost use Rattle.ecs_model.specs.BitWords.{has_bit};
 ghost use Rattle.entity_set.specs.Members.{has_else, indexes_of};

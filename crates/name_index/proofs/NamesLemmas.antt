@@ -21,7 +21,7 @@ use Rattle.name_index.specs.Texts.{IsKept, entry_of, first_in, first_of, is_of, 
 use Rattle.std.proofs.lemmas.Option.{get_or_from_slice_get, none-some, same_Some, slice_get-get_or, slice_get-map, slice_get_cases}
 use Rattle.std.proofs.lemmas.List.Quantifiers.{position-Some}
 use Rattle.std.proofs.lemmas.Map.Entries.{hash_map_get_place}
-use Rattle.name_index.proofs.TellsLemmas.{Tells-insert, Tells-remove, told_names, told_once}
+use Rattle.name_index.proofs.NameWays.{Tells-insert, Tells-remove, told_names, told_once}
 use Rattle.name_index.proofs.PlacesLemmas.{back_placed, back_unplaced, forth_placed, forth_unplaced, here_placed, place_of}
 
 -- an answer that is changed under a test, beside another that comes before or after it

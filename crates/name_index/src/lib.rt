@@ -231,7 +231,8 @@ fn take_out<A: Allocator>(
     ensures removed { names_in short.new long.new ≡ finite.remove (names_in short.old long.old) name.now }
     ensures apart { AreApart short.new long.new }
     ensures unique { IsUnique (pointwise nat_eq) short.new }
-    ensures stay { (q : List ℕ) (e : EntityId) → q ≢ name.now → first_of texts.old short.old.entries e ≡ Some q → first_of texts.new short.new.entries e ≡ Some q }
+    ensures stay { (q : List ℕ) (e : EntityId) → q ≢ name.now → first_of texts.old short.old.entries e ≡ Some q
+        → first_of texts.new short.new.entries e ≡ Some q }
     ensures others { (e : EntityId) → other_of texts.new e ≡ other_of texts.old e }
 {
     match ShortName::new(name) {

@@ -1,5 +1,6 @@
 //! The name of each entity.
-ghost use Rattle.std.specs.Prelude.{◌≡◌, ◌≢◌, ◌≤◌, ◌<◌, ◌^◌, ℕ, List, cond, false, length, nat_eq, option_map, slice_get, slice_index_or, None, Some, IfSome, MatchOption, OnErr, OnOk};
+ghost use Rattle.std.specs.Prelude.{◌≡◌, ◌≢◌, ◌≤◌, ◌<◌, ◌^◌, ℕ, List, cond, false, length, nat_eq, option_map, slice_get, slice_index_or, None, Some, IfSome};
+ghost use Rattle.std.specs.Prelude.{MatchOption, OnErr, OnOk};
 ghost use Rattle.std.specs.Cmp.Lexicographic.{pointwise};
 ghost use Rattle.std.specs.HashMap.{IsUnique, Updates};
 ghost use Rattle.std.specs.Option.{option_copied};

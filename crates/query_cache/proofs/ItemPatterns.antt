@@ -12,7 +12,7 @@ use Rattle.ecs_model.specs.rows.Level.{Level, done, also, unless, top}
 use Rattle.ecs_model.specs.rows.Rows.{fits, matches as matches_term}
 use Rattle.ecs_model.specs.stored.Tables.{is_cacheable, item_suits, level_suits, lists_table, has_hit as has_term_hit}
 use Rattle.query_model.specs.declared.query.Ref.{Ref}
-use Rattle.query_model.specs.declared.query.Ref.TheVariants.{Is, Var, Any, One}
+use Rattle.query_model.specs.declared.query.Ref.TheVariants.{Is, Var, Any, AnyOnce}
 use Rattle.query_model.specs.declared.query.Term.{Term}
 use Rattle.query_model.specs.Local.{asks_first}
 use Rattle.query_model.specs.Observers.{is_constant, is_constant_target}
@@ -27,7 +27,7 @@ part_takes : (r : Ref) (i : ℕ) → is_constant r ≡ true → takes (part_of r
 part_takes (Is e) i h = grind (arith, nat_tests)
 part_takes (Var v) i h = absurd (true≢false (sym h))
 part_takes Any i h = refl
-part_takes One i h = refl
+part_takes AnyOnce i h = refl
 
 pattern_hits : (first : Ref) (target : Option Ref) → is_constant first ≡ true → is_constant_target target ≡ true → (i : Id)
     → matches (record { first = part_of first; second = option_map part_of target }) i ≡ matches_term [] first target i
@@ -44,9 +44,9 @@ term_suits : (q : Query) (t : Term) (b : Bool) → is_cacheable q t ≡ b → (i
     → suits ((if b then pattern_of t ∷ [] else []) ++ rest) ids ≡ ((not b || has_term_hit ids t) && r)
 term_suits q t false e ids rest r h = h
 term_suits q t true e ids rest r h =
-    let asks = and_parts (q.has_this && asks_first t && is_constant t.first) (is_constant_target t.target) e in
-    let first = and_parts (q.has_this && asks_first t) (is_constant t.first) asks.0 in
-    λ j. any_same (matches (pattern_of t)) (matches_term [] t.first t.target) (pattern_hits t.first t.target first.1 asks.1) ids j && h j
+    let asks = and_parts (q.has_this && asks_first t && is_constant t.component) (is_constant_target t.target) e in
+    let first = and_parts (q.has_this && asks_first t) (is_constant t.component) asks.0 in
+    λ j. any_same (matches (pattern_of t)) (matches_term [] t.component t.target) (pattern_hits t.component t.target first.1 asks.1) ids j && h j
 
 one_suits : (q : Query) (i : Item) (ids : List Id) (rest : List Pattern) (r : Bool) → suits rest ids ≡ r → suits (item_patterns q i ++ rest) ids ≡ (item_suits q ids i && r)
 one_suits q (must t) ids rest r h = term_suits q t (is_cacheable q t) refl ids rest r h

@@ -20,7 +20,7 @@ part_of (Is e) = part.Is e
 part_of r = part.Any
 
 abbrev pub pattern_of : Term → Pattern
-pattern_of t = record { first = part_of t.first; second = option_map part_of t.target }
+pattern_of t = record { first = part_of t.component; second = option_map part_of t.target }
 
 module _ (q : Query) where
   abbrev pub item_patterns : Item → List Pattern

@@ -7,8 +7,8 @@ use Rattle.query_model.specs.declared.syntax.Part.TheVariants.{Term}
 
 abbrev pub no_part : Part
 no_part = Term And (record {
-  valued = false;
-  first = record { spoken = Word (record { ref_ptr = (0, 0); now = [] }); span = record { start = 0; end = 0 } };
+  shows_value = false;
+  component = record { spoken = Word (record { ref_ptr = (0, 0); now = [] }); span = record { start = 0; end = 0 } };
   target = None;
   source = None;
   flags = None;

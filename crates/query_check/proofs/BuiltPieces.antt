@@ -4,13 +4,13 @@ use Rattle.std.proofs.lemmas.List.{append-nil, append_assoc, drop_all, drop_more
 use Rattle.std.proofs.lemmas.List.Sums.{fold-append}
 use Rattle.ecs_id.specs.declared.EntityId.{EntityId}
 use Rattle.std.proofs.Common.{ap, sym, ◌∙◌, get_or}
-use Rattle.query_check.specs.declared.places.Place.{Place}
+use Rattle.query_check.specs.declared.places.PartPlace.{PartPlace}
 use Rattle.query_model.specs.declared.query.Mention.{Mention}
 use Rattle.query_check.specs.Places.{IsRooted, places_of}
 use Rattle.query_check.specs.Seen.{as_alternative, level_uses}
 use Rattle.query_model.specs.Cascades.{Cascading, cascades}
 use Rattle.query_model.specs.Check.{Known}
-use Rattle.query_model.specs.Levels.{Path, alternatives, followed, level_of, placed_parts}
+use Rattle.query_model.specs.Levels.{Path, alternatives, level_of, placed_parts, with_alternatives}
 use Rattle.query_model.specs.Numbers.{Variable, has_this, variables}
 use Rattle.query_model.specs.Query.{Piece, Query, add_mention, cascade_of, checked_query, mentioned_by, pieces_of_part, visible_names}
 use Rattle.query_model.specs.Scope.{Sighting, sightings}
@@ -20,23 +20,23 @@ use Rattle.query_check.proofs.PartReferences.{HasLeft, IsFollowedAt, by_level, f
 use Rattle.query_check.proofs.VariableRoots.{part_rooted}
 
 -- what is added for one part more, where the code knows its level alone
-pub part_built : {X : Type 0} (f : Path → List TermSyntax → Part → List X) (ps : List Part) (i : ℕ) (p : Part) (q : Place) (others : List TermSyntax) (places : List Place) (start now next : List X) → places ≡ places_of ps
-    → HasLeft (λ r. f (r.0).0 r.1 (r.0).1) (followed (placed_parts ps)) i start now → IsFollowedAt ps i p q others
-    → ((path : Path) → q.level ≡ level_of path → IsRooted places path → next ≡ now ++ f path others p) → HasLeft (λ r. f (r.0).0 r.1 (r.0).1) (followed (placed_parts ps)) (i + 1) start next
+pub part_built : {X : Type 0} (f : Path → List TermSyntax → Part → List X) (ps : List Part) (i : ℕ) (p : Part) (q : PartPlace) (others : List TermSyntax) (places : List PartPlace) (start now next : List X) → places ≡ places_of ps
+    → HasLeft (λ r. f (r.0).0 r.1 (r.0).1) (with_alternatives (placed_parts ps)) i start now → IsFollowedAt ps i p q others
+    → ((path : Path) → q.level ≡ level_of path → IsRooted places path → next ≡ now ++ f path others p) → HasLeft (λ r. f (r.0).0 r.1 (r.0).1) (with_alternatives (placed_parts ps)) (i + 1) start next
 part_built f ps i p q others places start now next e l at built =
     let r = get_or (placed_parts ps) i ([], p) in
-    one_less (λ (x : (Path × Part) × List TermSyntax). f (x.0).0 x.1 (x.0).1) (followed (placed_parts ps)) i start now next (f r.0 others p) (([], p), []) l at.within
+    one_less (λ (x : (Path × Part) × List TermSyntax). f (x.0).0 x.1 (x.0).1) (with_alternatives (placed_parts ps)) i start now next (f r.0 others p) (([], p), []) l at.within
     (ap (λ (x : (Path × Part) × List TermSyntax). f (x.0).0 x.1 (x.0).1) at.is ∙ ap (f r.0 others) (at.at).part)
-    (built r.0 (sym (ap (λ (x : Place). x.level) (at.at).place)) (rw e (part_rooted ps i ([], p) (at.at).within)))
+    (built r.0 (sym (ap (λ (x : PartPlace). x.level) (at.at).place)) (rw e (part_rooted ps i ([], p) (at.at).within)))
 
-pub all_built : {X : Type 0} (f : Path → List TermSyntax → Part → List X) (ps : List Part) (i : ℕ) (now : List X) → HasLeft (λ r. f (r.0).0 r.1 (r.0).1) (followed (placed_parts ps)) i [] now → length ps ≤ i
-    → now ≡ flat_map (λ (r : (Path × Part) × List TermSyntax). f (r.0).0 r.1 (r.0).1) (followed (placed_parts ps))
-all_built f ps i now l h = none_left (λ (r : (Path × Part) × List TermSyntax). f (r.0).0 r.1 (r.0).1) (followed (placed_parts ps)) i [] now l (rw (followed-length (placed_parts ps), placed-length ps) h)
+pub all_built : {X : Type 0} (f : Path → List TermSyntax → Part → List X) (ps : List Part) (i : ℕ) (now : List X) → HasLeft (λ r. f (r.0).0 r.1 (r.0).1) (with_alternatives (placed_parts ps)) i [] now → length ps ≤ i
+    → now ≡ flat_map (λ (r : (Path × Part) × List TermSyntax). f (r.0).0 r.1 (r.0).1) (with_alternatives (placed_parts ps))
+all_built f ps i now l h = none_left (λ (r : (Path × Part) × List TermSyntax). f (r.0).0 r.1 (r.0).1) (with_alternatives (placed_parts ps)) i [] now l (rw (followed-length (placed_parts ps), placed-length ps) h)
 
 -- the query of its parts
 pub query_built : (k : Known) (s : Syntax) (names : List (List ℕ)) (this : Bool) (pieces : List Piece) (along : Option EntityId) (mentions : List Mention) (us : List (ℕ × Use)) (ss : List Sighting) (vs : List Variable) (cs : List Cascading)
     → us ≡ level_uses s.parts → ss ≡ sightings s.parts → vs ≡ variables s.parts → cs ≡ cascades s.parts
-    → names ≡ visible_names vs → this ≡ has_this s.parts → pieces ≡ flat_map (pieces_of_part k ss vs) (followed (placed_parts s.parts)) → along ≡ cascade_of k cs → mentions ≡ fold (add_mention k) [] (flat_map (λ (u : ℕ × Use). mentioned_by k u.1) us)
+    → names ≡ visible_names vs → this ≡ has_this s.parts → pieces ≡ flat_map (pieces_of_part k ss vs) (with_alternatives (placed_parts s.parts)) → along ≡ cascade_of k cs → mentions ≡ fold (add_mention k) [] (flat_map (λ (u : ℕ × Use). mentioned_by k u.1) us)
     → record { variables = names; has_this = this; pieces = pieces; cascade = along; mentions = mentions; length = s.length } ≡ checked_query k s
 unfolding checked_query
 query_built k s names this pieces along mentions us ss vs cs u t v w n h p o m =
@@ -45,8 +45,8 @@ query_built k s names this pieces along mentions us ss vs cs u t v w n h p o m =
     ap (λ r. make names this pieces r mentions) (o ∙ ap (cascade_of k) w)
     ∙ ap (λ a. make a this pieces (cascade_of k (cascades ps)) mentions) (n ∙ ap visible_names v) ∙ ap (λ b. make (visible_names (variables ps)) b pieces (cascade_of k (cascades ps)) mentions) h
     ∙ ap (λ c. make (visible_names (variables ps)) (has_this ps) c (cascade_of k (cascades ps)) mentions)
-    (p ∙ ap (λ l. flat_map (pieces_of_part k l vs) (followed (placed_parts ps))) t ∙ ap (λ l. flat_map (pieces_of_part k (sightings ps) l) (followed (placed_parts ps))) v)
-    ∙ ap (make (visible_names (variables ps)) (has_this ps) (flat_map (pieces_of_part k (sightings ps) (variables ps)) (followed (placed_parts ps))) (cascade_of k (cascades ps)))
+    (p ∙ ap (λ l. flat_map (pieces_of_part k l vs) (with_alternatives (placed_parts ps))) t ∙ ap (λ l. flat_map (pieces_of_part k (sightings ps) l) (with_alternatives (placed_parts ps))) v)
+    ∙ ap (make (visible_names (variables ps)) (has_this ps) (flat_map (pieces_of_part k (sightings ps) (variables ps)) (with_alternatives (placed_parts ps))) (cascade_of k (cascades ps)))
     (m ∙ ap (λ l. fold (add_mention k) [] (flat_map (λ (x : ℕ × Use). mentioned_by k x.1) l)) u ∙ ap (fold (add_mention k) []) (by_level (mentioned_by k) ps))
 
 -- the mentions so far, and what is left to mention

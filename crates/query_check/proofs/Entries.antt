@@ -6,7 +6,7 @@ use Rattle.std.proofs.lemmas.Bool.{ne_eqb}
 use Rattle.std.proofs.Math.Seq.{get_or-append_seam}
 use Rattle.std.proofs.lemmas.List.{append_assoc, drop_more, get_or_append_left, length-map}
 use Rattle.query_model.specs.Levels.{Path, level_of}
-use Rattle.query_model.specs.Query.{Item, Piece, item, opening, closing, Entry, simple, group, entries_from}
+use Rattle.query_model.specs.Query.{Item, Piece, item, opening, closing, CheckedEntry, simple, group, checked_entries_from}
 use Rattle.query_check.specs.Numbered.{item_kind, level_around, nowhere, piece_or, places_from, standing}
 use Rattle.query_check.specs.Seen.{entry_at, entry_of, seen_piece}
 use Rattle.query_check.specs.declared.query.Piece as code
@@ -113,7 +113,7 @@ pub one_longer : (front : List Piece) (p : Piece) (k : ℕ) → k ≡ length fro
 one_longer front p k e = ap (λ n. n + 1) e ∙ sym (length-append front (p ∷ []))
 
 -- the items and groups that stand there
-entries_there : (all front ps : List Piece) (n k : ℕ) (around : Path) → all ≡ front ++ ps → k ≡ length front → map (entry_at all) (places_from n k around ps) ≡ entries_from n around ps
+entries_there : (all front ps : List Piece) (n k : ℕ) (around : Path) → all ≡ front ++ ps → k ≡ length front → map (entry_at all) (places_from n k around ps) ≡ checked_entries_from n around ps
 entries_there all front [] n k around a e = refl
 entries_there all front (item i ∷ ps) n k around a e =
     ap (λ p. entry_of (level_of around) p ∷ map (entry_at all) (places_from (n + 1) (k + 1) around ps)) (this_piece all front (item i) ps k a e)
@@ -124,10 +124,10 @@ entries_there all front (opening from_term own ∷ ps) n k around a e =
     (entries_there all (front ++ opening from_term own ∷ []) ps (n + 1) (k + 1) ((n + 1) ∷ around) (one_on all front (opening from_term own) ps a) (one_longer front (opening from_term own) k e))
 entries_there all front (closing ∷ ps) n k around a e = entries_there all (front ++ closing ∷ []) ps n (k + 1) (drop 1 around) (one_on all front closing ps a) (one_longer front closing k e)
 
-pub numbered_entries : (ps : List Piece) → map (entry_at ps) (places_from 0 0 [] ps) ≡ entries_from 0 [] ps
+pub numbered_entries : (ps : List Piece) → map (entry_at ps) (places_from 0 0 [] ps) ≡ checked_entries_from 0 [] ps
 numbered_entries ps = entries_there ps [] ps 0 0 [] refl refl
 
-pub as_many : (ps : List Piece) → length (places_from 0 0 [] ps) ≡ length (entries_from 0 [] ps)
+pub as_many : (ps : List Piece) → length (places_from 0 0 [] ps) ≡ length (checked_entries_from 0 [] ps)
 as_many ps = sym (length-map (places_from 0 0 [] ps) (entry_at ps)) ∙ ap length (numbered_entries ps)
 
 -- a piece by its place, the end of a group where there is none
@@ -145,7 +145,7 @@ pub piece_found : {A : Type 0} (xs ys : List (code.Piece A)) (k : ℕ) (r : Opti
 piece_found xs ys k r e same = piece_or-found r ∙ ap seen_piece (e ∙ ap (λ l. get_or l k code_pieces.Closing) same) ∙ sym (get_or-seen xs k)
 
 -- the item with a number
-pub entry_found : (ps : List Piece) (ns : List Numbered) (es : List Entry) (k : ℕ) (at : Numbered) (p : Piece) (e : Entry) → map (entry_at ps) ns ≡ es → k < length es → at ≡ get_or ns k at → p ≡ get_or ps at.piece closing
+pub entry_found : (ps : List Piece) (ns : List Numbered) (es : List CheckedEntry) (k : ℕ) (at : Numbered) (p : Piece) (e : CheckedEntry) → map (entry_at ps) ns ≡ es → k < length es → at ≡ get_or ns k at → p ≡ get_or ps at.piece closing
     → e ≡ entry_of at.level p → slice_get es k ≡ Some e
 entry_found ps ns es k at p e same h is found seen =
     let within : k < length ns = let l = length-map ns (entry_at ps) in let m = ap length same in omega arith in

@@ -4,7 +4,7 @@ use Rattle.std.proofs.Common.{ap, sym, ◌∙◌, get_or}
 use Rattle.std.proofs.lemmas.List.{drop_more, get_or-map, length-map}
 use Rattle.std.proofs.lemmas.List.Sums.{fold-append}
 use Rattle.query_model.specs.declared.faults.Fault.{Fault}
-use Rattle.query_check.specs.declared.places.Place.{Place}
+use Rattle.query_check.specs.declared.places.PartPlace.{PartPlace}
 use Rattle.query_check.specs.Seen.{level_uses}
 use Rattle.query_model.specs.Cascades.{Cascading, cascades, misplaced}
 use Rattle.query_model.specs.Check.{Known, cascade_fault, counted_spans, faults, faults_of_use, item_at, most_names, most_terms, new_names, too_deep, too_deep_part, unbound}
@@ -36,7 +36,7 @@ one_seen_judged view f ys i found least next more d j h same e =
     one_judged f (map view ys) i found least next more (view d) j (rw (length-map ys view) h) (ap f (get_or-map view ys i d (view d) h) ∙ same) e
 
 -- the depth of one part more
-pub depth_judged : (ps : List Part) (i : ℕ) (p : Part) (q : Place) (found least next : Option Fault) (more : List Fault) → IsJudging too_deep_part (placed_parts ps) i found least → IsPartAt ps i p q
+pub depth_judged : (ps : List Part) (i : ℕ) (p : Part) (q : PartPlace) (found least next : Option Fault) (more : List Fault) → IsJudging too_deep_part (placed_parts ps) i found least → IsPartAt ps i p q
     → ((path : Path) → length path ≡ q.depth → more ≡ too_deep path p) → next ≡ least_from least more → IsJudging too_deep_part (placed_parts ps) (i + 1) found next
 depth_judged ps i p q found least next more j at deep e =
     one_judged too_deep_part (placed_parts ps) i found least next more ([], p) j at.within

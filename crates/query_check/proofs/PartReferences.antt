@@ -11,12 +11,12 @@ use Rattle.query_model.specs.declared.Span.{Span}
 use Rattle.query_model.specs.declared.syntax.Role.TheVariants.{And, Or, Not, Optional}
 use Rattle.query_check.specs.declared.uses.Use as code_use
 use Rattle.query_check.specs.declared.scope.Occurrence as code_occurrence
-use Rattle.query_check.specs.declared.places.Place.{Place}
+use Rattle.query_check.specs.declared.places.PartPlace.{PartPlace}
 use Rattle.query_check.specs.Places.{place_of, place_of_part, places_of}
 use Rattle.query_check.specs.Seen.{as_alternative, at_level, level_uses, level_uses_of, seen_use, seen_occurrence, sighted, sighting_of}
-use Rattle.query_model.specs.Levels.{Path, alternatives, followed, level_of, path_behind, placed, placed_parts}
+use Rattle.query_model.specs.Levels.{Path, alternatives, level_of, path_behind, placed, placed_parts, with_alternatives}
 use Rattle.query_model.specs.Scope.{binds, binds_in, is_bound, occurrence_of, occurrences_of, sighting, sightings, spoken_at}
-use Rattle.query_model.specs.Syntax.{Part, Spoken, TermSyntax, Word, Var, Any, One, term, opened, closed, equality}
+use Rattle.query_model.specs.Syntax.{Part, Spoken, TermSyntax, Word, Var, Any, AnyOnce, term, opened, closed, equality}
 use Rattle.query_model.specs.Uses.{Use, uses_of}
 
 -- the parts that have paths are the parts
@@ -53,12 +53,12 @@ one_seen_less view f ys i start now next more d l h same e =
     one_less f (map view ys) i start now next more (view d) l (rw (length-map ys view) h) (ap f (get_or-map view ys i d (view d) h) ∙ same) e
 
 -- a part with its path, as the code knows both
-pub record IsPartAt (ps : List Part) (i : ℕ) (p : Part) (q : Place) : Type 0 where
+pub record IsPartAt (ps : List Part) (i : ℕ) (p : Part) (q : PartPlace) : Type 0 where
   pub within : i < length (placed_parts ps)
   pub part : (get_or (placed_parts ps) i ([], p)).1 ≡ p
   pub place : place_of (get_or (placed_parts ps) i ([], p)).0 ≡ q
 
-pub part_at : (ps : List Part) (i : ℕ) (p : Part) (places : List Place) (d : Place) → places ≡ places_of ps → i < length ps → get_or ps i p ≡ p → IsPartAt ps i p (get_or places i d)
+pub part_at : (ps : List Part) (i : ℕ) (p : Part) (places : List PartPlace) (d : PartPlace) → places ≡ places_of ps → i < length ps → get_or ps i p ≡ p → IsPartAt ps i p (get_or places i d)
 part_at ps i p places d e h same =
     let within : i < length (placed_parts ps) = rw (placed-length ps) h in
     record {
@@ -68,7 +68,7 @@ part_at ps i p places d e h same =
     }
 
 -- the references of one part more
-pub part_used : (ps : List Part) (i : ℕ) (p : Part) (q : Place) (start now next : List (ℕ × Use)) → HasLeft level_uses_of (placed_parts ps) i start now → IsPartAt ps i p q
+pub part_used : (ps : List Part) (i : ℕ) (p : Part) (q : PartPlace) (start now next : List (ℕ × Use)) → HasLeft level_uses_of (placed_parts ps) i start now → IsPartAt ps i p q
     → next ≡ now ++ map (at_level q.level) (uses_of p) → HasLeft level_uses_of (placed_parts ps) (i + 1) start next
 part_used ps i p q start now next l at e =
     one_less level_uses_of (placed_parts ps) i start now next (map (at_level q.level) (uses_of p)) ([], p) l at.within
@@ -94,7 +94,7 @@ sighted-spoken : (path : Path) (w : Spoken) (s : Span) → sighted (level_of pat
 sighted-spoken path (Word n) s = refl
 sighted-spoken path (Var n) s = refl
 sighted-spoken path Any s = refl
-sighted-spoken path One s = refl
+sighted-spoken path AnyOnce s = refl
 
 sighted-uses : (path : Path) (us : List Use) → flat_map sighting_of (map (at_level (level_of path)) us) ≡ map sighting (flat_map (occurrence_of path) us)
 sighted-uses path [] = refl
@@ -131,11 +131,11 @@ pub not_first : (l m : ℕ) (b : Bool) → l ≢ m → (l == m && b) ≡ false
 not_first l m b ne = ap (λ t. t && b) (ne_eqb l m ne)
 
 -- each part with the alternatives behind it
-pub followed-length : (qs : List (Path × Part)) → length (followed qs) ≡ length qs
+pub followed-length : (qs : List (Path × Part)) → length (with_alternatives qs) ≡ length qs
 followed-length [] = refl
 followed-length (q ∷ qs) = ap suc (followed-length qs)
 
-followed_get : (qs : List (Path × Part)) (i : ℕ) (d : Path × Part) → i < length qs → get_or (followed qs) i (d, []) ≡ (get_or qs i d, alternatives (map (λ q. q.1) (drop (suc i) qs)))
+followed_get : (qs : List (Path × Part)) (i : ℕ) (d : Path × Part) → i < length qs → get_or (with_alternatives qs) i (d, []) ≡ (get_or qs i d, alternatives (map (λ q. q.1) (drop (suc i) qs)))
 followed_get [] i d h = absurd (omega arith)
 followed_get (q ∷ qs) zero d h = refl
 followed_get (q ∷ qs) (suc i) d h = followed_get qs i d (omega arith)
@@ -144,12 +144,12 @@ parts_behind : (ps : List Part) (i : ℕ) → map (λ q. q.1) (drop i (placed_pa
 parts_behind ps i = sym (drop-map (λ q. q.1) i (placed_parts ps)) ∙ ap (drop i) (placed-parts 1 [] ps)
 
 -- a part with its path and the alternatives behind it, as the code knows them
-pub record IsFollowedAt (ps : List Part) (i : ℕ) (p : Part) (q : Place) (others : List TermSyntax) : Type 0 where
+pub record IsFollowedAt (ps : List Part) (i : ℕ) (p : Part) (q : PartPlace) (others : List TermSyntax) : Type 0 where
   pub at : IsPartAt ps i p q
-  pub within : i < length (followed (placed_parts ps))
-  pub is : get_or (followed (placed_parts ps)) i (([], p), []) ≡ (get_or (placed_parts ps) i ([], p), others)
+  pub within : i < length (with_alternatives (placed_parts ps))
+  pub is : get_or (with_alternatives (placed_parts ps)) i (([], p), []) ≡ (get_or (placed_parts ps) i ([], p), others)
 
-pub followed_at : (ps : List Part) (i : ℕ) (p : Part) (q : Place) (behind : List Part) → IsPartAt ps i p q → behind ≡ drop (i + 1) ps → IsFollowedAt ps i p q (alternatives behind)
+pub followed_at : (ps : List Part) (i : ℕ) (p : Part) (q : PartPlace) (behind : List Part) → IsPartAt ps i p q → behind ≡ drop (i + 1) ps → IsFollowedAt ps i p q (alternatives behind)
 followed_at ps i p q behind at e =
     let next : suc i ≡ i + 1 = omega arith in
     let others : alternatives (map (λ q. q.1) (drop (suc i) (placed_parts ps))) ≡ alternatives behind = ap alternatives (parts_behind ps (suc i) ∙ ap (λ k. drop k ps) next ∙ sym e) in
@@ -161,22 +161,22 @@ followed_at ps i p q behind at e =
 
 -- whether one of the parts from a number on binds a variable
 pub record IsBoundBehind (ps : List Part) (n : List ℕ) (level : ℕ) (i : ℕ) : Type 0 where
-  pub same : is_bound ps n level ≡ list_any (binds_in n level) (drop i (followed (placed_parts ps)))
+  pub same : is_bound ps n level ≡ list_any (binds_in n level) (drop i (with_alternatives (placed_parts ps)))
 
 module _ (ps : List Part) (n : List ℕ) (level : ℕ) where
   pub none_binds : (i : ℕ) → IsBoundBehind ps n level i → length ps ≤ i → false ≡ is_bound ps n level
-  none_binds i b h = sym (b.same ∙ ap (list_any (binds_in n level)) (drop_all i (followed (placed_parts ps)) (rw (followed-length (placed_parts ps), placed-length ps) h)))
+  none_binds i b h = sym (b.same ∙ ap (list_any (binds_in n level)) (drop_all i (with_alternatives (placed_parts ps)) (rw (followed-length (placed_parts ps), placed-length ps) h)))
 
-  module _ (i : ℕ) (b : IsBoundBehind ps n level i) (p : Part) (q : Place) (others : List TermSyntax) (f : IsFollowedAt ps i p q others) where
+  module _ (i : ℕ) (b : IsBoundBehind ps n level i) (p : Part) (q : PartPlace) (others : List TermSyntax) (f : IsFollowedAt ps i p q others) where
     abbrev rest : Bool
-    rest = list_any (binds_in n level) (drop (i + 1) (followed (placed_parts ps)))
+    rest = list_any (binds_in n level) (drop (i + 1) (with_alternatives (placed_parts ps)))
 
     split : is_bound ps n level ≡ (q.level == level && binds n others p || rest)
     split =
-        b.same ∙ ap (list_any (binds_in n level)) (drop_more (followed (placed_parts ps)) i (([], p), []) f.within)
+        b.same ∙ ap (list_any (binds_in n level)) (drop_more (with_alternatives (placed_parts ps)) i (([], p), []) f.within)
         ∙ ap (λ r. binds_in n level r || rest) f.is
         ∙ ap (λ r. level_of (get_or (placed_parts ps) i ([], p)).0 == level && binds n others r || rest) (f.at).part
-        ∙ ap (λ (r : Place). r.level == level && binds n others p || rest) (f.at).place
+        ∙ ap (λ (r : PartPlace). r.level == level && binds n others p || rest) (f.at).place
 
     pub one_binds : (q.level == level && binds n others p) ≡ true → true ≡ is_bound ps n level
     one_binds e = sym (split ∙ ap (λ t. t || rest) e)

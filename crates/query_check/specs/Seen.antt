@@ -12,7 +12,7 @@ use Rattle.query_model.specs.Uses.{Use, uses_of}
 use Rattle.query_model.specs.Scope.{Sighting}
 use Rattle.query_model.specs.Numbers.{Variable}
 use Rattle.query_model.specs.Check.{Known}
-use Rattle.query_model.specs.Query.{Item, must, may, either, equal, differ, Piece, item, opening, closing, Query, check_of, Entry, simple, group}
+use Rattle.query_model.specs.Query.{Item, must, may, either, equal, differ, Piece, item, opening, closing, Query, check_of, CheckedEntry, simple, group}
 use Rattle.query_check.specs.declared.cascades.Cascading as code_cascading
 use Rattle.query_check.specs.declared.uses.Use as code_use
 use Rattle.query_check.specs.declared.scope.Occurrence as code_occurrence
@@ -81,16 +81,16 @@ seen_piece (Opening from_term own) = opening from_term own.items
 seen_piece Closing = closing
 
 -- an item or a group, and where the code finds it among the pieces
-abbrev pub seen_entry : {A : Type 0} → code_entry.Entry A → Entry
+abbrev pub seen_entry : {A : Type 0} → code_entry.Entry A → CheckedEntry
 seen_entry (code_entries.Item level i) = simple level (seen_item i.now)
 seen_entry (code_entries.Group level from_term own) = group level from_term own.now
 
-abbrev pub entry_of : ℕ → Piece → Entry
+abbrev pub entry_of : ℕ → Piece → CheckedEntry
 entry_of level (item i) = simple level i
 entry_of level (opening from_term own) = group level from_term own
 entry_of level closing = group level false []
 
-abbrev pub entry_at : List Piece → Numbered → Entry
+abbrev pub entry_at : List Piece → Numbered → CheckedEntry
 entry_at pieces n = entry_of n.level (get_or pieces n.piece closing)
 
 -- the answer of the check; where memory is refused, it may say so in place of it

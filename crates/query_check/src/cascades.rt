@@ -6,7 +6,7 @@ ghost use Rattle.query_check.specs.Seen.{seen_cascading};
 ghost use Rattle.query_model.specs.Cascades.{cascades, cascading_in, is_misplaced, is_this_source};
 ghost use Rattle.query_model.specs.Seen.{seen_part, seen_reference};
 
-use crate::places::Place;
+use crate::places::PartPlace;
 use crate::scope::{THIS, is_variable};
 use query_model::Span;
 use query_model::syntax::{Flags, Part, Reference, Rise, RiseWord, TermSyntax};
@@ -28,7 +28,7 @@ pub(crate) struct Cascading<'a> {
 pub(crate) fn cascades<'a, A: Allocator>(
     alloc: A,
     parts: &[Part<'a>],
-    places: &[Place],
+    places: &[PartPlace],
 ) -> Result<Vec<Cascading<'a>, A>, AllocError>
     requires places { places.now ≡ places_of (map seen_part parts.now) }
     requires length { length places.now ≡ length parts.now }

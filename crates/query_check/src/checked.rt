@@ -14,7 +14,7 @@ ghost use Rattle.query_model.specs.Seen.{seen_part, seen_syntax};
 use crate::cascades::{Cascading, cascades};
 use crate::faults::{of_cascades, of_depth, of_names, of_terms, of_unbound, of_uses};
 use crate::lookup::Lookup;
-use crate::places::{Place, places};
+use crate::places::{PartPlace, places};
 use crate::query::{Query, build};
 use crate::scope::{Occurrence, occurrences};
 use crate::uses::{Use, uses};
@@ -77,7 +77,7 @@ fn least_fault<A: Allocator + Copy, W: Lookup>(
     alloc: A,
     world: &W,
     parts: &[Part<'_>],
-    places: &[Place],
+    places: &[PartPlace],
     uses: &[Use<'_>],
     found: &[Occurrence<'_>],
     cascades: &[Cascading<'_>],

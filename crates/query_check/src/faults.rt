@@ -6,7 +6,8 @@ ghost use Rattle.query_check.specs.Found.{AreFound, IsFound};
 ghost use Rattle.query_check.specs.Places.{IsRooted, IsTree, places_of};
 ghost use Rattle.query_check.specs.Seen.{seen_cascading, seen_use, seen_occurrence};
 ghost use Rattle.query_model.specs.Cascades.{is_misplaced, misplaced};
-ghost use Rattle.query_model.specs.Check.{Known, cascade_fault, counted_spans, faults_of_position, faults_of_use, item_at, most_names, most_terms, new_names, not_traversable, too_deep, too_deep_part, unbound, unknown_word, wildcard};
+ghost use Rattle.query_model.specs.Check.{Known, cascade_fault, counted_spans, faults_of_position, faults_of_use, item_at, most_names, most_terms, new_names};
+ghost use Rattle.query_model.specs.Check.{not_traversable, too_deep, too_deep_part, unbound, unknown_word, wildcard};
 ghost use Rattle.query_model.specs.Faults.{is_before, kind_number, fault_at, least_from, lesser};
 ghost use Rattle.query_model.specs.Levels.{Path, placed_parts};
 ghost use Rattle.query_model.specs.Scope.{occurrences, sighting, sightings, this};
@@ -15,7 +16,7 @@ ghost use Rattle.query_model.specs.Scope as specs;
 
 use crate::cascades::{Cascading, is_misplaced};
 use crate::lookup::Lookup;
-use crate::places::Place;
+use crate::places::PartPlace;
 use crate::scope::{Occurrence, THIS, is_bound, owner};
 use crate::uses::Use;
 use query_model::Span;
@@ -111,7 +112,8 @@ fn unknown_word(used: &Use<'_>) -> Option<Fault>
 /// The fault that a reference has for what it is to its part.
 fn of_position<W: Lookup>(world: &W, used: &Use<'_>) -> Option<Fault>
     requires { IsFound (W.known world.now) used.now }
-    ensures { let r = seen_reference (used.now).reference in option_to_list result ≡ faults_of_position (W.known world.now) (used.now).position r.spoken r.span }
+    ensures { let r = seen_reference (used.now).reference in option_to_list result
+        ≡ faults_of_position (W.known world.now) (used.now).position r.spoken r.span }
 {
     match used.position {
         Position::Risen => not_traversable(world, used),
@@ -139,13 +141,17 @@ fn wildcard(kind: FaultKind, reference: &Reference<'_>) -> Option<Fault>
     ensures { let r = seen_reference reference.now in option_to_list result ≡ wildcard kind r.spoken r.span }
 {
     match reference.spoken {
-        Spoken::Any | Spoken::One => Some(fault_at(kind, reference.span)),
+        Spoken::Any | Spoken::AnyOnce => Some(fault_at(kind, reference.span)),
         _ => None,
     }
 }
 
 /// The least fault of groups that are too deep.
-pub(crate) fn of_depth(parts: &[Part<'_>], places: &[Place], found: Option<Fault>) -> Option<Fault>
+pub(crate) fn of_depth(
+    parts: &[Part<'_>],
+    places: &[PartPlace],
+    found: Option<Fault>,
+) -> Option<Fault>
     requires places { places.now ≡ places_of (map seen_part parts.now) }
     requires length { length places.now ≡ length parts.now }
     ensures { result ≡ least_from found (flat_map too_deep_part (placed_parts (map seen_part parts.now))) }
@@ -213,7 +219,8 @@ pub(crate) fn of_names<A: Allocator + Copy>(
     occurrences: &[Occurrence<'_>],
     found: Option<Fault>,
 ) -> Result<Option<Fault>, AllocError>
-    ensures { IfOk result (λ least. least ≡ least_from found (map (λ s. fault_at FaultKind.TooManyVariables s.span) (item_at most_names (new_names (this ∷ []) (map seen_occurrence occurrences.now))))) }
+    ensures { IfOk result (λ least. least ≡ least_from found (map (λ s. fault_at FaultKind.TooManyVariables s.span)
+        (item_at most_names (new_names (this ∷ []) (map seen_occurrence occurrences.now))))) }
 {
     if occurrences.len() <= MOST_NAMES {
         return Ok(found);
@@ -230,7 +237,8 @@ fn one_name_too_many<'a, A: Allocator + Copy>(
     alloc: A,
     occurrences: &[Occurrence<'a>],
 ) -> Result<Option<Occurrence<'a>>, AllocError>
-    ensures { IfOk result (λ found. option_to_list (option_map seen_occurrence found) ≡ item_at most_names (new_names (this ∷ []) (map seen_occurrence occurrences.now))) }
+    ensures { IfOk result (λ found. option_to_list (option_map seen_occurrence found)
+        ≡ item_at most_names (new_names (this ∷ []) (map seen_occurrence occurrences.now))) }
 {
     let mut seen = Vec::new(alloc);
     seen.push(THIS)?;
@@ -260,7 +268,7 @@ fn is_among(names: &[&[u8]], name: &[u8]) -> bool
 /// The least fault of variables that aren't bound.
 pub(crate) fn of_unbound(
     parts: &[Part<'_>],
-    places: &[Place],
+    places: &[PartPlace],
     found_in: &[Occurrence<'_>],
     found: Option<Fault>,
 ) -> Option<Fault>
@@ -280,7 +288,7 @@ pub(crate) fn of_unbound(
 /// The lesser of the fault that was found and that of a variable that isn't bound.
 fn of_variable(
     parts: &[Part<'_>],
-    places: &[Place],
+    places: &[PartPlace],
     found_in: &[Occurrence<'_>],
     occurrence: &Occurrence<'_>,
     found: Option<Fault>,

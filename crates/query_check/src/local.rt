@@ -27,7 +27,7 @@ fn asks_first_alone(term: &Term) -> bool
     term.source.is_first()
         && term.on_source
         && term.up.is_none()
-        && term.first.is_constant()
+        && term.component.is_constant()
         && term.target.map_or(true, Ref::is_constant)
 }
 

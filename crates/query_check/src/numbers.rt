@@ -9,7 +9,7 @@ ghost use Rattle.query_model.specs.Numbers.{add_new, has_this, understands_this,
 ghost use Rattle.query_model.specs.Scope.{occurrences, owner, sightings};
 ghost use Rattle.query_model.specs.Seen.{seen_part};
 
-use crate::places::Place;
+use crate::places::PartPlace;
 use crate::query::Scope;
 use crate::scope::{Occurrence, THIS, owner};
 use query_model::syntax::Part;
@@ -27,7 +27,7 @@ pub(crate) struct Variable<'a> {
 pub(crate) fn variables<'a, A: Allocator + Copy>(
     alloc: A,
     parts: &[Part<'a>],
-    places: &[Place],
+    places: &[PartPlace],
     found: &[Occurrence<'a>],
 ) -> Result<Vec<Variable<'a>, A>, AllocError>
     requires places { places.now ≡ places_of (map seen_part parts.now) }
@@ -60,7 +60,8 @@ fn add_new<'a, A: Allocator>(
     owned: &[Variable<'a>],
     whole: bool,
 ) -> Result<(), AllocError>
-    ensures { IfOk result (λ _. map seen_variable numbered.new.items ≡ fold add_new (map seen_variable numbered.old.items) (filter (is_whole whole) (map seen_variable owned.now))) }
+    ensures { IfOk result (λ _. map seen_variable numbered.new.items
+        ≡ fold add_new (map seen_variable numbered.old.items) (filter (is_whole whole) (map seen_variable owned.now))) }
 {
     for variable in owned {
         if is_whole(variable, whole) && !is_among(numbered.as_slice(), variable) {

@@ -12,7 +12,7 @@ use std::alloc::{AllocError, Allocator};
 ///
 /// A level goes by the number of the part that begins it, counted from 1, and the whole query by 0.
 #[derive(Clone, Copy, Debug, PartialEq, Eq)]
-pub(crate) struct Place {
+pub(crate) struct PartPlace {
     pub(crate) level: usize,
     pub(crate) outer: usize,
     pub(crate) depth: usize,
@@ -22,13 +22,13 @@ pub(crate) struct Place {
 pub(crate) fn places<A: Allocator + Copy>(
     alloc: A,
     parts: &[Part<'_>],
-) -> Result<Vec<Place, A>, AllocError>
+) -> Result<Vec<PartPlace, A>, AllocError>
     ensures places { IfOk result (λ places. places.items ≡ places_of (map seen_part parts.now)) }
     ensures length { IfOk result (λ places. length places.items ≡ length parts.now) }
     ensures tree { IfOk result (λ places. IsTree places.items) }
 {
     let mut places = Vec::with_capacity(alloc, parts.len())?;
-    let mut around = Place {
+    let mut around = PartPlace {
         level: 0,
         outer: 0,
         depth: 0,
@@ -42,12 +42,12 @@ pub(crate) fn places<A: Allocator + Copy>(
 }
 
 /// Where a part with a number stands, if the parts before it end in this place.
-fn place_in(number: usize, around: Place, part: &Part<'_>) -> Place
+fn place_in(number: usize, around: PartPlace, part: &Part<'_>) -> PartPlace
     requires { around.depth < number }
     ensures { (path : Path) → IsPlaceOf around path → IsPlaceOf result (path_in number path (seen_part part.now)) }
 {
     match part {
-        Part::Opened(_) | Part::Term(Role::Not, _) => Place {
+        Part::Opened(_) | Part::Term(Role::Not, _) => PartPlace {
             level: number,
             outer: around.level,
             depth: around.depth + 1,
@@ -57,7 +57,12 @@ fn place_in(number: usize, around: Place, part: &Part<'_>) -> Place
 }
 
 /// Where the part behind a part stands, unless it begins a level.
-fn place_behind(places: &[Place], around: Place, place: Place, part: &Part<'_>) -> Place
+fn place_behind(
+    places: &[PartPlace],
+    around: PartPlace,
+    place: PartPlace,
+    part: &Part<'_>,
+) -> PartPlace
     requires { around.outer ≤ length places.now }
     ensures { (path : Path) → IsPlaceOf around path → IsRooted places.now path
         → IsPlaceOf place (path_in (length places.now + 1) path (seen_part part.now))
@@ -65,7 +70,7 @@ fn place_behind(places: &[Place], around: Place, place: Place, part: &Part<'_>) 
 {
     match part {
         Part::Opened(_) => place,
-        Part::Closed => Place {
+        Part::Closed => PartPlace {
             level: around.outer,
             outer: if around.outer == 0 {
                 0

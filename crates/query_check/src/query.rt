@@ -1,14 +1,17 @@
 //! The checked query, and how it is built from a syntax without faults.
 
-ghost use Rattle.std.specs.Prelude.{◌≡◌, ◌<◌, ◌≤◌, ◌==◌, ◌++◌, [], ◌∷◌, ◌↔◌, IsTrue, flat_map, fold, length, map, option_map, slice_get, IfOk, MatchOption, Some, Ok, Err};
+ghost use Rattle.std.specs.Prelude.{◌≡◌, ◌<◌, ◌≤◌, ◌==◌, ◌++◌, [], ◌∷◌, ◌↔◌, IsTrue, flat_map, fold, length, map, option_map, slice_get, IfOk, MatchOption};
+ghost use Rattle.std.specs.Prelude.{Some, Ok, Err};
 ghost use Rattle.std.specs.List.{list_all, list_any};
 ghost use Rattle.query_check.specs.Found.{AreFound, IsFound, follows_ref, inherited_ref};
 ghost use Rattle.query_check.specs.Places.{IsRooted, IsTree, places_of};
 ghost use Rattle.query_check.specs.Numbered.{places_from};
 ghost use Rattle.query_check.specs.Seen.{level_uses, seen_cascading, seen_entry, seen_item, seen_occurrence, seen_piece, seen_use, seen_variable, syntax_of};
-ghost use Rattle.query_model.specs.Levels.{Path, alternatives, followed, level_of, placed_parts};
+ghost use Rattle.query_model.specs.Levels.{Path, alternatives, level_of, placed_parts, with_alternatives};
 ghost use Rattle.query_model.specs.Cascades.{cascades as cascades_in};
-ghost use Rattle.query_model.specs.Query.{add_mention, cascade_of, chain_of, checked_equality, checked_query, checked_term, entity_cascaded, entity_of, entries, is_definite_target, on_source_of, pieces_of, pieces_of_part, ref_of, mention_of, mentioned_by, is_as_checked, is_current, source_of, up_of, visible_names};
+ghost use Rattle.query_model.specs.Query.{add_mention, cascade_of, chain_of, checked_equality, checked_query, checked_term, entity_cascaded, entity_of};
+ghost use Rattle.query_model.specs.Query.{checked_entries, is_definite_target, on_source_of, pieces_of, pieces_of_part, ref_of, mention_of, mentioned_by};
+ghost use Rattle.query_model.specs.Query.{is_as_checked, is_current, source_of, up_of, visible_names};
 ghost use Rattle.query_model.specs.Faults.{fault_at};
 ghost use Rattle.query_model.specs.Local.{is_local, is_simple};
 ghost use Rattle.query_model.specs.Observers.{monitored, observed, whole};
@@ -25,7 +28,7 @@ use crate::local::{are_local, are_simple, has_must, is_one_term};
 use crate::lookup::Lookup;
 use crate::numbered::{Entry, Numbered, entry_in, places_of_entries};
 use crate::numbers::{Variable, has_this, number_of, own_numbers, variables};
-use crate::places::Place;
+use crate::places::PartPlace;
 use crate::scope::{Occurrence, alternative, name_of};
 use crate::terms::terms;
 use crate::uses::Use;
@@ -130,7 +133,8 @@ impl<A: Allocator> Model for Query<A> {
       length = q.length;
     } };
 
-    ghost invariant = { λ q. (q.numbered.items ≡ places_from 0 0 [] (map seen_piece q.pieces.items)) × (q.terms.items ≡ flat_map piece_terms (map seen_piece q.pieces.items)) };
+    ghost invariant = { λ q. (q.numbered.items ≡ places_from 0 0 [] (map seen_piece q.pieces.items))
+        × (q.terms.items ≡ flat_map piece_terms (map seen_piece q.pieces.items)) };
 }
 
 impl<A: Allocator> Query<A> {
@@ -164,7 +168,7 @@ impl<A: Allocator> Query<A> {
 
     /// How many items there are, groups and the items inside them among them. Their numbers are those below.
     pub fn items(&self) -> usize
-        ensures { result ≡ length (entries self.now) }
+        ensures { result ≡ length (checked_entries self.now) }
     {
         self.numbered.len()
     }
@@ -178,8 +182,8 @@ impl<A: Allocator> Query<A> {
 
     /// The item or the group with a number, and its level.
     pub fn entry<'q>(&'q self, number: usize) -> Entry<'q, A>
-        requires { number < length (entries self.now) }
-        ensures { slice_get (entries self.now) number ≡ Some (seen_entry result) }
+        requires { number < length (checked_entries self.now) }
+        ensures { slice_get (checked_entries self.now) number ≡ Some (seen_entry result) }
     {
         let at = self.numbered[number];
         entry_in(at.level, self.pieces.get(at.piece))
@@ -300,7 +304,7 @@ pub(crate) fn build<'a, A: Allocator + Copy, W: Lookup>(
     world: &W,
     parts: &[Part<'a>],
     text_length: usize,
-    places: &[Place],
+    places: &[PartPlace],
     uses: &[Use<'a>],
     found: &[Occurrence<'a>],
     cascades: &[Cascading<'a>],
@@ -390,7 +394,8 @@ fn mentions<A: Allocator, W: Lookup>(
     uses: &[Use<'_>],
 ) -> Result<Vec<Mention, A>, AllocError>
     requires { AreFound (W.known world.now) uses.now }
-    ensures { IfOk result (λ mentions. mentions.items ≡ fold (add_mention (W.known world.now)) [] (flat_map (λ u. mentioned_by (W.known world.now) u.1) (map seen_use uses.now))) }
+    ensures { IfOk result (λ mentions. mentions.items ≡ fold (add_mention (W.known world.now)) []
+        (flat_map (λ u. mentioned_by (W.known world.now) u.1) (map seen_use uses.now))) }
 {
     let mut mentions = Vec::with_capacity(alloc, uses.len())?;
     for used in uses {
@@ -406,7 +411,8 @@ fn add_named<A: Allocator, W: Lookup>(
     mentions: &mut Vec<Mention, A>,
 ) -> Result<(), AllocError>
     requires { IsFound (W.known world.now) used.now }
-    ensures { IfOk result (λ _. mentions.new.items ≡ fold (add_mention (W.known world.now)) mentions.old.items (mentioned_by (W.known world.now) (seen_use used.now).1)) }
+    ensures { IfOk result (λ _. mentions.new.items ≡ fold (add_mention (W.known world.now)) mentions.old.items
+        (mentioned_by (W.known world.now) (seen_use used.now).1)) }
 {
     match used.entity {
         Some(entity) => add_mention(world, entity, mentions),
@@ -448,7 +454,7 @@ fn mention_of<W: Lookup>(world: &W, entity: EntityId) -> Mention
 /// What the references of a query are read by: the places of its parts, its variables where they occur, and by number.
 #[derive(Clone, Copy)]
 pub(crate) struct Scope<'s, 'a> {
-    pub(crate) places: &'s [Place],
+    pub(crate) places: &'s [PartPlace],
     pub(crate) found: &'s [Occurrence<'a>],
     pub(crate) numbered: &'s [Variable<'a>],
 }
@@ -463,7 +469,9 @@ pub(crate) fn pieces<A: Allocator + Copy, W: Lookup>(
     requires places { scope.now.places.now ≡ places_of (map seen_part parts.now) }
     requires length { length scope.now.places.now ≡ length parts.now }
     requires tree { IsTree scope.now.places.now }
-    ensures { IfOk result (λ pieces. map seen_piece pieces.items ≡ flat_map (pieces_of_part (W.known world.now) (map seen_occurrence scope.now.found.now) (map seen_variable scope.now.numbered.now)) (followed (placed_parts (map seen_part parts.now)))) }
+    ensures { IfOk result (λ pieces. map seen_piece pieces.items
+        ≡ flat_map (pieces_of_part (W.known world.now) (map seen_occurrence scope.now.found.now) (map seen_variable scope.now.numbered.now))
+        (with_alternatives (placed_parts (map seen_part parts.now)))) }
 {
     let mut pieces = Vec::new(alloc);
     for (i, part) in parts.iter().enumerate() {
@@ -493,7 +501,9 @@ fn add_pieces<A: Allocator + Copy, W: Lookup>(
     requires tree { IsTree scope.now.places.now }
     requires within { level ≤ length scope.now.places.now }
     ensures { IfOk result (λ _. (path : Path) → level ≡ level_of path → IsRooted scope.now.places.now path
-        → map seen_piece pieces.new.items ≡ map seen_piece pieces.old.items ++ pieces_of (W.known world.now) (map seen_occurrence scope.now.found.now) (map seen_variable scope.now.numbered.now) path (alternatives (map seen_part behind.now)) (seen_part part.now)) }
+        → map seen_piece pieces.new.items ≡ map seen_piece pieces.old.items
+        ++ pieces_of (W.known world.now) (map seen_occurrence scope.now.found.now) (map seen_variable scope.now.numbered.now) path
+        (alternatives (map seen_part behind.now)) (seen_part part.now)) }
 {
     match part {
         Part::Term(Role::And, term) => {
@@ -537,7 +547,8 @@ fn add_opening<A: Allocator + Copy>(
     from_term: bool,
     pieces: &mut Vec<Piece<A>, A>,
 ) -> Result<(), AllocError>
-    ensures { IfOk result (λ _. map seen_piece pieces.new.items ≡ map seen_piece pieces.old.items ++ specs.opening from_term (numbers_from 0 level (map seen_variable scope.now.numbered.now)) ∷ []) }
+    ensures { IfOk result (λ _. map seen_piece pieces.new.items
+        ≡ map seen_piece pieces.old.items ++ specs.opening from_term (numbers_from 0 level (map seen_variable scope.now.numbered.now)) ∷ []) }
 {
     pieces.reserve(1)?;
     let own = own_numbers(alloc, scope.numbered, level)?;
@@ -568,7 +579,8 @@ fn add_chain<A: Allocator, W: Lookup>(
     requires within { level ≤ length scope.now.places.now }
     ensures { IfOk result (λ _. (path : Path) → level ≡ level_of path → IsRooted scope.now.places.now path
         → let term_at = checked_term (W.known world.now) (map seen_occurrence scope.now.found.now) (map seen_variable scope.now.numbered.now) path in
-        map seen_piece pieces.new.items ≡ map seen_piece pieces.old.items ++ specs.item (chain_of (term_at (seen_term term.now)) (map term_at (alternatives (map seen_part behind.now)))) ∷ []) }
+        map seen_piece pieces.new.items ≡ map seen_piece pieces.old.items
+        ++ specs.item (chain_of (term_at (seen_term term.now)) (map term_at (alternatives (map seen_part behind.now)))) ∷ []) }
 {
     let first = term_of(world, scope, level, term);
     if !has_alternative(behind) {
@@ -600,7 +612,8 @@ fn add_alternatives<A: Allocator, W: Lookup>(
     requires tree { IsTree scope.now.places.now }
     requires within { level ≤ length scope.now.places.now }
     ensures { IfOk result (λ _. (path : Path) → level ≡ level_of path → IsRooted scope.now.places.now path
-        → all.new.items ≡ all.old.items ++ map (checked_term (W.known world.now) (map seen_occurrence scope.now.found.now) (map seen_variable scope.now.numbered.now) path) (alternatives (map seen_part parts.now))) }
+        → all.new.items ≡ all.old.items ++ map (checked_term (W.known world.now) (map seen_occurrence scope.now.found.now)
+        (map seen_variable scope.now.numbered.now) path) (alternatives (map seen_part parts.now))) }
 {
     for part in parts {
         let Some(term) = alternative(part) else {
@@ -616,21 +629,22 @@ fn term_of<W: Lookup>(world: &W, scope: &Scope<'_, '_>, level: usize, term: &Ter
     requires tree { IsTree scope.now.places.now }
     requires within { level ≤ length scope.now.places.now }
     ensures { (path : Path) → level ≡ level_of path → IsRooted scope.now.places.now path
-        → result ≡ checked_term (W.known world.now) (map seen_occurrence scope.now.found.now) (map seen_variable scope.now.numbered.now) path (seen_term term.now) }
+        → result ≡ checked_term (W.known world.now) (map seen_occurrence scope.now.found.now) (map seen_variable scope.now.numbered.now) path
+        (seen_term term.now) }
 {
     let risen = up_of(world, &term.flags);
-    let first = ref_of(world, scope, level, &term.first);
-    let closed = is_definite_target(&term.target) && risen.is_none() && follows(world, first);
-    let reads_bases = term.flags.is_none() && !closed && is_inherited(world, first);
+    let component = ref_of(world, scope, level, &term.component);
+    let closed = is_definite_target(&term.target) && risen.is_none() && follows(world, component);
+    let reads_bases = term.flags.is_none() && !closed && is_inherited(world, component);
     let up = if reads_bases { Some(IS_A) } else { risen };
     Term {
-        first,
+        component,
         target: target_of(world, scope, level, &term.target),
         source: source_of(world, scope, level, &term.source),
         on_source: on_source_of(&term.flags),
         up,
         closed,
-        valued: term.valued,
+        shows_value: term.shows_value,
     }
 }
 
@@ -643,7 +657,8 @@ fn target_of<W: Lookup>(
     requires tree { IsTree scope.now.places.now }
     requires within { level ≤ length scope.now.places.now }
     ensures { (path : Path) → level ≡ level_of path → IsRooted scope.now.places.now path
-        → result ≡ option_map (ref_of (W.known world.now) (map seen_occurrence scope.now.found.now) (map seen_variable scope.now.numbered.now) path) (option_map seen_reference target.now) }
+        → result ≡ option_map (ref_of (W.known world.now) (map seen_occurrence scope.now.found.now) (map seen_variable scope.now.numbered.now) path)
+        (option_map seen_reference target.now) }
 {
     match target {
         Some(reference) => Some(ref_of(world, scope, level, reference)),
@@ -661,7 +676,8 @@ fn source_of<W: Lookup>(
     requires tree { IsTree scope.now.places.now }
     requires within { level ≤ length scope.now.places.now }
     ensures { (path : Path) → level ≡ level_of path → IsRooted scope.now.places.now path
-        → result ≡ source_of (W.known world.now) (map seen_occurrence scope.now.found.now) (map seen_variable scope.now.numbered.now) path (option_map seen_reference source.now) }
+        → result ≡ source_of (W.known world.now) (map seen_occurrence scope.now.found.now) (map seen_variable scope.now.numbered.now) path
+        (option_map seen_reference source.now) }
 {
     match source {
         Some(reference) => ref_of(world, scope, level, reference),
@@ -679,13 +695,14 @@ fn ref_of<W: Lookup>(
     requires tree { IsTree scope.now.places.now }
     requires within { level ≤ length scope.now.places.now }
     ensures { (path : Path) → level ≡ level_of path → IsRooted scope.now.places.now path
-        → result ≡ ref_of (W.known world.now) (map seen_occurrence scope.now.found.now) (map seen_variable scope.now.numbered.now) path (seen_reference reference.now) }
+        → result ≡ ref_of (W.known world.now) (map seen_occurrence scope.now.found.now) (map seen_variable scope.now.numbered.now) path
+        (seen_reference reference.now) }
 {
     match reference.spoken {
         Spoken::Word(word) => Ref::Is(entity_of(world, word)),
         Spoken::Variable(name) => Ref::Var(number_of(scope, name_of(name), level)),
         Spoken::Any => Ref::Any,
-        Spoken::One => Ref::One,
+        Spoken::AnyOnce => Ref::AnyOnce,
     }
 }
 
@@ -759,7 +776,8 @@ fn equality<A: Allocator, W: Lookup>(
     requires tree { IsTree scope.now.places.now }
     requires within { level ≤ length scope.now.places.now }
     ensures { (path : Path) → level ≡ level_of path → IsRooted scope.now.places.now path
-        → seen_item result ≡ checked_equality (W.known world.now) (map seen_occurrence scope.now.found.now) (map seen_variable scope.now.numbered.now) path (seen_reference left.now).spoken same (seen_reference right.now) }
+        → seen_item result ≡ checked_equality (W.known world.now) (map seen_occurrence scope.now.found.now) (map seen_variable scope.now.numbered.now) path
+        (seen_reference left.now).spoken same (seen_reference right.now) }
 {
     let other = ref_of(world, scope, level, right);
     let Spoken::Variable(name) = left.spoken else {

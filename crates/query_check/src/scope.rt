@@ -8,7 +8,7 @@ ghost use Rattle.query_model.specs.Levels.{Path, alternatives, level_of};
 ghost use Rattle.query_model.specs.Scope.{binds, is_bound, is_sighting_of, is_variable, is_variable_if_written, is_word, names_variable, occurs_in, owner};
 ghost use Rattle.query_model.specs.Seen.{seen_part, seen_reference, seen_term};
 
-use crate::places::Place;
+use crate::places::PartPlace;
 use crate::uses::Use;
 use query_model::Span;
 use query_model::syntax::{Part, Reference, Role, Spoken, TermSyntax};
@@ -67,7 +67,7 @@ pub(crate) fn name_of<'a>(variable: &'a str) -> &'a [u8]
 /// The level to which a variable belongs that occurs in a level: the outermost on the way to the whole query in which its name
 /// occurs directly.
 pub(crate) fn owner(
-    places: &[Place],
+    places: &[PartPlace],
     occurrences: &[Occurrence<'_>],
     name: &[u8],
     level: usize,
@@ -110,7 +110,7 @@ fn is_of(occurrence: &Occurrence<'_>, name: &[u8], level: usize) -> bool
 }
 
 /// Whether a variable of a level is bound.
-pub(crate) fn is_bound(parts: &[Part<'_>], places: &[Place], name: &[u8], level: usize) -> bool
+pub(crate) fn is_bound(parts: &[Part<'_>], places: &[PartPlace], name: &[u8], level: usize) -> bool
     requires places { places.now ≡ places_of (map seen_part parts.now) }
     requires length { length places.now ≡ length parts.now }
     ensures { result ≡ is_bound (map seen_part parts.now) name.now level }
@@ -166,7 +166,7 @@ pub(crate) fn alternative<'p, 'a>(part: &'p Part<'a>) -> Option<&'p TermSyntax<'
 fn names_variable(term: &TermSyntax<'_>, name: &[u8]) -> bool
     ensures { result ≡ names_variable name.now (seen_term term.now) }
 {
-    is_variable(&term.first, name)
+    is_variable(&term.component, name)
         || is_variable_if_written(&term.source, name)
         || is_variable_if_written(&term.target, name)
 }

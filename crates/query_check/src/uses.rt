@@ -9,7 +9,7 @@ ghost use Rattle.query_model.specs.Seen.{seen_part, seen_reference, seen_term};
 ghost use Rattle.query_model.specs.Uses.{risen, uses_of, uses_of_term, written};
 
 use crate::lookup::Lookup;
-use crate::places::Place;
+use crate::places::PartPlace;
 use ecs_id::EntityId;
 use query_model::query::Position;
 use query_model::syntax::{Flags, Part, Reference, Rise, Spoken, TermSyntax};
@@ -29,7 +29,7 @@ pub(crate) fn uses<'a, A: Allocator + Copy, W: Lookup>(
     alloc: A,
     world: &W,
     parts: &[Part<'a>],
-    places: &[Place],
+    places: &[PartPlace],
 ) -> Result<Vec<Use<'a>, A>, AllocError>
     requires places { places.now ≡ places_of (map seen_part parts.now) }
     requires length { length places.now ≡ length parts.now }
@@ -73,7 +73,7 @@ fn add_term<'a, A: Allocator, W: Lookup>(
     ensures uses { IfOk result (λ _. map seen_use uses.new.items ≡ map seen_use uses.old.items ++ map (at_level level) (uses_of_term (seen_term term.now))) }
     ensures found { AreFound (W.known world.now) uses.old.items → IfOk result (λ _. AreFound (W.known world.now) uses.new.items) }
 {
-    add(world, level, Position::Component, &term.first, uses)?;
+    add(world, level, Position::Component, &term.component, uses)?;
     add_written(world, level, Position::Source, &term.source, uses)?;
     if let Some(along) = risen(term) {
         add(world, level, Position::Risen, along, uses)?;
@@ -89,7 +89,8 @@ fn add_written<'a, A: Allocator, W: Lookup>(
     reference: &Option<Reference<'a>>,
     uses: &mut Vec<Use<'a>, A>,
 ) -> Result<(), AllocError>
-    ensures uses { IfOk result (λ _. map seen_use uses.new.items ≡ map seen_use uses.old.items ++ map (at_level level) (written position (option_map seen_reference reference.now))) }
+    ensures uses { IfOk result (λ _. map seen_use uses.new.items
+        ≡ map seen_use uses.old.items ++ map (at_level level) (written position (option_map seen_reference reference.now))) }
     ensures found { AreFound (W.known world.now) uses.old.items → IfOk result (λ _. AreFound (W.known world.now) uses.new.items) }
 {
     match reference {
@@ -106,7 +107,8 @@ fn add<'a, A: Allocator, W: Lookup>(
     reference: &Reference<'a>,
     uses: &mut Vec<Use<'a>, A>,
 ) -> Result<(), AllocError>
-    ensures uses { IfOk result (λ _. map seen_use uses.new.items ≡ map seen_use uses.old.items ++ map (at_level level) (written position (Some (seen_reference reference.now)))) }
+    ensures uses { IfOk result (λ _. map seen_use uses.new.items
+        ≡ map seen_use uses.old.items ++ map (at_level level) (written position (Some (seen_reference reference.now)))) }
     ensures found { AreFound (W.known world.now) uses.old.items → IfOk result (λ _. AreFound (W.known world.now) uses.new.items) }
 {
     let entity = entity_named(world, reference);

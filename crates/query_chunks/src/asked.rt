@@ -105,7 +105,7 @@ pub(crate) fn hit(ids: &[Id], term: &Term) -> Option<Id>
 {
     let mut rest = ids;
     while let Some((id, later)) = rest.split_first() {
-        if is_named(term.first, term.target, *id) {
+        if is_named(term.component, term.target, *id) {
             return Some(*id);
         }
         rest = later;

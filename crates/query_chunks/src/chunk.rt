@@ -171,7 +171,7 @@ fn column_of_id<'r, A: Allocator>(
 ) -> Column<'r, A>
     ensures { seen_column result ≡ column_of_id world.now.state table.now term.now id }
 {
-    if !term.valued {
+    if !term.shows_value {
         return Column::Id(id);
     }
     match world.type_of(id) {

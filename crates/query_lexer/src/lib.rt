@@ -133,7 +133,8 @@ fn sign(rest: &[u8]) -> Option<(TokenKind, usize)>
 fn variable_len(rest: &[u8]) -> Option<usize>
     requires { 0 < length rest.now }
     ensures { MatchOption result (variable_at (drop 1 rest.now) ≡ None)
-        (λ len. (len ≡ 1 + prefix_len is_word_byte (drop 1 rest.now)) × (len ≤ length rest.now) × (variable_at (drop 1 rest.now) ≡ Some (Variable (take (prefix_len is_word_byte (drop 1 rest.now)) (drop 1 rest.now))))) }
+        (λ len. (len ≡ 1 + prefix_len is_word_byte (drop 1 rest.now)) × (len ≤ length rest.now)
+        × (variable_at (drop 1 rest.now) ≡ Some (Variable (take (prefix_len is_word_byte (drop 1 rest.now)) (drop 1 rest.now))))) }
 {
     let name = &rest[1..];
     if name.is_empty() || !is_letter(name[0]) {

@@ -1,8 +1,8 @@
 pub mod MentionedIds
-pub mod Passing
+pub mod PiecePasses
 pub mod AscendingLists
 pub mod LocalMatches
 pub mod Moves
 pub mod Parity
-pub mod Pass
+pub mod NumberPasses
 pub mod LocalTellings

@@ -10,12 +10,12 @@ use Rattle.std.proofs.lemmas.List.Kept.{IsStrictlyIncreasing-filter}
 use Rattle.ecs_id.specs.Id.{Id, plain, pair}
 use Rattle.ecs_model.specs.rows.Level.{Level, done, also, unless, top}
 use Rattle.ecs_model.specs.rows.Rows as meant
-use Rattle.ecs_model.specs.rows.Rows.{candidates, Assignment, Field, Unset, assignments, fits, matches, keeps_one, hits, fields_of_term, shown, shown_fields, same_entity, fields_of_item, solutions, passes_over, row_of, rows_under, rows}
+use Rattle.ecs_model.specs.rows.Rows.{candidates, Assignment, Field, Unset, assignments, fits, matches, keeps_first_hit, hits, fields_of_term, shown, shown_fields, same_entity, fields_of_item, solutions, passes_over, row_of, rows_under, rows}
 use Rattle.ecs_model.specs.rows.View.{View}
-use Rattle.ecs_model.specs.traits.Rules.{prefab, disabled}
+use Rattle.ecs_model.specs.steps.Rules.{prefab, disabled}
 use Rattle.ecs_model.specs.stored.Watches.{is_this, matching}
 use Rattle.query_model.specs.declared.query.Ref.{Ref}
-use Rattle.query_model.specs.declared.query.Ref.TheVariants.{Is, Var, Any, One}
+use Rattle.query_model.specs.declared.query.Ref.TheVariants.{Is, Var, Any, AnyOnce}
 use Rattle.query_model.specs.declared.query.Term.{Term}
 use Rattle.query_model.specs.Query.{Item, must, may, either, equal, differ, item, Query}
 use Rattle.query_model.specs.Local.{asks_first, is_local_piece}
@@ -29,7 +29,7 @@ use Rattle.query_meaning.proofs.Numbers.{contains-from_In}
 use Rattle.query_local.specs.Judging.{has_hit, is_same, item_holds, judged, stands_for, suits}
 use Rattle.query_local.proofs.AscendingLists.{contains-filter}
 use Rattle.query_meaning.proofs.Locality.{is_local_level, one_visible, top_local}
-use Rattle.query_local.proofs.Passing.{level_holds, holds_is}
+use Rattle.query_local.proofs.PiecePasses.{level_holds, holds_is}
 
 -- ---- where `$this` is one entity
 
@@ -44,7 +44,7 @@ fits_one e d (Is c) = refl
 fits_one e d (Var zero) = refl
 fits_one e d (Var (suc v)) = ap (λ o. option_eq ◌==◌ o (Some d)) (other_unset e v) ∙ sym (ap (λ b. b && e == d) (isnt_first v))
 fits_one e d Any = refl
-fits_one e d One = refl
+fits_one e d AnyOnce = refl
 
 matches_one : (e : ℕ) (first : Ref) (target : Option Ref) (i : Id) → matches (one e) first target i ≡ suits e first target i
 matches_one e first None (plain c) = fits_one e c first
@@ -69,9 +69,9 @@ module _ (w : View) (e : ℕ) where
   some_hits : (t : Term) → some (hits w (one e) t e) ≡ has_hit e (w.ids e) t
   unfolding hits
   some_hits t =
-      some-taken (keeps_one t) (filter (matches (one e) t.first t.target) (w.ids e))
-      ∙ some-filter (matches (one e) t.first t.target) (w.ids e)
-      ∙ (λ i. list_any (λ j. matches_one e t.first t.target j i) (w.ids e))
+      some-taken (keeps_first_hit t) (filter (matches (one e) t.component t.target) (w.ids e))
+      ∙ some-filter (matches (one e) t.component t.target) (w.ids e)
+      ∙ (λ i. list_any (λ j. matches_one e t.component t.target j i) (w.ids e))
 
   some_shown : (t : Term) → asks_first t ≡ true → some (shown_fields w (one e) t) ≡ has_hit e (w.ids e) t
   some_shown t h =

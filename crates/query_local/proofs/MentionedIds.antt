@@ -2,8 +2,8 @@
 use Rattle.std.proofs.Common.{◌≡◌, ℕ, suc, zero, Bool, true, false, List, [], ◌∷◌, refl, sym, ap, ◌∙◌}
 use Rattle.std.specs.Prelude.{◌&&◌, ◌||◌}
 use Rattle.std.proofs.Math.Bool.{or-false}
-use Rattle.query_meaning.proofs.Flat.{or_assoc}
-use Rattle.ecs_model.specs.rows.Level.{Level, done, also, unless, top, then_level, joined, open_levels, first_level, other_levels}
+use Rattle.query_meaning.proofs.FlatItems.{or_assoc}
+use Rattle.ecs_model.specs.rows.Level.{Level, done, also, unless, top, then_level, joined_levels, open_levels, first_level, other_levels}
 use Rattle.ecs_model.specs.rows.Rows.{item_mentions, level_mentions}
 use Rattle.query_local.specs.Mentions.{hidden_behind, hidden_around, counted, mentions_from}
 use Rattle.query_model.specs.Query.{Item, Piece, item, opening, closing, Query}
@@ -55,9 +55,9 @@ module _ (tag : ℕ) where
   then_mentions (also i l) m = ap (λ t. item_mentions tag i || t) (then_mentions l m) ∙ sym (or_assoc (item_mentions tag i) (level_mentions tag l) (level_mentions tag m))
   then_mentions (unless from_term own inner l) m = ap (λ t. from_term && level_mentions tag inner || t) (then_mentions l m) ∙ sym (or_assoc (from_term && level_mentions tag inner) (level_mentions tag l) (level_mentions tag m))
 
-  joined_mentions : (ls : List Level) → level_mentions tag (joined ls) ≡ any_level zero ls
+  joined_mentions : (ls : List Level) → level_mentions tag (joined_levels ls) ≡ any_level zero ls
   joined_mentions [] = refl
-  joined_mentions (l ∷ ls) = then_mentions l (joined ls) ∙ ap (λ t. level_mentions tag l || t) (joined_mentions ls)
+  joined_mentions (l ∷ ls) = then_mentions l (joined_levels ls) ∙ ap (λ t. level_mentions tag l || t) (joined_mentions ls)
 
   pub mentions_is : (q : Query) → mentions_from tag 0 q.pieces ≡ level_mentions tag (top q)
   unfolding top

@@ -33,7 +33,7 @@ fn any_has_hit(entity: u32, ids: &[Id], terms: &[Term]) -> bool
 fn has_hit(entity: u32, ids: &[Id], term: &Term) -> bool
     ensures { result ≡ has_hit entity ids.now term.now }
 {
-    let first = term.first;
+    let first = term.component;
     let target = term.target;
     ids.iter().any(|id| suits(entity, first, target, *id))
 }
@@ -58,7 +58,7 @@ fn stands_for(entity: u32, index: u32, reference: Ref) -> bool
     match reference {
         Ref::Is(named) => named == index,
         Ref::Var(variable) => variable == 0 && entity == index,
-        Ref::Any | Ref::One => true,
+        Ref::Any | Ref::AnyOnce => true,
     }
 }
 

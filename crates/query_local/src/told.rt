@@ -30,8 +30,10 @@ pub fn local_told<A: Allocator + Copy>(
 ) -> Result<Told<A>, AllocError>
     requires local { IsLocal query.now }
     requires ascends { IsStrictlyIncreasing (map (λ t. t.index) touched.now) }
-    ensures left { IfOk result (λ told. (w v : View) → IsStrictlyIncreasing w.entities → IsStrictlyIncreasing v.entities → AreTouched (map touch_of touched.now) w v → told.left.items ≡ missing_from (matching w query.now) (matching v query.now)) }
-    ensures entered { IfOk result (λ told. (w v : View) → IsStrictlyIncreasing w.entities → IsStrictlyIncreasing v.entities → AreTouched (map touch_of touched.now) w v → told.entered.items ≡ missing_from (matching v query.now) (matching w query.now)) }
+    ensures left { IfOk result (λ told. (w v : View) → IsStrictlyIncreasing w.entities → IsStrictlyIncreasing v.entities
+        → AreTouched (map touch_of touched.now) w v → told.left.items ≡ missing_from (matching w query.now) (matching v query.now)) }
+    ensures entered { IfOk result (λ told. (w v : View) → IsStrictlyIncreasing w.entities → IsStrictlyIncreasing v.entities
+        → AreTouched (map touch_of touched.now) w v → told.entered.items ≡ missing_from (matching v query.now) (matching w query.now)) }
 {
     told_of(alloc, query, touched)
 }

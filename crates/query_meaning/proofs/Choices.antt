@@ -5,12 +5,12 @@ use Rattle.std.specs.List.{list_any}
 use Rattle.std.specs.Option.{option_map_or}
 use Rattle.std.specs.Ordering.{nat_cmp}
 use Rattle.std.proofs.lemmas.Bool.{false≢true, eqb-true, ne_eqb}
-use Rattle.ecs_model.specs.Links.{line}
+use Rattle.ecs_model.specs.Links.{ancestor_line}
 use Rattle.ecs_model.specs.Map.{with_value}
 use Rattle.ecs_model.specs.rows.Rows.{Assignment, closed_fields, fields_of_term, first_nonempty, hits, meant, product}
 use Rattle.ecs_model.specs.rows.View.{View}
 use Rattle.query_model.specs.declared.query.Ref.{Ref}
-use Rattle.query_model.specs.declared.query.Ref.TheVariants.{Is, Var, Any, One}
+use Rattle.query_model.specs.declared.query.Ref.TheVariants.{Is, Var, Any, AnyOnce}
 use Rattle.query_model.specs.declared.query.Term.{Term}
 use Rattle.query_model.specs.Observers.{is_first}
 use Rattle.query_meaning.proofs.LevelHolding.{has_some}
@@ -88,7 +88,7 @@ pub source_first : (r : Ref) → is_first r ≡ true → r ≡ Var 0
 source_first (Is e) h = absurd (false≢true h)
 source_first (Var v) h = ap Var (eqb-true v 0 h)
 source_first Any h = absurd (false≢true h)
-source_first One h = absurd (false≢true h)
+source_first AnyOnce h = absurd (false≢true h)
 
 pub none_of : {A : Type 0} (o : Option A) → is_none o ≡ true → o ≡ None
 none_of None h = refl
@@ -102,5 +102,5 @@ pub fields-on_this : (w : View) (e : ℕ) (t : Term) → t.source ≡ Var 0 → 
     → fields_of_term w (one e) t ≡ first_nonempty (map (λ m. map (λ j. (m, j)) (hits w (one e) t m)) (e ∷ []))
 unfolding fields_of_term
 fields-on_this w e t source on up closed = λ i. option_map_or (λ s.
-    if closed i then closed_fields w (meant (one e) t.first) s (option_map_or (meant (one e)) t.target None)
-    else first_nonempty (map (λ m. map (λ j. (m, j)) (hits w (one e) t m)) ((if on i then s ∷ [] else []) ++ option_map_or (λ r. line w.ids w.entities r s) (up i) []))) (meant (one e) (source i)) []
+    if closed i then closed_fields w (meant (one e) t.component) s (option_map_or (meant (one e)) t.target None)
+    else first_nonempty (map (λ m. map (λ j. (m, j)) (hits w (one e) t m)) ((if on i then s ∷ [] else []) ++ option_map_or (λ r. ancestor_line w.ids w.entities r s) (up i) []))) (meant (one e) (source i)) []

@@ -11,7 +11,7 @@ use Rattle.query_model.specs.declared.query.Mention.{Mention}
 use Rattle.query_model.specs.declared.query.Position.{Position}
 use Rattle.query_model.specs.declared.query.Position.TheVariants.{Component, Source, Target, Risen, Right}
 use Rattle.query_model.specs.Faults.{fault_at}
-use Rattle.query_model.specs.Syntax.{Spoken, Word, Var, Any, One, Reference, at, TermSyntax}
+use Rattle.query_model.specs.Syntax.{Spoken, Word, Var, Any, AnyOnce, Reference, at, TermSyntax}
 use Rattle.query_model.specs.Levels.{Path}
 use Rattle.query_model.specs.Uses.{Use, risen, uses_of_term, written}
 use Rattle.query_model.specs.Scope.{Sighting}
@@ -21,15 +21,15 @@ use Rattle.query_model.specs.Query.{Item, must, may, either, equal, differ, Quer
 use Rattle.ecs_model.specs.Map.{value_at}
 use Rattle.ecs_model.specs.Query.{known_of}
 use Rattle.ecs_model.specs.World.{WorldState, entities}
-use Rattle.ecs_model.proofs.Steps.{there}
-use Rattle.ecs_model.proofs.traits.Facts.{live_listed}
+use Rattle.ecs_model.proofs.MadeEntities.{there}
+use Rattle.ecs_model.proofs.steps.Facts.{live_listed}
 use Rattle.query_meaning.specs.Laws.{CheckedQueriesNameTheLiving}
 use Rattle.query_meaning.specs.Names.{entry_names, item_names, name_in, term_names}
 use Rattle.query_meaning.specs.Standing.{CurrentQueriesNameTheLiving}
 use Rattle.query_meaning.specs.Variables.{entries}
 use Rattle.query_model.proofs.SoundTerms.{left_nil}
 use Rattle.query_meaning.proofs.AskedQueries.{asked, checked_faultless}
-use Rattle.query_meaning.proofs.EachTerm.{All-left, All-right, holds_in_entries, of_item}
+use Rattle.query_meaning.proofs.ItemTests.{All-left, All-right, holds_in_entries, of_item}
 use Rattle.query_meaning.proofs.LevelHolding.{In-list_all}
 use Rattle.query_meaning.proofs.MentionedEntities.{IsGood, IsMentioned, asked_queries_are_current, from_checked, good_references, word_mentioned}
 
@@ -47,7 +47,7 @@ module _ (k : Known) (ms : List Mention) where
         All-cons Mentioned _ [] (word_mentioned k ms (k.named n) (fault_at UnknownName s) (left_nil unknown (faults_of_position k position (Word n) s) g.0) g.1) (All-nil Mentioned)
     spoken_named (Var v) s position g = All-nil Mentioned
     spoken_named Any s position g = All-nil Mentioned
-    spoken_named One s position g = All-nil Mentioned
+    spoken_named AnyOnce s position g = All-nil Mentioned
 
     reference_named : (r : Reference) (position : Position) → All Good (written position (Some r)) → All Mentioned (name_in (ref_of k all vs path r))
     reference_named r position g = spoken_named r.spoken r.span position (All-head Good (record { position = position; reference = r }) [] g)
@@ -62,17 +62,17 @@ module _ (k : Known) (ms : List Mention) where
 
     term_named : (t : TermSyntax) → All Good (uses_of_term t) → All Mentioned (term_names (checked_term k all vs path t))
     term_named t h =
-        let c = written Component (Some t.first) in
+        let c = written Component (Some t.component) in
         let s = written Source t.source in
         let r = written Risen (risen t) in
         let g = written Target t.target in
         let three = All-left Good (c ++ s ++ r) g h in
         let two = All-left Good (c ++ s) r three in
-        let first = name_in (ref_of k all vs path t.first) in
+        let first = name_in (ref_of k all vs path t.component) in
         let target = option_map_or name_in (option_map (ref_of k all vs path) t.target) [] in
         let source = name_in (source_of k all vs path t.source) in
         All-append Mentioned (first ++ target) source
-        (All-append Mentioned first target (reference_named t.first Component (All-left Good c s two)) (target_named t.target (All-right Good (c ++ s ++ r) g h)))
+        (All-append Mentioned first target (reference_named t.component Component (All-left Good c s two)) (target_named t.target (All-right Good (c ++ s ++ r) g h)))
         (source_named t.source (All-right Good c s two))
 
 -- all names in a query that a text asks are mentioned

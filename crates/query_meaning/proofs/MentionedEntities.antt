@@ -12,7 +12,7 @@ use Rattle.std.proofs.lemmas.Option.{same_Some}
 use Rattle.ecs_id.specs.declared.EntityId.{EntityId}
 use Rattle.query_model.specs.declared.faults.Fault.{Fault}
 use Rattle.query_model.specs.declared.query.Mention.{Mention}
-use Rattle.query_model.specs.Syntax.{Part, Spoken, Word, Var, Any, One, Syntax}
+use Rattle.query_model.specs.Syntax.{Part, Spoken, Word, Var, Any, AnyOnce, Syntax}
 use Rattle.query_model.specs.Uses.{Use, uses_of}
 use Rattle.query_model.specs.Check.{Known, faults, faults_of_use, when}
 use Rattle.query_model.specs.Query.{Query, add_mention, checked_query, is_as_checked, is_current, mention_of, mentioned_by, mentions_of, named_by}
@@ -173,7 +173,7 @@ module _ (w : WorldState) where
   spoken_alive (Word n) x i = found_alive (named w n) x (listed ((known_of w).named n) x i)
   spoken_alive (Var v) x i = absurd i
   spoken_alive Any x i = absurd i
-  spoken_alive One x i = absurd i
+  spoken_alive AnyOnce x i = absurd i
 
   mention_checked : (e : EntityId) → is_alive w e ≡ true → is_as_checked (known_of w) (mention_of (known_of w) e) ≡ true
   mention_checked e alive = to_checked (known_of w) (mention_of (known_of w) e) (alive, refl, refl, refl, refl)

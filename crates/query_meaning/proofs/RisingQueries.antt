@@ -11,7 +11,7 @@ use Rattle.query_model.specs.declared.faults.FaultKind.TheVariants.{NotTraversab
 use Rattle.query_model.specs.declared.query.Mention.{Mention}
 use Rattle.query_model.specs.declared.query.Position.TheVariants.{Component, Source, Target, Risen}
 use Rattle.query_model.specs.Faults.{fault_at}
-use Rattle.query_model.specs.Syntax.{Spoken, Word, Var, Any, One, Reference, at, Up, Cascade, Rise, none, up, Flags, TermSyntax, Part, term, opened, closed, equality, Syntax}
+use Rattle.query_model.specs.Syntax.{Spoken, Word, Var, Any, AnyOnce, Reference, at, Up, Cascade, Rise, none, up, Flags, TermSyntax, Part, term, opened, closed, equality, Syntax}
 use Rattle.query_model.specs.Levels.{Path, path_behind, path_in, placed}
 use Rattle.query_model.specs.Uses.{Use, along_what, rise_of, risen, uses_of, uses_of_term, written}
 use Rattle.query_model.specs.Scope.{Sighting}
@@ -26,15 +26,15 @@ use Rattle.ecs_model.specs.World.{WorldState, first_world, holds, ids_of, key_cm
 use Rattle.query_meaning.specs.Laws.{CheckedQueriesGoUpWithoutCycles}
 use Rattle.query_meaning.specs.Names.{entry_rises, item_rises, term_rises}
 use Rattle.query_meaning.specs.Standing.{CurrentQueriesGoUpWithoutCycles, CurrentQueriesOrderWithoutCycles, IsCurrentIn}
-use Rattle.ecs_model.specs.traits.Keeps.{IsWellFormed}
+use Rattle.ecs_model.specs.steps.WellFormed.{IsWellFormed}
 use Rattle.query_meaning.specs.Variables.{entries}
 use Rattle.query_model.proofs.SoundTerms.{left_nil}
 use Rattle.query_meaning.proofs.AskedQueries.{asked, checked_faultless}
-use Rattle.query_meaning.proofs.EachTerm.{All-left, All-right, holds_in_entries, of_item}
+use Rattle.query_meaning.proofs.ItemTests.{All-left, All-right, holds_in_entries, of_item}
 use Rattle.query_meaning.proofs.LevelHolding.{In-list_all}
 use Rattle.query_meaning.proofs.Lists.{In}
 use Rattle.query_meaning.proofs.MentionedEntities.{IsGood, IsMentioned, asked_queries_are_current, from_checked, good_references, word_mentioned}
-use Rattle.query_meaning.proofs.CheckedSound.{not_faulty}
+use Rattle.query_meaning.proofs.CheckedQueries.{not_faulty}
 
 module _ (k : Known) (ms : List Mention) where
   abbrev Good : Use → Type 0
@@ -57,7 +57,7 @@ module _ (k : Known) (ms : List Mention) where
       All-cons GoesUp _ [] (inr (word_mentioned k ms (k.named n) (fault_at UnknownName s) (left_nil unknown _ g.0) g.1, found_traversable (k.named n) s g.0)) (All-nil GoesUp)
   spoken_goes_up (Var v) s g = All-nil GoesUp
   spoken_goes_up Any s g = All-nil GoesUp
-  spoken_goes_up One s g = All-nil GoesUp
+  spoken_goes_up AnyOnce s g = All-nil GoesUp
 
   along_goes_up : (r : Option Reference) → All Good (written Risen r) → All GoesUp (option_to_list (entity_along k r))
   along_goes_up None g = All-cons GoesUp child_of [] (inl (inl refl)) (All-nil GoesUp)
@@ -80,7 +80,7 @@ module _ (k : Known) (ms : List Mention) where
   spoken_cascaded (Word n) s g = named_goes_up (k.named n) (All-head GoesUp _ [] (spoken_goes_up (Word n) s g))
   spoken_cascaded (Var v) s g = All-nil (λ (e : EntityId). GoesUp e.index)
   spoken_cascaded Any s g = All-nil (λ (e : EntityId). GoesUp e.index)
-  spoken_cascaded One s g = All-nil (λ (e : EntityId). GoesUp e.index)
+  spoken_cascaded AnyOnce s g = All-nil (λ (e : EntityId). GoesUp e.index)
 
   along_cascaded : (r : Option Reference) → All Good (written Risen r) → All (λ (e : EntityId). GoesUp e.index) (option_to_list (entity_cascaded k r))
   along_cascaded None g = All-cons (λ (e : EntityId). GoesUp e.index) (record { index = child_of; generation = 0 }) [] (inl (inl refl)) (All-nil (λ (e : EntityId). GoesUp e.index))
@@ -93,7 +93,7 @@ module _ (k : Known) (ms : List Mention) where
 
   part_written : (levels : ℕ) (p : Part) → All Good (uses_of p) → All (λ (c : Cascading). All Good (written Risen c.along)) (cascading_in levels p)
   part_written levels (term role t) h =
-      let c = written Component (Some t.first) in
+      let c = written Component (Some t.component) in
       let s = written Source t.source in
       let r = written Risen (risen t) in
       let g = written Target t.target in
@@ -115,7 +115,7 @@ module _ (k : Known) (ms : List Mention) where
 
   term_goes_up : (all : List Sighting) (vs : List Variable) (path : Path) (t : TermSyntax) → All Good (uses_of_term t) → All GoesUp (term_rises (checked_term k all vs path t))
   term_goes_up all vs path t h =
-      let c = written Component (Some t.first) in
+      let c = written Component (Some t.component) in
       let s = written Source t.source in
       let r = written Risen (risen t) in
       let g = written Target t.target in

@@ -51,8 +51,8 @@ module _ (w : View) (keeps : HasNoRepeats w) where
 
   one_source_at : (a : Assignment) (t : Term) (s : ℕ) → HasOneSource (fields_at w a t s)
   one_source_at a t s =
-      elim t.closed as (λ b. HasOneSource (if b then closed_fields w (meant a t.first) s (option_map_or (meant a) t.target None) else first_nonempty (map (λ m. map (λ i. (m, i)) (hits w a t m)) (asked w t s)))) [
-        | true ↦ λ f g i j. source-closed (meant a t.first) s (option_map_or (meant a) t.target None) f i ∙ sym (source-closed (meant a t.first) s (option_map_or (meant a) t.target None) g j)
+      elim t.closed as (λ b. HasOneSource (if b then closed_fields w (meant a t.component) s (option_map_or (meant a) t.target None) else first_nonempty (map (λ m. map (λ i. (m, i)) (hits w a t m)) (asked w t s)))) [
+        | true ↦ λ f g i j. source-closed (meant a t.component) s (option_map_or (meant a) t.target None) f i ∙ sym (source-closed (meant a t.component) s (option_map_or (meant a) t.target None) g j)
         | false ↦ first_nonempty-keeps HasOneSource (λ f g i j. absurd i) (map (λ m. map (λ i. (m, i)) (hits w a t m)) (asked w t s)) (λ xs i.
             let r = In-map_from (λ m. map (λ j. (m, j)) (hits w a t m)) (asked w t s) xs i in
             subst HasOneSource r.2 (λ f g j k.

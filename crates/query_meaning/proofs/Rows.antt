@@ -24,7 +24,7 @@ use Rattle.ecs_model.specs.Links.{reaches}
 use Rattle.ecs_model.specs.Map.{IsMap, Map, keys}
 use Rattle.query_meaning.specs.Laws.{RowsAreDistinct}
 use Rattle.ecs_model.specs.rows.Level.{Level, also, done, top, unless}
-use Rattle.ecs_model.specs.rows.Rows.{row_of, Assignment, Field, Row, Unset, asked, assignments, candidates, closed_fields, fields_at, fields_of_item, fields_of_term, first_nonempty, hits, keeps_one, matches, meant, ordered, passes_over, product, rows, rows_under, same_entity, shown, shown_fields, solutions, visible}
+use Rattle.ecs_model.specs.rows.Rows.{row_of, Assignment, Field, Row, Unset, asked, assignments, candidates, closed_fields, fields_at, fields_of_item, fields_of_term, first_nonempty, hits, keeps_first_hit, matches, meant, ordered, passes_over, product, rows, rows_under, same_entity, shown, shown_fields, solutions, visible}
 use Rattle.query_meaning.specs.Variables.{contains}
 use Rattle.ecs_model.specs.rows.View.{HasNoRepeats, View}
 use Rattle.query_model.specs.Query.{Item, Query, differ, either, equal, may, must}
@@ -141,8 +141,8 @@ module _ (w : View) (keeps : HasNoRepeats w) where
   Distinct-hits : (a : Assignment) (t : Term) (m : ℕ) → Distinct (hits w a t m)
   unfolding hits
   Distinct-hits a t m =
-      let all = Distinct-filter (matches a t.first t.target) (w.ids m) (Distinct-ids m) in
-      elim (keeps_one t) as (λ b. Distinct (if b then take 1 (filter (matches a t.first t.target) (w.ids m)) else filter (matches a t.first t.target) (w.ids m))) [ true ↦ Distinct-one 1 (filter (matches a t.first t.target) (w.ids m)) all | false ↦ all ]
+      let all = Distinct-filter (matches a t.component t.target) (w.ids m) (Distinct-ids m) in
+      elim (keeps_first_hit t) as (λ b. Distinct (if b then take 1 (filter (matches a t.component t.target) (w.ids m)) else filter (matches a t.component t.target) (w.ids m))) [ true ↦ Distinct-one 1 (filter (matches a t.component t.target) (w.ids m)) all | false ↦ all ]
 
   Distinct-closed : (o : Option ℕ) (s : ℕ) (p : Option ℕ) → Distinct (closed_fields w o s p)
   Distinct-closed None s p = tt
@@ -151,8 +151,8 @@ module _ (w : View) (keeps : HasNoRepeats w) where
 
   Distinct-fields_at : (a : Assignment) (t : Term) (s : ℕ) → Distinct (fields_at w a t s)
   Distinct-fields_at a t s =
-      elim t.closed as (λ b. Distinct (if b then closed_fields w (meant a t.first) s (option_map_or (meant a) t.target None) else first_nonempty (map (λ m. map (λ i. (m, i)) (hits w a t m)) (asked w t s)))) [
-        | true ↦ Distinct-closed (meant a t.first) s (option_map_or (meant a) t.target None)
+      elim t.closed as (λ b. Distinct (if b then closed_fields w (meant a t.component) s (option_map_or (meant a) t.target None) else first_nonempty (map (λ m. map (λ i. (m, i)) (hits w a t m)) (asked w t s)))) [
+        | true ↦ Distinct-closed (meant a t.component) s (option_map_or (meant a) t.target None)
         | false ↦ first_nonempty-keeps Distinct tt (map (λ m. map (λ i. (m, i)) (hits w a t m)) (asked w t s)) (λ xs i.
             let r = In-map_from (λ m. map (λ j. (m, j)) (hits w a t m)) (asked w t s) xs i in
             subst Distinct r.2 (Distinct-map (λ j. (r.0, j)) (λ x y e. ap (λ z. z.1) e) (hits w a t r.0) (Distinct-hits a t r.0)))

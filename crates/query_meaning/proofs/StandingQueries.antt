@@ -11,7 +11,7 @@ use Rattle.ecs_id.specs.declared.EntityId.{EntityId}
 use Rattle.ecs_id.specs.Id.{plain}
 use Rattle.ecs_model.specs.declared.faults.Refusal.TheVariants.{Dead, BuiltIn, InUse, Panic, Full}
 use Rattle.ecs_model.specs.BuiltIns.{inherit_mode, transitive, reflexive, traversable}
-use Rattle.ecs_model.specs.Command.{Changed, counted, is_spent, next_entity, with_born, with_component, with_named}
+use Rattle.ecs_model.specs.steps.Outcomes.{Changed, counted, is_spent, next_entity, with_born, with_component, with_named}
 use Rattle.ecs_model.specs.Map.{count_at, has_key, keys, value_at, with_value}
 use Rattle.ecs_model.specs.Query.{known_of}
 use Rattle.ecs_model.specs.Refusal.{first_reason}
@@ -19,19 +19,19 @@ use Rattle.ecs_model.specs.Schema.{Schema}
 use Rattle.ecs_model.specs.Sets.{Set}
 use Rattle.ecs_model.specs.World.{WorldState, holds, is_alive, is_built_in, is_live}
 use Rattle.ecs_model.specs.rows.View.{view_of}
-use Rattle.ecs_model.specs.traits.Changes.{deleted, is_forbidden}
-use Rattle.ecs_model.specs.traits.Command.{Command, Fresh, Entity, Component, Add, SetValue, Remove, Delete, delete_reasons, effect, is_pinned, reasons, step, without_entities}
-use Rattle.ecs_model.specs.traits.Keeps.{IsWellFormed}
-use Rattle.ecs_model.specs.traits.Pins.{one_less, unpin, with_pins}
-use Rattle.ecs_model.specs.traits.Rules.{is_trait}
+use Rattle.ecs_model.specs.steps.FactChanges.{deleted, is_forbidden}
+use Rattle.ecs_model.specs.steps.Step.{Command, Fresh, Entity, Component, Add, SetValue, Remove, Delete, delete_reasons, effect, is_pinned, reasons, step, without_entities}
+use Rattle.ecs_model.specs.steps.WellFormed.{IsWellFormed}
+use Rattle.ecs_model.specs.steps.Pins.{one_less, unpin, with_pins}
+use Rattle.ecs_model.specs.steps.Rules.{is_trait}
 use Rattle.ecs_model.proofs.Additions.{none_passes}
 use Rattle.ecs_model.proofs.Maps.{nat_value_at}
 use Rattle.ecs_model.proofs.Reasons.{next_is_free, passed}
-use Rattle.ecs_model.proofs.Steps.{there}
-use Rattle.ecs_model.proofs.traits.Deletions.{nat_value_at-without, stays}
-use Rattle.ecs_model.proofs.traits.Kept.{refuted}
-use Rattle.ecs_model.proofs.traits.Order.{accepted_step}
-use Rattle.ecs_model.proofs.traits.TraitsStay.{component_traits, modes_stay, plain_traits_stay}
+use Rattle.ecs_model.proofs.MadeEntities.{there}
+use Rattle.ecs_model.proofs.steps.Deletions.{nat_value_at-without, stays}
+use Rattle.ecs_model.proofs.steps.LivingIds.{refuted}
+use Rattle.ecs_model.proofs.steps.RefusalNumbers.{accepted_step}
+use Rattle.ecs_model.proofs.steps.LastingTraits.{component_traits, modes_stay, plain_traits_stay}
 use Rattle.query_model.specs.declared.query.Mention.{Mention}
 use Rattle.query_model.specs.Query.{Query, is_as_checked}
 use Rattle.query_meaning.specs.Standing.{IsCurrentIn, PinsKeepQueriesCurrent, PinsKeepViews, StepsKeepPins, StepsKeepQueriesCurrent}

@@ -12,7 +12,7 @@ use Rattle.std.proofs.lemmas.Option.{same_Some}
 use Rattle.ecs_id.specs.Id.{Id, id_cmp, rank, first_of, target_or_zero}
 use Rattle.ecs_model.specs.Map.{Map, IsMap, keys}
 use Rattle.ecs_model.specs.World.{WorldState, Key, key_cmp, ids_of, entities}
-use Rattle.ecs_model.specs.traits.Keeps.{IsWellFormed}
+use Rattle.ecs_model.specs.steps.WellFormed.{IsWellFormed}
 use Rattle.ecs_model.specs.rows.View.{view_of}
 use Rattle.query_meaning.specs.Laws.{WorldsHaveNoRepeats}
 use Rattle.query_meaning.proofs.Lists.{In, Distinct, AllPairs-from_Distinct}

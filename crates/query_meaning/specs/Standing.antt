@@ -1,14 +1,14 @@
 -- Stored queries: what a query that a text asked in some earlier world has for as long as it is current, as statements.
 use Rattle.std.specs.Prelude.{◌≡◌, ℕ, ◌<◌, true, List, All, Ok}
 use Rattle.ecs_id.specs.declared.EntityId.{EntityId}
-use Rattle.ecs_model.specs.Command.{Changed}
+use Rattle.ecs_model.specs.steps.Outcomes.{Changed}
 use Rattle.ecs_model.specs.Map.{count_at}
 use Rattle.ecs_model.specs.Query.{known_of, query_of}
 use Rattle.ecs_model.specs.World.{WorldState}
 use Rattle.ecs_model.specs.rows.View.{view_of}
-use Rattle.ecs_model.specs.traits.Command.{Command, step}
-use Rattle.ecs_model.specs.traits.Keeps.{IsWellFormed}
-use Rattle.ecs_model.specs.traits.Pins.{with_pins, unpin}
+use Rattle.ecs_model.specs.steps.Step.{Command, step}
+use Rattle.ecs_model.specs.steps.WellFormed.{IsWellFormed}
+use Rattle.ecs_model.specs.steps.Pins.{with_pins, unpin}
 use Rattle.query_model.specs.Query.{Query, is_current}
 use Rattle.query_meaning.specs.Names.{AreNamesLive, GoesUpWithoutCycles, OrdersWithoutCycles}
 

@@ -1,7 +1,9 @@
 //! What is proved of the rows of queries and of plans: each function's contract is a law, and its body does nothing.
 
-ghost use Rattle.query_meaning.specs.Laws.{CheckedQueriesAreSound, CheckedQueriesGoUpWithoutCycles, CheckedQueriesNameTheLiving, ItemsGoByNumber, LocalByIds, PlansGiveAllRows, PlansGiveRows, RowsAreAnswers, RowsAreDistinct, RowsAreTheirIds, WorldsHaveNoRepeats};
-ghost use Rattle.query_meaning.specs.Standing.{AskedQueriesAreCurrent, CurrentQueriesGoUpWithoutCycles, CurrentQueriesNameTheLiving, CurrentQueriesOrderWithoutCycles, PinsKeepQueriesCurrent, PinsKeepViews, StepsKeepPins, StepsKeepQueriesCurrent};
+ghost use Rattle.query_meaning.specs.Laws.{CheckedQueriesAreSound, CheckedQueriesGoUpWithoutCycles, CheckedQueriesNameTheLiving, ItemsGoByNumber, LocalByIds};
+ghost use Rattle.query_meaning.specs.Laws.{PlansGiveAllRows, PlansGiveRows, RowsAreAnswers, RowsAreDistinct, RowsAreTheirIds, WorldsHaveNoRepeats};
+ghost use Rattle.query_meaning.specs.Standing.{AskedQueriesAreCurrent, CurrentQueriesGoUpWithoutCycles, CurrentQueriesNameTheLiving};
+ghost use Rattle.query_meaning.specs.Standing.{CurrentQueriesOrderWithoutCycles, PinsKeepQueriesCurrent, PinsKeepViews, StepsKeepPins, StepsKeepQueriesCurrent};
 
 /// Law: what the others ask of a query, every query has that a text asks.
 pub fn checked_queries_are_sound()

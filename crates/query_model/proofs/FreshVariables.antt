@@ -6,7 +6,7 @@ use Rattle.std.proofs.lemmas.Bool.{eqb-true, ltb-true}
 use Rattle.query_model.specs.declared.syntax.Role.TheVariants.{And, Or, Not, Optional}
 use Rattle.query_model.specs.Faults.{least_from}
 use Rattle.query_model.specs.Syntax.{Part, term, opened, closed, equality, Syntax}
-use Rattle.query_model.specs.Levels.{Path, followed, placed}
+use Rattle.query_model.specs.Levels.{Path, placed, with_alternatives}
 use Rattle.query_model.specs.Scope.{Sighting, occurrences, sightings}
 use Rattle.query_model.specs.Numbers.{Variable, has_this, is_whole, numbers_from, variable_of, variables}
 use Rattle.query_model.specs.Check.{Known, faults}
@@ -117,7 +117,7 @@ module _ (k : Known) (all : List Sighting) (vs : List Variable) (p : Parted vs) 
   around_less (l ∷ ls) = refl
 
   abbrev pieces_from : ℕ → Path → List Part → List Piece
-  pieces_from n path ps = flat_map (pieces_of_part k all vs) (followed (placed n path ps))
+  pieces_from n path ps = flat_map (pieces_of_part k all vs) (with_alternatives (placed n path ps))
 
   pieces_new : (n : ℕ) (path : Path) (ps : List Part) → 0 < n → Before n path → has_new_variables visible (around path) (pieces_from n path ps) ≡ true
   pieces_new n path [] h b = refl

@@ -11,7 +11,7 @@ use Rattle.query_model.specs.declared.syntax.Role.TheVariants.{And, Or, Not, Opt
 use Rattle.query_model.specs.Tokens.{Token, token, span_of, Name, Variable, Punct, End}
 use Rattle.query_model.specs.Syntax.{Spoken, Reference, at, Word, Var, RiseWord, Up, Cascade, Rise, none, up, Flags, flags, TermSyntax, Part, term, opened, closed, equality, component, pair_of, applied, with_target, ended_at}
 use Rattle.query_model.specs.Grammar.{is_access, shows_values, IsWord, plain_word, IsReference, word, variable, star, underscore, IsRiseWord, word_up, word_cascade, IsRise, up_alone, up_along, up_in_brackets, IsFlags, self_alone, rise_alone, self_or_rise, IsSource, reference_alone, flags_alone, reference_with_flags, source_alone, source_and_target, IsBody, alone, pair, with_args, IsAccess, access, IsTerm, body, body_behind_access, IsChain, last_alternative, alternative, IsOperator, bang, question, IsEquals, equal, differ, IsItem, terms, operator, operator_behind_access, group, equation, IsItems, last_item, item, IsQuery}
-use Rattle.query_model.specs.Machine.{State, term_next, access_next, behind_access_word, body_next, pair_next, behind_pair_first, target_next, behind_target, behind_flags, behind_along, behind_first, source_next, behind_source, flags_next, behind_self, rise_next, behind_up, along_next, behind_variable, other_side, behind_item, finished, Move, to, word_of, reference_of, on, joins, item_step, start_step, plain_term_step, args_step, rise_word_step, flags_step, before_part, behind, run, parts_of}
+use Rattle.query_model.specs.Machine.{State, term_next, access_next, behind_access_word, body_next, pair_next, behind_pair_first, target_next, behind_target, behind_flags, behind_along, behind_first, source_next, behind_source, flags_next, behind_self, rise_next, behind_up, along_next, behind_variable, other_side, behind_item, finished, Move, go_to, word_of, reference_of, if_read, joins, item_step, start_step, plain_term_step, args_step, rise_word_step, flags_step, before_part, behind, run, parts_of}
 use Rattle.query_model.proofs.MachineComplete.{Reads, emitted}
 
 abbrev Read : Type 0
@@ -174,7 +174,7 @@ reference_view : (x : Token) → ReferenceView x
 reference_view (token (Name n) s) = elim (cases_Bool (is_reserved n)) [ inl kept ↦ no_reference (rw kept refl) | inr free ↦ is_reference (at (Word n) s) (word (plain_word free)) (rw free refl) ]
 reference_view (token (Variable v) s) = is_reference (at (Var v) s) variable refl
 reference_view (token (Punct Star) s) = is_reference (at Spoken.Any s) star refl
-reference_view (token (Punct Underscore) s) = is_reference (at Spoken.One s) underscore refl
+reference_view (token (Punct Underscore) s) = is_reference (at Spoken.AnyOnce s) underscore refl
 reference_view x = no_reference refl
 
 data WordView (x : Token) : Type 0 where
@@ -194,7 +194,7 @@ stopped_sound d finished ps h = (refl, cc)
 stopped_sound d s ps h = cc
 
 module _ (xs : List Token) (next : Sound xs) where
-  by_reference : (x : Token) (go : Reference → Option Move) (ps : List Part) → behind (span_of x) (run xs) (on (reference_of x) go None) ≡ Ok ps → (r : Reference) × IsReference x r × (behind (span_of x) (run xs) (go r) ≡ Ok ps)
+  by_reference : (x : Token) (go : Reference → Option Move) (ps : List Part) → behind (span_of x) (run xs) (if_read (reference_of x) go None) ≡ Ok ps → (r : Reference) × IsReference x r × (behind (span_of x) (run xs) (go r) ≡ Ok ps)
   by_reference x go ps h = elim (reference_view x) [ is_reference r i e ↦ (r, i, rw e at h) | no_reference e ↦ let g = rw e at h in cc ]
 
   close_sound : (d : ℕ) (role : Role) (t : TermSyntax) (x : Token) (ps : List Part) → Reads (x ∷ xs) d (behind_target role t) ps → Closing d role t (x ∷ xs) ps
@@ -202,7 +202,7 @@ module _ (xs : List Token) (next : Sound xs) where
   close_sound d role t x ps h = cc
 
   target_sound : (d : ℕ) (role : Role) (t : TermSyntax) (x : Token) (ps : List Part) → Reads (x ∷ xs) d (target_next role t) ps → Target d role t (x ∷ xs) ps
-  target_sound d role t x ps h = let u = by_reference x (λ r. to d (behind_target role (with_target t (Some r)))) ps h in target u.1 (next d (behind_target role (with_target t (Some u.0))) ps u.2)
+  target_sound d role t x ps h = let u = by_reference x (λ r. go_to d (behind_target role (with_target t (Some r)))) ps h in target u.1 (next d (behind_target role (with_target t (Some u.0))) ps u.2)
 
   comma_sound : (d : ℕ) (role : Role) (t : TermSyntax) (x : Token) (ps : List Part) → Reads (x ∷ xs) d (behind_pair_first role t) ps → CommaTarget d role t (x ∷ xs) ps
   comma_sound d role t (token (Punct Comma) s) ps h = comma (next d (target_next role t) ps h)
@@ -238,13 +238,13 @@ module _ (xs : List Token) (next : Sound xs) where
       (λ qs g. (x ∷ xs, component v c, (λ a i. alone i), behind_term (ended_sound d (joins role) x qs g)))
 
   pair_sound : (d : ℕ) (role : Role) (v : Bool) (s : Span) (x : Token) (ps : List Part) → Reads (x ∷ xs) d (pair_next role v s) ps → Tail d (pair_next role v s) (x ∷ xs) ps
-  pair_sound d role v s x ps h = let u = by_reference x (λ r. to d (behind_pair_first role (pair_of v s r))) ps h in pair_then u.1 (next d (behind_pair_first role (pair_of v s u.0)) ps u.2)
+  pair_sound d role v s x ps h = let u = by_reference x (λ r. go_to d (behind_pair_first role (pair_of v s r))) ps h in pair_then u.1 (next d (behind_pair_first role (pair_of v s u.0)) ps u.2)
 
   -- the first token of a body
   start_sound : (d : ℕ) (role : Role) (v : Bool) (x : Token) (ps : List Part) → behind (span_of x) (run xs) (start_step d role v x) ≡ Ok ps → (us : List Token) × (t : TermSyntax) × IsBody v (x ∷ xs) us t × Behind d role t us ps
   start_sound d role v (token (Punct OpenParen) s) ps h = next d (pair_next role v s) ps h
   start_sound d role v x ps h =
-      let u = by_reference x (λ r. to d (behind_first role v r)) ps h in
+      let u = by_reference x (λ r. go_to d (behind_first role v r)) ps h in
       let w = next d (behind_first role v u.0) ps u.2 in
       (w.0, w.1, w.2 x u.1, w.3)
 
@@ -296,7 +296,7 @@ module _ (xs : List Token) (next : Sound xs) where
 
   module _ (d : ℕ) (role : Role) (v : Bool) (c : Reference) where
     module _ (source : Option Reference) where
-      cascade_sound : (own : Bool) (n : List ℕ) (s : Span) (ps : List Part) → behind s (run xs) (if bytes_eq n (codes "cascade") then to d (behind_up role v c source own (Cascade s)) else None) ≡ Ok ps
+      cascade_sound : (own : Bool) (n : List ℕ) (s : Span) (ps : List Part) → behind s (run xs) (if bytes_eq n (codes "cascade") then go_to d (behind_up role v c source own (Cascade s)) else None) ≡ Ok ps
           → (us : List Token) × (r : Rise) × IsRise (token (Name n) s ∷ xs) us r × Args d role (applied v c source (Some (flags own r))) us ps
       cascade_sound own n s ps h = elim (cases_Bool (bytes_eq n (codes "cascade"))) [
         | inl is_cascade ↦
@@ -335,7 +335,7 @@ module _ (xs : List Token) (next : Sound xs) where
       self_sound x ps h = (x ∷ xs, flags true none, (λ s. self_alone), args_sound d role (applied v c source (Some (flags true none))) x ps h)
 
       module _ (own : Bool) (w : RiseWord) where
-        up_word_sound : (x : Token) (ps : List Part) → behind (span_of x) (run xs) (on (word_of x) (λ r. to d (behind_flags role (applied v c source (Some (flags own (up w (Some r))))))) (args_step d role (applied v c source (Some (flags own (up w None)))) x)) ≡ Ok ps
+        up_word_sound : (x : Token) (ps : List Part) → behind (span_of x) (run xs) (if_read (word_of x) (λ r. go_to d (behind_flags role (applied v c source (Some (flags own (up w (Some r))))))) (args_step d role (applied v c source (Some (flags own (up w None)))) x)) ≡ Ok ps
             → Tail d (behind_up role v c source own w) (x ∷ xs) ps
         up_word_sound x ps h = elim (word_view x) [
           | is_word r i e ↦ (xs, up w (Some r), (λ u k. up_along k i), next d (behind_flags role (applied v c source (Some (flags own (up w (Some r)))))) ps (rw e at h))

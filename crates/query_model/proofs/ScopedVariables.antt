@@ -20,8 +20,8 @@ use Rattle.query_model.specs.Tokens.{Token, IsSpelledBy, tokens_of}
 use Rattle.query_model.specs.Machine.{parts_of}
 use Rattle.query_model.specs.Laws.{EndsInEnd}
 use Rattle.query_model.specs.Grammar.{IsChain, last_alternative, alternative, IsItem, terms, operator, operator_behind_access, group, equation, IsItems, last_item, item}
-use Rattle.query_model.specs.Syntax.{Spoken, Word, Var, Any, One, Reference, at, TermSyntax, Part, term, opened, closed, equality, Syntax}
-use Rattle.query_model.specs.Levels.{Path, alternatives, followed, path_behind, path_in, placed}
+use Rattle.query_model.specs.Syntax.{Spoken, Word, Var, Any, AnyOnce, Reference, at, TermSyntax, Part, term, opened, closed, equality, Syntax}
+use Rattle.query_model.specs.Levels.{Path, alternatives, path_behind, path_in, placed, with_alternatives}
 use Rattle.query_model.specs.Uses.{Use, risen, uses_of, uses_of_term, written}
 use Rattle.query_model.specs.Scope.{Occurrence, Sighting, occurrence_of, occurrences, occurrences_of, occurs_in, outermost, owner, sightings, this}
 use Rattle.query_model.specs.Numbers.{Variable, has_this, is_this, number_from, numbers_from, understands_this, variable_of, variables}
@@ -143,7 +143,7 @@ module _ (k : Known) (all : List Sighting) (vs : List Variable) (visible : ℕ) 
   spoken_in path (Word n) s position e = refl
   spoken_in path (Var v) s position e = both (is_in_scope visible (around path) (number_of k all vs path v)) true (in_scope path v (first_of (is_among vs (v, owner all v path)) true e)) refl
   spoken_in path Any s position e = refl
-  spoken_in path One s position e = refl
+  spoken_in path AnyOnce s position e = refl
 
   reference_in : (path : Path) (r : Reference) (position : Position) → UsesNumbered path (written position (Some r)) → AllInScope path (variable_in (ref_of k all vs path r))
   reference_in path r position e = spoken_in path r.spoken r.span position e
@@ -158,17 +158,17 @@ module _ (k : Known) (all : List Sighting) (vs : List Variable) (visible : ℕ) 
 
   term_in : (path : Path) (t : TermSyntax) → UsesNumbered path (uses_of_term t) → (is_none t.source ≡ true → nat_lt 0 visible ≡ true) → AllInScope path (term_variables (checked_term k all vs path t))
   term_in path t e h =
-      let c = written Component (Some t.first) in
+      let c = written Component (Some t.component) in
       let s = written Source t.source in
       let r = written Risen (risen t) in
       let g = written Target t.target in
       let three = front_uses path (c ++ s ++ r) g e in
       let two = front_uses path (c ++ s) r three in
       let test = is_in_scope visible (around path) in
-      let first = variable_in (ref_of k all vs path t.first) in
+      let first = variable_in (ref_of k all vs path t.component) in
       let source = variable_in (source_of k all vs path t.source) in
       all_both test source _ (source_in path t.source (back_uses path c s two) h)
-      (all_both test first _ (reference_in path t.first Component (front_uses path c s two)) (target_in path t.target (back_uses path (c ++ s ++ r) g e)))
+      (all_both test first _ (reference_in path t.component Component (front_uses path c s two)) (target_in path t.target (back_uses path (c ++ s ++ r) g e)))
 
   -- a part of which a term names no source
   abbrev Understood : List Part → Type 0
@@ -210,7 +210,7 @@ module _ (k : Known) (all : List Sighting) (vs : List Variable) (visible : ℕ) 
       (reference_in path r Right (back_uses path (written Left (Some (at (Var v) s))) (written Right (Some r)) e))
   equality_in path (Word n) s same r l e = absurd (cc)
   equality_in path Any s same r l e = absurd (cc)
-  equality_in path One s same r l e = absurd (cc)
+  equality_in path AnyOnce s same r l e = absurd (cc)
 
   around_less : (path : Path) → drop 1 (around path) ≡ around (drop 1 path)
   around_less [] = refl
@@ -221,7 +221,7 @@ module _ (k : Known) (all : List Sighting) (vs : List Variable) (visible : ℕ) 
   placed_are n path (q ∷ ps) = ap (λ l. q ∷ l) (placed_are (n + 1) (path_behind n path q) ps)
 
   abbrev pieces_from : ℕ → Path → List Part → List Piece
-  pieces_from n path ps = flat_map (pieces_of_part k all vs) (followed (placed n path ps))
+  pieces_from n path ps = flat_map (pieces_of_part k all vs) (with_alternatives (placed n path ps))
 
   pieces_in : (n : ℕ) (path : Path) (ps : List Part) → PartsNumbered n path ps → Understood ps → list_all has_left ps ≡ true → uses_scope visible (around path) (pieces_from n path ps) ≡ true
   pieces_in n path [] e h l = refl

@@ -10,14 +10,14 @@ use Rattle.query_model.specs.declared.faults.Fault.{Fault}
 use Rattle.query_model.specs.declared.query.Position.TheVariants.{Component, Source, Target, Risen, Left, Right}
 use Rattle.query_model.specs.declared.syntax.Role.TheVariants.{And, Or, Not, Optional}
 use Rattle.query_model.specs.Faults.{is_before, least_from}
-use Rattle.query_model.specs.Syntax.{Spoken, Word, Var, Any, One, Reference, at, TermSyntax, Part, term, opened, closed, equality, Syntax}
-use Rattle.query_model.specs.Levels.{Path, alternatives, followed, path_behind, path_in, placed}
+use Rattle.query_model.specs.Syntax.{Spoken, Word, Var, Any, AnyOnce, Reference, at, TermSyntax, Part, term, opened, closed, equality, Syntax}
+use Rattle.query_model.specs.Levels.{Path, alternatives, path_behind, path_in, placed, with_alternatives}
 use Rattle.query_model.specs.Uses.{Use, risen, uses_of, uses_of_term, written}
 use Rattle.query_model.specs.Scope.{Sighting, sightings}
 use Rattle.query_model.specs.Numbers.{Variable, variables}
 use Rattle.query_model.specs.Check.{Known, faults, faults_of_use}
 use Rattle.query_model.specs.Query.{Query, chain_of, checked_equality, checked_query, checked_term, follows, is_a, is_definite_target, is_inherited, pieces_of, pieces_of_part, ref_of, source_of, up_of}
-use Rattle.query_model.specs.Local.{is_name}
+use Rattle.query_model.specs.Local.{is_entity}
 use Rattle.query_model.specs.Sound.{TermsAreSound, has_definite_target, is_definite_ref, is_sound_item, is_sound_piece, is_sound_term}
 
 pub left_nil : {A : Type 0} (xs ys : List A) → xs ++ ys ≡ [] → xs ≡ []
@@ -60,7 +60,7 @@ module _ (k : Known) where
     source_sound (Word n) s e = refl
     source_sound (Var v) s e = refl
     source_sound Any s e = absurd (cc)
-    source_sound One s e = absurd (cc)
+    source_sound AnyOnce s e = absurd (cc)
 
     sources_sound : (r : Option Reference) → Faultless (written Source r) → is_definite_ref (source_of k all vs path r) ≡ true
     sources_sound None e = refl
@@ -70,19 +70,19 @@ module _ (k : Known) where
     right_sound (Word n) s e = refl
     right_sound (Var v) s e = refl
     right_sound Any s e = absurd (cc)
-    right_sound One s e = absurd (cc)
+    right_sound AnyOnce s e = absurd (cc)
 
-    first_is_name : (w : Spoken) (s : Span) → follows k w ≡ true → is_name (ref_of k all vs path (at w s)) ≡ true
+    first_is_name : (w : Spoken) (s : Span) → follows k w ≡ true → is_entity (ref_of k all vs path (at w s)) ≡ true
     first_is_name (Word n) s e = refl
     first_is_name (Var v) s e = absurd (cc)
     first_is_name Any s e = absurd (cc)
-    first_is_name One s e = absurd (cc)
+    first_is_name AnyOnce s e = absurd (cc)
 
     target_spoken : (w : Spoken) (s : Span) → is_definite_target (Some (at w s)) ≡ true → is_definite_ref (ref_of k all vs path (at w s)) ≡ true
     target_spoken (Word n) s e = refl
     target_spoken (Var v) s e = refl
     target_spoken Any s e = absurd (cc)
-    target_spoken One s e = absurd (cc)
+    target_spoken AnyOnce s e = absurd (cc)
 
     target_sound : (r : Option Reference) → is_definite_target r ≡ true → has_definite_target (option_map (ref_of k all vs path) r) ≡ true
     target_sound None e = absurd (cc)
@@ -90,13 +90,13 @@ module _ (k : Known) where
 
     term_sound : (t : TermSyntax) → Faultless (uses_of_term t) → is_sound_term (checked_term k all vs path t) ≡ true
     term_sound t e =
-        let c = written Component (Some t.first) in
+        let c = written Component (Some t.component) in
         let s = written Source t.source in
         let r = written Risen (risen t) in
         let g = written Target t.target in
         let source : Faultless s = faultless_right c s (faultless_left (c ++ s) r (faultless_left (c ++ s ++ r) g e)) in
         rw (sources_sound t.source source)
-        (closed_sound (follows k (t.first).spoken) _ (is_definite_target t.target) _ (is_none t.flags) (is_inherited k (t.first).spoken) (up_of k t.flags) (first_is_name (t.first).spoken (t.first).span) (target_sound t.target))
+        (closed_sound (follows k (t.component).spoken) _ (is_definite_target t.target) _ (is_none t.flags) (is_inherited k (t.component).spoken) (up_of k t.flags) (first_is_name (t.component).spoken (t.component).span) (target_sound t.target))
 
     alternatives_sound : (ps : List Part) → Faultless (flat_map uses_of ps) → list_all is_sound_term (map (checked_term k all vs path) (alternatives ps)) ≡ true
     alternatives_sound [] e = refl
@@ -114,7 +114,7 @@ module _ (k : Known) where
     equality_sound (Var v) false r h = h
     equality_sound (Word n) same r h = h
     equality_sound Any same r h = h
-    equality_sound One same r h = h
+    equality_sound AnyOnce same r h = h
 
     part_sound : (p : Part) (others : List TermSyntax) → Faultless (uses_of p) → list_all is_sound_term (map (checked_term k all vs path) others) ≡ true → list_all is_sound_piece (pieces_of k all vs path others p) ≡ true
     part_sound (term And t) others e a = rw (chain_sound t others (term_sound t e) a) refl
@@ -130,7 +130,7 @@ module _ (k : Known) where
     placed_parts_of n path [] = refl
     placed_parts_of n path (p ∷ ps) = ap (λ l. p ∷ l) (placed_parts_of (n + 1) (path_behind n path p) ps)
 
-    pieces_sound : (n : ℕ) (path : Path) (ps : List Part) → Faultless (flat_map uses_of ps) → list_all is_sound_piece (flat_map (pieces_of_part k all vs) (followed (placed n path ps))) ≡ true
+    pieces_sound : (n : ℕ) (path : Path) (ps : List Part) → Faultless (flat_map uses_of ps) → list_all is_sound_piece (flat_map (pieces_of_part k all vs) (with_alternatives (placed n path ps))) ≡ true
     pieces_sound n path [] e = refl
     pieces_sound n path (p ∷ ps) e =
         let here = path_in n path p in
@@ -140,8 +140,8 @@ module _ (k : Known) where
         let others = alternatives (map (λ (q : Path × Part). q.1) rest) in
         let a : list_all is_sound_term (map (checked_term k all vs here) others) ≡ true =
         ap (λ l. list_all is_sound_term (map (checked_term k all vs here) (alternatives l))) (placed_parts_of (n + 1) (path_behind n path p) ps) ∙ alternatives_sound all vs here ps back in
-        list_all-append is_sound_piece (pieces_of k all vs here others p) (flat_map (pieces_of_part k all vs) (followed rest))
-        ∙ ap (λ b. b && list_all is_sound_piece (flat_map (pieces_of_part k all vs) (followed rest))) (part_sound all vs here p others front a)
+        list_all-append is_sound_piece (pieces_of k all vs here others p) (flat_map (pieces_of_part k all vs) (with_alternatives rest))
+        ∙ ap (λ b. b && list_all is_sound_piece (flat_map (pieces_of_part k all vs) (with_alternatives rest))) (part_sound all vs here p others front a)
         ∙ pieces_sound (n + 1) (path_behind n path p) ps back
 
   first_faults : (ps : List Part) → faults k ps ≡ [] → Faultless (flat_map uses_of ps)

@@ -10,7 +10,7 @@ use Rattle.query_model.specs.declared.faults.FaultKind.TheVariants.{UnknownName,
 use Rattle.query_model.specs.declared.query.Position.{Position}
 use Rattle.query_model.specs.declared.query.Position.TheVariants.{Source, Risen, Right}
 use Rattle.query_model.specs.Faults.{fault_at}
-use Rattle.query_model.specs.Syntax.{Spoken, Word, Any, One, Part, term, opened, equality}
+use Rattle.query_model.specs.Syntax.{Spoken, Word, Any, AnyOnce, Part, term, opened, equality}
 use Rattle.query_model.specs.Levels.{Path, placed_parts}
 use Rattle.query_model.specs.Uses.{Use, uses_of}
 use Rattle.query_model.specs.Cascades.{Cascading, cascades, misplaced}
@@ -42,7 +42,7 @@ not_traversable k w s = []
 -- a wildcard
 abbrev pub wildcard : FaultKind → Spoken → Span → List Fault
 wildcard kind Any s = fault_at kind s ∷ []
-wildcard kind One s = fault_at kind s ∷ []
+wildcard kind AnyOnce s = fault_at kind s ∷ []
 wildcard kind w s = []
 
 -- the faults that a reference may have for what it is to its part

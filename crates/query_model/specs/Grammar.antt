@@ -7,7 +7,7 @@ use Rattle.query_model.specs.declared.Mark.TheVariants.{Comma, OrOr, Bar, NotEqu
 use Rattle.query_model.specs.declared.syntax.Role.{Role}
 use Rattle.query_model.specs.declared.syntax.Role.TheVariants.{And, Or, Not, Optional}
 use Rattle.query_model.specs.Tokens.{Token, token, span_of, Name, Variable, Punct, End}
-use Rattle.query_model.specs.Syntax.{Reference, at, Word, Var, Any, One, RiseWord, Up, Cascade, Rise, none, up, Flags, flags, TermSyntax, Part, term, opened, closed, equality, component, pair_of, applied, with_target, ended_at}
+use Rattle.query_model.specs.Syntax.{Reference, at, Word, Var, Any, AnyOnce, RiseWord, Up, Cascade, Rise, none, up, Flags, flags, TermSyntax, Part, term, opened, closed, equality, component, pair_of, applied, with_target, ended_at}
 
 -- the words of accesses; `none` hides values
 abbrev pub access_words : List (List ℕ)
@@ -28,7 +28,7 @@ pub data IsReference : Token → Reference → Type 0 where
   word : {t : Token} {r : Reference} → IsWord t r → IsReference t r
   variable : {v : List ℕ} {s : Span} → IsReference (token (Variable v) s) (at (Var v) s)
   star : {s : Span} → IsReference (token (Punct Star) s) (at Any s)
-  underscore : {s : Span} → IsReference (token (Punct Underscore) s) (at One s)
+  underscore : {s : Span} → IsReference (token (Punct Underscore) s) (at AnyOnce s)
 
 -- `up` or `cascade`
 pub data IsRiseWord : Token → RiseWord → Type 0 where
@@ -62,13 +62,13 @@ pub data IsArgs : List Token → List Token → Option Reference → Option Flag
       → IsArgs ts us r f (Some t)
 
 -- body: `C`, `(R,T)`, or `C(args)`
-pub data IsBody (valued : Bool) : List Token → List Token → TermSyntax → Type 0 where
-  alone : {a : Token} {r : Reference} {ts : List Token} → IsReference a r → IsBody valued (a ∷ ts) ts (component valued r)
+pub data IsBody (shows_value : Bool) : List Token → List Token → TermSyntax → Type 0 where
+  alone : {a : Token} {r : Reference} {ts : List Token} → IsReference a r → IsBody shows_value (a ∷ ts) ts (component shows_value r)
   pair : {s1 s2 s3 : Span} {a b : Token} {r t : Reference} {ts : List Token} → IsReference a r → IsReference b t
-      → IsBody valued (token (Punct OpenParen) s1 ∷ a ∷ token (Punct Comma) s2 ∷ b ∷ token (Punct CloseParen) s3 ∷ ts) ts (ended_at (with_target (pair_of valued s1 r) (Some t)) s3)
+      → IsBody shows_value (token (Punct OpenParen) s1 ∷ a ∷ token (Punct Comma) s2 ∷ b ∷ token (Punct CloseParen) s3 ∷ ts) ts (ended_at (with_target (pair_of shows_value s1 r) (Some t)) s3)
   with_args : {s1 s2 : Span} {a : Token} {c : Reference} {ts us : List Token} {r : Option Reference} {f : Option Flags} {t : Option Reference}
       → IsReference a c → IsArgs ts (token (Punct CloseParen) s2 ∷ us) r f t
-      → IsBody valued (a ∷ token (Punct OpenParen) s1 ∷ ts) us (ended_at (with_target (applied valued c r f) t) s2)
+      → IsBody shows_value (a ∷ token (Punct OpenParen) s1 ∷ ts) us (ended_at (with_target (applied shows_value c r f) t) s2)
 
 -- access: `[in]`, `[out]`, `[inout]` or `[none]`, and whether values are shown
 pub data IsAccess : List Token → List Token → Bool → Type 0 where

@@ -40,6 +40,6 @@ alternatives (term Or t ∷ ps) = t ∷ alternatives ps
 alternatives (p ∷ ps) = []
 
 -- each part with the alternatives that stand behind it
-abbrev pub followed : List (Path × Part) → List ((Path × Part) × List TermSyntax)
-followed [] = []
-followed (p ∷ ps) = (p, alternatives (map (λ q. q.1) ps)) ∷ followed ps
+abbrev pub with_alternatives : List (Path × Part) → List ((Path × Part) × List TermSyntax)
+with_alternatives [] = []
+with_alternatives (p ∷ ps) = (p, alternatives (map (λ q. q.1) ps)) ∷ with_alternatives ps

@@ -30,16 +30,16 @@ is_local_piece closing = true
 abbrev pub is_local : Query → Bool
 is_local q = q.has_this && length q.variables == 1 && list_all is_local_piece q.pieces
 
-abbrev pub is_name : Ref → Bool
-is_name (Is e) = true
-is_name r = false
+abbrev pub is_entity : Ref → Bool
+is_entity (Is e) = true
+is_entity r = false
 
-abbrev pub is_name_if_written : Option Ref → Bool
-is_name_if_written r = option_map_or is_name r true
+abbrev pub is_entity_if_written : Option Ref → Bool
+is_entity_if_written r = option_map_or is_entity r true
 
 -- whether a term asks it for one id
 abbrev pub asks_one_id : Term → Bool
-asks_one_id t = asks_first t && is_name t.first && is_name_if_written t.target
+asks_one_id t = asks_first t && is_entity t.component && is_entity_if_written t.target
 
 -- a term that must or may match, or alternatives, each for one id
 abbrev pub is_simple_piece : Piece → Bool

@@ -6,7 +6,7 @@ use Rattle.query_model.specs.declared.Mark.TheVariants.{Comma, OrOr, Bar, NotEqu
 use Rattle.query_model.specs.declared.syntax.Role.{Role}
 use Rattle.query_model.specs.declared.syntax.Role.TheVariants.{And, Or, Not, Optional}
 use Rattle.query_model.specs.Tokens.{Token, token, span_of, Name, Variable, Punct, End}
-use Rattle.query_model.specs.Syntax.{Reference, at, Word, Var, Any, One, RiseWord, Up, Cascade, none, flags, TermSyntax, Part, term, opened, closed, equality, component, pair_of, applied, rising, with_target, ended_at}
+use Rattle.query_model.specs.Syntax.{Reference, at, Word, Var, Any, AnyOnce, RiseWord, Up, Cascade, none, flags, TermSyntax, Part, term, opened, closed, equality, component, pair_of, applied, rising, with_target, ended_at}
 use Rattle.query_model.specs.Grammar.{is_access, shows_values}
 
 -- what is to come, or behind what the machine stands, with what was read of the item
@@ -33,8 +33,8 @@ pub record Move : Type 0 where
   pub state : State
   pub parts : List Part
 
-abbrev pub to : ℕ → State → Option Move
-to d s = Some (record { depth = d; state = s; parts = [] })
+abbrev pub go_to : ℕ → State → Option Move
+go_to d s = Some (record { depth = d; state = s; parts = [] })
 
 abbrev pub emit : Part → Option Move → Option Move
 emit p None = None
@@ -47,12 +47,12 @@ word_of t = None
 abbrev pub reference_of : Token → Option Reference
 reference_of (token (Variable v) s) = Some (at (Var v) s)
 reference_of (token (Punct Star) s) = Some (at Any s)
-reference_of (token (Punct Underscore) s) = Some (at One s)
+reference_of (token (Punct Underscore) s) = Some (at AnyOnce s)
 reference_of t = word_of t
 
-abbrev pub on : Option Reference → (Reference → Option Move) → Option Move → Option Move
-on (Some r) next other = next r
-on None next other = other
+abbrev pub if_read : Option Reference → (Reference → Option Move) → Option Move → Option Move
+if_read (Some r) next other = next r
+if_read None next other = other
 
 -- whether alternatives may follow a term in the role
 abbrev pub joins : Role → Bool
@@ -62,50 +62,50 @@ joins Not = false
 joins Optional = false
 
 abbrev pub alternative_step : Bool → ℕ → Option Move
-alternative_step true d = to d (term_next Or)
+alternative_step true d = go_to d (term_next Or)
 alternative_step false d = None
 
 -- behind an item
 abbrev pub item_step : ℕ → Bool → Token → Option Move
-item_step d joined (token (Punct OrOr) s) = alternative_step joined d
-item_step d joined (token (Punct Comma) s) = to d (term_next And)
-item_step (suc d) joined (token (Punct CloseBrace) s) = Some (record { depth = d; state = behind_item false; parts = closed ∷ [] })
-item_step zero joined (token End s) = to zero finished
-item_step d joined t = None
+item_step d may_join (token (Punct OrOr) s) = alternative_step may_join d
+item_step d may_join (token (Punct Comma) s) = go_to d (term_next And)
+item_step (suc d) may_join (token (Punct CloseBrace) s) = Some (record { depth = d; state = behind_item false; parts = closed ∷ [] })
+item_step zero may_join (token End s) = go_to zero finished
+item_step d may_join t = None
 
 abbrev pub close_step : ℕ → Role → TermSyntax → Token → Option Move
 close_step d role t (token (Punct CloseParen) s) = Some (record { depth = d; state = behind_item (joins role); parts = term role (ended_at t s) ∷ [] })
 close_step d role t x = None
 
 abbrev pub target_step : ℕ → Role → TermSyntax → Token → Option Move
-target_step d role t x = on (reference_of x) (λ r. to d (behind_target role (with_target t (Some r)))) None
+target_step d role t x = if_read (reference_of x) (λ r. go_to d (behind_target role (with_target t (Some r)))) None
 
 abbrev pub comma_step : ℕ → Role → TermSyntax → Token → Option Move
-comma_step d role t (token (Punct Comma) s) = to d (target_next role t)
+comma_step d role t (token (Punct Comma) s) = go_to d (target_next role t)
 comma_step d role t x = None
 
 abbrev pub args_step : ℕ → Role → TermSyntax → Token → Option Move
-args_step d role t (token (Punct Comma) s) = to d (target_next role t)
+args_step d role t (token (Punct Comma) s) = go_to d (target_next role t)
 args_step d role t x = close_step d role t x
 
 abbrev pub along_step : ℕ → Role → TermSyntax → Token → Option Move
-along_step d role t (token (Punct CloseParen) s) = to d (behind_flags role t)
+along_step d role t (token (Punct CloseParen) s) = go_to d (behind_flags role t)
 along_step d role t x = None
 
-module _ (d : ℕ) (role : Role) (valued : Bool) where
+module _ (d : ℕ) (role : Role) (shows_value : Bool) where
   module _ (c : Reference) where
     module _ (source : Option Reference) where
       abbrev pub along_next_step : Bool → RiseWord → Token → Option Move
-      along_next_step own w x = on (word_of x) (λ r. to d (behind_along role (rising valued c source own w (Some r)))) None
+      along_next_step own w x = if_read (word_of x) (λ r. go_to d (behind_along role (rising shows_value c source own w (Some r)))) None
 
       abbrev pub up_step : Bool → RiseWord → Token → Option Move
-      up_step own w (token (Punct OpenParen) s) = to d (along_next role valued c source own w)
-      up_step own w x = on (word_of x) (λ r. to d (behind_flags role (rising valued c source own w (Some r)))) (args_step d role (rising valued c source own w None) x)
+      up_step own w (token (Punct OpenParen) s) = go_to d (along_next role shows_value c source own w)
+      up_step own w x = if_read (word_of x) (λ r. go_to d (behind_flags role (rising shows_value c source own w (Some r)))) (args_step d role (rising shows_value c source own w None) x)
 
       abbrev pub rise_word_step : Bool → List ℕ → Span → Option Move
       rise_word_step own n s =
-          if bytes_eq n (codes "up") then to d (behind_up role valued c source own Up)
-          else if bytes_eq n (codes "cascade") then to d (behind_up role valued c source own (Cascade s))
+          if bytes_eq n (codes "up") then go_to d (behind_up role shows_value c source own Up)
+          else if bytes_eq n (codes "cascade") then go_to d (behind_up role shows_value c source own (Cascade s))
           else None
 
       abbrev pub rise_step : Token → Option Move
@@ -113,90 +113,90 @@ module _ (d : ℕ) (role : Role) (valued : Bool) where
       rise_step x = None
 
       abbrev pub self_step : Token → Option Move
-      self_step (token (Punct Bar) s) = to d (rise_next role valued c source)
-      self_step x = args_step d role (applied valued c source (Some (flags true none))) x
+      self_step (token (Punct Bar) s) = go_to d (rise_next role shows_value c source)
+      self_step x = args_step d role (applied shows_value c source (Some (flags true none))) x
 
       abbrev pub flags_step : Token → Option Move
-      flags_step (token (Name n) s) = if bytes_eq n (codes "self") then to d (behind_self role valued c source) else rise_word_step false n s
+      flags_step (token (Name n) s) = if bytes_eq n (codes "self") then go_to d (behind_self role shows_value c source) else rise_word_step false n s
       flags_step x = None
 
     abbrev pub behind_source_step : Reference → Token → Option Move
-    behind_source_step r (token (Punct Bar) s) = to d (flags_next role valued c (Some r))
-    behind_source_step r x = args_step d role (applied valued c (Some r) None) x
+    behind_source_step r (token (Punct Bar) s) = go_to d (flags_next role shows_value c (Some r))
+    behind_source_step r x = args_step d role (applied shows_value c (Some r) None) x
 
     abbrev pub source_step : Token → Option Move
-    source_step x = on (reference_of x) (λ r. to d (behind_source role valued c r)) (flags_step None x)
+    source_step x = if_read (reference_of x) (λ r. go_to d (behind_source role shows_value c r)) (flags_step None x)
 
     abbrev pub first_step : Token → Option Move
-    first_step (token (Punct OpenParen) s) = to d (source_next role valued c)
-    first_step x = emit (term role (component valued c)) (item_step d (joins role) x)
+    first_step (token (Punct OpenParen) s) = go_to d (source_next role shows_value c)
+    first_step x = emit (term role (component shows_value c)) (item_step d (joins role) x)
 
   abbrev pub pair_step : Span → Token → Option Move
-  pair_step s x = on (reference_of x) (λ r. to d (behind_pair_first role (pair_of valued s r))) None
+  pair_step s x = if_read (reference_of x) (λ r. go_to d (behind_pair_first role (pair_of shows_value s r))) None
 
   -- the first token of a body
   abbrev pub start_step : Token → Option Move
-  start_step (token (Punct OpenParen) s) = to d (pair_next role valued s)
-  start_step x = on (reference_of x) (λ r. to d (behind_first role valued r)) None
+  start_step (token (Punct OpenParen) s) = go_to d (pair_next role shows_value s)
+  start_step x = if_read (reference_of x) (λ r. go_to d (behind_first role shows_value r)) None
 
   abbrev pub bracket_step : Token → Option Move
-  bracket_step (token (Punct CloseBracket) s) = to d (body_next role valued)
+  bracket_step (token (Punct CloseBracket) s) = go_to d (body_next role shows_value)
   bracket_step x = None
 
 -- a body; where nothing but an access stands before it, perhaps an operator
 abbrev pub body_step : ℕ → Role → Bool → Token → Option Move
-body_step d And valued (token (Punct Bang) s) = to d (body_next Not valued)
-body_step d And valued (token (Punct Question) s) = to d (body_next Optional valued)
-body_step d role valued x = start_step d role valued x
+body_step d And shows_value (token (Punct Bang) s) = go_to d (body_next Not shows_value)
+body_step d And shows_value (token (Punct Question) s) = go_to d (body_next Optional shows_value)
+body_step d role shows_value x = start_step d role shows_value x
 
 abbrev pub access_step : ℕ → Role → Token → Option Move
-access_step d role (token (Name n) s) = if is_access n then to d (behind_access_word role (shows_values n)) else None
+access_step d role (token (Name n) s) = if is_access n then go_to d (behind_access_word role (shows_values n)) else None
 access_step d role x = None
 
 -- a term, perhaps with an access
 abbrev pub plain_term_step : ℕ → Role → Token → Option Move
-plain_term_step d role (token (Punct OpenBracket) s) = to d (access_next role)
+plain_term_step d role (token (Punct OpenBracket) s) = go_to d (access_next role)
 plain_term_step d role x = start_step d role true x
 
 -- a term; where nothing stands before it, perhaps an operator or an equality; behind `!` perhaps a group
 abbrev pub term_step : ℕ → Role → Token → Option Move
-term_step d And (token (Variable v) s) = to d (behind_variable v s)
-term_step d And (token (Punct Bang) s) = to d (term_next Not)
-term_step d And (token (Punct Question) s) = to d (term_next Optional)
+term_step d And (token (Variable v) s) = go_to d (behind_variable v s)
+term_step d And (token (Punct Bang) s) = go_to d (term_next Not)
+term_step d And (token (Punct Question) s) = go_to d (term_next Optional)
 term_step d Not (token (Punct OpenBrace) s) = Some (record { depth = suc d; state = term_next And; parts = opened s ∷ [] })
 term_step d role x = plain_term_step d role x
 
 abbrev pub variable_step : ℕ → List ℕ → Span → Token → Option Move
-variable_step d v s (token (Punct EqualEqual) e) = to d (other_side (at (Var v) s) true)
-variable_step d v s (token (Punct NotEqual) e) = to d (other_side (at (Var v) s) false)
+variable_step d v s (token (Punct EqualEqual) e) = go_to d (other_side (at (Var v) s) true)
+variable_step d v s (token (Punct NotEqual) e) = go_to d (other_side (at (Var v) s) false)
 variable_step d v s x = first_step d And true (at (Var v) s) x
 
 abbrev pub other_step : ℕ → Reference → Bool → Token → Option Move
-other_step d r same x = on (reference_of x) (λ q. Some (record { depth = d; state = behind_item false; parts = equality r same q ∷ [] })) None
+other_step d r same x = if_read (reference_of x) (λ q. Some (record { depth = d; state = behind_item false; parts = equality r same q ∷ [] })) None
 
 -- the step at a token, if some query goes on with it
 abbrev pub step : ℕ → State → Token → Option Move
 step d (term_next role) x = term_step d role x
 step d (access_next role) x = access_step d role x
-step d (behind_access_word role valued) x = bracket_step d role valued x
-step d (body_next role valued) x = body_step d role valued x
-step d (pair_next role valued s) x = pair_step d role valued s x
+step d (behind_access_word role shows_value) x = bracket_step d role shows_value x
+step d (body_next role shows_value) x = body_step d role shows_value x
+step d (pair_next role shows_value s) x = pair_step d role shows_value s x
 step d (behind_pair_first role t) x = comma_step d role t x
 step d (target_next role t) x = target_step d role t x
 step d (behind_target role t) x = close_step d role t x
 step d (behind_flags role t) x = args_step d role t x
 step d (behind_along role t) x = along_step d role t x
-step d (behind_first role valued c) x = first_step d role valued c x
-step d (source_next role valued c) x = source_step d role valued c x
-step d (behind_source role valued c r) x = behind_source_step d role valued c r x
-step d (flags_next role valued c source) x = flags_step d role valued c source x
-step d (behind_self role valued c source) x = self_step d role valued c source x
-step d (rise_next role valued c source) x = rise_step d role valued c source x
-step d (behind_up role valued c source own w) x = up_step d role valued c source own w x
-step d (along_next role valued c source own w) x = along_next_step d role valued c source own w x
+step d (behind_first role shows_value c) x = first_step d role shows_value c x
+step d (source_next role shows_value c) x = source_step d role shows_value c x
+step d (behind_source role shows_value c r) x = behind_source_step d role shows_value c r x
+step d (flags_next role shows_value c source) x = flags_step d role shows_value c source x
+step d (behind_self role shows_value c source) x = self_step d role shows_value c source x
+step d (rise_next role shows_value c source) x = rise_step d role shows_value c source x
+step d (behind_up role shows_value c source own w) x = up_step d role shows_value c source own w x
+step d (along_next role shows_value c source own w) x = along_next_step d role shows_value c source own w x
 step d (behind_variable v s) x = variable_step d v s x
 step d (other_side r same) x = other_step d r same x
-step d (behind_item joined) x = item_step d joined x
+step d (behind_item may_join) x = item_step d may_join x
 step d finished x = None
 
 -- a part in front of those that are read behind it

@@ -5,7 +5,7 @@ use Rattle.query_model.specs.declared.Span.{Span}
 use Rattle.query_model.specs.declared.faults.Fault.{Fault}
 use Rattle.query_model.specs.declared.faults.FaultKind.TheVariants.{NoThis, NotOneTerm}
 use Rattle.query_model.specs.declared.query.Ref.{Ref}
-use Rattle.query_model.specs.declared.query.Ref.TheVariants.{Is, Var, Any, One}
+use Rattle.query_model.specs.declared.query.Ref.TheVariants.{Is, Var, Any, AnyOnce}
 use Rattle.query_model.specs.declared.query.Term.{Term}
 use Rattle.query_model.specs.Faults.{fault_at}
 use Rattle.query_model.specs.Query.{Piece, item, must, Query}
@@ -19,7 +19,7 @@ abbrev pub is_constant : Ref → Bool
 is_constant (Is e) = true
 is_constant (Var v) = false
 is_constant Any = true
-is_constant One = true
+is_constant AnyOnce = true
 
 abbrev pub is_constant_target : Option Ref → Bool
 is_constant_target r = option_map_or is_constant r true
@@ -30,7 +30,7 @@ is_first r = false
 
 -- whether a term asks the first variable itself, and names no other
 abbrev pub asks_first_alone : Term → Bool
-asks_first_alone t = is_first t.source && t.on_source && is_none t.up && is_constant t.first && is_constant_target t.target
+asks_first_alone t = is_first t.source && t.on_source && is_none t.up && is_constant t.component && is_constant_target t.target
 
 -- one And term of that kind. The first variable is `$this`, where it occurs
 abbrev pub is_one_term : List Piece → Bool

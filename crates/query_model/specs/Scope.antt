@@ -4,7 +4,7 @@ use Rattle.std.specs.List.{list_any, list_all}
 use Rattle.query_model.specs.declared.Span.{Span}
 use Rattle.query_model.specs.declared.syntax.Role.TheVariants.{And, Not}
 use Rattle.query_model.specs.Syntax.{Spoken, Word, Var, Reference, TermSyntax, Part, term, equality}
-use Rattle.query_model.specs.Levels.{Path, level_of, placed_parts, followed}
+use Rattle.query_model.specs.Levels.{Path, level_of, placed_parts, with_alternatives}
 use Rattle.query_model.specs.Uses.{Use, uses_of}
 
 -- a variable where it stands
@@ -79,7 +79,7 @@ is_variable_if_written n (Some r) = is_variable n r
 
 -- whether a term names a variable
 abbrev pub names_variable : List ℕ → TermSyntax → Bool
-names_variable n t = is_variable n t.first || is_variable_if_written n t.source || is_variable_if_written n t.target
+names_variable n t = is_variable n t.component || is_variable_if_written n t.source || is_variable_if_written n t.target
 
 -- whether a part binds a variable of its level: an And term with every alternative to it, the term of a Not, or `==` with a name
 abbrev pub binds : List ℕ → List TermSyntax → Part → Bool
@@ -92,4 +92,4 @@ abbrev pub binds_in : List ℕ → ℕ → (Path × Part) × List TermSyntax →
 binds_in n level p = level_of (p.0).0 == level && binds n p.1 (p.0).1
 
 abbrev pub is_bound : List Part → List ℕ → ℕ → Bool
-is_bound ps n level = list_any (binds_in n level) (followed (placed_parts ps))
+is_bound ps n level = list_any (binds_in n level) (with_alternatives (placed_parts ps))

@@ -15,7 +15,7 @@ abbrev pub seen_spoken : Spoken → syntax.Spoken
 seen_spoken (Spoken.Word w) = syntax.Word w.now
 seen_spoken (Spoken.Variable v) = syntax.Var (drop 1 v.now)
 seen_spoken Spoken.Any = syntax.Any
-seen_spoken Spoken.One = syntax.One
+seen_spoken Spoken.AnyOnce = syntax.AnyOnce
 
 abbrev pub seen_reference : Reference → syntax.Reference
 seen_reference r = syntax.at (seen_spoken r.spoken) r.span
@@ -33,8 +33,8 @@ seen_flags f = syntax.flags f.on_source (seen_rise f.rise)
 
 abbrev pub seen_term : TermSyntax → syntax.TermSyntax
 seen_term t = record {
-  valued = t.valued;
-  first = seen_reference t.first;
+  shows_value = t.shows_value;
+  component = seen_reference t.component;
   target = option_map seen_reference t.target;
   source = option_map seen_reference t.source;
   flags = option_map seen_flags t.flags;

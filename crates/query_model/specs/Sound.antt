@@ -7,7 +7,7 @@ use Rattle.query_model.specs.declared.query.Term.{Term}
 use Rattle.query_model.specs.Syntax.{Syntax}
 use Rattle.query_model.specs.Check.{Known}
 use Rattle.query_model.specs.Query.{Item, must, may, either, equal, differ, Piece, item, Query, check_of}
-use Rattle.query_model.specs.Local.{is_name}
+use Rattle.query_model.specs.Local.{is_entity}
 
 -- an entity or a variable
 abbrev pub is_definite_ref : Ref → Bool
@@ -21,7 +21,7 @@ has_definite_target (Some r) = is_definite_ref r
 
 -- a source is no wildcard, and a closed term follows a name, to an entity or a variable, and asks no ancestors
 abbrev pub is_sound_term : Term → Bool
-is_sound_term t = is_definite_ref t.source && (not t.closed || is_name t.first && has_definite_target t.target && is_none t.up)
+is_sound_term t = is_definite_ref t.source && (not t.closed || is_entity t.component && has_definite_target t.target && is_none t.up)
 
 -- nor is the other side of an equality
 abbrev pub is_sound_item : Item → Bool

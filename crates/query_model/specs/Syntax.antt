@@ -6,7 +6,7 @@ use Rattle.query_model.specs.declared.syntax.Role.{Role}
 -- how a reference is written: a name, a variable, `*` or `_`
 pub data Spoken : Type 0 where
   Word Var : List ℕ → Spoken
-  Any One : Spoken
+  Any AnyOnce : Spoken
 
 -- a reference and where it stands
 pub record Reference : Type 0 where
@@ -36,8 +36,8 @@ flags on_source rise = record { on_source = on_source; rise = rise }
 
 -- a term: whether its values are shown, its component, its target, its source and its flags where they are written, and from its first to its last token
 pub record TermSyntax : Type 0 where
-  pub valued : Bool
-  pub first : Reference
+  pub shows_value : Bool
+  pub component : Reference
   pub target : Option Reference
   pub source : Option Reference
   pub flags : Option Flags
@@ -57,23 +57,23 @@ pub record Syntax : Type 0 where
 
 -- a term that is its component alone
 abbrev pub component : Bool → Reference → TermSyntax
-component valued r = record { valued = valued; first = r; target = None; source = None; flags = None; span = r.span }
+component shows_value r = record { shows_value = shows_value; component = r; target = None; source = None; flags = None; span = r.span }
 
 -- a pair without its target, which begins with a bracket
 abbrev pub pair_of : Bool → Span → Reference → TermSyntax
-pair_of valued s r = record { valued = valued; first = r; target = None; source = None; flags = None; span = s }
+pair_of shows_value s r = record { shows_value = shows_value; component = r; target = None; source = None; flags = None; span = s }
 
 -- a term with a source or flags, without a target
 abbrev pub applied : Bool → Reference → Option Reference → Option Flags → TermSyntax
-applied valued r source f = record { valued = valued; first = r; target = None; source = source; flags = f; span = r.span }
+applied shows_value r source f = record { shows_value = shows_value; component = r; target = None; source = source; flags = f; span = r.span }
 
 -- and with `up` or `cascade`, perhaps behind `self`
 abbrev pub rising : Bool → Reference → Option Reference → Bool → RiseWord → Option Reference → TermSyntax
-rising valued c source on_source w along = applied valued c source (Some (flags on_source (up w along)))
+rising shows_value c source on_source w along = applied shows_value c source (Some (flags on_source (up w along)))
 
 abbrev pub with_target : TermSyntax → Option Reference → TermSyntax
-with_target t r = record { valued = t.valued; first = t.first; target = r; source = t.source; flags = t.flags; span = t.span }
+with_target t r = record { shows_value = t.shows_value; component = t.component; target = r; source = t.source; flags = t.flags; span = t.span }
 
 -- a term whose last token stands here
 abbrev pub ended_at : TermSyntax → Span → TermSyntax
-ended_at t s = record { valued = t.valued; first = t.first; target = t.target; source = t.source; flags = t.flags; span = record { start = (t.span).start; end = s.end } }
+ended_at t s = record { shows_value = t.shows_value; component = t.component; target = t.target; source = t.source; flags = t.flags; span = record { start = (t.span).start; end = s.end } }

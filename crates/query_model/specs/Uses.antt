@@ -27,7 +27,7 @@ risen t = along_what (rise_of t.flags)
 
 -- the references of a term, as far as they are written, in the order of the text
 abbrev pub uses_of_term : TermSyntax → List Use
-uses_of_term t = written Component (Some t.first) ++ written Source t.source ++ written Risen (risen t) ++ written Target t.target
+uses_of_term t = written Component (Some t.component) ++ written Source t.source ++ written Risen (risen t) ++ written Target t.target
 
 abbrev pub uses_of : Part → List Use
 uses_of (term role t) = uses_of_term t

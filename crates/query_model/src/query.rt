@@ -1,7 +1,7 @@
 //! What a checked query is made of, and what a reference is to its part.
 
 ghost use Rattle.std.specs.Prelude.{◌≡◌};
-ghost use Rattle.query_model.specs.Local.{asks_first, asks_one_id, is_direct, is_name};
+ghost use Rattle.query_model.specs.Local.{asks_first, asks_one_id, is_direct, is_entity};
 ghost use Rattle.query_model.specs.Observers.{is_constant, is_first};
 
 use ecs_id::EntityId;
@@ -29,7 +29,7 @@ pub enum Ref {
     /// `*`
     Any,
     /// `_`
-    One,
+    AnyOnce,
 }
 
 impl Ref {
@@ -47,8 +47,8 @@ impl Ref {
         !matches!(self, Ref::Var(_))
     }
 
-    pub fn is_name(self) -> bool
-        ensures { result ≡ is_name self }
+    pub fn is_entity(self) -> bool
+        ensures { result ≡ is_entity self }
     {
         matches!(self, Ref::Is(_))
     }
@@ -57,7 +57,7 @@ impl Ref {
 /// A term: it asks for ids of its component, and target if it has one, on its source or on an ancestor of it.
 #[derive(Clone, Copy, Debug, PartialEq, Eq)]
 pub struct Term {
-    pub first: Ref,
+    pub component: Ref,
     pub target: Option<Ref>,
     pub source: Ref,
     /// Whether the source itself is asked.
@@ -67,7 +67,7 @@ pub struct Term {
     /// Whether it follows its relationship as transitive or reflexive.
     pub closed: bool,
     /// Whether its fields show values.
-    pub valued: bool,
+    pub shows_value: bool,
 }
 
 impl Term {
@@ -89,7 +89,7 @@ impl Term {
     pub fn asks_one_id(&self) -> bool
         ensures { result ≡ asks_one_id self.now }
     {
-        self.asks_first() && self.first.is_name() && self.target.map_or(true, Ref::is_name)
+        self.asks_first() && self.component.is_entity() && self.target.map_or(true, Ref::is_entity)
     }
 }
 

@@ -26,7 +26,7 @@ pub enum Spoken<'a> {
     /// `*`
     Any,
     /// `_`
-    One,
+    AnyOnce,
 }
 
 /// A reference to an entity, and where it stands.
@@ -64,8 +64,8 @@ pub struct Flags<'a> {
 #[derive(Clone, Copy, Debug, PartialEq, Eq)]
 pub struct TermSyntax<'a> {
     /// Whether its values are shown.
-    pub valued: bool,
-    pub first: Reference<'a>,
+    pub shows_value: bool,
+    pub component: Reference<'a>,
     pub target: Option<Reference<'a>>,
     pub source: Option<Reference<'a>>,
     pub flags: Option<Flags<'a>>,

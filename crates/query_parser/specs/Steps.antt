@@ -17,7 +17,7 @@ use Rattle.query_model.specs.Seen.{seen_reference, seen_rise_word, seen_term}
 -- a state, with what was read of the item
 module _ (d : Draft) where
   abbrev pub first_of : syntax.Reference
-  first_of = seen_reference (d.term).first
+  first_of = seen_reference (d.term).component
 
   abbrev pub source_of : Option syntax.Reference
   source_of = option_map seen_reference (d.term).source
@@ -33,17 +33,17 @@ module _ (d : Draft) where
   seen_state BehindTarget = machine.behind_target d.role (seen_term d.term)
   seen_state BehindFlags = machine.behind_flags d.role (seen_term d.term)
   seen_state BehindAlong = machine.behind_along d.role (seen_term d.term)
-  seen_state BehindFirst = machine.behind_first d.role (d.term).valued first_of
-  seen_state SourceNext = machine.source_next d.role (d.term).valued first_of
-  seen_state BehindSource = machine.behind_source d.role (d.term).valued first_of (seen_reference d.last)
-  seen_state FlagsNext = machine.flags_next d.role (d.term).valued first_of source_of
-  seen_state BehindSelf = machine.behind_self d.role (d.term).valued first_of source_of
-  seen_state RiseNext = machine.rise_next d.role (d.term).valued first_of source_of
-  seen_state (BehindUp own) = machine.behind_up d.role (d.term).valued first_of source_of own (seen_rise_word d.word)
-  seen_state (AlongNext own) = machine.along_next d.role (d.term).valued first_of source_of own (seen_rise_word d.word)
+  seen_state BehindFirst = machine.behind_first d.role (d.term).shows_value first_of
+  seen_state SourceNext = machine.source_next d.role (d.term).shows_value first_of
+  seen_state BehindSource = machine.behind_source d.role (d.term).shows_value first_of (seen_reference d.last)
+  seen_state FlagsNext = machine.flags_next d.role (d.term).shows_value first_of source_of
+  seen_state BehindSelf = machine.behind_self d.role (d.term).shows_value first_of source_of
+  seen_state RiseNext = machine.rise_next d.role (d.term).shows_value first_of source_of
+  seen_state (BehindUp own) = machine.behind_up d.role (d.term).shows_value first_of source_of own (seen_rise_word d.word)
+  seen_state (AlongNext own) = machine.along_next d.role (d.term).shows_value first_of source_of own (seen_rise_word d.word)
   seen_state BehindVariable = machine.behind_variable (drop 1 d.name.now) (d.term).span
   seen_state (OtherSide same) = machine.other_side first_of same
-  seen_state (BehindItem joined) = machine.behind_item joined
+  seen_state (BehindItem may_join) = machine.behind_item may_join
   seen_state Finished = machine.finished
 
   -- the part that a step completes
@@ -83,4 +83,4 @@ rise_step d role v c source own x = None
 -- behind `up` or `cascade`, where no bracket follows
 abbrev pub plain_up_step : ℕ → Role → Bool → syntax.Reference → Option syntax.Reference → Bool → syntax.RiseWord → tokens.Token → Option machine.Move
 plain_up_step d role v c source own w x =
-    machine.on (machine.word_of x) (λ r. machine.to d (machine.behind_flags role (syntax.rising v c source own w (Some r)))) (machine.args_step d role (syntax.rising v c source own w None) x)
+    machine.if_read (machine.word_of x) (λ r. machine.go_to d (machine.behind_flags role (syntax.rising v c source own w (Some r)))) (machine.args_step d role (syntax.rising v c source own w None) x)

@@ -109,7 +109,7 @@ fn put_equality<'a, A: Allocator + Copy>(
     ensures { IfOk result (λ _. map seen_part parts.new.items ≡ map seen_part parts.old.items ++ seen_part_of draft.now (Completed.Equality same)) }
 {
     parts.reserve(1)?;
-    parts.push_reserved(Part::Equality(draft.term.first, same, draft.last));
+    parts.push_reserved(Part::Equality(draft.term.component, same, draft.last));
     Ok(())
 }
 

@@ -98,8 +98,8 @@ pub fn blank<'a>() -> Draft<'a> {
     Draft {
         role: Role::And,
         term: TermSyntax {
-            valued: false,
-            first: none,
+            shows_value: false,
+            component: none,
             target: None,
             source: None,
             flags: None,
@@ -123,9 +123,9 @@ pub fn step<'a>(
     match state {
         State::TermNext(role) => term_step(role, draft, token),
         State::AccessNext(role) => access_step(role, token),
-        State::BehindAccessWord(role, valued) => bracket_step(role, valued, token),
-        State::BodyNext(role, valued) => body_step(role, valued, draft, token),
-        State::PairNext(role, valued) => pair_step(role, valued, draft, token),
+        State::BehindAccessWord(role, shows_value) => bracket_step(role, shows_value, token),
+        State::BodyNext(role, shows_value) => body_step(role, shows_value, draft, token),
+        State::PairNext(role, shows_value) => pair_step(role, shows_value, draft, token),
         State::BehindPairFirst => comma_step(token),
         State::TargetNext => target_step(draft, token),
         State::BehindTarget => close_step(draft, token),
@@ -141,13 +141,13 @@ pub fn step<'a>(
         State::AlongNext(own) => along_step(own, draft, token),
         State::BehindVariable => variable_step(depth, draft, token),
         State::OtherSide(same) => other_step(same, draft, token),
-        State::BehindItem(joined) => item_step(depth, joined, Completed::Nothing, token),
+        State::BehindItem(may_join) => item_step(depth, may_join, Completed::Nothing, token),
         State::Finished => None,
     }
 }
 
 /// A step to a state that completes no part.
-fn to(state: State) -> Move
+fn go_to(state: State) -> Move
     ensures { result ≡ record { state = state; part = Completed.Nothing; nesting = Nesting.Same } }
 {
     Move {
@@ -158,21 +158,21 @@ fn to(state: State) -> Move
 }
 
 /// Begins a term. Its span and what else was written of it stay.
-fn begin<'a>(draft: &mut Draft<'a>, role: Role, valued: bool, first: Reference<'a>)
-    ensures { draft.new ≡ record draft.old { role = role; term = record (draft.old).term { valued = valued; first = first.entry } } }
+fn begin<'a>(draft: &mut Draft<'a>, role: Role, shows_value: bool, component: Reference<'a>)
+    ensures { draft.new ≡ record draft.old { role = role; term = record (draft.old).term { shows_value = shows_value; component = component.entry } } }
 {
     draft.role = role;
-    draft.term.valued = valued;
-    draft.term.first = first;
+    draft.term.shows_value = shows_value;
+    draft.term.component = component;
 }
 
 /// Gives a term flags, and neither a target nor more than its first reference's span.
 fn apply<'a>(term: &mut TermSyntax<'a>, flags: Option<Flags<'a>>)
-    ensures { term.new ≡ record term.old { target = None; flags = flags.entry; span = ((term.old).first).span } }
+    ensures { term.new ≡ record term.old { target = None; flags = flags.entry; span = ((term.old).component).span } }
 {
     term.target = None;
     term.flags = flags;
-    term.span = term.first.span;
+    term.span = term.component.span;
 }
 
 /// Whether alternatives may follow a term in a role.
@@ -190,7 +190,7 @@ fn reference<'a>(token: &Token<'a>) -> Option<Reference<'a>>
         TokenKind::Name => return word(token),
         TokenKind::Variable => Spoken::Variable(token.text),
         TokenKind::Mark(Mark::Star) => Spoken::Any,
-        TokenKind::Mark(Mark::Underscore) => Spoken::One,
+        TokenKind::Mark(Mark::Underscore) => Spoken::AnyOnce,
         _ => return None,
     };
     Some(Reference {
@@ -224,17 +224,17 @@ fn is_reserved(word: &str) -> bool
 }
 
 /// Behind an item, of which a part may be completed by what follows it.
-fn item_step(depth: usize, joined: bool, part: Completed, token: &Token<'_>) -> Option<Move>
-    ensures { (draft : item.Draft) → option_map (seen_step depth draft) result ≡ put_first draft part (machine.item_step depth joined (seen token.now)) }
+fn item_step(depth: usize, may_join: bool, part: Completed, token: &Token<'_>) -> Option<Move>
+    ensures { (draft : item.Draft) → option_map (seen_step depth draft) result ≡ put_first draft part (machine.item_step depth may_join (seen token.now)) }
 {
     match token.kind {
-        TokenKind::Mark(Mark::OrOr) if joined => Some(Move {
+        TokenKind::Mark(Mark::OrOr) if may_join => Some(Move {
             part,
-            ..to(State::TermNext(Role::Or))
+            ..go_to(State::TermNext(Role::Or))
         }),
         TokenKind::Mark(Mark::Comma) => Some(Move {
             part,
-            ..to(State::TermNext(Role::And))
+            ..go_to(State::TermNext(Role::And))
         }),
         TokenKind::Mark(Mark::CloseBrace) if depth > 0 => Some(Move {
             state: State::BehindItem(false),
@@ -243,7 +243,7 @@ fn item_step(depth: usize, joined: bool, part: Completed, token: &Token<'_>) -> 
         }),
         TokenKind::End if depth == 0 => Some(Move {
             part,
-            ..to(State::Finished)
+            ..go_to(State::Finished)
         }),
         _ => None,
     }
@@ -251,14 +251,15 @@ fn item_step(depth: usize, joined: bool, part: Completed, token: &Token<'_>) -> 
 
 /// Behind a target: the bracket that ends the term.
 fn close_step<'a>(draft: &mut Draft<'a>, token: &Token<'a>) -> Option<Move>
-    ensures { (depth : ℕ) → option_map (seen_step depth draft.new) result ≡ machine.close_step depth (draft.old).role (seen_term (draft.old).term) (seen token.now) }
+    ensures { (depth : ℕ) → option_map (seen_step depth draft.new) result
+        ≡ machine.close_step depth (draft.old).role (seen_term (draft.old).term) (seen token.now) }
 {
     match token.kind {
         TokenKind::Mark(Mark::CloseParen) => {
             draft.term.span.end = token.span.end;
             Some(Move {
                 part: Completed::Term,
-                ..to(State::BehindItem(joins(draft.role)))
+                ..go_to(State::BehindItem(joins(draft.role)))
             })
         }
         _ => None,
@@ -267,49 +268,54 @@ fn close_step<'a>(draft: &mut Draft<'a>, token: &Token<'a>) -> Option<Move>
 
 /// The target of a term.
 fn target_step<'a>(draft: &mut Draft<'a>, token: &Token<'a>) -> Option<Move>
-    ensures { (depth : ℕ) → option_map (seen_step depth draft.new) result ≡ machine.target_step depth (draft.old).role (seen_term (draft.old).term) (seen token.now) }
+    ensures { (depth : ℕ) → option_map (seen_step depth draft.new) result
+        ≡ machine.target_step depth (draft.old).role (seen_term (draft.old).term) (seen token.now) }
 {
     let target = reference(token)?;
     draft.term.target = Some(target);
-    Some(to(State::BehindTarget))
+    Some(go_to(State::BehindTarget))
 }
 
 /// Behind the first side of a pair: its comma.
 fn comma_step(token: &Token<'_>) -> Option<Move>
-    ensures { (depth : ℕ) (draft : item.Draft) → option_map (seen_step depth draft) result ≡ machine.comma_step depth draft.role (seen_term draft.term) (seen token.now) }
+    ensures { (depth : ℕ) (draft : item.Draft) → option_map (seen_step depth draft) result
+        ≡ machine.comma_step depth draft.role (seen_term draft.term) (seen token.now) }
 {
     match token.kind {
-        TokenKind::Mark(Mark::Comma) => Some(to(State::TargetNext)),
+        TokenKind::Mark(Mark::Comma) => Some(go_to(State::TargetNext)),
         _ => None,
     }
 }
 
 /// Behind a source or flags: a target, or the end of the term.
 fn args_step<'a>(draft: &mut Draft<'a>, token: &Token<'a>) -> Option<Move>
-    ensures { (depth : ℕ) → option_map (seen_step depth draft.new) result ≡ machine.args_step depth (draft.old).role (seen_term (draft.old).term) (seen token.now) }
+    ensures { (depth : ℕ) → option_map (seen_step depth draft.new) result
+        ≡ machine.args_step depth (draft.old).role (seen_term (draft.old).term) (seen token.now) }
 {
     match token.kind {
-        TokenKind::Mark(Mark::Comma) => Some(to(State::TargetNext)),
+        TokenKind::Mark(Mark::Comma) => Some(go_to(State::TargetNext)),
         _ => close_step(draft, token),
     }
 }
 
 /// Behind the relationship of `up(R)` or `cascade(R)`: its bracket.
 fn behind_along_step(token: &Token<'_>) -> Option<Move>
-    ensures { (depth : ℕ) (draft : item.Draft) → option_map (seen_step depth draft) result ≡ machine.along_step depth draft.role (seen_term draft.term) (seen token.now) }
+    ensures { (depth : ℕ) (draft : item.Draft) → option_map (seen_step depth draft) result
+        ≡ machine.along_step depth draft.role (seen_term draft.term) (seen token.now) }
 {
     match token.kind {
-        TokenKind::Mark(Mark::CloseParen) => Some(to(State::BehindFlags)),
+        TokenKind::Mark(Mark::CloseParen) => Some(go_to(State::BehindFlags)),
         _ => None,
     }
 }
 
 /// Behind the first reference of a term: its arguments, or what follows the term.
 fn first_step<'a>(depth: usize, draft: &mut Draft<'a>, token: &Token<'a>) -> Option<Move>
-    ensures { option_map (seen_step depth draft.new) result ≡ machine.first_step depth (draft.old).role ((draft.old).term).valued (seen_reference ((draft.old).term).first) (seen token.now) }
+    ensures { option_map (seen_step depth draft.new) result ≡ machine.first_step depth (draft.old).role ((draft.old).term).shows_value
+        (seen_reference ((draft.old).term).component) (seen token.now) }
 {
     match token.kind {
-        TokenKind::Mark(Mark::OpenParen) => Some(to(State::SourceNext)),
+        TokenKind::Mark(Mark::OpenParen) => Some(go_to(State::SourceNext)),
         _ => {
             draft.term.source = None;
             apply(&mut draft.term, None);
@@ -320,26 +326,30 @@ fn first_step<'a>(depth: usize, draft: &mut Draft<'a>, token: &Token<'a>) -> Opt
 
 /// Flags, perhaps behind a source: `self`, `up` or `cascade`.
 fn flags_step<'a>(draft: &mut Draft<'a>, token: &Token<'a>) -> Option<Move>
-    ensures { (depth : ℕ) → option_map (seen_step depth draft.new) result ≡ machine.flags_step depth (draft.old).role ((draft.old).term).valued (seen_reference ((draft.old).term).first) (option_map seen_reference ((draft.old).term).source) (seen token.now) }
+    ensures { (depth : ℕ) → option_map (seen_step depth draft.new) result
+        ≡ machine.flags_step depth (draft.old).role ((draft.old).term).shows_value (seen_reference ((draft.old).term).component)
+        (option_map seen_reference ((draft.old).term).source) (seen token.now) }
 {
     match token.kind {
-        TokenKind::Name if token.text == "self" => Some(to(State::BehindSelf)),
+        TokenKind::Name if token.text == "self" => Some(go_to(State::BehindSelf)),
         _ => rise_step(false, draft, token),
     }
 }
 
 /// `up` or `cascade`, perhaps behind a source and `self`.
 fn rise_step<'a>(own: bool, draft: &mut Draft<'a>, token: &Token<'a>) -> Option<Move>
-    ensures { (depth : ℕ) → option_map (seen_step depth draft.new) result ≡ rise_step depth (draft.old).role ((draft.old).term).valued (seen_reference ((draft.old).term).first) (option_map seen_reference ((draft.old).term).source) own (seen token.now) }
+    ensures { (depth : ℕ) → option_map (seen_step depth draft.new) result
+        ≡ rise_step depth (draft.old).role ((draft.old).term).shows_value (seen_reference ((draft.old).term).component)
+        (option_map seen_reference ((draft.old).term).source) own (seen token.now) }
 {
     match token.kind {
         TokenKind::Name if token.text == "up" => {
             draft.word = RiseWord::Up;
-            Some(to(State::BehindUp(own)))
+            Some(go_to(State::BehindUp(own)))
         }
         TokenKind::Name if token.text == "cascade" => {
             draft.word = RiseWord::Cascade(token.span);
-            Some(to(State::BehindUp(own)))
+            Some(go_to(State::BehindUp(own)))
         }
         _ => None,
     }
@@ -347,10 +357,12 @@ fn rise_step<'a>(own: bool, draft: &mut Draft<'a>, token: &Token<'a>) -> Option<
 
 /// Behind `self`: `|` and `up`, or what follows flags.
 fn self_step<'a>(draft: &mut Draft<'a>, token: &Token<'a>) -> Option<Move>
-    ensures { (depth : ℕ) → option_map (seen_step depth draft.new) result ≡ machine.self_step depth (draft.old).role ((draft.old).term).valued (seen_reference ((draft.old).term).first) (option_map seen_reference ((draft.old).term).source) (seen token.now) }
+    ensures { (depth : ℕ) → option_map (seen_step depth draft.new) result
+        ≡ machine.self_step depth (draft.old).role ((draft.old).term).shows_value (seen_reference ((draft.old).term).component)
+        (option_map seen_reference ((draft.old).term).source) (seen token.now) }
 {
     match token.kind {
-        TokenKind::Mark(Mark::Bar) => Some(to(State::RiseNext)),
+        TokenKind::Mark(Mark::Bar) => Some(go_to(State::RiseNext)),
         _ => {
             let flags = Flags {
                 on_source: true,
@@ -364,7 +376,11 @@ fn self_step<'a>(draft: &mut Draft<'a>, token: &Token<'a>) -> Option<Move>
 
 /// Gives a term `up` or `cascade` and a relationship, if one is written.
 fn raise<'a>(term: &mut TermSyntax<'a>, own: bool, word: RiseWord, along: Option<Reference<'a>>)
-    ensures { term.new ≡ record term.old { target = None; flags = Some (record { on_source = own; rise = Rise.Up word along.entry }); span = ((term.old).first).span } }
+    ensures { term.new ≡ record term.old {
+      target = None;
+      flags = Some (record { on_source = own; rise = Rise.Up word along.entry });
+      span = ((term.old).component).span;
+    } }
 {
     let flags = Flags {
         on_source: own,
@@ -375,22 +391,26 @@ fn raise<'a>(term: &mut TermSyntax<'a>, own: bool, word: RiseWord, along: Option
 
 /// Behind `up` or `cascade`: its relationship, or what follows flags.
 fn up_step<'a>(own: bool, draft: &mut Draft<'a>, token: &Token<'a>) -> Option<Move>
-    ensures { (depth : ℕ) → option_map (seen_step depth draft.new) result ≡ machine.up_step depth (draft.old).role ((draft.old).term).valued (seen_reference ((draft.old).term).first) (option_map seen_reference ((draft.old).term).source) own (seen_rise_word (draft.old).word) (seen token.now) }
+    ensures { (depth : ℕ) → option_map (seen_step depth draft.new) result
+        ≡ machine.up_step depth (draft.old).role ((draft.old).term).shows_value (seen_reference ((draft.old).term).component)
+        (option_map seen_reference ((draft.old).term).source) own (seen_rise_word (draft.old).word) (seen token.now) }
 {
     match token.kind {
-        TokenKind::Mark(Mark::OpenParen) => Some(to(State::AlongNext(own))),
+        TokenKind::Mark(Mark::OpenParen) => Some(go_to(State::AlongNext(own))),
         _ => plain_up_step(own, draft, token),
     }
 }
 
 /// Behind `up` or `cascade`: a relationship without brackets, or what follows flags.
 fn plain_up_step<'a>(own: bool, draft: &mut Draft<'a>, token: &Token<'a>) -> Option<Move>
-    ensures { (depth : ℕ) → option_map (seen_step depth draft.new) result ≡ plain_up_step depth (draft.old).role ((draft.old).term).valued (seen_reference ((draft.old).term).first) (option_map seen_reference ((draft.old).term).source) own (seen_rise_word (draft.old).word) (seen token.now) }
+    ensures { (depth : ℕ) → option_map (seen_step depth draft.new) result
+        ≡ plain_up_step depth (draft.old).role ((draft.old).term).shows_value (seen_reference ((draft.old).term).component)
+        (option_map seen_reference ((draft.old).term).source) own (seen_rise_word (draft.old).word) (seen token.now) }
 {
     match word(token) {
         Some(along) => {
             raise(&mut draft.term, own, draft.word, Some(along));
-            Some(to(State::BehindFlags))
+            Some(go_to(State::BehindFlags))
         }
         None => {
             raise(&mut draft.term, own, draft.word, None);
@@ -401,20 +421,24 @@ fn plain_up_step<'a>(own: bool, draft: &mut Draft<'a>, token: &Token<'a>) -> Opt
 
 /// The relationship of `up(R)` or `cascade(R)`.
 fn along_step<'a>(own: bool, draft: &mut Draft<'a>, token: &Token<'a>) -> Option<Move>
-    ensures { (depth : ℕ) → option_map (seen_step depth draft.new) result ≡ machine.along_next_step depth (draft.old).role ((draft.old).term).valued (seen_reference ((draft.old).term).first) (option_map seen_reference ((draft.old).term).source) own (seen_rise_word (draft.old).word) (seen token.now) }
+    ensures { (depth : ℕ) → option_map (seen_step depth draft.new) result
+        ≡ machine.along_next_step depth (draft.old).role ((draft.old).term).shows_value (seen_reference ((draft.old).term).component)
+        (option_map seen_reference ((draft.old).term).source) own (seen_rise_word (draft.old).word) (seen token.now) }
 {
     let along = word(token)?;
     raise(&mut draft.term, own, draft.word, Some(along));
-    Some(to(State::BehindAlong))
+    Some(go_to(State::BehindAlong))
 }
 
 /// Behind a source: `|` and flags, or what follows a source.
 fn behind_source_step<'a>(draft: &mut Draft<'a>, token: &Token<'a>) -> Option<Move>
-    ensures { (depth : ℕ) → option_map (seen_step depth draft.new) result ≡ machine.behind_source_step depth (draft.old).role ((draft.old).term).valued (seen_reference ((draft.old).term).first) (seen_reference (draft.old).last) (seen token.now) }
+    ensures { (depth : ℕ) → option_map (seen_step depth draft.new) result
+        ≡ machine.behind_source_step depth (draft.old).role ((draft.old).term).shows_value (seen_reference ((draft.old).term).component)
+        (seen_reference (draft.old).last) (seen token.now) }
 {
     draft.term.source = Some(draft.last);
     match token.kind {
-        TokenKind::Mark(Mark::Bar) => Some(to(State::FlagsNext)),
+        TokenKind::Mark(Mark::Bar) => Some(go_to(State::FlagsNext)),
         _ => {
             apply(&mut draft.term, None);
             args_step(draft, token)
@@ -424,12 +448,13 @@ fn behind_source_step<'a>(draft: &mut Draft<'a>, token: &Token<'a>) -> Option<Mo
 
 /// The arguments of a term: a source or flags.
 fn source_step<'a>(draft: &mut Draft<'a>, token: &Token<'a>) -> Option<Move>
-    ensures { (depth : ℕ) → option_map (seen_step depth draft.new) result ≡ machine.source_step depth (draft.old).role ((draft.old).term).valued (seen_reference ((draft.old).term).first) (seen token.now) }
+    ensures { (depth : ℕ) → option_map (seen_step depth draft.new) result
+        ≡ machine.source_step depth (draft.old).role ((draft.old).term).shows_value (seen_reference ((draft.old).term).component) (seen token.now) }
 {
     match reference(token) {
         Some(source) => {
             draft.last = source;
-            Some(to(State::BehindSource))
+            Some(go_to(State::BehindSource))
         }
         None => {
             draft.term.source = None;
@@ -439,56 +464,69 @@ fn source_step<'a>(draft: &mut Draft<'a>, token: &Token<'a>) -> Option<Move>
 }
 
 /// The first side of a pair.
-fn pair_step<'a>(role: Role, valued: bool, draft: &mut Draft<'a>, token: &Token<'a>) -> Option<Move>
-    ensures { (depth : ℕ) → option_map (seen_step depth draft.new) result ≡ machine.pair_step depth role valued ((draft.old).term).span (seen token.now) }
+fn pair_step<'a>(
+    role: Role,
+    shows_value: bool,
+    draft: &mut Draft<'a>,
+    token: &Token<'a>,
+) -> Option<Move>
+    ensures { (depth : ℕ) → option_map (seen_step depth draft.new) result ≡ machine.pair_step depth role shows_value ((draft.old).term).span (seen token.now) }
 {
-    let first = reference(token)?;
-    begin(draft, role, valued, first);
+    let component = reference(token)?;
+    begin(draft, role, shows_value, component);
     draft.term.target = None;
     draft.term.source = None;
     draft.term.flags = None;
-    Some(to(State::BehindPairFirst))
+    Some(go_to(State::BehindPairFirst))
 }
 
 /// The first token of a body.
 fn start_step<'a>(
     role: Role,
-    valued: bool,
+    shows_value: bool,
     draft: &mut Draft<'a>,
     token: &Token<'a>,
 ) -> Option<Move>
-    ensures { (depth : ℕ) → option_map (seen_step depth draft.new) result ≡ machine.start_step depth role valued (seen token.now) }
+    ensures { (depth : ℕ) → option_map (seen_step depth draft.new) result ≡ machine.start_step depth role shows_value (seen token.now) }
 {
     if let TokenKind::Mark(Mark::OpenParen) = token.kind {
         draft.term.span = token.span;
-        return Some(to(State::PairNext(role, valued)));
+        return Some(go_to(State::PairNext(role, shows_value)));
     }
-    let first = reference(token)?;
-    begin(draft, role, valued, first);
-    Some(to(State::BehindFirst))
+    let component = reference(token)?;
+    begin(draft, role, shows_value, component);
+    Some(go_to(State::BehindFirst))
 }
 
 /// Behind the word of an access: its bracket.
-fn bracket_step(role: Role, valued: bool, token: &Token<'_>) -> Option<Move>
-    ensures { (depth : ℕ) (draft : item.Draft) → option_map (seen_step depth draft) result ≡ machine.bracket_step depth role valued (seen token.now) }
+fn bracket_step(role: Role, shows_value: bool, token: &Token<'_>) -> Option<Move>
+    ensures { (depth : ℕ) (draft : item.Draft) → option_map (seen_step depth draft) result ≡ machine.bracket_step depth role shows_value (seen token.now) }
 {
     match token.kind {
-        TokenKind::Mark(Mark::CloseBracket) => Some(to(State::BodyNext(role, valued))),
+        TokenKind::Mark(Mark::CloseBracket) => Some(go_to(State::BodyNext(role, shows_value))),
         _ => None,
     }
 }
 
 /// A body behind an access; where nothing stands before that, perhaps an operator.
-fn body_step<'a>(role: Role, valued: bool, draft: &mut Draft<'a>, token: &Token<'a>) -> Option<Move>
-    ensures { (depth : ℕ) → option_map (seen_step depth draft.new) result ≡ machine.body_step depth role valued (seen token.now) }
+fn body_step<'a>(
+    role: Role,
+    shows_value: bool,
+    draft: &mut Draft<'a>,
+    token: &Token<'a>,
+) -> Option<Move>
+    ensures { (depth : ℕ) → option_map (seen_step depth draft.new) result ≡ machine.body_step depth role shows_value (seen token.now) }
 {
     match (role, token.kind) {
-        (Role::And, TokenKind::Mark(Mark::Bang)) => Some(to(State::BodyNext(Role::Not, valued))),
-        (Role::And, TokenKind::Mark(Mark::Question)) => Some(to(State::BodyNext(
-            Role::Optional,
-            valued,
+        (Role::And, TokenKind::Mark(Mark::Bang)) => Some(go_to(State::BodyNext(
+            Role::Not,
+            shows_value,
         ))),
-        _ => start_step(role, valued, draft, token),
+        (Role::And, TokenKind::Mark(Mark::Question)) => Some(go_to(State::BodyNext(
+            Role::Optional,
+            shows_value,
+        ))),
+        _ => start_step(role, shows_value, draft, token),
     }
 }
 
@@ -497,7 +535,7 @@ fn access_step(role: Role, token: &Token<'_>) -> Option<Move>
     ensures { (depth : ℕ) (draft : item.Draft) → option_map (seen_step depth draft) result ≡ machine.access_step depth role (seen token.now) }
 {
     match token.kind {
-        TokenKind::Name if is_access(token.text) => Some(to(State::BehindAccessWord(
+        TokenKind::Name if is_access(token.text) => Some(go_to(State::BehindAccessWord(
             role,
             token.text != "none",
         ))),
@@ -521,10 +559,10 @@ fn term_step<'a>(role: Role, draft: &mut Draft<'a>, token: &Token<'a>) -> Option
             TokenKind::Variable => {
                 draft.name = token.text;
                 draft.term.span = token.span;
-                Some(to(State::BehindVariable))
+                Some(go_to(State::BehindVariable))
             }
-            TokenKind::Mark(Mark::Bang) => Some(to(State::TermNext(Role::Not))),
-            TokenKind::Mark(Mark::Question) => Some(to(State::TermNext(Role::Optional))),
+            TokenKind::Mark(Mark::Bang) => Some(go_to(State::TermNext(Role::Not))),
+            TokenKind::Mark(Mark::Question) => Some(go_to(State::TermNext(Role::Optional))),
             _ => plain_term_step(role, draft, token),
         },
         Role::Not => match token.kind {
@@ -547,14 +585,15 @@ fn plain_term_step<'a>(role: Role, draft: &mut Draft<'a>, token: &Token<'a>) -> 
     ensures { (depth : ℕ) → option_map (seen_step depth draft.new) result ≡ machine.plain_term_step depth role (seen token.now) }
 {
     match token.kind {
-        TokenKind::Mark(Mark::OpenBracket) => Some(to(State::AccessNext(role))),
+        TokenKind::Mark(Mark::OpenBracket) => Some(go_to(State::AccessNext(role))),
         _ => start_step(role, true, draft, token),
     }
 }
 
 /// Behind a variable at the front of an item: `==`, `!=`, or what follows a term's first reference.
 fn variable_step<'a>(depth: usize, draft: &mut Draft<'a>, token: &Token<'a>) -> Option<Move>
-    ensures { option_map (seen_step depth draft.new) result ≡ machine.variable_step depth (drop 1 ((draft.old).name).now) ((draft.old).term).span (seen token.now) }
+    ensures { option_map (seen_step depth draft.new) result ≡ machine.variable_step depth (drop 1 ((draft.old).name).now) ((draft.old).term).span
+        (seen token.now) }
 {
     let variable = Reference {
         spoken: Spoken::Variable(draft.name),
@@ -562,19 +601,20 @@ fn variable_step<'a>(depth: usize, draft: &mut Draft<'a>, token: &Token<'a>) -> 
     };
     begin(draft, Role::And, true, variable);
     match token.kind {
-        TokenKind::Mark(Mark::EqualEqual) => Some(to(State::OtherSide(true))),
-        TokenKind::Mark(Mark::NotEqual) => Some(to(State::OtherSide(false))),
+        TokenKind::Mark(Mark::EqualEqual) => Some(go_to(State::OtherSide(true))),
+        TokenKind::Mark(Mark::NotEqual) => Some(go_to(State::OtherSide(false))),
         _ => first_step(depth, draft, token),
     }
 }
 
 /// The right side of an equality.
 fn other_step<'a>(same: bool, draft: &mut Draft<'a>, token: &Token<'a>) -> Option<Move>
-    ensures { (depth : ℕ) → option_map (seen_step depth draft.new) result ≡ machine.other_step depth (seen_reference ((draft.old).term).first) same (seen token.now) }
+    ensures { (depth : ℕ) → option_map (seen_step depth draft.new) result
+        ≡ machine.other_step depth (seen_reference ((draft.old).term).component) same (seen token.now) }
 {
     draft.last = reference(token)?;
     Some(Move {
         part: Completed::Equality(same),
-        ..to(State::BehindItem(false))
+        ..go_to(State::BehindItem(false))
     })
 }

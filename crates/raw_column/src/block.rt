@@ -1,7 +1,9 @@
 //! The columns of a table in one block.
-ghost use Rattle.std.specs.Prelude.{◌≡◌, ℕ, ◌+◌, ◌-◌, ◌*◌, ◌^◌, ◌<◌, ◌≤◌, length, map, min, slice_get, slice_index, slice_index_or, IfOk, Some, OnOk, OnErr, IsOk, IsErr};
+ghost use Rattle.std.specs.Prelude.{◌≡◌, ℕ, ◌+◌, ◌-◌, ◌*◌, ◌^◌, ◌<◌, ◌≤◌, length, map, min, slice_get, slice_index, slice_index_or, IfOk, Some, OnOk, OnErr};
+ghost use Rattle.std.specs.Prelude.{IsOk, IsErr};
 ghost use Rattle.std.specs.List.{concat, fold, sum};
-ghost use Rattle.raw_column.specs.Contents.{HaveOneSize, capacity_of, column_at, empty_contents, most_of, row_bytes, with_column, with_copied, with_item_in, with_zeros, without_row};
+ghost use Rattle.raw_column.specs.Contents.{HaveOneSize, capacity_of, column_at, empty_contents, most_of, row_bytes, with_column, with_copied, with_item_in};
+ghost use Rattle.raw_column.specs.Contents.{with_zeros, without_row};
 
 use crate::buffer::Buffer;
 use crate::sizes::Sizes;

@@ -1,5 +1,6 @@
 //! A run of bytes in a block from an allocator, or none. A clause sees it as its bytes.
-ghost use Rattle.std.specs.Prelude.{◌≡◌, ℕ, ◌+◌, ◌*◌, ◌^◌, ◌<◌, ◌≤◌, [], ◌++◌, length, map, take, drop, replicate, slice_index, IfOk, IfErr, OnOk, OnErr, IsOk, Some};
+ghost use Rattle.std.specs.Prelude.{◌≡◌, ℕ, ◌+◌, ◌*◌, ◌^◌, ◌<◌, ◌≤◌, [], ◌++◌, length, map, take, drop, replicate, slice_index, IfOk, IfErr, OnOk, OnErr, IsOk};
+ghost use Rattle.std.specs.Prelude.{Some};
 ghost use Rattle.std.specs.List.{sum};
 ghost use Rattle.raw_column.specs.Buffer.{IsPlaced, bytes_of};
 ghost use Rattle.raw_column.specs.Places.{columns_in, gap_filled, padded, resized};

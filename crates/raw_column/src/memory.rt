@@ -92,9 +92,11 @@ pub(crate) fn grow<A: Allocator>(
     len: usize,
     to: usize,
 ) -> Result<(Base, Filling, Deed<A>), (Filling, Deed<A>)>
-    requires block { (filling.at ≡ base.ptr) × (length filling.items ≡ filled) × (filled + filling.spare ≡ len) × (deed.at ≡ base.ptr) × (deed.len ≡ len) × (deed.alloc ≡ alloc.now) }
+    requires block { (filling.at ≡ base.ptr) × (length filling.items ≡ filled) × (filled + filling.spare ≡ len) × (deed.at ≡ base.ptr) × (deed.len ≡ len)
+        × (deed.alloc ≡ alloc.now) }
     requires larger { (len ≤ to) × (to < 2 ^ 63) }
-    ensures { MatchResult result (λ r. (r.1.at ≡ r.0.ptr) × (r.1.items ≡ filling.items) × (filled + r.1.spare ≡ to) × (r.2.at ≡ r.0.ptr) × (r.2.len ≡ to) × (r.2.alloc ≡ alloc.now)) (λ r. (r.0 ≡ filling) × (r.1 ≡ deed)) }
+    ensures { MatchResult result (λ r. (r.1.at ≡ r.0.ptr) × (r.1.items ≡ filling.items) × (filled + r.1.spare ≡ to) × (r.2.at ≡ r.0.ptr) × (r.2.len ≡ to)
+        × (r.2.alloc ≡ alloc.now)) (λ r. (r.0 ≡ filling) × (r.1 ≡ deed)) }
 {
     let Filling {} = filling;
     let Deed { mark: _ } = deed;
@@ -114,9 +116,11 @@ pub(crate) fn shrink<A: Allocator>(
     len: usize,
     to: usize,
 ) -> Result<(Base, Filling, Deed<A>), (Filling, Deed<A>)>
-    requires block { (filling.at ≡ base.ptr) × (length filling.items ≡ filled) × (filled + filling.spare ≡ len) × (deed.at ≡ base.ptr) × (deed.len ≡ len) × (deed.alloc ≡ alloc.now) }
+    requires block { (filling.at ≡ base.ptr) × (length filling.items ≡ filled) × (filled + filling.spare ≡ len) × (deed.at ≡ base.ptr) × (deed.len ≡ len)
+        × (deed.alloc ≡ alloc.now) }
     requires smaller { (filled ≤ to) × (to ≤ len) × (len < 2 ^ 63) }
-    ensures { MatchResult result (λ r. (r.1.at ≡ r.0.ptr) × (r.1.items ≡ filling.items) × (filled + r.1.spare ≡ to) × (r.2.at ≡ r.0.ptr) × (r.2.len ≡ to) × (r.2.alloc ≡ alloc.now)) (λ r. (r.0 ≡ filling) × (r.1 ≡ deed)) }
+    ensures { MatchResult result (λ r. (r.1.at ≡ r.0.ptr) × (r.1.items ≡ filling.items) × (filled + r.1.spare ≡ to) × (r.2.at ≡ r.0.ptr) × (r.2.len ≡ to)
+        × (r.2.alloc ≡ alloc.now)) (λ r. (r.0 ≡ filling) × (r.1 ≡ deed)) }
 {
     let Filling {} = filling;
     let Deed { mark: _ } = deed;

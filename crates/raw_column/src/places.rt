@@ -125,7 +125,8 @@ fn place_column<A: Allocator>(
     requires rows { (len ≤ from) × (len ≤ to) }
     requires from { (from * sum sizes.now ≤ length bytes.old) × (from * sum sizes.now < 2 ^ 63) }
     requires to { (to * sum sizes.now ≤ length bytes.old) × (to * sum sizes.now < 2 ^ 63) }
-    ensures { bytes.new ≡ over (place_of to sizes.now column 0) (to * slice_index sizes.now column) bytes.old (column_resized len to (slice_index sizes.now column) (drop (place_of from sizes.now column 0) bytes.old)) }
+    ensures { bytes.new ≡ over (place_of to sizes.now column 0) (to * slice_index sizes.now column) bytes.old
+        (column_resized len to (slice_index sizes.now column) (drop (place_of from sizes.now column 0) bytes.old)) }
 {
     let size = sizes.size(column);
     let had = sizes.offset_of(column, 0, from);

@@ -16,37 +16,37 @@ use Rattle.ecs_model.specs.declared.faults.Refusal.{Refusal}
 use Rattle.ecs_model.specs.declared.faults.Refusal.TheVariants.{TraitFixed, Cycle, TooManyIds, Full}
 use Rattle.ecs_model.specs.Added.{IsAdded, brought, is_exclusive, is_symmetric, is_used}
 use Rattle.ecs_model.specs.BuiltIns.{is_a, traversable}
-use Rattle.ecs_model.specs.Command.{is_crowded, is_dead, is_spent, with_facts}
+use Rattle.ecs_model.specs.steps.Outcomes.{is_crowded, is_dead, is_spent, with_facts}
 use Rattle.ecs_model.specs.Copied.{is_copied, is_inherited, is_withheld, stays_behind, takes}
 use Rattle.ecs_model.specs.Links.{AreLinks, is_held, target_under}
 use Rattle.ecs_model.specs.Map.{Map, count_at, has_key, keys, value_at, without}
 use Rattle.ecs_model.specs.Reach.{IsLeast}
 use Rattle.ecs_model.specs.Refusal.{first_reason}
 use Rattle.ecs_model.specs.World.{WorldState, Key, key_cmp, key_eq, entities, holds, ids_of, is_alive, is_live, most_ids}
-use Rattle.ecs_model.specs.traits.Changes.{added, coming, copied, facts_after_add, new_base, replaced}
-use Rattle.ecs_model.specs.traits.Command.{add_reasons, adds_built_in, changes_trait, has_cycle}
-use Rattle.ecs_model.specs.traits.Keeps.{IsWellFormed}
-use Rattle.ecs_model.specs.traits.Rules.{is_trait}
+use Rattle.ecs_model.specs.steps.FactChanges.{added, coming, copied, facts_after_add, new_base, replaced}
+use Rattle.ecs_model.specs.steps.Step.{add_reasons, adds_built_in, changes_trait, has_cycle}
+use Rattle.ecs_model.specs.steps.WellFormed.{IsWellFormed}
+use Rattle.ecs_model.specs.steps.Rules.{is_trait}
 use Rattle.ecs_model.proofs.Maps.{key_cmp_same, key_cmp_total, some_of}
 use Rattle.ecs_model.proofs.Members.{alike, and_true, any_passes, both, eq_itself, filtered, from_or, head_or_tail, or_left, or_right, passing}
 use Rattle.ecs_model.proofs.Removals.{IsMap-without, value_at-without}
-use Rattle.ecs_model.proofs.traits.Adding.{HasForm, added_are_members, added_form, from_map, in_map}
-use Rattle.ecs_model.proofs.traits.AfterAdd.{IsMap-added}
-use Rattle.ecs_model.proofs.traits.Copying.{CopiedFrom, IsMap-coming, coming_at, no_trait, not_held}
-use Rattle.ecs_model.proofs.traits.Crowding.{crowded_is_told}
-use Rattle.ecs_model.proofs.traits.Cycles.{cycle_by_found}
-use Rattle.ecs_model.proofs.traits.Found.{base_by_found, base_found, copied_by_found}
-use Rattle.ecs_model.proofs.traits.Facts.{is_held-holds, key_there, listed_live, live_listed, there_key}
-use Rattle.ecs_model.proofs.traits.Kept.{all_pass, each_passes}
-use Rattle.ecs_model.proofs.traits.Replacing.{gives_way, key_eq_same, replaced_in}
-use Rattle.ecs_model.proofs.traits.SameKeys.{keys-left}
+use Rattle.ecs_model.proofs.steps.AddedSets.{HasForm, added_are_members, added_form, from_map, in_map}
+use Rattle.ecs_model.proofs.steps.AddEffects.{IsMap-added}
+use Rattle.ecs_model.proofs.steps.CopiedIds.{CopiedFrom, IsMap-coming, coming_at, no_trait, not_held}
+use Rattle.ecs_model.proofs.steps.CrowdedEntities.{crowded_is_told}
+use Rattle.ecs_model.proofs.steps.Cycles.{cycle_by_found}
+use Rattle.ecs_model.proofs.steps.FoundLists.{base_by_found, base_found, copied_by_found}
+use Rattle.ecs_model.proofs.steps.Facts.{is_held-holds, key_there, listed_live, live_listed, there_key}
+use Rattle.ecs_model.proofs.steps.LivingIds.{all_pass, each_passes}
+use Rattle.ecs_model.proofs.steps.ReplacedFacts.{gives_way, key_eq_same, replaced_in}
+use Rattle.ecs_model.proofs.steps.SameKeys.{keys-left}
 use Rattle.rel_traits.specs.After.{ClosesOne}
 use Rattle.rel_traits.specs.FactLists.{GivesWay, IsListOf, IsOfLive, is_fact}
 use Rattle.rel_traits.specs.Additions.{TellsAddition}
 use Rattle.rel_traits.specs.Copies.{IsJoined, base_among, copies_of_base, copy_of, is_copied_own, takes_own}
 use Rattle.rel_traits.specs.Sees.{HasCounts, Sees}
 use Rattle.rel_traits.proofs.HeldCounts.{has_too_many, is_own}
-use Rattle.rel_traits.proofs.OneList.{is_keys}
+use Rattle.rel_traits.proofs.UniqueLists.{is_keys}
 use Rattle.rel_traits.proofs.SeenWorlds.{is_filter, of_world}
 
 -- tests by two lists are tests of both together

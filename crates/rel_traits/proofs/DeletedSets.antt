@@ -11,29 +11,29 @@ use Rattle.std.proofs.lemmas.List.Elements.{Contains-append_cases, Contains-appe
 use Rattle.ecs_id.specs.Id.{Id, mentioned}
 use Rattle.ecs_model.specs.declared.faults.Refusal.{Refusal}
 use Rattle.ecs_model.specs.declared.faults.Refusal.TheVariants.{InUse, Panic, Full}
-use Rattle.ecs_model.specs.Command.{is_spent}
-use Rattle.ecs_model.specs.Falls.{falling}
+use Rattle.ecs_model.specs.steps.Outcomes.{is_spent}
+use Rattle.ecs_model.specs.Cleanup.{falling}
 use Rattle.ecs_model.specs.Map.{IsMap, Map, count_at, has_key, keys}
 use Rattle.ecs_model.specs.Reach.{Reached}
 use Rattle.ecs_model.specs.Refusal.{first_reason}
 use Rattle.ecs_model.specs.World.{WorldState, Key, key_cmp, entities, holds, ids_of, is_live}
-use Rattle.ecs_model.specs.traits.Changes.{deleted, mentions_gone}
-use Rattle.ecs_model.specs.traits.Command.{delete_reasons}
-use Rattle.ecs_model.specs.traits.Keeps.{IsWellFormed}
-use Rattle.ecs_model.specs.traits.Rules.{forbids}
+use Rattle.ecs_model.specs.steps.FactChanges.{deleted, mentions_gone}
+use Rattle.ecs_model.specs.steps.Step.{delete_reasons}
+use Rattle.ecs_model.specs.steps.WellFormed.{IsWellFormed}
+use Rattle.ecs_model.specs.steps.Rules.{forbids}
 use Rattle.ecs_model.proofs.Members.{and_true, any_passes, both, filtered, from_flat_map, in_flat_map}
-use Rattle.ecs_model.proofs.traits.Adding.{from_map, in_map}
-use Rattle.ecs_model.proofs.traits.Deleted.{deleted_is_least}
-use Rattle.ecs_model.proofs.traits.Facts.{held_listed, key_there, listed_held, listed_live, live_listed, there_key}
-use Rattle.ecs_model.proofs.traits.Found.{is_deleted, reasons_by_found}
-use Rattle.ecs_model.proofs.traits.Kept.{holder_lives}
-use Rattle.ecs_model.proofs.traits.SameKeys.{IsMap-within}
+use Rattle.ecs_model.proofs.steps.AddedSets.{from_map, in_map}
+use Rattle.ecs_model.proofs.steps.DeletedSets.{deleted_is_least}
+use Rattle.ecs_model.proofs.steps.Facts.{held_listed, key_there, listed_held, listed_live, live_listed, there_key}
+use Rattle.ecs_model.proofs.steps.FoundLists.{is_deleted, reasons_by_found}
+use Rattle.ecs_model.proofs.steps.LivingIds.{holder_lives}
+use Rattle.ecs_model.proofs.steps.SameKeys.{IsMap-within}
 use Rattle.rel_travel.specs.Finds.{is_among}
 use Rattle.rel_travel.specs.Lists.{Work}
 use Rattle.rel_travel.specs.Referring as refer
 use Rattle.rel_traits.specs.Deletions.{IsDeletion, OfDeletion, is_lost}
 use Rattle.rel_traits.specs.Sees.{HasCounts}
-use Rattle.rel_traits.proofs.OneList.{is_keys}
+use Rattle.rel_traits.proofs.UniqueLists.{is_keys}
 use Rattle.rel_traits.proofs.SeenWorlds.{is_filter, of_world}
 
 -- the facts of these entities whose ids pass a test

@@ -6,18 +6,18 @@ use Rattle.std.specs.FinMap.{nat_cmp-IsAntisymmetric}
 use Rattle.std.specs.FinMap.Entries.{below_all, is_sorted, same_entries}
 use Rattle.std.specs.List.{list_any}
 use Rattle.std.specs.Ordering.{eq_by_cmp, is_lt, nat_cmp}
-use Rattle.ecs_model.specs.Falls.{falling, falls_by}
+use Rattle.ecs_model.specs.Cleanup.{falling, falls_by}
 use Rattle.ecs_model.specs.Map.{Map, count_at, has_key, keys, value_at, without}
 use Rattle.ecs_model.specs.Reach.{Reached, itself, onward}
 use Rattle.ecs_model.specs.Sets.{Set}
 use Rattle.ecs_model.specs.World.{WorldState, entities, ids_of, is_live}
-use Rattle.ecs_model.specs.traits.Changes.{deleted}
-use Rattle.ecs_model.specs.traits.Keeps.{IsWellFormed}
+use Rattle.ecs_model.specs.steps.FactChanges.{deleted}
+use Rattle.ecs_model.specs.steps.WellFormed.{IsWellFormed}
 use Rattle.ecs_model.proofs.Maps.{to_T}
 use Rattle.ecs_model.proofs.Members.{filtered}
-use Rattle.ecs_model.proofs.traits.Deleted.{deleted_is_least}
-use Rattle.ecs_model.proofs.traits.Deletions.{nat_IsMap-without, nat_value_at-without}
-use Rattle.ecs_model.proofs.traits.Facts.{listed_live}
+use Rattle.ecs_model.proofs.steps.DeletedSets.{deleted_is_least}
+use Rattle.ecs_model.proofs.steps.Deletions.{nat_IsMap-without, nat_value_at-without}
+use Rattle.ecs_model.proofs.steps.Facts.{listed_live}
 use Rattle.rel_traits.proofs.DeletedSets.{IsMap-deleted}
 
 module _ (f : ℕ → ℕ) where

@@ -7,11 +7,11 @@ use Rattle.ecs_id.specs.Id.{Id}
 use Rattle.ecs_model.specs.Added.{mirror}
 use Rattle.ecs_model.specs.Map.{keys}
 use Rattle.ecs_model.specs.World.{WorldState, Key, key_eq}
-use Rattle.ecs_model.specs.traits.Changes.{removed}
+use Rattle.ecs_model.specs.steps.FactChanges.{removed}
 use Rattle.ecs_model.proofs.Maps.{key_cmp_total}
 use Rattle.ecs_model.proofs.Members.{any_passes, passing}
-use Rattle.ecs_model.proofs.traits.Facts.{is_held-holds}
-use Rattle.ecs_model.proofs.traits.Replacing.{key_eq_same}
+use Rattle.ecs_model.proofs.steps.Facts.{is_held-holds}
+use Rattle.ecs_model.proofs.steps.ReplacedFacts.{key_eq_same}
 use Rattle.rel_traits.specs.FactLists.{IsListOf, is_fact}
 use Rattle.rel_traits.specs.Sees.{Sees}
 use Rattle.rel_traits.proofs.SeenWorlds.{is_filter, of_world}

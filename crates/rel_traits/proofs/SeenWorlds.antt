@@ -10,11 +10,11 @@ use Rattle.ecs_model.specs.World.{WorldState, Key, key_cmp, entities, holds, ids
 use Rattle.ecs_model.proofs.Maps.{key_cmp_same, key_cmp_total}
 use Rattle.ecs_model.proofs.Members.{filtered}
 use Rattle.ecs_model.proofs.Removals.{IsMap-without}
-use Rattle.ecs_model.proofs.traits.Differences.{keys-without}
-use Rattle.ecs_model.proofs.traits.Facts.{key_there, there_key}
-use Rattle.ecs_model.specs.traits.Keeps.{IsWellFormed}
+use Rattle.ecs_model.proofs.steps.Differences.{keys-without}
+use Rattle.ecs_model.proofs.steps.Facts.{key_there, there_key}
+use Rattle.ecs_model.specs.steps.WellFormed.{IsWellFormed}
 use Rattle.rel_traits.specs.Sees.{Sees}
-use Rattle.rel_traits.proofs.OneList.{is_keys}
+use Rattle.rel_traits.proofs.UniqueLists.{is_keys}
 
 -- what is said of the live entities and their ids, is said of the world's
 pub of_world : {w : WorldState} {live : List ℕ} {ids : ℕ → List Id} → Sees w live ids → (Q : List ℕ → (ℕ → List Id) → Type 0) → Q live ids → Q (entities w) (ids_of w)

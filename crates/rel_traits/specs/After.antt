@@ -7,7 +7,7 @@ use Rattle.ecs_model.specs.Links.{AreLinks, is_held, upward}
 use Rattle.ecs_model.specs.Reach.{Reached}
 use Rattle.ecs_model.specs.Added.{IsAdded, IsReplaced, is_symmetric, is_used}
 use Rattle.ecs_model.specs.BuiltIns.{acyclic, with_trait}
-pub use Rattle.ecs_model.specs.traits.Laws.{ClosesAt}
+pub use Rattle.ecs_model.specs.steps.StepLaws.{ClosesAt}
 
 module _ (ids : ℕ → List Id) where
   -- the steps of a relationship after k is added: those that came, and those that were there and did not go

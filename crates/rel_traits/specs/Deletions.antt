@@ -2,11 +2,11 @@
 use Rattle.std.specs.Prelude.{◌↔◌, ℕ, ◌&&◌, Bool, not, List, Contains}
 use Rattle.std.specs.Ordering.{nat_cmp}
 use Rattle.ecs_id.specs.Id.{Id}
-use Rattle.ecs_model.specs.Falls.{falling}
+use Rattle.ecs_model.specs.Cleanup.{falling}
 use Rattle.ecs_model.specs.Map.{has_key}
 use Rattle.ecs_model.specs.Reach.{Reached}
 use Rattle.ecs_model.specs.World.{WorldState, Key}
-use Rattle.ecs_model.specs.traits.Changes.{deleted, mentions_gone}
+use Rattle.ecs_model.specs.steps.FactChanges.{deleted, mentions_gone}
 use Rattle.rel_travel.specs.Lists.{Work}
 use Rattle.rel_travel.specs.Referring.{referrers}
 use Rattle.rel_traits.specs.Sees.{Sees}

@@ -1,10 +1,10 @@
 -- The worlds that a graph shows.
 use Rattle.std.specs.Prelude.{◌≡◌, ℕ, Bool, List}
 use Rattle.ecs_id.specs.Id.{Id}
-use Rattle.ecs_model.specs.Command.{is_spent}
+use Rattle.ecs_model.specs.steps.Outcomes.{is_spent}
 use Rattle.ecs_model.specs.Map.{Map}
 use Rattle.ecs_model.specs.World.{WorldState, entities, ids_of}
-use Rattle.ecs_model.specs.traits.Keeps.{IsWellFormed}
+use Rattle.ecs_model.specs.steps.WellFormed.{IsWellFormed}
 
 -- a well-formed world whose live entities are these, each with these ids
 pub record Sees (w : WorldState) (live : List ℕ) (ids : ℕ → List Id) : Type 0 where

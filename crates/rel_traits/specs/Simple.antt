@@ -7,7 +7,7 @@ use Rattle.ecs_model.specs.BuiltIns.{is_a}
 use Rattle.ecs_model.specs.Copied.{is_copied}
 use Rattle.ecs_model.specs.Links.{is_held}
 use Rattle.ecs_model.specs.World.{Key}
-use Rattle.ecs_model.specs.traits.Rules.{is_trait}
+use Rattle.ecs_model.specs.steps.Rules.{is_trait}
 use Rattle.rel_traits.specs.declared.alone.Arrival.{Arrival}
 use Rattle.rel_traits.specs.declared.alone.Arrival.TheVariants.{Alone, InPlaceOf, WithOthers}
 use Rattle.rel_traits.specs.After.{ClosesAt}

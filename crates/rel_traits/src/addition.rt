@@ -61,7 +61,8 @@ impl<A: Allocator> Additions<A> {
         requires entity { Contains (G.entities graph.now) fact.0 }
         requires mentions { All (Contains (G.entities graph.now)) (mentioned fact.1) }
         ensures size { scratch.new.size ≡ scratch.old.size }
-        ensures tells { OnOk result ((w : WorldState) → Sees w (G.entities graph.now) (G.ids graph.now) → TellsAddition w fact self.new.base self.new.added.items self.new.copies.items self.new.came.items self.new.went.items) }
+        ensures tells { OnOk result ((w : WorldState) → Sees w (G.entities graph.now) (G.ids graph.now)
+            → TellsAddition w fact self.new.base self.new.added.items self.new.copies.items self.new.came.items self.new.went.items) }
         ensures live { OnOk result (All (IsOfLive (G.entities graph.now)) self.new.added.items) }
         ensures copies_live { OnOk result (All (IsOfLive (G.entities graph.now)) self.new.copies.items) }
     {

@@ -7,7 +7,8 @@ ghost use Rattle.ecs_model.specs.BuiltIns.{dont_inherit_mode, inherit_mode, on_i
 ghost use Rattle.ecs_model.specs.Copied.{has_pair, is_copied as is_copied_of, stays_behind as stays};
 ghost use Rattle.ecs_model.specs.Links.{is_held, target_under as target_of};
 ghost use Rattle.ecs_model.specs.World.{Key, key_cmp};
-ghost use Rattle.rel_traits.specs.Copies.{IsJoined, base_among, base_at, copies_of, copies_of_base, copy_of, gets_copy, has_own, pairs_with, takes_own, takes_pair_own};
+ghost use Rattle.rel_traits.specs.Copies.{IsJoined, base_among, base_at, copies_of, copies_of_base, copy_of, gets_copy, has_own, pairs_with, takes_own};
+ghost use Rattle.rel_traits.specs.Copies.{takes_pair_own};
 
 use crate::held_facts::put_in_order;
 use crate::trait_facts::is_trait;

@@ -4,7 +4,7 @@ ghost use Rattle.std.specs.List.Sorted.{IsStrictlySortedBy};
 ghost use Rattle.std.specs.Ordering.{nat_cmp};
 ghost use Rattle.ecs_id.specs.Id.{mentioned};
 ghost use Rattle.ecs_model.specs.Map.{keys};
-ghost use Rattle.ecs_model.specs.traits.Changes.{deleted, mentions_gone};
+ghost use Rattle.ecs_model.specs.steps.FactChanges.{deleted, mentions_gone};
 ghost use Rattle.rel_travel.specs.Referring.{mentions_any};
 ghost use Rattle.rel_traits.specs.Deletions.{OfDeletion, is_lost};
 
@@ -48,8 +48,10 @@ impl<A: Allocator> Deletion<A> {
     pub fn gather<G: Graph>(&mut self, graph: &G, scratch: &Scratch<A>) -> Result<(), AllocError>
         requires { G.size graph.now ≤ scratch.now.size }
         ensures dead { OnOk result (OfDeletion (G.entities graph.now) (G.ids graph.now) scratch.now (λ w e. self.new.dead.items ≡ keys (deleted w e))) }
-        ensures lost { OnOk result (OfDeletion (G.entities graph.now) (G.ids graph.now) scratch.now (λ w e. self.new.lost.items ≡ filter (is_lost w e) (keys w.facts))) }
-        ensures went { OnOk result (OfDeletion (G.entities graph.now) (G.ids graph.now) scratch.now (λ w e. self.new.went.items ≡ filter (mentions_gone w (deleted w e)) (keys w.facts))) }
+        ensures lost { OnOk result (OfDeletion (G.entities graph.now) (G.ids graph.now) scratch.now
+            (λ w e. self.new.lost.items ≡ filter (is_lost w e) (keys w.facts))) }
+        ensures went { OnOk result (OfDeletion (G.entities graph.now) (G.ids graph.now) scratch.now
+            (λ w e. self.new.went.items ≡ filter (mentions_gone w (deleted w e)) (keys w.facts))) }
     {
         copy_in_order(scratch.found(), &mut self.dead)?;
         list_lost(graph, scratch, &mut self.lost)?;
@@ -92,7 +94,8 @@ fn list_lost<G: Graph, A: Allocator>(
     facts: &mut Vec<FactKey, A>,
 ) -> Result<(), AllocError>
     requires { G.size graph.now ≤ scratch.now.size }
-    ensures { OnOk result (facts.new.items ≡ flat_map (λ y. map (λ i. (y, i)) (filter (mentions_any scratch.now.found) (G.ids graph.now y))) scratch.now.referrers) }
+    ensures { OnOk result (facts.new.items ≡ flat_map (λ y. map (λ i. (y, i)) (filter (mentions_any scratch.now.found) (G.ids graph.now y)))
+        scratch.now.referrers) }
 {
     facts.clear();
     for entity in scratch.referrers() {

@@ -2,7 +2,7 @@
 
 ghost use Rattle.std.specs.Prelude.{◌≡◌, ◌<◌, ◌≤◌, ℕ, [], OnErr, OnOk, length, slice_index_or, vec_capacity};
 ghost use Rattle.ecs_model.specs.Map.{count_at};
-ghost use Rattle.ecs_model.specs.traits.Pins.{with_count};
+ghost use Rattle.ecs_model.specs.steps.Pins.{with_count};
 
 use std::alloc::{AllocError, Allocator, Global};
 use std::marker::Model;

@@ -1,13 +1,14 @@
 //! Why an added fact is refused.
-ghost use Rattle.std.specs.Prelude.{◌≡◌, ◌↔◌, ◌⊎◌, ◌==◌, ◌<◌, ◌≤◌, ◌+◌, ◌-◌, ◌&&◌, ◌||◌, false, [], ◌∷◌, All, Contains, IfSome, IsTrue, count_by, length, nat_lt};
+ghost use Rattle.std.specs.Prelude.{◌≡◌, ◌↔◌, ◌⊎◌, ◌==◌, ◌<◌, ◌≤◌, ◌+◌, ◌-◌, ◌&&◌, ◌||◌, false, [], ◌∷◌, All, Contains, IfSome, IsTrue, count_by, length};
+ghost use Rattle.std.specs.Prelude.{nat_lt};
 ghost use Rattle.std.specs.List.{cons_option, list_any};
 ghost use Rattle.ecs_id.specs.Id.{mentioned, second_of};
 ghost use Rattle.ecs_model.specs.Added.{is_used};
 ghost use Rattle.ecs_model.specs.Map.{count_at};
 ghost use Rattle.ecs_model.specs.Refusal.{first_reason};
 ghost use Rattle.ecs_model.specs.World.{WorldState, most_ids};
-ghost use Rattle.ecs_model.specs.traits.Command.{add_reasons, adds_built_in as brings_built_in};
-ghost use Rattle.ecs_model.specs.traits.Rules.{is_trait as is_trait_id};
+ghost use Rattle.ecs_model.specs.steps.Step.{add_reasons, adds_built_in as brings_built_in};
+ghost use Rattle.ecs_model.specs.steps.Rules.{is_trait as is_trait_id};
 ghost use Rattle.rel_traits.specs.After.{ClosesOne};
 ghost use Rattle.rel_traits.specs.FactLists.{IsOfLive};
 ghost use Rattle.rel_traits.specs.Additions.{TellsAddition};
@@ -40,7 +41,9 @@ pub fn judge_add<G: Holders, A: Allocator>(
     requires live { All (IsOfLive (G.entities graph.now)) additions.now.added.items }
     requires copies_live { All (IsOfLive (G.entities graph.now)) additions.now.copies.items }
     ensures size { scratch.new.size ≡ scratch.old.size }
-    ensures judged { (w : WorldState) → Sees w (G.entities graph.now) (G.ids graph.now) → HasCounts w pins.now.entries is_spent → TellsAddition w fact additions.now.base additions.now.added.items additions.now.copies.items additions.now.came.items additions.now.went.items → brings_built_in w fact.0 fact.1 ≡ false → result ≡ first_reason (add_reasons w fact.0 fact.1) }
+    ensures judged { (w : WorldState) → Sees w (G.entities graph.now) (G.ids graph.now) → HasCounts w pins.now.entries is_spent
+        → TellsAddition w fact additions.now.base additions.now.added.items additions.now.copies.items additions.now.came.items additions.now.went.items
+        → brings_built_in w fact.0 fact.1 ≡ false → result ≡ first_reason (add_reasons w fact.0 fact.1) }
 {
     let _ = graph.size();
     let added = additions.added.as_slice();
@@ -90,7 +93,8 @@ fn first_refusal(changes: bool, closes: bool, crowds: bool, is_spent: bool) -> O
 
 /// Whether one of the facts is a trait and comes to what is used as component or relationship, or to what a stored query mentions.
 fn changes_trait<G: Holders, A: Allocator>(graph: &G, came: &[FactKey], pins: &PinCounts<A>) -> bool
-    ensures { result ≡ list_any (λ k. is_trait_id k.1 && (is_used (G.ids graph.now) (G.entities graph.now) k.0 || nat_lt 0 (count_at pins.now.entries k.0))) came.now }
+    ensures { result ≡ list_any (λ k. is_trait_id k.1 && (is_used (G.ids graph.now) (G.entities graph.now) k.0 || nat_lt 0 (count_at pins.now.entries k.0)))
+        came.now }
 {
     came.iter().any(|fact| {
         is_trait(fact.id()) && (in_use(graph, fact.entity()) || is_pinned(pins, fact.entity()))
@@ -99,7 +103,8 @@ fn changes_trait<G: Holders, A: Allocator>(graph: &G, came: &[FactKey], pins: &P
 
 /// Whether the entity of the fact, or its target if it has one, would hold too many ids. No other entity gets one of the added facts.
 fn crowds_one<G: Graph>(graph: &G, fact: FactKey, came: &[FactKey], went: &[FactKey]) -> bool
-    ensures { result ≡ list_any (λ x. nat_lt most_ids (length (G.ids graph.now x) + count_by (λ k. k.0 == x) came.now - count_by (λ k. k.0 == x) went.now)) (fact.0 ∷ cons_option (second_of fact.1) []) }
+    ensures { result ≡ list_any (λ x. nat_lt most_ids (length (G.ids graph.now x) + count_by (λ k. k.0 == x) came.now - count_by (λ k. k.0 == x) went.now))
+        (fact.0 ∷ cons_option (second_of fact.1) []) }
 {
     let target = fact.id().second();
     is_crowded(graph, fact.entity(), came, went)

@@ -3,8 +3,8 @@ ghost use Rattle.std.specs.Prelude.{◌≡◌, ◌↔◌, ◌≤◌, [], ◌∷�
 ghost use Rattle.std.specs.List.{list_any};
 ghost use Rattle.ecs_model.specs.Map.{count_at};
 ghost use Rattle.ecs_model.specs.Refusal.{first_reason};
-ghost use Rattle.ecs_model.specs.traits.Changes.{deleted as all_deleted};
-ghost use Rattle.ecs_model.specs.traits.Command.{delete_reasons};
+ghost use Rattle.ecs_model.specs.steps.FactChanges.{deleted as all_deleted};
+ghost use Rattle.ecs_model.specs.steps.Step.{delete_reasons};
 ghost use Rattle.rel_travel.specs.Referring.{is_forbidden, referrers};
 ghost use Rattle.rel_traits.specs.Sees.{HasCounts};
 ghost use Rattle.rel_traits.specs.Deletions.{IsDeletion, OfDeletion};
@@ -30,7 +30,8 @@ pub fn judge_delete<G: Holders, A: Allocator>(
     requires lives { Contains (G.entities graph.now) index }
     ensures size { scratch.new.size ≡ scratch.old.size }
     ensures found { IsDeletion (G.entities graph.now) (G.ids graph.now) scratch.new index }
-    ensures judged { OfDeletion (G.entities graph.now) (G.ids graph.now) scratch.new (λ w e. HasCounts w pins.now.entries is_spent → result ≡ first_reason (delete_reasons w (all_deleted w e))) }
+    ensures judged { OfDeletion (G.entities graph.now) (G.ids graph.now) scratch.new
+        (λ w e. HasCounts w pins.now.entries is_spent → result ≡ first_reason (delete_reasons w (all_deleted w e))) }
 {
     let _ = graph.size();
     deleted(graph, index, scratch);
@@ -47,7 +48,8 @@ fn reason_against<G: Graph, A: Allocator>(
 ) -> Option<Refusal>
     requires covered { G.size graph.now ≤ scratch.now.size }
     requires referrers { (y : ℕ) → Contains scratch.now.referrers y ↔ Contains (referrers (G.ids graph.now) (G.entities graph.now) scratch.now.found) y }
-    ensures { result ≡ first_reason ((list_any (λ i. nat_lt 0 (count_at pins.now.entries i)) scratch.now.found, Refusal.InUse) ∷ (is_forbidden (G.ids graph.now) (G.entities graph.now) scratch.now.found, Refusal.Panic) ∷ (is_spent, Refusal.Full) ∷ []) }
+    ensures { result ≡ first_reason ((list_any (λ i. nat_lt 0 (count_at pins.now.entries i)) scratch.now.found, Refusal.InUse)
+        ∷ (is_forbidden (G.ids graph.now) (G.entities graph.now) scratch.now.found, Refusal.Panic) ∷ (is_spent, Refusal.Full) ∷ []) }
 {
     if any_pinned(pins, scratch.found()) {
         return Some(Refusal::InUse);

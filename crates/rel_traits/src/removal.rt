@@ -5,8 +5,8 @@ ghost use Rattle.ecs_id.specs.Id.{IsIndex};
 ghost use Rattle.ecs_model.specs.Map.{keys};
 ghost use Rattle.ecs_model.specs.Refusal.{first_reason};
 ghost use Rattle.ecs_model.specs.World.{WorldState, key_eq};
-ghost use Rattle.ecs_model.specs.traits.Changes.{removed as all_removed};
-ghost use Rattle.ecs_model.specs.traits.Rules.{is_trait as is_trait_id};
+ghost use Rattle.ecs_model.specs.steps.FactChanges.{removed as all_removed};
+ghost use Rattle.ecs_model.specs.steps.Rules.{is_trait as is_trait_id};
 ghost use Rattle.rel_traits.specs.Additions.{is_of_built_in};
 ghost use Rattle.rel_traits.specs.Sees.{Sees};
 
@@ -26,7 +26,8 @@ pub fn gather_remove<G: Graph, A: Allocator>(
     removed: &mut Vec<FactKey, A>,
 ) -> Result<(), AllocError>
     requires { IsIndex fact.0 }
-    ensures { OnOk result ((w : WorldState) → Sees w (G.entities graph.now) (G.ids graph.now) → removed.new.items ≡ filter (λ k. list_any (key_eq k) (all_removed w fact.0 fact.1)) (keys w.facts)) }
+    ensures { OnOk result ((w : WorldState) → Sees w (G.entities graph.now) (G.ids graph.now)
+        → removed.new.items ≡ filter (λ k. list_any (key_eq k) (all_removed w fact.0 fact.1)) (keys w.facts)) }
 {
     closure_remove(graph, fact, removed)?;
     Ok(())

@@ -1,7 +1,7 @@
 //! Which ids are traits, and which facts come to what is built in.
 ghost use Rattle.std.specs.Prelude.{◌≡◌};
 ghost use Rattle.std.specs.List.{list_any};
-ghost use Rattle.ecs_model.specs.traits.Rules.{is_trait as is_trait_id};
+ghost use Rattle.ecs_model.specs.steps.Rules.{is_trait as is_trait_id};
 ghost use Rattle.rel_traits.specs.Additions.{is_of_built_in};
 
 use ecs_id::Id;

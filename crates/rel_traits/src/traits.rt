@@ -40,7 +40,10 @@ impl Flags for TraitSet {
 
     ghost exact = { ⊤ };
 
-    ghost table = { (codes "EXCLUSIVE", 1) ∷ (codes "SYMMETRIC", 2) ∷ (codes "TRANSITIVE", 4) ∷ (codes "REFLEXIVE", 8) ∷ (codes "ACYCLIC", 16) ∷ (codes "TRAVERSABLE", 32) ∷ (codes "PAIR_IS_TAG", 64) ∷ (codes "ON_DELETE_DELETE", 128) ∷ (codes "ON_DELETE_PANIC", 256) ∷ (codes "ON_DELETE_TARGET_DELETE", 512) ∷ (codes "ON_DELETE_TARGET_PANIC", 1024) ∷ (codes "ON_INSTANTIATE_INHERIT", 2048) ∷ (codes "ON_INSTANTIATE_DONT_INHERIT", 4096) ∷ [] };
+    ghost table = { (codes "EXCLUSIVE", 1) ∷ (codes "SYMMETRIC", 2) ∷ (codes "TRANSITIVE", 4) ∷ (codes "REFLEXIVE", 8) ∷ (codes "ACYCLIC", 16)
+        ∷ (codes "TRAVERSABLE", 32) ∷ (codes "PAIR_IS_TAG", 64) ∷ (codes "ON_DELETE_DELETE", 128) ∷ (codes "ON_DELETE_PANIC", 256)
+        ∷ (codes "ON_DELETE_TARGET_DELETE", 512) ∷ (codes "ON_DELETE_TARGET_PANIC", 1024) ∷ (codes "ON_INSTANTIATE_INHERIT", 2048)
+        ∷ (codes "ON_INSTANTIATE_DONT_INHERIT", 4096) ∷ [] };
 
     ghost set_of = { λ s. s.0 };
 

@@ -10,7 +10,7 @@ use Rattle.component_index.specs.declared.pattern.Part.TheVariants.{Is, Any}
 use Rattle.component_index.specs.declared.pattern.Pattern.{Pattern}
 use Rattle.component_index.specs.Patterns.{matches}
 use Rattle.ecs_id.specs.Id.{Id, plain, pair, id_cmp, id_eq, id_eq_itself, id_eq_same}
-use Rattle.ecs_model.specs.Falls.{deletes_sources, deletes_users, falling, falls_by}
+use Rattle.ecs_model.specs.Cleanup.{deletes_sources, deletes_users, falling, falls_by}
 use Rattle.rel_travel.specs.Holders.{holders, holders_of_pair, sources_falling}
 use Rattle.ecs_model.specs.Links.{AreLinks, target_under, upward}
 use Rattle.ecs_model.proofs.Members.{and_true, any_passes, both, eq_itself, filtered, from_filter_map, from_or, or_left, or_right, passing}

@@ -9,7 +9,7 @@ use Rattle.ecs_model.specs.Links.{AreLinks}
 use Rattle.ecs_model.proofs.Members.{alike, and_true, any_passes, both, eq_itself, eq_same, filtered, from_or, or_left, or_right, passing}
 use Rattle.rel_travel.specs.Finds.{is_among}
 use Rattle.rel_travel.specs.Outside.{forbids_any}
-use Rattle.ecs_model.specs.traits.Rules.{forbids, forbids_with_sources, forbids_with_users}
+use Rattle.ecs_model.specs.steps.Rules.{forbids, forbids_with_sources, forbids_with_users}
 use Rattle.rel_travel.specs.Referring.{is_forbidden, mentions_any, referrers}
 use Rattle.rel_travel.proofs.Growth.{is_among_tells}
 

@@ -5,7 +5,7 @@ use Rattle.component_index.specs.declared.pattern.Pattern.{Pattern}
 use Rattle.component_index.specs.declared.pattern.Part.TheVariants.{Is, Any}
 use Rattle.rel_travel.specs.Finds.{is_among}
 use Rattle.rel_travel.specs.Holders.{holders}
-use Rattle.ecs_model.specs.traits.Rules.{forbids_with_sources, forbids_with_users}
+use Rattle.ecs_model.specs.steps.Rules.{forbids_with_sources, forbids_with_users}
 
 abbrev pub is_outside : List ℕ → ℕ → Bool
 is_outside members y = not (is_among members y)

@@ -2,7 +2,7 @@
 use Rattle.std.specs.Prelude.{ℕ, ◌&&◌, Bool, not, List, filter}
 use Rattle.std.specs.List.{list_any}
 use Rattle.ecs_id.specs.Id.{Id, mentioned}
-use Rattle.ecs_model.specs.traits.Rules.{forbids}
+use Rattle.ecs_model.specs.steps.Rules.{forbids}
 use Rattle.rel_travel.specs.Finds.{is_among}
 
 -- whether an id mentions one of these

@@ -50,7 +50,8 @@ pub fn begin<R: Rule, A: Allocator>(rule: &R, index: u32, reach: Reach, found: &
     requires covered { (x : ℕ) → All (λ y. y < found.old.size) (R.next rule.now x) }
     requires inside { index < found.old.size }
     ensures size { found.new.size ≡ found.old.size }
-    ensures begun { (y : ℕ) → IsListed reach.is_transitive (R.next rule.now) found.new.items y ↔ Reaches reach.is_transitive reach.is_reflexive (R.next rule.now) index y }
+    ensures begun { (y : ℕ) → IsListed reach.is_transitive (R.next rule.now) found.new.items y
+        ↔ Reaches reach.is_transitive reach.is_reflexive (R.next rule.now) index y }
 {
     if begin_with(index, reach, found) {
         rule.follow(index, found);

@@ -1,6 +1,6 @@
 //! Which entities fall with an entity that is deleted.
 ghost use Rattle.std.specs.Prelude.{◌≡◌, ◌↔◌, ◌≤◌, ◌<◌, ℕ, All, Contains, flat_map};
-ghost use Rattle.ecs_model.specs.Falls.{falling};
+ghost use Rattle.ecs_model.specs.Cleanup.{falling};
 ghost use Rattle.rel_travel.specs.Holders.{holders_of_pair, sources_falling};
 ghost use Rattle.rel_travel.specs.Growing.{IsGrownBy};
 ghost use Rattle.ecs_model.specs.Reach.{Reached};
@@ -85,7 +85,8 @@ fn add_pairs<G: Holders, A: Allocator>(
 )
     requires { All (λ y. y < found.old.size) (flat_map (λ e. holders_of_pair (G.entities graph.now) (G.ids graph.now) target e.index) relationships.now) }
     ensures size { found.new.size ≡ found.old.size }
-    ensures grown { IsGrownBy (flat_map (λ e. holders_of_pair (G.entities graph.now) (G.ids graph.now) target e.index) relationships.now) found.old.items found.new.items }
+    ensures grown { IsGrownBy (flat_map (λ e. holders_of_pair (G.entities graph.now) (G.ids graph.now) target e.index) relationships.now) found.old.items
+        found.new.items }
 {
     for relationship in relationships {
         let pairs = Pattern {

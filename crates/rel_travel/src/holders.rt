@@ -26,7 +26,8 @@ pub trait Holders: Graph {
 
     /// Law: the tables that are listed for a pattern have exactly the live entities with an id that it matches. The call does nothing.
     fn lists_holders(&self)
-        ensures { (pattern : Asked) (y : ℕ) → Contains (flat_map (rows self.now) (listed self.now pattern)) y ↔ Contains (holders (Self.entities self.now) (Self.ids self.now) pattern) y };
+        ensures { (pattern : Asked) (y : ℕ) → Contains (flat_map (rows self.now) (listed self.now pattern)) y
+            ↔ Contains (holders (Self.entities self.now) (Self.ids self.now) pattern) y };
 
     fn rows(&self, table: ListedKey) -> &[EntityId]
         ensures { map (λ e. e.index) result.now ≡ rows self.now table };
@@ -34,7 +35,8 @@ pub trait Holders: Graph {
     /// The tables whose entities hold an id that the pattern matches.
     fn tables_of(&self, pattern: Pattern) -> &[ListedKey]
         ensures listed { result.now ≡ listed self.now pattern }
-        ensures holders { (y : ℕ) → Contains (flat_map (rows self.now) result.now) y ↔ Contains (holders (Self.entities self.now) (Self.ids self.now) pattern) y };
+        ensures holders { (y : ℕ) → Contains (flat_map (rows self.now) result.now) y
+            ↔ Contains (holders (Self.entities self.now) (Self.ids self.now) pattern) y };
 }
 
 /// From an entity to those that hold a pair of a relationship with it as the target.
@@ -50,8 +52,10 @@ impl<G: Holders> Rule for Downward<'_, G> {
     fn follow<A: Allocator>(&self, index: u32, found: &mut Found<A>)
         requires { All (λ y. y < found.old.size) (holders_of_pair (G.entities self.now.graph.now) (G.ids self.now.graph.now) index self.now.relationship) }
         ensures size { found.new.size ≡ found.old.size }
-        ensures grown { IsGrownBy (holders_of_pair (G.entities self.now.graph.now) (G.ids self.now.graph.now) index self.now.relationship) found.old.items found.new.items }
-        ensures items { found.new.items ≡ with_finds found.old.items (downward (G.rows self.now.graph.now) (G.listed self.now.graph.now) self.now.relationship index) }
+        ensures grown { IsGrownBy (holders_of_pair (G.entities self.now.graph.now) (G.ids self.now.graph.now) index self.now.relationship) found.old.items
+            found.new.items }
+        ensures items { found.new.items ≡ with_finds found.old.items
+            (downward (G.rows self.now.graph.now) (G.listed self.now.graph.now) self.now.relationship index) }
     {
         let first = Part::Is(self.relationship);
         let second = Some(Part::Is(index));

@@ -4,8 +4,8 @@ ghost use Rattle.std.specs.List.{list_any, IsDistinct};
 ghost use Rattle.component_index.specs.Patterns.{matches};
 ghost use Rattle.component_index.specs.declared.pattern.Pattern.{Pattern as Asked};
 ghost use Rattle.ecs_id.specs.declared.TableKey.{TableKey};
-ghost use Rattle.ecs_model.specs.Falls.{falling};
-ghost use Rattle.ecs_model.specs.Links.{IsAcyclic, IsReached, depth as depth_in, line, reaches as reaches_in, upward};
+ghost use Rattle.ecs_model.specs.Cleanup.{falling};
+ghost use Rattle.ecs_model.specs.Links.{IsAcyclic, IsReached, ancestor_line, depth as depth_in, reaches as reaches_in, upward};
 ghost use Rattle.ecs_model.specs.Reach.{IsLeast, Reached};
 ghost use Rattle.rel_travel.specs.Lists.{GivesOne, IsListing, IsToCome, given_by, steps};
 ghost use Rattle.rel_travel.specs.Growing.{IsGrownBy};
@@ -62,9 +62,18 @@ impl<A: Allocator> Model for Scratch<A> {
 
     ghost Value = { Work };
 
-    ghost view = { λ s. record { size = s.found.size; found = s.found.items; referrers = s.referring.items; relationship = s.list.relationship; is_upward = s.list.is_upward; goes_on = s.list.goes_on; given = s.list.given } };
+    ghost view = { λ s. record {
+      size = s.found.size;
+      found = s.found.items;
+      referrers = s.referring.items;
+      relationship = s.list.relationship;
+      is_upward = s.list.is_upward;
+      goes_on = s.list.goes_on;
+      given = s.list.given;
+    } };
 
-    ghost invariant = { λ s. (s.found.size ≤ s.path.room - 1) × (s.found.size ≤ s.referring.size) × (s.found.size ≤ vec_capacity s.words) × NoneNoted s.words.items };
+    ghost invariant = { λ s. (s.found.size ≤ s.path.room - 1) × (s.found.size ≤ s.referring.size) × (s.found.size ≤ vec_capacity s.words)
+        × NoneNoted s.words.items };
 }
 
 impl<A: Allocator + Copy> Scratch<A> {
@@ -178,7 +187,8 @@ pub fn above<G: Graph, A: Allocator>(
     ensures begun { IsListing (G.entities graph.now) (G.ids graph.now) scratch.new }
     ensures none_given { given_by scratch.new ≡ [] }
     ensures reached { (y : ℕ) → IsToCome (G.entities graph.now) (G.ids graph.now) scratch.new y ↔ IsReached (G.ids graph.now) relationship index y }
-    ensures coming { (rows : TableKey → List ℕ) (listed : Asked → List TableKey) → coming rows listed (G.ids graph.now) scratch.new ≡ above_list (G.size graph.now) (G.ids graph.now) relationship index }
+    ensures coming { (rows : TableKey → List ℕ) (listed : Asked → List TableKey)
+        → coming rows listed (G.ids graph.now) scratch.new ≡ above_list (G.size graph.now) (G.ids graph.now) relationship index }
 {
     let _ = graph.size();
     let reach = reach_of(graph, relationship);
@@ -212,7 +222,8 @@ pub fn below<G: Holders, A: Allocator>(
     ensures begun { IsListing (G.entities graph.now) (G.ids graph.now) scratch.new }
     ensures none_given { given_by scratch.new ≡ [] }
     ensures reached { (y : ℕ) → IsToCome (G.entities graph.now) (G.ids graph.now) scratch.new y ↔ IsReached (G.ids graph.now) relationship y index }
-    ensures coming { coming (G.rows graph.now) (G.listed graph.now) (G.ids graph.now) scratch.new ≡ below_list (G.rows graph.now) (G.listed graph.now) (G.size graph.now) (G.ids graph.now) relationship index }
+    ensures coming { coming (G.rows graph.now) (G.listed graph.now) (G.ids graph.now) scratch.new
+        ≡ below_list (G.rows graph.now) (G.listed graph.now) (G.size graph.now) (G.ids graph.now) relationship index }
 {
     let _ = graph.size();
     graph.lists_holders();
@@ -240,9 +251,12 @@ pub fn below<G: Holders, A: Allocator>(
 pub fn pull<G: Holders, A: Allocator>(graph: &G, scratch: &mut Scratch<A>) -> Option<u32>
     requires covered { G.size graph.now ≤ scratch.old.size }
     ensures size { scratch.new.size ≡ scratch.old.size }
-    ensures next { MatchOption result (coming (G.rows graph.now) (G.listed graph.now) (G.ids graph.now) scratch.old ≡ []) (λ e. coming (G.rows graph.now) (G.listed graph.now) (G.ids graph.now) scratch.old ≡ e ∷ coming (G.rows graph.now) (G.listed graph.now) (G.ids graph.now) scratch.new) }
+    ensures next { MatchOption result (coming (G.rows graph.now) (G.listed graph.now) (G.ids graph.now) scratch.old ≡ [])
+        (λ e. coming (G.rows graph.now) (G.listed graph.now) (G.ids graph.now) scratch.old
+        ≡ e ∷ coming (G.rows graph.now) (G.listed graph.now) (G.ids graph.now) scratch.new) }
     ensures begun { IsListing (G.entities graph.now) (G.ids graph.now) scratch.old → IsListing (G.entities graph.now) (G.ids graph.now) scratch.new }
-    ensures given { IsListing (G.entities graph.now) (G.ids graph.now) scratch.old → GivesOne (G.entities graph.now) (G.ids graph.now) scratch.old result scratch.new }
+    ensures given { IsListing (G.entities graph.now) (G.ids graph.now) scratch.old
+        → GivesOne (G.entities graph.now) (G.ids graph.now) scratch.old result scratch.new }
     ensures fits { length (given_by scratch.new) ≤ scratch.new.size }
 {
     let _ = graph.size();
@@ -263,7 +277,8 @@ fn follow<G: Holders, A: Allocator>(graph: &G, list: Listing, entity: u32, found
     requires covered { G.size graph.now ≤ found.old.size }
     ensures size { found.new.size ≡ found.old.size }
     ensures grown { IsGrownBy (steps (G.entities graph.now) (G.ids graph.now) list.is_upward list.relationship entity) found.old.items found.new.items }
-    ensures items { found.new.items ≡ with_finds found.old.items (brought (G.rows graph.now) (G.listed graph.now) (G.ids graph.now) list.is_upward list.relationship entity) }
+    ensures items { found.new.items ≡ with_finds found.old.items
+        (brought (G.rows graph.now) (G.listed graph.now) (G.ids graph.now) list.is_upward list.relationship entity) }
 {
     let _ = graph.size();
     let relationship = list.relationship;
@@ -335,7 +350,8 @@ pub fn first_up<G: Graph, A: Allocator>(
     requires inside { index < scratch.old.size }
     requires acyclic { IsAcyclic (G.ids graph.now) relationship }
     ensures size { scratch.new.size ≡ scratch.old.size }
-    ensures first { result ≡ find (λ t. list_any (matches pattern) (G.ids graph.now t)) (line (G.ids graph.now) (G.entities graph.now) relationship index) }
+    ensures first { result ≡ find (λ t. list_any (matches pattern) (G.ids graph.now t))
+        (ancestor_line (G.ids graph.now) (G.entities graph.now) relationship index) }
 {
     first_hit(
         graph,

@@ -46,7 +46,12 @@ impl<A: Allocator> Model for Ways<A> {
 
     ghost Value = { Known };
 
-    ghost view = { λ w. record { size = w.below.found.size; is_transitive = w.is_transitive; above = record { start = w.above.start; is_alone = w.above.is_alone; found = w.above.found.items; done = w.above.done }; below = record { start = w.below.start; is_alone = w.below.is_alone; found = w.below.found.items; done = w.below.done } } };
+    ghost view = { λ w. record {
+      size = w.below.found.size;
+      is_transitive = w.is_transitive;
+      above = record { start = w.above.start; is_alone = w.above.is_alone; found = w.above.found.items; done = w.above.done };
+      below = record { start = w.below.start; is_alone = w.below.is_alone; found = w.below.found.items; done = w.below.done };
+    } };
 
     ghost invariant = { λ w. w.below.found.size ≤ w.above.found.size };
 }
@@ -154,11 +159,13 @@ fn leads_to_other<G: Holders, A: Allocator>(
     requires source { source < G.size graph.now }
     requires target { target < G.size graph.now }
     requires above { IsSought (upward (G.ids graph.now) relationship) above.old.start above.old.is_alone above.old.found.items above.old.done }
-    requires below { IsSought (λ x. holders_of_pair (G.entities graph.now) (G.ids graph.now) x relationship) below.old.start below.old.is_alone below.old.found.items below.old.done }
+    requires below { IsSought (λ x. holders_of_pair (G.entities graph.now) (G.ids graph.now) x relationship) below.old.start below.old.is_alone
+        below.old.found.items below.old.done }
     ensures above_size { above.new.found.size ≡ above.old.found.size }
     ensures below_size { below.new.found.size ≡ below.old.found.size }
     ensures above { IsSought (upward (G.ids graph.now) relationship) above.new.start above.new.is_alone above.new.found.items above.new.done }
-    ensures below { IsSought (λ x. holders_of_pair (G.entities graph.now) (G.ids graph.now) x relationship) below.new.start below.new.is_alone below.new.found.items below.new.done }
+    ensures below { IsSought (λ x. holders_of_pair (G.entities graph.now) (G.ids graph.now) x relationship) below.new.start below.new.is_alone
+        below.new.found.items below.new.done }
     ensures answer { IsTrue result ↔ Reached (upward (G.ids graph.now) relationship) source target }
 {
     let _ = graph.size();
@@ -191,9 +198,11 @@ fn go_on_below<G: Holders, A: Allocator>(
 )
     requires covered { G.size graph.now ≤ below.old.found.size }
     requires target { target < below.old.found.size }
-    requires sought { IsSought (λ x. holders_of_pair (G.entities graph.now) (G.ids graph.now) x relationship) below.old.start below.old.is_alone below.old.found.items below.old.done }
+    requires sought { IsSought (λ x. holders_of_pair (G.entities graph.now) (G.ids graph.now) x relationship) below.old.start below.old.is_alone
+        below.old.found.items below.old.done }
     ensures size { below.new.found.size ≡ below.old.found.size }
-    ensures sought { IsSought (λ x. holders_of_pair (G.entities graph.now) (G.ids graph.now) x relationship) below.new.start below.new.is_alone below.new.found.items below.new.done }
+    ensures sought { IsSought (λ x. holders_of_pair (G.entities graph.now) (G.ids graph.now) x relationship) below.new.start below.new.is_alone
+        below.new.found.items below.new.done }
 {
     let _ = graph.size();
     if !below.is_from(target) {

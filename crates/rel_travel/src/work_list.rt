@@ -59,8 +59,10 @@ pub fn go_on_until<R: Rule, A: Allocator>(
     requires inside { index < found.old.size }
     ensures size { found.new.size ≡ found.old.size }
     ensures grows { done.old ≤ done.new }
-    ensures followed { (start : List ℕ) → IsFollowed (R.next rule.now) start found.old.items done.old → IsFollowed (R.next rule.now) start found.new.items done.new }
-    ensures reached { (start : List ℕ) → IsFollowed (R.next rule.now) start found.old.items done.old → (IsTrue result ↔ IsReachedFrom (R.next rule.now) start index) }
+    ensures followed { (start : List ℕ) → IsFollowed (R.next rule.now) start found.old.items done.old
+        → IsFollowed (R.next rule.now) start found.new.items done.new }
+    ensures reached { (start : List ℕ) → IsFollowed (R.next rule.now) start found.old.items done.old
+        → (IsTrue result ↔ IsReachedFrom (R.next rule.now) start index) }
 {
     while !found.is_found(index) {
         if found.len() <= *done {

@@ -60,7 +60,7 @@ pub(crate) fn misfit_of(line: &[u8]) -> Misfit
 }
 
 /// Reads a line that begins with this word, which is this command, if it is one.
-fn line_fault(command: Option<Command>, line: &[u8], word: Part) -> Found<()>
+fn line_fault(command: Option<Command>, line: &[u8], word: Part) -> OrMisfit<()>
     requires { IsWithin line.now word }
     ensures { IfErr result (λ e. IsWithin line.now e.0) }
 {
@@ -87,10 +87,10 @@ fn broken_at(line: &[u8]) -> Option<usize>
 }
 
 /// What was found in a line, or a part that doesn't fit.
-type Found<T> = Result<T, (Part, Reason)>;
+type OrMisfit<T> = Result<T, (Part, Reason)>;
 
 /// Reads what stands behind a command.
-fn rest_fault(command: Command, line: &[u8], from: usize) -> Found<()>
+fn rest_fault(command: Command, line: &[u8], from: usize) -> OrMisfit<()>
     requires { from ≤ length line.now }
     ensures { IfErr result (λ e. IsWithin line.now e.0) }
 {
@@ -129,7 +129,7 @@ fn rest_fault(command: Command, line: &[u8], from: usize) -> Found<()>
 }
 
 /// The next word, which has to be there.
-fn some_word(line: &[u8], from: usize) -> Found<Part>
+fn some_word(line: &[u8], from: usize) -> OrMisfit<Part>
     requires { from ≤ length line.now }
     ensures word { IfOk result (IsWithin line.now) }
     ensures missing { IfErr result (λ e. IsWithin line.now e.0) }
@@ -143,7 +143,7 @@ fn some_word(line: &[u8], from: usize) -> Found<Part>
 }
 
 /// No word more may stand in the line.
-fn no_more(line: &[u8], from: usize) -> Found<()>
+fn no_more(line: &[u8], from: usize) -> OrMisfit<()>
     requires { from ≤ length line.now }
     ensures { IfErr result (λ e. IsWithin line.now e.0) }
 {
@@ -168,7 +168,7 @@ fn begins_comment(word: &[u8]) -> bool {
 }
 
 /// The next word as an entity.
-fn entity_from(line: &[u8], from: usize) -> Found<Part>
+fn entity_from(line: &[u8], from: usize) -> OrMisfit<Part>
     requires { from ≤ length line.now }
     ensures word { IfOk result (IsWithin line.now) }
     ensures fault { IfErr result (λ e. IsWithin line.now e.0) }
@@ -205,7 +205,7 @@ fn is_generation(digits: &[u8]) -> bool {
 }
 
 /// An id: an entity, or a pair.
-fn id_from(line: &[u8], from: usize) -> Found<Part>
+fn id_from(line: &[u8], from: usize) -> OrMisfit<Part>
     requires { from ≤ length line.now }
     ensures word { IfOk result (IsWithin line.now) }
     ensures fault { IfErr result (λ e. IsWithin line.now e.0) }
@@ -223,7 +223,7 @@ fn id_from(line: &[u8], from: usize) -> Found<Part>
 }
 
 /// A pair in its brackets, behind which a blank or the end of the line has to stand.
-fn pair_at(line: &[u8], part: Part) -> Found<Part>
+fn pair_at(line: &[u8], part: Part) -> OrMisfit<Part>
     requires { IsWithin line.now part }
     ensures word { IfOk result (IsWithin line.now) }
     ensures fault { IfErr result (λ e. IsWithin line.now e.0) }
@@ -260,7 +260,7 @@ fn trimmed(bytes: &[u8]) -> &[u8] {
 }
 
 /// Fields, or else values, up to the end of the line.
-fn words_from(line: &[u8], from: usize, are_fields: bool) -> Found<()>
+fn words_from(line: &[u8], from: usize, are_fields: bool) -> OrMisfit<()>
     requires { from ≤ length line.now }
     ensures { IfErr result (λ e. IsWithin line.now e.0) }
 {
@@ -322,7 +322,7 @@ fn is_kind(word: &[u8]) -> bool {
 }
 
 /// The next word as an event that is observed.
-fn event_from(line: &[u8], from: usize) -> Found<Part>
+fn event_from(line: &[u8], from: usize) -> OrMisfit<Part>
     requires { from ≤ length line.now }
     ensures word { IfOk result (IsWithin line.now) }
     ensures fault { IfErr result (λ e. IsWithin line.now e.0) }

@@ -6,5 +6,5 @@ mod Fronts
 mod Digits
 mod Stops
 mod NamedReferences
-mod Close
+mod ClosePairs
 mod Ascii

@@ -7,7 +7,7 @@ use Rattle.ecs_model.specs.declared.Kind.{Kind}
 use Rattle.ecs_model.specs.Schema.{Field}
 use Rattle.ecs_model.specs.Text.{is_blank, is_number, number_of, words}
 use Rattle.ecs_model.specs.Orders.{EntityRef, by_name, by_handle, IdRef, plain_of, pair_of, MakeFresh, MakeEntity, AddTo, SetIn, RemoveFrom, DeleteOne}
-use Rattle.ecs_model.specs.Script.{Form, LongLine, BadLine, Obey, Define, Ask, AskKept, entity_line, fact_line, form_or_bad, forms, looked_up, nothing_more, one_word, set_line, word_and_rest}
+use Rattle.ecs_model.specs.Script.{Form, LongLine, BadLine, CarryOut, Define, Ask, AskKept, entity_line, fact_line, form_or_bad, forms, looked_up, nothing_more, one_word, set_line, word_and_rest}
 use Rattle.ecs_model.specs.Script
 use Rattle.ecs_model.specs.stored.Session.{InWorld}
 use Rattle.ecs_model.specs.stored.Session
@@ -74,18 +74,18 @@ abbrev pub seen : {A : Type 0} → List ℤ → Line A → Form
 seen values Nothing = Script.Nothing
 seen values TooLong = LongLine
 seen values Bad = BadLine
-seen values New = Obey (InWorld MakeFresh)
-seen values (Entity name) = Obey (InWorld (MakeEntity name.now))
+seen values New = CarryOut (InWorld MakeFresh)
+seen values (Entity name) = CarryOut (InWorld (MakeEntity name.now))
 seen values (Component name fields) = Define name.now (map seen_field fields.items)
-seen values (Add entity id) = Obey (InWorld (AddTo (seen_reference entity) (seen_id id)))
-seen values (Set entity id) = Obey (InWorld (SetIn (seen_reference entity) (seen_id id) values))
-seen values (Remove entity id) = Obey (InWorld (RemoveFrom (seen_reference entity) (seen_id id)))
-seen values (Delete entity) = Obey (InWorld (DeleteOne (seen_reference entity)))
+seen values (Add entity id) = CarryOut (InWorld (AddTo (seen_reference entity) (seen_id id)))
+seen values (Set entity id) = CarryOut (InWorld (SetIn (seen_reference entity) (seen_id id) values))
+seen values (Remove entity id) = CarryOut (InWorld (RemoveFrom (seen_reference entity) (seen_id id)))
+seen values (Delete entity) = CarryOut (InWorld (DeleteOne (seen_reference entity)))
 seen values (Show entity) = Script.Show (seen_reference entity)
 seen values (Query text) = Ask text.now
-seen values (Store kind name text) = Obey (Session.Store kind name.now text.now)
+seen values (Store kind name text) = CarryOut (Session.Store kind name.now text.now)
 seen values (Rows name) = AskKept name.now
-seen values (Drop name) = Obey (Session.Drop name.now)
+seen values (Drop name) = CarryOut (Session.Drop name.now)
 
 -- what a line of text asks by its first word, if it says anything
 abbrev pub by_first_word : List ℕ → Form
@@ -101,19 +101,19 @@ form_opened opening.Nothing = Script.Nothing
 form_opened opening.TooLong = LongLine
 form_opened opening.Bad = BadLine
 form_opened (opening.Set rest) = fact_line set_line rest.now
-form_opened (opening.Add rest) = fact_line (λ r i. nothing_more (Obey (InWorld (AddTo r i)))) rest.now
-form_opened (opening.Remove rest) = fact_line (λ r i. nothing_more (Obey (InWorld (RemoveFrom r i)))) rest.now
-form_opened (opening.Entity rest) = one_word (λ n. Obey (InWorld (MakeEntity n))) (words rest.now)
+form_opened (opening.Add rest) = fact_line (λ r i. nothing_more (CarryOut (InWorld (AddTo r i)))) rest.now
+form_opened (opening.Remove rest) = fact_line (λ r i. nothing_more (CarryOut (InWorld (RemoveFrom r i)))) rest.now
+form_opened (opening.Entity rest) = one_word (λ n. CarryOut (InWorld (MakeEntity n))) (words rest.now)
 form_opened (opening.Rows rest) = one_word AskKept (words rest.now)
-form_opened (opening.Delete rest) = entity_line (λ r. Obey (InWorld (DeleteOne r))) rest.now
-form_opened opening.New = Obey (InWorld MakeFresh)
+form_opened (opening.Delete rest) = entity_line (λ r. CarryOut (InWorld (DeleteOne r))) rest.now
+form_opened opening.New = CarryOut (InWorld MakeFresh)
 form_opened (opening.Other text) = by_first_word text.now
 
 -- what a deed asks of an entity and an id, by the words behind them
 abbrev pub deed_words : Deed → EntityRef → IdRef → List (List ℕ) → Form
 deed_words deeds.Set r i = set_line r i
-deed_words deeds.Add r i = nothing_more (Obey (InWorld (AddTo r i)))
-deed_words deeds.Remove r i = nothing_more (Obey (InWorld (RemoveFrom r i)))
+deed_words deeds.Add r i = nothing_more (CarryOut (InWorld (AddTo r i)))
+deed_words deeds.Remove r i = nothing_more (CarryOut (InWorld (RemoveFrom r i)))
 
 -- what a line asks by what stands behind the word of a deed
 abbrev pub deed_line : Deed → List ℕ → Form
@@ -121,9 +121,9 @@ deed_line deed rest = fact_line (deed_words deed) rest
 
 -- the form of a deed with these values
 abbrev pub deed_form : Deed → EntityRef → IdRef → List ℤ → Form
-deed_form deeds.Set r i values = Obey (InWorld (SetIn r i values))
-deed_form deeds.Add r i values = Obey (InWorld (AddTo r i))
-deed_form deeds.Remove r i values = Obey (InWorld (RemoveFrom r i))
+deed_form deeds.Set r i values = CarryOut (InWorld (SetIn r i values))
+deed_form deeds.Add r i values = CarryOut (InWorld (AddTo r i))
+deed_form deeds.Remove r i values = CarryOut (InWorld (RemoveFrom r i))
 
 -- the form of a fact that was read with these values
 abbrev pub seen_deed : Deed → List ℤ → Fact → Form

@@ -71,7 +71,8 @@ pub(crate) fn word_and_rest(text: &str) -> (&str, &str)
 /// The text from its first word on, if there is a word.
 #[inline(always)]
 pub(crate) fn word_start(text: &str) -> Option<&str>
-    ensures cases { MatchOption result (words text.now ≡ []) (λ t. words text.now ≡ before_first is_blank t.now ∷ words (drop (length (before_first is_blank t.now)) t.now)) }
+    ensures cases { MatchOption result (words text.now ≡ []) (λ t. words text.now
+        ≡ before_first is_blank t.now ∷ words (drop (length (before_first is_blank t.now)) t.now)) }
     ensures within { IfSome result (λ t. length t.now ≤ length text.now) }
 {
     let text = trim_front(text);

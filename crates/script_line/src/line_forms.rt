@@ -1,10 +1,12 @@
 //! The forms of lines.
 ghost use Rattle.std.specs.Prelude.{◌≡◌, ◌<◌, ℕ, ℤ, List, drop, length, map, slice_index, IfOk, IfSome, None, Some, option_map, if◌then◌else◌};
 ghost use Rattle.ecs_model.specs.Text.{trim_front, words};
-ghost use Rattle.ecs_model.specs.Script.{Form, AskKept, BadLine, Obey, Show, all_of, component_line, entity_line, fact_line, field_of_word, form_or_bad, nothing_more, on_line, one_word, says_nothing, set_line, store_line, value_of_word};
+ghost use Rattle.ecs_model.specs.Script.{Form, AskKept, BadLine, CarryOut, Show, all_of, component_line, entity_line, fact_line, field_of_word, form_or_bad};
+ghost use Rattle.ecs_model.specs.Script.{nothing_more, on_line, one_word, says_nothing, set_line, store_line, value_of_word};
 ghost use Rattle.ecs_model.specs.Orders.{EntityRef, IdRef, AddTo, DeleteOne, MakeEntity, MakeFresh, RemoveFrom, SetIn};
 ghost use Rattle.ecs_model.specs.stored.Session.{Drop, InWorld};
-ghost use Rattle.script_line.specs.Line.{by_first_word, by_rarer_word, deed_form, deed_line, deed_words, form_opened, seen, seen_deed, seen_field, seen_id, seen_reference};
+ghost use Rattle.script_line.specs.Line.{by_first_word, by_rarer_word, deed_form, deed_line, deed_words, form_opened, seen, seen_deed, seen_field, seen_id};
+ghost use Rattle.script_line.specs.Line.{seen_reference};
 
 use crate::blanks::{blanks_at_front, next_word, trim_front, trimmed, word_and_rest, word_start};
 use crate::references::{Reference, id_and_rest, reference_and_rest, reference_of};
@@ -153,7 +155,7 @@ fn rarer_line<'a, A: Allocator>(word: &str, rest: &'a str) -> Line<'a, A>
 
 /// Reads what stands behind `new`: nothing.
 fn new_line<'a, A: Allocator>(rest: &'a str) -> Line<'a, A>
-    ensures { (values : List ℤ) → seen values result ≡ nothing_more (Obey (InWorld MakeFresh)) (words rest.now) }
+    ensures { (values : List ℤ) → seen values result ≡ nothing_more (CarryOut (InWorld MakeFresh)) (words rest.now) }
 {
     match next_word(rest) {
         None => Line::New,
@@ -163,7 +165,7 @@ fn new_line<'a, A: Allocator>(rest: &'a str) -> Line<'a, A>
 
 /// Reads what stands behind `entity`: one word.
 pub(crate) fn entity_line<'a, A: Allocator>(rest: &'a str) -> Line<'a, A>
-    ensures { (values : List ℤ) → seen values result ≡ one_word (λ n. Obey (InWorld (MakeEntity n))) (words rest.now) }
+    ensures { (values : List ℤ) → seen values result ≡ one_word (λ n. CarryOut (InWorld (MakeEntity n))) (words rest.now) }
 {
     match only_word(rest) {
         Some(name) => Line::Entity { name },
@@ -173,7 +175,7 @@ pub(crate) fn entity_line<'a, A: Allocator>(rest: &'a str) -> Line<'a, A>
 
 /// Reads what stands behind `delete`: an entity.
 pub(crate) fn delete_line<'a, A: Allocator>(rest: &'a str) -> Line<'a, A>
-    ensures { (values : List ℤ) → seen values result ≡ entity_line (λ r. Obey (InWorld (DeleteOne r))) rest.now }
+    ensures { (values : List ℤ) → seen values result ≡ entity_line (λ r. CarryOut (InWorld (DeleteOne r))) rest.now }
 {
     match only_entity(rest) {
         Some(entity) => Line::Delete { entity },
@@ -203,7 +205,7 @@ pub(crate) fn rows_line<'a, A: Allocator>(rest: &'a str) -> Line<'a, A>
 
 /// Reads what stands behind `drop`: one word.
 fn drop_line<'a, A: Allocator>(rest: &'a str) -> Line<'a, A>
-    ensures { (values : List ℤ) → seen values result ≡ one_word (λ n. Obey (Drop n)) (words rest.now) }
+    ensures { (values : List ℤ) → seen values result ≡ one_word (λ n. CarryOut (Drop n)) (words rest.now) }
 {
     match only_word(rest) {
         Some(name) => Line::Drop { name },
@@ -324,7 +326,7 @@ fn valued_fact<'a, A: Allocator>(
     values: &mut Vec<i128, A>,
 ) -> Result<Option<Fact<'a>>, AllocError>
     ensures { IfOk result (λ o. fact_line set_line text.now
-        ≡ form_or_bad (λ t. Obey (InWorld (SetIn (seen_reference t.entity) (seen_id t.id) values.new.items))) o) }
+        ≡ form_or_bad (λ t. CarryOut (InWorld (SetIn (seen_reference t.entity) (seen_id t.id) values.new.items))) o) }
 {
     let Some((fact, rest)) = fact_and_rest(text) else {
         return Ok(None);
@@ -377,7 +379,7 @@ fn fits_behind<A: Allocator>(
 
 /// Reads what stands behind `add`: an entity and an id.
 pub(crate) fn add_line<'a, A: Allocator>(rest: &'a str) -> Line<'a, A>
-    ensures { (values : List ℤ) → seen values result ≡ fact_line (λ r i. nothing_more (Obey (InWorld (AddTo r i)))) rest.now }
+    ensures { (values : List ℤ) → seen values result ≡ fact_line (λ r i. nothing_more (CarryOut (InWorld (AddTo r i)))) rest.now }
 {
     match bare_fact(rest) {
         Some(fact) => Line::Add {
@@ -390,7 +392,7 @@ pub(crate) fn add_line<'a, A: Allocator>(rest: &'a str) -> Line<'a, A>
 
 /// Reads what stands behind `remove`: an entity and an id.
 pub(crate) fn remove_line<'a, A: Allocator>(rest: &'a str) -> Line<'a, A>
-    ensures { (values : List ℤ) → seen values result ≡ fact_line (λ r i. nothing_more (Obey (InWorld (RemoveFrom r i)))) rest.now }
+    ensures { (values : List ℤ) → seen values result ≡ fact_line (λ r i. nothing_more (CarryOut (InWorld (RemoveFrom r i)))) rest.now }
 {
     match bare_fact(rest) {
         Some(fact) => Line::Remove {

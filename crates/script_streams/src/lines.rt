@@ -142,7 +142,8 @@ impl<A: Allocator> Lines<A> {
         ensures some { result ≡ Ok true → 0 < length self.new.unread }
         ensures few { self.new.read ≤ most_bytes }
         ensures stopped { result ≡ Err FillError.Read → Keeps (R.remaining reader.old) (R.remaining reader.new) }
-        ensures too_long { result ≡ Err FillError.TooLong → (self.old.read ≡ most_bytes) × ((byte : ℕ) × Consumes (R.remaining reader.old) (R.remaining reader.new) (byte ∷ [])) }
+        ensures too_long { result ≡ Err FillError.TooLong → (self.old.read ≡ most_bytes)
+            × ((byte : ℕ) × Consumes (R.remaining reader.old) (R.remaining reader.new) (byte ∷ [])) }
         ensures uncounted { OnErr result (self.new.read ≡ self.old.read) }
         ensures calm { IsCalm (R.calls reader.old) → OnOk result (IsCalm (R.calls reader.new)) }
         ensures fault { IsCalm (R.calls reader.old) → result ≡ Err FillError.Read → IsFaulty (R.calls reader.new) }

@@ -8,7 +8,7 @@ use Rattle.slab.proofs.SlabLemmas.{Updates-with_value}
 use Rattle.ecs_id.specs.declared.Place.{Place}
 use Rattle.ecs_id.specs.declared.TableKey.{TableKey}
 use Rattle.ecs_table.specs.Archetype.{Archetype, IsSound}
-use Rattle.table_store.specs.declared.store.Slot.{Slot}
+use Rattle.table_store.specs.declared.store.TableSlot.{TableSlot}
 use Rattle.ecs_id.specs.TableKeys.{table_eq}
 use Rattle.table_store.specs.Store.{Store, table_at, shape_at, shape_of, changed_at, room_at}
 use Rattle.table_store.specs.Rows.{Row, row_at, row_of, rows_in, IsStored, with_row_at}
@@ -54,7 +54,7 @@ module _ {Y : Type 0} (tables : Slab (Held Y)) (last : ℕ) (s : Store) (view : 
   table_here x is = ap (λ v. v.value.table) (one_some x the_slot.0 (sym is ∙ the_slot.1)) ∙ the_slot.3
 
   -- what is lent of the slot's box
-  pub lent_here : (x : Held Y) → slots.get tables k.slot ≡ Some x → (d : Slot Y) → d ≡ x.value → d.table ≡ t
+  pub lent_here : (x : Held Y) → slots.get tables k.slot ≡ Some x → (d : TableSlot Y) → d ≡ x.value → d.table ≡ t
   lent_here x is d lent = ap (λ v. v.table) lent ∙ table_here x is
 
 changed_shape : (f : Archetype → Archetype) (t : Archetype) (b : Bool) (o : Option Archetype) → (b ≡ true → o ≡ Some t) → shape_of (f t) ≡ shape_of t → option_map shape_of (if b then option_map f o else o) ≡ option_map shape_of o
@@ -134,7 +134,7 @@ module _ (s : Store) (k : TableKey) (t : Archetype) (at : table_at s k ≡ Some 
 
 -- a table in its slot is written
 module _ {Y : Type 0} (tables : Slab (Held Y)) (last : ℕ) (s : Store) (view : store_of tables last ≡ s) (k : TableKey) (t : Archetype) (at : table_at s k ≡ Some t)
-    (x : Held Y) (is : slots.get tables k.slot ≡ Some x) (d : Slot Y) (lent : d ≡ x.value) (table : Archetype) (f : Archetype → Archetype) (own : table ≡ f d.table) where
+    (x : Held Y) (is : slots.get tables k.slot ≡ Some x) (d : TableSlot Y) (lent : d ≡ x.value) (table : Archetype) (f : Archetype → Archetype) (own : table ≡ f d.table) where
   abbrev y : Held Y
   y = record x { value = record d { table = table } }
 

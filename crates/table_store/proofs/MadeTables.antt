@@ -10,7 +10,7 @@ use Rattle.ecs_id.specs.Id.{Id, id_cmp}
 use Rattle.ecs_id.specs.declared.Place.{Place}
 use Rattle.ecs_id.specs.declared.TableKey.{TableKey}
 use Rattle.ecs_table.specs.Archetype.{Archetype, IsSound}
-use Rattle.table_store.specs.declared.store.Slot.{Slot}
+use Rattle.table_store.specs.declared.store.TableSlot.{TableSlot}
 use Rattle.ecs_id.specs.TableKeys.{table_eq}
 use Rattle.table_store.specs.Store.{Store, Shape, IsStore, table_at, ids_at, shape_at, shape_of, shaped, shaped_at, with_id, without_id, find_in, made_at}
 use Rattle.table_store.specs.Rows.{row_at, row_of}
@@ -164,7 +164,7 @@ module _ {Y : Type 0} (tables new : Slab (Held Y)) (by_ids named : ByIds Y) (by_
   edge_shape : (q : TableKey) → q.serial ≤ last → shape_at n q ≡ shape_at s q
   edge_shape q le = elim (shape_cases q) [ inl e ↦ absurd (let same : q.serial ≡ k.serial = ap (λ v. v.serial) e.0 in omega (arith, le, same, serial)) | inr e ↦ e.1 ]
 
-  slot_stays : (x : Slot Y) → IsSlot s x → IsSlot n x
+  slot_stays : (x : TableSlot Y) → IsSlot s x → IsSlot n x
   slot_stays x h = record {
     sound = h.sound;
     more = λ i q e. let m = h.more i q e in (omega (arith, m.0, serial), subst (λ o. IfSome o (λ g. (b : ℕ) × (g ≡ with_id (shape_of x.table) i b))) (sym (edge_shape q m.0)) m.1);

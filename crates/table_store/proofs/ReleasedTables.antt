@@ -11,7 +11,7 @@ use Rattle.ecs_id.specs.declared.Place.{Place}
 use Rattle.ecs_id.specs.declared.TableKey.{TableKey}
 use Rattle.ecs_table.specs.Archetype.{Archetype}
 use Rattle.ecs_table.proofs.Rows.{row_past}
-use Rattle.table_store.specs.declared.store.Slot.{Slot}
+use Rattle.table_store.specs.declared.store.TableSlot.{TableSlot}
 use Rattle.ecs_id.specs.TableKeys.{table_eq}
 use Rattle.table_store.specs.Store.{Store, Shape, IsStore, table_at, ids_at, shape_at, shape_of, with_id, without_id, released_at}
 use Rattle.table_store.specs.Rows.{row_at, row_of, rows_in, IsStored}
@@ -119,7 +119,7 @@ module _ {Y : Type 0} (tables new : Slab (Held Y)) (by_ids named : ByIds Y) (by_
   }
 
   -- an edge may lead to the table that is gone
-  slot_stays : (y : Slot Y) → IsSlot s y → IsSlot n y
+  slot_stays : (y : TableSlot Y) → IsSlot s y → IsSlot n y
   slot_stays y h = record {
     sound = h.sound;
     more = λ i q e. let m = h.more i q e in (m.0, of_shape q (λ g. (b : ℕ) × (g ≡ with_id (shape_of y.table) i b)) m.1);

@@ -11,7 +11,7 @@ use Rattle.ecs_table.specs.Archetype.{Archetype, HaveEqualSizes, HaveOneSize, Is
 use Rattle.ecs_table.proofs.Rows.{equal_sizes, row_of_moved, row_past, shape_of_moved, shape_of_removed}
 use Rattle.ecs_table.proofs.Soundness.{sound_with_moved, sound_without_row}
 use Rattle.ecs_table.proofs.TableIds.{both_first}
-use Rattle.table_store.specs.declared.store.Slot.{Slot}
+use Rattle.table_store.specs.declared.store.TableSlot.{TableSlot}
 use Rattle.ecs_id.specs.TableKeys.{table_eq}
 use Rattle.table_store.specs.Store.{Shape, Store, changed_at, moved_at, shape_at, shape_of, table_at}
 use Rattle.table_store.specs.Rows.{IsStored, Row, carried, filler, gap_filled, last_place, moved_rows, removed_rows, row_at, row_of, same_place, with_row_at, without_row_at}
@@ -94,7 +94,7 @@ module _ {Y : Type 0} (tables out back : Slab (Held Y)) (last : ℕ) (s : Store)
     pub sizes_equal : HaveEqualSizes x.value.table z.value.table
     sizes_equal = subst (λ v. HaveEqualSizes v z.value.table) (sym source_is) (subst (λ v. HaveEqualSizes src v) (sym target_is) (equal_sizes src tgt sound_src sound_tgt sizes_alike))
 
-    module _ (dx dz : Slot Y) (lent_x : dx ≡ x.value) (lent_z : dz ≡ z.value) (xt zt : Archetype) (own_left : xt ≡ without_row dx.table row) (own_came : zt ≡ with_moved dz.table dx.table row)
+    module _ (dx dz : TableSlot Y) (lent_x : dx ≡ x.value) (lent_z : dz ≡ z.value) (xt zt : Archetype) (own_left : xt ≡ without_row dx.table row) (own_came : zt ≡ with_moved dz.table dx.table row)
         (u2 : Updates (with_value out to.slot (record z { value = record dz { table = zt } })) back from.slot (Some (record x { value = record dx { table = xt } }))) where
       abbrev x1 : Held Y
       x1 = record x { value = record dx { table = xt } }

@@ -12,7 +12,7 @@ use Rattle.std.proofs.Common.{T}
 use Rattle.ecs_id.specs.Id.{Id, id_eq, id_cmp, id_cmp_total, id_eq_itself}
 use Rattle.ecs_id.specs.declared.TableKey.{TableKey}
 use Rattle.ecs_table.specs.Archetype.{Archetype, IsSound}
-use Rattle.table_store.specs.declared.store.Slot.{Slot}
+use Rattle.table_store.specs.declared.store.TableSlot.{TableSlot}
 use Rattle.ecs_id.specs.TableKeys.{table_eq}
 use Rattle.table_store.specs.Store.{Store, Shape, IsStore, HasSize, table_at, ids_at, shape_at, shape_of, shaped, find_in, with_id, without_id}
 use Rattle.table_store.specs.Kept.{IsOrder, ByIds, Held, store_of, standing, stepped, edge_of, edges_of, IsKept, IsSlot, IsMore, IsLess, IsPut, IsMade, IsWritten}
@@ -87,10 +87,10 @@ module _ {Y : Type 0} (tables : Slab (Held Y)) (by_ids : ByIds Y) (by_serial : V
       let leads : shape_at s to ≡ Some (stepped f id added) = here ∙ ap Some (edge_leads id to added sizes e (shape_of t.0) here) in
       subst (λ z. IsMade s (stepped z id added) to s) (one_some f g (sym shape_there ∙ at)) (IsMade-found s (stepped f id added) to store_is leads)
 
-  pub is_followed : (d : Slot Y) → d ≡ x.value → (id : Id) (added : Option ℕ) → IfSome added (λ n. HasSize s id n) → (o : Option TableKey) → IfSome o (λ to. edge_of (edges_of d added) id ≡ Some to)
+  pub is_followed : (d : TableSlot Y) → d ≡ x.value → (id : Id) (added : Option ℕ) → IfSome added (λ n. HasSize s id n) → (o : Option TableKey) → IfSome o (λ to. edge_of (edges_of d added) id ≡ Some to)
       → IfSome o (λ to. IsSome (standing (slots.get tables to.slot) to.serial)) → IfSome o (λ to. (g : Shape) → shape_at s k ≡ Some g → IsMade s (stepped g id added) to s)
   is_followed d lent id added sizes None e h = tt
-  is_followed d lent id added sizes (Some to) e h = leads_there id to added sizes (subst (λ (v : Slot Y). edge_of (edges_of v added) id ≡ Some to) lent e) h
+  is_followed d lent id added sizes (Some to) e h = leads_there id to added sizes (subst (λ (v : TableSlot Y). edge_of (edges_of v added) id ≡ Some to) lent e) h
 
   pub sorted_next : (id : Id) (added : Option ℕ) → IsTrue (is_sorted id_cmp (stepped f id added))
   sorted_next id None = truly _ (is_sorted-where_key id_cmp (λ j. not (id_eq j id)) f (said _ sorted_there))
@@ -111,19 +111,19 @@ module _ {Y : Type 0} (tables : Slab (Held Y)) (by_ids : ByIds Y) (by_serial : V
   ])
 
   -- an edge is written
-  module _ (d v : Slot Y) (lent : d ≡ x.value) (id : Id) (to : TableKey) (added : Option ℕ) (kept_rest : v ≡ record d { more = v.more; less = v.less }) (leads : shape_at s to ≡ Some (stepped f id added))
+  module _ (d v : TableSlot Y) (lent : d ≡ x.value) (id : Id) (to : TableKey) (added : Option ℕ) (kept_rest : v ≡ record d { more = v.more; less = v.less }) (leads : shape_at s to ≡ Some (stepped f id added))
       (new_more : (v.more ≡ d.more) ⊎ (IsSome added × IsWritten id to d.more v.more)) (new_less : (v.less ≡ d.less) ⊎ (IsNone added × IsWritten id to d.less v.less)) where
     abbrev y : Held Y
     y = record x { value = v }
 
     same : v ≡ record x.value { more = v.more; less = v.less }
-    same = kept_rest ∙ ap (λ (z : Slot Y). record z { more = v.more; less = v.less }) lent
+    same = kept_rest ∙ ap (λ (z : TableSlot Y). record z { more = v.more; less = v.less }) lent
 
     more : (v.more ≡ x.value.more) ⊎ (IsSome added × IsWritten id to x.value.more v.more)
-    more = subst (λ (z : Slot Y). (v.more ≡ z.more) ⊎ (IsSome added × IsWritten id to z.more v.more)) lent new_more
+    more = subst (λ (z : TableSlot Y). (v.more ≡ z.more) ⊎ (IsSome added × IsWritten id to z.more v.more)) lent new_more
 
     less : (v.less ≡ x.value.less) ⊎ (IsNone added × IsWritten id to x.value.less v.less)
-    less = subst (λ (z : Slot Y). (v.less ≡ z.less) ⊎ (IsNone added × IsWritten id to z.less v.less)) lent new_less
+    less = subst (λ (z : TableSlot Y). (v.less ≡ z.less) ⊎ (IsNone added × IsWritten id to z.less v.less)) lent new_less
 
     pub same_view : store_of (with_value tables k.slot y) last ≡ s
     same_view = same_seen tables last k.slot x y is (ap (λ z. z.serial) same) (ap (λ z. z.table) same) ∙ view

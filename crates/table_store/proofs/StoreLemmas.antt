@@ -6,7 +6,7 @@ use Rattle.slab.specs.Slab.{Slab, Updates}
 use Rattle.ecs_id.specs.Id.{Id}
 use Rattle.ecs_id.specs.declared.TableKey.{TableKey}
 use Rattle.ecs_table.specs.Archetype.{Archetype, IsSound}
-use Rattle.table_store.specs.declared.store.Slot.{Slot}
+use Rattle.table_store.specs.declared.store.TableSlot.{TableSlot}
 use Rattle.table_store.specs.Store.{Store, Shape, IsStore, table_at, ids_at, shape_at, shape_of, with_id, without_id, byte_size}
 use Rattle.table_store.specs.Rows.{Row, row_at, row_of, HasRows, IsStored, shape_of_cells}
 use Rattle.table_store.specs.Kept.{store_of, standing, Held, IsSlot, IsMore, IsLess, IsKept, IsOrder, edge_of}
@@ -63,7 +63,7 @@ module _ (s n : Store) (shapes : (q : TableKey) → shape_at n q ≡ shape_at s 
     less_at : (f g : Shape) → g ≡ f → (i : Id) (k : TableKey) → IsLess s f i k → IsLess n g i k
     less_at f g e i k h = subst (λ v. IsLess n v i k) (sym e) (subst (λ l. k.serial ≤ l) (sym last) h.0, subst (λ o. IfSome o (λ g. g ≡ without_id f i)) (sym (shapes k)) h.1)
 
-  pub IsSlot-shapes : {Y : Type 0} → n.last ≡ s.last → (x y : Slot Y) → IsSound y.table → shape_of y.table ≡ shape_of x.table → y.more ≡ x.more → y.less ≡ x.less → IsSlot s x → IsSlot n y
+  pub IsSlot-shapes : {Y : Type 0} → n.last ≡ s.last → (x y : TableSlot Y) → IsSound y.table → shape_of y.table ≡ shape_of x.table → y.more ≡ x.more → y.less ≡ x.less → IsSlot s x → IsSlot n y
   IsSlot-shapes last x y sound same more less is = record {
     sound = sound;
     more = λ i k h. more_at last (shape_of x.table) (shape_of y.table) same i k (is.more i k (subst (λ m. edge_of m i ≡ Some k) more h));

@@ -10,7 +10,7 @@ use Rattle.ecs_table.specs.Archetype.{Archetype, IsSound, size_of, with_cell as 
 use Rattle.ecs_table.proofs.Rows.{size_from_shape}
 use Rattle.ecs_table.proofs.TableIds.{cells_rise, with_cell_put}
 use Rattle.ecs_table.proofs.WholeColumns.{row_of_column}
-use Rattle.table_store.specs.declared.store.Slot.{Slot}
+use Rattle.table_store.specs.declared.store.TableSlot.{TableSlot}
 use Rattle.table_store.specs.Kept.{Held, store_of}
 use Rattle.table_store.specs.Rows.{AreValues, Row, row_at, row_of, with_cell, with_column_at}
 use Rattle.ecs_id.specs.TableKeys.{table_eq}
@@ -48,7 +48,7 @@ rows_set t i n bytes sound size known rise m = row_of_column t i bytes sound n s
 
 -- and so it is seen through the store
 module _ {Y : Type 0} (tables : Slab (Held Y)) (last : ℕ) (s : Store) (view : store_of tables last ≡ s) (k : TableKey) (t : Archetype) (at : table_at s k ≡ Some t)
-    (x : Held Y) (is : slots.get tables k.slot ≡ Some x) (d : Slot Y) (lent : d ≡ x.value) (table : Archetype) (f : Archetype → Archetype) (own : table ≡ f d.table) where
+    (x : Held Y) (is : slots.get tables k.slot ≡ Some x) (d : TableSlot Y) (lent : d ≡ x.value) (table : Archetype) (f : Archetype → Archetype) (own : table ≡ f d.table) where
   pub written_column : (i : Id) (n : ℕ) (bytes : List ℕ) → ((m : ℕ) → row_of (f t) m ≡ option_map (λ v. with_cell v i (take n (drop (m * n) bytes))) (row_of t m))
       → (p : Place) → row_at (store_of (with_value tables k.slot (record x { value = record d { table = table } })) last) p ≡ with_column_at (row_at s) k i n bytes p
   unfolding row_at

@@ -12,11 +12,11 @@ use Rattle.slab.specs.Slab as slots
 use Rattle.slab.specs.Slab.{Slab}
 use Rattle.ecs_id.specs.Id.{Id, id_eq, packed}
 use Rattle.table_store.specs.declared.by_ids.ByIds.{ByIds}
-use Rattle.table_store.specs.declared.store.Slot.{Slot}
+use Rattle.table_store.specs.declared.store.TableSlot.{TableSlot}
 
 -- a slot in its box
 abbrev pub Held : Type 0 → Type 0
-Held Y = Box (Slot Y) Y
+Held Y = Box (TableSlot Y) Y
 
 -- whether two lists of ids are the same
 abbrev pub ids_eq : List Id → List Id → Bool

@@ -13,7 +13,7 @@ use Rattle.ecs_table.specs.Archetype.{Archetype, IsSound}
 use Rattle.table_store.specs.declared.edges.Edges.{Edges}
 use Rattle.table_store.specs.declared.edges.Edges.TheVariants.{Empty, Few, Many, One}
 use Rattle.table_store.specs.declared.edges.Several.{Several}
-use Rattle.table_store.specs.declared.store.Slot.{Slot}
+use Rattle.table_store.specs.declared.store.TableSlot.{TableSlot}
 pub use Rattle.table_store.specs.ByIds.{Held}
 use Rattle.table_store.specs.ByIds.{HasSlot, ids_hash}
 pub use Rattle.table_store.specs.declared.by_ids.ByIds.{ByIds}
@@ -83,7 +83,7 @@ abbrev pub IsLess : Store → Shape → Id → TableKey → Type 0
 IsLess s f i k = (k.serial ≤ s.last) × IfSome (shape_at s k) (λ g. g ≡ without_id f i)
 
 -- what each slot has
-pub record IsSlot {Y : Type 0} (s : Store) (x : Slot Y) : Type 0 where
+pub record IsSlot {Y : Type 0} (s : Store) (x : TableSlot Y) : Type 0 where
   pub sound : IsSound x.table
   pub more : (i : Id) (k : TableKey) → edge_of x.more i ≡ Some k → IsMore s (shape_of x.table) i k
   pub less : (i : Id) (k : TableKey) → edge_of x.less i ≡ Some k → IsLess s (shape_of x.table) i k
@@ -126,7 +126,7 @@ stepped f i None = without_id f i
 stepped f i (Some n) = with_id f i n
 
 -- the edges of a slot to tables with one id more, or with one less
-abbrev pub edges_of : {Y : Type 0} → Slot Y → Option ℕ → Edges Y
+abbrev pub edges_of : {Y : Type 0} → TableSlot Y → Option ℕ → Edges Y
 edges_of x None = x.less
 edges_of x (Some n) = x.more
 

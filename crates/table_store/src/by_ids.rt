@@ -50,7 +50,8 @@ impl<A: Allocator> ByIds<A> {
 
     /// The slot of the table that has these ids, which have this hash.
     pub fn find(&self, tables: &Slots<A>, hash: u64, ids: &[Id]) -> Option<u32>
-        ensures { MatchOption result ((slot : ℕ) → HasSlot self.now hash slot → has_ids tables.now ids.now slot ≡ false) (λ slot. has_ids tables.now ids.now slot ≡ true) }
+        ensures { MatchOption result ((slot : ℕ) → HasSlot self.now hash slot → has_ids tables.now ids.now slot ≡ false)
+            (λ slot. has_ids tables.now ids.now slot ≡ true) }
     {
         match self.first.get(&hash) {
             Some(slot) if has_ids(tables, *slot, ids) => Some(*slot),
@@ -107,7 +108,8 @@ pub fn has_ids<A: Allocator>(tables: &Slots<A>, slot: u32, ids: &[Id]) -> bool
 
 // Which of these slots has the table of the ids.
 fn among<A: Allocator>(tables: &Slots<A>, slots: &[u32], ids: &[Id]) -> Option<u32>
-    ensures { MatchOption result ((slot : ℕ) → Contains slots.now slot → has_ids tables.now ids.now slot ≡ false) (λ slot. has_ids tables.now ids.now slot ≡ true) }
+    ensures { MatchOption result ((slot : ℕ) → Contains slots.now slot → has_ids tables.now ids.now slot ≡ false)
+        (λ slot. has_ids tables.now ids.now slot ≡ true) }
 {
     let at = slots.iter().position(|slot| has_ids(tables, *slot, ids))?;
     Some(slots[at])

@@ -1,5 +1,6 @@
 //! The store of tables.
-ghost use Rattle.std.specs.Prelude.{◌≡◌, ◌==◌, ◌↔◌, ◌<◌, ◌≤◌, ◌-◌, ◌+◌, ◌*◌, ◌^◌, ◌⊎◌, ◌≢◌, ◌++◌, ◌∷◌, MatchResult, ℕ, [], IfOk, OnOk, OnErr, IsOk, IsNone, IsSome, IfSome, MatchOption, None, Some, map, max, min, length, option_map, slice_get, slice_index_or, false, IsTrue};
+ghost use Rattle.std.specs.Prelude.{◌≡◌, ◌==◌, ◌↔◌, ◌<◌, ◌≤◌, ◌-◌, ◌+◌, ◌*◌, ◌^◌, ◌⊎◌, ◌≢◌, ◌++◌, ◌∷◌, MatchResult, ℕ, [], IfOk, OnOk, OnErr, IsOk, IsNone};
+ghost use Rattle.std.specs.Prelude.{IsSome, IfSome, MatchOption, None, Some, map, max, min, length, option_map, slice_get, slice_index_or, false, IsTrue};
 ghost use Rattle.std.specs.FinMap.{is_sorted};
 ghost use Rattle.std.specs.Ordering.{nat_cmp};
 ghost use Rattle.std.specs.List.{Contains, filter};
@@ -9,10 +10,12 @@ ghost use Rattle.ecs_id.specs.Id.{Id, id_cmp};
 ghost use Rattle.ecs_id.specs.declared.Place.{Place};
 ghost use Rattle.ecs_id.specs.declared.TableKey.{TableKey};
 ghost use Rattle.ecs_table.specs.Archetype.{Archetype, with_column, with_row, with_value, without_row};
-ghost use Rattle.table_store.specs.Store.{HasSize, Shape, changed_at, find_in, moved_at, released_at, room_at, shape_at, shaped, size_in, table_at, with_id, without_id};
+ghost use Rattle.table_store.specs.Store.{HasSize, Shape, changed_at, find_in, moved_at, released_at, room_at, shape_at, shaped, size_in, table_at, with_id};
+ghost use Rattle.table_store.specs.Store.{without_id};
 ghost use Rattle.table_store.specs.ByIds.{HasSlot, KeepsSlots};
 ghost use Rattle.table_store.specs.Kept.{HasNoEdge, IsMade, IsPut, IsWritten, edge_of, edges_of, is_held, standing, stepped};
-ghost use Rattle.table_store.specs.Rows.{AreValues, IsStored, Row, filler, moved_rows, removed_rows, row_at, rows_in, with_cell, with_column_at, with_row_at, zero_cells};
+ghost use Rattle.table_store.specs.Rows.{AreValues, IsStored, Row, filler, moved_rows, removed_rows, row_at, rows_in, with_cell, with_column_at, with_row_at};
+ghost use Rattle.table_store.specs.Rows.{zero_cells};
 
 use crate::by_ids::{ByIds, has_ids, key_in};
 use crate::edges::Edges;
@@ -34,7 +37,7 @@ use std::mem;
 ///
 /// The serial stands before what comes first in a table, as these are read together.
 #[derive(Drop)]
-pub(crate) struct Slot<A: Allocator> {
+pub(crate) struct TableSlot<A: Allocator> {
     // of 64 bits, as no key with a greater serial is given
     pub(crate) serial: u64,
     pub(crate) table: Table<A>,
@@ -44,10 +47,10 @@ pub(crate) struct Slot<A: Allocator> {
     less: Edges<A>,
 }
 
-const _: () = prove!(size_of::<Slot<Global>>() == 184);
+const _: () = prove!(size_of::<TableSlot<Global>>() == 184);
 
 // In boxes, so that one can be taken out for a moment: two slots of one slab can't be borrowed at once.
-pub(crate) type Slots<A> = Slab<Box<Slot<A>, A>, A>;
+pub(crate) type Slots<A> = Slab<Box<TableSlot<A>, A>, A>;
 
 // Serials only rise, so each new key stands at the end. Keys of released tables may be among them: at most one more than tables stand.
 type BySerial<A> = Vec<ListedKey, A>;
@@ -215,7 +218,7 @@ impl<A: Allocator + Copy> TableStore<A> {
         ensures found { IfSome result (λ to. (f : Shape) → shape_at self.now key ≡ Some f → IsMade self.now (stepped f id added) to self.now) }
         ensures whole { IsStored self.now }
     {
-        followed(&self.tables, &self.tables[key.slot as usize], id, added)
+        edge_end(&self.tables, &self.tables[key.slot as usize], id, added)
     }
 
     // `step` where no edge leads there yet. Its list of cells is lent by the store, so that not every step takes one.
@@ -340,7 +343,7 @@ fn prepare<A: Allocator + Copy>(
     hash: u64,
     ids: &[Id],
     cells: &[SizedId],
-) -> Result<Box<Slot<A>, A>, Memory>
+) -> Result<Box<TableSlot<A>, A>, Memory>
     requires ids { ids.now ≡ map (λ c. c.0) cells.now }
     requires small { (j : ℕ) → IfSome (slice_get cells.now j) (λ c. c.1 ≤ 64) }
     ensures tables { tables.new ≡ record tables.old { capacity = tables.new.capacity } }
@@ -392,7 +395,7 @@ fn new_slot<A: Allocator + Copy>(
     serial: u64,
     ids: &[Id],
     cells: &[SizedId],
-) -> Result<Box<Slot<A>, A>, Memory>
+) -> Result<Box<TableSlot<A>, A>, Memory>
     requires ids { ids.now ≡ map (λ c. c.0) cells.now }
     requires small { (j : ℕ) → IfSome (slice_get cells.now j) (λ c. c.1 ≤ 64) }
     ensures serial { IfOk result (λ slot. slot.value.serial ≡ serial) }
@@ -400,7 +403,7 @@ fn new_slot<A: Allocator + Copy>(
     ensures more { IfOk result (λ slot. HasNoEdge slot.value.more) }
     ensures less { IfOk result (λ slot. HasNoEdge slot.value.less) }
 {
-    let slot = Slot {
+    let slot = TableSlot {
         serial,
         table: new_table(alloc, ids, cells)?,
         more: Edges::new(),
@@ -480,16 +483,16 @@ pub(crate) fn stands<A: Allocator>(tables: &Slots<A>, key: TableKey) -> bool
 }
 
 // Whether the table in a slot has this serial.
-fn has_serial<A: Allocator>(slot: &Slot<A>, serial: u128) -> bool
+fn has_serial<A: Allocator>(slot: &TableSlot<A>, serial: u128) -> bool
     ensures { result ≡ (slot.now.serial == serial) }
 {
     u128::from(slot.serial) == serial
 }
 
 // Where the edge for an id leads, if there is one and the table stands.
-fn followed<A: Allocator>(
+fn edge_end<A: Allocator>(
     tables: &Slots<A>,
-    slot: &Slot<A>,
+    slot: &TableSlot<A>,
     id: Id,
     added: Option<usize>,
 ) -> Option<TableKey>
@@ -508,7 +511,7 @@ fn followed<A: Allocator>(
 fn write_edge<A: Allocator + Copy>(
     alloc: A,
     hashing: Hashing,
-    slot: &mut Slot<A>,
+    slot: &mut TableSlot<A>,
     id: Id,
     added: Option<usize>,
     to: TableKey,
@@ -564,7 +567,10 @@ impl<A: Allocator> TableStore<A> {
         ensures tables { (q : TableKey) → table_at self.new q ≡ changed_at self.old key (λ t. with_row t entity) q }
         ensures shapes { (q : TableKey) → shape_at self.new q ≡ shape_at self.old q }
         ensures vacant { row_at self.old (record { table = key; row = result }) ≡ None }
-        ensures rows { (f : Shape) → shape_at self.old key ≡ Some f → (s : Place) → row_at self.new s ≡ with_row_at (row_at self.old) (record { table = key; row = result }) (entity, zero_cells f) s }
+        ensures rows { (f : Shape) → shape_at self.old key ≡ Some f → (s : Place) → row_at self.new s ≡ with_row_at (row_at self.old) (record {
+          table = key;
+          row = result;
+        }) (entity, zero_cells f) s }
         ensures left { room_at self.new key ≡ room_at self.old key - 1 }
         ensures last { self.new.last ≡ self.old.last }
         ensures whole { IsStored self.new }
@@ -584,7 +590,13 @@ impl<A: Allocator> TableStore<A> {
         requires size { (f : Shape) → shape_at self.old key ≡ Some f → find_in id f ≡ Some (length value.now) }
         ensures tables { (q : TableKey) → table_at self.new q ≡ changed_at self.old key (λ t. with_value t row id value.now) q }
         ensures shapes { (q : TableKey) → shape_at self.new q ≡ shape_at self.old q }
-        ensures rows { (v : Row) → row_at self.old (record { table = key; row = row }) ≡ Some v → (s : Place) → row_at self.new s ≡ with_row_at (row_at self.old) (record { table = key; row = row }) (with_cell v id value.now) s }
+        ensures rows { (v : Row) → row_at self.old (record {
+          table = key;
+          row = row;
+        }) ≡ Some v → (s : Place) → row_at self.new s ≡ with_row_at (row_at self.old) (record {
+          table = key;
+          row = row;
+        }) (with_cell v id value.now) s }
         ensures last { self.new.last ≡ self.old.last }
         ensures whole { IsStored self.new }
     {

@@ -45,7 +45,8 @@ fn pull<F: Facts, A: Allocator>(run: &mut Run<'_, F, A>, row: &mut [u32], most: 
 fn probes_of(alloc: Global, world: &World, query: Query, most: usize) -> Result<u64, AllocError>
     requires asked { IsAsked world.now.state query }
     requires simple { is_simple query ≡ true }
-    ensures { IfOk result (λ probes. (s : Shown) → s.world ≡ world.now → ListsTables s → (j : ℕ) → is_leading (entry_at query j) ≡ true → probes ≤ length (entries query) * slice_index (table_counts (reading_of s) query) j) }
+    ensures { IfOk result (λ probes. (s : Shown) → s.world ≡ world.now → ListsTables s → (j : ℕ) → is_leading (entry_at query j) ≡ true
+        → probes ≤ length (entries query) * slice_index (table_counts (reading_of s) query) j) }
 {
     world.keeps();
     rising_queries_start();

@@ -1,4 +1,4 @@
-pub mod IdleFromLeft
-pub mod Asks
+pub mod IdleVariables
+pub mod AskedPatterns
 pub mod LinkSteps
-pub mod RolesAsked
+pub mod AskedRoles

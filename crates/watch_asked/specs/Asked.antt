@@ -11,13 +11,13 @@ use Rattle.watch_concerns.specs.Anchored.{is_variable}
 use Rattle.watch_concerns.specs.FromLeft.{depth_behind, is_end, passes_from}
 use Rattle.watch_concerns.specs.Bonds.{are_all_bound}
 use Rattle.watch_concerns.specs.Idle.{asks_for, asks_itself, is_idle_for, item_lacks_of}
-use Rattle.watch_concerns.specs.Others.{asks_this}
+use Rattle.watch_concerns.specs.Others.{asks_this_stored}
 use Rattle.watch_concerns.specs.OwnIds.{meets}
 use Rattle.watch_concerns.specs.declared.whom.Concern.{Concern}
 use Rattle.query_model.specs.Local.{asks_first}
 use Rattle.query_model.specs.Observers.{is_constant, is_constant_target}
 use Rattle.query_model.specs.declared.query.Ref.{Ref}
-use Rattle.query_model.specs.declared.query.Ref.TheVariants.{Is, Var, Any, One}
+use Rattle.query_model.specs.declared.query.Ref.TheVariants.{Is, Var, Any, AnyOnce}
 use Rattle.query_model.specs.declared.query.Term.{Term}
 use Rattle.query_model.specs.Query.{Item, must, may, either, equal, differ, Piece, item, opening, closing, Query}
 use Rattle.watch_asked.specs.declared.asked.AskedOf.{AskedOf}
@@ -30,7 +30,7 @@ abbrev pub part_of : Ref → Part
 part_of (Is e) = part.Is e
 part_of (Var v) = part.Any
 part_of Any = part.Any
-part_of One = part.Any
+part_of AnyOnce = part.Any
 
 -- ---- what a term asks for
 
@@ -48,11 +48,11 @@ up_asks None = []
 up_asks (Some r) = pairs_of (Is r) ∷ []
 
 abbrev pub asks_by : Term → List Pattern
-asks_by t = asked_by t.first t.target ∷ (up_asks t.up ++ (if t.closed then pairs_of t.first ∷ [] else []))
+asks_by t = asked_by t.component t.target ∷ (up_asks t.up ++ (if t.closed then pairs_of t.component ∷ [] else []))
 
 -- that it asks for this: whether it asks `$this`, itself or its ancestors, and whether it asks these
 abbrev pub asked_term : Term → Pattern → AskedTerm
-asked_term t p = record { asked = p; this = asks_this t; below = asks_this t && is_some t.up }
+asked_term t p = record { asked = p; this = asks_this_stored t; below = asks_this_stored t && is_some t.up }
 
 abbrev pub asked_terms : Term → List AskedTerm
 asked_terms t = map (asked_term t) (asks_by t)
@@ -73,20 +73,20 @@ abbrev pub steps_by : Ref → Option Ref → Pattern → List LinkStep
 steps_by (Var source) (Some (Var target)) p = steps_between source target p
 steps_by (Var source) (Some (Is e)) p = []
 steps_by (Var source) (Some Any) p = []
-steps_by (Var source) (Some One) p = []
+steps_by (Var source) (Some AnyOnce) p = []
 steps_by (Var source) None p = []
 steps_by (Is e) target p = []
 steps_by Any target p = []
-steps_by One target p = []
+steps_by AnyOnce target p = []
 
 -- how a term leads, that asks the entity of a variable itself
 abbrev pub steps_of : Term → List LinkStep
-steps_of t = if is_none t.up && not t.closed then steps_by t.source t.target (asked_by t.first t.target) else []
+steps_of t = if is_none t.up && not t.closed then steps_by t.source t.target (asked_by t.component t.target) else []
 
 -- ---- what the entity of a variable has to hold itself
 
 abbrev pub item_needs : ℕ → Item → List Pattern
-item_needs v (must t) = if asks_itself v t then asked_by t.first t.target ∷ [] else []
+item_needs v (must t) = if asks_itself v t then asked_by t.component t.target ∷ [] else []
 item_needs v (may t) = []
 item_needs v (either ts) = []
 item_needs v (equal u r) = []
@@ -114,7 +114,7 @@ needs_in_front (closing ∷ ps) = []
 -- ---- what ids alone may tell
 
 abbrev pub may_be_met : Item → Bool
-may_be_met (must t) = asks_first t && is_constant t.first && is_constant_target t.target
+may_be_met (must t) = asks_first t && is_constant t.component && is_constant_target t.target
 may_be_met (may t) = true
 may_be_met (either ts) = true
 may_be_met (equal v r) = false

@@ -5,7 +5,7 @@ ghost use Rattle.ecs_id.specs.Id as id_specs;
 ghost use Rattle.watch_concerns.specs.Concerns.{concerns, is_asked_by_all};
 ghost use Rattle.watch_concerns.specs.Others.{concerns_below, concerns_others, says_how_far};
 ghost use Rattle.watch_concerns.specs.OwnIds.{lacks, meets};
-ghost use Rattle.watch_concerns.specs.Whom.{concern_of, joined};
+ghost use Rattle.watch_concerns.specs.Whom.{concern_of, joined_concerns};
 ghost use Rattle.watch_asked.specs.Asked.{IsAskedBy, asked_concern, one_concern};
 
 use crate::asked::{AskedTerm, AskedTerms};
@@ -15,7 +15,7 @@ use query_check::Query;
 use std::alloc::Allocator;
 use std::marker::Model;
 use watch_concerns::{
-    Concern, NOBODY, concern_of, is_asked_by_all, joined, lacks, meets, says_how_far,
+    Concern, NOBODY, concern_of, is_asked_by_all, joined_concerns, lacks, meets, says_how_far,
 };
 
 /// A query with what it asks, if that is kept. If not, each term is asked anew.
@@ -121,14 +121,18 @@ impl<'q, A: Allocator> AskedQuery<'q, A> {
 /// For whom an id concerns a query that asks this.
 #[inline(always)]
 fn of_asked<A: Allocator>(asked: &AskedTerms<A>, id: Id) -> Concern
-    ensures { result ≡ joined (record { anyone = is_asked_by_all id; others = says_how_far id; below = false }) (asked_concern id asked.now.terms.items) }
+    ensures { result ≡ joined_concerns (record {
+      anyone = is_asked_by_all id;
+      others = says_how_far id;
+      below = false;
+    }) (asked_concern id asked.now.terms.items) }
 {
     let of_tags = Concern {
         anyone: is_asked_by_all(id),
         others: says_how_far(id),
         below: false,
     };
-    joined(of_tags, of_terms(asked.terms.as_slice(), id))
+    joined_concerns(of_tags, of_terms(asked.terms.as_slice(), id))
 }
 
 fn of_terms(terms: &[AskedTerm], id: Id) -> Concern
@@ -136,7 +140,7 @@ fn of_terms(terms: &[AskedTerm], id: Id) -> Concern
 {
     let mut found = NOBODY;
     for term in terms {
-        found = joined(found, of_term(term, id));
+        found = joined_concerns(found, of_term(term, id));
     }
     found
 }

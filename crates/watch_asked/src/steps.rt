@@ -90,7 +90,7 @@ fn push_step<A: Allocator>(term: &Term, steps: &mut Vec<LinkStep, A>) -> Result<
     let Some(Ref::Var(target)) = term.target else {
         return Ok(());
     };
-    push_between(source, target, asked_by(term.first, term.target), steps)
+    push_between(source, target, asked_by(term.component, term.target), steps)
 }
 
 /// Adds that pairs lead between the entities of two variables, the first of which holds them, if these aren't one.

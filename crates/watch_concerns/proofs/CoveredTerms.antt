@@ -5,7 +5,7 @@ use Rattle.std.specs.List.{Contains, list_any}
 use Rattle.std.proofs.lemmas.Bool.{or_left, or_right}
 use Rattle.std.proofs.lemmas.List.Elements.{Contains-append_left, Contains-append_right}
 use Rattle.ecs_id.specs.Id.{Id}
-use Rattle.ecs_model.specs.rows.Level.{Level, done, also, unless, first_level, other_levels, open_levels, then_level, joined, top}
+use Rattle.ecs_model.specs.rows.Level.{Level, done, also, unless, first_level, other_levels, open_levels, then_level, joined_levels, top}
 use Rattle.ecs_model.proofs.Members.{any_passes}
 use Rattle.query_model.specs.declared.query.Term.{Term}
 use Rattle.query_model.specs.Query.{Item, Piece, item, opening, closing, Query}
@@ -53,9 +53,9 @@ module _ (P : Item → Type 0) where
   of_then (also x l) m h k = (h.0, of_then l m h.1 k)
   of_then (unless from_term own inner l) m h k = (h.0, of_then l m h.1 k)
 
-  of_joined : (ls : List Level) → OfLevels ls → OfEach (joined ls)
+  of_joined : (ls : List Level) → OfLevels ls → OfEach (joined_levels ls)
   of_joined [] h = tt
-  of_joined (l ∷ ls) h = of_then l (joined ls) h.0 (of_joined ls h.1)
+  of_joined (l ∷ ls) h = of_then l (joined_levels ls) h.0 (of_joined ls h.1)
 
   -- so of each item of a query
   pub of_top : (q : Query) → OfEachPiece q.pieces → OfEach (top q)

@@ -4,11 +4,11 @@ use Rattle.std.specs.List.{find}
 use Rattle.std.specs.Ordering.{nat_cmp, eq_by_cmp}
 use Rattle.std.proofs.Common.{refl, sym, ap, ◌∙◌, arith}
 use Rattle.std.proofs.lemmas.Bool.Decides.{nat_tests}
-use Rattle.ecs_model.specs.Command.{differences}
+use Rattle.ecs_model.specs.steps.Outcomes.{differences}
 use Rattle.ecs_model.specs.Map.{Map, value_at, without}
 use Rattle.ecs_model.specs.World.{WorldState, Key, is_live}
 use Rattle.ecs_model.proofs.Members.{eq_same}
-use Rattle.ecs_model.proofs.traits.Differences.{with_name}
+use Rattle.ecs_model.proofs.steps.Differences.{with_name}
 use Rattle.watch_concerns.specs.Since.{Dead, died_at}
 
 -- the order of numbers ties where they are one

@@ -5,8 +5,8 @@ use Rattle.std.specs.List.{list_any}
 use Rattle.std.proofs.lemmas.Bool.{and_parts, false≢true, not-true, or_cases, true≢false}
 use Rattle.std.proofs.Math.Bool.{or-false}
 use Rattle.ecs_id.specs.Id.{Id}
-use Rattle.ecs_model.specs.rows.Level.{Level, also, first_level, joined, open_levels, other_levels, top}
-use Rattle.ecs_model.specs.rows.Rows.{Assignment, fields_of_item, fields_of_term, hits, keeps_one, matches, shown}
+use Rattle.ecs_model.specs.rows.Level.{Level, also, first_level, joined_levels, open_levels, other_levels, top}
+use Rattle.ecs_model.specs.rows.Rows.{Assignment, fields_of_item, fields_of_term, hits, keeps_first_hit, matches, shown}
 use Rattle.ecs_model.specs.rows.View.{View}
 use Rattle.ecs_model.proofs.Members.{any_passes, passing}
 use Rattle.query_model.specs.declared.query.Term.{Term}
@@ -23,12 +23,12 @@ use Rattle.watch_concerns.proofs.LevelAgreement.{at_each, by_match, matches_may}
 use Rattle.watch_concerns.proofs.ThisAssignments.{asked_itself, this_of}
 use Rattle.watch_concerns.proofs.WiderTests.{any_same}
 
-pub behind_item : (x : Item) (ls : List Level) → joined (also x (first_level ls) ∷ other_levels ls) ≡ also x (joined ls)
+pub behind_item : (x : Item) (ls : List Level) → joined_levels (also x (first_level ls) ∷ other_levels ls) ≡ also x (joined_levels ls)
 behind_item x [] = refl
 behind_item x (l ∷ ls) = refl
 
 module _ (w : View) (a : Assignment) (e : ℕ) (this : at a 0 ≡ Some e) where
-  pub hits_itself : (t : Term) → asks_first t ≡ true → some (fields_of_term w a t) ≡ list_any (matches a t.first t.target) (w.ids e)
+  pub hits_itself : (t : Term) → asks_first t ≡ true → some (fields_of_term w a t) ≡ list_any (matches a t.component t.target) (w.ids e)
   unfolding hits
   hits_itself t asks =
       ap some (asked_itself w a e t this asks)
@@ -36,22 +36,22 @@ module _ (w : View) (a : Assignment) (e : ℕ) (this : at a 0 ≡ Some e) where
       ∙ any-map (λ m. at_each m (hits w a t m)) (e ∷ [])
       ∙ or-false (some (at_each e (hits w a t e)))
       ∙ some-map (λ i. (e, i)) (hits w a t e)
-      ∙ some-taken (keeps_one t) (filter (matches a t.first t.target) (w.ids e))
-      ∙ some-filter (matches a t.first t.target) (w.ids e)
+      ∙ some-taken (keeps_first_hit t) (filter (matches a t.component t.target) (w.ids e))
+      ∙ some-filter (matches a t.component t.target) (w.ids e)
 
   pub item_fails : (x : Item) → item_lacks (w.ids e) x ≡ true → some (fields_of_item w a x) ≡ true → ⊥
   unfolding fields_of_item
   item_fails (must t) lack holds =
       let both = and_parts _ _ lack in
       let hit = sym (hits_itself t both.0) ∙ sym (some-map (λ f. shown w t f ∷ []) (fields_of_term w a t)) ∙ holds in
-      let found = passing (matches a t.first t.target) (w.ids e) hit in
-      true≢false (sym (any_passes (may_match t.first t.target) (w.ids e) found.0 found.1 (matches_may a t.first t.target found.0 found.2)) ∙ not-true _ both.1)
+      let found = passing (matches a t.component t.target) (w.ids e) hit in
+      true≢false (sym (any_passes (may_match t.component t.target) (w.ids e) found.0 found.1 (matches_may a t.component t.target found.0 found.2)) ∙ not-true _ both.1)
   item_fails (may t) lack holds = false≢true lack
   item_fails (either ts) lack holds = false≢true lack
   item_fails (equal u r) lack holds = false≢true lack
   item_fails (differ u r) lack holds = false≢true lack
 
-  level_fails : (ps : List Piece) → lacks_from (w.ids e) ps ≡ true → Holds w (joined (open_levels ps)) a → ⊥
+  level_fails : (ps : List Piece) → lacks_from (w.ids e) ps ≡ true → Holds w (joined_levels (open_levels ps)) a → ⊥
   level_fails [] lack holds = false≢true lack
   level_fails (item x ∷ ps) lack holds =
       let both = subst (λ l. Holds w l a) (behind_item x (open_levels ps)) holds in
@@ -72,7 +72,7 @@ pieces_lack_alike q is js same (item x ∷ ps) covers =
   where
     by : (x : Item) → Covers (concerns q) x → item_lacks is x ≡ item_lacks js x
     by (must t) h =
-        let matched = any_same (concerns q) is js same (may_match t.first t.target) (λ i m. h t (0, omega arith, refl) i (by_match i t m)) in
+        let matched = any_same (concerns q) is js same (may_match t.component t.target) (λ i m. h t (0, omega arith, refl) i (by_match i t m)) in
         λ k. asks_first t && not (matched k)
     by (may t) h = refl
     by (either ts) h = refl

@@ -8,17 +8,17 @@ use Rattle.std.proofs.lemmas.List.Elements.{Contains-append_right}
 use Rattle.std.proofs.lemmas.List.Folds.{list_any-append}
 use Rattle.std.proofs.lemmas.Option.{same_Some}
 use Rattle.ecs_id.specs.Id.{Id, plain, pair}
-use Rattle.ecs_model.specs.Links.{line}
+use Rattle.ecs_model.specs.Links.{ancestor_line}
 use Rattle.ecs_model.specs.rows.Level.{Level, done, also, unless}
-use Rattle.ecs_model.specs.rows.Rows.{Assignment, Unset, asked, assignments, closed_fields, fields_at, fields_of_item, fields_of_term, first_nonempty, fits, hits, keeps_one, matches, meant, shown, shown_fields, solutions}
+use Rattle.ecs_model.specs.rows.Rows.{Assignment, Unset, asked, assignments, closed_fields, fields_at, fields_of_item, fields_of_term, first_nonempty, fits, hits, keeps_first_hit, matches, meant, shown, shown_fields, solutions}
 use Rattle.ecs_model.specs.rows.View.{View}
 use Rattle.query_model.specs.declared.query.Ref.{Ref}
-use Rattle.query_model.specs.declared.query.Ref.TheVariants.{Is, Var, Any, One}
+use Rattle.query_model.specs.declared.query.Ref.TheVariants.{Is, Var, Any, AnyOnce}
 use Rattle.query_model.specs.declared.query.Term.{Term}
 use Rattle.query_model.specs.Query.{Item, must, may, either, equal, differ}
 use Rattle.query_check.specs.Terms.{item_terms}
 use Rattle.ecs_model.proofs.Members.{passing}
-use Rattle.ecs_model.proofs.traits.Kept.{each_passes}
+use Rattle.ecs_model.proofs.steps.LivingIds.{each_passes}
 use Rattle.query_meaning.proofs.LevelHolding.{Holds}
 use Rattle.watch_concerns.specs.Bonds.{each_must, has_directly}
 use Rattle.watch_concerns.specs.Concerns.{is_pair_of, leads_up, may_be, may_match, term_concerns}
@@ -37,7 +37,7 @@ fits_may : (a : Assignment) (e : ℕ) (r : Ref) → fits a e r ≡ true → may_
 fits_may a e (Is d) h = h
 fits_may a e (Var v) h = refl
 fits_may a e Any h = refl
-fits_may a e One h = refl
+fits_may a e AnyOnce h = refl
 
 pub matches_may : (a : Assignment) (first : Ref) (target : Option Ref) (i : Id) → matches a first target i ≡ true → may_match first target i ≡ true
 matches_may a first None (plain c) h = fits_may a c first h
@@ -51,17 +51,17 @@ meant_may : (a : Assignment) (first : Ref) (r : ℕ) → meant a first ≡ Some 
 meant_may a (Is d) r h = eq-eqb d r (same_Some d r h)
 meant_may a (Var v) r h = refl
 meant_may a Any r h = refl
-meant_may a One r h = refl
+meant_may a AnyOnce r h = refl
 
 module _ (i : Id) (t : Term) where
-  pub by_match : may_match t.first t.target i ≡ true → term_concerns i t ≡ true
-  by_match h = or_left (may_match t.first t.target i || leads_up t.up i) (t.closed && is_pair_of t.first i) (or_left (may_match t.first t.target i) (leads_up t.up i) h)
+  pub by_match : may_match t.component t.target i ≡ true → term_concerns i t ≡ true
+  by_match h = or_left (may_match t.component t.target i || leads_up t.up i) (t.closed && is_pair_of t.component i) (or_left (may_match t.component t.target i) (leads_up t.up i) h)
 
   pub by_rise : leads_up t.up i ≡ true → term_concerns i t ≡ true
-  by_rise h = or_left (may_match t.first t.target i || leads_up t.up i) (t.closed && is_pair_of t.first i) (or_right (may_match t.first t.target i) (leads_up t.up i) h)
+  by_rise h = or_left (may_match t.component t.target i || leads_up t.up i) (t.closed && is_pair_of t.component i) (or_right (may_match t.component t.target i) (leads_up t.up i) h)
 
-  by_closure : (t.closed && is_pair_of t.first i) ≡ true → term_concerns i t ≡ true
-  by_closure h = or_right (may_match t.first t.target i || leads_up t.up i) (t.closed && is_pair_of t.first i) h
+  by_closure : (t.closed && is_pair_of t.component i) ≡ true → term_concerns i t ≡ true
+  by_closure h = or_right (may_match t.component t.target i || leads_up t.up i) (t.closed && is_pair_of t.component i) h
 
 -- ---- an item
 
@@ -111,37 +111,37 @@ module _ (wide : Id → Bool) (w v : View) (agree : Agree wide w v) where
   -- ---- a term
 
   module _ (a : Assignment) (t : Term) (covered : (i : Id) → term_concerns i t ≡ true → wide i ≡ true) where
-    matched_covered : (i : Id) → matches a t.first t.target i ≡ true → wide i ≡ true
-    matched_covered i h = covered i (by_match i t (matches_may a t.first t.target i h))
+    matched_covered : (i : Id) → matches a t.component t.target i ≡ true → wide i ≡ true
+    matched_covered i h = covered i (by_match i t (matches_may a t.component t.target i h))
 
     risen_covered : (r : ℕ) → t.up ≡ Some r → HasPairs wide r
     risen_covered r up u =
         let leads : leads_up t.up (pair r u) ≡ true = ap (λ o. leads_up o (pair r u)) up ∙ eq-eqb r r refl in
         covered (pair r u) (by_rise (pair r u) t leads)
 
-    closed_covered : t.closed ≡ true → (r : ℕ) → meant a t.first ≡ Some r → HasPairs wide r
+    closed_covered : t.closed ≡ true → (r : ℕ) → meant a t.component ≡ Some r → HasPairs wide r
     closed_covered closed r means u =
-        let follows : (t.closed && is_pair_of t.first (pair r u)) ≡ true = and_from _ _ closed (meant_may a t.first r means) in
+        let follows : (t.closed && is_pair_of t.component (pair r u)) ≡ true = and_from _ _ closed (meant_may a t.component r means) in
         covered (pair r u) (by_closure (pair r u) t follows)
 
     hits_same : (m : ℕ) → hits w a t m ≡ hits v a t m
     unfolding hits
     hits_same m =
-        let all = filter_same wide (w.ids m) (v.ids m) (agree.ids m) (matches a t.first t.target) matched_covered in
-        λ k. if keeps_one t then take 1 (all k) else all k
+        let all = filter_same wide (w.ids m) (v.ids m) (agree.ids m) (matches a t.component t.target) matched_covered in
+        λ k. if keeps_first_hit t then take 1 (all k) else all k
 
     -- the same source has among those that are asked one that passes a test
     module _ (p : ℕ → Bool) (s : ℕ) where
-      lines_same : (o : Option ℕ) → t.up ≡ o → list_any p (option_map_or (λ r. line w.ids w.entities r s) o []) ≡ list_any p (option_map_or (λ r. line v.ids v.entities r s) o [])
+      lines_same : (o : Option ℕ) → t.up ≡ o → list_any p (option_map_or (λ r. ancestor_line w.ids w.entities r s) o []) ≡ list_any p (option_map_or (λ r. ancestor_line v.ids v.entities r s) o [])
       lines_same None up = refl
       lines_same (Some r) up = agree.risen r (risen_covered r up) s p
 
       asked_same : list_any p (asked w t s) ≡ list_any p (asked v t s)
       asked_same =
           let itself = if t.on_source then s ∷ [] else [] in
-          list_any-append p itself (option_map_or (λ r. line w.ids w.entities r s) t.up [])
+          list_any-append p itself (option_map_or (λ r. ancestor_line w.ids w.entities r s) t.up [])
           ∙ ap (λ b. list_any p itself || b) (lines_same t.up refl)
-          ∙ sym (list_any-append p itself (option_map_or (λ r. line v.ids v.entities r s) t.up []))
+          ∙ sym (list_any-append p itself (option_map_or (λ r. ancestor_line v.ids v.entities r s) t.up []))
 
     closed_same : (first : Option ℕ) → ((r : ℕ) → first ≡ Some r → HasPairs wide r) → (s : ℕ) (target : Option ℕ) → closed_fields w first s target ≡ closed_fields v first s target
     closed_same None h s target = refl
@@ -165,9 +165,9 @@ module _ (wide : Id → Bool) (w v : View) (agree : Agree wide w v) where
         target = option_map_or (meant a) t.target None
 
         by : (b : Bool) → t.closed ≡ b
-            → some (if b then closed_fields w (meant a t.first) s target else first_nonempty (map (λ m. map (λ i. (m, i)) (hits w a t m)) (asked w t s)))
-            ≡ some (if b then closed_fields v (meant a t.first) s target else first_nonempty (map (λ m. map (λ i. (m, i)) (hits v a t m)) (asked v t s)))
-        by true closed = ap some (closed_same (meant a t.first) (closed_covered closed) s target)
+            → some (if b then closed_fields w (meant a t.component) s target else first_nonempty (map (λ m. map (λ i. (m, i)) (hits w a t m)) (asked w t s)))
+            ≡ some (if b then closed_fields v (meant a t.component) s target else first_nonempty (map (λ m. map (λ i. (m, i)) (hits v a t m)) (asked v t s)))
+        by true closed = ap some (closed_same (meant a t.component) (closed_covered closed) s target)
         by false stored = stored_same s
 
     fields_same : some (fields_of_term w a t) ≡ some (fields_of_term v a t)

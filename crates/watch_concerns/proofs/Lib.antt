@@ -3,10 +3,10 @@ pub mod ReachAgreement
 pub mod CoveredTerms
 pub mod LevelAgreement
 pub mod MatchingRows
-pub mod FromLeft
+pub mod BondsFromLeft
 pub mod Ancestors
 pub mod LivingVariables
-pub mod WhoeverLives
+pub mod AnchoredRows
 pub mod ThisAssignments
 pub mod LackedIds
 pub mod MetIds
@@ -15,9 +15,9 @@ pub mod TiedQueries
 pub mod LinkedQueries
 pub mod StandingEntities
 pub mod UnaskedVariables
-pub mod MentionedOnce
+pub mod DistinctMentions
 pub mod PinChanges
-pub mod LivesOn
+pub mod LastingEntities
 pub mod Deaths
-pub mod HeldBefore
-pub mod ToldSince
+pub mod IdsBefore
+pub mod EventsSince

@@ -13,7 +13,7 @@ use Rattle.ecs_model.specs.rows.Level.{top}
 use Rattle.ecs_model.specs.rows.Rows.{Assignment, Field, assignments, candidates, level_mentions, passes_over, row_of, rows, rows_under, solutions, visible}
 use Rattle.ecs_model.specs.rows.View.{View}
 use Rattle.ecs_model.specs.stored.Watches.{is_this, matching}
-use Rattle.ecs_model.specs.traits.Rules.{prefab, disabled}
+use Rattle.ecs_model.specs.steps.Rules.{prefab, disabled}
 use Rattle.query_model.specs.Query.{Query}
 use Rattle.watch_concerns.specs.Concerns.{concerns}
 use Rattle.watch_concerns.specs.Laws.{AreAlikeFor, MatchByWhatConcerns}

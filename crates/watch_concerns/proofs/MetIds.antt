@@ -9,15 +9,15 @@ use Rattle.std.proofs.lemmas.Option.{same_Some}
 use Rattle.ecs_id.specs.Id.{Id, plain, pair}
 use Rattle.ecs_model.specs.Links.{is_held}
 use Rattle.ecs_model.specs.Map.{with_value}
-use Rattle.ecs_model.specs.rows.Level.{Level, unless, first_level, joined, open_levels, other_levels, top}
+use Rattle.ecs_model.specs.rows.Level.{Level, unless, first_level, joined_levels, open_levels, other_levels, top}
 use Rattle.ecs_model.specs.rows.Rows.{Assignment, Unset, assignments, candidates, fields_of_item, fields_of_term, fits, is_passed_over, level_mentions, matches, passes_over, rows, shown, shown_fields, solutions, visible}
 use Rattle.ecs_model.specs.rows.View.{View}
 use Rattle.ecs_model.specs.stored.Watches.{is_this, matching}
-use Rattle.ecs_model.specs.traits.Rules.{prefab, disabled}
+use Rattle.ecs_model.specs.steps.Rules.{prefab, disabled}
 use Rattle.ecs_model.proofs.Members.{any_passes, filtered, passing}
 use Rattle.query_model.specs.Observers.{is_constant, is_constant_target}
 use Rattle.query_model.specs.declared.query.Ref.{Ref}
-use Rattle.query_model.specs.declared.query.Ref.TheVariants.{Is, Var, Any, One}
+use Rattle.query_model.specs.declared.query.Ref.TheVariants.{Is, Var, Any, AnyOnce}
 use Rattle.query_model.specs.declared.query.Term.{Term}
 use Rattle.query_model.specs.Query.{Item, Piece, must, may, either, equal, differ, item, opening, closing}
 use Rattle.query_meaning.specs.Sound.{is_sound}
@@ -32,7 +32,7 @@ use Rattle.query_meaning.proofs.Choices.{any-map, has-some, or_last, some, some-
 use Rattle.watch_concerns.proofs.LackedIds.{behind_item, hits_itself, item_fails}
 use Rattle.watch_concerns.proofs.MatchingRows.{is_first_of}
 use Rattle.watch_concerns.proofs.ThisAssignments.{KeepsThis, head_at, sound_keeps_this}
-use Rattle.watch_concerns.proofs.WhoeverLives.{any_row, to_place}
+use Rattle.watch_concerns.proofs.AnchoredRows.{any_row, to_place}
 
 -- ---- a term without variables
 
@@ -40,7 +40,7 @@ fits_too : (a : Assignment) (x : ℕ) (r : Ref) → is_constant r ≡ true → m
 fits_too a x (Is d) n h = h
 fits_too a x (Var v) n h = absurd (false≢true n)
 fits_too a x Any n h = refl
-fits_too a x One n h = refl
+fits_too a x AnyOnce n h = refl
 
 matches_too : (a : Assignment) (first : Ref) (target : Option Ref) (i : Id) → is_constant first ≡ true → is_constant_target target ≡ true → may_match first target i ≡ true → matches a first target i ≡ true
 matches_too a first None (plain c) n k h = fits_too a c first n h
@@ -50,7 +50,7 @@ matches_too a first (Some target) (pair r t) n k h =
     let both = and_parts _ _ h in
     and_from _ _ (fits_too a r first n both.0) (fits_too a t target k both.1)
 
-behind_group : (from_term : Bool) (own : List ℕ) (ls : List Level) → joined (unless from_term own (first_level ls) (first_level (other_levels ls)) ∷ other_levels (other_levels ls)) ≡ unless from_term own (first_level ls) (joined (other_levels ls))
+behind_group : (from_term : Bool) (own : List ℕ) (ls : List Level) → joined_levels (unless from_term own (first_level ls) (first_level (other_levels ls)) ∷ other_levels (other_levels ls)) ≡ unless from_term own (first_level ls) (joined_levels (other_levels ls))
 behind_group from_term own [] = refl
 behind_group from_term own (l ∷ []) = refl
 behind_group from_term own (l ∷ m ∷ ls) = refl
@@ -63,10 +63,10 @@ module _ (w : View) (e : ℕ) where
       let outer = and_parts _ _ h in
       let middle = and_parts _ _ outer.0 in
       let inner = and_parts _ _ middle.0 in
-      let found = passing (may_match t.first t.target) (w.ids e) outer.1 in
+      let found = passing (may_match t.component t.target) (w.ids e) outer.1 in
       some-map (λ f. shown w t f ∷ []) (fields_of_term w a t)
       ∙ hits_itself w a e this t inner.0
-      ∙ any_passes (matches a t.first t.target) (w.ids e) found.0 found.1 (matches_too a t.first t.target found.0 inner.1 middle.1 found.2)
+      ∙ any_passes (matches a t.component t.target) (w.ids e) found.0 found.1 (matches_too a t.component t.target found.0 inner.1 middle.1 found.2)
 
   item_meets : (x : Item) → item_is_met (w.ids e) x ≡ true → (a : Assignment) → at a 0 ≡ Some e → some (fields_of_item w a x) ≡ true
   unfolding fields_of_item
@@ -90,8 +90,8 @@ module _ (w : View) (e : ℕ) where
 
   -- what is told from the left, where a group is open or none is
   abbrev Told : Bool → Bool → List Piece → Type 0
-  Told false failed ps = KeepsThis (joined (open_levels ps)) → HoldsFor (joined (open_levels ps))
-  Told true failed ps = KeepsThis (joined (other_levels (open_levels ps))) → ((failed ≡ true) ⊎ FailsFor (first_level (open_levels ps))) × HoldsFor (joined (other_levels (open_levels ps)))
+  Told false failed ps = KeepsThis (joined_levels (open_levels ps)) → HoldsFor (joined_levels (open_levels ps))
+  Told true failed ps = KeepsThis (joined_levels (other_levels (open_levels ps))) → ((failed ≡ true) ⊎ FailsFor (first_level (open_levels ps))) × HoldsFor (joined_levels (other_levels (open_levels ps)))
 
   told : (inside failed : Bool) (ps : List Piece) → meets_from (w.ids e) inside failed ps ≡ true → Told inside failed ps
   told false failed [] h = λ keeps a this. tt

@@ -7,14 +7,14 @@ use Rattle.std.proofs.lemmas.Bool.{and_from, and_parts, cases_Bool, eq-eqb, or_l
 use Rattle.std.proofs.lemmas.List.Folds.{list_any-append}
 use Rattle.ecs_id.specs.Id.{Id, plain, pair, id_eq, id_eq_same}
 use Rattle.ecs_model.specs.BuiltIns.{transitive, reflexive}
-use Rattle.ecs_model.specs.Links.{AreLinks, is_held, line, target_under, upward}
+use Rattle.ecs_model.specs.Links.{AreLinks, ancestor_line, is_held, target_under, upward}
 use Rattle.ecs_model.specs.Reach.{HasChain, Reached, itself, onward}
 use Rattle.ecs_model.proofs.LivePairs.{upward_lives}
 use Rattle.ecs_model.specs.rows.Level.{Level, done, also, unless, top}
-use Rattle.ecs_model.specs.rows.Rows.{Assignment, asked, assignments, candidates, fields_of_item, fields_of_term, hits, is_passed_over, keeps_one, level_mentions, matches, passes_over, rows, shown, shown_fields, solutions, visible}
+use Rattle.ecs_model.specs.rows.Rows.{Assignment, asked, assignments, candidates, fields_of_item, fields_of_term, hits, is_passed_over, keeps_first_hit, level_mentions, matches, passes_over, rows, shown, shown_fields, solutions, visible}
 use Rattle.ecs_model.specs.rows.View.{View}
 use Rattle.ecs_model.specs.stored.Watches.{is_this, matching}
-use Rattle.ecs_model.specs.traits.Rules.{prefab, disabled}
+use Rattle.ecs_model.specs.steps.Rules.{prefab, disabled}
 use Rattle.ecs_model.proofs.Members.{alike, any_passes, filtered, passing}
 use Rattle.query_model.specs.declared.query.Term.{Term}
 use Rattle.query_model.specs.Query.{Item, Query}
@@ -27,7 +27,7 @@ use Rattle.query_meaning.proofs.Lists.{place_of}
 use Rattle.watch_concerns.specs.Anchored.{anchors, groups_are_anchored, is_anchored}
 use Rattle.watch_concerns.specs.Concerns.{concerns, leads_up, term_concerns}
 use Rattle.watch_concerns.specs.Laws.{MatchByOwnFacts}
-use Rattle.watch_concerns.specs.Others.{asks_this, concerns_below, concerns_others, says_how_far, term_concerns_others}
+use Rattle.watch_concerns.specs.Others.{asks_this_stored, concerns_below, concerns_others, says_how_far, term_concerns_others}
 use Rattle.query_meaning.proofs.Choices.{any-map, has-some, some, some-first, some-map}
 use Rattle.watch_concerns.proofs.Ancestors.{agree_linked, chain_line, line_chain}
 use Rattle.watch_concerns.proofs.CoveredTerms.{OfEach, asked_by_all, by_term, by_term_below, by_term_of_others, top_so}
@@ -35,7 +35,7 @@ use Rattle.watch_concerns.proofs.LevelAgreement.{at_each, by_match, by_rise, ite
 use Rattle.watch_concerns.proofs.MatchingRows.{is_first_of}
 use Rattle.watch_concerns.proofs.ReachAgreement.{Agree, HasPairs, no_target}
 use Rattle.watch_concerns.proofs.ThisAssignments.{KeepsThis, asked_of_this, sound_keeps_this, this_of}
-use Rattle.watch_concerns.proofs.WhoeverLives.{any_row, first_lives, lives_too}
+use Rattle.watch_concerns.proofs.AnchoredRows.{any_row, first_lives, lives_too}
 use Rattle.watch_concerns.proofs.WiderTests.{any_same, filter_same, maps_same}
 
 -- ---- chains, where the same comes next from their start and from all behind it
@@ -62,13 +62,13 @@ module _ (w v : View) (a : Assignment) (t : Term) where
   pub hits_alike : (wide : Id → Bool) (x : ℕ) → ((i : Id) → term_concerns i t ≡ true → wide i ≡ true) → filter wide (w.ids x) ≡ filter wide (v.ids x) → hits w a t x ≡ hits v a t x
   unfolding hits
   hits_alike wide x h same =
-      let all = filter_same wide (w.ids x) (v.ids x) same (matches a t.first t.target) (λ i k. h i (by_match i t (matches_may a t.first t.target i k))) in
-      λ k. if keeps_one t then take 1 (all k) else all k
+      let all = filter_same wide (w.ids x) (v.ids x) same (matches a t.component t.target) (λ i k. h i (by_match i t (matches_may a t.component t.target i k))) in
+      λ k. if keeps_first_hit t then take 1 (all k) else all k
 
 module _ (q : Query) {m n : ℕ} (w v : View) (links : AreLinks m w.entities w.ids) (links' : AreLinks n v.entities v.ids) (e : ℕ)
     (own : filter (concerns q) (w.ids e) ≡ filter (concerns q) (v.ids e))
-    (above : (r x : ℕ) → Contains (line v.ids v.entities r e) x → filter (concerns_below q) (w.ids x) ≡ filter (concerns_below q) (v.ids x)) where
-  module _ (a : Assignment) (this : at a 0 ≡ Some e) (t : Term) (among : Contains (terms q) t) (asks : asks_this t ≡ true) where
+    (above : (r x : ℕ) → Contains (ancestor_line v.ids v.entities r e) x → filter (concerns_below q) (w.ids x) ≡ filter (concerns_below q) (v.ids x)) where
+  module _ (a : Assignment) (this : at a 0 ≡ Some e) (t : Term) (among : Contains (terms q) t) (asks : asks_this_stored t ≡ true) where
     -- whether an entity has a hit
     abbrev has : View → ℕ → Bool
     has u x = some (at_each x (hits u a t x))
@@ -85,7 +85,7 @@ module _ (q : Query) {m n : ℕ} (w v : View) (links : AreLinks m w.entities w.i
       next_alike : (wide : Id → Bool) (x : ℕ) → ((i : Id) → term_concerns i t ≡ true → wide i ≡ true) → filter wide (w.ids x) ≡ filter wide (v.ids x) → upward w.ids r x ≡ upward v.ids r x
       next_alike wide x h same = maps_same wide (w.ids x) (v.ids x) same (target_under r) (no_target wide r (pairs wide h))
 
-      in_line : (x : ℕ) → HasChain (upward v.ids r) e x → Contains (line v.ids v.entities r e) x
+      in_line : (x : ℕ) → HasChain (upward v.ids r) e x → Contains (ancestor_line v.ids v.entities r e) x
       in_line x k = chain_line (upward v.ids r) v.entities (upward_lives links' r) e x k
 
       here : upward w.ids r e ≡ upward v.ids r e
@@ -94,22 +94,22 @@ module _ (q : Query) {m n : ℕ} (w v : View) (links : AreLinks m w.entities w.i
       on_line : (x : ℕ) → HasChain (upward v.ids r) e x → upward w.ids r x ≡ upward v.ids r x
       on_line x k = next_alike (concerns_below q) x covered_below (above r x (in_line x k))
 
-      line_alike : list_any (has w) (line w.ids w.entities r e) ≡ list_any (has v) (line v.ids v.entities r e)
+      line_alike : list_any (has w) (ancestor_line w.ids w.entities r e) ≡ list_any (has v) (ancestor_line v.ids v.entities r e)
       line_alike =
-          alike (list_any (has w) (line w.ids w.entities r e)) (list_any (has v) (line v.ids v.entities r e))
+          alike (list_any (has w) (ancestor_line w.ids w.entities r e)) (list_any (has v) (ancestor_line v.ids v.entities r e))
           (λ h.
-          let x = passing (has w) (line w.ids w.entities r e) h in
+          let x = passing (has w) (ancestor_line w.ids w.entities r e) h in
           let there = in_line x.0 (chain_too (upward w.ids r) (upward v.ids r) e here on_line x.0 (line_chain (upward w.ids r) (length w.entities) e x.0 x.1)) in
-          any_passes (has v) (line v.ids v.entities r e) x.0 there (sym (has_alike x.0 there) ∙ x.2))
+          any_passes (has v) (ancestor_line v.ids v.entities r e) x.0 there (sym (has_alike x.0 there) ∙ x.2))
           (λ h.
-          let x = passing (has v) (line v.ids v.entities r e) h in
+          let x = passing (has v) (ancestor_line v.ids v.entities r e) h in
           let back = chain_back (upward w.ids r) (upward v.ids r) e here on_line x.0 (line_chain (upward v.ids r) (length v.entities) e x.0 x.1) in
-          any_passes (has w) (line w.ids w.entities r e) x.0 (chain_line (upward w.ids r) w.entities (upward_lives links r) e x.0 back) (has_alike x.0 x.1 ∙ x.2))
+          any_passes (has w) (ancestor_line w.ids w.entities r e) x.0 (chain_line (upward w.ids r) w.entities (upward_lives links r) e x.0 back) (has_alike x.0 x.1 ∙ x.2))
         where
-          has_alike : (x : ℕ) → Contains (line v.ids v.entities r e) x → has w x ≡ has v x
+          has_alike : (x : ℕ) → Contains (ancestor_line v.ids v.entities r e) x → has w x ≡ has v x
           has_alike x i = ap (λ is. some (at_each x is)) (hits_alike w v a t (concerns_below q) x covered_below (above r x i))
 
-    lines_alike : (o : Option ℕ) → t.up ≡ o → list_any (has w) (option_map_or (λ r. line w.ids w.entities r e) o []) ≡ list_any (has v) (option_map_or (λ r. line v.ids v.entities r e) o [])
+    lines_alike : (o : Option ℕ) → t.up ≡ o → list_any (has w) (option_map_or (λ r. ancestor_line w.ids w.entities r e) o []) ≡ list_any (has v) (option_map_or (λ r. ancestor_line v.ids v.entities r e) o [])
     lines_alike None up = refl
     lines_alike (Some r) up = line_alike r up
 
@@ -117,13 +117,13 @@ module _ (q : Query) {m n : ℕ} (w v : View) (links : AreLinks m w.entities w.i
     source_alike true = ap (λ is. some (at_each e is) || false) (hits_alike w v a t (concerns q) e (by_term q t among) own)
     source_alike false = refl
 
-    found : (u : View) → some (shown_fields u a t) ≡ (list_any (has u) (if t.on_source then e ∷ [] else []) || list_any (has u) (option_map_or (λ r. line u.ids u.entities r e) t.up []))
+    found : (u : View) → some (shown_fields u a t) ≡ (list_any (has u) (if t.on_source then e ∷ [] else []) || list_any (has u) (option_map_or (λ r. ancestor_line u.ids u.entities r e) t.up []))
     found u =
         some-map (λ f. shown u t f ∷ []) (fields_of_term u a t)
         ∙ ap some (asked_of_this u a e t this asks)
         ∙ some-first (map (λ m. at_each m (hits u a t m)) (asked u t e))
         ∙ any-map (λ m. at_each m (hits u a t m)) (asked u t e)
-        ∙ list_any-append (has u) (if t.on_source then e ∷ [] else []) (option_map_or (λ r. line u.ids u.entities r e) t.up [])
+        ∙ list_any-append (has u) (if t.on_source then e ∷ [] else []) (option_map_or (λ r. ancestor_line u.ids u.entities r e) t.up [])
 
     pub this_alike : some (shown_fields w a t) ≡ some (shown_fields v a t)
     this_alike =
@@ -133,9 +133,9 @@ module _ (q : Query) {m n : ℕ} (w v : View) (links : AreLinks m w.entities w.i
 
 module _ (q : Query) {m n : ℕ} (w v : View) (links : AreLinks m w.entities w.ids) (links' : AreLinks n v.entities v.ids) (agree : Agree (concerns_others q) w v) (e : ℕ)
     (own : filter (concerns q) (w.ids e) ≡ filter (concerns q) (v.ids e))
-    (above : (r x : ℕ) → Contains (line v.ids v.entities r e) x → filter (concerns_below q) (w.ids x) ≡ filter (concerns_below q) (v.ids x)) where
+    (above : (r x : ℕ) → Contains (ancestor_line v.ids v.entities r e) x → filter (concerns_below q) (w.ids x) ≡ filter (concerns_below q) (v.ids x)) where
   term_alike : (a : Assignment) → at a 0 ≡ Some e → (t : Term) → Contains (terms q) t → some (shown_fields w a t) ≡ some (shown_fields v a t)
-  term_alike a this t among = elim (cases_Bool (asks_this t)) [
+  term_alike a this t among = elim (cases_Bool (asks_this_stored t)) [
     | inl asks ↦ this_alike q w v links links' e own above a this t among asks
     | inr other ↦ shown_same (concerns_others q) w v agree a t (λ i h. by_term_of_others q t among i (and_from _ _ (ap not other) h))
   ]

@@ -10,18 +10,18 @@ use Rattle.ecs_model.specs.Query.{known_of}
 use Rattle.ecs_model.specs.World.{WorldState, is_alive}
 use Rattle.ecs_model.specs.rows.View.{view_of}
 use Rattle.ecs_model.specs.stored.Session.{pinned_by, unpinned_by}
-use Rattle.ecs_model.specs.traits.Pins.{most_pins, one_less, one_more, unpin, with_pins}
+use Rattle.ecs_model.specs.steps.Pins.{most_pins, one_less, one_more, unpin, with_pins}
 use Rattle.ecs_model.proofs.Maps.{both_true}
 use Rattle.ecs_model.proofs.Members.{eq_same}
 use Rattle.ecs_model.proofs.Reasons.{neither}
-use Rattle.ecs_model.proofs.traits.Kept.{refuted}
-use Rattle.ecs_model.proofs.traits.Pinned.{count-with_count}
+use Rattle.ecs_model.proofs.steps.LivingIds.{refuted}
+use Rattle.ecs_model.proofs.steps.PinCounts.{count-with_count}
 use Rattle.query_model.specs.declared.query.Mention.{Mention}
 use Rattle.query_model.specs.Query.{Query, is_as_checked, is_current}
 use Rattle.query_meaning.specs.Standing.{IsCurrentIn}
 use Rattle.query_meaning.proofs.MentionedEntities.{from_checked}
 use Rattle.watch_concerns.specs.Mentions.{mentions_index, times_in}
-use Rattle.watch_concerns.proofs.MentionedOnce.{count_by-cons}
+use Rattle.watch_concerns.proofs.DistinctMentions.{count_by-cons}
 
 -- ---- mentions
 

@@ -5,8 +5,8 @@ use Rattle.std.specs.List.{list_any}
 use Rattle.std.proofs.lemmas.Bool.{false≢true, cases_Bool, eqb-true}
 use Rattle.ecs_id.specs.Id.{Id, plain, pair, id_eq, id_eq_same}
 use Rattle.ecs_model.specs.BuiltIns.{transitive, reflexive}
-use Rattle.ecs_model.specs.Line.{line_within}
-use Rattle.ecs_model.specs.Links.{is_held, line, reaches, target_under, upward}
+use Rattle.ecs_model.specs.AncestorLine.{ancestor_line_within}
+use Rattle.ecs_model.specs.Links.{ancestor_line, is_held, reaches, target_under, upward}
 use Rattle.ecs_model.specs.Sets.{has_chain}
 use Rattle.ecs_model.specs.rows.View.{View}
 use Rattle.watch_concerns.proofs.WiderTests.{any_same, maps_same}
@@ -30,7 +30,7 @@ module _ (wide : Id → Bool) where
 -- and then the same have an ancestor that passes some test, and the same is reached
 pub record Agree (wide : Id → Bool) (w v : View) : Type 0 where
   pub ids : HoldAlike wide w v
-  pub risen : (r : ℕ) → HasPairs wide r → (s : ℕ) (p : ℕ → Bool) → list_any p (line w.ids w.entities r s) ≡ list_any p (line v.ids v.entities r s)
+  pub risen : (r : ℕ) → HasPairs wide r → (s : ℕ) (p : ℕ → Bool) → list_any p (ancestor_line w.ids w.entities r s) ≡ list_any p (ancestor_line v.ids v.entities r s)
   pub reached : (r : ℕ) → HasPairs wide r → (s t : ℕ) → reaches w.ids w.entities r s t ≡ reaches v.ids v.entities r s t
 
 module _ (wide : Id → Bool) (w v : View) (alike : HoldAlike wide w v) where
@@ -42,10 +42,10 @@ module _ (wide : Id → Bool) (w v : View) (alike : HoldAlike wide w v) where
 
   -- where the same live
   module _ (lives : w.entities ≡ v.entities) (has_transitive : wide (plain transitive) ≡ true) (has_reflexive : wide (plain reflexive) ≡ true) where
-    line_same : (r : ℕ) → HasPairs wide r → (s : ℕ) → line w.ids w.entities r s ≡ line v.ids v.entities r s
+    line_same : (r : ℕ) → HasPairs wide r → (s : ℕ) → ancestor_line w.ids w.entities r s ≡ ancestor_line v.ids v.entities r s
     line_same r h s =
         let up = upward_same r h in
-        λ k. line_within (up k) (length (lives k)) s
+        λ k. ancestor_line_within (up k) (length (lives k)) s
 
     reaches_same : (r : ℕ) → HasPairs wide r → (s t : ℕ) → reaches w.ids w.entities r s t ≡ reaches v.ids v.entities r s t
     unfolding reaches

@@ -6,12 +6,12 @@ use Rattle.std.specs.Option.{option_map_or}
 use Rattle.std.proofs.lemmas.Bool.{and_from, and_parts, cases_Bool, eq-eqb, eqb-true, false≢true, not-true, or_cases, true≢false}
 use Rattle.std.proofs.lemmas.Option.{same_Some}
 use Rattle.ecs_id.specs.Id.{Id, pair}
-use Rattle.ecs_model.specs.Links.{AreLinks, line}
+use Rattle.ecs_model.specs.Links.{AreLinks, ancestor_line}
 use Rattle.ecs_model.specs.rows.Level.{Level, done, also, unless, top}
 use Rattle.ecs_model.specs.rows.Rows.{Assignment, fields_of_item, fields_of_term, meant, shown, shown_fields, visible}
 use Rattle.ecs_model.specs.rows.View.{View}
 use Rattle.ecs_model.proofs.Members.{any_passes}
-use Rattle.ecs_model.proofs.traits.Kept.{refuted}
+use Rattle.ecs_model.proofs.steps.LivingIds.{refuted}
 use Rattle.query_model.specs.declared.query.Term.{Term}
 use Rattle.query_model.specs.Query.{Item, must, may, either, equal, differ, Query}
 use Rattle.query_check.specs.Terms.{terms}
@@ -35,20 +35,20 @@ use Rattle.watch_concerns.proofs.LinkedQueries.{IsHit, found_hit, one_before, pa
 use Rattle.watch_concerns.proofs.OwnFacts.{carried_over, passed_alike}
 use Rattle.watch_concerns.proofs.ThisAssignments.{KeepsThis, sound_keeps_this}
 use Rattle.watch_concerns.proofs.TiedQueries.{KnowsAll, item_near, scoped_term, the_variable, to_variable}
-use Rattle.watch_concerns.proofs.WhoeverLives.{all_at, lives_too}
+use Rattle.watch_concerns.proofs.AnchoredRows.{all_at, lives_too}
 
 -- ---- in a view, whoever a variable stands for lacks nothing that is asked of it in its level, where that holds
 
 module _ (all : ℕ → List Id) (z : View) (held : (x : ℕ) (i : Id) → Contains (z.ids x) i → Contains (all x) i) (a : Assignment) (u x : ℕ) (is : at a u ≡ Some x) where
-  term_has : (t : Term) → asks_itself u t ≡ true → some (shown_fields z a t) ≡ true → list_any (may_match t.first t.target) (all x) ≡ true
+  term_has : (t : Term) → asks_itself u t ≡ true → some (shown_fields z a t) ≡ true → list_any (may_match t.component t.target) (all x) ≡ true
   term_has t asks holds =
       let outer = and_parts _ _ asks in
       let middle = and_parts _ _ outer.0 in
       let inner = and_parts _ _ middle.0 in
       let found = found_hit z a t (none_of t.up middle.1) (not-true t.closed outer.1) (sym (some-map (λ f. shown z t f ∷ []) (fields_of_term z a t)) ∙ holds) in
       let holder : found.holder ≡ x = same_Some found.holder x (sym found.source ∙ ap (meant a) (the_variable u t.source inner.0) ∙ is) in
-      any_passes (may_match t.first t.target) (all x) found.id (held x found.id (subst (λ y. Contains (z.ids y) found.id) holder found.held))
-      (matches_may a t.first t.target found.id found.fits)
+      any_passes (may_match t.component t.target) (all x) found.id (held x found.id (subst (λ y. Contains (z.ids y) found.id) holder found.held))
+      (matches_may a t.component t.target found.id found.fits)
 
   item_has : (y : Item) → item_lacks_of (all x) u y ≡ true → some (fields_of_item z a y) ≡ true → ⊥
   unfolding fields_of_item
@@ -130,20 +130,20 @@ module _ (q : Query) (by : ℕ → Term → Bool) (all : ℕ → List Id) (near 
       joined : (s v : ℕ) → is_variable s t.source ≡ true → may_be_variable v t.target ≡ true → joins s v t ≡ true
       joined s v source target = and_from _ _ (and_from _ _ outer.0 source) target
 
-      by_term : (p : Term → Bool) → p t ≡ true → list_any (λ t. by u t && p t && may_match t.first t.target found.id) (terms q) ≡ true
+      by_term : (p : Term → Bool) → p t ≡ true → list_any (λ t. by u t && p t && may_match t.component t.target found.id) (terms q) ≡ true
       by_term p passes =
-          any_passes (λ t. by u t && p t && may_match t.first t.target found.id) (terms q) t among
-          (and_from _ _ (and_from _ _ (and_parts _ _ tie).0 passes) (matches_may a t.first t.target found.id found.fits))
+          any_passes (λ t. by u t && p t && may_match t.component t.target found.id) (terms q) t among
+          (and_from _ _ (and_from _ _ (and_parts _ _ tie).0 passes) (matches_may a t.component t.target found.id found.fits))
 
       to_target : (is_variable u t.source ≡ true) × (may_be_before u t.target ≡ true) → near u x ≡ true
       unfolding leads_in
       to_target both =
-          let p = pair_before a u t.first t.target found.id both.1 found.fits in
+          let p = pair_before a u t.component t.target found.id both.1 found.fits in
           let s : ℕ = p.number in
           let holder : found.holder ≡ x = same_Some found.holder x (sym found.source ∙ ap (meant a) (the_variable u t.source both.0) ∙ is) in
-          let c = in_scope s (contains-right (variable_in t.source) (pattern_variables t) s (contains-right (variable_in t.first) (option_map_or variable_in t.target []) s p.among)) in
+          let c = in_scope s (contains-right (variable_in t.source) (pattern_variables t) s (contains-right (variable_in t.component) (option_map_or variable_in t.target []) s p.among)) in
           let held : Contains (z.ids x) (pair p.first p.second) = subst (λ y. Contains (z.ids y) (pair p.first p.second)) holder (subst (Contains (z.ids found.holder)) p.is found.held) in
-          let leads : leads_in by q s u (pair p.first p.second) ≡ true = and_from _ _ p.is_below (subst (λ i. list_any (λ t. by u t && joins u s t && may_match t.first t.target i) (terms q) ≡ true) p.is (by_term (joins u s) (joined u s both.0 p.is_target))) in
+          let leads : leads_in by q s u (pair p.first p.second) ≡ true = and_from _ _ p.is_below (subst (λ i. list_any (λ t. by u t && joins u s t && may_match t.component t.target i) (terms q) ≡ true) p.is (by_term (joins u s) (joined u s both.0 p.is_target))) in
           closed.holder s u p.first p.second x (before s p.below c p.second p.stands) (stand s c p.second p.stands) (stand u mine x is) held leads
 
       to_source : (is_before u t.source ≡ true) × (may_be_variable u t.target ≡ true) → near u x ≡ true
@@ -153,10 +153,10 @@ module _ (q : Query) (by : ℕ → Term → Bool) (all : ℕ → List Id) (near 
           let s : ℕ = b.number in
           let c = in_scope s (contains-left (variable_in t.source) (pattern_variables t) s b.among) in
           let stands : at a s ≡ Some found.holder = sym (ap (meant a) b.is) ∙ found.source in
-          let r = to_variable a u x t.first t.target found.id both.1 is found.fits in
+          let r = to_variable a u x t.component t.target found.id both.1 is found.fits in
           let held : Contains (z.ids found.holder) (pair r.0 x) = subst (Contains (z.ids found.holder)) r.1 found.held in
           let source : is_variable s t.source ≡ true = ap (is_variable s) b.is ∙ eq-eqb s s refl in
-          let leads : leads_out by q s u (pair r.0 x) ≡ true = and_from _ _ b.is_below (subst (λ i. list_any (λ t. by u t && joins s u t && may_match t.first t.target i) (terms q) ≡ true) r.1 (by_term (joins s u) (joined s u source both.1))) in
+          let leads : leads_out by q s u (pair r.0 x) ≡ true = and_from _ _ b.is_below (subst (λ i. list_any (λ t. by u t && joins s u t && may_match t.component t.target i) (terms q) ≡ true) r.1 (by_term (joins s u) (joined s u source both.1))) in
           closed.target s u r.0 found.holder x (before s b.below c found.holder stands) (stand s c found.holder stands) (stand u mine x is) held leads
 
       term_near : near u x ≡ true
@@ -207,7 +207,7 @@ module _ (q : Query) (by : ℕ → Term → Bool) (all : ℕ → List Id) (near 
 
 module _ (q : Query) {m n : ℕ} (w v : View) (links : AreLinks m w.entities w.ids) (links' : AreLinks n v.entities v.ids) (e : ℕ)
     (own : filter (concerns q) (w.ids e) ≡ filter (concerns q) (v.ids e))
-    (above : (r x : ℕ) → Contains (line v.ids v.entities r e) x → filter (concerns_below q) (w.ids x) ≡ filter (concerns_below q) (v.ids x))
+    (above : (r x : ℕ) → Contains (ancestor_line v.ids v.entities r e) x → filter (concerns_below q) (w.ids x) ≡ filter (concerns_below q) (v.ids x))
     (by : ℕ → Term → Bool) (all : ℕ → List Id) (near : ℕ → ℕ → Bool) (here : near 0 e ≡ true)
     (known : (u x : ℕ) → (u == 0) ≡ false → near u x ≡ true → may_stand q (all x) u ≡ true → filter (asks_for (terms q) u) (w.ids x) ≡ filter (asks_for (terms q) u) (v.ids x)) where
   -- ---- whoever is near and may stand for a variable holds the same of what it is asked for

@@ -8,7 +8,7 @@ use Rattle.std.specs.Option.{option_map_or}
 use Rattle.std.specs.Ordering.{nat_cmp}
 use Rattle.std.proofs.lemmas.Cmp.{eq_by_cmp_equiv, nat_cmp_total}
 use Rattle.std.proofs.lemmas.Bool.{and_from, and_parts, cases_Bool, cases_eq, eqb-true, false≢true, not-true, or_cases, true≢false}
-use Rattle.ecs_model.specs.Links.{line}
+use Rattle.ecs_model.specs.Links.{ancestor_line}
 use Rattle.ecs_model.specs.Map.{IsMap, with_value}
 use Rattle.ecs_model.specs.rows.Level.{Level, done, also, unless, top}
 use Rattle.ecs_model.specs.rows.Rows.{Assignment, asked, assignments, candidates, closed_fields, fields_of_term, first_nonempty, hits, meant, passes_over, rows, solutions, visible}
@@ -22,11 +22,11 @@ use Rattle.query_meaning.specs.Sound.{is_sound_level, occurs_directly}
 use Rattle.query_meaning.specs.Variables.{contains}
 use Rattle.query_meaning.proofs.Assignments.{Extends, Extends-from_assignments, IsMap-with, at, at-with_other, at-with_same, same_assignment}
 use Rattle.query_meaning.proofs.LevelHolding.{Holds, Holds-solutions, contains-left}
-use Rattle.watch_concerns.specs.Others.{asks_this}
+use Rattle.watch_concerns.specs.Others.{asks_this_stored}
 use Rattle.query_meaning.proofs.Choices.{has-some, none_of, some, source_first}
 use Rattle.watch_concerns.proofs.LevelAgreement.{at_each}
 use Rattle.watch_concerns.proofs.MatchingRows.{is_first_of}
-use Rattle.watch_concerns.proofs.WhoeverLives.{all_at, any_row, first_bound, to_place}
+use Rattle.watch_concerns.proofs.AnchoredRows.{all_at, any_row, first_bound, to_place}
 
 -- ---- the first variable
 
@@ -121,14 +121,14 @@ sound_keeps_this scope (unless from_term own inner rest) there h =
 -- ---- a term that asks the first variable itself
 
 -- what a term gives that asks the first variable
-pub asked_of_this : (w : View) (a : Assignment) (e : ℕ) (t : Term) → at a 0 ≡ Some e → asks_this t ≡ true → fields_of_term w a t ≡ first_nonempty (map (λ m. at_each m (hits w a t m)) (asked w t e))
+pub asked_of_this : (w : View) (a : Assignment) (e : ℕ) (t : Term) → at a 0 ≡ Some e → asks_this_stored t ≡ true → fields_of_term w a t ≡ first_nonempty (map (λ m. at_each m (hits w a t m)) (asked w t e))
 unfolding fields_of_term
 asked_of_this w a e t this asks =
     let both = and_parts _ _ asks in
     let closed = not-true t.closed both.1 in
     let source = ap (meant a) (source_first t.source both.0) ∙ this in
     λ i. option_map_or (λ s.
-    if closed i then closed_fields w (meant a t.first) s (option_map_or (meant a) t.target None)
+    if closed i then closed_fields w (meant a t.component) s (option_map_or (meant a) t.target None)
     else first_nonempty (map (λ m. at_each m (hits w a t m)) (asked w t s))) (source i) []
 
 -- where it asks that alone
@@ -139,4 +139,4 @@ asked_itself w a e t this asks =
     let itself = and_parts _ _ stored.0 in
     let up = none_of t.up itself.1 in
     asked_of_this w a e t this (and_from _ _ source.0 stored.1)
-    ∙ (λ i. first_nonempty (map (λ m. at_each m (hits w a t m)) ((if itself.0 i then e ∷ [] else []) ++ option_map_or (λ r. line w.ids w.entities r e) (up i) [])))
+    ∙ (λ i. first_nonempty (map (λ m. at_each m (hits w a t m)) ((if itself.0 i then e ∷ [] else []) ++ option_map_or (λ r. ancestor_line w.ids w.entities r e) (up i) [])))

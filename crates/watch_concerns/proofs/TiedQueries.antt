@@ -5,14 +5,14 @@ use Rattle.std.specs.List.{Contains, list_any, list_all}
 use Rattle.std.specs.Option.{option_map_or}
 use Rattle.std.proofs.lemmas.Bool.{and_from, and_parts, cases_Bool, eq-eqb, eqb-true, false≢true, not-true, or_cases, or_left, true≢false}
 use Rattle.ecs_id.specs.Id.{Id, plain, pair}
-use Rattle.ecs_model.specs.Links.{AreLinks, line}
+use Rattle.ecs_model.specs.Links.{AreLinks, ancestor_line}
 use Rattle.ecs_model.specs.rows.Level.{Level, done, also, unless, top}
 use Rattle.ecs_model.specs.rows.Rows.{Assignment, asked, closed_fields, fields_of_item, fields_of_term, first_nonempty, hits, matches, meant, shown, shown_fields, visible}
 use Rattle.ecs_model.specs.rows.View.{View}
 use Rattle.ecs_model.proofs.Members.{any_passes, filtered, head_or_tail, passing}
-use Rattle.ecs_model.proofs.traits.Kept.{each_passes}
+use Rattle.ecs_model.proofs.steps.LivingIds.{each_passes}
 use Rattle.query_model.specs.declared.query.Ref.{Ref}
-use Rattle.query_model.specs.declared.query.Ref.TheVariants.{Is, Var, Any, One}
+use Rattle.query_model.specs.declared.query.Ref.TheVariants.{Is, Var, Any, AnyOnce}
 use Rattle.query_model.specs.declared.query.Term.{Term}
 use Rattle.query_model.specs.Observers.{is_constant, is_first}
 use Rattle.query_model.specs.Query.{Item, must, may, either, equal, differ, Query}
@@ -26,7 +26,7 @@ use Rattle.watch_concerns.specs.Bonds.{groups_are_bound, has_directly}
 use Rattle.watch_concerns.specs.Concerns.{concerns, term_concerns}
 use Rattle.watch_concerns.specs.Idle.{asks_for, term_asks_for}
 use Rattle.watch_concerns.specs.Laws.{MatchByTies}
-use Rattle.watch_concerns.specs.Others.{asks_this, concerns_below, concerns_others}
+use Rattle.watch_concerns.specs.Others.{asks_this_stored, concerns_below, concerns_others}
 use Rattle.watch_concerns.specs.Tied.{asks_near, is_tied, item_ties, needs_no_tie, term_asks, term_ties, ties}
 use Rattle.query_meaning.proofs.Choices.{any-map, has-some, none_of, some, some-first, some-map}
 use Rattle.watch_concerns.proofs.CoveredTerms.{AreAmong, OfEach, by_term, top_among}
@@ -36,20 +36,20 @@ use Rattle.watch_concerns.proofs.LivingVariables.{fits_only}
 use Rattle.watch_concerns.proofs.OwnFacts.{carried_over, hits_alike, passed_alike, this_alike}
 use Rattle.watch_concerns.proofs.ThisAssignments.{KeepsThis, sound_keeps_this}
 use Rattle.watch_concerns.proofs.UnaskedVariables.{asked_for_others}
-use Rattle.watch_concerns.proofs.WhoeverLives.{all_at, lives_too}
+use Rattle.watch_concerns.proofs.AnchoredRows.{all_at, lives_too}
 use Rattle.watch_concerns.proofs.WiderTests.{filter_same}
 
 pub the_variable : (u : ℕ) (r : Ref) → is_variable u r ≡ true → r ≡ Var u
 the_variable u (Is d) h = absurd (false≢true h)
 the_variable u (Var s) h = ap Var (eqb-true s u h)
 the_variable u Any h = absurd (false≢true h)
-the_variable u One h = absurd (false≢true h)
+the_variable u AnyOnce h = absurd (false≢true h)
 
 variable_of : (r : Ref) → not (is_constant r) ≡ true → (u : ℕ) × (r ≡ Var u)
 variable_of (Is e) h = absurd (false≢true h)
 variable_of (Var u) h = (u, refl)
 variable_of Any h = absurd (false≢true h)
-variable_of One h = absurd (false≢true h)
+variable_of AnyOnce h = absurd (false≢true h)
 
 -- an id that a pattern matches whose target is a variable is a pair with its entity as the target
 pub to_variable : (a : Assignment) (u x : ℕ) (first : Ref) (target : Option Ref) (i : Id) → may_be_variable u target ≡ true → at a u ≡ Some x → matches a first target i ≡ true → (r : ℕ) × (i ≡ pair r x)
@@ -80,7 +80,7 @@ scoped_term scope (differ u r) h t c = absurd (omega (arith, c.1))
 
 module _ (q : Query) {m n : ℕ} (w v : View) (links : AreLinks m w.entities w.ids) (links' : AreLinks n v.entities v.ids) (e : ℕ)
     (own : filter (concerns q) (w.ids e) ≡ filter (concerns q) (v.ids e))
-    (above : (r x : ℕ) → Contains (line v.ids v.entities r e) x → filter (concerns_below q) (w.ids x) ≡ filter (concerns_below q) (v.ids x)) where
+    (above : (r x : ℕ) → Contains (ancestor_line v.ids v.entities r e) x → filter (concerns_below q) (w.ids x) ≡ filter (concerns_below q) (v.ids x)) where
   -- an entity holds the same in both views of ids for which that of a variable is asked
   abbrev pub IsKnown : ℕ → ℕ → Type 0
   IsKnown u x = filter (asks_for (terms q) u) (w.ids x) ≡ filter (asks_for (terms q) u) (v.ids x)
@@ -108,7 +108,7 @@ module _ (q : Query) {m n : ℕ} (w v : View) (links : AreLinks m w.entities w.i
         reduced z =
             some-first (map (λ m. at_each m (hits z a t m)) (asked z t x))
             ∙ any-map (λ m. at_each m (hits z a t m)) (asked z t x)
-            ∙ (λ k. list_any (λ m. some (at_each m (hits z a t m))) ((if t.on_source then x ∷ [] else []) ++ option_map_or (λ r. line z.ids z.entities r x) (up k) []))
+            ∙ (λ k. list_any (λ m. some (at_each m (hits z a t m))) ((if t.on_source then x ∷ [] else []) ++ option_map_or (λ r. ancestor_line z.ids z.entities r x) (up k) []))
 
         by : (b : Bool) → list_any (λ m. some (at_each m (hits w a t m))) ((if b then x ∷ [] else []) ++ []) ≡ list_any (λ m. some (at_each m (hits v a t m))) ((if b then x ∷ [] else []) ++ [])
         by true = ap (λ is. some (at_each x is) || false) (hits_alike w v a t (asks_for (terms q) u) x asked_of_it known)
@@ -121,7 +121,7 @@ module _ (q : Query) {m n : ℕ} (w v : View) (links : AreLinks m w.entities w.i
         whole : (z : View) → some (fields_of_term z a t) ≡ some (option_map_or (λ s. first_nonempty (map (λ m. at_each m (hits z a t m)) (asked z t s))) (at a u) [])
         whole z =
             λ k. some (option_map_or (λ s.
-            if stored k then closed_fields z (meant a t.first) s (option_map_or (meant a) t.target None)
+            if stored k then closed_fields z (meant a t.component) s (option_map_or (meant a) t.target None)
             else first_nonempty (map (λ m. at_each m (hits z a t m)) (asked z t s))) (meant a (source k)) [])
 
         by : (o : Option ℕ) → at a u ≡ o
@@ -132,16 +132,16 @@ module _ (q : Query) {m n : ℕ} (w v : View) (links : AreLinks m w.entities w.i
 
   -- ---- a term
 
-  asks_itself : (t : Term) → asks_this t ≡ false → t.closed ≡ false → t.source ≡ Var 0 → ⊥
+  asks_itself : (t : Term) → asks_this_stored t ≡ false → t.closed ≡ false → t.source ≡ Var 0 → ⊥
   asks_itself t other stored source =
-      let is : asks_this t ≡ true = λ k. is_first (source k) && not (stored k) in
+      let is : asks_this_stored t ≡ true = λ k. is_first (source k) && not (stored k) in
       true≢false (sym is ∙ other)
 
   term_alike : (a : Assignment) → at a 0 ≡ Some e → (t : Term) → Contains (terms q) t → asks_near t ≡ true → ((u : ℕ) → is_variable u t.source ≡ true → not (u == 0) ≡ true → (x : ℕ) → at a u ≡ Some x → IsKnown u x)
       → some (shown_fields w a t) ≡ some (shown_fields v a t)
   term_alike a this t among near knows = elim (or_cases _ _ near) [
     | inl asks ↦ this_alike q w v links links' e own above a this t among asks
-    | inr parts ↦ elim (cases_Bool (asks_this t)) [
+    | inr parts ↦ elim (cases_Bool (asks_this_stored t)) [
       | inl asks ↦ this_alike q w v links links' e own above a this t among asks
       | inr other ↦
           let outer = and_parts _ _ parts in
@@ -178,7 +178,7 @@ module _ (q : Query) {m n : ℕ} (w v : View) (links : AreLinks m w.entities w.i
       in_source (Is d) h = absurd (false≢true h)
       in_source (Var s) h = or_left (s == u) false h
       in_source Any h = absurd (false≢true h)
-      in_source One h = absurd (false≢true h)
+      in_source AnyOnce h = absurd (false≢true h)
 
   -- those of a group besides
   pub known_within : (scope us : List ℕ) (es : List ℕ) (a b : Assignment) → Extends us es a b → KnowsAll scope a → KnowsAll us b → KnowsAll (scope ++ us) b
@@ -218,11 +218,11 @@ module _ (q : Query) {m n : ℕ} (w v : View) (links : AreLinks m w.entities w.i
     tied_known z same a this t among u x is tie holds =
         let both = and_parts _ _ tie in
         let hit = sym (hits_itself z a e this t both.0) ∙ sym (some-map (λ f. shown z t f ∷ []) (fields_of_term z a t)) ∙ holds in
-        let found = passing (matches a t.first t.target) (z.ids e) hit in
+        let found = passing (matches a t.component t.target) (z.ids e) hit in
         let i : Id = found.0 in
-        let concerned = by_term q t among i (by_match i t (matches_may a t.first t.target i found.2)) in
+        let concerned = by_term q t among i (by_match i t (matches_may a t.component t.target i found.2)) in
         let there = ((filtered (concerns q) (v.ids e) i).0 (subst (λ is. Contains is i) same ((filtered (concerns q) (z.ids e) i).1 (found.1, concerned)))).0 in
-        let r = to_variable a u x t.first t.target i both.1 is found.2 in
+        let r = to_variable a u x t.component t.target i both.1 is found.2 in
         held r.0 x (subst (Contains (v.ids e)) r.1 there) (sym (ap (concerns q) r.1) ∙ concerned)
 
     level_tied : (z : View) → filter (concerns q) (z.ids e) ≡ filter (concerns q) (v.ids e) → (a : Assignment) → at a 0 ≡ Some e → (u x : ℕ) → at a u ≡ Some x

@@ -6,7 +6,7 @@ use Rattle.std.proofs.lemmas.Bool.{and_parts, false≢true, or_right}
 use Rattle.ecs_id.specs.Id.{Id}
 use Rattle.ecs_model.proofs.Members.{any_passes, eq_same, passing}
 use Rattle.query_model.specs.declared.query.Ref.{Ref}
-use Rattle.query_model.specs.declared.query.Ref.TheVariants.{Is, Var, Any, One}
+use Rattle.query_model.specs.declared.query.Ref.TheVariants.{Is, Var, Any, AnyOnce}
 use Rattle.query_model.specs.declared.query.Term.{Term}
 use Rattle.query_model.specs.Observers.{is_first}
 use Rattle.query_model.specs.Query.{Query}
@@ -22,7 +22,7 @@ other_source : (v : ℕ) (r : Ref) → (v == 0) ≡ false → is_variable v r �
 other_source v (Is e) other h = absurd (false≢true h)
 other_source v (Var u) other h = ap (λ (n : ℕ). n == 0) (eq_same u v h) ∙ other
 other_source v Any other h = absurd (false≢true h)
-other_source v One other h = absurd (false≢true h)
+other_source v AnyOnce other h = absurd (false≢true h)
 
 module _ (i : Id) (v : ℕ) (other : (v == 0) ≡ false) where
   of_term : (t : Term) → term_asks_for v i t ≡ true → term_concerns_others i t ≡ true

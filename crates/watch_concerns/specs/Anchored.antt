@@ -3,7 +3,7 @@ use Rattle.std.specs.Prelude.{ℕ, ◌==◌, Bool, false, not, ◌&&◌, ◌||�
 use Rattle.std.specs.Option.{option_map_or}
 use Rattle.ecs_model.specs.rows.Level.{Level}
 use Rattle.query_model.specs.declared.query.Ref.{Ref}
-use Rattle.query_model.specs.declared.query.Ref.TheVariants.{Is, Var, Any, One}
+use Rattle.query_model.specs.declared.query.Ref.TheVariants.{Is, Var, Any, AnyOnce}
 use Rattle.query_model.specs.declared.query.Term.{Term}
 use Rattle.query_model.specs.Query.{Item, Query}
 use Rattle.watch_concerns.specs.Bonds.{are_all_bound, each_must, groups_are_bound, has_directly}
@@ -13,14 +13,14 @@ abbrev pub is_variable : ℕ → Ref → Bool
 is_variable v (Is e) = false
 is_variable v (Var u) = u == v
 is_variable v Any = false
-is_variable v One = false
+is_variable v AnyOnce = false
 
 abbrev pub may_be_variable : ℕ → Option Ref → Bool
 may_be_variable v r = option_map_or (is_variable v) r false
 
 -- whether a term that matches shows a fact about the entity of a variable: of its source, or one that mentions it. A closed term may reach an entity from itself without a fact
 abbrev pub term_anchors : ℕ → Term → Bool
-term_anchors v t = not t.closed && (is_variable v t.source || is_variable v t.first || may_be_variable v t.target)
+term_anchors v t = not t.closed && (is_variable v t.source || is_variable v t.component || may_be_variable v t.target)
 
 -- whether an item holds only where there is such a fact
 abbrev pub item_anchors : ℕ → Item → Bool

@@ -3,9 +3,9 @@ use Rattle.std.specs.Prelude.{ℕ, ◌==◌, Bool, true, false, ◌&&◌, ◌||�
 use Rattle.std.specs.List.{list_any}
 use Rattle.ecs_id.specs.Id.{Id, plain, pair}
 use Rattle.ecs_model.specs.BuiltIns.{transitive, reflexive}
-use Rattle.ecs_model.specs.traits.Rules.{prefab, disabled}
+use Rattle.ecs_model.specs.steps.Rules.{prefab, disabled}
 use Rattle.query_model.specs.declared.query.Ref.{Ref}
-use Rattle.query_model.specs.declared.query.Ref.TheVariants.{Is, Var, Any, One}
+use Rattle.query_model.specs.declared.query.Ref.TheVariants.{Is, Var, Any, AnyOnce}
 use Rattle.query_model.specs.declared.query.Term.{Term}
 use Rattle.query_model.specs.Query.{Query}
 use Rattle.query_check.specs.Terms.{terms}
@@ -15,7 +15,7 @@ abbrev pub may_be : ℕ → Ref → Bool
 may_be e (Is d) = d == e
 may_be e (Var v) = true
 may_be e Any = true
-may_be e One = true
+may_be e AnyOnce = true
 
 -- whether a pattern may match an id; without a target it matches plain ids only
 abbrev pub may_match : Ref → Option Ref → Id → Bool
@@ -36,7 +36,7 @@ leads_up (Some r) i = is_pair_of (Is r) i
 
 -- whether a term asks for an id, goes up along it, or follows it as transitive or reflexive
 abbrev pub term_concerns : Id → Term → Bool
-term_concerns i t = may_match t.first t.target i || leads_up t.up i || (t.closed && is_pair_of t.first i)
+term_concerns i t = may_match t.component t.target i || leads_up t.up i || (t.closed && is_pair_of t.component i)
 
 -- the tags that say how far a relationship reaches, and who is passed over
 abbrev pub is_asked_by_all : Id → Bool

@@ -27,7 +27,7 @@ asks_itself v t = is_variable v t.source && t.on_source && is_none t.up && not t
 
 -- whether these ids lack what an item asks of it that must match
 abbrev pub item_lacks_of : List Id → ℕ → Item → Bool
-item_lacks_of ids v (must t) = asks_itself v t && not (list_any (may_match t.first t.target) ids)
+item_lacks_of ids v (must t) = asks_itself v t && not (list_any (may_match t.component t.target) ids)
 item_lacks_of ids v (may t) = false
 item_lacks_of ids v (either ts) = false
 item_lacks_of ids v (equal u r) = false

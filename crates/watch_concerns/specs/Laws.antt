@@ -5,7 +5,7 @@ use Rattle.ecs_id.specs.Id.{Id, pair}
 use Rattle.query_model.specs.declared.query.Term.{Term}
 use Rattle.query_model.specs.Query.{Query}
 use Rattle.query_check.specs.Terms.{terms}
-use Rattle.ecs_model.specs.Links.{AreLinks, line}
+use Rattle.ecs_model.specs.Links.{AreLinks, ancestor_line}
 use Rattle.ecs_model.specs.rows.View.{View}
 use Rattle.ecs_model.specs.stored.Watches.{matching}
 use Rattle.watch_concerns.specs.Anchored.{is_anchored}
@@ -38,14 +38,14 @@ abbrev pub MatchByOwnFacts : Type 0
 MatchByOwnFacts = (m n : ℕ) (w v : View) (q : Query) → AreLinks m w.entities w.ids → AreLinks n v.entities v.ids → IsSound q → is_anchored q ≡ true
     → ((x : ℕ) → filter (concerns_others q) (w.ids x) ≡ filter (concerns_others q) (v.ids x))
     → (e : ℕ) → filter (concerns q) (w.ids e) ≡ filter (concerns q) (v.ids e)
-    → ((r x : ℕ) → Contains (line v.ids v.entities r e) x → filter (concerns_below q) (w.ids x) ≡ filter (concerns_below q) (v.ids x))
+    → ((r x : ℕ) → Contains (ancestor_line v.ids v.entities r e) x → filter (concerns_below q) (w.ids x) ≡ filter (concerns_below q) (v.ids x))
     → Contains (matching w q) e ↔ Contains (matching v q) e
 
 -- of a tied query the others who matter are those alone with whom the entity holds a pair that concerns it: they hold the same of ids that concern it for others
 abbrev pub MatchByTies : Type 0
 MatchByTies = (m n : ℕ) (w v : View) (q : Query) → AreLinks m w.entities w.ids → AreLinks n v.entities v.ids → IsSound q → is_anchored q ≡ true → is_tied q ≡ true
     → (e : ℕ) → filter (concerns q) (w.ids e) ≡ filter (concerns q) (v.ids e)
-    → ((r x : ℕ) → Contains (line v.ids v.entities r e) x → filter (concerns_below q) (w.ids x) ≡ filter (concerns_below q) (v.ids x))
+    → ((r x : ℕ) → Contains (ancestor_line v.ids v.entities r e) x → filter (concerns_below q) (w.ids x) ≡ filter (concerns_below q) (v.ids x))
     → ((r x : ℕ) → Contains (v.ids e) (pair r x) → concerns q (pair r x) ≡ true → filter (concerns_others q) (w.ids x) ≡ filter (concerns_others q) (v.ids x))
     → Contains (matching w q) e ↔ Contains (matching v q) e
 
@@ -55,7 +55,7 @@ abbrev pub MatchByRoles : Type 0
 MatchByRoles = (m n : ℕ) (w v : View) (q : Query) → AreLinks m w.entities w.ids → AreLinks n v.entities v.ids → IsSound q → is_anchored q ≡ true
     → (by : ℕ → Term → Bool) → is_linked_by by q ≡ true
     → (e : ℕ) → filter (concerns q) (w.ids e) ≡ filter (concerns q) (v.ids e)
-    → ((r x : ℕ) → Contains (line v.ids v.entities r e) x → filter (concerns_below q) (w.ids x) ≡ filter (concerns_below q) (v.ids x))
+    → ((r x : ℕ) → Contains (ancestor_line v.ids v.entities r e) x → filter (concerns_below q) (w.ids x) ≡ filter (concerns_below q) (v.ids x))
     → (all : ℕ → List Id) → ((x : ℕ) (i : Id) → Contains (w.ids x) i → Contains (all x) i) → ((x : ℕ) (i : Id) → Contains (v.ids x) i → Contains (all x) i)
     → (near : ℕ → ℕ → Bool) → near 0 e ≡ true → LeadsOn by q all w near → LeadsOn by q all v near
     → ((u x : ℕ) → (u == 0) ≡ false → near u x ≡ true → may_stand q (all x) u ≡ true → filter (asks_for (terms q) u) (w.ids x) ≡ filter (asks_for (terms q) u) (v.ids x))

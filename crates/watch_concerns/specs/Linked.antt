@@ -4,7 +4,7 @@ use Rattle.std.specs.List.{list_all}
 use Rattle.std.specs.Option.{option_map_or}
 use Rattle.ecs_model.specs.rows.Level.{Level}
 use Rattle.query_model.specs.declared.query.Ref.{Ref}
-use Rattle.query_model.specs.declared.query.Ref.TheVariants.{Is, Var, Any, One}
+use Rattle.query_model.specs.declared.query.Ref.TheVariants.{Is, Var, Any, AnyOnce}
 use Rattle.query_model.specs.declared.query.Term.{Term}
 use Rattle.query_model.specs.Query.{Item, Query}
 use Rattle.query_check.specs.Terms.{terms}
@@ -19,7 +19,7 @@ abbrev pub is_before : ℕ → Ref → Bool
 is_before v (Is e) = false
 is_before v (Var u) = nat_lt u v
 is_before v Any = false
-is_before v One = false
+is_before v AnyOnce = false
 
 abbrev pub may_be_before : ℕ → Option Ref → Bool
 may_be_before v r = option_map_or (is_before v) r false

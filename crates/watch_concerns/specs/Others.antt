@@ -10,12 +10,12 @@ use Rattle.query_check.specs.Terms.{terms}
 use Rattle.watch_concerns.specs.Concerns.{term_concerns}
 
 -- whether a term asks `$this`, itself or its ancestors, for ids that are stored
-abbrev pub asks_this : Term → Bool
-asks_this t = is_first t.source && not t.closed
+abbrev pub asks_this_stored : Term → Bool
+asks_this_stored t = is_first t.source && not t.closed
 
 -- whether an id concerns a term that asks somebody else
 abbrev pub term_concerns_others : Id → Term → Bool
-term_concerns_others i t = not (asks_this t) && term_concerns i t
+term_concerns_others i t = not (asks_this_stored t) && term_concerns i t
 
 -- the tags that say how far a relationship reaches
 abbrev pub says_how_far : Id → Bool
@@ -28,7 +28,7 @@ concerns_others q i = says_how_far i || list_any (term_concerns_others i) (terms
 
 -- whether an id concerns a term that asks the ancestors of `$this`
 abbrev pub term_concerns_below : Id → Term → Bool
-term_concerns_below i t = asks_this t && is_some t.up && term_concerns i t
+term_concerns_below i t = asks_this_stored t && is_some t.up && term_concerns i t
 
 -- whether an id concerns a query for those whose ancestor its holder is, terms inside groups too
 unfoldable pub concerns_below : Query → Id → Bool

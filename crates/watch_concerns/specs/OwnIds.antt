@@ -3,7 +3,7 @@ use Rattle.std.specs.Prelude.{◌==◌, Bool, true, false, not, ◌&&◌, ◌||�
 use Rattle.std.specs.List.{list_any}
 use Rattle.ecs_id.specs.Id.{Id, plain}
 use Rattle.ecs_model.specs.Links.{is_held}
-use Rattle.ecs_model.specs.traits.Rules.{prefab, disabled}
+use Rattle.ecs_model.specs.steps.Rules.{prefab, disabled}
 use Rattle.query_model.specs.Observers.{is_constant, is_constant_target}
 use Rattle.query_model.specs.declared.query.Term.{Term}
 use Rattle.query_model.specs.Local.{asks_first}
@@ -14,7 +14,7 @@ use Rattle.watch_concerns.specs.Concerns.{may_match}
 
 -- whether these ids lack what a term asks of `$this` itself that must match
 abbrev pub item_lacks : List Id → Item → Bool
-item_lacks ids (must t) = asks_first t && not (list_any (may_match t.first t.target) ids)
+item_lacks ids (must t) = asks_first t && not (list_any (may_match t.component t.target) ids)
 item_lacks ids x = false
 
 -- whether they lack it for an item in front of all groups
@@ -32,7 +32,7 @@ lacks q ids = lacks_from ids q.pieces
 
 -- whether one of these ids is what a term without variables asks of `$this` itself
 abbrev pub term_is_met : List Id → Term → Bool
-term_is_met ids t = asks_first t && is_constant t.first && is_constant_target t.target && list_any (may_match t.first t.target) ids
+term_is_met ids t = asks_first t && is_constant t.component && is_constant_target t.target && list_any (may_match t.component t.target) ids
 
 abbrev pub item_is_met : List Id → Item → Bool
 item_is_met ids (must t) = term_is_met ids t

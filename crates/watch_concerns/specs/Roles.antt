@@ -43,11 +43,11 @@ module _ (by : ℕ → Term → Bool) where
 
   -- whether by an id, a pair, such a term may lead from its holder as the entity of u to its target as that of v
   unfoldable pub leads_out : Query → ℕ → ℕ → Id → Bool
-  leads_out q u v i = nat_lt u v && list_any (λ t. by v t && joins u v t && may_match t.first t.target i) (terms q)
+  leads_out q u v i = nat_lt u v && list_any (λ t. by v t && joins u v t && may_match t.component t.target i) (terms q)
 
   -- and whether it may lead from its target as the entity of u to its holder as that of v
   unfoldable pub leads_in : Query → ℕ → ℕ → Id → Bool
-  leads_in q u v i = nat_lt u v && list_any (λ t. by v t && joins v u t && may_match t.first t.target i) (terms q)
+  leads_in q u v i = nat_lt u v && list_any (λ t. by v t && joins v u t && may_match t.component t.target i) (terms q)
 
   -- in a view, all are near to whom a pair leads from somebody near, of those who may stand there by ids that they hold
   pub record LeadsOn (q : Query) (all : ℕ → List Id) (w : View) (near : ℕ → ℕ → Bool) : Type 0 where

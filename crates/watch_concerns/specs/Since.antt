@@ -8,7 +8,7 @@ use Rattle.query_model.specs.Query.{Query}
 use Rattle.ecs_model.specs.declared.watches.EventKind.TheVariants.{Left, Entered, Added, Removed, Written}
 use Rattle.ecs_model.specs.declared.watches.StoredKind.{StoredKind}
 use Rattle.ecs_model.specs.declared.watches.StoredKind.TheVariants.{Kept, Monitor, OnAdd, OnRemove, OnSet}
-use Rattle.ecs_model.specs.Command.{Changed}
+use Rattle.ecs_model.specs.steps.Outcomes.{Changed}
 use Rattle.ecs_model.specs.Map.{count_at}
 use Rattle.ecs_model.specs.Print.{handle_text, entity_text, index_text}
 use Rattle.ecs_model.specs.World.{WorldState, Key, holds, key_eq, value_of}
@@ -16,9 +16,9 @@ use Rattle.ecs_model.specs.rows.Level.{top}
 use Rattle.ecs_model.specs.rows.Rows.{level_mentions}
 use Rattle.ecs_model.specs.rows.View.{view_of}
 use Rattle.ecs_model.specs.stored.Watches.{Event, entity_event, fact_event, matches_term, matching, missing_from, observes}
-use Rattle.ecs_model.specs.traits.Command.{Command, step}
-use Rattle.ecs_model.specs.traits.Keeps.{IsWellFormed}
-use Rattle.ecs_model.specs.traits.Rules.{prefab, disabled}
+use Rattle.ecs_model.specs.steps.Step.{Command, step}
+use Rattle.ecs_model.specs.steps.WellFormed.{IsWellFormed}
+use Rattle.ecs_model.specs.steps.Rules.{prefab, disabled}
 
 -- this has changed by some command, which left this world
 pub record IsAfter (after : WorldState) (changed : Changed) : Type 0 where

@@ -9,13 +9,13 @@ use Rattle.query_model.specs.Query.{Item, Query}
 use Rattle.query_check.specs.Terms.{terms}
 use Rattle.watch_concerns.specs.Anchored.{is_variable, may_be_variable}
 use Rattle.watch_concerns.specs.Bonds.{are_all_bound, each_must, has_directly}
-use Rattle.watch_concerns.specs.Others.{asks_this}
+use Rattle.watch_concerns.specs.Others.{asks_this_stored}
 
 -- ---- who is asked
 
 -- whether a term asks `$this` or its ancestors, or a variable's entity itself, for ids that are stored
 abbrev pub asks_near : Term → Bool
-asks_near t = asks_this t || (not (is_constant t.source) && is_none t.up && not t.closed)
+asks_near t = asks_this_stored t || (not (is_constant t.source) && is_none t.up && not t.closed)
 
 -- whether a term asks the entity of a variable
 abbrev pub term_asks : ℕ → Term → Bool

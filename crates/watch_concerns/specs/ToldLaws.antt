@@ -2,12 +2,12 @@
 use Rattle.std.specs.Prelude.{◌≡◌, ℕ, ◌≤◌, List, Ok}
 use Rattle.query_model.specs.Query.{Query}
 use Rattle.ecs_model.specs.declared.watches.StoredKind.{StoredKind}
-use Rattle.ecs_model.specs.Command.{Changed}
+use Rattle.ecs_model.specs.steps.Outcomes.{Changed}
 use Rattle.ecs_model.specs.World.{WorldState}
 use Rattle.ecs_model.specs.rows.View.{view_of}
 use Rattle.ecs_model.specs.stored.Watches.{matching, told_of}
-use Rattle.ecs_model.specs.traits.Command.{Command, step}
-use Rattle.ecs_model.specs.traits.Keeps.{IsWellFormed}
+use Rattle.ecs_model.specs.steps.Step.{Command, step}
+use Rattle.ecs_model.specs.steps.WellFormed.{IsWellFormed}
 use Rattle.query_meaning.specs.Standing.{WasAsked}
 use Rattle.watch_concerns.specs.Mentions.{times_in}
 use Rattle.watch_concerns.specs.Since.{told_since}

@@ -8,8 +8,8 @@ use Rattle.watch_concerns.specs.declared.whom.Concern.{Concern}
 use Rattle.watch_concerns.specs.Concerns.{concerns, term_concerns}
 use Rattle.watch_concerns.specs.Others.{concerns_below, concerns_others, term_concerns_below, term_concerns_others}
 
-abbrev pub joined : Concern → Concern → Concern
-joined a b = record { anyone = a.anyone || b.anyone; others = a.others || b.others; below = a.below || b.below }
+abbrev pub joined_concerns : Concern → Concern → Concern
+joined_concerns a b = record { anyone = a.anyone || b.anyone; others = a.others || b.others; below = a.below || b.below }
 
 abbrev pub term_concern : Id → Term → Concern
 term_concern i t = record { anyone = term_concerns i t; others = term_concerns_others i t; below = term_concerns_below i t }

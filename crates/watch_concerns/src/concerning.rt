@@ -2,7 +2,7 @@
 
 ghost use Rattle.std.specs.Prelude.{◌≡◌};
 ghost use Rattle.watch_concerns.specs.Concerns.{is_asked_by_all, is_pair_of, leads_up, may_be, may_match, term_concerns};
-ghost use Rattle.watch_concerns.specs.Others.{asks_this, says_how_far};
+ghost use Rattle.watch_concerns.specs.Others.{asks_this_stored, says_how_far};
 
 use ecs_id::Id;
 use ecs_model::built_ins::{DISABLED, PREFAB, REFLEXIVE, TRANSITIVE};
@@ -33,8 +33,8 @@ pub fn says_how_far(id: Id) -> bool
 }
 
 /// Whether a term asks `$this`, itself or its ancestors, for ids that are stored.
-pub(crate) fn asks_this(term: &Term) -> bool
-    ensures { result ≡ asks_this term.now }
+pub(crate) fn asks_this_stored(term: &Term) -> bool
+    ensures { result ≡ asks_this_stored term.now }
 {
     term.source.is_first() && !term.closed
 }
@@ -43,9 +43,9 @@ pub(crate) fn asks_this(term: &Term) -> bool
 pub(crate) fn term_concerns(term: &Term, id: Id) -> bool
     ensures { result ≡ term_concerns id term.now }
 {
-    may_match(term.first, term.target, id)
+    may_match(term.component, term.target, id)
         || leads_up(term.up, id)
-        || (term.closed && is_pair_of(term.first, id))
+        || (term.closed && is_pair_of(term.component, id))
 }
 
 /// Whether a pattern may match an id: a pair where it has a target, and a plain id where it has none.
@@ -79,6 +79,6 @@ fn may_be(index: u32, reference: Ref) -> bool
 {
     match reference {
         Ref::Is(named) => named == index,
-        Ref::Var(_) | Ref::Any | Ref::One => true,
+        Ref::Var(_) | Ref::Any | Ref::AnyOnce => true,
     }
 }

@@ -1,6 +1,7 @@
 //! What is proved of the definitions alone: each function's contract is a law, and its body does nothing.
 
-ghost use Rattle.watch_concerns.specs.Laws.{LackingMatchNothing, MatchByOwnFacts, MatchByRoles, MatchByTies, MatchByWhatConcerns, MatchWhoeverElseLives, MeetingMatch};
+ghost use Rattle.watch_concerns.specs.Laws.{LackingMatchNothing, MatchByOwnFacts, MatchByRoles, MatchByTies, MatchByWhatConcerns, MatchWhoeverElseLives};
+ghost use Rattle.watch_concerns.specs.Laws.{MeetingMatch};
 
 /// Law: where the same entities live and each holds the same ids of those that concern a query, the same entities are `$this` of its rows.
 pub fn queries_match_by_what_concerns_them()

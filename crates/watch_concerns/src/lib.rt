@@ -18,4 +18,4 @@ pub use concerning::{is_asked_by_all, says_how_far};
 pub use linking::is_linked;
 pub use own_ids::{lacks, meets};
 pub use ties::is_tied;
-pub use whom::{Concern, NOBODY, concern_of, joined};
+pub use whom::{Concern, NOBODY, concern_of, joined_concerns};

@@ -63,6 +63,6 @@ fn is_before(reference: Ref, variable: usize) -> bool
 {
     match reference {
         Ref::Var(number) => number < variable,
-        Ref::Is(_) | Ref::Any | Ref::One => false,
+        Ref::Is(_) | Ref::Any | Ref::AnyOnce => false,
     }
 }

@@ -52,9 +52,10 @@ fn item_lacks<A: Allocator>(item: &Item<A>, ids: &[Id]) -> bool
 
 /// Whether a term may match one of these ids.
 pub(crate) fn any_matches(term: &Term, ids: &[Id]) -> bool
-    ensures { result ≡ list_any (may_match term.now.first term.now.target) ids.now }
+    ensures { result ≡ list_any (may_match term.now.component term.now.target) ids.now }
 {
-    ids.iter().any(|id| may_match(term.first, term.target, *id))
+    ids.iter()
+        .any(|id| may_match(term.component, term.target, *id))
 }
 
 /// Whether an entity with these ids meets all that a query asks, by these ids alone: the items outside all groups, while it lacks what some item
@@ -135,7 +136,7 @@ fn term_is_met(term: &Term, ids: &[Id]) -> bool
     ensures { result ≡ term_is_met ids.now term.now }
 {
     term.asks_first()
-        && term.first.is_constant()
+        && term.component.is_constant()
         && term.target.map_or(true, Ref::is_constant)
         && any_matches(term, ids)
 }

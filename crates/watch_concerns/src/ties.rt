@@ -7,7 +7,7 @@ ghost use Rattle.watch_concerns.specs.Tied.{asks_near, is_tied, item_ties, needs
 
 use crate::anchoring::{is_variable, may_be_variable};
 use crate::bonds::{Bond, are_all_bound};
-use crate::concerning::asks_this;
+use crate::concerning::asks_this_stored;
 use query_check::{Item, Query};
 use query_model::query::Term;
 use std::alloc::Allocator;
@@ -34,7 +34,7 @@ pub(crate) fn all_ask_near(terms: &[Term]) -> bool
 fn asks_near(term: &Term) -> bool
     ensures { result ≡ asks_near term.now }
 {
-    asks_this(term) || (!term.source.is_constant() && term.up.is_none() && !term.closed)
+    asks_this_stored(term) || (!term.source.is_constant() && term.up.is_none() && !term.closed)
 }
 
 /// Whether a variable is `$this`, or one whose entity none of these terms asks.

@@ -1,9 +1,9 @@
 //! For whom an id concerns a query.
 
 ghost use Rattle.std.specs.Prelude.{◌≡◌};
-ghost use Rattle.watch_concerns.specs.Whom.{concern_of, joined, term_concern, terms_concern};
+ghost use Rattle.watch_concerns.specs.Whom.{concern_of, joined_concerns, term_concern, terms_concern};
 
-use crate::concerning::{asks_this, is_asked_by_all, says_how_far, term_concerns};
+use crate::concerning::{asks_this_stored, is_asked_by_all, says_how_far, term_concerns};
 use ecs_id::Id;
 use query_check::Query;
 use query_model::query::Term;
@@ -39,13 +39,13 @@ pub fn concern_of<A: Allocator>(query: &Query<A>, id: Id) -> Concern
         others: says_how_far(id),
         below: false,
     };
-    joined(of_tags, of_terms(query.terms(), id))
+    joined_concerns(of_tags, of_terms(query.terms(), id))
 }
 
 /// For whom either does.
 #[inline(always)]
-pub fn joined(one: Concern, other: Concern) -> Concern
-    ensures { result ≡ joined one other }
+pub fn joined_concerns(one: Concern, other: Concern) -> Concern
+    ensures { result ≡ joined_concerns one other }
 {
     Concern {
         anyone: one.anyone | other.anyone,
@@ -59,7 +59,7 @@ fn of_terms(terms: &[Term], id: Id) -> Concern
 {
     let mut found = NOBODY;
     for term in terms {
-        found = joined(found, of_term(term, id));
+        found = joined_concerns(found, of_term(term, id));
     }
     found
 }
@@ -71,7 +71,7 @@ fn of_term(term: &Term, id: Id) -> Concern
     if !term_concerns(term, id) {
         return NOBODY;
     }
-    let this = asks_this(term);
+    let this = asks_this_stored(term);
     Concern {
         anyone: true,
         others: !this,

@@ -1,7 +1,7 @@
 pub mod BinarySearches
 pub mod Numbers
 pub mod OrderedChanges
-pub mod ByTerm
+pub mod ObserverTerms
 pub mod ToldLists
-pub mod EachKind
+pub mod StoredKinds
 pub mod MissedTerms

@@ -5,7 +5,7 @@ use Rattle.std.proofs.Common.{◌≡◌, ℕ, Bool, false, ◌&&◌, List, [], �
 use Rattle.ecs_model.specs.declared.watches.EventKind.TheVariants.{Added, Written}
 use Rattle.ecs_model.specs.declared.watches.StoredKind.{StoredKind}
 use Rattle.ecs_model.specs.declared.watches.StoredKind.TheVariants.{Kept, Monitor, OnAdd, OnRemove, OnSet}
-use Rattle.ecs_model.specs.Command.{Changed}
+use Rattle.ecs_model.specs.steps.Outcomes.{Changed}
 use Rattle.ecs_model.specs.World.{Key, WorldState, value_of}
 use Rattle.ecs_model.specs.rows.Rows.{matches}
 use Rattle.ecs_model.specs.stored.Watches.{fact_event, matches_term, only_term}
@@ -23,8 +23,8 @@ none_both p q (x ∷ xs) none =
     ap (λ b. cond (b && q x) (x ∷ filter (λ y. p y && q y) xs) (filter (λ y. p y && q y) xs)) parts.0 ∙ none_both p q xs parts.1
 
 -- what a query asks is what its one term asks
-pub by_term : (q : Query) (o : Option Term) (ks : List Key) → o ≡ only_term q.pieces → list_any (λ k. option_map_or (λ t. matches [] t.first t.target k.1) o false) ks ≡ any_matches q ks
-by_term q o ks e = ap (λ x. list_any (λ k. option_map_or (λ (t : Term). matches [] t.first t.target k.1) x false) ks) e
+pub by_term : (q : Query) (o : Option Term) (ks : List Key) → o ≡ only_term q.pieces → list_any (λ k. option_map_or (λ t. matches [] t.component t.target k.1) o false) ks ≡ any_matches q ks
+by_term q o ks e = ap (λ x. list_any (λ k. option_map_or (λ (t : Term). matches [] t.component t.target k.1) x false) ks) e
 
 pub none_match : (ks : List Key) → false ≡ list_any (λ k. false) ks
 none_match [] = refl

@@ -7,13 +7,13 @@ use Rattle.std.specs.FinMap.Entries.{below_all, is_sorted-where_key}
 use Rattle.std.specs.declared.cmp.Ordering.{Ordering}
 use Rattle.std.specs.declared.cmp.Ordering.TheVariants.{Less}
 use Rattle.std.proofs.Common.{◌≡◌, ℕ, Bool, true, not, List, [], ◌∷◌, map, refl, sym, ap, subst, ◌∙◌, Option}
-use Rattle.ecs_model.specs.Command.{Changed, counted, differences}
+use Rattle.ecs_model.specs.steps.Outcomes.{Changed, counted, differences}
 use Rattle.ecs_model.specs.Map.{Map, has_key, keys, without}
 use Rattle.ecs_model.specs.World.{WorldState, Key, key_cmp, is_live, name_of}
-use Rattle.ecs_model.specs.traits.Command.{effect, written_by}
-use Rattle.ecs_model.specs.traits.Keeps.{IsWellFormed}
+use Rattle.ecs_model.specs.steps.Step.{effect, written_by}
+use Rattle.ecs_model.specs.steps.WellFormed.{IsWellFormed}
 use Rattle.ecs_model.proofs.Maps.{both_true, from_T, to_T, less}
-use Rattle.ecs_model.proofs.traits.Order.{accepted_step}
+use Rattle.ecs_model.proofs.steps.RefusalNumbers.{accepted_step}
 use Rattle.watch_concerns.specs.Since.{Dead, IsAfter}
 
 module _ {K X : Type 0} (R : K → K → Ordering) where

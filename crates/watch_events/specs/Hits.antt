@@ -4,7 +4,7 @@ use Rattle.std.specs.List.{list_any}
 use Rattle.query_model.specs.Query.{Query}
 use Rattle.ecs_model.specs.declared.watches.StoredKind.{StoredKind}
 use Rattle.ecs_model.specs.declared.watches.StoredKind.TheVariants.{Kept, Monitor, OnAdd, OnRemove, OnSet}
-use Rattle.ecs_model.specs.Command.{Changed}
+use Rattle.ecs_model.specs.steps.Outcomes.{Changed}
 use Rattle.ecs_model.specs.World.{Key}
 use Rattle.ecs_model.specs.stored.Watches.{matches_term}
 

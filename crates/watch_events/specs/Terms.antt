@@ -4,20 +4,20 @@ use Rattle.ecs_id.specs.Id.{Id, plain}
 use Rattle.query_model.specs.declared.query.Term.{Term}
 use Rattle.ecs_model.specs.declared.watches.EventKind.{EventKind}
 use Rattle.ecs_model.specs.declared.watches.EventKind.TheVariants.{Written}
-use Rattle.ecs_model.specs.Command.{Changed}
+use Rattle.ecs_model.specs.steps.Outcomes.{Changed}
 use Rattle.ecs_model.specs.World.{WorldState, Key, value_of}
-use Rattle.ecs_model.specs.rows.Rows.{asks_this, matches}
-use Rattle.ecs_model.specs.traits.Rules.{prefab, disabled}
+use Rattle.ecs_model.specs.rows.Rows.{asks_tag_of_this, matches}
+use Rattle.ecs_model.specs.steps.Rules.{prefab, disabled}
 
 -- by which ids an entity holds
 module _ (held : ℕ → Id → Bool) where
   -- whether an entity has the tag, and the term doesn't ask for it
   abbrev pub has_unasked : Term → ℕ → ℕ → Bool
-  has_unasked t tag e = held e (plain tag) && not (asks_this tag t)
+  has_unasked t tag e = held e (plain tag) && not (asks_tag_of_this tag t)
 
   -- whether an observer with the term is told of a fact
   abbrev pub tells : Term → Key → Bool
-  tells t k = matches [] t.first t.target k.1 && not (has_unasked t prefab k.0 || has_unasked t disabled k.0)
+  tells t k = matches [] t.component t.target k.1 && not (has_unasked t prefab k.0 || has_unasked t disabled k.0)
 
 -- the facts that are told as added, or as set
 abbrev pub told_facts : Changed → EventKind → List Key

@@ -1,6 +1,6 @@
 -- What is told to a monitor.
 use Rattle.std.specs.Prelude.{ℕ, List, ◌++◌, map}
-use Rattle.ecs_model.specs.Command.{Changed}
+use Rattle.ecs_model.specs.steps.Outcomes.{Changed}
 use Rattle.ecs_model.specs.declared.watches.EventKind.TheVariants.{Entered}
 use Rattle.ecs_model.specs.World.{WorldState}
 use Rattle.ecs_model.specs.stored.Watches.{Event, entity_event}

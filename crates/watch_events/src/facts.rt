@@ -10,7 +10,7 @@ ghost use Rattle.watch_events.specs.Terms.{has_unasked, tells, told_facts, told_
 
 use crate::event::{Event, push_event};
 use crate::telling::Audience;
-use crate::terms::{asks_this, matches, only_term};
+use crate::terms::{asks_tag_of_this, matches, only_term};
 use crate::text::Text;
 use crate::texts::{entity_now, entity_text, id_text};
 use ecs_id::Id;
@@ -77,7 +77,7 @@ fn has_unasked<A: Allocator>(world: &World<A>, term: &Term, tag: u32, entity: u3
     requires { IsIndex tag }
     ensures { result ≡ has_unasked (holds world.now.state) term.now tag entity }
 {
-    world.has(entity, Id::plain(tag)) && !asks_this(term, tag)
+    world.has(entity, Id::plain(tag)) && !asks_tag_of_this(term, tag)
 }
 
 /// The event of a fact, by the world after the command.

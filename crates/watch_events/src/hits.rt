@@ -47,7 +47,7 @@ fn any_matches<A: Allocator>(query: &Query<A>, facts: &[FactKey]) -> bool
 /// Whether a term matches the id of one of these facts.
 #[inline(always)]
 fn any_fits(term: &Term, facts: &[FactKey]) -> bool
-    ensures { result ≡ list_any (λ k. matches [] term.now.first term.now.target k.1) facts.now }
+    ensures { result ≡ list_any (λ k. matches [] term.now.component term.now.target k.1) facts.now }
 {
     facts.iter().any(|fact| matches(term, fact.id()))
 }

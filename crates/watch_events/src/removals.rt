@@ -9,7 +9,7 @@ ghost use Rattle.watch_events.specs.Terms.{has_unasked, tells};
 use crate::before::{entity_before, entity_text_before, held_before, id_text_before};
 use crate::event::{Event, push_event};
 use crate::telling::Audience;
-use crate::terms::{asks_this, matches, only_term};
+use crate::terms::{asks_tag_of_this, matches, only_term};
 use crate::text::Text;
 use ecs_id::Id;
 use ecs_model::FactKey;
@@ -77,7 +77,7 @@ fn had_unasked<A: Allocator>(
     requires tag { IsIndex tag }
     ensures { result ≡ has_unasked (held_before world.now.state changes.now) term.now tag entity }
 {
-    held_before(world, changes, entity, Id::plain(tag)) && !asks_this(term, tag)
+    held_before(world, changes, entity, Id::plain(tag)) && !asks_tag_of_this(term, tag)
 }
 
 /// The event of a fact that went, by the names before the command.

@@ -2,7 +2,7 @@
 
 ghost use Rattle.std.specs.Prelude.{◌≡◌, []};
 ghost use Rattle.std.specs.Option.{option_copied};
-ghost use Rattle.ecs_model.specs.rows.Rows.{asks_this, fits, matches};
+ghost use Rattle.ecs_model.specs.rows.Rows.{asks_tag_of_this, fits, matches};
 ghost use Rattle.ecs_model.specs.stored.Watches.{only_term};
 
 use ecs_id::Id;
@@ -22,11 +22,11 @@ pub(crate) fn only_term<A: Allocator>(query: &Query<A>) -> Option<&Term>
 
 /// Whether a term matches an id. A variable stands for nothing here.
 pub(crate) fn matches(term: &Term, id: Id) -> bool
-    ensures { result ≡ matches [] term.now.first term.now.target id }
+    ensures { result ≡ matches [] term.now.component term.now.target id }
 {
     match (term.target, id.second()) {
-        (None, None) => fits(term.first, id.first()),
-        (Some(target), Some(second)) => fits(term.first, id.first()) && fits(target, second),
+        (None, None) => fits(term.component, id.first()),
+        (Some(target), Some(second)) => fits(term.component, id.first()) && fits(target, second),
         _ => false,
     }
 }
@@ -37,15 +37,15 @@ fn fits(reference: Ref, entity: u32) -> bool
     match reference {
         Ref::Is(index) => index == entity,
         Ref::Var(_) => false,
-        Ref::Any | Ref::One => true,
+        Ref::Any | Ref::AnyOnce => true,
     }
 }
 
 /// Whether a term asks `$this` for a tag.
-pub(crate) fn asks_this(term: &Term, tag: u32) -> bool
-    ensures { result ≡ asks_this tag term.now }
+pub(crate) fn asks_tag_of_this(term: &Term, tag: u32) -> bool
+    ensures { result ≡ asks_tag_of_this tag term.now }
 {
-    match (term.first, term.target, term.source) {
+    match (term.component, term.target, term.source) {
         (Ref::Is(component), None, Ref::Var(number)) => component == tag && number == 0,
         _ => false,
     }

@@ -105,7 +105,7 @@ part_either : (e : ℕ) (a : Ref) → may_be e a ≡ true → (part_of a ≡ par
 part_either e (ref.Is d) h = inl (ap part.Is ((Decides-eqb d e).0 h))
 part_either e (ref.Var v) h = inr refl
 part_either e ref.Any h = inr refl
-part_either e ref.One h = inr refl
+part_either e ref.AnyOnce h = inr refl
 
 module _ (way : Way) where
   matched : (first : Ref) (target : Option Ref) (i : Id) → may_match first target i ≡ true → is_among (facts_of way i) (Fact way (pattern_of first target)) ≡ true
@@ -153,28 +153,28 @@ module _ (way : Way) where
   up_meets None i h = absurd (true≢false (sym h))
   up_meets (Some r) i h = one_meets (pairs_of (part.Is r)) i (matched (ref.Is r) (Some ref.Any) i (pairs_matched (ref.Is r) i h))
 
-  closed_meets : (t : Term) (i : Id) → (t.closed && is_pair_of t.first i) ≡ true → meets (closed_occasions way t) (facts_of way i) ≡ true
+  closed_meets : (t : Term) (i : Id) → (t.closed && is_pair_of t.component i) ≡ true → meets (closed_occasions way t) (facts_of way i) ≡ true
   closed_meets t i h =
-      let parts = and_parts t.closed (is_pair_of t.first i) h in
-      ap (λ b. meets (if b then Fact way (pairs_of (part_of t.first)) ∷ [] else []) (facts_of way i)) parts.0
-      ∙ one_meets (pairs_of (part_of t.first)) i (matched t.first (Some ref.Any) i (pairs_matched t.first i parts.1))
+      let parts = and_parts t.closed (is_pair_of t.component i) h in
+      ap (λ b. meets (if b then Fact way (pairs_of (part_of t.component)) ∷ [] else []) (facts_of way i)) parts.0
+      ∙ one_meets (pairs_of (part_of t.component)) i (matched t.component (Some ref.Any) i (pairs_matched t.component i parts.1))
 
-  match_meets : (t : Term) (i : Id) → may_match t.first t.target i ≡ true → meets (term_occasions way t) (facts_of way i) ≡ true
+  match_meets : (t : Term) (i : Id) → may_match t.component t.target i ≡ true → meets (term_occasions way t) (facts_of way i) ≡ true
   match_meets t i h =
-      meets_left (facts_of way i) (Fact way (pattern_of t.first t.target) ∷ []) (up_occasions way t.up ++ closed_occasions way t)
-      (one_meets (pattern_of t.first t.target) i (matched t.first t.target i h))
+      meets_left (facts_of way i) (Fact way (pattern_of t.component t.target) ∷ []) (up_occasions way t.up ++ closed_occasions way t)
+      (one_meets (pattern_of t.component t.target) i (matched t.component t.target i h))
 
   term_meets : (t : Term) (i : Id) → term_concerns i t ≡ true → meets (term_occasions way t) (facts_of way i) ≡ true
-  term_meets t i h = by (may_match t.first t.target i) (leads_up t.up i) (t.closed && is_pair_of t.first i) refl refl refl h
+  term_meets t i h = by (may_match t.component t.target i) (leads_up t.up i) (t.closed && is_pair_of t.component i) refl refl refl h
     where
-      by : (a b c : Bool) → may_match t.first t.target i ≡ a → leads_up t.up i ≡ b → (t.closed && is_pair_of t.first i) ≡ c → (a || b || c) ≡ true
+      by : (a b c : Bool) → may_match t.component t.target i ≡ a → leads_up t.up i ≡ b → (t.closed && is_pair_of t.component i) ≡ c → (a || b || c) ≡ true
           → meets (term_occasions way t) (facts_of way i) ≡ true
       by true b c ea eb ec h = match_meets t i ea
       by false true c ea eb ec h =
-          meets_right (facts_of way i) (Fact way (pattern_of t.first t.target) ∷ []) (up_occasions way t.up ++ closed_occasions way t)
+          meets_right (facts_of way i) (Fact way (pattern_of t.component t.target) ∷ []) (up_occasions way t.up ++ closed_occasions way t)
           (meets_left (facts_of way i) (up_occasions way t.up) (closed_occasions way t) (up_meets t.up i eb))
       by false false true ea eb ec h =
-          meets_right (facts_of way i) (Fact way (pattern_of t.first t.target) ∷ []) (up_occasions way t.up ++ closed_occasions way t)
+          meets_right (facts_of way i) (Fact way (pattern_of t.component t.target) ∷ []) (up_occasions way t.up ++ closed_occasions way t)
           (meets_right (facts_of way i) (up_occasions way t.up) (closed_occasions way t) (closed_meets t i ec))
       by false false false ea eb ec h = absurd (true≢false (sym h))
 
@@ -183,7 +183,7 @@ module _ (way : Way) where
   may_fit e (ref.Is d) h = h
   may_fit e (ref.Var v) h = refl
   may_fit e ref.Any h = refl
-  may_fit e ref.One h = refl
+  may_fit e ref.AnyOnce h = refl
 
   may_matches : (first : Ref) (target : Option Ref) (i : Id) → matches [] first target i ≡ true → may_match first target i ≡ true
   may_matches first None (plain c) h = may_fit c first h
@@ -193,9 +193,9 @@ module _ (way : Way) where
       let parts = and_parts (fits [] r first) (fits [] t target) h in
       rw (may_fit r first parts.0, may_fit t target parts.1) refl
 
-  observed_meets : (ps : List Piece) (i : Id) → option_map_or (λ t. matches [] t.first t.target i) (only_term ps) false ≡ true → meets (flat_map (term_occasions way) (flat_map piece_terms ps)) (facts_of way i) ≡ true
+  observed_meets : (ps : List Piece) (i : Id) → option_map_or (λ t. matches [] t.component t.target i) (only_term ps) false ≡ true → meets (flat_map (term_occasions way) (flat_map piece_terms ps)) (facts_of way i) ≡ true
   observed_meets [] i h = absurd (true≢false (sym h))
-  observed_meets (item (must t) ∷ []) i h = meets_left (facts_of way i) (term_occasions way t) [] (match_meets t i (may_matches t.first t.target i h))
+  observed_meets (item (must t) ∷ []) i h = meets_left (facts_of way i) (term_occasions way t) [] (match_meets t i (may_matches t.component t.target i h))
   observed_meets (item (must t) ∷ p ∷ ps) i h = absurd (true≢false (sym h))
   observed_meets (item (may t) ∷ ps) i h = absurd (true≢false (sym h))
   observed_meets (item (either ts) ∷ ps) i h = absurd (true≢false (sym h))

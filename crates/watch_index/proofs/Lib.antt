@@ -5,7 +5,7 @@ mod GatheredNumbers
 mod ConcernedNumbers
 mod WordNumbers
 mod MarkChanges
-pub mod NamesPlaced
+pub mod NamePlaces
 mod IndexedValues
 mod WatchPlaces
-pub mod WatchWritten
+pub mod WrittenWatches

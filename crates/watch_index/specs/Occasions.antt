@@ -27,7 +27,7 @@ abbrev pub part_of : Ref → Part
 part_of (ref.Is e) = part.Is e
 part_of (ref.Var v) = part.Any
 part_of ref.Any = part.Any
-part_of ref.One = part.Any
+part_of ref.AnyOnce = part.Any
 
 -- the ids that a term may match
 abbrev pub pattern_of : Ref → Option Ref → Pattern
@@ -45,10 +45,10 @@ module _ (way : Way) where
 
   -- those that a closed term follows
   abbrev pub closed_occasions : Term → List Occasion
-  closed_occasions t = if t.closed then Fact way (pairs_of (part_of t.first)) ∷ [] else []
+  closed_occasions t = if t.closed then Fact way (pairs_of (part_of t.component)) ∷ [] else []
 
   abbrev pub term_occasions : Term → List Occasion
-  term_occasions t = Fact way (pattern_of t.first t.target) ∷ (up_occasions t.up ++ closed_occasions t)
+  term_occasions t = Fact way (pattern_of t.component t.target) ∷ (up_occasions t.up ++ closed_occasions t)
 
 -- of a monitor: facts that its terms may match or follow, those that concern every query, and lives, unless its query is anchored
 abbrev pub of_monitors : Query → List Occasion

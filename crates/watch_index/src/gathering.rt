@@ -36,7 +36,8 @@ pub(crate) fn gather<A: Allocator + Copy>(
     numbers: &mut ShortNumbers<A>,
 ) -> Result<(), AllocError>
     requires empty { numbers.old.items ≡ [] }
-    ensures { OnOk result (numbers.new.items ≡ flat_map (listed index.now) (happening happened.entry.lives (happened.entry.came).now (happened.entry.went).now (happened.entry.written).now)) }
+    ensures { OnOk result (numbers.new.items ≡ flat_map (listed index.now)
+        (happening happened.entry.lives (happened.entry.came).now (happened.entry.went).now (happened.entry.written).now)) }
 {
     push_lives(index, happened.lives, numbers)?;
     push_moved(index, happened.came, numbers)?;

@@ -76,7 +76,9 @@ impl<A: Allocator + Copy> WatchIndex<A> {
     ) -> Result<(), AllocError>
         requires empty { numbers.old.items ≡ [] }
         ensures ascend { OnOk result (IsStrictlyIncreasing numbers.new.items) }
-        ensures exact { OnOk result ((n : ℕ) → Contains numbers.new.items n ↔ Contains (flat_map (listed self.now) (happening happened.entry.lives (happened.entry.came).now (happened.entry.went).now (happened.entry.written).now)) n) }
+        ensures exact { OnOk result ((n : ℕ) → Contains numbers.new.items n
+            ↔ Contains (flat_map (listed self.now) (happening happened.entry.lives (happened.entry.came).now (happened.entry.went).now
+            (happened.entry.written).now)) n) }
     {
         gather(self, happened, numbers)?;
         put_in_order(numbers);

@@ -82,12 +82,12 @@ fn push_term<A: Allocator>(
 ) -> Result<(), AllocError>
     ensures { OnOk result (found.new.items ≡ found.old.items ++ term_occasions way term.now) }
 {
-    found.push(Occasion::Fact(way, pattern_of(term.first, term.target)))?;
+    found.push(Occasion::Fact(way, pattern_of(term.component, term.target)))?;
     if let Some(relationship) = term.up {
         found.push(Occasion::Fact(way, pairs_of(Part::Is(relationship))))?;
     }
     if term.closed {
-        found.push(Occasion::Fact(way, pairs_of(part_of(term.first))))?;
+        found.push(Occasion::Fact(way, pairs_of(part_of(term.component))))?;
     }
     Ok(())
 }
@@ -118,6 +118,6 @@ fn part_of(reference: Ref) -> Part
 {
     match reference {
         Ref::Is(index) => Part::Is(index),
-        Ref::Var(_) | Ref::Any | Ref::One => Part::Any,
+        Ref::Var(_) | Ref::Any | Ref::AnyOnce => Part::Any,
     }
 }

@@ -91,7 +91,8 @@ impl<V, A: Allocator + Copy> WatchOrder<V, A> {
         requires empty { places.old.items ≡ [] }
         ensures ascend { OnOk result (IsStrictlyIncreasing places.new.items) }
         ensures within { OnOk result (All (λ i. i < length self.now.order.made.items) places.new.items) }
-        ensures led { OnOk result (AreLed self.now.order.made.items (happening happened.entry.lives (happened.entry.came).now (happened.entry.went).now (happened.entry.written).now) places.new.items) }
+        ensures led { OnOk result (AreLed self.now.order.made.items
+            (happening happened.entry.lives (happened.entry.came).now (happened.entry.went).now (happened.entry.written).now) places.new.items) }
     {
         let mut numbers = ShortNumbers::new();
         self.index.led(happened, &mut numbers)?;

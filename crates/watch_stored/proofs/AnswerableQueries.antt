@@ -11,12 +11,12 @@ use Rattle.ecs_model.specs.declared.watches.StoredKind.TheVariants.{Kept, Monito
 use Rattle.ecs_model.specs.rows.Rows.{rows}
 use Rattle.ecs_model.specs.rows.View.{view_of}
 use Rattle.ecs_model.specs.stored.Watches.{is_this, matching}
-use Rattle.ecs_model.specs.traits.Keeps.{IsWellFormed}
+use Rattle.ecs_model.specs.steps.WellFormed.{IsWellFormed}
 use Rattle.query_model.specs.Local.{is_local}
 use Rattle.query_model.specs.Query.{Query}
 use Rattle.query_meaning.specs.Sound.{IsSound}
 use Rattle.query_meaning.specs.Standing.{IsCurrentIn, WasAsked}
-use Rattle.query_meaning.proofs.CheckedSound.{checked_queries_are_sound}
+use Rattle.query_meaning.proofs.CheckedQueries.{checked_queries_are_sound}
 use Rattle.query_meaning.proofs.LiveNames.{current_queries_name_the_living}
 use Rattle.query_meaning.proofs.RisingQueries.{current_queries_go_up_without_cycles, current_queries_order_without_cycles}
 use Rattle.query_answers.proofs.Worlds.{worlds_ascend}

@@ -3,13 +3,13 @@ use Rattle.std.specs.Prelude.{◌≡◌, ℕ, true, false, ◌&&◌, List, if◌
 use Rattle.std.specs.List.Sorted.{IsStrictlyIncreasing}
 use Rattle.std.proofs.Common.{refl, sym, ap, subst, ◌∙◌, true≢false}
 use Rattle.std.proofs.lemmas.Bool.{and_parts}
-use Rattle.ecs_model.specs.Command.{Changed}
+use Rattle.ecs_model.specs.steps.Outcomes.{Changed}
 use Rattle.ecs_model.specs.World.{WorldState}
 use Rattle.ecs_model.specs.declared.watches.StoredKind.{StoredKind}
 use Rattle.ecs_model.specs.declared.watches.StoredKind.TheVariants.{Kept, Monitor, OnAdd, OnRemove, OnSet}
 use Rattle.ecs_model.specs.rows.View.{View, view_of}
 use Rattle.ecs_model.specs.stored.Watches.{matching, missing_from}
-use Rattle.ecs_model.specs.traits.Keeps.{IsWellFormed}
+use Rattle.ecs_model.specs.steps.WellFormed.{IsWellFormed}
 use Rattle.query_model.specs.Local.{is_local}
 use Rattle.query_model.specs.Query.{Query}
 use Rattle.query_local.specs.Touched.{AreTouched, Touch}

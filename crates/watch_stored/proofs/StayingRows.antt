@@ -3,20 +3,20 @@ use Rattle.std.specs.Prelude.{◌≡◌, ℕ, ◌==◌, Bool, true, false, cond,
 use Rattle.std.specs.List.{list_any}
 use Rattle.std.proofs.Common.{refl, ap, sym, ◌∙◌, true≢false}
 use Rattle.std.proofs.lemmas.Bool.{and_parts, not-true, or_left, or_right}
-use Rattle.ecs_model.specs.Command.{Changed}
+use Rattle.ecs_model.specs.steps.Outcomes.{Changed}
 use Rattle.ecs_model.specs.World.{WorldState}
 use Rattle.ecs_model.specs.declared.watches.EventKind.TheVariants.{Entered}
 use Rattle.ecs_model.specs.declared.watches.StoredKind.{StoredKind}
 use Rattle.ecs_model.specs.declared.watches.StoredKind.TheVariants.{Kept, Monitor, OnAdd, OnRemove, OnSet}
 use Rattle.ecs_model.specs.rows.View.{view_of}
 use Rattle.ecs_model.specs.stored.Watches.{entity_event, matching, missing_from}
-use Rattle.ecs_model.specs.traits.Keeps.{IsWellFormed}
+use Rattle.ecs_model.specs.steps.WellFormed.{IsWellFormed}
 use Rattle.ecs_model.proofs.Members.{eq_itself}
 use Rattle.query_model.specs.Local.{is_local}
 use Rattle.query_model.specs.Query.{Query}
 use Rattle.watch_touched.specs.Before.{view_before}
 use Rattle.watch_touched.specs.Concerned.{is_concerned}
-use Rattle.watch_touched.specs.Moving.{is_followed}
+use Rattle.watch_touched.specs.Moving.{finds_moving}
 use Rattle.watch_touched.proofs.UnconcernedCommands.{unconcerned_queries_match_on}
 use Rattle.watch_concerns.specs.Since.{IsAfter, left_event, told_since}
 use Rattle.watch_events.specs.Hits.{may_tell}
@@ -92,19 +92,19 @@ isnt_searched changed h other = ap (λ b. b && is_concerned h.query changed) oth
 
 -- of which the whole rows aren't taken
 pub spared_isnt_taken : (changed : Changed) (h : Held) → is_searched changed h ≡ false → is_taken_whole changed h ≡ true → ⊥
-spared_isnt_taken changed h spared whole = true≢false (sym whole ∙ ap (λ b. b && not (is_followed h.query changed)) spared)
+spared_isnt_taken changed h spared whole = true≢false (sym whole ∙ ap (λ b. b && not (finds_moving h.query changed)) spared)
 
 -- nor of one in whose place no rows are put
 pub unput_isnt_taken : (w : WorldState) (changed : Changed) (h : Held) → rows_put w changed h ≡ None → is_taken_whole changed h ≡ false
 unput_isnt_taken w changed h none = by (is_searched changed h) refl
   where
     by : (b : Bool) → is_searched changed h ≡ b → is_taken_whole changed h ≡ false
-    by false e = ap (λ b. b && not (is_followed h.query changed)) e
+    by false e = ap (λ b. b && not (finds_moving h.query changed)) e
     by true e = absurd (true≢false (ap is_some (sym (ap (λ b. if b then Some (matching (view_of w) h.query) else None) e) ∙ none)))
 
 -- where they are taken, it can't be told who may have moved
-pub taken_isnt_followed : (changed : Changed) (h : Held) → is_taken_whole changed h ≡ true → is_followed h.query changed ≡ false
-taken_isnt_followed changed h whole = not-true (is_followed h.query changed) (and_parts (is_searched changed h) (not (is_followed h.query changed)) whole).1
+pub taken_isnt_followed : (changed : Changed) (h : Held) → is_taken_whole changed h ≡ true → finds_moving h.query changed ≡ false
+taken_isnt_followed changed h whole = not-true (finds_moving h.query changed) (and_parts (is_searched changed h) (not (finds_moving h.query changed)) whole).1
 
 -- what may be told nothing isn't compared
 pub untold_isnt : (changed : Changed) (h : Held) → may_tell changed h.kind h.query ≡ false → is_compared h ≡ false

@@ -8,13 +8,13 @@ use Rattle.query_meaning.specs.declared.steps.Step.{Step}
 use Rattle.query_meaning.specs.Standing.{IsCurrentIn}
 use Rattle.ecs_model.specs.declared.watches.StoredKind.{StoredKind}
 use Rattle.ecs_model.specs.declared.watches.StoredKind.TheVariants.{Monitor}
-use Rattle.ecs_model.specs.Command.{Changed}
+use Rattle.ecs_model.specs.steps.Outcomes.{Changed}
 use Rattle.ecs_model.specs.World.{WorldState}
 use Rattle.ecs_model.specs.rows.View.{view_of}
 use Rattle.ecs_model.specs.stored.Watches.{Event, matching, watched}
 use Rattle.watch_touched.specs.Before.{view_before}
 use Rattle.watch_touched.specs.Concerned.{is_concerned}
-use Rattle.watch_touched.specs.Moving.{is_followed}
+use Rattle.watch_touched.specs.Moving.{finds_moving}
 use Rattle.watch_concerns.specs.Since.{told_since}
 
 -- a stored query as it is held: a monitor with the entities of its rows as they were told last, unless its query is local; a kept query with the list of its tables; the steps by which its rows are found; and the serial of the newest table when they were planned
@@ -53,7 +53,7 @@ is_searched changed h = is_compared h && is_concerned h.query changed
 
 -- whether it can't be told, too, who may have moved in or out of its rows, so that all of them are taken and compared
 abbrev pub is_taken_whole : Changed → Held → Bool
-is_taken_whole changed h = is_searched changed h && not (is_followed h.query changed)
+is_taken_whole changed h = is_searched changed h && not (finds_moving h.query changed)
 
 -- of a monitor the entities of its rows before a command: of a local query they follow from what has changed, of another they are held
 abbrev pub rows_before : WorldState → Changed → Held → List ℕ

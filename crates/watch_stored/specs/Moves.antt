@@ -1,7 +1,7 @@
 -- What is told of who may have moved in or out of the rows of a monitor.
 use Rattle.std.specs.Prelude.{◌≡◌, ◌==◌, ◌&&◌, ℕ, Bool, List, [], None, is_none, not}
 use Rattle.std.specs.List.{list_any}
-use Rattle.ecs_model.specs.Command.{Changed}
+use Rattle.ecs_model.specs.steps.Outcomes.{Changed}
 use Rattle.ecs_model.specs.World.{WorldState}
 use Rattle.ecs_model.specs.stored.Watches.{matching}
 use Rattle.query_model.specs.Query.{Query}

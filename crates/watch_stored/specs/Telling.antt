@@ -1,7 +1,7 @@
 -- What telling a monitor needs of the entities that a command touched.
 use Rattle.std.specs.Prelude.{List, map}
 use Rattle.std.specs.List.Sorted.{IsStrictlyIncreasing}
-use Rattle.ecs_model.specs.Command.{Changed}
+use Rattle.ecs_model.specs.steps.Outcomes.{Changed}
 use Rattle.ecs_model.specs.World.{WorldState}
 use Rattle.ecs_model.specs.rows.View.{view_of}
 use Rattle.query_local.specs.Touched.{AreTouched, touch_of}

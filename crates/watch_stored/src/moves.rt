@@ -10,7 +10,7 @@ ghost use Rattle.watch_stored.specs.Parts.{kept_rows};
 ghost use Rattle.query_meaning.specs.Standing.{IsCurrentIn};
 ghost use Rattle.watch_touched.specs.Before.{view_before};
 ghost use Rattle.watch_touched.specs.Concerned.{is_concerned};
-ghost use Rattle.watch_touched.specs.Moving.{is_followed};
+ghost use Rattle.watch_touched.specs.Moving.{finds_moving};
 ghost use Rattle.watch_concerns.specs.Since.{IsAfter};
 
 use crate::asking::{found_among, is_found};
@@ -50,8 +50,9 @@ impl<A: Allocator> RowsAfter<A> {
     }
 }
 
-/// Whether a command concerns the query of a monitor that isn't local; and if so, its moves are put in the place of none. Where all who may have moved are found,
-/// their ids or a search tell who of them is in the rows; else all rows are taken, counted, and compared. The room for searches is for any queries, one after another.
+/// Whether a command concerns the query of a monitor that isn't local; and if so, its moves are put in the place of none. Where all who may have
+/// moved are found, their ids or a search tell who of them is in the rows; else all rows are taken, counted, and compared. The room for searches is
+/// for any queries, one after another.
 ///
 /// Fails where memory is refused.
 pub(crate) fn rows_after<A: Allocator + Copy>(
@@ -68,11 +69,15 @@ pub(crate) fn rows_after<A: Allocator + Copy>(
     requires was { query.now.these.items ≡ matching (view_before world.now.state changes.now) (query.now.plan).query }
     requires none { AreNoMoves rows.old }
     ensures concerned { IfOk result (λ concerned. concerned ≡ is_concerned (query.now.plan).query changes.now) }
-    ensures left { IfOk result (λ concerned. concerned ≡ true → rows.new.left.items ≡ missing_from query.now.these.items (matching (view_of world.now.state) (query.now.plan).query)) }
-    ensures entered { IfOk result (λ concerned. concerned ≡ true → rows.new.entered.items ≡ missing_from (matching (view_of world.now.state) (query.now.plan).query) query.now.these.items) }
-    ensures these { IfOk result (λ concerned. concerned ≡ true → (kept_rows rows.new query.now.these).items ≡ matching (view_of world.now.state) (query.now.plan).query) }
+    ensures left { IfOk result (λ concerned. concerned ≡ true → rows.new.left.items
+        ≡ missing_from query.now.these.items (matching (view_of world.now.state) (query.now.plan).query)) }
+    ensures entered { IfOk result (λ concerned. concerned ≡ true
+        → rows.new.entered.items ≡ missing_from (matching (view_of world.now.state) (query.now.plan).query) query.now.these.items) }
+    ensures these { IfOk result (λ concerned. concerned ≡ true → (kept_rows rows.new query.now.these).items
+        ≡ matching (view_of world.now.state) (query.now.plan).query) }
     ensures compared { is_concerned (query.now.plan).query changes.now ≡ false → compared.new ≡ compared.old }
-    ensures counted { is_followed (query.now.plan).query changes.now ≡ false → is_concerned (query.now.plan).query changes.now ≡ true → OnOk result (compared.new ≡ min (compared.old + 1) 18446744073709551615) }
+    ensures counted { finds_moving (query.now.plan).query changes.now ≡ false → is_concerned (query.now.plan).query changes.now ≡ true
+        → OnOk result (compared.new ≡ min (compared.old + 1) 18446744073709551615) }
     ensures grows { compared.old ≤ compared.new }
     ensures few { compared.new ≤ compared.old + 1 }
 {
@@ -135,8 +140,10 @@ fn push_moves<A: Allocator + Copy>(
 ) -> Result<(), AllocError>
     requires current { IsCurrentIn world.now.state (query.now.plan).query }
     requires ascend { IsStrictlyIncreasing moving.now }
-    ensures left { OnOk result (left.new.items ≡ left.old.items ++ filter (leaves query.now.these.items (matching (view_of world.now.state) (query.now.plan).query)) moving.now) }
-    ensures entered { OnOk result (entered.new.items ≡ entered.old.items ++ filter (enters query.now.these.items (matching (view_of world.now.state) (query.now.plan).query)) moving.now) }
+    ensures left { OnOk result (left.new.items ≡ left.old.items
+        ++ filter (leaves query.now.these.items (matching (view_of world.now.state) (query.now.plan).query)) moving.now) }
+    ensures entered { OnOk result (entered.new.items ≡ entered.old.items
+        ++ filter (enters query.now.these.items (matching (view_of world.now.state) (query.now.plan).query)) moving.now) }
 {
     if moving.len() <= FEW {
         return push_each(alloc, world, query, room, moving, left, entered);
@@ -155,8 +162,10 @@ fn push_each<A: Allocator + Copy>(
     entered: &mut ShortList<A>,
 ) -> Result<(), AllocError>
     requires current { IsCurrentIn world.now.state (query.now.plan).query }
-    ensures left { OnOk result (left.new.items ≡ left.old.items ++ filter (leaves query.now.these.items (matching (view_of world.now.state) (query.now.plan).query)) moving.now) }
-    ensures entered { OnOk result (entered.new.items ≡ entered.old.items ++ filter (enters query.now.these.items (matching (view_of world.now.state) (query.now.plan).query)) moving.now) }
+    ensures left { OnOk result (left.new.items ≡ left.old.items
+        ++ filter (leaves query.now.these.items (matching (view_of world.now.state) (query.now.plan).query)) moving.now) }
+    ensures entered { OnOk result (entered.new.items ≡ entered.old.items
+        ++ filter (enters query.now.these.items (matching (view_of world.now.state) (query.now.plan).query)) moving.now) }
 {
     for entity in moving {
         let is = is_in_rows(alloc, world, &query.plan, room, *entity)?;
@@ -195,8 +204,10 @@ fn push_searched<A: Allocator + Copy>(
 ) -> Result<(), AllocError>
     requires current { IsCurrentIn world.now.state (query.now.plan).query }
     requires ascend { IsStrictlyIncreasing moving.now }
-    ensures left { OnOk result (left.new.items ≡ left.old.items ++ filter (leaves query.now.these.items (matching (view_of world.now.state) (query.now.plan).query)) moving.now) }
-    ensures entered { OnOk result (entered.new.items ≡ entered.old.items ++ filter (enters query.now.these.items (matching (view_of world.now.state) (query.now.plan).query)) moving.now) }
+    ensures left { OnOk result (left.new.items ≡ left.old.items
+        ++ filter (leaves query.now.these.items (matching (view_of world.now.state) (query.now.plan).query)) moving.now) }
+    ensures entered { OnOk result (entered.new.items ≡ entered.old.items
+        ++ filter (enters query.now.these.items (matching (view_of world.now.state) (query.now.plan).query)) moving.now) }
 {
     let asked = query.plan.asked();
     let mut untold = ShortList::new();
@@ -238,7 +249,8 @@ fn is_told_or_found<A: Allocator>(
 ) -> bool
     requires sound { IsSound asked.now }
     requires ascend { IsStrictlyIncreasing found.now }
-    requires found { is_untold asked.now world.now.state entity ≡ true → is_among found.now entity ≡ is_among (matching (view_of world.now.state) asked.now) entity }
+    requires found { is_untold asked.now world.now.state entity ≡ true
+        → is_among found.now entity ≡ is_among (matching (view_of world.now.state) asked.now) entity }
     ensures { result ≡ is_among (matching (view_of world.now.state) asked.now) entity }
 {
     match told_by_ids(asked, world, entity) {

@@ -17,7 +17,8 @@ use query_local::{Touched, local_told};
 use std::alloc::{AllocError, Allocator};
 use watch_events::{Audience, Event, Moves, may_tell, tell, tell_moves};
 
-/// Puts what the stored query at a place is told behind other events, and behind those of others the moves of its rows, unless they stay. Counts the whole rows taken.
+/// Puts what the stored query at a place is told behind other events, and behind those of others the moves of its rows, unless they stay. Counts the
+/// whole rows taken.
 ///
 /// Fails where memory is refused, and then the first of these events may stand behind the others.
 pub fn tell_one<A: Allocator + Copy>(
@@ -37,11 +38,14 @@ pub fn tell_one<A: Allocator + Copy>(
     requires held { IsHeld world.now.state (held_as (string_bytes name.now) query.now) }
     requires was { WasNow world.now.state changes.now (held_as (string_bytes name.now) query.now) }
     requires touched { is_told_locally (held_as (string_bytes name.now) query.now) ≡ true → AreTouchedBy world.now.state changes.now touched.now }
-    ensures rows { OnOk result (IsPut (rows_put world.now.state changes.now (held_as (string_bytes name.now) query.now)) place query.now rows.old.items rows.new.items) }
+    ensures rows { OnOk result (IsPut (rows_put world.now.state changes.now (held_as (string_bytes name.now) query.now)) place query.now rows.old.items
+        rows.new.items) }
     ensures told { OnOk result (events.new.items ≡ events.old.items ++ told_to world.now.state changes.now (held_as (string_bytes name.now) query.now)) }
-    ensures front { OnErr result (StopsWithin events.old.items events.new.items (told_to world.now.state changes.now (held_as (string_bytes name.now) query.now))) }
+    ensures front { OnErr result (StopsWithin events.old.items events.new.items
+        (told_to world.now.state changes.now (held_as (string_bytes name.now) query.now))) }
     ensures compared { is_searched changes.now (held_as (string_bytes name.now) query.now) ≡ false → compared.new ≡ compared.old }
-    ensures counted { is_taken_whole changes.now (held_as (string_bytes name.now) query.now) ≡ true → OnOk result (compared.new ≡ min (compared.old + 1) 18446744073709551615) }
+    ensures counted { is_taken_whole changes.now (held_as (string_bytes name.now) query.now) ≡ true
+        → OnOk result (compared.new ≡ min (compared.old + 1) 18446744073709551615) }
     ensures grows { compared.old ≤ compared.new }
     ensures few { compared.new ≤ compared.old + 1 }
 {
@@ -85,7 +89,8 @@ fn tell_uncompared<A: Allocator + Copy>(
     requires uncompared { is_compared (held_as (string_bytes name.now) query.now) ≡ false }
     requires touched { is_told_locally (held_as (string_bytes name.now) query.now) ≡ true → AreTouchedBy world.now.state changes.now touched.now }
     ensures told { OnOk result (events.new.items ≡ events.old.items ++ told_to world.now.state changes.now (held_as (string_bytes name.now) query.now)) }
-    ensures front { OnErr result (StopsWithin events.old.items events.new.items (told_to world.now.state changes.now (held_as (string_bytes name.now) query.now))) }
+    ensures front { OnErr result (StopsWithin events.old.items events.new.items
+        (told_to world.now.state changes.now (held_as (string_bytes name.now) query.now))) }
 {
     if !may_tell(query.kind, query.plan.query(), changes) {
         return Ok(());
@@ -118,9 +123,11 @@ fn tell_compared<A: Allocator + Copy>(
     requires none { AreNoMoves rows.old }
     ensures rows { IfOk result (λ put. put_in put rows.new query.now.these ≡ rows_put world.now.state changes.now (held_as (string_bytes name.now) query.now)) }
     ensures told { OnOk result (events.new.items ≡ events.old.items ++ told_to world.now.state changes.now (held_as (string_bytes name.now) query.now)) }
-    ensures front { OnErr result (StopsWithin events.old.items events.new.items (told_to world.now.state changes.now (held_as (string_bytes name.now) query.now))) }
+    ensures front { OnErr result (StopsWithin events.old.items events.new.items
+        (told_to world.now.state changes.now (held_as (string_bytes name.now) query.now))) }
     ensures compared { is_searched changes.now (held_as (string_bytes name.now) query.now) ≡ false → compared.new ≡ compared.old }
-    ensures counted { is_taken_whole changes.now (held_as (string_bytes name.now) query.now) ≡ true → OnOk result (compared.new ≡ min (compared.old + 1) 18446744073709551615) }
+    ensures counted { is_taken_whole changes.now (held_as (string_bytes name.now) query.now) ≡ true
+        → OnOk result (compared.new ≡ min (compared.old + 1) 18446744073709551615) }
     ensures grows { compared.old ≤ compared.new }
     ensures few { compared.new ≤ compared.old + 1 }
 {
@@ -148,7 +155,8 @@ fn tell_observer<A: Allocator + Copy>(
     requires after { IsAfter world.now.state changes.now }
     requires observes { is_monitor query.now.kind ≡ false }
     ensures told { OnOk result (events.new.items ≡ events.old.items ++ told_to world.now.state changes.now (held_as (string_bytes name.now) query.now)) }
-    ensures front { OnErr result (StopsWithin events.old.items events.new.items (told_to world.now.state changes.now (held_as (string_bytes name.now) query.now))) }
+    ensures front { OnErr result (StopsWithin events.old.items events.new.items
+        (told_to world.now.state changes.now (held_as (string_bytes name.now) query.now))) }
 {
     let audience = Audience {
         name: name.as_bytes(),
@@ -172,7 +180,8 @@ fn tell_locally<A: Allocator + Copy>(
     requires local { is_told_locally (held_as (string_bytes name.now) query.now) ≡ true }
     requires touched { AreTouchedBy world.now.state changes.now touched.now }
     ensures told { OnOk result (events.new.items ≡ events.old.items ++ told_to world.now.state changes.now (held_as (string_bytes name.now) query.now)) }
-    ensures front { OnErr result (StopsWithin events.old.items events.new.items (told_to world.now.state changes.now (held_as (string_bytes name.now) query.now))) }
+    ensures front { OnErr result (StopsWithin events.old.items events.new.items
+        (told_to world.now.state changes.now (held_as (string_bytes name.now) query.now))) }
 {
     world.keeps();
     let told = local_told(alloc, query.plan.query(), touched)?;

@@ -17,7 +17,7 @@ use Rattle.watch_concerns.specs.OwnIds.{lacks, meets}
 use Rattle.watch_concerns.proofs.LackedIds.{lacking_match_nothing}
 use Rattle.watch_concerns.proofs.MetIds.{meeting_match}
 use Rattle.watch_touched.specs.Moving.{told_by_ids}
-use Rattle.watch_touched.proofs.AllTouched.{listed_lives}
+use Rattle.watch_touched.proofs.TouchedEntities.{listed_lives}
 
 -- who lives is listed
 listed : (v : WorldState) (e : ℕ) → is_live v e ≡ true → Contains (entities v) e

@@ -7,22 +7,22 @@ use Rattle.std.specs.Ordering.{nat_cmp}
 use Rattle.std.proofs.Common.{refl, sym, ap, subst, ◌∙◌, true≢false, Bor}
 use Rattle.ecs_archetypes.proofs.DeadEntities.{none_in}
 use Rattle.ecs_id.specs.Id.{Id, id_cmp, id_eq}
-use Rattle.ecs_model.specs.Command.{Changed, differences}
+use Rattle.ecs_model.specs.steps.Outcomes.{Changed, differences}
 use Rattle.ecs_model.specs.Map.{has_key, value_at}
 use Rattle.ecs_id.specs.declared.EntityId.{EntityId}
 use Rattle.ecs_model.specs.World.{WorldState, Key, entity_at, ids_of, is_alive, is_live, key_cmp, key_eq}
 use Rattle.ecs_model.specs.rows.View.{view_of}
-use Rattle.ecs_model.specs.traits.Command.{written_by}
-use Rattle.ecs_model.specs.traits.Keeps.{IsWellFormed}
+use Rattle.ecs_model.specs.steps.Step.{written_by}
+use Rattle.ecs_model.specs.steps.WellFormed.{IsWellFormed}
 use Rattle.ecs_model.proofs.Members.{eq_itself}
-use Rattle.ecs_model.proofs.traits.Facts.{held_listed, listed_held}
+use Rattle.ecs_model.proofs.steps.Facts.{held_listed, listed_held}
 use Rattle.query_local.specs.Touched.{AreTouched, held_in}
 use Rattle.watch_concerns.specs.Since.{IsAfter}
 use Rattle.watch_touched.specs.Before.{is_born, view_before}
 use Rattle.watch_touched.specs.Indexes.{indexes_of, touch_at}
 use Rattle.watch_touched.proofs.IdsBefore.{sorted_are_before}
 use Rattle.watch_touched.proofs.RisingIds.{left_rise}
-use Rattle.watch_touched.proofs.AllTouched.{are_touched, listed_lives, new_is_told, old_is_told}
+use Rattle.watch_touched.proofs.TouchedEntities.{are_touched, listed_lives, new_is_told, old_is_told}
 use Rattle.watch_touched.proofs.WorldBefore.{differs, shown_before}
 
 gone_rise : (w v : WorldState) (written : List Key) → IsWellFormed w → IsStrictlySortedBy key_cmp (differences w v written).went

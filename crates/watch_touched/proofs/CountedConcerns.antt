@@ -4,7 +4,7 @@ use Rattle.std.proofs.Common.{arith, refl, ap, sym, true≢false, ◌∙◌}
 use Rattle.std.proofs.lemmas.Bool.{and_parts, not-true, or_right}
 use Rattle.std.proofs.lemmas.Bool.Decides.{nat_tests}
 use Rattle.ecs_id.specs.Id.{Id}
-use Rattle.ecs_model.specs.Command.{Changed}
+use Rattle.ecs_model.specs.steps.Outcomes.{Changed}
 use Rattle.ecs_model.specs.World.{Key}
 use Rattle.query_model.specs.Query.{Query}
 use Rattle.watch_concerns.specs.Anchored.{is_anchored}
@@ -14,7 +14,7 @@ use Rattle.watch_concerns.specs.Others.{concerns_others}
 use Rattle.watch_concerns.specs.Tied.{is_tied}
 use Rattle.watch_touched.specs.Bonds.{bonds_of}
 use Rattle.watch_touched.specs.Concerned.{any_concerns, has_births_or_deaths, is_concerned}
-use Rattle.watch_touched.specs.Moving.{any_by, are_holders, entities_by, entities_of, is_followed}
+use Rattle.watch_touched.specs.Moving.{any_by, are_holders, entities_by, entities_of, finds_moving}
 use Rattle.watch_touched.specs.declared.bonds.Bonds.{Bonds}
 
 not_none : (n : ℕ) → (suc n == 0) ≡ false
@@ -78,7 +78,7 @@ module _ (q : Query) (changed : Changed) (bonds : Bonds) (are_bonds : bonds ≡ 
       → (told : Bool) → told ≡ ((count == 0) && (bonds.anchored || not (has_births_or_deaths changed))) → told ≡ false → is_concerned q changed ≡ false → ⊥
   somebody_concerned own are counted told is fails none = true≢false (sym (is ∙ nobody_concerned own are counted ∙ ap not none) ∙ fails)
 
-  pub all_followed : (others : List ℕ) → others ≡ entities_of (concerns_others q) changed → count ≡ length others → (bonds.anchored && (bonds.tied || bonds.linked || (count == 0))) ≡ is_followed q changed
+  pub all_followed : (others : List ℕ) → others ≡ entities_of (concerns_others q) changed → count ≡ length others → (bonds.anchored && (bonds.tied || bonds.linked || (count == 0))) ≡ finds_moving q changed
   all_followed others are counted =
       (λ i. (are_bonds i).anchored && ((are_bonds i).tied || (are_bonds i).linked || (counted i == 0)))
       ∙ (λ i. is_anchored q && (is_tied q || is_linked q || (length (are i) == 0)))
@@ -91,7 +91,7 @@ module _ (q : Query) (changed : Changed) (bonds : Bonds) (are_bonds : bonds ≡ 
       ∙ ap (λ none. is_tied q || none) (none_of (concerns_others q) changed)
 
   -- where facts concern others of a query that isn't tied, and all that may move can be found, it is linked
-  pub linked_if_others : (others : List ℕ) → others ≡ entities_of (concerns_others q) changed → count ≡ length others → is_followed q changed ≡ true → (bonds.tied || (count == 0)) ≡ false → is_linked q ≡ true
+  pub linked_if_others : (others : List ℕ) → others ≡ entities_of (concerns_others q) changed → count ≡ length others → finds_moving q changed ≡ true → (bonds.tied || (count == 0)) ≡ false → is_linked q ≡ true
   linked_if_others others are counted followed far =
       let told = and_parts _ _ (all_followed others are counted ∙ followed) in
       sym (ap (λ (b : Bonds). b.linked) are_bonds) ∙ linked_of bonds.tied bonds.linked (count == 0) told.1 far

@@ -9,15 +9,15 @@ use Rattle.std.proofs.lemmas.List.Kept.{Contains-dedup, Contains-from_dedup, IsS
 use Rattle.std.proofs.lemmas.List.Sorted.{Contains-permutation, IsPermutation-sym}
 use Rattle.std.proofs.lemmas.Map.Views.{Contains-from_any, list_any-from_Contains}
 use Rattle.ecs_id.specs.Id.{Id, id_cmp, id_cmp_same, id_cmp_total, id_eq, id_eq_equiv, id_eq_same}
-use Rattle.ecs_model.specs.Command.{Changed}
+use Rattle.ecs_model.specs.steps.Outcomes.{Changed}
 use Rattle.ecs_model.specs.World.{WorldState, Key, key_cmp, key_eq, holds, ids_of}
-use Rattle.ecs_model.specs.traits.Command.{Command, step}
-use Rattle.ecs_model.specs.traits.Keeps.{IsWellFormed}
+use Rattle.ecs_model.specs.steps.Step.{Command, step}
+use Rattle.ecs_model.specs.steps.WellFormed.{IsWellFormed}
 use Rattle.ecs_model.proofs.Maps.{key_cmp_total}
 use Rattle.ecs_model.proofs.Members.{eq_itself, eq_same, filtered}
-use Rattle.ecs_model.proofs.traits.Adding.{from_map, in_map}
-use Rattle.ecs_model.proofs.traits.Facts.{held_listed, listed_held}
-use Rattle.ecs_model.proofs.traits.Replacing.{key_eq_same}
+use Rattle.ecs_model.proofs.steps.AddedSets.{from_map, in_map}
+use Rattle.ecs_model.proofs.steps.Facts.{held_listed, listed_held}
+use Rattle.ecs_model.proofs.steps.ReplacedFacts.{key_eq_same}
 use Rattle.watch_touched.proofs.RisingIds.{ids_rise, keys_rise, one_list}
 use Rattle.watch_touched.proofs.WorldBefore.{has_gone, is_new}
 

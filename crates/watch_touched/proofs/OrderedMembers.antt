@@ -11,7 +11,7 @@ use Rattle.std.proofs.Math.Bool.{or-false}
 use Rattle.ecs_model.specs.Map.{Map, IsMap, has_key, keys, value_at, without}
 use Rattle.ecs_model.specs.Sets.{Set, with_member}
 use Rattle.ecs_model.proofs.Maps.{IsMap-with_value}
-use Rattle.ecs_model.proofs.traits.SameKeys.{keys-left, same_keys}
+use Rattle.ecs_model.proofs.steps.SameKeys.{keys-left, same_keys}
 use Rattle.watch_touched.specs.Before.{in_order}
 
 one_first : (a b c : Bool) → (a || (b || c)) ≡ ((b || a) || c)

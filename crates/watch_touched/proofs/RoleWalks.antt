@@ -8,13 +8,13 @@ use Rattle.std.proofs.lemmas.List.Elements.{Contains-append_cases, Contains-appe
 use Rattle.component_index.specs.Patterns.{matches}
 use Rattle.component_index.specs.declared.pattern.Pattern.{Pattern}
 use Rattle.ecs_id.specs.Id.{Id, plain, pair}
-use Rattle.ecs_model.specs.Command.{Changed}
+use Rattle.ecs_model.specs.steps.Outcomes.{Changed}
 use Rattle.ecs_model.specs.World.{WorldState, Key, entities, ids_of}
 use Rattle.ecs_model.proofs.Members.{any_passes, eq_itself, filtered, from_flat_map, head_or_tail, in_flat_map, passing}
-use Rattle.ecs_model.proofs.traits.Adding.{from_map, in_map}
+use Rattle.ecs_model.proofs.steps.AddedSets.{from_map, in_map}
 use Rattle.query_check.specs.Terms.{terms}
 use Rattle.query_model.specs.declared.query.Ref.{Ref}
-use Rattle.query_model.specs.declared.query.Ref.TheVariants.{Is, Var, Any, One}
+use Rattle.query_model.specs.declared.query.Ref.TheVariants.{Is, Var, Any, AnyOnce}
 use Rattle.query_model.specs.declared.query.Term.{Term}
 use Rattle.query_model.specs.Query.{Query}
 use Rattle.watch_asked.specs.Asked.{IsAskedBy, TellsIdle, any_counts_as, asked_by, counts, counts_as, steps_between, steps_by, steps_of}
@@ -22,7 +22,7 @@ use Rattle.watch_asked.specs.declared.asked.AskedOf.{AskedOf}
 use Rattle.watch_asked.specs.declared.asked.AskedTerms.{AskedTerms}
 use Rattle.watch_asked.specs.declared.steps.LinkStep.{LinkStep}
 use Rattle.watch_asked.proofs.LinkSteps.{in_step, out_step}
-use Rattle.watch_asked.proofs.RolesAsked.{asked_counts}
+use Rattle.watch_asked.proofs.AskedRoles.{asked_counts}
 use Rattle.watch_concerns.specs.Idle.{asks_for}
 use Rattle.watch_concerns.specs.OwnIds.{lacks}
 use Rattle.watch_concerns.specs.Roles.{leads_in, may_stand}
@@ -31,7 +31,7 @@ use Rattle.watch_touched.specs.Moving.{ids_around, may_be_this}
 use Rattle.watch_touched.specs.Roles.{behind, holders_as, holds_as, ids_of_both, is_asked_of, roles_behind, roles_of, roles_of_fact, stands_for, targets_as, this_among}
 use Rattle.watch_touched.specs.Steps.{behind_gone, behind_target, found_behind, found_from, gone_target, leads_by, may_be_as, may_be_by, step_back, targets_back}
 use Rattle.watch_touched.proofs.GrownLists.{already, and_then, fewer}
-use Rattle.watch_touched.proofs.MovingByRoles.{is_this_among, of_this, this_behind}
+use Rattle.watch_touched.proofs.MovingRoles.{is_this_among, of_this, this_behind}
 use Rattle.watch_touched.proofs.RolesBehind.{passes_target}
 use Rattle.watch_touched.proofs.StayingRoles.{asked_of_holder}
 
@@ -63,17 +63,17 @@ by_rises : (r : Ref) (o : Option Ref) (p : Pattern) (s : LinkStep) → Contains 
 by_rises (Var u) (Some (Var v)) p s h = between_rises u v p s h
 by_rises (Var u) (Some (Is e)) p s h = absurd (omega (arith, h.1))
 by_rises (Var u) (Some Any) p s h = absurd (omega (arith, h.1))
-by_rises (Var u) (Some One) p s h = absurd (omega (arith, h.1))
+by_rises (Var u) (Some AnyOnce) p s h = absurd (omega (arith, h.1))
 by_rises (Var u) None p s h = absurd (omega (arith, h.1))
 by_rises (Is e) o p s h = absurd (omega (arith, h.1))
 by_rises Any o p s h = absurd (omega (arith, h.1))
-by_rises One o p s h = absurd (omega (arith, h.1))
+by_rises AnyOnce o p s h = absurd (omega (arith, h.1))
 
 term_rises : (t : Term) (s : LinkStep) → Contains (steps_of t) s → s.from < s.to
 term_rises t s h = by (is_none t.up && not t.closed) h
   where
-    by : (b : Bool) → Contains (if b then steps_by t.source t.target (asked_by t.first t.target) else []) s → s.from < s.to
-    by true c = by_rises t.source t.target (asked_by t.first t.target) s c
+    by : (b : Bool) → Contains (if b then steps_by t.source t.target (asked_by t.component t.target) else []) s → s.from < s.to
+    by true c = by_rises t.source t.target (asked_by t.component t.target) s c
     by false c = absurd (omega (arith, c.1))
 
 pub steps_rise : {A : Type 0} (q : Query) (asked : AskedTerms A) → IsAskedBy q asked → (s : LinkStep) → Contains asked.steps.items s → s.from < s.to

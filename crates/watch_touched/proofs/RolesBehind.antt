@@ -7,7 +7,7 @@ use Rattle.std.proofs.lemmas.List.Elements.{Contains-append_cases, Contains-appe
 use Rattle.std.proofs.lemmas.List.FromFn.{get_or-range_with_len, length-range_with_len}
 use Rattle.component_index.specs.Patterns.{matches}
 use Rattle.ecs_id.specs.Id.{Id, plain, pair}
-use Rattle.ecs_model.specs.Command.{Changed}
+use Rattle.ecs_model.specs.steps.Outcomes.{Changed}
 use Rattle.ecs_model.specs.World.{WorldState, Key, entities, ids_of}
 use Rattle.ecs_model.proofs.Members.{filtered, from_flat_map, head_or_tail, in_flat_map, passing}
 use Rattle.query_model.specs.declared.query.Term.{Term}

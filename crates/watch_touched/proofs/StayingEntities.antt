@@ -7,18 +7,18 @@ use Rattle.std.proofs.lemmas.Bool.{and_from, and_parts, cases_Bool, false≢true
 use Rattle.std.proofs.lemmas.List.Kept.{IsStrictlySortedBy-filter}
 use Rattle.std.proofs.lemmas.List.Elements.{Contains-append_left, Contains-append_right}
 use Rattle.ecs_id.specs.Id.{Id, pair, id_cmp, id_cmp_same, id_cmp_total, last_index}
-use Rattle.ecs_model.specs.Command.{Changed}
-use Rattle.ecs_model.specs.Links.{AreLinks, line, target_under, upward}
+use Rattle.ecs_model.specs.steps.Outcomes.{Changed}
+use Rattle.ecs_model.specs.Links.{AreLinks, ancestor_line, target_under, upward}
 use Rattle.ecs_model.specs.Reach.{HasChain, Reached, itself, onward}
 use Rattle.ecs_model.specs.World.{WorldState, Key, entities, holds, ids_of, key_cmp, key_eq}
 use Rattle.ecs_model.specs.rows.View.{View, view_of}
 use Rattle.ecs_model.specs.stored.Watches.{matching}
-use Rattle.ecs_model.specs.traits.Keeps.{IsWellFormed}
+use Rattle.ecs_model.specs.steps.WellFormed.{IsWellFormed}
 use Rattle.ecs_model.proofs.Members.{any_passes, eq_itself, eq_same, filtered, from_filter_map, from_or}
 use Rattle.ecs_model.proofs.ReachSteps.{chain_reached}
-use Rattle.ecs_model.proofs.traits.Adding.{in_map}
-use Rattle.ecs_model.proofs.traits.Facts.{held_listed, listed_held}
-use Rattle.ecs_model.proofs.traits.Kept.{are_links, refuted}
+use Rattle.ecs_model.proofs.steps.AddedSets.{in_map}
+use Rattle.ecs_model.proofs.steps.Facts.{held_listed, listed_held}
+use Rattle.ecs_model.proofs.steps.LivingIds.{are_links, refuted}
 use Rattle.ecs_model.proofs.LivePairs.{of_pair}
 use Rattle.component_index.specs.Patterns.{matches}
 use Rattle.query_model.specs.Query.{Query}
@@ -204,7 +204,7 @@ module _ (v : WorldState) (changed : Changed) (kept_now : IsWellFormed v) (after
       -- as all do where no such fact came or went
       record AreAlike (w u : View) : Type 0 where
         own : filter (concerns q) (w.ids e) ≡ filter (concerns q) (u.ids e)
-        above : (r x : ℕ) → Contains (line u.ids u.entities r e) x → filter (concerns_below q) (w.ids x) ≡ filter (concerns_below q) (u.ids x)
+        above : (r x : ℕ) → Contains (ancestor_line u.ids u.entities r e) x → filter (concerns_below q) (w.ids x) ≡ filter (concerns_below q) (u.ids x)
         held : is_tied q ≡ true → (r x : ℕ) → Contains (u.ids e) (pair r x) → concerns q (pair r x) ≡ true → filter (concerns_others q) (w.ids x) ≡ filter (concerns_others q) (u.ids x)
         others : any_concerns_others q changed.came ≡ false → any_concerns_others q changed.went ≡ false → (x : ℕ) → filter (concerns_others q) (w.ids x) ≡ filter (concerns_others q) (u.ids x)
 

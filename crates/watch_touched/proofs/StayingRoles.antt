@@ -5,16 +5,16 @@ use Rattle.std.proofs.Common.{◌<◌, refl, sym, ap, subst, ◌∙◌, inl, inr
 use Rattle.std.proofs.lemmas.Bool.{and_from, and_parts, cases_Bool, eq-eqb, eqb-true, ltb-true, not-true}
 use Rattle.std.proofs.lemmas.List.Elements.{Contains-append_left, Contains-append_right}
 use Rattle.ecs_id.specs.Id.{Id, pair, last_index}
-use Rattle.ecs_model.specs.Command.{Changed}
-use Rattle.ecs_model.specs.Links.{line}
+use Rattle.ecs_model.specs.steps.Outcomes.{Changed}
+use Rattle.ecs_model.specs.Links.{ancestor_line}
 use Rattle.ecs_model.specs.World.{WorldState, Key, entities, holds, ids_of, key_eq}
 use Rattle.ecs_model.specs.rows.View.{View, view_of}
 use Rattle.ecs_model.specs.stored.Watches.{matching}
-use Rattle.ecs_model.specs.traits.Keeps.{IsWellFormed}
+use Rattle.ecs_model.specs.steps.WellFormed.{IsWellFormed}
 use Rattle.ecs_model.proofs.Members.{any_passes, eq_itself, filtered, in_flat_map, passing}
-use Rattle.ecs_model.proofs.traits.Adding.{in_map}
-use Rattle.ecs_model.proofs.traits.Facts.{held_listed, listed_held}
-use Rattle.ecs_model.proofs.traits.Kept.{are_links, refuted}
+use Rattle.ecs_model.proofs.steps.AddedSets.{in_map}
+use Rattle.ecs_model.proofs.steps.Facts.{held_listed, listed_held}
+use Rattle.ecs_model.proofs.steps.LivingIds.{are_links, refuted}
 use Rattle.query_check.specs.Terms.{terms}
 use Rattle.query_meaning.specs.Sound.{IsSound}
 use Rattle.query_model.specs.declared.query.Term.{Term}
@@ -57,7 +57,7 @@ module _ (by : ℕ → Term → Bool) (q : Query) (u v : ℕ) (i : Id) where
   unfolding leads_out
   leading h =
       let both = and_parts _ _ h in
-      let t = passing (λ t. by v t && joins u v t && may_match t.first t.target i) (terms q) both.1 in
+      let t = passing (λ t. by v t && joins u v t && may_match t.component t.target i) (terms q) both.1 in
       let tests = and_parts _ _ t.2 in
       let joined = and_parts _ _ (and_parts _ _ tests.0).1 in
       record { term = t.0; among = t.1; source = (and_parts _ _ joined.0).1; fits = by_match i t.0 tests.1; below = both.0 }
@@ -111,7 +111,7 @@ module _ (v : WorldState) (changed : Changed) (kept_now : IsWellFormed v) (after
     own_stay : filter (concerns q) (filter (weighs e) (ids_of after.before e)) ≡ filter (concerns q) (filter (weighs e) (ids_of v e))
     own_stay = unlisted_stay v changed kept_now after (weighs e) (concerns q) e (λ h. apart (all.own e h))
 
-    above_stay : (r x : ℕ) → Contains (line (look v).ids (look v).entities r e) x
+    above_stay : (r x : ℕ) → Contains (ancestor_line (look v).ids (look v).entities r e) x
         → filter (concerns_below q) (filter (weighs x) (ids_of after.before x)) ≡ filter (concerns_below q) (filter (weighs x) (ids_of v x))
     above_stay r x there =
         unlisted_stay v changed kept_now after (weighs x) (concerns_below q) x

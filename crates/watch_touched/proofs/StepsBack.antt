@@ -11,7 +11,7 @@ use Rattle.component_index.specs.declared.pattern.Pattern.{Pattern}
 use Rattle.ecs_id.specs.Id.{Id, plain, pair, second_of}
 use Rattle.ecs_model.specs.World.{WorldState, Key, entities, ids_of}
 use Rattle.ecs_model.proofs.Members.{any_passes, eq_itself, filtered, passing}
-use Rattle.ecs_model.proofs.traits.Kept.{refuted}
+use Rattle.ecs_model.proofs.steps.LivingIds.{refuted}
 use Rattle.query_model.specs.Query.{Query}
 use Rattle.watch_asked.specs.Asked.{any_counts_as}
 use Rattle.watch_asked.specs.declared.asked.AskedOf.{AskedOf}

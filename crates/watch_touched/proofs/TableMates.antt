@@ -16,8 +16,8 @@ use Rattle.ecs_archetypes.specs.Linked.{Linked, ids_at_index, rows_under}
 use Rattle.ecs_model.specs.Map.{keys}
 use Rattle.ecs_model.specs.World.{WorldState, ids_of}
 use Rattle.ecs_model.proofs.Members.{eq_same, filtered, passing}
-use Rattle.ecs_model.proofs.traits.Adding.{from_map}
-use Rattle.ecs_model.proofs.traits.Kept.{each_passes}
+use Rattle.ecs_model.proofs.steps.AddedSets.{from_map}
+use Rattle.ecs_model.proofs.steps.LivingIds.{each_passes}
 use Rattle.ecs_table.specs.Archetype.{Archetype}
 use Rattle.table_store.specs.Rows.{Row, cells_of, row_at}
 use Rattle.table_store.specs.Store.{Store, ids_at, table_at}

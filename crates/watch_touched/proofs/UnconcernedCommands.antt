@@ -12,21 +12,21 @@ use Rattle.std.proofs.lemmas.List.Folds.{list_any-append}
 use Rattle.std.proofs.lemmas.List.Kept.{IsStrictlySortedBy-filter}
 use Rattle.ecs_id.specs.declared.EntityId.{EntityId}
 use Rattle.ecs_id.specs.Id.{Id, id_cmp, id_cmp_same, id_cmp_total, last_index}
-use Rattle.ecs_model.specs.Command.{Changed}
+use Rattle.ecs_model.specs.steps.Outcomes.{Changed}
 use Rattle.ecs_model.specs.World.{WorldState, Key, entities, holds, ids_of, is_live, key_cmp, key_eq}
 use Rattle.ecs_model.specs.rows.Rows.{rows}
 use Rattle.ecs_model.specs.rows.View.{view_of}
 use Rattle.ecs_model.specs.stored.Watches.{is_this, matching}
-use Rattle.ecs_model.specs.traits.Command.{Command, step}
-use Rattle.ecs_model.specs.traits.Keeps.{IsWellFormed}
+use Rattle.ecs_model.specs.steps.Step.{Command, step}
+use Rattle.ecs_model.specs.steps.WellFormed.{IsWellFormed}
 use Rattle.ecs_model.proofs.Members.{any_passes, filtered}
-use Rattle.ecs_model.proofs.traits.Facts.{held_listed, listed_held}
-use Rattle.ecs_model.proofs.traits.Kept.{are_links, refuted}
+use Rattle.ecs_model.proofs.steps.Facts.{held_listed, listed_held}
+use Rattle.ecs_model.proofs.steps.LivingIds.{are_links, refuted}
 use Rattle.query_model.specs.Query.{Query}
 use Rattle.watch_concerns.specs.Anchored.{is_anchored}
 use Rattle.watch_concerns.specs.Concerns.{concerns}
 use Rattle.watch_concerns.proofs.MatchingRows.{match_by_what_concerns}
-use Rattle.watch_concerns.proofs.WhoeverLives.{match_whoever_else_lives}
+use Rattle.watch_concerns.proofs.AnchoredRows.{match_whoever_else_lives}
 use Rattle.watch_concerns.specs.Since.{IsAfter}
 use Rattle.watch_touched.specs.Before.{entities_before, is_born, view_before}
 use Rattle.watch_touched.specs.Concerned.{any_concerns, has_births_or_deaths, is_concerned}

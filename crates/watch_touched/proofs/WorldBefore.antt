@@ -7,18 +7,18 @@ use Rattle.std.specs.Ordering.{nat_cmp, eq_by_cmp}
 use Rattle.std.proofs.Common.{refl, sym, ap, ◌∙◌, true≢false}
 use Rattle.std.proofs.lemmas.List.Folds.{list_any-append}
 use Rattle.ecs_id.specs.declared.EntityId.{EntityId}
-use Rattle.ecs_model.specs.Command.{Changed, differences}
+use Rattle.ecs_model.specs.steps.Outcomes.{Changed, differences}
 use Rattle.ecs_model.specs.Map.{Map, has_key, keys, without}
 use Rattle.ecs_model.specs.World.{WorldState, Key, entities, holds, is_live, key_cmp, key_eq, name_of}
 use Rattle.ecs_model.specs.rows.View.{view_of}
-use Rattle.ecs_model.specs.traits.Command.{Command, step, written_by}
-use Rattle.ecs_model.specs.traits.Keeps.{IsWellFormed}
+use Rattle.ecs_model.specs.steps.Step.{Command, step, written_by}
+use Rattle.ecs_model.specs.steps.WellFormed.{IsWellFormed}
 use Rattle.ecs_model.proofs.Maps.{key_cmp_same, key_cmp_total}
-use Rattle.ecs_model.proofs.traits.Order.{accepted_step}
+use Rattle.ecs_model.proofs.steps.RefusalNumbers.{accepted_step}
 use Rattle.watch_touched.specs.Before.{entities_before, facts_before, has_come, is_born, view_before}
 use Rattle.watch_touched.specs.Laws.{ShowsWorldBefore}
 use Rattle.watch_touched.proofs.OrderedMembers.{any_left, any_without, in_order_are_keys}
-use Rattle.watch_touched.proofs.Newborn.{newborn}
+use Rattle.watch_touched.proofs.BornEntities.{newborn}
 
 -- who is there now and isn't new, or is there no more, was there before
 was_there : (now before new : Bool) → (now ≡ true → new ≡ not before) → ((not new && now) || (not now && before)) ≡ before

@@ -1,7 +1,7 @@
 -- Whether what a command has changed concerns a query.
 use Rattle.std.specs.Prelude.{◌==◌, Bool, not, ◌&&◌, ◌||◌, List, length, is_some}
 use Rattle.std.specs.List.{list_any}
-use Rattle.ecs_model.specs.Command.{Changed}
+use Rattle.ecs_model.specs.steps.Outcomes.{Changed}
 use Rattle.ecs_model.specs.World.{Key}
 use Rattle.watch_concerns.specs.Anchored.{is_anchored}
 use Rattle.watch_concerns.specs.Concerns.{concerns}

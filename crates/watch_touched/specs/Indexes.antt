@@ -1,7 +1,7 @@
 -- Which entities a command touches, and what is told of each.
 use Rattle.std.specs.Prelude.{ℕ, List, ◌++◌, map, option_map}
 use Rattle.std.specs.List.{cons_option}
-use Rattle.ecs_model.specs.Command.{Changed}
+use Rattle.ecs_model.specs.steps.Outcomes.{Changed}
 use Rattle.ecs_model.specs.rows.View.{View}
 use Rattle.query_local.specs.Touched.{Touch, held_in}
 

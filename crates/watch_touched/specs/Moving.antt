@@ -3,7 +3,7 @@ use Rattle.std.specs.Prelude.{◌↔◌, ℕ, Bool, true, false, not, ◌&&◌, 
 use Rattle.std.specs.List.{Contains, list_any}
 use Rattle.std.specs.List.Sorted.{IsStrictlyIncreasing}
 use Rattle.ecs_id.specs.Id.{Id}
-use Rattle.ecs_model.specs.Command.{Changed}
+use Rattle.ecs_model.specs.steps.Outcomes.{Changed}
 use Rattle.ecs_model.specs.World.{WorldState, Key, ids_of, is_live}
 use Rattle.ecs_model.specs.rows.View.{view_of}
 use Rattle.ecs_model.specs.stored.Watches.{matching}
@@ -46,8 +46,8 @@ abbrev pub are_holders : Query → Changed → Bool
 are_holders q changed = is_tied q || (not (any_concerns_others q changed.came) && not (any_concerns_others q changed.went))
 
 -- whether all who may move can be found: births and deaths don't matter, and what came and went concerns the query for no others, or it is tied, or linked
-abbrev pub is_followed : Query → Changed → Bool
-is_followed q changed = is_anchored q && (is_tied q || is_linked q || (not (any_concerns_others q changed.came) && not (any_concerns_others q changed.went)))
+abbrev pub finds_moving : Query → Changed → Bool
+finds_moving q changed = is_anchored q && (is_tied q || is_linked q || (not (any_concerns_others q changed.came) && not (any_concerns_others q changed.went)))
 
 module _ (q : Query) (w : WorldState) where
   -- among these are all with whom somebody holds a pair who may move by another one's fact: those of whom a fact came or went that concerns others,

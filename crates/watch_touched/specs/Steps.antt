@@ -2,7 +2,7 @@
 use Rattle.std.specs.Prelude.{ℕ, ◌==◌, Bool, true, not, ◌&&◌, ◌||◌, List, [], ◌++◌, filter, flat_map, map, if◌then◌else◌}
 use Rattle.component_index.specs.Patterns.{matches}
 use Rattle.ecs_id.specs.Id.{Id}
-use Rattle.ecs_model.specs.Command.{Changed}
+use Rattle.ecs_model.specs.steps.Outcomes.{Changed}
 use Rattle.ecs_model.specs.World.{WorldState, Key, ids_of}
 use Rattle.query_model.specs.Query.{Query}
 use Rattle.watch_asked.specs.Asked.{any_counts_as, counts}

@@ -31,7 +31,8 @@ pub(crate) fn push_leaning_on_all<A: Allocator + Copy, B: Allocator>(
     targets: &[u32],
     found: &mut ShortList<A>,
 ) -> Result<bool, AllocError>
-    ensures { IfOk result (λ done. done ≡ true → Adds (flat_map (leaning (is_sought sought query.now) world.now.state) targets.now) found.old.items found.new.items) }
+    ensures { IfOk result (λ done. done ≡ true → Adds (flat_map (leaning (is_sought sought query.now) world.now.state) targets.now) found.old.items
+        found.new.items) }
 {
     if targets.len() > MOST {
         return Ok(false);
@@ -103,7 +104,8 @@ fn push_from_tables<A: Allocator + Copy, B: Allocator>(
     target: u32,
     found: &mut ShortList<A>,
 ) -> Result<bool, AllocError>
-    ensures { IfOk result (λ done. done ≡ true → (w : WorldState) → HoldTheirs w store.now → Adds (filter (leans (is_sought sought query.now) w target) (flat_map (standing_in store.now) tables.now)) found.old.items found.new.items) }
+    ensures { IfOk result (λ done. done ≡ true → (w : WorldState) → HoldTheirs w store.now
+        → Adds (filter (leans (is_sought sought query.now) w target) (flat_map (standing_in store.now) tables.now)) found.old.items found.new.items) }
 {
     let mut free = MOST;
     'tables: for listed in tables {
@@ -133,7 +135,8 @@ fn push_alike<A: Allocator + Copy, B: Allocator>(
     target: u32,
     found: &mut ShortList<A>,
 ) -> Result<(), AllocError>
-    ensures { OnOk result ((w : WorldState) → HoldAll w ids.now (map (λ e. e.index) entities.now) → Adds (filter (leans (is_sought sought query.now) w target) (map (λ e. e.index) entities.now)) found.old.items found.new.items) }
+    ensures { OnOk result ((w : WorldState) → HoldAll w ids.now (map (λ e. e.index) entities.now)
+        → Adds (filter (leans (is_sought sought query.now) w target) (map (λ e. e.index) entities.now)) found.old.items found.new.items) }
 {
     // who is there already needn't be judged
     if are_among(found.as_slice(), entities) {

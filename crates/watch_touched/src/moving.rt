@@ -1,6 +1,7 @@
 //! Who may have moved in or out of a query's rows, where few may.
 
-ghost use Rattle.std.specs.Prelude.{◌≡◌, ◌↔◌, ◌++◌, ◌∷◌, ◌==◌, ◌≤◌, ◌&&◌, ◌||◌, [], ℕ, Contains, true, filter, flat_map, length, not, IfNone, IfOk, IfSome, OnOk, false, if◌then◌else◌};
+ghost use Rattle.std.specs.Prelude.{◌≡◌, ◌↔◌, ◌++◌, ◌∷◌, ◌==◌, ◌≤◌, ◌&&◌, ◌||◌, [], ℕ, Contains, true, filter, flat_map, length, not, IfNone, IfOk, IfSome};
+ghost use Rattle.std.specs.Prelude.{OnOk, false, if◌then◌else◌};
 ghost use Rattle.std.specs.List.{list_any};
 ghost use Rattle.std.specs.List.Sorted.{IsStrictlyIncreasing};
 ghost use Rattle.ecs_model.specs.rows.View.{view_of};
@@ -14,7 +15,7 @@ ghost use Rattle.watch_concerns.specs.Linked.{is_linked};
 ghost use Rattle.watch_concerns.specs.Others.{concerns_below, concerns_others};
 ghost use Rattle.watch_touched.specs.Concerned.{has_births_or_deaths, is_concerned};
 ghost use Rattle.watch_touched.specs.Leaning.{Adds, HasAllBelow, concerns_beyond, leaning, moves_by};
-ghost use Rattle.watch_touched.specs.Moving.{AreAllMoved, are_holders, entities_by, entities_of, is_followed, may_be_this, most_moving, told_by_ids};
+ghost use Rattle.watch_touched.specs.Moving.{AreAllMoved, are_holders, entities_by, entities_of, finds_moving, may_be_this, most_moving, told_by_ids};
 ghost use Rattle.watch_touched.specs.declared.moving.Moved.TheVariants.{Few, Nobody, Unknown};
 ghost use Rattle.watch_concerns.specs.Since.{IsAfter};
 
@@ -45,9 +46,9 @@ pub enum Moved {
 /// Who may have moved in or out of a query's rows by a command, if it concerns the query. These are put into a list, in which nobody is yet. All others are in
 /// the rows or out of them as before.
 ///
-/// Unknown, where that can't be told: of a query that isn't anchored; where a fact concerns others than its entity and the query is neither tied nor linked, or is
-/// linked alone and what it asks isn't kept; or where more than 64 may have moved. Takes time in what has changed, and for each that may have moved. Fails where
-/// memory is refused.
+/// Unknown, where that can't be told: of a query that isn't anchored; where a fact concerns others than its entity and the query is neither tied nor
+/// linked, or is linked alone and what it asks isn't kept; or where more than 64 may have moved. Takes time in what has changed, and for each that
+/// may have moved. Fails where memory is refused.
 pub fn who_may_have_moved<A: Allocator + Copy, B: Allocator>(
     alloc: A,
     world: &World<A>,
@@ -64,7 +65,7 @@ pub fn who_may_have_moved<A: Allocator + Copy, B: Allocator>(
     ensures concerned { IfOk result (λ moved. moved ≡ Nobody → is_concerned query.now changes.now ≡ false) }
     ensures all { IfOk result (λ moved. moved ≡ Few → AreAllMoved query.now world.now.state changes.now moving.new.items) }
     ensures few { IfOk result (λ moved. moved ≡ Few → length moving.new.items ≤ most_moving) }
-    ensures unknown { is_followed query.now changes.now ≡ false → is_concerned query.now changes.now ≡ true → IfOk result (λ moved. moved ≡ Unknown) }
+    ensures unknown { finds_moving query.now changes.now ≡ false → is_concerned query.now changes.now ≡ true → IfOk result (λ moved. moved ≡ Unknown) }
 {
     world.keeps();
     let mut others = ShortList::new();
@@ -73,7 +74,7 @@ pub fn who_may_have_moved<A: Allocator + Copy, B: Allocator>(
     if is_nobody(bonds, changes, moving.len()) {
         return Ok(Moved::Nobody);
     }
-    if !are_followed(bonds, others.len()) {
+    if !finds_moving(bonds, others.len()) {
         return Ok(Moved::Unknown);
     }
     if !push_all_moving(
@@ -106,7 +107,7 @@ fn is_nobody<A: Allocator>(bonds: Bonds, changes: &Changes<A>, own: usize) -> bo
 /// entities whose facts these are and those below, or for those alone who hold a pair with one of these, or from whom terms lead to one.
 /// Of so many a fact came or went that concerns others.
 #[inline(always)]
-fn are_followed(bonds: Bonds, others: usize) -> bool
+fn finds_moving(bonds: Bonds, others: usize) -> bool
     ensures { result ≡ (bonds.anchored && (bonds.tied || bonds.linked || (others == 0))) }
 {
     bonds.anchored && (bonds.tied || bonds.linked || others == 0)
@@ -150,7 +151,7 @@ fn push_all_moving<A: Allocator + Copy, B: Allocator>(
     requires bonds { bonds ≡ bonds_of query.now }
     requires after { IsAfter world.now.state changes.now }
     requires sound { IsSound query.now }
-    requires followed { is_followed query.now changes.now ≡ true }
+    requires followed { finds_moving query.now changes.now ≡ true }
     requires own { moving.old.items ≡ entities_of (concerns query.now) changes.now }
     requires others { others.old.items ≡ entities_of (concerns_others query.now) changes.now }
     requires below { below.old.items ≡ entities_of (concerns_below query.now) changes.now }
@@ -258,7 +259,7 @@ fn push_moved_by_others<A: Allocator + Copy, B: Allocator>(
     requires bonds { bonds ≡ bonds_of query.now }
     requires after { IsAfter world.now.state changes.now }
     requires sound { IsSound query.now }
-    requires followed { is_followed query.now changes.now ≡ true }
+    requires followed { finds_moving query.now changes.now ≡ true }
     requires own { (e : ℕ) → Contains moving.old.items e ↔ Contains (entities_of (concerns query.now) changes.now) e }
     requires others { others.old.items ≡ entities_of (concerns_others query.now) changes.now }
     requires below { below.old.items ≡ entities_of (concerns_below query.now) changes.now }
@@ -322,7 +323,8 @@ fn push_holders<A: Allocator + Copy, B: Allocator>(
     moving: &mut ShortList<A>,
 ) -> Result<bool, AllocError>
     ensures same { (e : ℕ) → Contains others.new.items e ↔ Contains others.old.items e }
-    ensures moving { IfOk result (λ done. done ≡ true → Adds (flat_map (leaning (moves_by query.now) world.now.state) others.new.items) moving.old.items moving.new.items) }
+    ensures moving { IfOk result (λ done. done ≡ true → Adds (flat_map (leaning (moves_by query.now) world.now.state) others.new.items) moving.old.items
+        moving.new.items) }
 {
     put_in_order(others);
     push_leaning_on_all(
@@ -335,8 +337,8 @@ fn push_holders<A: Allocator + Copy, B: Allocator>(
     )
 }
 
-/// Adds all from whom the terms of a linked query lead to one of whom a fact came or went that is asked of another variable than `$this`, and all who hold a pair
-/// with one of whom a fact did that concerns those below, or with one below such. Puts all in order. False, where they may be too many.
+/// Adds all from whom the terms of a linked query lead to one of whom a fact came or went that is asked of another variable than `$this`, and all who
+/// hold a pair with one of whom a fact did that concerns those below, or with one below such. Puts all in order. False, where they may be too many.
 fn push_moved_by_roles<A: Allocator + Copy, B: Allocator>(
     alloc: A,
     query: &AskedQuery<'_, B>,
@@ -396,7 +398,8 @@ fn push_below<A: Allocator + Copy, B: Allocator>(
     moving: &mut ShortList<A>,
 ) -> Result<bool, AllocError>
     ensures below { IfOk result (λ done. done ≡ true → HasAllBelow (λ ids. concerns_beyond query.now) world.now.state below.old.items below.new.items) }
-    ensures moving { IfOk result (λ done. done ≡ true → Adds (flat_map (leaning (moves_by query.now) world.now.state) below.new.items) moving.old.items moving.new.items) }
+    ensures moving { IfOk result (λ done. done ≡ true → Adds (flat_map (leaning (moves_by query.now) world.now.state) below.new.items) moving.old.items
+        moving.new.items) }
 {
     if below.len() == 0 {
         return Ok(true);
@@ -414,7 +417,8 @@ fn push_all_leaning<A: Allocator + Copy, B: Allocator>(
     moving: &mut ShortList<A>,
 ) -> Result<bool, AllocError>
     ensures below { IfOk result (λ done. done ≡ true → HasAllBelow (λ ids. concerns_beyond query.now) world.now.state below.old.items below.new.items) }
-    ensures moving { IfOk result (λ done. done ≡ true → Adds (flat_map (leaning (moves_by query.now) world.now.state) below.new.items) moving.old.items moving.new.items) }
+    ensures moving { IfOk result (λ done. done ≡ true → Adds (flat_map (leaning (moves_by query.now) world.now.state) below.new.items) moving.old.items
+        moving.new.items) }
 {
     put_in_order(below);
     if !push_all_below(alloc, query, Sought::Below, world, below)? {

@@ -1,5 +1,5 @@
-//! Who may have moved in or out of a linked query's rows by facts of others than `$this`: back from those of whom a fact came or went, along the terms that link
-//! its variables, to those who may be `$this`.
+//! Who may have moved in or out of a linked query's rows by facts of others than `$this`: back from those of whom a fact came or went, along the
+//! terms that link its variables, to those who may be `$this`.
 
 ghost use Rattle.std.specs.Prelude.{◌≡◌, ◌≤◌, ◌+◌, ◌==◌, ◌&&◌, ◌++◌, ℕ, false, true, filter, flat_map, map, IfOk};
 ghost use Rattle.std.specs.List.{list_any};
@@ -35,8 +35,8 @@ struct Walk<'a, 'q, A: Allocator, B: Allocator> {
 
 /// Adds all who may have moved by a fact of somebody who may stand for another variable than `$this`. False, where more are looked at than few.
 ///
-/// A fact is begun with as each variable that is asked for it and whose needs its holder has, or had. From there it goes back alone, to variables before, so each
-/// walk ends.
+/// A fact is begun with as each variable that is asked for it and whose needs its holder has, or had. From there it goes back alone, to variables
+/// before, so each walk ends.
 pub(crate) fn push_by_roles<A: Allocator + Copy, B: Allocator>(
     alloc: A,
     query: &AskedQuery<'_, B>,
@@ -46,7 +46,8 @@ pub(crate) fn push_by_roles<A: Allocator + Copy, B: Allocator>(
     moving: &mut ShortList<A>,
 ) -> Result<bool, AllocError>
     requires asked { IsAskedBy query.now asked.now }
-    ensures { IfOk result (λ done. done ≡ true → Adds (this_among query.now world.now.state (λ v t. true) changes.now (roles_of query.now world.now.state (λ v t. true) changes.now (map (λ a. a.variable) asked.now.others.items))) moving.old.items moving.new.items) }
+    ensures { IfOk result (λ done. done ≡ true → Adds (this_among query.now world.now.state (λ v t. true) changes.now
+        (roles_of query.now world.now.state (λ v t. true) changes.now (map (λ a. a.variable) asked.now.others.items))) moving.old.items moving.new.items) }
 {
     let walk = Walk {
         query,
@@ -73,7 +74,9 @@ fn push_from_facts<A: Allocator + Copy, B: Allocator>(
     moving: &mut ShortList<A>,
 ) -> Result<bool, AllocError>
     requires asked { IsAskedBy walk.now.query.now walk.now.asked.now }
-    ensures { IfOk result (λ done. done ≡ true → Adds (flat_map (found_from walk.now.query.now walk.now.world.now.state walk.now.changes.now walk.now.asked.now.others.items) facts.now) moving.old.items moving.new.items) }
+    ensures { IfOk result (λ done. done ≡ true → Adds (flat_map
+        (found_from walk.now.query.now walk.now.world.now.state walk.now.changes.now walk.now.asked.now.others.items) facts.now) moving.old.items
+        moving.new.items) }
 {
     for fact in facts {
         if !push_from_fact(alloc, walk, *fact, free, moving)? {
@@ -94,7 +97,8 @@ fn push_from_fact<A: Allocator + Copy, B: Allocator>(
     moving: &mut ShortList<A>,
 ) -> Result<bool, AllocError>
     requires asked { IsAskedBy walk.now.query.now walk.now.asked.now }
-    ensures { IfOk result (λ done. done ≡ true → Adds (found_from walk.now.query.now walk.now.world.now.state walk.now.changes.now walk.now.asked.now.others.items fact) moving.old.items moving.new.items) }
+    ensures { IfOk result (λ done. done ≡ true → Adds (found_from walk.now.query.now walk.now.world.now.state walk.now.changes.now
+        walk.now.asked.now.others.items fact) moving.old.items moving.new.items) }
 {
     let entity = fact.entity();
     let ids = ids_at(walk.world, entity);
@@ -137,7 +141,8 @@ fn push_behind<A: Allocator + Copy, B: Allocator>(
     moving: &mut ShortList<A>,
 ) -> Result<bool, AllocError>
     requires asked { IsAskedBy walk.now.query.now walk.now.asked.now }
-    ensures { IfOk result (λ done. done ≡ true → (n : ℕ) → variable ≤ n → Adds (found_behind walk.now.query.now walk.now.world.now.state walk.now.changes.now n variable entity) moving.old.items moving.new.items) }
+    ensures { IfOk result (λ done. done ≡ true → (n : ℕ) → variable ≤ n
+        → Adds (found_behind walk.now.query.now walk.now.world.now.state walk.now.changes.now n variable entity) moving.old.items moving.new.items) }
 {
     if variable == 0 {
         push_if_matching(alloc, walk.query, walk.world, entity, moving)?;
@@ -162,8 +167,8 @@ fn leads_to(step: &LinkStep, variable: usize) -> bool
     step.to() == variable
 }
 
-/// Adds those who may be `$this` behind those from whom a step may lead to an entity: behind who holds a pair with it, or behind the targets of such pairs that it
-/// holds, or that went from it. False, where more are looked at than so many.
+/// Adds those who may be `$this` behind those from whom a step may lead to an entity: behind who holds a pair with it, or behind the targets of such
+/// pairs that it holds, or that went from it. False, where more are looked at than so many.
 #[cycle(behind)]
 fn push_by_step<A: Allocator + Copy, B: Allocator>(
     alloc: A,
@@ -174,7 +179,10 @@ fn push_by_step<A: Allocator + Copy, B: Allocator>(
     moving: &mut ShortList<A>,
 ) -> Result<bool, AllocError>
     requires asked { IsAskedBy walk.now.query.now walk.now.asked.now }
-    ensures { IfOk result (λ done. done ≡ true → (n : ℕ) → step.now.from ≤ n → Adds (flat_map (found_behind walk.now.query.now walk.now.world.now.state walk.now.changes.now n step.now.from) (step_back walk.now.query.now walk.now.world.now.state walk.now.asked.now.others.items walk.now.changes.now.went step.now entity)) moving.old.items moving.new.items) }
+    ensures { IfOk result (λ done. done ≡ true → (n : ℕ) → step.now.from ≤ n
+        → Adds (flat_map (found_behind walk.now.query.now walk.now.world.now.state walk.now.changes.now n step.now.from)
+        (step_back walk.now.query.now walk.now.world.now.state walk.now.asked.now.others.items walk.now.changes.now.went step.now entity)) moving.old.items
+        moving.new.items) }
 {
     if step.is_outward() {
         return push_behind_holders(alloc, walk, step, entity, free, moving);
@@ -197,7 +205,10 @@ fn push_behind_holders<A: Allocator + Copy, B: Allocator>(
     moving: &mut ShortList<A>,
 ) -> Result<bool, AllocError>
     requires asked { IsAskedBy walk.now.query.now walk.now.asked.now }
-    ensures { IfOk result (λ done. done ≡ true → (n : ℕ) → step.now.from ≤ n → Adds (flat_map (found_behind walk.now.query.now walk.now.world.now.state walk.now.changes.now n step.now.from) (leaning (leads_by walk.now.query.now walk.now.asked.now.others.items walk.now.changes.now.went step.now) walk.now.world.now.state entity)) moving.old.items moving.new.items) }
+    ensures { IfOk result (λ done. done ≡ true → (n : ℕ) → step.now.from ≤ n
+        → Adds (flat_map (found_behind walk.now.query.now walk.now.world.now.state walk.now.changes.now n step.now.from)
+        (leaning (leads_by walk.now.query.now walk.now.asked.now.others.items walk.now.changes.now.went step.now) walk.now.world.now.state entity))
+        moving.old.items moving.new.items) }
 {
     let variable = step.from();
     if variable == 0 {
@@ -211,8 +222,8 @@ fn push_behind_holders<A: Allocator + Copy, B: Allocator>(
     push_behind_all(alloc, walk, variable, entities, free, moving)
 }
 
-/// Adds those who may be `$this` behind the targets of those of an entity's ids that are pairs by which a step may lead from their target to it. False, where more
-/// are looked at than so many.
+/// Adds those who may be `$this` behind the targets of those of an entity's ids that are pairs by which a step may lead from their target to it.
+/// False, where more are looked at than so many.
 #[cycle(behind)]
 fn push_behind_targets<A: Allocator + Copy, B: Allocator>(
     alloc: A,
@@ -223,7 +234,9 @@ fn push_behind_targets<A: Allocator + Copy, B: Allocator>(
     moving: &mut ShortList<A>,
 ) -> Result<bool, AllocError>
     requires asked { IsAskedBy walk.now.query.now walk.now.asked.now }
-    ensures { IfOk result (λ done. done ≡ true → (n : ℕ) → step.now.from ≤ n → Adds (flat_map (behind_target walk.now.query.now walk.now.world.now.state walk.now.changes.now n step.now) ids.now) moving.old.items moving.new.items) }
+    ensures { IfOk result (λ done. done ≡ true → (n : ℕ) → step.now.from ≤ n
+        → Adds (flat_map (behind_target walk.now.query.now walk.now.world.now.state walk.now.changes.now n step.now) ids.now) moving.old.items
+        moving.new.items) }
 {
     for id in ids {
         if !push_behind_target(alloc, walk, step, *id, free, moving)? {
@@ -244,7 +257,9 @@ fn push_behind_gone<A: Allocator + Copy, B: Allocator>(
     moving: &mut ShortList<A>,
 ) -> Result<bool, AllocError>
     requires asked { IsAskedBy walk.now.query.now walk.now.asked.now }
-    ensures { IfOk result (λ done. done ≡ true → (n : ℕ) → step.now.from ≤ n → Adds (flat_map (behind_gone walk.now.query.now walk.now.world.now.state walk.now.changes.now n step.now entity) walk.now.changes.now.went) moving.old.items moving.new.items) }
+    ensures { IfOk result (λ done. done ≡ true → (n : ℕ) → step.now.from ≤ n
+        → Adds (flat_map (behind_gone walk.now.query.now walk.now.world.now.state walk.now.changes.now n step.now entity) walk.now.changes.now.went)
+        moving.old.items moving.new.items) }
 {
     let went = walk.changes.went();
     'facts: for fact in went {
@@ -269,7 +284,8 @@ fn push_behind_target<A: Allocator + Copy, B: Allocator>(
     moving: &mut ShortList<A>,
 ) -> Result<bool, AllocError>
     requires asked { IsAskedBy walk.now.query.now walk.now.asked.now }
-    ensures { IfOk result (λ done. done ≡ true → (n : ℕ) → step.now.from ≤ n → Adds (behind_target walk.now.query.now walk.now.world.now.state walk.now.changes.now n step.now id) moving.old.items moving.new.items) }
+    ensures { IfOk result (λ done. done ≡ true → (n : ℕ) → step.now.from ≤ n
+        → Adds (behind_target walk.now.query.now walk.now.world.now.state walk.now.changes.now n step.now id) moving.old.items moving.new.items) }
 {
     let Some(target) = id.second() else {
         return Ok(true);
@@ -294,7 +310,9 @@ fn push_behind_all<A: Allocator + Copy, B: Allocator>(
     moving: &mut ShortList<A>,
 ) -> Result<bool, AllocError>
     requires asked { IsAskedBy walk.now.query.now walk.now.asked.now }
-    ensures { IfOk result (λ done. done ≡ true → (n : ℕ) → variable ≤ n → Adds (flat_map (found_behind walk.now.query.now walk.now.world.now.state walk.now.changes.now n variable) entities.now) moving.old.items moving.new.items) }
+    ensures { IfOk result (λ done. done ≡ true → (n : ℕ) → variable ≤ n
+        → Adds (flat_map (found_behind walk.now.query.now walk.now.world.now.state walk.now.changes.now n variable) entities.now) moving.old.items
+        moving.new.items) }
 {
     for entity in entities {
         if !push_behind(alloc, walk, variable, *entity, free, moving)? {
@@ -313,7 +331,8 @@ fn push_holders<A: Allocator + Copy, B: Allocator>(
     free: &mut usize,
     found: &mut ShortList<A>,
 ) -> Result<bool, AllocError>
-    ensures { IfOk result (λ done. done ≡ true → Adds (leaning (leads_by walk.now.query.now walk.now.asked.now.others.items walk.now.changes.now.went step.now) walk.now.world.now.state target) found.old.items found.new.items) }
+    ensures { IfOk result (λ done. done ≡ true → Adds (leaning (leads_by walk.now.query.now walk.now.asked.now.others.items walk.now.changes.now.went step.now)
+        walk.now.world.now.state target) found.old.items found.new.items) }
 {
     let links = walk.world.links();
     let store = links.tables().store();
@@ -335,7 +354,9 @@ fn push_holders_in<A: Allocator + Copy, B: Allocator>(
     free: &mut usize,
     found: &mut ShortList<A>,
 ) -> Result<bool, AllocError>
-    ensures { IfOk result (λ done. done ≡ true → (w : WorldState) → HoldTheirs w store.now → Adds (filter (leans (leads_by walk.now.query.now walk.now.asked.now.others.items walk.now.changes.now.went step.now) w target) (flat_map (standing_in store.now) tables.now)) found.old.items found.new.items) }
+    ensures { IfOk result (λ done. done ≡ true → (w : WorldState) → HoldTheirs w store.now
+        → Adds (filter (leans (leads_by walk.now.query.now walk.now.asked.now.others.items walk.now.changes.now.went step.now) w target)
+        (flat_map (standing_in store.now) tables.now)) found.old.items found.new.items) }
 {
     'tables: for listed in tables {
         let key = listed.key();
@@ -364,7 +385,9 @@ fn push_rows<A: Allocator + Copy, B: Allocator>(
     free: &mut usize,
     found: &mut ShortList<A>,
 ) -> Result<bool, AllocError>
-    ensures { IfOk result (λ done. done ≡ true → (w : WorldState) → HoldAll w ids.now (map (λ e. e.index) entities.now) → Adds (filter (leans (leads_by walk.now.query.now walk.now.asked.now.others.items walk.now.changes.now.went step.now) w target) (map (λ e. e.index) entities.now)) found.old.items found.new.items) }
+    ensures { IfOk result (λ done. done ≡ true → (w : WorldState) → HoldAll w ids.now (map (λ e. e.index) entities.now)
+        → Adds (filter (leans (leads_by walk.now.query.now walk.now.asked.now.others.items walk.now.changes.now.went step.now) w target)
+        (map (λ e. e.index) entities.now)) found.old.items found.new.items) }
 {
     // who is there already needn't be judged
     if are_among(found.as_slice(), entities) {
@@ -383,14 +406,16 @@ fn push_rows<A: Allocator + Copy, B: Allocator>(
     Ok(true)
 }
 
-/// Whether a step may lead to a target from those who hold these ids. One is a pair with it by which the step leads, so of `$this` only the others are looked at.
+/// Whether a step may lead to a target from those who hold these ids. One is a pair with it by which the step leads, so of `$this` only the others
+/// are looked at.
 fn may_lead<A: Allocator, B: Allocator>(
     walk: &Walk<'_, '_, A, B>,
     step: &LinkStep,
     target: u32,
     ids: &[Id],
 ) -> bool
-    ensures { result ≡ false → list_any (λ i. matches (pairs_to target) i && leads_by walk.now.query.now walk.now.asked.now.others.items walk.now.changes.now.went step.now ids.now i) ids.now ≡ false }
+    ensures { result ≡ false → list_any (λ i. matches (pairs_to target) i
+        && leads_by walk.now.query.now walk.now.asked.now.others.items walk.now.changes.now.went step.now ids.now i) ids.now ≡ false }
 {
     let variable = step.from();
     if variable == 0 {
@@ -406,7 +431,9 @@ fn leads_from_other<A: Allocator, B: Allocator>(
     target: u32,
     ids: &[Id],
 ) -> bool
-    ensures { result ≡ list_any (λ i. matches (pairs_to target) i && (matches step.now.asked i && any_counts_as (λ v. v == step.now.from) walk.now.asked.now.others.items (ids.now ++ map (λ k. k.1) walk.now.changes.now.went) i)) ids.now }
+    ensures { result ≡ list_any (λ i. matches (pairs_to target) i
+        && (matches step.now.asked i && any_counts_as (λ v. v == step.now.from) walk.now.asked.now.others.items
+        (ids.now ++ map (λ k. k.1) walk.now.changes.now.went) i)) ids.now }
 {
     for id in ids {
         if leads_by_pair(walk, step, target, ids, *id) {
@@ -425,7 +452,8 @@ fn leads_by_pair<A: Allocator, B: Allocator>(
     ids: &[Id],
     id: Id,
 ) -> bool
-    ensures { result ≡ (matches (pairs_to target) id && (matches step.now.asked id && any_counts_as (λ v. v == step.now.from) walk.now.asked.now.others.items (ids.now ++ map (λ k. k.1) walk.now.changes.now.went) id)) }
+    ensures { result ≡ (matches (pairs_to target) id && (matches step.now.asked id
+        && any_counts_as (λ v. v == step.now.from) walk.now.asked.now.others.items (ids.now ++ map (λ k. k.1) walk.now.changes.now.went) id)) }
 {
     is_pair_to(id, target) && step.matches(id) && counts_from(walk, step, ids, id)
 }

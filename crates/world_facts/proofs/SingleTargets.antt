@@ -3,7 +3,7 @@ use Rattle.std.proofs.Common.{◌≡◌, ℕ, ◌<◌, Bool, true, false, List, 
 use Rattle.std.specs.List.{find}
 use Rattle.std.proofs.lemmas.List.{append-nil}
 use Rattle.ecs_id.specs.Id.{Id}
-use Rattle.ecs_model.specs.Links.{AreLinks, IsAcyclic, line, targets_in, upward}
+use Rattle.ecs_model.specs.Links.{AreLinks, IsAcyclic, ancestor_line, targets_in, upward}
 use Rattle.ecs_model.proofs.ShortLines.{lines_unfold}
 use Rattle.world_facts.specs.Climbing.{targets_as}
 use Rattle.world_facts.specs.declared.climb.Targets.{Targets}
@@ -29,7 +29,7 @@ module _ {n : ℕ} {entities : List ℕ} {ids : ℕ → List Id} (links : AreLin
 
   module _ (acyclic : IsAcyclic ids r) where
     abbrev above : ℕ → List ℕ
-    above s = line ids entities r s
+    above s = ancestor_line ids entities r s
 
     -- no target ends the line
     ends : (s : ℕ) → upward ids r s ≡ [] → above s ≡ []

@@ -11,12 +11,12 @@ use Rattle.component_index.specs.declared.pattern.Pattern.{Pattern}
 use Rattle.component_index.specs.Patterns.{matches}
 use Rattle.component_index.proofs.ListedLemmas.{and_all}
 use Rattle.ecs_archetypes.specs.Linked.{Linked, ids_at_index, indexes, rows_under, tables_under}
-use Rattle.ecs_model.specs.Links.{AreLinks, IsReached, is_reflexive, is_transitive, line, reaches}
+use Rattle.ecs_model.specs.Links.{AreLinks, IsReached, ancestor_line, is_reflexive, is_transitive, reaches}
 use Rattle.ecs_model.specs.Map.{Map, has_key, keys, value_at}
 use Rattle.ecs_model.specs.World.{WorldState, entities, ids_of}
 use Rattle.ecs_model.proofs.ReachTests.{reaches_tells}
 use Rattle.ecs_model.proofs.Members.{alike, and_true, both, eq_itself, eq_same}
-use Rattle.ecs_model.proofs.traits.Facts.{key_there, there_key}
+use Rattle.ecs_model.proofs.steps.Facts.{key_there, there_key}
 use Rattle.rel_traits.specs.Sees.{Sees}
 use Rattle.query_meaning.specs.Variables.{contains}
 use Rattle.rel_travel.specs.Coming.{above_list, below_list}
@@ -76,8 +76,8 @@ module _ {w : WorldState} {live : List ℕ} {ids : ℕ → List Id} (sees : Sees
   world_links {n} links = subst (λ f. AreLinks n (entities w) f) (sym ids_same) (subst (λ es. AreLinks n es ids) (sym sees.live_are) links)
 
   -- the first ancestor with an id of a pattern
-  pub same_first : (p : Pattern) (r e : ℕ) → find (λ t. list_any (matches p) (ids t)) (line ids live r e) ≡ find (λ t. list_any (matches p) (ids_of w t)) (line (ids_of w) (entities w) r e)
-  same_first p r e = λ i. find (λ t. list_any (matches p) (sym ids_same i t)) (line (sym ids_same i) (sym sees.live_are i) r e)
+  pub same_first : (p : Pattern) (r e : ℕ) → find (λ t. list_any (matches p) (ids t)) (ancestor_line ids live r e) ≡ find (λ t. list_any (matches p) (ids_of w t)) (ancestor_line (ids_of w) (entities w) r e)
+  same_first p r e = λ i. find (λ t. list_any (matches p) (sym ids_same i t)) (ancestor_line (sym ids_same i) (sym sees.live_are i) r e)
 
   pub lives_same : (e : ℕ) → contains (entities w) e ≡ contains live e
   lives_same e = ap (λ es. contains es e) sees.live_are

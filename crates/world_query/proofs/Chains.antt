@@ -6,11 +6,11 @@ use Rattle.std.proofs.lemmas.List.Folds.{list_all-append}
 use Rattle.ecs_model.specs.Query.{known_of}
 use Rattle.query_meaning.proofs.AskedQueries.{asked, checked_faultless}
 use Rattle.query_model.specs.Check.{Known}
-use Rattle.query_model.specs.Levels.{Path, followed, placed_parts}
+use Rattle.query_model.specs.Levels.{Path, placed_parts, with_alternatives}
 use Rattle.query_model.specs.Numbers.{Variable, variables}
 use Rattle.query_model.specs.Query.{Query, item, chain_of, checked_equality, checked_query, pieces_of, pieces_of_part}
 use Rattle.query_model.specs.Scope.{Sighting, sightings}
-use Rattle.query_model.specs.Syntax.{Spoken, Word, Var, Any, One, Reference, TermSyntax, Part, term, opened, closed, equality, Syntax}
+use Rattle.query_model.specs.Syntax.{Spoken, Word, Var, Any, AnyOnce, Reference, TermSyntax, Part, term, opened, closed, equality, Syntax}
 use Rattle.query_model.specs.declared.query.Term.{Term}
 use Rattle.query_model.specs.declared.syntax.Role.TheVariants.{And, Or, Not, Optional}
 use Rattle.query_plan.specs.Simple.{has_terms}
@@ -26,7 +26,7 @@ module _ (k : Known) (all : List Sighting) (vs : List Variable) where
   equality_has path (Var v) false r = refl
   equality_has path (Word n) same r = refl
   equality_has path Any same r = refl
-  equality_has path One same r = refl
+  equality_has path AnyOnce same r = refl
 
   part_has : (path : Path) (others : List TermSyntax) (p : Part) → list_all has_terms (pieces_of k all vs path others p) ≡ true
   part_has path others (term And t) = and_from _ _ (chain_has _ _) refl
@@ -45,7 +45,7 @@ module _ (k : Known) (all : List Sighting) (vs : List Variable) where
 
 query_has : (k : Known) (s : Syntax) → list_all has_terms (checked_query k s).pieces ≡ true
 unfolding checked_query
-query_has k s = pieces_have k (sightings s.parts) (variables s.parts) (followed (placed_parts s.parts))
+query_has k s = pieces_have k (sightings s.parts) (variables s.parts) (with_alternatives (placed_parts s.parts))
 
 pub asked_queries_have_terms : AskedQueriesHaveTerms
 asked_queries_have_terms q was =

@@ -9,7 +9,7 @@ use Rattle.ecs_model.specs.World.{WorldState}
 use Rattle.ecs_model.specs.Print.{index_text}
 use Rattle.world_query.specs.Lines.{AreTexts, IsAskedOnce, IsEntityText, IsKept, IsTextAt, started, text_of}
 use Rattle.world_query.specs.declared.labels.EntityText.{EntityText}
-use Rattle.world_query.specs.declared.labels.Piece.{Piece}
+use Rattle.world_query.specs.declared.labels.PaddedText.{PaddedText}
 use Rattle.world_query.specs.declared.row_lines.Texts.{Texts}
 
 -- the text of an entity may be kept
@@ -45,7 +45,7 @@ asked_anew {A} texts entity place last new within none other = record {
 }
 
 -- the start of a binding, and behind it the text that stands at a place
-pub binding_put : {A B : Type 0} (w : WorldState) (texts : List (EntityText A)) (entity place : ℕ) (t : EntityText A) (start : Piece B) (before first other : List ℕ) → IsTextAt w texts entity place → first ≡ (start.bytes).items → other ≡ ((get_or texts place t).bytes).items
+pub binding_put : {A B : Type 0} (w : WorldState) (texts : List (EntityText A)) (entity place : ℕ) (t : EntityText A) (start : PaddedText B) (before first other : List ℕ) → IsTextAt w texts entity place → first ≡ (start.bytes).items → other ≡ ((get_or texts place t).bytes).items
     → (before ++ take start.count first) ++ take (get_or texts place t).alone other ≡ before ++ started w (text_of start, entity)
 binding_put w texts entity place t start before first other there here behind =
     append_assoc before (take start.count first) (take (get_or texts place t).alone other)

@@ -17,8 +17,8 @@ use Rattle.component_index.specs.declared.pattern.Part.TheVariants as part
 use Rattle.ecs_model.proofs.Members.{in_flat_map}
 use Rattle.ecs_model.specs.rows.Level.{top}
 use Rattle.ecs_model.specs.rows.Rows.{level_mentions}
-use Rattle.ecs_model.specs.traits.Rules.{prefab, disabled}
-use Rattle.query_meaning.proofs.Flat.{items_from, items-entries}
+use Rattle.ecs_model.specs.steps.Rules.{prefab, disabled}
+use Rattle.query_meaning.proofs.FlatItems.{items_from, items-entries}
 use Rattle.query_meaning.specs.Names.{entry_names, name_in, term_names}
 use Rattle.query_meaning.specs.Plan.{target_or_any}
 use Rattle.query_meaning.specs.Variables.{Entry, simple, group, entries, entry_at, simple_of}
@@ -26,9 +26,9 @@ use Rattle.query_meaning.specs.declared.steps.Mode.TheVariants as mode
 use Rattle.query_meaning.specs.declared.steps.Step.{Step}
 use Rattle.query_meaning.specs.declared.steps.Step.TheVariants.{Deal}
 use Rattle.query_model.specs.declared.query.Ref.{Ref}
-use Rattle.query_model.specs.declared.query.Ref.TheVariants.{Is, Var, Any, One}
+use Rattle.query_model.specs.declared.query.Ref.TheVariants.{Is, Var, Any, AnyOnce}
 use Rattle.query_model.specs.declared.query.Term.{Term}
-use Rattle.query_model.specs.Local.{asks_first, asks_one_id, is_direct, is_must, is_name, is_name_if_written, is_simple, is_simple_piece}
+use Rattle.query_model.specs.Local.{asks_first, asks_one_id, is_direct, is_entity, is_entity_if_written, is_must, is_simple, is_simple_piece}
 use Rattle.query_model.specs.Observers.{is_constant, is_constant_target, is_first}
 use Rattle.query_model.specs.Query.{must, may, either, equal, differ, Piece, item, opening, closing, Query}
 use Rattle.query_plan.proofs.SimpleQueries.{simple_queries_are_led}
@@ -55,23 +55,23 @@ use Rattle.world_query.specs.Probes.{KeptQueriesStayWithin, SimpleQueriesStayWit
 
 -- ---- terms for one id of `$this`
 
-name_is_fixed : (r : Ref) → is_name r ≡ true → is_constant r ≡ true
+name_is_fixed : (r : Ref) → is_entity r ≡ true → is_constant r ≡ true
 name_is_fixed (Is e) h = refl
 name_is_fixed (Var u) h = absurd (false≢true h)
 name_is_fixed Any h = absurd (false≢true h)
-name_is_fixed One h = absurd (false≢true h)
+name_is_fixed AnyOnce h = absurd (false≢true h)
 
-target_is_fixed : (o : Option Ref) → is_name_if_written o ≡ true → is_constant_target o ≡ true
+target_is_fixed : (o : Option Ref) → is_entity_if_written o ≡ true → is_constant_target o ≡ true
 target_is_fixed None h = refl
 target_is_fixed (Some r) h = name_is_fixed r h
 
-name_is_other : (u : ℕ) (r : Ref) → is_name r ≡ true → is_other u r ≡ true
+name_is_other : (u : ℕ) (r : Ref) → is_entity r ≡ true → is_other u r ≡ true
 name_is_other u (Is e) h = refl
 name_is_other u (Var w) h = absurd (false≢true h)
 name_is_other u Any h = absurd (false≢true h)
-name_is_other u One h = absurd (false≢true h)
+name_is_other u AnyOnce h = absurd (false≢true h)
 
-target_is_other : (u : ℕ) (o : Option Ref) → is_name_if_written o ≡ true → option_map_or (is_other u) o true ≡ true
+target_is_other : (u : ℕ) (o : Option Ref) → is_entity_if_written o ≡ true → option_map_or (is_other u) o true ≡ true
 target_is_other u None h = refl
 target_is_other u (Some r) h = name_is_other u r h
 
@@ -81,14 +81,14 @@ none_there (Some r) h = absurd (false≢true h)
 
 record AsksOne (t : Term) : Type 0 where
   source : is_first t.source ≡ true
-  first : is_name t.first ≡ true
-  target : is_name_if_written t.target ≡ true
+  first : is_entity t.component ≡ true
+  target : is_entity_if_written t.target ≡ true
   test : term_test t ≡ Hit t.source (pattern_of t)
 
 asks_one : (t : Term) → asks_one_id t ≡ true → AsksOne t
 asks_one t h =
-    let whole = and_parts (asks_first t && is_name t.first) (is_name_if_written t.target) h in
-    let half = and_parts (asks_first t) (is_name t.first) whole.0 in
+    let whole = and_parts (asks_first t && is_entity t.component) (is_entity_if_written t.target) h in
+    let half = and_parts (asks_first t) (is_entity t.component) whole.0 in
     let source = and_parts (is_first t.source) (is_direct t) half.0 in
     let stored = and_parts (t.on_source && is_none t.up) (not t.closed) source.1 in
     let plain = and_parts t.on_source (is_none t.up) stored.0 in
@@ -97,14 +97,14 @@ asks_one t h =
       source = source.0;
       first = half.1;
       target = whole.1;
-      test = (λ k. if not-true t.closed stored.1 k then Reaches (name_of t.first) t.source (target_or_any t) else hit_test (own k) (none_there t.up plain.1 k) t);
+      test = (λ k. if not-true t.closed stored.1 k then Reaches (name_of t.component) t.source (target_or_any t) else hit_test (own k) (none_there t.up plain.1 k) t);
     }
 
 fixed : (t : Term) → asks_one_id t ≡ true → is_fixed t ≡ true
-fixed t h = and_from _ _ (name_is_fixed t.first (asks_one t h).first) (target_is_fixed t.target (asks_one t h).target)
+fixed t h = and_from _ _ (name_is_fixed t.component (asks_one t h).first) (target_is_fixed t.target (asks_one t h).target)
 
 shared_term : (u : ℕ) (t : Term) → asks_one_id t ≡ true → is_shared_test u None (term_test t) ≡ true
-shared_term u t h = ap (is_shared_test u None) (asks_one t h).test ∙ and_from _ _ (name_is_other u t.first (asks_one t h).first) (target_is_other u t.target (asks_one t h).target)
+shared_term u t h = ap (is_shared_test u None) (asks_one t h).test ∙ and_from _ _ (name_is_other u t.component (asks_one t h).first) (target_is_other u t.target (asks_one t h).target)
 
 shared_terms : (u : ℕ) (ts : List Term) → list_all asks_one_id ts ≡ true → list_all (is_shared_test u None) (map term_test ts) ≡ true
 shared_terms u [] h = refl
@@ -238,7 +238,7 @@ first_takes : (r : Ref) (b : Bool) → is_first r ≡ true → not (is_other 0 r
 first_takes (Var u) b h = ap (λ y. not (not y && b)) h
 first_takes (Is e) b h = absurd (false≢true h)
 first_takes Any b h = absurd (false≢true h)
-first_takes One b h = absurd (false≢true h)
+first_takes AnyOnce b h = absurd (false≢true h)
 
 -- the steps of a query that a term leads: `$this` is judged behind its items
 led_steps : (q : Query) (first : ℕ) (t : Term) (js : List ℕ) → ((k : ℕ) → is_plain (entry_at q k) ≡ true) → entry_instructions mode.Scan (entry_at q first) ≡ By (Walk (variable_of t.source) (Tables (pattern_of t))) ∷ []
@@ -269,25 +269,25 @@ module _ (v : Reading) where
   told_from n (closing ∷ ps) s k = absurd (false≢true s)
 
 -- a name is listed as itself
-part_of_name : (row : Row) (r : Ref) → is_name r ≡ true → ((e : ℕ) → Contains (name_in r) e → 0 < e) → narrowed_part row r ≡ searched_part r
+part_of_name : (row : Row) (r : Ref) → is_entity r ≡ true → ((e : ℕ) → Contains (name_in r) e → 0 < e) → narrowed_part row r ≡ searched_part r
 part_of_name row (Is e) h live = elim (cases_Bool (e == 0)) [
   | inl none ↦ let low : 0 < e = live e (0, omega arith, refl) in absurd (omega (arith, eqb-true e 0 none))
   | inr some ↦ ap (λ b. if b then part.Any else part.Is e) some
 ]
 part_of_name row (Var u) h live = absurd (false≢true h)
 part_of_name row Any h live = absurd (false≢true h)
-part_of_name row One h live = absurd (false≢true h)
+part_of_name row AnyOnce h live = absurd (false≢true h)
 
-part_of_target : (row : Row) (o : Option Ref) → is_name_if_written o ≡ true → ((e : ℕ) → Contains (option_map_or name_in o []) e → 0 < e) → option_map (narrowed_part row) o ≡ option_map searched_part o
+part_of_target : (row : Row) (o : Option Ref) → is_entity_if_written o ≡ true → ((e : ℕ) → Contains (option_map_or name_in o []) e → 0 < e) → option_map (narrowed_part row) o ≡ option_map searched_part o
 part_of_target row None h live = refl
 part_of_target row (Some r) h live = ap Some (part_of_name row r h live)
 
 same_pattern : (row : Row) (t : Term) → asks_one_id t ≡ true → ((e : ℕ) → Contains (term_names t) e → 0 < e) → narrowed row (pattern_of t) ≡ searched_pattern t
 same_pattern row t h live =
-    let own : List ℕ = name_in t.first in
+    let own : List ℕ = name_in t.component in
     let aim : List ℕ = option_map_or name_in t.target [] in
     let behind : List ℕ = name_in t.source in
-    let first = part_of_name row t.first (asks_one t h).first (λ e c. live e (Contains-append_left (own ++ aim) behind e (Contains-append_left own aim e c))) in
+    let first = part_of_name row t.component (asks_one t h).first (λ e c. live e (Contains-append_left (own ++ aim) behind e (Contains-append_left own aim e c))) in
     let target = part_of_target row t.target (asks_one t h).target (λ e c. live e (Contains-append_left (own ++ aim) behind e (Contains-append_right own aim e c))) in
     λ k. record { first = first k; second = target k }
 
@@ -375,7 +375,7 @@ of_first : (r : Ref) → is_first r ≡ true → (variable_of r == 0) ≡ true
 of_first (Var u) h = h
 of_first (Is e) h = absurd (false≢true h)
 of_first Any h = absurd (false≢true h)
-of_first One h = absurd (false≢true h)
+of_first AnyOnce h = absurd (false≢true h)
 
 pub kept_queries_stay_within : KeptQueriesStayWithin
 kept_queries_stay_within v q lists planned tables limit s t by judges =

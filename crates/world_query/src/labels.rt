@@ -14,7 +14,7 @@ use std::alloc::{AllocError, Allocator};
 
 /// A text with room behind it, as a sheet likes it: the first `count` bytes are the text.
 #[derive(Drop)]
-pub(crate) struct Piece<B: Allocator> {
+pub(crate) struct PaddedText<B: Allocator> {
     pub(crate) bytes: Vec<u8, B>,
     pub(crate) count: usize,
 }
@@ -37,11 +37,11 @@ const NOBODY: u64 = 1 << 32;
 #[derive(Drop)]
 pub(crate) struct Label<'w, A: Allocator, B: Allocator> {
     pub(crate) id: Option<Id>,
-    pub(crate) text: Piece<B>,
+    pub(crate) text: PaddedText<B>,
     pub(crate) schema: Option<&'w Schema<A>>,
 }
 
-impl<B: Allocator> Piece<B> {
+impl<B: Allocator> PaddedText<B> {
     /// How a row begins with the binding of a variable: `row $v=`.
     pub(crate) fn first_binding(alloc: B, name: &[u8]) -> Result<Self, AllocError>
         ensures { IfOk result (λ p. text_of p ≡ codes "row" ++ binding_start name.now) }
@@ -50,7 +50,7 @@ impl<B: Allocator> Piece<B> {
         bytes.extend_from_slice(b"row $")?;
         bytes.extend_from_slice(name)?;
         bytes.extend_from_slice(b"=")?;
-        let mut piece = Piece { bytes, count: 0 };
+        let mut piece = PaddedText { bytes, count: 0 };
         piece.close()?;
         Ok(piece)
     }
@@ -63,7 +63,7 @@ impl<B: Allocator> Piece<B> {
         bytes.extend_from_slice(b" $")?;
         bytes.extend_from_slice(name)?;
         bytes.extend_from_slice(b"=")?;
-        let mut piece = Piece { bytes, count: 0 };
+        let mut piece = PaddedText { bytes, count: 0 };
         piece.close()?;
         Ok(piece)
     }
@@ -169,7 +169,7 @@ impl<'w, A: Allocator, B: Allocator> Label<'w, A, B> {
     {
         Label {
             id: None,
-            text: Piece {
+            text: PaddedText {
                 bytes: Vec::new(alloc),
                 count: 0,
             },

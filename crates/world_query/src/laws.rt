@@ -1,6 +1,7 @@
 //! What is proved of runs of planned queries: each function's contract is a law, and its body does nothing.
 
-ghost use Rattle.world_query.specs.Probes.{AskedQueriesHaveTerms, FactsCountAlike, KeptQueriesStayWithin, KeptRowsStayWithin, PlannedQueriesStayWithin, SimpleQueriesStayWithin};
+ghost use Rattle.world_query.specs.Probes.{AskedQueriesHaveTerms, FactsCountAlike, KeptQueriesStayWithin, KeptRowsStayWithin, PlannedQueriesStayWithin};
+ghost use Rattle.world_query.specs.Probes.{SimpleQueriesStayWithin};
 
 /// Law: a run of a simple query, planned in the world in which it runs, makes at most as many probes as the query has items times the tables
 /// of the shortest list among its items that must match.

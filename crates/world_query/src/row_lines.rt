@@ -7,9 +7,10 @@ ghost use Rattle.ecs_model.specs.Print.{field_text, index_text, value_text};
 ghost use Rattle.ecs_model.specs.rows.View.{view_of};
 ghost use Rattle.ecs_print.specs.Stops.{StopsWithin};
 ghost use Rattle.plan_fields.specs.Fields.{shown_field};
-ghost use Rattle.world_query.specs.Lines.{AreTexts, IsEntityText, IsKept, IsLabel, IsLabelOf, field_end, label_text, line_end, line_headed, row_alone, started, starts_in, text_of, written};
+ghost use Rattle.world_query.specs.Lines.{AreTexts, IsEntityText, IsKept, IsLabel, IsLabelOf, field_end, label_text, line_end, line_headed, row_alone, started};
+ghost use Rattle.world_query.specs.Lines.{starts_in, text_of, written};
 
-use crate::labels::{EntityText, Label, Piece, place_of_source, place_of_text};
+use crate::labels::{EntityText, Label, PaddedText, place_of_source, place_of_text};
 use crate::sheet::{CHUNK, put, put_pair};
 use ecs_id::Id;
 use ecs_print::{MOST_TEXT, put_fields};
@@ -33,7 +34,7 @@ pub(crate) struct Texts<'w, A: Allocator, B: Allocator> {
 /// one begins with `row`.
 pub(crate) fn write_row<'w, A: Allocator, B: Allocator>(
     world: &'w World<A>,
-    starts: &[Piece<B>],
+    starts: &[PaddedText<B>],
     entities: &[u32],
     fields: &Fields<B>,
     texts: &mut Texts<'w, A, B>,
@@ -42,8 +43,10 @@ pub(crate) fn write_row<'w, A: Allocator, B: Allocator>(
 ) -> Result<(), AllocError>
     requires texts { AreTexts world.now.state (length starts.now) (length (fields.now).items) texts.old }
     ensures texts { OnOk result (AreTexts world.now.state (length starts.now) (length (fields.now).items) texts.new) }
-    ensures row { OnOk result (written out.new end.new ≡ written out.old end.old ++ line_headed world.now.state (starts_in starts.now) entities.now (fields.now).current) }
-    ensures front { OnErr result (StopsWithin (written out.old end.old) (written out.new end.new) (line_headed world.now.state (starts_in starts.now) entities.now (fields.now).current)) }
+    ensures row { OnOk result (written out.new end.new ≡ written out.old end.old
+        ++ line_headed world.now.state (starts_in starts.now) entities.now (fields.now).current) }
+    ensures front { OnErr result (StopsWithin (written out.old end.old) (written out.new end.new)
+        (line_headed world.now.state (starts_in starts.now) entities.now (fields.now).current)) }
 {
     begin_row(starts, end, out)?;
     write_bindings(
@@ -59,7 +62,7 @@ pub(crate) fn write_row<'w, A: Allocator, B: Allocator>(
 
 /// Writes `row` where no binding begins with it.
 fn begin_row<A: Allocator, B: Allocator>(
-    starts: &[Piece<B>],
+    starts: &[PaddedText<B>],
     end: &mut usize,
     out: &mut Vec<u8, A>,
 ) -> Result<(), AllocError>
@@ -75,7 +78,7 @@ fn begin_row<A: Allocator, B: Allocator>(
 /// Writes the entities of variables, ` $v=E` for each.
 fn write_bindings<A: Allocator, B: Allocator>(
     world: &World<A>,
-    starts: &[Piece<B>],
+    starts: &[PaddedText<B>],
     entities: &[u32],
     texts: &mut [EntityText<B>],
     end: &mut usize,
@@ -84,8 +87,10 @@ fn write_bindings<A: Allocator, B: Allocator>(
     requires places { length starts.now ≤ length texts.old }
     requires texts { All (IsKept world.now.state) texts.old }
     ensures texts { OnOk result (All (IsKept world.now.state) texts.new) }
-    ensures text { OnOk result (written out.new end.new ≡ written out.old end.old ++ flat_map (started world.now.state) (zip (starts_in starts.now) entities.now)) }
-    ensures front { OnErr result (StopsWithin (written out.old end.old) (written out.new end.new) (flat_map (started world.now.state) (zip (starts_in starts.now) entities.now))) }
+    ensures text { OnOk result (written out.new end.new ≡ written out.old end.old
+        ++ flat_map (started world.now.state) (zip (starts_in starts.now) entities.now)) }
+    ensures front { OnErr result (StopsWithin (written out.old end.old) (written out.new end.new)
+        (flat_map (started world.now.state) (zip (starts_in starts.now) entities.now))) }
 {
     for place in 0..starts.len().min(entities.len()) {
         write_binding(
@@ -112,8 +117,10 @@ fn write_all_fields<'w, A: Allocator, B: Allocator>(
 ) -> Result<(), AllocError>
     requires texts { AreTexts world.now.state columns (length (fields.now).items) texts.old }
     ensures texts { OnOk result (AreTexts world.now.state columns (length (fields.now).items) texts.new) }
-    ensures text { OnOk result (written out.new end.new ≡ written out.old end.old ++ flat_map (field_text world.now.state) (map (shown_field (view_of world.now.state)) (fields.now).current) ++ codes "\n") }
-    ensures front { OnErr result (StopsWithin (written out.old end.old) (written out.new end.new) (flat_map (field_text world.now.state) (map (shown_field (view_of world.now.state)) (fields.now).current) ++ codes "\n")) }
+    ensures text { OnOk result (written out.new end.new ≡ written out.old end.old
+        ++ flat_map (field_text world.now.state) (map (shown_field (view_of world.now.state)) (fields.now).current) ++ codes "\n") }
+    ensures front { OnErr result (StopsWithin (written out.old end.old) (written out.new end.new)
+        (flat_map (field_text world.now.state) (map (shown_field (view_of world.now.state)) (fields.now).current) ++ codes "\n")) }
 {
     let Some(last) = fields.len().checked_sub(1) else {
         return put(b"\n                               ", 1, end, out);
@@ -136,7 +143,7 @@ fn write_all_fields<'w, A: Allocator, B: Allocator>(
 /// Writes a binding behind its start.
 fn write_binding<A: Allocator, B: Allocator>(
     world: &World<A>,
-    start: &Piece<B>,
+    start: &PaddedText<B>,
     entity: u32,
     place: usize,
     texts: &mut [EntityText<B>],
@@ -177,8 +184,10 @@ fn write_field<'w, A: Allocator, B: Allocator>(
     requires label { IsLabel world.now.state label.old }
     ensures texts { OnOk result (All (IsKept world.now.state) texts.new) }
     ensures label { OnOk result (IsLabel world.now.state label.new) }
-    ensures text { OnOk result (written out.new end.new ≡ written out.old end.old ++ field_text world.now.state (shown_field (view_of world.now.state) shown) ++ line_end is_last) }
-    ensures front { OnErr result (StopsWithin (written out.old end.old) (written out.new end.new) (field_text world.now.state (shown_field (view_of world.now.state) shown) ++ line_end is_last)) }
+    ensures text { OnOk result (written out.new end.new ≡ written out.old end.old ++ field_text world.now.state (shown_field (view_of world.now.state) shown)
+        ++ line_end is_last) }
+    ensures front { OnErr result (StopsWithin (written out.old end.old) (written out.new end.new)
+        (field_text world.now.state (shown_field (view_of world.now.state) shown) ++ line_end is_last)) }
 {
     let Some(fact) = shown else {
         return write_unset(is_last, end, out);
@@ -186,7 +195,7 @@ fn write_field<'w, A: Allocator, B: Allocator>(
     label.turn_to(world, fact.id)?;
     let found = place_of_source(world, texts, place, fact.source)?;
     let source = &texts[found];
-    if fact.valued {
+    if fact.shows_value {
         return write_valued(world, fact, is_last, label, source, end, out);
     }
     write_bare(world, fact.id, is_last, label, source, end, out)
@@ -219,8 +228,11 @@ fn write_valued<'w, A: Allocator, B: Allocator>(
 ) -> Result<(), AllocError>
     requires label { IsLabelOf world.now.state label.now fact.id }
     requires source { IsEntityText world.now.state source.now }
-    ensures text { OnOk result (written out.new end.new ≡ written out.old end.old ++ label_text world.now.state fact.id ++ index_text world.now.state (source.now).index ++ value_text ((view_of world.now.state).value fact.source fact.id) ++ field_end is_last) }
-    ensures front { OnErr result (StopsWithin (written out.old end.old) (written out.new end.new) (label_text world.now.state fact.id ++ index_text world.now.state (source.now).index ++ value_text ((view_of world.now.state).value fact.source fact.id) ++ field_end is_last)) }
+    ensures text { OnOk result (written out.new end.new ≡ written out.old end.old ++ label_text world.now.state fact.id
+        ++ index_text world.now.state (source.now).index ++ value_text ((view_of world.now.state).value fact.source fact.id) ++ field_end is_last) }
+    ensures front { OnErr result (StopsWithin (written out.old end.old) (written out.new end.new)
+        (label_text world.now.state fact.id ++ index_text world.now.state (source.now).index ++ value_text ((view_of world.now.state).value fact.source fact.id)
+        ++ field_end is_last)) }
 {
     let Some(schema) = label.schema else {
         return write_bare(world, fact.id, is_last, label, source, end, out);
@@ -254,8 +266,10 @@ fn write_bare<'w, A: Allocator, B: Allocator>(
 ) -> Result<(), AllocError>
     requires label { IsLabelOf world.now.state label.now id }
     requires source { IsEntityText world.now.state source.now }
-    ensures text { OnOk result (written out.new end.new ≡ written out.old end.old ++ label_text world.now.state id ++ index_text world.now.state (source.now).index ++ field_end is_last) }
-    ensures front { OnErr result (StopsWithin (written out.old end.old) (written out.new end.new) (label_text world.now.state id ++ index_text world.now.state (source.now).index ++ field_end is_last)) }
+    ensures text { OnOk result (written out.new end.new ≡ written out.old end.old ++ label_text world.now.state id
+        ++ index_text world.now.state (source.now).index ++ field_end is_last) }
+    ensures front { OnErr result (StopsWithin (written out.old end.old) (written out.new end.new)
+        (label_text world.now.state id ++ index_text world.now.state (source.now).index ++ field_end is_last)) }
 {
     put_pair(
         label.text.bytes.as_slice(),
@@ -277,7 +291,8 @@ fn write_numbers<A: Allocator>(
 ) -> Result<(), AllocError>
     requires { length bytes.now ≡ size_of schema.now }
     ensures text { OnOk result (written out.new end.new ≡ written out.old end.old ++ value_text (Some (values_in schema.now bytes.now)) ++ field_end is_last) }
-    ensures front { OnErr result (StopsWithin (written out.old end.old) (written out.new end.new) (value_text (Some (values_in schema.now bytes.now)) ++ field_end is_last)) }
+    ensures front { OnErr result (StopsWithin (written out.old end.old) (written out.new end.new)
+        (value_text (Some (values_in schema.now bytes.now)) ++ field_end is_last)) }
 {
     let mut text = [b']'; MOST_TEXT + CHUNK];
     text[MOST_TEXT + 1] = b'\n';

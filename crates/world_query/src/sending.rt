@@ -67,7 +67,8 @@ pub fn send_list<A: Allocator, W: Sink>(
 ) -> Result<(), SendError>
     ensures sent { OnOk result (IsSent (W.contents writer.old) (W.contents writer.new) out.old.items out.new.items []) }
     ensures unsent { OnOk result (length out.new.items ≤ most) }
-    ensures front { (text : List ℕ) → OnErr result (StopsSending (IsRefused result) (W.contents writer.old) (W.contents writer.new) out.old.items out.new.items text) }
+    ensures front { (text : List ℕ) → OnErr result (StopsSending (IsRefused result) (W.contents writer.old)
+        (W.contents writer.new) out.old.items out.new.items text) }
     ensures same { OnErr result (out.new.items ≡ out.old.items) }
     ensures writes { FailsAtWrite (W.calls writer.old) result (W.calls writer.new) }
     ensures kept { most ≡ most_usize → writer.new ≡ writer.old }
@@ -90,7 +91,8 @@ pub(crate) fn send_beyond<A: Allocator, W: Sink>(
 ) -> Result<(), SendError>
     ensures sent { OnOk result (IsSent (W.contents writer.old) (W.contents writer.new) (written sheet.now end.old) (written sheet.now end.new) []) }
     ensures unsent { OnOk result (length (written sheet.now end.new) ≤ most) }
-    ensures front { (text : List ℕ) → OnErr result (StopsSending (IsRefused result) (W.contents writer.old) (W.contents writer.new) (written sheet.now end.old) (written sheet.now end.new) text) }
+    ensures front { (text : List ℕ) → OnErr result (StopsSending (IsRefused result) (W.contents writer.old) (W.contents writer.new) (written sheet.now end.old)
+        (written sheet.now end.new) text) }
     ensures same { OnErr result (end.new ≡ end.old) }
     ensures writes { FailsAtWrite (W.calls writer.old) result (W.calls writer.new) }
     ensures kept { most ≡ most_usize → writer.new ≡ writer.old }
@@ -110,7 +112,8 @@ fn send<A: Allocator, W: Sink>(
 ) -> Result<(), SendError>
     ensures sent { OnOk result (IsSent (W.contents writer.old) (W.contents writer.new) (written sheet.now end.old) (written sheet.now end.new) []) }
     ensures none { OnOk result (end.new ≡ 0) }
-    ensures front { (text : List ℕ) → OnErr result (StopsSending (IsRefused result) (W.contents writer.old) (W.contents writer.new) (written sheet.now end.old) (written sheet.now end.new) text) }
+    ensures front { (text : List ℕ) → OnErr result (StopsSending (IsRefused result) (W.contents writer.old) (W.contents writer.new) (written sheet.now end.old)
+        (written sheet.now end.new) text) }
     ensures same { OnErr result (end.new ≡ end.old) }
     ensures writes { FailsAtWrite (W.calls writer.old) result (W.calls writer.new) }
 {

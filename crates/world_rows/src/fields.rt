@@ -80,7 +80,7 @@ pub(crate) fn field_of<'w, W: Allocator>(world: &'w World<W>, fact: ShownFact) -
     ensures fields { HasItsFields world.now.state (Some result) }
 {
     let (source, id) = (fact.source, fact.id);
-    let value = shown_value(world, source, id, fact.valued);
+    let value = shown_value(world, source, id, fact.shows_value);
     Field { source, id, value }
 }
 
@@ -132,12 +132,12 @@ fn shown_value<'w, W: Allocator>(
     world: &'w World<W>,
     source: u32,
     id: Id,
-    valued: bool,
+    shows_value: bool,
 ) -> Option<FactValue<'w, W>>
-    ensures numbers { option_map numbers_of result ≡ (if valued then (view_of world.now.state).value source id else None) }
+    ensures numbers { option_map numbers_of result ≡ (if shows_value then (view_of world.now.state).value source id else None) }
     ensures schema { IfSome result (λ v. type_of_id world.now.state id ≡ Some v.schema) }
 {
-    if !valued {
+    if !shows_value {
         return None;
     }
     value_of(world, source, id)

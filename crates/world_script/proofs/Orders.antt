@@ -16,17 +16,17 @@ use Rattle.ecs_model.specs.declared.watches.StoredKind.{StoredKind}
 use Rattle.ecs_model.specs.Schema.{Schema, schema_fault}
 use Rattle.ecs_model.specs.Refusal.{refusal_text, schema_fault_text}
 use Rattle.ecs_model.specs.Print.{fault_text}
-use Rattle.ecs_model.specs.traits.Command.{Command, Fresh, Entity, Component, Add, SetValue, Remove, Delete}
-use Rattle.ecs_model.specs.Orders.{EntityRef, IdRef, Order, MakeFresh, MakeEntity, MakeComponent, AddTo, SetIn, RemoveFrom, DeleteOne, command_of, entity_found}
+use Rattle.ecs_model.specs.steps.Step.{Command, Fresh, Entity, Component, Add, SetValue, Remove, Delete}
+use Rattle.ecs_model.specs.Orders.{EntityRef, IdRef, WorldOrder, MakeFresh, MakeEntity, MakeComponent, AddTo, SetIn, RemoveFrom, DeleteOne, command_of, entity_found}
 use Rattle.ecs_model.specs.Query.{query_of}
 use Rattle.ecs_model.specs.rows.Text.{rows_text}
-use Rattle.ecs_model.specs.Script.{Form, Nothing, LongLine, BadLine, Obey, Define, Show, Ask, AskKept}
+use Rattle.ecs_model.specs.Script.{Form, Nothing, LongLine, BadLine, CarryOut, Define, Show, Ask, AskKept}
 use Rattle.ecs_model.specs.Output.{effect_of, own_text, order_effect, define_effect, show_effect, ask_effect, kept_effect, refused_line, show_text}
 use Rattle.ecs_model.specs.stored.Session.{Answer, Drop, InWorld, SessionOrder, SessionState, Store, apply, events, free_order, in_world, kept_query}
 use Rattle.ecs_model.specs.stored.Refusal.{session_refusal_text}
 use Rattle.ecs_model.specs.stored.Watches.{event_text}
 use Rattle.ecs_world.specs.Standing.{Standing as World}
-use Rattle.ecs_observe.specs.Answers.{AnswersApply, AnswersRows, obeyed}
+use Rattle.ecs_observe.specs.Answers.{AnswersApply, AnswersRows, carried_out}
 use Rattle.ecs_observe.specs.Standing.{Standing, session_of}
 use Rattle.ecs_observe.specs.declared.errors.SessionError.{SessionError}
 use Rattle.ecs_observe.specs.declared.errors.SessionError.TheVariants.{Refused, Memory}
@@ -46,17 +46,17 @@ IsSilent order = (born : Option EntityId) → own_text order born ≡ []
 -- ---- what a command of the world is for a session
 
 -- an order that means a command of the world
-apply-command : (s : SessionState) (order : Order) (c : Command) → command_of s.world order ≡ Ok c → obeyed s c ≡ apply s (InWorld order)
+apply-command : (s : SessionState) (order : WorldOrder) (c : Command) → command_of s.world order ≡ Ok c → carried_out s c ≡ apply s (InWorld order)
 unfolding apply free_order
 apply-command s order c e = ap (λ r. if is_some s.waiting then Err EventsPending else in_world s r) (sym e)
 
 -- one whose references are refused, while no events wait
-apply-unfound : (s : SessionState) (order : Order) (reason : Refusal) → s.waiting ≡ None → command_of s.world order ≡ Err reason → apply s (InWorld order) ≡ Err (OfWorld reason)
+apply-unfound : (s : SessionState) (order : WorldOrder) (reason : Refusal) → s.waiting ≡ None → command_of s.world order ≡ Err reason → apply s (InWorld order) ≡ Err (OfWorld reason)
 unfolding apply free_order
 apply-unfound s order reason none e = ap (λ o. if is_some o then Err EventsPending else in_world s (command_of s.world order)) none ∙ ap (in_world s) e
 
 -- in the world of a session
-command_in : (s : Standing) (w : World) (order : Order) → w ≡ s.world → command_of (session_of s).world order ≡ command_of w.state order
+command_in : (s : Standing) (w : World) (order : WorldOrder) → w ≡ s.world → command_of (session_of s).world order ≡ command_of w.state order
 unfolding session_of
 command_in s w order same = ap (λ v. command_of v.state order) (sym same)
 
@@ -105,9 +105,9 @@ module _ (r : Result Bool AllocError) (old mid new : Standing) (n : ℕ) (before
   Tells = IfOk r (TellsAnswer answer n (session_of mid) (session_of new) before after)
 
   abbrev Obeys : SessionOrder → Type 0
-  Obeys order = IfOk r (IsDone (effect_of (session_of old) n (Obey order)) (session_of new) before after)
+  Obeys order = IfOk r (IsDone (effect_of (session_of old) n (CarryOut order)) (session_of new) before after)
 
-  pub IfOk-new : AnswersApply answer (obeyed (session_of old) Fresh) old mid → IfOk r (TellsBorn answer n (session_of mid) (session_of new) before after) → Obeys (InWorld MakeFresh)
+  pub IfOk-new : AnswersApply answer (carried_out (session_of old) Fresh) old mid → IfOk r (TellsBorn answer n (session_of mid) (session_of new) before after) → Obeys (InWorld MakeFresh)
   unfolding effect_of command_of
   IfOk-new answered =
       let P : Answer → Type 0 = λ a. AnswersApply answer a old mid in
@@ -124,40 +124,40 @@ module _ (r : Result Bool AllocError) (old mid new : Standing) (n : ℕ) (before
   IfOk-drop name = IfOk-order (Drop name) (λ _. refl)
 
   -- a command of the world
-  IfOk-command : (w : World) (order : Order) (c : Command) → w ≡ old.world → IsSilent (InWorld order) → command_of w.state order ≡ Ok c
-      → AnswersApply answer (obeyed (session_of old) c) old mid → Tells → Obeys (InWorld order)
+  IfOk-command : (w : World) (order : WorldOrder) (c : Command) → w ≡ old.world → IsSilent (InWorld order) → command_of w.state order ≡ Ok c
+      → AnswersApply answer (carried_out (session_of old) c) old mid → Tells → Obeys (InWorld order)
   IfOk-command w order c same silent e answered =
       let P : Answer → Type 0 = λ a. AnswersApply answer a old mid in
       IfOk-order (InWorld order) silent (subst P (apply-command (session_of old) order c (command_in old w order same ∙ e)) answered)
 
-  pub IfOk-entity : (name : List ℕ) → AnswersApply answer (obeyed (session_of old) (Entity name)) old mid → Tells → Obeys (InWorld (MakeEntity name))
+  pub IfOk-entity : (name : List ℕ) → AnswersApply answer (carried_out (session_of old) (Entity name)) old mid → Tells → Obeys (InWorld (MakeEntity name))
   unfolding command_of
   IfOk-entity name = IfOk-command old.world (MakeEntity name) (Entity name) refl (λ _. refl) refl
 
   -- a command of an entity and an id
   pub IfOk-add : (w : World) (entity : EntityRef) (id : IdRef) (both : EntityId × Id) → w ≡ old.world → FindsBoth w.state entity id (Ok both)
-      → AnswersApply answer (obeyed (session_of old) (Add both.0 both.1)) old mid → Tells → Obeys (InWorld (AddTo entity id))
+      → AnswersApply answer (carried_out (session_of old) (Add both.0 both.1)) old mid → Tells → Obeys (InWorld (AddTo entity id))
   unfolding command_of
   IfOk-add w entity id both same finds = IfOk-command w (AddTo entity id) (Add both.0 both.1) same (λ _. refl) (finds Add)
 
   pub IfOk-set : (w : World) (entity : EntityRef) (id : IdRef) (values : List ℤ) (both : EntityId × Id) → w ≡ old.world → FindsBoth w.state entity id (Ok both)
-      → AnswersApply answer (obeyed (session_of old) (SetValue both.0 both.1 values)) old mid → Tells → Obeys (InWorld (SetIn entity id values))
+      → AnswersApply answer (carried_out (session_of old) (SetValue both.0 both.1 values)) old mid → Tells → Obeys (InWorld (SetIn entity id values))
   unfolding command_of
   IfOk-set w entity id values both same finds = IfOk-command w (SetIn entity id values) (SetValue both.0 both.1 values) same (λ _. refl) (finds (λ e i. SetValue e i values))
 
   pub IfOk-remove : (w : World) (entity : EntityRef) (id : IdRef) (both : EntityId × Id) → w ≡ old.world → FindsBoth w.state entity id (Ok both)
-      → AnswersApply answer (obeyed (session_of old) (Remove both.0 both.1)) old mid → Tells → Obeys (InWorld (RemoveFrom entity id))
+      → AnswersApply answer (carried_out (session_of old) (Remove both.0 both.1)) old mid → Tells → Obeys (InWorld (RemoveFrom entity id))
   unfolding command_of
   IfOk-remove w entity id both same finds = IfOk-command w (RemoveFrom entity id) (Remove both.0 both.1) same (λ _. refl) (finds Remove)
 
   -- an entity that goes
-  pub IfOk-delete : (w : World) (entity : EntityRef) (e : EntityId) → w ≡ old.world → entity_found w.state entity ≡ Ok e → AnswersApply answer (obeyed (session_of old) (Delete e)) old mid → Tells
+  pub IfOk-delete : (w : World) (entity : EntityRef) (e : EntityId) → w ≡ old.world → entity_found w.state entity ≡ Ok e → AnswersApply answer (carried_out (session_of old) (Delete e)) old mid → Tells
       → Obeys (InWorld (DeleteOne entity))
   unfolding command_of
   IfOk-delete w entity e same found = IfOk-command w (DeleteOne entity) (Delete e) same (λ _. refl) (ap asked_to_delete found)
 
   -- a component whose fields make a schema
-  pub IfOk-component : (name : List ℕ) (fields : Schema) → schema_fault fields ≡ None → AnswersApply answer (obeyed (session_of old) (Component name fields)) old mid → Tells
+  pub IfOk-component : (name : List ℕ) (fields : Schema) → schema_fault fields ≡ None → AnswersApply answer (carried_out (session_of old) (Component name fields)) old mid → Tells
       → IfOk r (IsDone (effect_of (session_of old) n (Define name fields)) (session_of new) before after)
   unfolding effect_of command_of
   IfOk-component name fields sound answered told =
@@ -198,30 +198,30 @@ module _ (r : Result Bool AllocError) (s : Standing) (n : ℕ) (before after : L
   MayLeave form = IfOk r (IsDone (effect_of (session_of s) n form) (session_of s) before after)
 
   -- an order whose references are refused
-  IfOk-unfound : (w : World) (order : Order) (reason : Refusal) → s.waiting ≡ None → w ≡ s.world → command_of w.state order ≡ Err reason
-      → IfOk r (TellsRefusal n (refusal_text reason) before after) → MayLeave (Obey (InWorld order))
+  IfOk-unfound : (w : World) (order : WorldOrder) (reason : Refusal) → s.waiting ≡ None → w ≡ s.world → command_of w.state order ≡ Err reason
+      → IfOk r (TellsRefusal n (refusal_text reason) before after) → MayLeave (CarryOut (InWorld order))
   unfolding effect_of
   IfOk-unfound w order reason none same e = IfOk-weaker r _ _ (λ refused told.
       let P : Answer → Type 0 = λ a. IsDone (order_effect (session_of s) n (InWorld order) a) (session_of s) before after refused in
       subst P (sym (apply-unfound (session_of s) order reason (waits-none s none) (command_in s w order same ∙ e))) (IsDone-refused (session_of s) n (refusal_text reason) before after refused told))
 
   pub IfOk-add_unfound : (w : World) (entity : EntityRef) (id : IdRef) (reason : Refusal) → s.waiting ≡ None → w ≡ s.world → FindsBoth w.state entity id (Err reason)
-      → IfOk r (TellsRefusal n (refusal_text reason) before after) → MayLeave (Obey (InWorld (AddTo entity id)))
+      → IfOk r (TellsRefusal n (refusal_text reason) before after) → MayLeave (CarryOut (InWorld (AddTo entity id)))
   unfolding command_of
   IfOk-add_unfound w entity id reason none same finds = IfOk-unfound w (AddTo entity id) reason none same (finds Add)
 
   pub IfOk-set_unfound : (w : World) (entity : EntityRef) (id : IdRef) (values : List ℤ) (reason : Refusal) → s.waiting ≡ None → w ≡ s.world → FindsBoth w.state entity id (Err reason)
-      → IfOk r (TellsRefusal n (refusal_text reason) before after) → MayLeave (Obey (InWorld (SetIn entity id values)))
+      → IfOk r (TellsRefusal n (refusal_text reason) before after) → MayLeave (CarryOut (InWorld (SetIn entity id values)))
   unfolding command_of
   IfOk-set_unfound w entity id values reason none same finds = IfOk-unfound w (SetIn entity id values) reason none same (finds (λ e i. SetValue e i values))
 
   pub IfOk-remove_unfound : (w : World) (entity : EntityRef) (id : IdRef) (reason : Refusal) → s.waiting ≡ None → w ≡ s.world → FindsBoth w.state entity id (Err reason)
-      → IfOk r (TellsRefusal n (refusal_text reason) before after) → MayLeave (Obey (InWorld (RemoveFrom entity id)))
+      → IfOk r (TellsRefusal n (refusal_text reason) before after) → MayLeave (CarryOut (InWorld (RemoveFrom entity id)))
   unfolding command_of
   IfOk-remove_unfound w entity id reason none same finds = IfOk-unfound w (RemoveFrom entity id) reason none same (finds Remove)
 
   pub IfOk-delete_unfound : (w : World) (entity : EntityRef) (reason : Refusal) → s.waiting ≡ None → w ≡ s.world → entity_found w.state entity ≡ Err reason
-      → IfOk r (TellsRefusal n (refusal_text reason) before after) → MayLeave (Obey (InWorld (DeleteOne entity)))
+      → IfOk r (TellsRefusal n (refusal_text reason) before after) → MayLeave (CarryOut (InWorld (DeleteOne entity)))
   unfolding command_of
   IfOk-delete_unfound w entity reason none same unfound = IfOk-unfound w (DeleteOne entity) reason none same (ap asked_to_delete unfound)
 

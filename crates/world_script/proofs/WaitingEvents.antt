@@ -13,7 +13,7 @@ use Rattle.ecs_model.specs.declared.faults.SessionRefusal.{SessionRefusal}
 use Rattle.ecs_model.specs.Orders.{MakeComponent, entity_found}
 use Rattle.ecs_model.specs.Query.{query_of}
 use Rattle.ecs_model.specs.Schema.{Schema, schema_fault}
-use Rattle.ecs_model.specs.Script.{Form, Nothing, LongLine, BadLine, Obey, Define, Show, Ask, AskKept, form_of}
+use Rattle.ecs_model.specs.Script.{Form, Nothing, LongLine, BadLine, CarryOut, Define, Show, Ask, AskKept, form_of}
 use Rattle.ecs_model.specs.Output.{effect_of, order_effect, define_effect, show_effect, ask_effect, kept_effect}
 use Rattle.ecs_model.specs.stored.Session.{Answer, InWorld, SessionOrder, SessionState, after_events, apply, events, first_session, kept_query}
 use Rattle.ecs_observe.specs.Standing.{Standing, session_of}
@@ -83,7 +83,7 @@ module _ (s : SessionState) (n : ℕ) (none : s.waiting ≡ None) where
   behind_form Nothing = none
   behind_form LongLine = none
   behind_form BadLine = none
-  behind_form (Obey order) = behind_order order (apply s order)
+  behind_form (CarryOut order) = behind_order order (apply s order)
   behind_form (Define name fields) = behind_component name fields (schema_fault fields)
   behind_form (Show r) = behind_show (entity_found s.world r)
   behind_form (Ask text) = behind_query (query_of s.world text)

@@ -2,7 +2,7 @@
 ghost use Rattle.std.specs.Prelude.{◌≡◌, map, IfOk, IfSome, None, Ok, OnOk};
 ghost use Rattle.ecs_model.specs.Text.{words};
 ghost use Rattle.ecs_model.specs.Orders.{EntityRef, IdRef, MakeFresh, MakeEntity, AddTo, SetIn, RemoveFrom, DeleteOne};
-ghost use Rattle.ecs_model.specs.Script.{Obey, Define, Show, Ask, AskKept, entity_line, one_word};
+ghost use Rattle.ecs_model.specs.Script.{CarryOut, Define, Show, Ask, AskKept, entity_line, one_word};
 ghost use Rattle.ecs_model.specs.Output.{effect_of};
 ghost use Rattle.ecs_model.specs.stored.Session.{Drop, InWorld, Store};
 ghost use Rattle.ecs_observe.specs.Standing.{session_of};
@@ -42,7 +42,8 @@ pub(crate) fn run_line<A: Allocator + Copy, W: Sink>(
     writer: &mut W,
 ) -> Result<bool, SendError>
     requires none_wait { session.old.waiting ≡ None }
-    ensures does { DoesLine (line_effect (session_of session.old) number line.now) (session_of session.new) W.contents W.calls writer.old writer.new most output.old.items output.new.items result }
+    ensures does { DoesLine (line_effect (session_of session.old) number line.now)
+        (session_of session.new) W.contents W.calls writer.old writer.new most output.old.items output.new.items result }
     ensures none_wait { OnOk result (session.new.waiting ≡ None) }
 {
     run_opened(
@@ -71,7 +72,8 @@ fn run_opened<A: Allocator + Copy, W: Sink>(
     writer: &mut W,
 ) -> Result<bool, SendError>
     requires none_wait { session.old.waiting ≡ None }
-    ensures { DoesLine (effect_of (session_of session.old) number (form_opened opening.entry)) (session_of session.new) W.contents W.calls writer.old writer.new most output.old.items output.new.items result }
+    ensures { DoesLine (effect_of (session_of session.old) number (form_opened opening.entry))
+        (session_of session.new) W.contents W.calls writer.old writer.new most output.old.items output.new.items result }
 {
     match fact_line_in(opening) {
         Some((deed, rest)) => unsent(run_fact_line(session, number, deed, rest, values, output)),
@@ -107,7 +109,8 @@ fn run_other<A: Allocator + Copy, W: Sink>(
     writer: &mut W,
 ) -> Result<bool, SendError>
     requires none_wait { session.old.waiting ≡ None }
-    ensures { DoesLine (effect_of (session_of session.old) number (form_opened opening.entry)) (session_of session.new) W.contents W.calls writer.old writer.new most output.old.items output.new.items result }
+    ensures { DoesLine (effect_of (session_of session.old) number (form_opened opening.entry))
+        (session_of session.new) W.contents W.calls writer.old writer.new most output.old.items output.new.items result }
 {
     match opening {
         Opening::Entity { rest } => unsent(run_entity_line(session, number, rest, output)),
@@ -134,7 +137,8 @@ fn run_rarer<A: Allocator + Copy, W: Sink>(
     writer: &mut W,
 ) -> Result<bool, SendError>
     requires none_wait { session.old.waiting ≡ None }
-    ensures { DoesLine (effect_of (session_of session.old) number (form_opened opening.entry)) (session_of session.new) W.contents W.calls writer.old writer.new most output.old.items output.new.items result }
+    ensures { DoesLine (effect_of (session_of session.old) number (form_opened opening.entry))
+        (session_of session.new) W.contents W.calls writer.old writer.new most output.old.items output.new.items result }
 {
     let form = read_opened(alloc, opening, values)?;
     run_form(
@@ -161,7 +165,8 @@ fn run_fact_line<A: Allocator + Copy>(
     output: &mut Vec<u8, A>,
 ) -> Result<bool, AllocError>
     requires none_wait { session.old.waiting ≡ None }
-    ensures { IfOk result (IsDone (effect_of (session_of session.old) number (deed_line deed rest.now)) (session_of session.new) output.old.items output.new.items) }
+    ensures { IfOk result (IsDone (effect_of (session_of session.old) number (deed_line deed rest.now))
+        (session_of session.new) output.old.items output.new.items) }
 {
     match fact_behind(deed, rest, values)? {
         Some(fact) => run_fact(session, number, deed, fact, values.as_slice(), output),
@@ -180,7 +185,8 @@ fn run_fact<A: Allocator + Copy>(
     output: &mut Vec<u8, A>,
 ) -> Result<bool, AllocError>
     requires none_wait { session.old.waiting ≡ None }
-    ensures { IfOk result (IsDone (effect_of (session_of session.old) number (seen_deed deed values.now fact.entry)) (session_of session.new) output.old.items output.new.items) }
+    ensures { IfOk result (IsDone (effect_of (session_of session.old) number (seen_deed deed values.now fact.entry))
+        (session_of session.new) output.old.items output.new.items) }
 {
     match find_both(session.world(), fact.entity, fact.id) {
         Err(refusal) => refuse_in_world(number, refusal, output),
@@ -200,7 +206,8 @@ fn do_found<A: Allocator + Copy>(
     output: &mut Vec<u8, A>,
 ) -> Result<bool, AllocError>
     ensures { (r : EntityRef) → (i : IdRef) → FindsBoth (session.old.world).state r i (Ok (entity, id))
-        → IfOk result (IsDone (effect_of (session_of session.old) number (deed_form deed r i values.now)) (session_of session.new) output.old.items output.new.items) }
+        → IfOk result (IsDone (effect_of (session_of session.old) number (deed_form deed r i values.now))
+        (session_of session.new) output.old.items output.new.items) }
 {
     match deed {
         Deed::Set => set_found(session, number, entity, id, values, output),
@@ -217,7 +224,7 @@ fn run_entity_line<A: Allocator + Copy>(
     rest: &str,
     output: &mut Vec<u8, A>,
 ) -> Result<bool, AllocError>
-    ensures { IfOk result (IsDone (effect_of (session_of session.old) number (one_word (λ n. Obey (InWorld (MakeEntity n))) (words rest.now)))
+    ensures { IfOk result (IsDone (effect_of (session_of session.old) number (one_word (λ n. CarryOut (InWorld (MakeEntity n))) (words rest.now)))
         (session_of session.new) output.old.items output.new.items) }
 {
     match only_word(rest) {
@@ -236,7 +243,7 @@ fn run_delete_line<A: Allocator + Copy>(
     output: &mut Vec<u8, A>,
 ) -> Result<bool, AllocError>
     requires none_wait { session.old.waiting ≡ None }
-    ensures { IfOk result (IsDone (effect_of (session_of session.old) number (entity_line (λ r. Obey (InWorld (DeleteOne r))) rest.now))
+    ensures { IfOk result (IsDone (effect_of (session_of session.old) number (entity_line (λ r. CarryOut (InWorld (DeleteOne r))) rest.now))
         (session_of session.new) output.old.items output.new.items) }
 {
     match only_entity(rest) {
@@ -256,7 +263,8 @@ fn run_rows_line<A: Allocator + Copy, W: Sink>(
     most: usize,
     writer: &mut W,
 ) -> Result<bool, SendError>
-    ensures { DoesLine (effect_of (session_of session.old) number (one_word AskKept (words rest.now))) (session_of session.new) W.contents W.calls writer.old writer.new most output.old.items output.new.items result }
+    ensures { DoesLine (effect_of (session_of session.old) number (one_word AskKept (words rest.now)))
+        (session_of session.new) W.contents W.calls writer.old writer.new most output.old.items output.new.items result }
 {
     match only_word(rest) {
         Some(name) => run_rows(session, number, name, output, most, writer),
@@ -277,7 +285,8 @@ fn run_form<A: Allocator + Copy, W: Sink>(
     writer: &mut W,
 ) -> Result<bool, SendError>
     requires none_wait { session.old.waiting ≡ None }
-    ensures { DoesLine (effect_of (session_of session.old) number (seen values.now line.entry)) (session_of session.new) W.contents W.calls writer.old writer.new most output.old.items output.new.items result }
+    ensures { DoesLine (effect_of (session_of session.old) number (seen values.now line.entry))
+        (session_of session.new) W.contents W.calls writer.old writer.new most output.old.items output.new.items result }
 {
     match line {
         Line::Nothing => Ok(false),
@@ -321,7 +330,7 @@ fn run_new<A: Allocator + Copy>(
     number: usize,
     output: &mut Vec<u8, A>,
 ) -> Result<bool, AllocError>
-    ensures { IfOk result (IsDone (effect_of (session_of session.old) number (Obey (InWorld MakeFresh)))
+    ensures { IfOk result (IsDone (effect_of (session_of session.old) number (CarryOut (InWorld MakeFresh)))
         (session_of session.new) output.old.items output.new.items) }
 {
     let answer = session.fresh();
@@ -335,7 +344,7 @@ fn run_entity<A: Allocator + Copy>(
     name: &str,
     output: &mut Vec<u8, A>,
 ) -> Result<bool, AllocError>
-    ensures { IfOk result (IsDone (effect_of (session_of session.old) number (Obey (InWorld (MakeEntity name.now))))
+    ensures { IfOk result (IsDone (effect_of (session_of session.old) number (CarryOut (InWorld (MakeEntity name.now))))
         (session_of session.new) output.old.items output.new.items) }
 {
     let answer = session.entity(name);
@@ -374,7 +383,7 @@ fn run_add<A: Allocator + Copy>(
     output: &mut Vec<u8, A>,
 ) -> Result<bool, AllocError>
     requires none_wait { session.old.waiting ≡ None }
-    ensures { IfOk result (IsDone (effect_of (session_of session.old) number (Obey (InWorld (AddTo (seen_reference entity.entry) (seen_id id.entry)))))
+    ensures { IfOk result (IsDone (effect_of (session_of session.old) number (CarryOut (InWorld (AddTo (seen_reference entity.entry) (seen_id id.entry)))))
         (session_of session.new) output.old.items output.new.items) }
 {
     match find_both(session.world(), entity, id) {
@@ -393,7 +402,8 @@ fn add_found<A: Allocator + Copy>(
     output: &mut Vec<u8, A>,
 ) -> Result<bool, AllocError>
     ensures { (r : EntityRef) → (i : IdRef) → FindsBoth (session.old.world).state r i (Ok (entity, id))
-        → IfOk result (IsDone (effect_of (session_of session.old) number (Obey (InWorld (AddTo r i)))) (session_of session.new) output.old.items output.new.items) }
+        → IfOk result (IsDone (effect_of (session_of session.old) number (CarryOut (InWorld (AddTo r i))))
+        (session_of session.new) output.old.items output.new.items) }
 {
     let answer = session.add(entity, id);
     tell_answer(session, number, answer, output)
@@ -410,7 +420,8 @@ fn run_set<A: Allocator + Copy>(
     output: &mut Vec<u8, A>,
 ) -> Result<bool, AllocError>
     requires none_wait { session.old.waiting ≡ None }
-    ensures { IfOk result (IsDone (effect_of (session_of session.old) number (Obey (InWorld (SetIn (seen_reference entity.entry) (seen_id id.entry) values.now))))
+    ensures { IfOk result (IsDone (effect_of (session_of session.old) number
+        (CarryOut (InWorld (SetIn (seen_reference entity.entry) (seen_id id.entry) values.now))))
         (session_of session.new) output.old.items output.new.items) }
 {
     match find_both(session.world(), entity, id) {
@@ -430,7 +441,8 @@ fn set_found<A: Allocator + Copy>(
     output: &mut Vec<u8, A>,
 ) -> Result<bool, AllocError>
     ensures { (r : EntityRef) → (i : IdRef) → FindsBoth (session.old.world).state r i (Ok (entity, id))
-        → IfOk result (IsDone (effect_of (session_of session.old) number (Obey (InWorld (SetIn r i values.now)))) (session_of session.new) output.old.items output.new.items) }
+        → IfOk result (IsDone (effect_of (session_of session.old) number (CarryOut (InWorld (SetIn r i values.now))))
+        (session_of session.new) output.old.items output.new.items) }
 {
     let answer = session.set(entity, id, values);
     tell_answer(session, number, answer, output)
@@ -446,7 +458,7 @@ fn run_remove<A: Allocator + Copy>(
     output: &mut Vec<u8, A>,
 ) -> Result<bool, AllocError>
     requires none_wait { session.old.waiting ≡ None }
-    ensures { IfOk result (IsDone (effect_of (session_of session.old) number (Obey (InWorld (RemoveFrom (seen_reference entity.entry) (seen_id id.entry)))))
+    ensures { IfOk result (IsDone (effect_of (session_of session.old) number (CarryOut (InWorld (RemoveFrom (seen_reference entity.entry) (seen_id id.entry)))))
         (session_of session.new) output.old.items output.new.items) }
 {
     match find_both(session.world(), entity, id) {
@@ -465,7 +477,8 @@ fn remove_found<A: Allocator + Copy>(
     output: &mut Vec<u8, A>,
 ) -> Result<bool, AllocError>
     ensures { (r : EntityRef) → (i : IdRef) → FindsBoth (session.old.world).state r i (Ok (entity, id))
-        → IfOk result (IsDone (effect_of (session_of session.old) number (Obey (InWorld (RemoveFrom r i)))) (session_of session.new) output.old.items output.new.items) }
+        → IfOk result (IsDone (effect_of (session_of session.old) number (CarryOut (InWorld (RemoveFrom r i))))
+        (session_of session.new) output.old.items output.new.items) }
 {
     let answer = session.remove(entity, id);
     tell_answer(session, number, answer, output)
@@ -479,7 +492,7 @@ fn run_delete<A: Allocator + Copy>(
     output: &mut Vec<u8, A>,
 ) -> Result<bool, AllocError>
     requires none_wait { session.old.waiting ≡ None }
-    ensures { IfOk result (IsDone (effect_of (session_of session.old) number (Obey (InWorld (DeleteOne (seen_reference entity.entry)))))
+    ensures { IfOk result (IsDone (effect_of (session_of session.old) number (CarryOut (InWorld (DeleteOne (seen_reference entity.entry)))))
         (session_of session.new) output.old.items output.new.items) }
 {
     match find_entity(session.world(), entity) {
@@ -521,7 +534,8 @@ fn run_query<A: Allocator + Copy, W: Sink>(
     most: usize,
     writer: &mut W,
 ) -> Result<bool, SendError>
-    ensures { DoesLine (effect_of (session_of session.now) number (Ask text.now)) (session_of session.now) W.contents W.calls writer.old writer.new most output.old.items output.new.items result }
+    ensures { DoesLine (effect_of (session_of session.now) number (Ask text.now))
+        (session_of session.now) W.contents W.calls writer.old writer.new most output.old.items output.new.items result }
 {
     let world = session.world();
     let room = Bump::try_with_capacity(alloc, QUERY_ROOM)?;
@@ -543,7 +557,7 @@ fn run_store<A: Allocator + Copy>(
     text: &str,
     output: &mut Vec<u8, A>,
 ) -> Result<bool, AllocError>
-    ensures { IfOk result (IsDone (effect_of (session_of session.old) number (Obey (Store kind name.now text.now)))
+    ensures { IfOk result (IsDone (effect_of (session_of session.old) number (CarryOut (Store kind name.now text.now)))
         (session_of session.new) output.old.items output.new.items) }
 {
     let answer = session.store(kind, name, text);
@@ -559,7 +573,8 @@ fn run_rows<A: Allocator + Copy, W: Sink>(
     most: usize,
     writer: &mut W,
 ) -> Result<bool, SendError>
-    ensures { DoesLine (effect_of (session_of session.old) number (AskKept name.now)) (session_of session.new) W.contents W.calls writer.old writer.new most output.old.items output.new.items result }
+    ensures { DoesLine (effect_of (session_of session.old) number (AskKept name.now))
+        (session_of session.new) W.contents W.calls writer.old writer.new most output.old.items output.new.items result }
 {
     match session.send_kept_rows(name, output, most, writer) {
         Ok(_) => Ok(false),
@@ -577,7 +592,7 @@ fn run_drop<A: Allocator + Copy>(
     name: &str,
     output: &mut Vec<u8, A>,
 ) -> Result<bool, AllocError>
-    ensures { IfOk result (IsDone (effect_of (session_of session.old) number (Obey (Drop name.now)))
+    ensures { IfOk result (IsDone (effect_of (session_of session.old) number (CarryOut (Drop name.now)))
         (session_of session.new) output.old.items output.new.items) }
 {
     let answer = session.drop_stored(name);

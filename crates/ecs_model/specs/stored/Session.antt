@@ -8,13 +8,13 @@ use Rattle.query_model.specs.declared.query.Mention.{Mention}
 use Rattle.query_model.specs.Query.{Query}
 use Rattle.ecs_model.specs.declared.faults.Refusal.{Refusal}
 use Rattle.ecs_model.specs.declared.faults.Refusal.TheVariants.{BadName}
-use Rattle.ecs_model.specs.Command.{Changed}
+use Rattle.ecs_model.specs.steps.Outcomes.{Changed}
 use Rattle.ecs_model.specs.Query.{query_of}
-use Rattle.ecs_model.specs.Orders.{Order, command_of}
+use Rattle.ecs_model.specs.Orders.{WorldOrder, command_of}
 use Rattle.ecs_model.specs.Text.{is_name}
 use Rattle.ecs_model.specs.World.{WorldState, first_world}
-use Rattle.ecs_model.specs.traits.Command.{Command, step}
-use Rattle.ecs_model.specs.traits.Pins.{with_pins, one_more, unpin}
+use Rattle.ecs_model.specs.steps.Step.{Command, step}
+use Rattle.ecs_model.specs.steps.Pins.{with_pins, one_more, unpin}
 use Rattle.ecs_model.specs.declared.faults.SessionRefusal.{SessionRefusal}
 use Rattle.ecs_model.specs.declared.faults.SessionRefusal.TheVariants.{OfWorld, EventsPending, UnknownQuery, QueryTaken, TooManyStored, Faulty}
 use Rattle.ecs_model.specs.Refusal.{first_reason}
@@ -36,7 +36,7 @@ first_session = record { world = first_world; stored = []; waiting = None }
 
 -- the commands of a session: one of its world, a new stored query by its kind, name and text, and the end of one by its name
 pub data SessionOrder : Type 0 where
-  InWorld : Order → SessionOrder
+  InWorld : WorldOrder → SessionOrder
   Store : StoredKind → List ℕ → List ℕ → SessionOrder
   Drop : List ℕ → SessionOrder
 

@@ -11,11 +11,11 @@ use Rattle.ecs_model.specs.rows.Rows.{matches}
 
 -- whether an And term outside all groups is cacheable: it asks `$this` for ids that are stored, and its component and target are no variables
 abbrev pub is_cacheable : Query → Term → Bool
-is_cacheable q t = q.has_this && asks_first t && is_constant t.first && is_constant_target t.target
+is_cacheable q t = q.has_this && asks_first t && is_constant t.component && is_constant_target t.target
 
 -- whether a cacheable term has a hit among the ids
 abbrev pub has_hit : List Id → Term → Bool
-has_hit ids t = list_any (matches [] t.first t.target) ids
+has_hit ids t = list_any (matches [] t.component t.target) ids
 
 module _ (q : Query) (ids : List Id) where
   -- whether the item has a hit, if it is cacheable

@@ -12,7 +12,7 @@ use Rattle.ecs_model.specs.declared.watches.EventKind.{EventKind}
 use Rattle.ecs_model.specs.declared.watches.EventKind.TheVariants.{Left, Entered, Added, Removed, Written}
 use Rattle.ecs_model.specs.declared.watches.StoredKind.{StoredKind}
 use Rattle.ecs_model.specs.declared.watches.StoredKind.TheVariants.{Kept, Monitor, OnAdd, OnRemove, OnSet}
-use Rattle.ecs_model.specs.Command.{Changed}
+use Rattle.ecs_model.specs.steps.Outcomes.{Changed}
 use Rattle.ecs_model.specs.Map.{count_at}
 use Rattle.ecs_model.specs.Print.{entity_text, id_text, value_text}
 use Rattle.ecs_model.specs.World.{WorldState, Key, value_of}
@@ -69,7 +69,7 @@ only_term ps = None
 
 -- whether a fact matches the observer's term, by its id alone: `_` as `*`, and what looks closed as any other
 abbrev pub matches_term : Query → Id → Bool
-matches_term q i = option_map_or (λ t. matches [] t.first t.target i) (only_term q.pieces) false
+matches_term q i = option_map_or (λ t. matches [] t.component t.target i) (only_term q.pieces) false
 
 -- whether an observer is told of a fact: it matches, and its entity is not passed over
 abbrev pub observes : View → Query → Key → Bool

@@ -3,7 +3,7 @@ use Rattle.std.proofs.Common.{◌≡◌, ◌≤◌, ◌+◌, ◌++◌, ◌∷◌
 use Rattle.std.specs.Option.{is_some}
 use Rattle.table_store.specs.Store.{room_at, shape_at}
 use Rattle.table_store.specs.Rows.{shape_of_cells}
-use Rattle.ecs_archetypes.specs.declared.plans.Move.{Move}
+use Rattle.ecs_archetypes.specs.declared.plans.EntityMove.{EntityMove}
 use Rattle.ecs_archetypes.specs.Holdings.{held_at}
 use Rattle.ecs_archetypes.specs.Housing.{holdings_of}
 use Rattle.ecs_archetypes.specs.Moves.{AreReady, moves_to}
@@ -33,7 +33,7 @@ pub returns-clause-ready : goal.returns-clause-ready
 returns-clause-ready g c =
     let stands = stands_as c.self.inside.entities c.self.inside.tables c.self.invariant.sound (holdings_of c.args.self.now) (ap holdings_of c.self.view_is) c.args.index c.requires.settled
     c.unwrap-entity.result (sym c.at.ensures ∙ c.unwrap-entity.ensures) in
-    let one : Move = record { entity = c.unwrap-entity.result; from = c.unwrap.result.table; to = c.in_ok-to.to } in
+    let one : EntityMove = record { entity = c.unwrap-entity.result; from = c.unwrap.result.table; to = c.in_ok-to.to } in
     subst (AreReady c.table_after.new.self) (sym (c.in_ok-push.ensures.pushed ∙ ap (λ ms. ms ++ one ∷ []) c.table_after.ensures.moves))
     (ready_more c.args.self.now c.table_after.new.self c.args.plan.now.moves one c.requires.ready stands.settled c.table_after.ensures.held c.table_after.ensures.grown
     (subst (λ ms. moves_to c.in_ok-to.to ms + 1 ≤ room_at c.table_after.new.self.tables c.in_ok-to.to) c.table_after.ensures.moves c.in_ok-to.ensures.room))

@@ -1,5 +1,5 @@
 -- There are as many rounds as live entities.
-use Rattle.ecs_model.proofs.traits.Deleted.{deleted_is_least}
+use Rattle.ecs_model.proofs.steps.DeletedSets.{deleted_is_least}
 use Rattle.ecs_model.proofs.trait_laws.the_deleted_set_is_the_least.Goals as goal
 
 pub returns : goal.returns

@@ -1,5 +1,5 @@
 -- The numbers rise behind the first reason that applies.
-use Rattle.ecs_model.proofs.traits.Order.{first_reason_is_least}
+use Rattle.ecs_model.proofs.steps.RefusalNumbers.{first_reason_is_least}
 use Rattle.ecs_model.proofs.trait_laws.the_least_reason_is_told.Goals as goal
 
 pub returns : goal.returns

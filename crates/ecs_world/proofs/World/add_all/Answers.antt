@@ -1,12 +1,12 @@
 use Rattle.std.proofs.Common.{All, refl, sym, ap, subst, ◌∙◌}
 use Rattle.std.specs.List.{list_any}
 use Rattle.ecs_model.specs.declared.faults.Refusal.TheVariants.{Dead, BuiltIn}
-use Rattle.ecs_model.specs.Command.{with_facts}
+use Rattle.ecs_model.specs.steps.Outcomes.{with_facts}
 use Rattle.ecs_model.specs.Refusal.{first_reason}
 use Rattle.ecs_model.specs.World.{entities}
-use Rattle.ecs_model.specs.traits.Changes.{facts_after_add}
-use Rattle.ecs_model.specs.traits.Command.{Add, add_reasons, reasons}
-use Rattle.ecs_model.specs.traits.Keeps.{IsWellFormed}
+use Rattle.ecs_model.specs.steps.FactChanges.{facts_after_add}
+use Rattle.ecs_model.specs.steps.Step.{Add, add_reasons, reasons}
+use Rattle.ecs_model.specs.steps.WellFormed.{IsWellFormed}
 use Rattle.rel_traits.specs.Additions.{is_of_built_in}
 use Rattle.rel_traits.specs.FactLists.{IsOfLive}
 use Rattle.ecs_archetypes.specs.Staying.{stay_all}

@@ -1,9 +1,9 @@
 use Rattle.std.proofs.Common.{[], ◌∷◌, refl, sym, ap, subst, ◌∙◌, arith, if◌then◌else◌}
 use Rattle.ecs_archetypes.specs.Housing.{holdings_of}
 use Rattle.ecs_model.specs.declared.faults.Refusal.TheVariants.{Dead}
-use Rattle.ecs_model.specs.Command.{with_facts}
-use Rattle.ecs_model.specs.traits.Command.{Add}
-use Rattle.ecs_model.specs.traits.Keeps.{IsWellFormed}
+use Rattle.ecs_model.specs.steps.Outcomes.{with_facts}
+use Rattle.ecs_model.specs.steps.Step.{Add}
+use Rattle.ecs_model.specs.steps.WellFormed.{IsWellFormed}
 use Rattle.ecs_model.proofs.Additions.{not_spent}
 use Rattle.ecs_model.proofs.StepAnswers.{step-refused}
 use Rattle.ecs_archetypes.specs.Staying.{none_goes, stay_same}

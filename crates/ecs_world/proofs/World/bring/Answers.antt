@@ -1,6 +1,6 @@
 use Rattle.std.proofs.Common.{sym, ap, ◌∙◌}
-use Rattle.ecs_model.specs.Command.{with_facts}
-use Rattle.ecs_model.proofs.traits.Copies.{facts_brought}
+use Rattle.ecs_model.specs.steps.Outcomes.{with_facts}
+use Rattle.ecs_model.proofs.steps.CopiedFacts.{facts_brought}
 use Rattle.ecs_world.proofs.AdditionEffects.{unbased}
 use Rattle.ecs_archetypes.specs.Staying.{stay_all, stay_then}
 use Rattle.ecs_world.proofs.BaseCopies.{copies_left, copies_may}

@@ -2,7 +2,7 @@ use Rattle.std.proofs.Common.{[], ◌∷◌, is_some, refl, sym, ap, subst, ◌�
 use Rattle.ecs_archetypes.specs.Housing.{holdings_of}
 use Rattle.std.proofs.lemmas.Result.{err_from_is_err_and}
 use Rattle.ecs_id.specs.Id.{plain}
-use Rattle.ecs_model.specs.traits.Keeps.{IsWellFormed}
+use Rattle.ecs_model.specs.steps.WellFormed.{IsWellFormed}
 use Rattle.ecs_model.specs.World.{component}
 use Rattle.ecs_model.proofs.Additions.{not_spent}
 use Rattle.ecs_archetypes.specs.Holdings.{HoldAlike, upcoming, with_cells, with_entity}
@@ -17,7 +17,7 @@ use Rattle.ecs_world.proofs.OrderedMaps.{insert_put, removed_again}
 use Rattle.ecs_world.proofs.PinChanges.{further}
 use Rattle.ecs_world.proofs.ToldChanges.{told_component}
 use Rattle.ecs_world.proofs.Standings.{going_on, state_is, staying_on}
-use Rattle.ecs_model.specs.traits.Command.{Component}
+use Rattle.ecs_model.specs.steps.Step.{Component}
 use Rattle.ecs_model.proofs.StepAnswers.{step-refused}
 use Rattle.ecs_world.proofs.World.component.Goals as goal
 

@@ -1,8 +1,8 @@
 use Rattle.std.proofs.Common.{refl, sym, ap, ◌∙◌}
 use Rattle.ecs_model.specs.declared.faults.Refusal.TheVariants.{Dead, BuiltIn}
-use Rattle.ecs_model.specs.Command.{AnswersStep}
+use Rattle.ecs_model.specs.steps.Outcomes.{AnswersStep}
 use Rattle.ecs_model.specs.World.{is_alive}
-use Rattle.ecs_model.specs.traits.Command.{Delete, step}
+use Rattle.ecs_model.specs.steps.Step.{Delete, step}
 use Rattle.ecs_model.proofs.StepAnswers.{answers_refused}
 use Rattle.ecs_world.specs.Releases.{OnlyForgottenGo}
 use Rattle.table_store.specs.Going.{TablesGoOn}

@@ -4,8 +4,8 @@ use Rattle.std.proofs.lemmas.Result.{err_from_is_err_and}
 use Rattle.ecs_archetypes.specs.Staying.{stay_all}
 use Rattle.ecs_model.specs.Map.{keys}
 use Rattle.ecs_model.specs.Refusal.{first_reason}
-use Rattle.ecs_model.specs.traits.Changes.{deleted}
-use Rattle.ecs_model.specs.traits.Command.{Delete, reasons, without_entities}
+use Rattle.ecs_model.specs.steps.FactChanges.{deleted}
+use Rattle.ecs_model.specs.steps.Step.{Delete, reasons, without_entities}
 use Rattle.rel_traits.specs.Deletions.{is_lost}
 use Rattle.ecs_world.specs.Changes.{deaths_of}
 use Rattle.ecs_world.specs.State.{no_change}

@@ -12,7 +12,7 @@ use Rattle.ecs_world.proofs.NameLists.{freed}
 use Rattle.ecs_world.proofs.PinChanges.{further}
 use Rattle.ecs_world.proofs.ToldChanges.{told_entity}
 use Rattle.ecs_world.proofs.Standings.{going_on, state_is, staying_on}
-use Rattle.ecs_model.specs.traits.Command.{Entity}
+use Rattle.ecs_model.specs.steps.Step.{Entity}
 use Rattle.ecs_model.proofs.StepAnswers.{step-refused}
 use Rattle.ecs_world.proofs.World.entity.Goals as goal
 

@@ -10,7 +10,7 @@ use Rattle.ecs_world.proofs.JudgedCommands.{births, fresh_refusal}
 use Rattle.ecs_world.proofs.PinChanges.{further}
 use Rattle.ecs_world.proofs.ToldChanges.{told_fresh}
 use Rattle.ecs_world.proofs.Standings.{going_on, state_is, staying_on}
-use Rattle.ecs_model.specs.traits.Command.{Fresh}
+use Rattle.ecs_model.specs.steps.Step.{Fresh}
 use Rattle.ecs_model.proofs.StepAnswers.{step-refused}
 use Rattle.ecs_world.proofs.World.fresh.Goals as goal
 

@@ -5,7 +5,7 @@ use Rattle.ecs_id.specs.declared.EntityId.{EntityId}
 use Rattle.ecs_model.specs.Bytes.{size_of}
 use Rattle.ecs_model.specs.Links.{is_held}
 use Rattle.ecs_model.specs.World.{WorldState, ids_of, type_of_id}
-use Rattle.ecs_model.proofs.traits.Kept.{refuted}
+use Rattle.ecs_model.proofs.steps.LivingIds.{refuted}
 use Rattle.table_store.specs.Store.{Store, table_at}
 use Rattle.ecs_archetypes.specs.Housing.{Housing}
 use Rattle.ecs_world.specs.Columns.{may_bring}

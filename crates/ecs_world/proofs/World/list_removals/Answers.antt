@@ -3,7 +3,7 @@ use Rattle.std.specs.List.{filter, list_any}
 use Rattle.ecs_id.specs.Id.{Id}
 use Rattle.ecs_model.specs.Map.{keys}
 use Rattle.ecs_model.specs.World.{Key, WorldState, key_eq}
-use Rattle.ecs_model.specs.traits.Changes.{removed}
+use Rattle.ecs_model.specs.steps.FactChanges.{removed}
 use Rattle.rel_traits.specs.Sees.{Sees}
 use Rattle.ecs_world.proofs.SeenGraph.{linked, sees}
 use Rattle.ecs_world.proofs.Standings.{state_is}

@@ -1,5 +1,5 @@
 use Rattle.std.proofs.Common.{refl, sym, ap, ◌∙◌}
-use Rattle.ecs_model.specs.traits.Pins.{one_more}
+use Rattle.ecs_model.specs.steps.Pins.{one_more}
 use Rattle.ecs_world.proofs.PinChanges.{counts_left, covers_alive, pin_dead, told_pin}
 use Rattle.ecs_world.proofs.Standings.{state_is}
 use Rattle.ecs_world.proofs.World.pin.Goals as goal

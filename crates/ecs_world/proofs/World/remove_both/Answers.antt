@@ -1,7 +1,7 @@
 use Rattle.std.proofs.Common.{refl, sym, subst, ◌∙◌, arith}
 use Rattle.ecs_model.specs.declared.faults.Refusal.TheVariants.{Dead}
-use Rattle.ecs_model.specs.traits.Command.{Remove}
-use Rattle.ecs_model.specs.traits.Keeps.{IsWellFormed}
+use Rattle.ecs_model.specs.steps.Step.{Remove}
+use Rattle.ecs_model.specs.steps.WellFormed.{IsWellFormed}
 use Rattle.ecs_world.proofs.AcceptedCommands.{on_ok}
 use Rattle.ecs_model.proofs.StepAnswers.{answers_refused}
 use Rattle.ecs_world.proofs.CommandCounts.{counted_state, counted_world}

@@ -1,7 +1,7 @@
 use Rattle.std.proofs.Common.{[], ◌∷◌, sym, ◌∙◌}
 use Rattle.ecs_model.specs.declared.faults.Refusal.TheVariants.{BuiltIn, TraitFixed, Full}
 use Rattle.ecs_model.specs.Refusal.{first_reason}
-use Rattle.ecs_model.specs.traits.Rules.{is_trait}
+use Rattle.ecs_model.specs.steps.Rules.{is_trait}
 use Rattle.rel_traits.specs.Additions.{is_of_built_in}
 use Rattle.ecs_world.proofs.JudgedCommands.{remove_dead, remove_later}
 use Rattle.ecs_world.proofs.RefusalReasons.{mention_dead, not_dead}

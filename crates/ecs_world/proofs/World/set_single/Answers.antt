@@ -2,8 +2,8 @@ use Rattle.std.proofs.Common.{Bool, [], ◌∷◌, take, length, refl, sym, ap, 
 use Rattle.ecs_archetypes.specs.Housing.{holdings_of}
 use Rattle.std.proofs.lemmas.List.{length-take-le}
 use Rattle.ecs_model.specs.declared.faults.Refusal.TheVariants.{Dead}
-use Rattle.ecs_model.specs.traits.Command.{SetValue}
-use Rattle.ecs_model.specs.traits.Keeps.{IsWellFormed}
+use Rattle.ecs_model.specs.steps.Step.{SetValue}
+use Rattle.ecs_model.specs.steps.WellFormed.{IsWellFormed}
 use Rattle.ecs_model.proofs.Additions.{not_spent}
 use Rattle.ecs_model.proofs.StepAnswers.{step-refused}
 use Rattle.ecs_archetypes.specs.Staying.{none_goes, stay_same}

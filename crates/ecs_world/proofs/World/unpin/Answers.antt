@@ -1,5 +1,5 @@
 use Rattle.std.proofs.Common.{sym, ap, ◌∙◌}
-use Rattle.ecs_model.specs.traits.Pins.{one_less}
+use Rattle.ecs_model.specs.steps.Pins.{one_less}
 use Rattle.ecs_world.proofs.PinChanges.{counts_left, covers_alive, told_unpin, unpin_dead}
 use Rattle.ecs_world.proofs.Standings.{state_is}
 use Rattle.ecs_world.proofs.World.unpin.Goals as goal

@@ -1,7 +1,7 @@
 use Rattle.std.proofs.Common.{refl, sym, ap, subst, ◌∙◌, length, option_map, IfSome, arith, ◌≡◌}
 use Rattle.std.specs.Option.{option_copied}
 use Rattle.ecs_model.specs.World.{type_of_id}
-use Rattle.ecs_model.specs.traits.Keeps.{IsWellFormed}
+use Rattle.ecs_model.specs.steps.WellFormed.{IsWellFormed}
 use Rattle.ecs_world.specs.State.{byte_count, value_in}
 use Rattle.ecs_world.proofs.BaseCopies.{copy_written, nothing_written}
 use Rattle.ecs_world.proofs.World.write_copy.Goals as goal

@@ -2,7 +2,7 @@ use Rattle.std.proofs.Common.{◌≡◌, sym, ap, ◌∙◌}
 use Rattle.std.specs.Prelude.{◌&&◌, not}
 use Rattle.query_local.specs.Telling.{enters, is_matched, leaves}
 use Rattle.query_local.specs.Touched.{touch_of}
-use Rattle.query_local.proofs.Pass.{pushed, whole}
+use Rattle.query_local.proofs.NumberPasses.{pushed, whole}
 use Rattle.query_local.proofs.told.told_of.Goals as goal
 use Rattle.query_local.proofs.told.told_of.Goals.{then-before, else-before, then-after, else-after}
 

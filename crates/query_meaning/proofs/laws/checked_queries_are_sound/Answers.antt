@@ -1,4 +1,4 @@
-use Rattle.query_meaning.proofs.CheckedSound.{checked_queries_are_sound}
+use Rattle.query_meaning.proofs.CheckedQueries.{checked_queries_are_sound}
 use Rattle.query_meaning.proofs.laws.checked_queries_are_sound.Goals as goal
 
 pub returns : goal.returns

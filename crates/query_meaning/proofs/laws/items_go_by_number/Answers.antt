@@ -1,4 +1,4 @@
-use Rattle.query_meaning.proofs.Flat.{items_go_by_number}
+use Rattle.query_meaning.proofs.FlatItems.{items_go_by_number}
 use Rattle.query_meaning.proofs.laws.items_go_by_number.Goals as goal
 
 pub returns : goal.returns

@@ -1,5 +1,5 @@
 use Rattle.query_model.proofs.FirstOccurrence.{first_suffices}
-use Rattle.query_model.proofs.Order.{first_suffices_in_texts}
+use Rattle.query_model.proofs.TextOrder.{first_suffices_in_texts}
 use Rattle.query_model.proofs.laws.a_variable_is_told_at_its_first_occurrence.Goals as goal
 
 pub returns-clause-of_texts : goal.returns-clause-of_texts

@@ -36,7 +36,7 @@ use denote.Builtin.{usize, RefOf}
 use denote.Triple.Call.{calls_at}
 use Rattle.std.proofs.alloc.Calls.{Al, α, seen, Answer, answer_val, Answer-typed, Answer-Ok, Answer-err, takes_key, Takes, at_takes, Answered, Takes-goes, Takes-gives, answers}
 use Rattle.std.proofs.alloc.Shapes.{after}
-use Rattle.refusing_alloc.proofs.AtRefuses.{Refuses, at_refuses, Refuses-goes, Refuses-gives}
+use Rattle.refusing_alloc.proofs.RefusesCalls.{Refuses, at_refuses, Refuses-goes, Refuses-gives}
 use Rattle.refusing_alloc.proofs.refuses.Symbol as c_sym
 use Rattle.refusing_alloc.proofs.refuses.Met as c_met
 use Rattle.refusing_alloc.specs.contracts.Refusing as wrapper

@@ -1,6 +1,6 @@
 use Rattle.std.proofs.lemmas.List.Filters.{dedup_is}
 use Rattle.std.proofs.Common.{◌∙◌, ◌++◌, ap}
-use Rattle.rel_traits.proofs.OneList.{number_rises, same_numbers}
+use Rattle.rel_traits.proofs.UniqueLists.{number_rises, same_numbers}
 use Rattle.rel_traits.proofs.deletion.copy_in_order.Goals as goal
 
 pub returns-clause-ascend : goal.returns-clause-ascend

@@ -1,5 +1,5 @@
 use Rattle.std.proofs.Common.{◌≡◌, ◌∙◌, [], ◌∷◌, ap}
-use Rattle.ecs_model.specs.Falls.{falling}
+use Rattle.ecs_model.specs.Cleanup.{falling}
 use Rattle.rel_travel.proofs.Cleanup.{falling_below}
 use Rattle.rel_travel.proofs.SearchStarts.{from_one}
 use Rattle.rel_travel.proofs.falls.find_falling.Goals as goal

@@ -1,7 +1,7 @@
 use Rattle.std.proofs.Common.{◌≡◌, ◌∙◌, ◌&&◌, false, true, refl, sym}
 use Rattle.ecs_id.specs.Id.{first_of}
 use Rattle.rel_travel.specs.Finds.{is_among}
-use Rattle.ecs_model.specs.traits.Rules.{forbids_with_sources, forbids_with_users}
+use Rattle.ecs_model.specs.steps.Rules.{forbids_with_sources, forbids_with_users}
 use Rattle.rel_travel.proofs.ForbiddenDeletions.{not_left, not_right, of_target}
 use Rattle.rel_travel.proofs.forbidding.is_forbidding.Goals as goal
 use Rattle.rel_travel.proofs.forbidding.is_forbidding.Goals.{else-is_found-via-then-is_found+else-contains, else-is_found-via-else-is_found}

@@ -3,7 +3,7 @@ use Rattle.std.proofs.lemmas.List.{length-append}
 use Rattle.rel_travel.specs.Finds.{is_among}
 use Rattle.component_index.specs.Patterns.{matches}
 use Rattle.std.specs.List.{list_any}
-use Rattle.ecs_model.specs.Links.{line, upward}
+use Rattle.ecs_model.specs.Links.{ancestor_line, upward}
 use Rattle.rel_travel.proofs.Growth.{is_among_tells}
 use Rattle.ecs_model.proofs.LivePairs.{next_below, upward_lives}
 use Rattle.rel_travel.proofs.LineSearch.{IsSearched, IsSearched-begin, IsSearched-enter, IsSearched-hit, IsSearched-leave, IsSearched-seen, IsSearched-skip}
@@ -16,7 +16,7 @@ loop-step-init g c =
     let r = c.args.relationship in
     let hit = λ (t : ℕ). list_any (matches c.args.pattern) (ids t) in
     let entities = g.G.Graph.entities c.args.graph.now in
-    let ancestors = line ids entities r in
+    let ancestors = ancestor_line ids entities r in
     let unfolds = line_unfolds (upward ids r) entities (upward_lives c.size.ensures.links r) c.requires.acyclic in
     record {
       size = refl;
@@ -32,7 +32,7 @@ returns-then-has_match-clause-first g c =
     let r = c.args.relationship in
     let hit = λ (t : ℕ). list_any (matches c.args.pattern) (ids t) in
     let entities = g.G.Graph.entities c.args.graph.now in
-    let ancestors = line ids entities r in
+    let ancestors = ancestor_line ids entities r in
     let step = c.in-Some.step in
     let before : IsSearched ids r hit ancestors c.args.index (step ∷ c.pop.new.self.steps) c.loop-step.found.items = rw (← c.in-Some.ensures.steps) c.loop-step.invariant.searched in
     let l : step.place < length (ids step.index) = rw (← c.ids-ids.ensures) c.if-step-ids.true in
@@ -45,7 +45,7 @@ loop-step-preserved-then-not-is_found g c =
     let r = c.args.relationship in
     let hit = λ (t : ℕ). list_any (matches c.args.pattern) (ids t) in
     let entities = g.G.Graph.entities c.args.graph.now in
-    let ancestors = line ids entities r in
+    let ancestors = ancestor_line ids entities r in
     let unfolds = line_unfolds (upward ids r) entities (upward_lives c.size.ensures.links r) c.requires.acyclic in
     let step = c.in-Some.step in
     let before : IsSearched ids r hit ancestors c.args.index (step ∷ c.pop.new.self.steps) c.loop-step.found.items = rw (← c.in-Some.ensures.steps) c.loop-step.invariant.searched in
@@ -70,7 +70,7 @@ loop-step-preserved-else-not-is_found g c =
     let r = c.args.relationship in
     let hit = λ (t : ℕ). list_any (matches c.args.pattern) (ids t) in
     let entities = g.G.Graph.entities c.args.graph.now in
-    let ancestors = line ids entities r in
+    let ancestors = ancestor_line ids entities r in
     let unfolds = line_unfolds (upward ids r) entities (upward_lives c.size.ensures.links r) c.requires.acyclic in
     let step = c.in-Some.step in
     let before : IsSearched ids r hit ancestors c.args.index (step ∷ c.pop.new.self.steps) c.loop-step.found.items = rw (← c.in-Some.ensures.steps) c.loop-step.invariant.searched in
@@ -93,7 +93,7 @@ loop-step-preserved-in_default-target_under g c =
     let r = c.args.relationship in
     let hit = λ (t : ℕ). list_any (matches c.args.pattern) (ids t) in
     let entities = g.G.Graph.entities c.args.graph.now in
-    let ancestors = line ids entities r in
+    let ancestors = ancestor_line ids entities r in
     let step = c.in-Some.step in
     let before : IsSearched ids r hit ancestors c.args.index (step ∷ c.pop.new.self.steps) c.loop-step.found.items = rw (← c.in-Some.ensures.steps) c.loop-step.invariant.searched in
     let l : step.place < length (ids step.index) = rw (← c.ids-ids.ensures) c.if-step-ids.true in
@@ -114,7 +114,7 @@ loop-step-preserved g c =
     let r = c.args.relationship in
     let hit = λ (t : ℕ). list_any (matches c.args.pattern) (ids t) in
     let entities = g.G.Graph.entities c.args.graph.now in
-    let ancestors = line ids entities r in
+    let ancestors = ancestor_line ids entities r in
     let unfolds = line_unfolds (upward ids r) entities (upward_lives c.size.ensures.links r) c.requires.acyclic in
     let step = c.in-Some.step in
     let before : IsSearched ids r hit ancestors c.args.index (step ∷ c.pop.new.self.steps) c.loop-step.found.items = rw (← c.in-Some.ensures.steps) c.loop-step.invariant.searched in

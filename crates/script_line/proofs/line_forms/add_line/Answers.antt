@@ -1,11 +1,11 @@
 use Rattle.std.proofs.Common.{sym}
 use Rattle.ecs_model.specs.Orders.{AddTo}
-use Rattle.ecs_model.specs.Script.{Obey}
+use Rattle.ecs_model.specs.Script.{CarryOut}
 use Rattle.ecs_model.specs.stored.Session.{InWorld}
 use Rattle.script_line.proofs.line_forms.add_line.Goals as goal
 
 pub returns-in-Some : goal.returns-in-Some
-returns-in-Some g c = λ _. sym (c.in-Some.ensures (λ r i. Obey (InWorld (AddTo r i))))
+returns-in-Some g c = λ _. sym (c.in-Some.ensures (λ r i. CarryOut (InWorld (AddTo r i))))
 
 pub returns-in-None : goal.returns-in-None
-returns-in-None g c = λ _. sym (c.in-None.ensures (λ r i. Obey (InWorld (AddTo r i))))
+returns-in-None g c = λ _. sym (c.in-None.ensures (λ r i. CarryOut (InWorld (AddTo r i))))

@@ -3,7 +3,7 @@ use Rattle.std.specs.List.{list_any, position_or_len}
 use Rattle.std.proofs.lemmas.Str.Pattern.{strip_prefix_char}
 use Rattle.ecs_model.specs.Script.{is_apart}
 use Rattle.script_line.specs.Line.{ends_reference, seen_reference}
-use Rattle.script_line.proofs.Close.{cut_before_byte, read_close}
+use Rattle.script_line.proofs.ClosePairs.{cut_before_byte, read_close}
 use Rattle.script_line.proofs.Cuts.{cut_at_end}
 use Rattle.script_line.proofs.Stops.{none_ends}
 use Rattle.script_line.proofs.references.close_pair_and_rest.Goals as goal

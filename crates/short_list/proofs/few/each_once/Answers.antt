@@ -1,7 +1,7 @@
 use Rattle.std.proofs.Common.{◌++◌, ◌∷◌, [], ◌∙◌, ap, arith, length, refl, sym}
 use Rattle.std.specs.List.{dedup, dedup_from}
 use Rattle.std.proofs.lemmas.List.{take_all}
-use Rattle.short_list.proofs.Once.{once_other, once_same}
+use Rattle.short_list.proofs.DistinctItems.{once_other, once_same}
 use Rattle.short_list.proofs.few.each_once.Goals as goal
 use Rattle.short_list.proofs.few.each_once.Goals.{then-ne, else-ne}
 

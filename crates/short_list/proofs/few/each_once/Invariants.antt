@@ -1,6 +1,6 @@
 use Rattle.std.proofs.Common.{◌≡◌, ◌+◌, ◌≤◌, length, take}
 use Rattle.std.specs.List.{dedup_from}
-use Rattle.short_list.proofs.Once.{last_from}
+use Rattle.short_list.proofs.DistinctItems.{last_from}
 use Rattle.short_list.proofs.few.each_once.Given as goal
 
 abbrev pub invariant-loop-item : goal.invariant-loop-item

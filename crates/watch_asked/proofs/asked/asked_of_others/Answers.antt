@@ -4,7 +4,7 @@ use Rattle.std.specs.List.{list_any, range_with_len}
 use Rattle.std.proofs.lemmas.List.{length-map}
 use Rattle.query_check.specs.Seen.{seen_piece}
 use Rattle.watch_asked.specs.Asked.{any_counts_as, is_idle_from}
-use Rattle.watch_asked.proofs.Asks.{visible_judged}
+use Rattle.watch_asked.proofs.AskedPatterns.{visible_judged}
 use Rattle.watch_asked.proofs.asked.asked_of_others.Goals as goal
 
 pub returns : goal.returns

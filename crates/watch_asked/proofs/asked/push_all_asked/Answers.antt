@@ -5,7 +5,7 @@ use Rattle.std.proofs.lemmas.List.{take_all}
 use Rattle.std.proofs.lemmas.List.Folds.{list_any_more}
 use Rattle.query_check.specs.Seen.{seen_piece}
 use Rattle.watch_asked.specs.Asked.{any_counts_as, is_idle_from}
-use Rattle.watch_asked.proofs.Asks.{or_assoc, or_false}
+use Rattle.watch_asked.proofs.AskedPatterns.{or_assoc, or_false}
 use Rattle.watch_asked.proofs.asked.push_all_asked.Goals as goal
 
 pub loop-variable-init : goal.loop-variable-init

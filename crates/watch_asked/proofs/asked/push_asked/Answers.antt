@@ -4,7 +4,7 @@ use Rattle.std.proofs.lemmas.Bool.{ne_eqb}
 use Rattle.std.proofs.lemmas.Bool.Decides.{Decides-eqb}
 use Rattle.std.proofs.lemmas.List.{nil_from_length}
 use Rattle.query_check.specs.Seen.{seen_piece}
-use Rattle.watch_asked.proofs.Asks.{another_judged, this_idle, unasked_idle}
+use Rattle.watch_asked.proofs.AskedPatterns.{another_judged, this_idle, unasked_idle}
 use Rattle.watch_asked.proofs.asked.push_asked.Goals as goal
 
 pub returns-then-variable-eq0 : goal.returns-then-variable-eq0

@@ -4,7 +4,7 @@ use Rattle.std.specs.List.{list_any}
 use Rattle.std.proofs.lemmas.Result.{on_ok_weaker}
 use Rattle.query_check.specs.Seen.{seen_piece}
 use Rattle.watch_asked.specs.Asked.{any_counts_as, group_idle, is_idle_from}
-use Rattle.watch_asked.proofs.Asks.{not_all}
+use Rattle.watch_asked.proofs.AskedPatterns.{not_all}
 use Rattle.watch_asked.proofs.asked.push_group_asked.Goals as goal
 
 pub returns-in-Opening : goal.returns-in-Opening

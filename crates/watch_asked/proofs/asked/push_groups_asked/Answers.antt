@@ -3,7 +3,7 @@ use Rattle.std.specs.Prelude.{◌-◌, ◌||◌, not}
 use Rattle.std.proofs.lemmas.List.{drop_all, length-drop, take_all}
 use Rattle.query_check.specs.Seen.{seen_piece}
 use Rattle.watch_asked.specs.Asked.{any_counts_as, group_idle, groups_idle}
-use Rattle.watch_asked.proofs.Asks.{group_judged, or_false}
+use Rattle.watch_asked.proofs.AskedPatterns.{group_judged, or_false}
 use Rattle.watch_asked.proofs.asked.push_groups_asked.Goals as goal
 
 pub loop-at-preserved : goal.loop-at-preserved

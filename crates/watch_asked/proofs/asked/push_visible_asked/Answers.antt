@@ -2,7 +2,7 @@ use Rattle.std.proofs.Common.{ℕ, ap, sym, ◌∙◌}
 use Rattle.std.specs.Prelude.{◌||◌, map, not, true}
 use Rattle.query_check.specs.Seen.{seen_piece}
 use Rattle.watch_asked.specs.Asked.{any_counts_as, is_idle_from}
-use Rattle.watch_asked.proofs.Asks.{counted_all, counted_more, or_assoc, or_false}
+use Rattle.watch_asked.proofs.AskedPatterns.{counted_all, counted_more, or_assoc, or_false}
 use Rattle.watch_asked.proofs.asked.push_visible_asked.Goals as goal
 
 pub loop-variable-init : goal.loop-variable-init

@@ -3,7 +3,7 @@ use Rattle.std.specs.Prelude.{◌&&◌, map}
 use Rattle.std.proofs.lemmas.List.{length-map}
 use Rattle.query_check.specs.Seen.{seen_piece}
 use Rattle.watch_concerns.specs.FromLeft.{groups_from}
-use Rattle.watch_concerns.proofs.FromLeft.{all_bound_left}
+use Rattle.watch_concerns.proofs.BondsFromLeft.{all_bound_left}
 use Rattle.watch_concerns.proofs.bonds.are_all_bound.Goals as goal
 
 pub returns-then-are_visible_bound : goal.returns-then-are_visible_bound

@@ -1,4 +1,4 @@
-use Rattle.watch_concerns.proofs.WhoeverLives.{match_whoever_else_lives}
+use Rattle.watch_concerns.proofs.AnchoredRows.{match_whoever_else_lives}
 use Rattle.watch_concerns.proofs.laws.anchored_queries_match_whoever_else_lives.Goals as goal
 
 pub returns : goal.returns

@@ -1,4 +1,4 @@
-use Rattle.watch_concerns.proofs.ToldSince.{watches_are_told_since}
+use Rattle.watch_concerns.proofs.EventsSince.{watches_are_told_since}
 use Rattle.watch_concerns.proofs.told_laws.watches_are_told_since.Goals as goal
 
 pub returns : goal.returns

@@ -6,7 +6,7 @@ use Rattle.ecs_model.specs.stored.Watches.{fact_event, observes}
 use Rattle.ecs_print.specs.Stops.{StopsWithin}
 use Rattle.ecs_print.proofs.Stops.{on_err_anyway, stops_at_passed}
 use Rattle.watch_events.specs.Terms.{tells, told_facts, told_value}
-use Rattle.watch_events.proofs.ByTerm.{none_observed, observed_by_term}
+use Rattle.watch_events.proofs.ObserverTerms.{none_observed, observed_by_term}
 use Rattle.watch_events.proofs.ToldLists.{told_all, told_none}
 use Rattle.watch_events.proofs.facts.tell_facts.Goals as goal
 

@@ -4,7 +4,7 @@ use Rattle.watch_concerns.specs.Since.{held_before, observed_before, removed_eve
 use Rattle.ecs_print.specs.Stops.{StopsWithin}
 use Rattle.ecs_print.proofs.Stops.{on_err_anyway, stops_at_passed}
 use Rattle.watch_events.specs.Terms.{tells}
-use Rattle.watch_events.proofs.ByTerm.{none_observed_before, observed_before_by_term}
+use Rattle.watch_events.proofs.ObserverTerms.{none_observed_before, observed_before_by_term}
 use Rattle.watch_events.proofs.ToldLists.{told_all, told_none}
 use Rattle.watch_events.proofs.removals.tell_removals.Goals as goal
 

@@ -7,7 +7,7 @@ use Rattle.ecs_model.specs.stored.Watches.{fact_event, observes}
 use Rattle.ecs_print.specs.Stops.{StopsWithin}
 use Rattle.watch_concerns.specs.Since.{observed_before, removed_event, told_since}
 use Rattle.watch_events.specs.Terms.{told_value}
-use Rattle.watch_events.proofs.EachKind.{added_told, kept_told, removed_told, set_told, told_same}
+use Rattle.watch_events.proofs.StoredKinds.{added_told, kept_told, removed_told, set_told, told_same}
 use Rattle.watch_events.proofs.telling.tell.Goals as goal
 
 pub returns-in-Kept-clause-told : goal.returns-in-Kept-clause-told

@@ -4,7 +4,7 @@ use Rattle.std.proofs.Common.{ap, subst, sym, true≢false, ◌∙◌}
 use Rattle.query_model.specs.Query.{Query}
 use Rattle.query_meaning.specs.Sound.{IsSound}
 use Rattle.watch_touched.specs.Concerned.{is_concerned}
-use Rattle.watch_touched.specs.Moving.{AreAllMoved, is_followed}
+use Rattle.watch_touched.specs.Moving.{AreAllMoved, finds_moving}
 use Rattle.watch_stored.proofs.AnswerableQueries.{asked_is_sound}
 use Rattle.watch_stored.proofs.MovedEntities.{is_somebody, rows_before_ascend}
 use Rattle.watch_stored.proofs.moves.rows_after.Goals as goal
@@ -43,7 +43,7 @@ returns-in-Few-clause-concerned g c =
 pub returns-in-Few-clause-counted : goal.returns-in-Few-clause-counted
 returns-in-Few-clause-counted g c loose concerned =
     let changed = c.args.changes.now in
-    let unknown = c.in_ok-who_may_have_moved.ensures.unknown (ap (λ q. is_followed q changed) c.asked-asked.ensures ∙ loose) (ap (λ q. is_concerned q changed) c.asked-asked.ensures ∙ concerned) in
+    let unknown = c.in_ok-who_may_have_moved.ensures.unknown (ap (λ q. finds_moving q changed) c.asked-asked.ensures ∙ loose) (ap (λ q. is_concerned q changed) c.asked-asked.ensures ∙ concerned) in
     absurd cc
 
 pub returns-clause-concerned : goal.returns-clause-concerned

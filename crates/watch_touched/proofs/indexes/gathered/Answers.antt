@@ -4,7 +4,7 @@ use Rattle.ecs_id.specs.declared.EntityId.{EntityId}
 use Rattle.std.proofs.Common.{◌++◌, ap, ◌∙◌, length, ◌≤◌, arith}
 use Rattle.std.proofs.lemmas.List.{take_all}
 use Rattle.ecs_model.specs.World.{Key}
-use Rattle.watch_touched.proofs.AllTouched.{listed_in_turn}
+use Rattle.watch_touched.proofs.TouchedEntities.{listed_in_turn}
 use Rattle.watch_touched.proofs.indexes.gathered.Goals as goal
 
 pub returns : goal.returns

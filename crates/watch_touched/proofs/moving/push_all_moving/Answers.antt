@@ -4,7 +4,7 @@ use Rattle.std.proofs.Common.{arith, subst, sym}
 use Rattle.std.proofs.lemmas.Bool.{and_parts}
 use Rattle.watch_concerns.specs.Others.{concerns_below, concerns_others}
 use Rattle.watch_touched.specs.Moving.{entities_of}
-use Rattle.watch_touched.proofs.AllMoving.{nobody, own_move}
+use Rattle.watch_touched.proofs.MovingEntities.{nobody, own_move}
 use Rattle.watch_touched.proofs.CountedConcerns.{held_if_none}
 use Rattle.watch_touched.proofs.StayingEntities.{stay_put}
 use Rattle.watch_touched.proofs.moving.push_all_moving.Goals as goal

@@ -2,7 +2,7 @@ use Rattle.std.proofs.Common.{ap}
 use Rattle.ecs_model.specs.World.{Key}
 use Rattle.watch_concerns.specs.Concerns.{concerns}
 use Rattle.watch_concerns.specs.Others.{concerns_below, concerns_others}
-use Rattle.watch_touched.proofs.AllMoving.{gathered_more}
+use Rattle.watch_touched.proofs.MovingEntities.{gathered_more}
 use Rattle.watch_touched.proofs.moving.push_concerned.Goals as goal
 
 pub loop-fact-preserved : goal.loop-fact-preserved

@@ -2,7 +2,7 @@ use Rattle.std.specs.Prelude.{◌↔◌, ◌++◌, ℕ, List}
 use Rattle.std.specs.List.{Contains}
 use Rattle.std.proofs.Common.{refl, subst}
 use Rattle.watch_touched.specs.Leaning.{HasAllBelow, concerns_beyond}
-use Rattle.watch_touched.proofs.AllMoving.{all_moving}
+use Rattle.watch_touched.proofs.MovingEntities.{all_moving}
 use Rattle.watch_touched.proofs.StayingEntities.{stay_put}
 use Rattle.watch_touched.proofs.moving.push_moved_by_pairs.Goals as goal
 

@@ -1,7 +1,7 @@
 use Rattle.std.specs.Prelude.{ℕ, List, true}
 use Rattle.std.proofs.Common.{subst}
 use Rattle.watch_touched.specs.Leaning.{HasAllBelow, concerns_beyond}
-use Rattle.watch_touched.proofs.MovingByRoles.{moving_by_roles}
+use Rattle.watch_touched.proofs.MovingRoles.{moving_by_roles}
 use Rattle.watch_touched.proofs.RoleWalks.{all_asked}
 use Rattle.watch_touched.proofs.RolesBehind.{linked_by_all}
 use Rattle.watch_touched.proofs.StayingRoles.{others_than_roles_stay}

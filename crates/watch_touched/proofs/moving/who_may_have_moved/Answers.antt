@@ -2,7 +2,7 @@ use Rattle.std.specs.Prelude.{◌≡◌, ◌++◌, true}
 use Rattle.std.proofs.Common.{arith, sym, true≢false, ◌∙◌}
 use Rattle.watch_concerns.specs.Concerns.{concerns}
 use Rattle.watch_concerns.specs.Others.{concerns_below, concerns_others}
-use Rattle.watch_touched.specs.Moving.{entities_of, is_followed}
+use Rattle.watch_touched.specs.Moving.{entities_of, finds_moving}
 use Rattle.watch_touched.proofs.CountedConcerns.{all_followed, none_concerned, somebody_concerned}
 use Rattle.watch_touched.proofs.moving.who_may_have_moved.Goals as goal
 
@@ -20,7 +20,7 @@ push_all_moving-requires-clause-followed g c =
     let q = c.args.query.now in
     let changed = c.args.changes.now in
     let others = c.in_ok-push_all_concerned.ensures.others ∙ (λ i. c.new-others.ensures i ++ entities_of (concerns_others q) changed) in
-    sym (all_followed q changed c.args.bonds c.requires.bonds c.len-2.result c.push_all_concerned.new.others.items others c.len-2.ensures) ∙ sym c.are_followed.ensures ∙ c.if-not-are_followed.false
+    sym (all_followed q changed c.args.bonds c.requires.bonds c.len-2.result c.push_all_concerned.new.others.items others c.len-2.ensures) ∙ sym c.finds_moving.ensures ∙ c.if-not-finds_moving.false
 
 pub returns-then-is_nobody-clause-concerned : goal.returns-then-is_nobody-clause-concerned
 returns-then-is_nobody-clause-concerned g c same =
@@ -28,8 +28,8 @@ returns-then-is_nobody-clause-concerned g c same =
     none_concerned c.args.query.now c.args.changes.now c.args.bonds c.requires.bonds c.len.result c.push_all_concerned.new.own.items own c.len.ensures c.is_nobody.result c.is_nobody.ensures c.if-is_nobody.true
 
 -- where somebody may have moved, the command concerns the query
-pub returns-then-not-are_followed-clause-nobody : goal.returns-then-not-are_followed-clause-nobody
-returns-then-not-are_followed-clause-nobody g c none =
+pub returns-then-not-finds_moving-clause-nobody : goal.returns-then-not-finds_moving-clause-nobody
+returns-then-not-finds_moving-clause-nobody g c none =
     let own = c.in_ok-push_all_concerned.ensures.own ∙ (λ i. c.requires.none i ++ entities_of (concerns c.args.query.now) c.args.changes.now) in
     absurd (somebody_concerned c.args.query.now c.args.changes.now c.args.bonds c.requires.bonds c.len.result c.push_all_concerned.new.own.items own c.len.ensures c.is_nobody.result c.is_nobody.ensures c.if-is_nobody.false none)
 
@@ -60,8 +60,8 @@ returns-clause-unknown g c loose concerned =
     let q = c.args.query.now in
     let changed = c.args.changes.now in
     let others = c.in_ok-push_all_concerned.ensures.others ∙ (λ i. c.new-others.ensures i ++ entities_of (concerns_others q) changed) in
-    let followed : is_followed q changed ≡ true = sym (all_followed q changed c.args.bonds c.requires.bonds c.len-2.result c.push_all_concerned.new.others.items others c.len-2.ensures)
-    ∙ sym c.are_followed.ensures ∙ c.if-not-are_followed.false in
+    let followed : finds_moving q changed ≡ true = sym (all_followed q changed c.args.bonds c.requires.bonds c.len-2.result c.push_all_concerned.new.others.items others c.len-2.ensures)
+    ∙ sym c.finds_moving.ensures ∙ c.if-not-finds_moving.false in
     absurd (true≢false (sym followed ∙ loose))
 
 pub returns-then-is_nobody-clause-unknown : goal.returns-then-is_nobody-clause-unknown

@@ -4,7 +4,7 @@ use Rattle.std.proofs.lemmas.Bool.{eqb-true}
 use Rattle.std.proofs.lemmas.Result.{IfOk-weaker}
 use Rattle.component_index.specs.Patterns.{matches}
 use Rattle.ecs_id.specs.Id.{Id}
-use Rattle.ecs_model.proofs.traits.Kept.{refuted}
+use Rattle.ecs_model.proofs.steps.LivingIds.{refuted}
 use Rattle.ecs_model.specs.World.{Key}
 use Rattle.watch_asked.specs.declared.steps.LinkStep.{LinkStep}
 use Rattle.watch_touched.specs.Leaning.{Adds, leaning, target_of}

@@ -1,6 +1,6 @@
 use Rattle.std.proofs.Common.{◌≡◌, ◌==◌, false, arith, sym, ◌∙◌}
 use Rattle.std.proofs.lemmas.Bool.{eqb-true, not-false}
-use Rattle.ecs_model.proofs.traits.Kept.{refuted}
+use Rattle.ecs_model.proofs.steps.LivingIds.{refuted}
 use Rattle.watch_touched.proofs.StepsBack.{leads_as_other, nobody_leads}
 use Rattle.watch_touched.proofs.roles.may_lead.Goals as goal
 

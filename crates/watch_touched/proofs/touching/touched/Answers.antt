@@ -6,7 +6,7 @@ use Rattle.ecs_model.specs.rows.View.{view_of}
 use Rattle.query_local.specs.Touched.{AreTouched, touch_of}
 use Rattle.watch_touched.specs.Before.{view_before}
 use Rattle.watch_touched.specs.Indexes.{touch_at}
-use Rattle.watch_touched.proofs.AllTouched.{indexes_told, number_at, one_more}
+use Rattle.watch_touched.proofs.TouchedEntities.{indexes_told, number_at, one_more}
 use Rattle.watch_touched.proofs.CommandChanges.{all_touched}
 use Rattle.watch_touched.proofs.touching.touched.Goals as goal
 

@@ -7,7 +7,7 @@ use Rattle.std.proofs.lemmas.Option.{slice_get-get_or, slice_get-map, slice_get_
 use Rattle.std.proofs.lemmas.Slice.Zip.{length-zip}
 use Rattle.ecs_print.proofs.Stops.{on_err_anyway}
 use Rattle.ecs_model.specs.World.{WorldState}
-use Rattle.world_query.specs.declared.labels.Piece.{Piece}
+use Rattle.world_query.specs.declared.labels.PaddedText.{PaddedText}
 use Rattle.world_query.specs.Lines.{started, starts_in, text_of, written}
 use Rattle.world_query.proofs.PrintedLists.{both_at, one_more}
 use Rattle.world_query.proofs.Fronts.{stops_in_item}
@@ -32,7 +32,7 @@ loop-place-preserved g c =
           (omega arith) (both_at (starts_in starts) entities place (text_of start) (get_or entities place 0) here there) c.loop-place.invariant.text c.in_ok-write_binding.ensures.text;
     }
 
-all_bindings : {A : Type 0} (w : WorldState) (starts : List (Piece A)) (entities : List ℕ) (n : ℕ) (before now : List ℕ) → min (length starts) (length entities) ≤ n
+all_bindings : {A : Type 0} (w : WorldState) (starts : List (PaddedText A)) (entities : List ℕ) (n : ℕ) (before now : List ℕ) → min (length starts) (length entities) ≤ n
     → now ≡ before ++ flat_map (started w) (take n (zip (starts_in starts) entities)) → now ≡ before ++ flat_map (started w) (zip (starts_in starts) entities)
 all_bindings w starts entities n before now all written =
     written ∙ ap (λ bs. before ++ flat_map (started w) bs) (take_all n (zip (starts_in starts) entities) (omega (arith, length-zip (starts_in starts) entities, length-map starts text_of)))

@@ -18,22 +18,22 @@ regrouped old label index value close end = simp append_assoc
 
 module _ (w : WorldState) (fact : ShownFact) (is_last : Bool) (shown : Option ShownFact) (index : ℕ) (old new : List ℕ) (is : shown ≡ Some fact) (of : index ≡ fact.source) where
   -- a field by whether its value is shown
-  shown_as : (valued : Bool) → fact.valued ≡ valued → new ≡ old ++ field_text w (Shown fact.source fact.id (if valued then (view_of w).value fact.source fact.id else None)) ++ line_end is_last
+  shown_as : (shows_value : Bool) → fact.shows_value ≡ shows_value → new ≡ old ++ field_text w (Shown fact.source fact.id (if shows_value then (view_of w).value fact.source fact.id else None)) ++ line_end is_last
       → new ≡ old ++ field_text w (shown_field (view_of w) shown) ++ line_end is_last
-  shown_as valued same now =
+  shown_as shows_value same now =
       now
       ∙ ap (λ b. old ++ field_text w (Shown fact.source fact.id (if b then (view_of w).value fact.source fact.id else None)) ++ line_end is_last) (sym same)
       ∙ ap (λ s. old ++ field_text w (shown_field (view_of w) s) ++ line_end is_last) (sym is)
 
-  with_value : fact.valued ≡ true → new ≡ old ++ label_text w fact.id ++ index_text w index ++ value_text ((view_of w).value fact.source fact.id) ++ field_end is_last
+  with_value : fact.shows_value ≡ true → new ≡ old ++ label_text w fact.id ++ index_text w index ++ value_text ((view_of w).value fact.source fact.id) ++ field_end is_last
       → new ≡ old ++ field_text w (shown_field (view_of w) shown) ++ line_end is_last
-  with_value valued now =
+  with_value shows_value now =
       let value = value_text ((view_of w).value fact.source fact.id) in
-      shown_as true valued
+      shown_as true shows_value
       (now ∙ ap (λ k. old ++ label_text w fact.id ++ index_text w k ++ value ++ field_end is_last) of
       ∙ regrouped old (label_text w fact.id) (index_text w fact.source) value (codes "]") (line_end is_last))
 
-  without_value : fact.valued ≡ false → new ≡ old ++ label_text w fact.id ++ index_text w index ++ field_end is_last
+  without_value : fact.shows_value ≡ false → new ≡ old ++ label_text w fact.id ++ index_text w index ++ field_end is_last
       → new ≡ old ++ field_text w (shown_field (view_of w) shown) ++ line_end is_last
   without_value bare now =
       shown_as false bare

@@ -47,8 +47,8 @@ returns-in-None-clause-front g c =
     on_err_weaker c.write_bare-in-None.result (subst (StopsWithin _ _) (bare (label_text w i ++ index_text w c.args.source.now.index) (field_end c.args.is_last) ((view_of w).value e i) none)) c.write_bare-in-None.ensures.front
 
 -- and one with a value shows that of its bytes
-valued : (w : WorldState) (e : ℕ) (i : Id) (schema : Schema) (bytes : List ℕ) → type_of_id w i ≡ Some schema → option_map (value_in (type_of_id w i)) (Some bytes) ≡ value_of w e i → (view_of w).value e i ≡ Some (values_in schema bytes)
-valued w e i schema bytes typed read =
+shows_value : (w : WorldState) (e : ℕ) (i : Id) (schema : Schema) (bytes : List ℕ) → type_of_id w i ≡ Some schema → option_map (value_in (type_of_id w i)) (Some bytes) ≡ value_of w e i → (view_of w).value e i ≡ Some (values_in schema bytes)
+shows_value w e i schema bytes typed read =
     ap (λ o. if is_some o then value_of w e i else None) typed ∙ sym read ∙ ap (λ o. option_map (value_in o) (Some bytes)) typed
 
 pub returns-in_err-put_pair-in-Some-bytes-clause-front : goal.returns-in_err-put_pair-in-Some-bytes-clause-front
@@ -76,7 +76,7 @@ returns-in_ok-put_pair-in-Some-bytes-clause-front g c =
     let start = label_text w i ++ index_text w c.args.source.now.index in
     let mid : written c.put_pair.new.sheet c.put_pair.new.end ≡ before ++ start = c.in_ok-put_pair-in-Some-bytes.ensures.text ∙ append_assoc before first second ∙ (λ j. before ++ (label j ++ source j)) in
     let read : option_map (value_in (type_of_id w i)) (Some bytes) ≡ value_of w e i = sym (ap (λ o. option_map (value_in (type_of_id w i)) (option_copied o)) c.in-Some-bytes.is) ∙ c.bytes.ensures.value in
-    let shown : (view_of w).value e i ≡ Some (values_in schema bytes) = valued w e i schema bytes (sym c.requires.label.1 ∙ ap option_copied c.in-Some.is) read in
+    let shown : (view_of w).value e i ≡ Some (values_in schema bytes) = shows_value w e i schema bytes (sym c.requires.label.1 ∙ ap option_copied c.in-Some.is) read in
     let value = value_text (Some (values_in schema bytes)) in
     let end = field_end c.args.is_last in
     let all = sym (append_assoc start value end) ∙ ap (λ v. start ++ value_text v ++ end) (sym shown) in

@@ -1,8 +1,8 @@
 use Rattle.std.proofs.Common.{Err, ap, subst}
 use Rattle.std.specs.Prelude.{map}
 use Rattle.ecs_model.specs.Schema.{Schema}
-use Rattle.ecs_model.specs.traits.Command.{Component}
-use Rattle.ecs_observe.specs.Answers.{AnswersApply, obeyed}
+use Rattle.ecs_model.specs.steps.Step.{Component}
+use Rattle.ecs_observe.specs.Answers.{AnswersApply, carried_out}
 use Rattle.ecs_observe.specs.Standing.{session_of}
 use Rattle.script_line.specs.Line.{seen_field}
 use Rattle.world_script.proofs.Orders.{IfOk-component, IfOk-no_schema}
@@ -10,7 +10,7 @@ use Rattle.world_script.proofs.sessions.run_component.Goals as goal
 
 pub returns-in-Ok : goal.returns-in-Ok
 returns-in-Ok g c =
-    let P : Schema → Type 0 = λ s. AnswersApply c.component-answer.result (obeyed (session_of c.args.session.now) (Component c.args.name.now s)) c.args.session.now c.component-answer.new.self in
+    let P : Schema → Type 0 = λ s. AnswersApply c.component-answer.result (carried_out (session_of c.args.session.now) (Component c.args.name.now s)) c.args.session.now c.component-answer.new.self in
     IfOk-component c.tell_answer.result c.args.session.now c.component-answer.new.self c.tell_answer.new.session c.args.number c.args.output.now.items c.tell_answer.new.output.items
     c.component-answer.result c.args.name.now (map seen_field c.args.fields.now) c.in-Ok.ensures.sound (subst P c.in-Ok.ensures.made c.component-answer.ensures.answers) c.tell_answer.ensures
 

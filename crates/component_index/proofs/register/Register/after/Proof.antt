@@ -25,7 +25,7 @@ use denote.Triple.Entry.{alive}
 use denote.Triple.Spec.{Meets, triple_of}
 use denote.Triple.Table.{entered}
 use denote.Triple.Walked.{says, Stays, stay_dropped, walk_of, ends_at, walk_Meets, Goes-dropped}
-use Rattle.component_index.proofs.Walks.{none, none_made}
+use Rattle.component_index.proofs.RegisterWalks.{none, none_made}
 use Rattle.component_index.specs.contracts.register.Register as Register
 use Rattle.component_index.specs.contracts.register.Change as Change
 use Rattle.component_index.specs.Changed.{changed}

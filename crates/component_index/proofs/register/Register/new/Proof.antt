@@ -24,7 +24,7 @@ use denote.Triple.Entry.{alive}
 use denote.Triple.Spec.{Meets, triple_of}
 use denote.Triple.Table.{entered}
 use denote.Triple.Walked.{says, Stays, walk_of, ends_at, walk_Meets}
-use Rattle.component_index.proofs.Walks.{none, none_made}
+use Rattle.component_index.proofs.RegisterWalks.{none, none_made}
 use Rattle.component_index.specs.contracts.register.Register as Register
 use Rattle.component_index.specs.contracts.register.Register.new as F
 use Rattle.component_index.specs.contracts.register.Register.new.Key.{name as #self}

@@ -1,5 +1,5 @@
 use Rattle.std.proofs.Common.{subst}
-use Rattle.ecs_model.specs.traits.Command.{Delete}
+use Rattle.ecs_model.specs.steps.Step.{Delete}
 use Rattle.ecs_observe.proofs.KeptLists.{lists_later}
 use Rattle.ecs_observe.proofs.CommandAnswers.{answer_left, pending_now, session_left}
 use Rattle.ecs_observe.specs.Standing.{Standing}

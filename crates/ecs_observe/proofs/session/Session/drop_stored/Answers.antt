@@ -13,10 +13,10 @@ use Rattle.ecs_observe.specs.Lists.{HaveLists}
 use Rattle.ecs_observe.specs.Parts.{held_of}
 use Rattle.ecs_observe.specs.Standing.{IsSession, Standing, session_of, stored_of}
 use Rattle.ecs_observe.proofs.NamedQueries.{named, none_found, some_found, waits}
-use Rattle.ecs_observe.proofs.KeptFound.{stored_there}
+use Rattle.ecs_observe.proofs.KeptQueries.{stored_there}
 use Rattle.ecs_observe.proofs.KeptLists.{lists_less}
-use Rattle.ecs_observe.proofs.OneLess.{lists_left, one_less_seen, without_seen}
-use Rattle.ecs_observe.proofs.OneMore.{same_seen}
+use Rattle.ecs_observe.proofs.DroppedQueries.{lists_left, one_less_seen, without_seen}
+use Rattle.ecs_observe.proofs.NewQueries.{same_seen}
 use Rattle.ecs_observe.proofs.StoringAnswers.{drop_done, drop_pending, drop_unknown, none_there}
 use Rattle.ecs_observe.specs.Stored.{entries_of}
 use Rattle.ecs_observe.proofs.session.Session.drop_stored.Goals as goal

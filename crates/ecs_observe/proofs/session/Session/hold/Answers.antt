@@ -19,7 +19,7 @@ use Rattle.watch_stored.specs.declared.stored.StoredQuery.{StoredQuery}
 use Rattle.ecs_observe.proofs.Entries.{none_of_name}
 use Rattle.ecs_observe.proofs.NamedQueries.{seen}
 use Rattle.ecs_observe.proofs.KeptLists.{lists_more}
-use Rattle.ecs_observe.proofs.OneMore.{one_more_seen, with_held_seen}
+use Rattle.ecs_observe.proofs.NewQueries.{one_more_seen, with_held_seen}
 use Rattle.ecs_observe.proofs.Watches.{opened_as}
 use Rattle.ecs_observe.proofs.session.Session.hold.Goals as goal
 

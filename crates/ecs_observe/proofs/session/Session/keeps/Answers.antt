@@ -2,7 +2,7 @@ use Rattle.std.proofs.Common.{All, subst}
 use Rattle.ecs_observe.specs.Lists.{HasItsList}
 use Rattle.ecs_observe.specs.Standing.{IsSession, Standing}
 use Rattle.ecs_observe.specs.Stored.{entries_of}
-use Rattle.ecs_observe.proofs.KeptFound.{kept_current}
+use Rattle.ecs_observe.proofs.KeptQueries.{kept_current}
 use Rattle.ecs_observe.proofs.KeptLists.{lists_seen}
 use Rattle.ecs_observe.proofs.session.Session.keeps.Goals as goal
 

@@ -5,9 +5,9 @@ use Rattle.ecs_observe.specs.Following.{list_at}
 use Rattle.watch_stored.specs.Held.{Held}
 use Rattle.ecs_observe.specs.Standing.{Standing}
 use Rattle.ecs_observe.specs.Stored.{entries_of}
-use Rattle.ecs_observe.proofs.KeptFound.{none_kept, other_kind}
+use Rattle.ecs_observe.proofs.KeptQueries.{none_kept, other_kind}
 use Rattle.ecs_observe.proofs.KeptLists.{list_found, not_kept}
-use Rattle.ecs_observe.proofs.OneLess.{first_named}
+use Rattle.ecs_observe.proofs.DroppedQueries.{first_named}
 use Rattle.ecs_observe.proofs.session.Session.kept_list.Goals as goal
 
 pub returns-in_default : goal.returns-in_default

@@ -3,7 +3,7 @@ use Rattle.std.specs.Prelude.{Ok}
 use Rattle.std.proofs.Common.{ap, subst, sym, ◌∙◌}
 use Rattle.std.proofs.lemmas.Bool.{false≢true}
 use Rattle.query_meaning.specs.Standing.{IsCurrentIn, WasAsked}
-use Rattle.ecs_observe.proofs.KeptFound.{current_found, kept_found, none_kept, other_kind}
+use Rattle.ecs_observe.proofs.KeptQueries.{current_found, kept_found, none_kept, other_kind}
 use Rattle.ecs_observe.specs.Stored.{entries_of}
 use Rattle.ecs_observe.proofs.session.Session.kept_query.Goals as goal
 

@@ -14,7 +14,7 @@ use Rattle.ecs_observe.specs.declared.queries.StoredQueries.{StoredQueries}
 use Rattle.watch_stored.specs.declared.stored.StoredQuery.{StoredQuery}
 use Rattle.ecs_observe.proofs.Entries.{look_stored, stored_in}
 use Rattle.ecs_observe.proofs.NamedQueries.{holds_of_found}
-use Rattle.ecs_observe.proofs.KeptFound.{none_kept, sends_answered}
+use Rattle.ecs_observe.proofs.KeptQueries.{none_kept, sends_answered}
 use Rattle.ecs_observe.proofs.WrittenQueries.{finds_then, fitting_then, follows_then, here_as, list_there, planned_then, query_in, reads_then, rewritten_session, same_then, still_lists}
 use Rattle.ecs_observe.proofs.SentRows.{refused_calm}
 use Rattle.ecs_observe.proofs.Watches.{still_stored}

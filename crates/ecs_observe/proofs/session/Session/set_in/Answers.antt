@@ -1,7 +1,7 @@
 use Rattle.std.proofs.Common.{refl, subst}
 use Rattle.ecs_model.specs.Orders.{SetIn, command_of}
 use Rattle.ecs_model.specs.stored.Session.{Answer}
-use Rattle.ecs_model.specs.traits.Command.{SetValue}
+use Rattle.ecs_model.specs.steps.Step.{SetValue}
 use Rattle.ecs_observe.specs.Answers.{AnswersApply}
 use Rattle.ecs_observe.specs.Commands.{seen_entity, seen_id}
 use Rattle.ecs_archetypes.specs.Staying.{stay_same}

@@ -12,7 +12,7 @@ use Rattle.ecs_observe.specs.Stored.{entries_of, made_of}
 use Rattle.ecs_observe.specs.declared.queries.StoredQueries.{StoredQueries}
 use Rattle.watch_stored.specs.declared.stored.StoredQuery.{StoredQuery}
 use Rattle.ecs_observe.proofs.Entries.{look_stored, stored_in}
-use Rattle.ecs_observe.proofs.KeptFound.{none_kept}
+use Rattle.ecs_observe.proofs.KeptQueries.{none_kept}
 use Rattle.ecs_observe.proofs.WrittenQueries.{follows_then, here_as, list_there, refused_then, rewritten_session, same_plan, same_then, still_lists, synced_then}
 use Rattle.ecs_observe.proofs.Watches.{still_stored}
 use Rattle.ecs_observe.proofs.session.Session.sync_kept.Goals as goal

@@ -1,7 +1,7 @@
 use Rattle.std.proofs.Common.{◌≡◌, ap, arith, length, rules, sym, vec_len, ◌∙◌}
 use Rattle.std.proofs.lemmas.List.{get_or_past, get_or_read_under}
 use Rattle.ecs_model.specs.Map.{count_at}
-use Rattle.rel_traits.proofs.PinsListed.{count_is}
+use Rattle.rel_traits.proofs.PinLists.{count_is}
 use Rattle.rel_traits.proofs.pin_counts.PinCounts.count.Goals as goal
 
 pub returns-then-place-len : goal.returns-then-place-len

@@ -1,6 +1,6 @@
 use Rattle.std.proofs.Common.{ap, ◌∙◌}
-use Rattle.ecs_model.specs.traits.Pins.{with_count}
-use Rattle.rel_traits.proofs.PinsListed.{count_put, same_counts}
+use Rattle.ecs_model.specs.steps.Pins.{with_count}
+use Rattle.rel_traits.proofs.PinLists.{count_put, same_counts}
 use Rattle.rel_traits.proofs.pin_counts.PinCounts.set_count.Goals as goal
 
 pub returns-clause-entries : goal.returns-clause-entries

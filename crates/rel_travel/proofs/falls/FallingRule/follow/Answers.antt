@@ -1,5 +1,5 @@
 use Rattle.std.proofs.Common.{◌≡◌, ◌<◌, ◌∙◌}
-use Rattle.ecs_model.specs.Falls.{deletes_users, falling}
+use Rattle.ecs_model.specs.Cleanup.{deletes_users, falling}
 use Rattle.rel_travel.specs.Holders.{sources_falling}
 use Rattle.rel_travel.proofs.Cleanup.{All-alike, pair_users, pair_users_fall, plain_users_fall, sources_alone, sources_and_users, sources_fall, users}
 use Rattle.rel_travel.proofs.Growth.{IsGrownWhere-same, IsGrownWhere-then}

@@ -1,5 +1,5 @@
 use Rattle.std.proofs.Common.{ap, ◌∙◌}
-use Rattle.table_store.specs.declared.store.Slot.{Slot}
+use Rattle.table_store.specs.declared.store.TableSlot.{TableSlot}
 use Rattle.table_store.specs.Store.{shape_of, table_at}
 use Rattle.table_store.proofs.Changes.{there, contains}
 use Rattle.table_store.proofs.Marks.{marked_same}
@@ -14,7 +14,7 @@ invariant_of-self g c = (
   edge_kept c.self.inside.tables c.self.inside.by_ids c.self.inside.by_serial c.self.inside.last c.args.self.now c.self.view_is c.self.invariant.0 c.args.key c.requires.stands c.index_mut.result.now c.index_mut.ensures.value c.deref_mut.result.now c.write_edge.new.slot c.deref_mut.ensures.value c.args.id c.args.to c.args.added c.write_edge.ensures.slot
       (c.requires.leads (shape_of c.index_mut.result.now.value.table) (shape_there c.self.inside.tables c.self.inside.by_ids c.self.inside.by_serial c.self.inside.last c.args.self.now c.self.view_is c.self.invariant.0 c.args.key c.requires.stands c.index_mut.result.now c.index_mut.ensures.value)) c.write_edge.ensures.more c.write_edge.ensures.less,
   marked_same c.self.inside.tables c.args.key.slot c.index_mut.result.now c.index_mut.ensures.value c.self.inside.filled.items c.self.invariant.1 _
-      (ap (λ (v : Slot _). v.table.entities) c.write_edge.ensures.slot ∙ ap (λ (v : Slot _). v.table.entities) c.deref_mut.ensures.value),
+      (ap (λ (v : TableSlot _). v.table.entities) c.write_edge.ensures.slot ∙ ap (λ (v : TableSlot _). v.table.entities) c.deref_mut.ensures.value),
 )
 
 pub returns : goal.returns

@@ -2,7 +2,7 @@ use Rattle.std.proofs.Common.{◌≡◌, ℕ, ◌<◌, ◌≤◌, ◌+◌, None,
 use Rattle.slab.specs.Slab.{Updates, with_value}
 use Rattle.ecs_id.specs.declared.EntityId.{EntityId}
 use Rattle.ecs_table.specs.Archetype.{Archetype, HaveEqualSizes, moved_into}
-use Rattle.table_store.specs.declared.store.Slot.{Slot}
+use Rattle.table_store.specs.declared.store.TableSlot.{TableSlot}
 use Rattle.table_store.specs.Store.{table_at}
 use Rattle.table_store.specs.Rows.{moved_rows, row_at}
 use Rattle.table_store.proofs.Changes.{contains, rows_here, with_room, with_rows}
@@ -23,17 +23,17 @@ index_mut-requires g c =
 pub move_to-moved-requires-clause-row : goal.move_to-moved-requires-clause-row
 move_to-moved-requires-clause-row g c =
     let f = with_rows (table_at c.args.self.now c.args.from) c.args.row c.requires.there in let t = with_room (table_at c.args.self.now c.args.to) c.requires.room in
-    subst (λ (v : Archetype). c.args.row < length v.entities) (sym (ap (λ (v : Slot _). v.table) c.deref_mut-2.ensures.value ∙ source_is c.self.inside.tables c.remove-source.new.self c.remove-source.new.self c.self.inside.last c.args.self.now c.self.view_is c.self.inside.by_ids c.self.inside.by_serial c.self.invariant.0 c.args.from c.args.to c.requires.apart f.0 t.0 f.1 t.1 c.args.row f.2 c.remove-source.result c.remove-source.ensures.value c.remove-source.ensures.updates)) f.2
+    subst (λ (v : Archetype). c.args.row < length v.entities) (sym (ap (λ (v : TableSlot _). v.table) c.deref_mut-2.ensures.value ∙ source_is c.self.inside.tables c.remove-source.new.self c.remove-source.new.self c.self.inside.last c.args.self.now c.self.view_is c.self.inside.by_ids c.self.inside.by_serial c.self.invariant.0 c.args.from c.args.to c.requires.apart f.0 t.0 f.1 t.1 c.args.row f.2 c.remove-source.result c.remove-source.ensures.value c.remove-source.ensures.updates)) f.2
 
 pub move_to-moved-requires-clause-room : goal.move_to-moved-requires-clause-room
 move_to-moved-requires-clause-room g c =
     let f = with_rows (table_at c.args.self.now c.args.from) c.args.row c.requires.there in let t = with_room (table_at c.args.self.now c.args.to) c.requires.room in
-    subst (λ (v : Archetype). 0 < v.room) (sym (ap (λ (v : Slot _). v.table) c.deref_mut.ensures.value ∙ target_is c.self.inside.tables c.remove-source.new.self c.remove-source.new.self c.self.inside.last c.args.self.now c.self.view_is c.self.inside.by_ids c.self.inside.by_serial c.self.invariant.0 c.args.from c.args.to c.requires.apart f.0 t.0 f.1 t.1 c.args.row f.2 c.remove-source.result c.remove-source.ensures.value c.remove-source.ensures.updates c.index_mut.result.now c.index_mut.ensures.value)) t.2
+    subst (λ (v : Archetype). 0 < v.room) (sym (ap (λ (v : TableSlot _). v.table) c.deref_mut.ensures.value ∙ target_is c.self.inside.tables c.remove-source.new.self c.remove-source.new.self c.self.inside.last c.args.self.now c.self.view_is c.self.inside.by_ids c.self.inside.by_serial c.self.invariant.0 c.args.from c.args.to c.requires.apart f.0 t.0 f.1 t.1 c.args.row f.2 c.remove-source.result c.remove-source.ensures.value c.remove-source.ensures.updates c.index_mut.result.now c.index_mut.ensures.value)) t.2
 
 pub move_to-moved-requires-clause-sizes : goal.move_to-moved-requires-clause-sizes
 move_to-moved-requires-clause-sizes g c =
     let f = with_rows (table_at c.args.self.now c.args.from) c.args.row c.requires.there in let t = with_room (table_at c.args.self.now c.args.to) c.requires.room in
-    subst (λ (v : Slot _). HaveEqualSizes v.table c.deref_mut.result.now.table) (sym c.deref_mut-2.ensures.value) (subst (λ (v : Slot _). HaveEqualSizes c.remove-source.result.value.table v.table) (sym c.deref_mut.ensures.value) (sizes_equal c.self.inside.tables c.remove-source.new.self c.remove-source.new.self c.self.inside.last c.args.self.now c.self.view_is c.self.inside.by_ids c.self.inside.by_serial c.self.invariant.0 c.args.from c.args.to c.requires.apart f.0 t.0 f.1 t.1 c.args.row f.2 c.remove-source.result c.remove-source.ensures.value c.remove-source.ensures.updates c.index_mut.result.now c.index_mut.ensures.value))
+    subst (λ (v : TableSlot _). HaveEqualSizes v.table c.deref_mut.result.now.table) (sym c.deref_mut-2.ensures.value) (subst (λ (v : TableSlot _). HaveEqualSizes c.remove-source.result.value.table v.table) (sym c.deref_mut.ensures.value) (sizes_equal c.self.inside.tables c.remove-source.new.self c.remove-source.new.self c.self.inside.last c.args.self.now c.self.view_is c.self.inside.by_ids c.self.inside.by_serial c.self.invariant.0 c.args.from c.args.to c.requires.apart f.0 t.0 f.1 t.1 c.args.row f.2 c.remove-source.result c.remove-source.ensures.value c.remove-source.ensures.updates c.index_mut.result.now c.index_mut.ensures.value))
 
 pub insert_reserved-requires : goal.insert_reserved-requires
 insert_reserved-requires g c =
@@ -46,13 +46,13 @@ invariant_of-self g c =
     (c.insert_reserved.ensures.key ∙ c.remove-source.ensures.key_is_next) c.insert_reserved.ensures.updates in (
       moved_kept c.self.inside.tables c.remove-source.new.self c.insert_reserved.new.self c.self.inside.last c.args.self.now c.self.view_is c.self.inside.by_ids c.self.inside.by_serial c.self.invariant.0 c.args.from c.args.to c.requires.apart f.0 t.0 f.1 t.1 c.args.row f.2 c.remove-source.result c.remove-source.ensures.value c.remove-source.ensures.updates c.index_mut.result.now c.index_mut.ensures.value c.deref_mut-2.result.now c.deref_mut.result.now c.deref_mut-2.ensures.value c.deref_mut.ensures.value c.move_to-moved.new.self c.move_to-moved.new.target c.move_to-moved.ensures.left c.move_to-moved.ensures.came u,
       moved_marked c.self.inside.tables c.remove-source.new.self c.insert_reserved.new.self c.self.inside.last c.args.self.now c.self.view_is c.self.inside.by_ids c.self.inside.by_serial c.self.invariant.0 c.args.from c.args.to c.requires.apart f.0 t.0 f.1 t.1 c.args.row f.2 c.remove-source.result c.remove-source.ensures.value c.remove-source.ensures.updates c.index_mut.result.now c.index_mut.ensures.value c.deref_mut-2.result.now c.deref_mut.result.now c.deref_mut-2.ensures.value c.deref_mut.ensures.value c.move_to-moved.new.self c.move_to-moved.new.target c.move_to-moved.ensures.left c.move_to-moved.ensures.came u
-          c.self.inside.filled.items c.self.invariant.1 _ (ap not c.is_empty-stays_filled.ensures ∙ not_empty (length c.rows.result.now) ∙ ap (λ (es : List EntityId). nat_lt 0 (length es)) c.rows.ensures.value ∙ ap (λ (v : Slot _). nat_lt 0 (length v.table.entities)) c.deref.ensures),
+          c.self.inside.filled.items c.self.invariant.1 _ (ap not c.is_empty-stays_filled.ensures ∙ not_empty (length c.rows.result.now) ∙ ap (λ (es : List EntityId). nat_lt 0 (length es)) c.rows.ensures.value ∙ ap (λ (v : TableSlot _). nat_lt 0 (length v.table.entities)) c.deref.ensures),
     )
 
 pub returns-clause-row : goal.returns-clause-row
 returns-clause-row g c =
     let f = with_rows (table_at c.args.self.now c.args.from) c.args.row c.requires.there in let t = with_room (table_at c.args.self.now c.args.to) c.requires.room in
-    let n : c.move_to-moved.result.0 ≡ length t.0.entities = c.move_to-moved.ensures.row ∙ ap (λ (v : Archetype). length v.entities) (ap (λ (v : Slot _). v.table) c.deref_mut.ensures.value ∙ target_is c.self.inside.tables c.remove-source.new.self c.remove-source.new.self c.self.inside.last c.args.self.now c.self.view_is c.self.inside.by_ids c.self.inside.by_serial c.self.invariant.0 c.args.from c.args.to c.requires.apart f.0 t.0 f.1 t.1 c.args.row f.2 c.remove-source.result c.remove-source.ensures.value c.remove-source.ensures.updates c.index_mut.result.now c.index_mut.ensures.value) in
+    let n : c.move_to-moved.result.0 ≡ length t.0.entities = c.move_to-moved.ensures.row ∙ ap (λ (v : Archetype). length v.entities) (ap (λ (v : TableSlot _). v.table) c.deref_mut.ensures.value ∙ target_is c.self.inside.tables c.remove-source.new.self c.remove-source.new.self c.self.inside.last c.args.self.now c.self.view_is c.self.inside.by_ids c.self.inside.by_serial c.self.invariant.0 c.args.from c.args.to c.requires.apart f.0 t.0 f.1 t.1 c.args.row f.2 c.remove-source.result c.remove-source.ensures.value c.remove-source.ensures.updates c.index_mut.result.now c.index_mut.ensures.value) in
     n ∙ sym (rows_here c.args.self.now c.args.to t.0 t.1)
 
 pub returns-clause-tables : goal.returns-clause-tables
@@ -74,7 +74,7 @@ returns-clause-vacant g c =
     let f = with_rows (table_at c.args.self.now c.args.from) c.args.row c.requires.there in let t = with_room (table_at c.args.self.now c.args.to) c.requires.room in
     let u = subst (λ n. Updates (with_value c.remove-source.new.self c.args.to.slot (record c.index_mut.result.now { value = record c.deref_mut.result.now { table = c.move_to-moved.new.target } })) c.insert_reserved.new.self n (Some (record c.remove-source.result { value = record c.deref_mut-2.result.now { table = c.move_to-moved.new.self } })))
     (c.insert_reserved.ensures.key ∙ c.remove-source.ensures.key_is_next) c.insert_reserved.ensures.updates in
-    let n : c.move_to-moved.result.0 ≡ length t.0.entities = c.move_to-moved.ensures.row ∙ ap (λ (v : Archetype). length v.entities) (ap (λ (v : Slot _). v.table) c.deref_mut.ensures.value ∙ target_is c.self.inside.tables c.remove-source.new.self c.remove-source.new.self c.self.inside.last c.args.self.now c.self.view_is c.self.inside.by_ids c.self.inside.by_serial c.self.invariant.0 c.args.from c.args.to c.requires.apart f.0 t.0 f.1 t.1 c.args.row f.2 c.remove-source.result c.remove-source.ensures.value c.remove-source.ensures.updates c.index_mut.result.now c.index_mut.ensures.value) in
+    let n : c.move_to-moved.result.0 ≡ length t.0.entities = c.move_to-moved.ensures.row ∙ ap (λ (v : Archetype). length v.entities) (ap (λ (v : TableSlot _). v.table) c.deref_mut.ensures.value ∙ target_is c.self.inside.tables c.remove-source.new.self c.remove-source.new.self c.self.inside.last c.args.self.now c.self.view_is c.self.inside.by_ids c.self.inside.by_serial c.self.invariant.0 c.args.from c.args.to c.requires.apart f.0 t.0 f.1 t.1 c.args.row f.2 c.remove-source.result c.remove-source.ensures.value c.remove-source.ensures.updates c.index_mut.result.now c.index_mut.ensures.value) in
     subst (λ (m : ℕ). row_at c.args.self.now (record { table = c.args.to; row = m }) ≡ None) (sym n) (vacant_there c.self.inside.tables c.remove-source.new.self c.insert_reserved.new.self c.self.inside.last c.args.self.now c.self.view_is c.self.inside.by_ids c.self.inside.by_serial c.self.invariant.0 c.args.from c.args.to c.requires.apart f.0 t.0 f.1 t.1 c.args.row f.2 c.remove-source.result c.remove-source.ensures.value c.remove-source.ensures.updates c.index_mut.result.now c.index_mut.ensures.value c.deref_mut-2.result.now c.deref_mut.result.now c.deref_mut-2.ensures.value c.deref_mut.ensures.value c.move_to-moved.new.self c.move_to-moved.new.target c.move_to-moved.ensures.left c.move_to-moved.ensures.came u)
 
 pub returns-clause-rows : goal.returns-clause-rows
@@ -82,14 +82,14 @@ returns-clause-rows g c =
     let f = with_rows (table_at c.args.self.now c.args.from) c.args.row c.requires.there in let t = with_room (table_at c.args.self.now c.args.to) c.requires.room in
     let u = subst (λ n. Updates (with_value c.remove-source.new.self c.args.to.slot (record c.index_mut.result.now { value = record c.deref_mut.result.now { table = c.move_to-moved.new.target } })) c.insert_reserved.new.self n (Some (record c.remove-source.result { value = record c.deref_mut-2.result.now { table = c.move_to-moved.new.self } })))
     (c.insert_reserved.ensures.key ∙ c.remove-source.ensures.key_is_next) c.insert_reserved.ensures.updates in
-    let n : c.move_to-moved.result.0 ≡ length t.0.entities = c.move_to-moved.ensures.row ∙ ap (λ (v : Archetype). length v.entities) (ap (λ (v : Slot _). v.table) c.deref_mut.ensures.value ∙ target_is c.self.inside.tables c.remove-source.new.self c.remove-source.new.self c.self.inside.last c.args.self.now c.self.view_is c.self.inside.by_ids c.self.inside.by_serial c.self.invariant.0 c.args.from c.args.to c.requires.apart f.0 t.0 f.1 t.1 c.args.row f.2 c.remove-source.result c.remove-source.ensures.value c.remove-source.ensures.updates c.index_mut.result.now c.index_mut.ensures.value) in
+    let n : c.move_to-moved.result.0 ≡ length t.0.entities = c.move_to-moved.ensures.row ∙ ap (λ (v : Archetype). length v.entities) (ap (λ (v : TableSlot _). v.table) c.deref_mut.ensures.value ∙ target_is c.self.inside.tables c.remove-source.new.self c.remove-source.new.self c.self.inside.last c.args.self.now c.self.view_is c.self.inside.by_ids c.self.inside.by_serial c.self.invariant.0 c.args.from c.args.to c.requires.apart f.0 t.0 f.1 t.1 c.args.row f.2 c.remove-source.result c.remove-source.ensures.value c.remove-source.ensures.updates c.index_mut.result.now c.index_mut.ensures.value) in
     λ v h is shape p. moved_row c.self.inside.tables c.remove-source.new.self c.insert_reserved.new.self c.self.inside.last c.args.self.now c.self.view_is c.self.inside.by_ids c.self.inside.by_serial c.self.invariant.0 c.args.from c.args.to c.requires.apart f.0 t.0 f.1 t.1 c.args.row f.2 c.remove-source.result c.remove-source.ensures.value c.remove-source.ensures.updates c.index_mut.result.now c.index_mut.ensures.value c.deref_mut-2.result.now c.deref_mut.result.now c.deref_mut-2.ensures.value c.deref_mut.ensures.value c.move_to-moved.new.self c.move_to-moved.new.target c.move_to-moved.ensures.left c.move_to-moved.ensures.came u v h is shape p
     ∙ ap (λ (m : ℕ). moved_rows c.args.self.now (record { table = c.args.from; row = c.args.row }) v (record { table = c.args.to; row = m }) h p) (sym n)
 
 pub returns-clause-filled : goal.returns-clause-filled
 returns-clause-filled g c =
     let f = with_rows (table_at c.args.self.now c.args.from) c.args.row c.requires.there in let t = with_room (table_at c.args.self.now c.args.to) c.requires.room in
-    c.move_to-moved.ensures.moved ∙ ap (λ v. moved_into v c.args.row) (ap (λ (v : Slot _). v.table) c.deref_mut-2.ensures.value ∙ source_is c.self.inside.tables c.remove-source.new.self c.remove-source.new.self c.self.inside.last c.args.self.now c.self.view_is c.self.inside.by_ids c.self.inside.by_serial c.self.invariant.0 c.args.from c.args.to c.requires.apart f.0 t.0 f.1 t.1 c.args.row f.2 c.remove-source.result c.remove-source.ensures.value c.remove-source.ensures.updates) ∙ filled_is c.args.self.now c.args.from f.0 f.1 c.args.row f.2
+    c.move_to-moved.ensures.moved ∙ ap (λ v. moved_into v c.args.row) (ap (λ (v : TableSlot _). v.table) c.deref_mut-2.ensures.value ∙ source_is c.self.inside.tables c.remove-source.new.self c.remove-source.new.self c.self.inside.last c.args.self.now c.self.view_is c.self.inside.by_ids c.self.inside.by_serial c.self.invariant.0 c.args.from c.args.to c.requires.apart f.0 t.0 f.1 t.1 c.args.row f.2 c.remove-source.result c.remove-source.ensures.value c.remove-source.ensures.updates) ∙ filled_is c.args.self.now c.args.from f.0 f.1 c.args.row f.2
 
 pub returns-clause-whole : goal.returns-clause-whole
 returns-clause-whole g c =

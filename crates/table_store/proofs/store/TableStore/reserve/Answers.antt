@@ -1,7 +1,7 @@
 use Rattle.std.proofs.Common.{◌≤◌, max, sym, ap, subst, ◌∙◌, refl}
 use Rattle.ecs_table.specs.Archetype.{Archetype}
 use Rattle.ecs_table.proofs.Soundness.{sound_with_room}
-use Rattle.table_store.specs.declared.store.Slot.{Slot}
+use Rattle.table_store.specs.declared.store.TableSlot.{TableSlot}
 use Rattle.table_store.specs.Store.{table_at}
 use Rattle.table_store.proofs.Changes.{contains, there, room_here, lent_here, written, written_kept, written_same, written_same_rows, written_shapes, written_stored}
 use Rattle.table_store.proofs.Marks.{marked_same}
@@ -18,7 +18,7 @@ invariant_of-self g c = let t = there (table_at c.args.self.now c.args.key) c.re
       written_kept c.self.inside.tables c.self.inside.last c.args.self.now c.self.view_is c.args.key t.0 t.1 x c.index_mut.ensures.value c.deref_mut.result.now c.deref_mut.ensures.value c.reserve.new.self (λ v. record v { room = n })
           (same_but_room c.reserve.result c.deref_mut.result.now.table c.reserve.new.self _ c.reserve.ensures.ok c.reserve.ensures.err) c.self.inside.by_ids c.self.inside.by_serial c.self.invariant.0 refl (sound_with_room t.0 n sound),
       marked_same c.self.inside.tables c.args.key.slot c.index_mut.result.now c.index_mut.ensures.value c.self.inside.filled.items c.self.invariant.1 _
-          (ap (λ (v : Archetype). v.entities) (same_but_room c.reserve.result c.deref_mut.result.now.table c.reserve.new.self _ c.reserve.ensures.ok c.reserve.ensures.err) ∙ ap (λ (v : Slot _). v.table.entities) c.deref_mut.ensures.value),
+          (ap (λ (v : Archetype). v.entities) (same_but_room c.reserve.result c.deref_mut.result.now.table c.reserve.new.self _ c.reserve.ensures.ok c.reserve.ensures.err) ∙ ap (λ (v : TableSlot _). v.table.entities) c.deref_mut.ensures.value),
     )
 
 pub returns-clause-tables : goal.returns-clause-tables

@@ -1,7 +1,7 @@
 use Rattle.std.proofs.Common.{◌≡◌, ◌<◌, Some, length, sym, ap, subst, ◌∙◌}
 use Rattle.ecs_table.specs.Archetype.{Archetype, size_of, with_value}
 use Rattle.ecs_table.proofs.Rows.{shape_of_set, size_from_shape, sound_with_value}
-use Rattle.table_store.specs.declared.store.Slot.{Slot}
+use Rattle.table_store.specs.declared.store.TableSlot.{TableSlot}
 use Rattle.table_store.specs.Store.{shape_of, table_at}
 use Rattle.table_store.proofs.Changes.{contains, shape_here, lent_here, with_rows, written, written_kept, written_one_row, written_shapes, written_stored}
 use Rattle.table_store.proofs.Marks.{marked_same}
@@ -27,7 +27,7 @@ invariant_of-self g c = let t = with_rows (table_at c.args.self.now c.args.key) 
       written_kept c.self.inside.tables c.self.inside.last c.args.self.now c.self.view_is c.args.key t.0 t.1 x c.index_mut.ensures.value c.deref_mut.result.now c.deref_mut.ensures.value c.set_value.new.self (λ v. with_value v c.args.row c.args.id c.args.value.now) c.set_value.ensures c.self.inside.by_ids c.self.inside.by_serial c.self.invariant.0
           (shape_of_set t.0 c.args.row c.args.id c.args.value.now sound) (sound_with_value t.0 c.args.row c.args.id c.args.value.now t.2 sized sound),
       marked_same c.self.inside.tables c.args.key.slot c.index_mut.result.now c.index_mut.ensures.value c.self.inside.filled.items c.self.invariant.1 _
-          (ap (λ (v : Archetype). v.entities) c.set_value.ensures ∙ ap (λ (v : Slot _). v.table.entities) c.deref_mut.ensures.value),
+          (ap (λ (v : Archetype). v.entities) c.set_value.ensures ∙ ap (λ (v : TableSlot _). v.table.entities) c.deref_mut.ensures.value),
     )
 
 pub returns-clause-tables : goal.returns-clause-tables

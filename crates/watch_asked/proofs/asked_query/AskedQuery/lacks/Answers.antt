@@ -2,7 +2,7 @@ use Rattle.std.proofs.Common.{append-nil, ap, ◌∙◌}
 use Rattle.std.specs.Prelude.{not}
 use Rattle.watch_concerns.specs.OwnIds.{lacks}
 use Rattle.watch_asked.specs.Asked.{have_all}
-use Rattle.watch_asked.proofs.Asks.{lacks_told}
+use Rattle.watch_asked.proofs.AskedPatterns.{lacks_told}
 use Rattle.watch_asked.proofs.asked_query.AskedQuery.lacks.Goals as goal
 
 pub returns-in-Some : goal.returns-in-Some

@@ -1,7 +1,7 @@
 use Rattle.std.proofs.Common.{◌≡◌, List, ◌-◌, length, Some, slice_get, ap, subst, sym, arith}
 use Rattle.watch_index.specs.declared.name_order.Named.{Named}
 use Rattle.watch_index.specs.NameOrder.{Boxed, name_in, number_in, value_in}
-use Rattle.watch_index.proofs.NamesPlaced.{above_last}
+use Rattle.watch_index.proofs.NamePlaces.{above_last}
 use Rattle.watch_index.proofs.name_order.NameOrder.next_number.Goals as goal
 
 pub returns-in-Some-checked_add : goal.returns-in-Some-checked_add

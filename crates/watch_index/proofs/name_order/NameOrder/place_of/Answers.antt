@@ -1,7 +1,7 @@
 -- The value of the name stands where that of its number does, or there is none.
 use Rattle.std.proofs.Common.{sym, ◌∙◌}
 use Rattle.watch_index.specs.NameOrder.{name_in, number_in, value_in}
-use Rattle.watch_index.proofs.NamesPlaced.{none_of, placed_as}
+use Rattle.watch_index.proofs.NamePlaces.{none_of, placed_as}
 use Rattle.watch_index.proofs.name_order.NameOrder.place_of.Goals as goal
 
 pub returns-in_default : goal.returns-in_default

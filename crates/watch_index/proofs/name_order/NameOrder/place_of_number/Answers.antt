@@ -5,7 +5,7 @@ use Rattle.std.specs.declared.result.Result.TheVariants.{Ok, Err}
 use Rattle.std.proofs.Common.{◌<◌, ◌≤◌, List, length, rules, subst}
 use Rattle.std.proofs.lemmas.List.Sorted.{answers_always}
 use Rattle.watch_index.specs.NameOrder.{Boxed, name_in, number_in, value_in}
-use Rattle.watch_index.proofs.NamesPlaced.{found_at, none_has}
+use Rattle.watch_index.proofs.NamePlaces.{found_at, none_has}
 use Rattle.watch_index.proofs.name_order.NameOrder.place_of_number.Goals as goal
 
 pub returns-in-Ok : goal.returns-in-Ok

@@ -7,7 +7,7 @@ use Rattle.std.specs.Map.{lookup}
 use Rattle.indexmap.specs.IndexMap.{insert_entry}
 use Rattle.watch_index.specs.declared.name_order.Named.{Named}
 use Rattle.watch_index.specs.NameOrder.{Boxed, is_key, name_in, number_in, numbered_in, value_in}
-use Rattle.watch_index.proofs.NamesPlaced.{all_others, of_ok, put_named}
+use Rattle.watch_index.proofs.NamePlaces.{all_others, of_ok, put_named}
 use Rattle.watch_index.proofs.name_order.NameOrder.put.Goals as goal
 
 pub returns-clause-order : goal.returns-clause-order

@@ -4,7 +4,7 @@ use Rattle.std.specs.String.{string_bytes}
 use Rattle.std.proofs.Common.{◌<◌, List, ap, subst, sym, ◌∙◌}
 use Rattle.std.proofs.lemmas.List.Quantifiers.{all_pairs_remove}
 use Rattle.watch_index.specs.NameOrder.{Boxed, name_in, number_in, numbered_in, value_in}
-use Rattle.watch_index.proofs.NamesPlaced.{still_named}
+use Rattle.watch_index.proofs.NamePlaces.{still_named}
 use Rattle.watch_index.proofs.name_order.NameOrder.remove.Goals as goal
 
 pub returns-clause-order : goal.returns-clause-order

@@ -1,0 +1,32 @@
+-- What is proved of the steps of a world.
+mod StepChecks
+pub mod Facts
+pub mod FewerPairs
+pub mod LivingIds
+pub mod RefusalNumbers
+pub mod FirstTraits
+pub mod NewEntities
+pub mod Deletions
+pub mod DeletedSets
+pub mod BornEntities
+pub mod IdleRemovals
+pub mod PinCounts
+pub mod AddedSets
+pub mod CopiedIds
+pub mod ReplacedFacts
+pub mod Additions
+pub mod Removals
+pub mod CycleTests
+pub mod AcceptedFacts
+pub mod AcceptedCommands
+pub mod SameKeys
+pub mod Differences
+pub mod AddEffects
+pub mod FoundLists
+pub mod Cycles
+pub mod NewBase
+pub mod CopiedFacts
+pub mod LastingTypes
+pub mod LastingTraits
+pub mod ChangedTypes
+pub mod CrowdedEntities

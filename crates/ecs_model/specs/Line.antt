@@ -1,7 +1,0 @@
--- The ancestors of a thing in a line.
-use Rattle.std.specs.Prelude.{ℕ, zero, suc, List, [], ◌∷◌, flat_map}
-
--- each of what follows, then its own line: what is reached in two ways stands there twice; n bounds the steps
-unfoldable pub line_within : {A : Type 0} → (A → List A) → ℕ → A → List A
-line_within next zero x = []
-line_within next (suc n) x = flat_map (λ t. t ∷ line_within next n t) (next x)
