@@ -280,8 +280,18 @@ module _ (ids : List Id) where
   first_source Any = refl
   first_source AnyOnce = refl
 
+  -- `$this` is asked itself by its source, and by what else is direct
+  regroup : (a b c d rest : Bool) → ((a && b && c && d) && rest) ≡ ((a && (b && c && d)) && rest)
+  regroup false b c d rest = refl
+  regroup true false c d rest = refl
+  regroup true true false d rest = refl
+  regroup true true true d rest = refl
+
   first_lacks : (x : Item) → item_lacks_of ids 0 x ≡ item_lacks ids x
-  first_lacks (must t) = ap (λ b. (b && t.on_source && is_none t.up && not t.closed) && not (list_any (may_match t.component t.target) ids)) (first_source t.source)
+  first_lacks (must t) =
+      let lacking = not (list_any (may_match t.component t.target) ids) in
+      regroup (is_variable 0 t.source) t.on_source (is_none t.up) (not t.closed) lacking
+      ∙ ap (λ b. (b && (t.on_source && is_none t.up && not t.closed)) && lacking) (first_source t.source)
   first_lacks (may t) = refl
   first_lacks (either ts) = refl
   first_lacks (equal v r) = refl
