@@ -8,10 +8,10 @@ ghost use Rattle.ecs_model.specs.rows.View.{view_of};
 ghost use Rattle.ecs_print.specs.Stops.{StopsWithin};
 ghost use Rattle.plan_fields.specs.Fields.{shown_field};
 ghost use Rattle.world_query.specs.Lines.{AreTexts, IsEntityText, IsKept, IsLabel, IsLabelOf, field_end, label_text, line_end, line_headed, row_alone, started};
-ghost use Rattle.world_query.specs.Lines.{starts_in, text_of, written};
+ghost use Rattle.world_query.specs.Lines.{starts_in, text_of};
 
 use crate::labels::{EntityText, Label, PaddedText, place_of_source, place_of_text};
-use crate::sheet::{CHUNK, put, put_pair};
+use crate::sheet::{CHUNK, Sheet};
 use ecs_id::Id;
 use ecs_print::{MOST_TEXT, put_fields};
 use ecs_schema::Schema;
@@ -38,39 +38,36 @@ pub(crate) fn write_row<'w, A: Allocator, B: Allocator>(
     entities: &[u32],
     fields: &Fields<B>,
     texts: &mut Texts<'w, A, B>,
-    end: &mut usize,
-    out: &mut Vec<u8, A>,
+    sheet: &mut Sheet<A>,
 ) -> Result<(), AllocError>
     requires texts { AreTexts world.now.state (length starts.now) (length (fields.now).items) texts.old }
     ensures texts { OnOk result (AreTexts world.now.state (length starts.now) (length (fields.now).items) texts.new) }
-    ensures row { OnOk result (written out.new end.new ≡ written out.old end.old
+    ensures row { OnOk result (sheet.new ≡ sheet.old
         ++ line_headed world.now.state (starts_in starts.now) entities.now (fields.now).current) }
-    ensures front { OnErr result (StopsWithin (written out.old end.old) (written out.new end.new)
+    ensures front { OnErr result (StopsWithin sheet.old sheet.new
         (line_headed world.now.state (starts_in starts.now) entities.now (fields.now).current)) }
 {
-    begin_row(starts, end, out)?;
+    begin_row(starts, sheet)?;
     write_bindings(
         world,
         starts,
         entities,
         texts.entities.as_mut_slice(),
-        end,
-        out,
+        sheet,
     )?;
-    write_all_fields(world, fields, starts.len(), texts, end, out)
+    write_all_fields(world, fields, starts.len(), texts, sheet)
 }
 
 /// Writes `row` where no binding begins with it.
 fn begin_row<A: Allocator, B: Allocator>(
     starts: &[PaddedText<B>],
-    end: &mut usize,
-    out: &mut Vec<u8, A>,
+    sheet: &mut Sheet<A>,
 ) -> Result<(), AllocError>
-    ensures text { OnOk result (written out.new end.new ≡ written out.old end.old ++ row_alone (starts_in starts.now)) }
-    ensures front { OnErr result (StopsWithin (written out.old end.old) (written out.new end.new) (row_alone (starts_in starts.now))) }
+    ensures text { OnOk result (sheet.new ≡ sheet.old ++ row_alone (starts_in starts.now)) }
+    ensures front { OnErr result (StopsWithin sheet.old sheet.new (row_alone (starts_in starts.now))) }
 {
     match starts {
-        [] => put(b"row                             ", 3, end, out),
+        [] => sheet.put_text(b"row"),
         [_, ..] => Ok(()),
     }
 }
@@ -81,27 +78,18 @@ fn write_bindings<A: Allocator, B: Allocator>(
     starts: &[PaddedText<B>],
     entities: &[u32],
     texts: &mut [EntityText<B>],
-    end: &mut usize,
-    out: &mut Vec<u8, A>,
+    sheet: &mut Sheet<A>,
 ) -> Result<(), AllocError>
     requires places { length starts.now ≤ length texts.old }
     requires texts { All (IsKept world.now.state) texts.old }
     ensures texts { OnOk result (All (IsKept world.now.state) texts.new) }
-    ensures text { OnOk result (written out.new end.new ≡ written out.old end.old
+    ensures text { OnOk result (sheet.new ≡ sheet.old
         ++ flat_map (started world.now.state) (zip (starts_in starts.now) entities.now)) }
-    ensures front { OnErr result (StopsWithin (written out.old end.old) (written out.new end.new)
+    ensures front { OnErr result (StopsWithin sheet.old sheet.new
         (flat_map (started world.now.state) (zip (starts_in starts.now) entities.now))) }
 {
     for place in 0..starts.len().min(entities.len()) {
-        write_binding(
-            world,
-            &starts[place],
-            entities[place],
-            place,
-            texts,
-            end,
-            out,
-        )?;
+        write_binding(world, &starts[place], entities[place], place, texts, sheet)?;
     }
     Ok(())
 }
@@ -112,18 +100,19 @@ fn write_all_fields<'w, A: Allocator, B: Allocator>(
     fields: &Fields<B>,
     columns: usize,
     texts: &mut Texts<'w, A, B>,
-    end: &mut usize,
-    out: &mut Vec<u8, A>,
+    sheet: &mut Sheet<A>,
 ) -> Result<(), AllocError>
     requires texts { AreTexts world.now.state columns (length (fields.now).items) texts.old }
     ensures texts { OnOk result (AreTexts world.now.state columns (length (fields.now).items) texts.new) }
-    ensures text { OnOk result (written out.new end.new ≡ written out.old end.old
-        ++ flat_map (field_text world.now.state) (map (shown_field (view_of world.now.state)) (fields.now).current) ++ codes "\n") }
-    ensures front { OnErr result (StopsWithin (written out.old end.old) (written out.new end.new)
-        (flat_map (field_text world.now.state) (map (shown_field (view_of world.now.state)) (fields.now).current) ++ codes "\n")) }
+    ensures text { OnOk result (sheet.new ≡ sheet.old
+        ++ flat_map (field_text world.now.state) (map (shown_field (view_of world.now.state)) (fields.now).current)
+        ++ codes "\n") }
+    ensures front { OnErr result (StopsWithin sheet.old sheet.new
+        (flat_map (field_text world.now.state) (map (shown_field (view_of world.now.state)) (fields.now).current)
+        ++ codes "\n")) }
 {
     let Some(last) = fields.len().checked_sub(1) else {
-        return put(b"\n                               ", 1, end, out);
+        return sheet.put_text(b"\n");
     };
     for number in 0..fields.len() {
         write_field(
@@ -133,8 +122,7 @@ fn write_all_fields<'w, A: Allocator, B: Allocator>(
             columns + number,
             texts.entities.as_mut_slice(),
             &mut texts.labels[number],
-            end,
-            out,
+            sheet,
         )?;
     }
     Ok(())
@@ -147,24 +135,22 @@ fn write_binding<A: Allocator, B: Allocator>(
     entity: u32,
     place: usize,
     texts: &mut [EntityText<B>],
-    end: &mut usize,
-    out: &mut Vec<u8, A>,
+    sheet: &mut Sheet<A>,
 ) -> Result<(), AllocError>
     requires place { place < length texts.old }
     requires texts { All (IsKept world.now.state) texts.old }
     ensures texts { OnOk result (All (IsKept world.now.state) texts.new) }
-    ensures text { OnOk result (written out.new end.new ≡ written out.old end.old ++ started world.now.state (text_of start.now, entity)) }
-    ensures front { OnErr result (StopsWithin (written out.old end.old) (written out.new end.new) (started world.now.state (text_of start.now, entity))) }
+    ensures text { OnOk result (sheet.new ≡ sheet.old ++ started world.now.state (text_of start.now, entity)) }
+    ensures front { OnErr result (StopsWithin sheet.old sheet.new
+        (started world.now.state (text_of start.now, entity))) }
 {
     let found = place_of_text(world, texts, place, entity)?;
     let text = &texts[found];
-    put_pair(
+    sheet.put_pair(
         start.bytes.as_slice(),
         start.count,
         text.bytes.as_slice(),
         text.alone,
-        end,
-        out,
     )
 }
 
@@ -176,44 +162,39 @@ fn write_field<'w, A: Allocator, B: Allocator>(
     place: usize,
     texts: &mut [EntityText<B>],
     label: &mut Label<'w, A, B>,
-    end: &mut usize,
-    out: &mut Vec<u8, A>,
+    sheet: &mut Sheet<A>,
 ) -> Result<(), AllocError>
     requires place { place < length texts.old }
     requires texts { All (IsKept world.now.state) texts.old }
     requires label { IsLabel world.now.state label.old }
     ensures texts { OnOk result (All (IsKept world.now.state) texts.new) }
     ensures label { OnOk result (IsLabel world.now.state label.new) }
-    ensures text { OnOk result (written out.new end.new ≡ written out.old end.old ++ field_text world.now.state (shown_field (view_of world.now.state) shown)
-        ++ line_end is_last) }
-    ensures front { OnErr result (StopsWithin (written out.old end.old) (written out.new end.new)
+    ensures text { OnOk result (sheet.new ≡ sheet.old
+        ++ field_text world.now.state (shown_field (view_of world.now.state) shown) ++ line_end is_last) }
+    ensures front { OnErr result (StopsWithin sheet.old sheet.new
         (field_text world.now.state (shown_field (view_of world.now.state) shown) ++ line_end is_last)) }
 {
     let Some(fact) = shown else {
-        return write_unset(is_last, end, out);
+        return write_unset(is_last, sheet);
     };
     label.turn_to(world, fact.id)?;
     let found = place_of_source(world, texts, place, fact.source)?;
     let source = &texts[found];
     if fact.shows_value {
-        return write_valued(world, fact, is_last, label, source, end, out);
+        return write_valued(world, fact, is_last, label, source, sheet);
     }
-    write_bare(world, fact.id, is_last, label, source, end, out)
+    write_bare(world, fact.id, is_last, label, source, sheet)
 }
 
 /// Writes a field that is unset.
-fn write_unset<A: Allocator>(
-    is_last: bool,
-    end: &mut usize,
-    out: &mut Vec<u8, A>,
-) -> Result<(), AllocError>
-    ensures text { OnOk result (written out.new end.new ≡ written out.old end.old ++ codes " [-]" ++ line_end is_last) }
-    ensures front { OnErr result (StopsWithin (written out.old end.old) (written out.new end.new) (codes " [-]" ++ line_end is_last)) }
+fn write_unset<A: Allocator>(is_last: bool, sheet: &mut Sheet<A>) -> Result<(), AllocError>
+    ensures text { OnOk result (sheet.new ≡ sheet.old ++ codes " [-]" ++ line_end is_last) }
+    ensures front { OnErr result (StopsWithin sheet.old sheet.new (codes " [-]" ++ line_end is_last)) }
 {
     if is_last {
-        return put(b" [-]\n                           ", 5, end, out);
+        return sheet.put_text(b" [-]\n");
     }
-    put(b" [-]                            ", 4, end, out)
+    sheet.put_text(b" [-]")
 }
 
 /// Writes a field with its value, and without one where its id has no fields of values.
@@ -223,32 +204,30 @@ fn write_valued<'w, A: Allocator, B: Allocator>(
     is_last: bool,
     label: &Label<'w, A, B>,
     source: &EntityText<B>,
-    end: &mut usize,
-    out: &mut Vec<u8, A>,
+    sheet: &mut Sheet<A>,
 ) -> Result<(), AllocError>
     requires label { IsLabelOf world.now.state label.now fact.id }
     requires source { IsEntityText world.now.state source.now }
-    ensures text { OnOk result (written out.new end.new ≡ written out.old end.old ++ label_text world.now.state fact.id
-        ++ index_text world.now.state (source.now).index ++ value_text ((view_of world.now.state).value fact.source fact.id) ++ field_end is_last) }
-    ensures front { OnErr result (StopsWithin (written out.old end.old) (written out.new end.new)
-        (label_text world.now.state fact.id ++ index_text world.now.state (source.now).index ++ value_text ((view_of world.now.state).value fact.source fact.id)
-        ++ field_end is_last)) }
+    ensures text { OnOk result (sheet.new ≡ sheet.old ++ label_text world.now.state fact.id
+        ++ index_text world.now.state (source.now).index
+        ++ value_text ((view_of world.now.state).value fact.source fact.id) ++ field_end is_last) }
+    ensures front { OnErr result (StopsWithin sheet.old sheet.new
+        (label_text world.now.state fact.id ++ index_text world.now.state (source.now).index
+        ++ value_text ((view_of world.now.state).value fact.source fact.id) ++ field_end is_last)) }
 {
     let Some(schema) = label.schema else {
-        return write_bare(world, fact.id, is_last, label, source, end, out);
+        return write_bare(world, fact.id, is_last, label, source, sheet);
     };
     match world.bytes(fact.source, fact.id) {
-        None => write_bare(world, fact.id, is_last, label, source, end, out),
+        None => write_bare(world, fact.id, is_last, label, source, sheet),
         Some(bytes) => {
-            put_pair(
+            sheet.put_pair(
                 label.text.bytes.as_slice(),
                 label.text.count,
                 source.bytes.as_slice(),
                 source.alone,
-                end,
-                out,
             )?;
-            write_numbers(schema, bytes, is_last, end, out)
+            write_numbers(schema, bytes, is_last, sheet)
         }
     }
 }
@@ -261,23 +240,20 @@ fn write_bare<'w, A: Allocator, B: Allocator>(
     is_last: bool,
     label: &Label<'w, A, B>,
     source: &EntityText<B>,
-    end: &mut usize,
-    out: &mut Vec<u8, A>,
+    sheet: &mut Sheet<A>,
 ) -> Result<(), AllocError>
     requires label { IsLabelOf world.now.state label.now id }
     requires source { IsEntityText world.now.state source.now }
-    ensures text { OnOk result (written out.new end.new ≡ written out.old end.old ++ label_text world.now.state id
+    ensures text { OnOk result (sheet.new ≡ sheet.old ++ label_text world.now.state id
         ++ index_text world.now.state (source.now).index ++ field_end is_last) }
-    ensures front { OnErr result (StopsWithin (written out.old end.old) (written out.new end.new)
+    ensures front { OnErr result (StopsWithin sheet.old sheet.new
         (label_text world.now.state id ++ index_text world.now.state (source.now).index ++ field_end is_last)) }
 {
-    put_pair(
+    sheet.put_pair(
         label.text.bytes.as_slice(),
         label.text.count,
         source.bytes.as_slice(),
         source.closing(world, is_last),
-        end,
-        out,
     )
 }
 
@@ -286,18 +262,18 @@ fn write_numbers<A: Allocator>(
     schema: &Schema<A>,
     bytes: &[u8],
     is_last: bool,
-    end: &mut usize,
-    out: &mut Vec<u8, A>,
+    sheet: &mut Sheet<A>,
 ) -> Result<(), AllocError>
     requires { length bytes.now ≡ size_of schema.now }
-    ensures text { OnOk result (written out.new end.new ≡ written out.old end.old ++ value_text (Some (values_in schema.now bytes.now)) ++ field_end is_last) }
-    ensures front { OnErr result (StopsWithin (written out.old end.old) (written out.new end.new)
+    ensures text { OnOk result (sheet.new ≡ sheet.old
+        ++ value_text (Some (values_in schema.now bytes.now)) ++ field_end is_last) }
+    ensures front { OnErr result (StopsWithin sheet.old sheet.new
         (value_text (Some (values_in schema.now bytes.now)) ++ field_end is_last)) }
 {
     let mut text = [b']'; MOST_TEXT + CHUNK];
     text[MOST_TEXT + 1] = b'\n';
     let start = put_fields(schema, bytes, &mut text);
-    put(&text[start..], value_end(is_last) - start, end, out)
+    sheet.put(&text[start..], value_end(is_last) - start)
 }
 
 /// Where the text ends of a value and of what closes its field, if the numbers end where the most of them would.

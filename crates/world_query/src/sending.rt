@@ -1,9 +1,9 @@
 //! Rows that go to a writer as soon as many bytes of them have come together.
 
 ghost use Rattle.std.specs.Prelude.{◌≡◌, ◌≤◌, ℕ, List, [], OnErr, OnOk, length};
-ghost use Rattle.world_query.specs.Lines.{written};
 ghost use Rattle.world_query.specs.Sent.{FailsAtWrite, IsRefused, IsSent, StopsSending, most_usize};
 
+use crate::sheet::Sheet;
 use script_streams::{Fault, Sink, Stop, write_all};
 use std::alloc::{AllocError, Allocator};
 use thiserror::Error;
@@ -86,46 +86,33 @@ pub fn send_list<A: Allocator, W: Sink>(
 pub(crate) fn send_beyond<A: Allocator, W: Sink>(
     most: usize,
     writer: &mut W,
-    end: &mut usize,
-    sheet: &Vec<u8, A>,
+    sheet: &mut Sheet<A>,
 ) -> Result<(), SendError>
-    ensures sent { OnOk result (IsSent (W.contents writer.old) (W.contents writer.new) (written sheet.now end.old) (written sheet.now end.new) []) }
-    ensures unsent { OnOk result (length (written sheet.now end.new) ≤ most) }
-    ensures front { (text : List ℕ) → OnErr result (StopsSending (IsRefused result) (W.contents writer.old) (W.contents writer.new) (written sheet.now end.old)
-        (written sheet.now end.new) text) }
-    ensures same { OnErr result (end.new ≡ end.old) }
+    ensures sent { OnOk result (IsSent (W.contents writer.old) (W.contents writer.new) sheet.old sheet.new []) }
+    ensures unsent { OnOk result (length sheet.new ≤ most) }
+    ensures front { (text : List ℕ) → OnErr result (StopsSending (IsRefused result) (W.contents writer.old)
+        (W.contents writer.new) sheet.old sheet.new text) }
+    ensures same { OnErr result (sheet.new ≡ sheet.old) }
     ensures writes { FailsAtWrite (W.calls writer.old) result (W.calls writer.new) }
     ensures kept { most ≡ most_usize → writer.new ≡ writer.old }
 {
-    if *end <= most {
+    if sheet.len() <= most {
         return Ok(());
     }
-    send(writer, end, sheet)
+    send(writer, sheet)
 }
 
 /// Sends what is written on a sheet.
 #[inline(never)]
-fn send<A: Allocator, W: Sink>(
-    writer: &mut W,
-    end: &mut usize,
-    sheet: &Vec<u8, A>,
-) -> Result<(), SendError>
-    ensures sent { OnOk result (IsSent (W.contents writer.old) (W.contents writer.new) (written sheet.now end.old) (written sheet.now end.new) []) }
-    ensures none { OnOk result (end.new ≡ 0) }
-    ensures front { (text : List ℕ) → OnErr result (StopsSending (IsRefused result) (W.contents writer.old) (W.contents writer.new) (written sheet.now end.old)
-        (written sheet.now end.new) text) }
-    ensures same { OnErr result (end.new ≡ end.old) }
+fn send<A: Allocator, W: Sink>(writer: &mut W, sheet: &mut Sheet<A>) -> Result<(), SendError>
+    ensures sent { OnOk result (IsSent (W.contents writer.old) (W.contents writer.new) sheet.old sheet.new []) }
+    ensures none { OnOk result (sheet.new ≡ []) }
+    ensures front { (text : List ℕ) → OnErr result (StopsSending (IsRefused result) (W.contents writer.old)
+        (W.contents writer.new) sheet.old sheet.new text) }
+    ensures same { OnErr result (sheet.new ≡ sheet.old) }
     ensures writes { FailsAtWrite (W.calls writer.old) result (W.calls writer.new) }
 {
-    write_all(writer, written_on(sheet, *end))?;
-    *end = 0;
+    write_all(writer, sheet.as_slice())?;
+    sheet.clear();
     Ok(())
-}
-
-/// What is written on a sheet, up to a place.
-#[tactic(auto, using(std::proofs::lemmas::List::take_min))]
-fn written_on<A: Allocator>(sheet: &Vec<u8, A>, end: usize) -> &[u8]
-    ensures { result.now ≡ written sheet.now end }
-{
-    &sheet[..end.min(sheet.len())]
 }

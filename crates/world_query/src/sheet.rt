@@ -1,12 +1,12 @@
-//! Sheets: short texts are put down behind one another without a look for memory at each.
-//!
-//! Of a sheet's bytes those before a place are written, and what stands behind them is room. The place is kept beside the bytes.
+//! A sheet: short texts are put down behind one another without a look for memory at each.
 
-ghost use Rattle.std.specs.Prelude.{◌≡◌, ◌+◌, ◌-◌, ◌<◌, ◌≤◌, ◌++◌, OnErr, OnOk, IfOk, drop, false, length, replicate, take, true};
+ghost use Rattle.std.specs.Prelude.{◌≡◌, ◌+◌, ◌-◌, ◌<◌, ◌≤◌, ◌++◌, [], OnErr, OnOk, IfOk, drop, false, length};
+ghost use Rattle.std.specs.Prelude.{replicate, take, true};
 ghost use Rattle.ecs_print.specs.Stops.{StopsWithin};
-ghost use Rattle.world_query.specs.Lines.{written};
 
 use std::alloc::{AllocError, Allocator};
+use std::marker::Model;
+use std::mem;
 
 /// A text of at most so many bytes is put down in one piece, together with what stands behind it.
 pub(crate) const CHUNK: usize = 32;
@@ -17,51 +17,138 @@ const PAIR: usize = CHUNK + CHUNK;
 /// The room that is made where a sheet has none.
 const MORE_ROOM: usize = 1024;
 
-/// Puts down the first bytes of a text behind what is written.
-#[inline(always)]
-pub(crate) fn put<A: Allocator>(
-    text: &[u8],
-    count: usize,
-    end: &mut usize,
-    sheet: &mut Vec<u8, A>,
-) -> Result<(), AllocError>
-    ensures text { OnOk result (written sheet.new end.new ≡ written sheet.old end.old ++ take count text.now) }
-    ensures front { OnErr result (StopsWithin (written sheet.old end.old) (written sheet.new end.new) (take count text.now)) }
-{
-    let place = *end;
-    if is_short(text, count) && has_room(place, CHUNK, sheet.len()) {
-        put_chunk(first_chunk(text), place, sheet);
-        *end = place + count;
-        return Ok(());
-    }
-    put_long(text, count, end, sheet)
+/// Texts behind one another: the bytes before `end`. What stands behind these is room, and no part of what a sheet is
+/// seen as.
+#[derive(Drop)]
+pub(crate) struct Sheet<A: Allocator> {
+    bytes: Vec<u8, A>,
+    end: usize,
 }
 
-/// Puts down the first bytes of a text behind what is written, and behind them the first of another, which has room behind it. It looks for
-/// memory once.
-#[inline(always)]
-pub(crate) fn put_pair<A: Allocator>(
-    text: &[u8],
-    count: usize,
-    other: &[u8],
-    more: usize,
-    end: &mut usize,
-    sheet: &mut Vec<u8, A>,
-) -> Result<(), AllocError>
-    requires { 32 ≤ length other.now }
-    ensures text { OnOk result (written sheet.new end.new ≡ (written sheet.old end.old ++ take count text.now) ++ take more other.now) }
-    ensures front { OnErr result (StopsWithin (written sheet.old end.old) (written sheet.new end.new) (take count text.now ++ take more other.now)) }
-{
-    let place = *end;
-    if is_short(text, count) && more <= CHUNK && has_room(place, PAIR, sheet.len()) {
-        let middle = place + count;
-        put_chunk(first_chunk(text), place, sheet);
-        put_chunk(first_chunk(other), middle, sheet);
-        *end = middle + more;
-        return Ok(());
+impl<A: Allocator> Model for Sheet<A> {
+    ghost use Rattle.std.specs.Prelude.{ℕ, List, ◌≤◌, length, take};
+
+    ghost Value = { List ℕ };
+
+    ghost view = { λ s. take s.end s.bytes.items };
+
+    ghost invariant = { λ s. s.end ≤ length s.bytes.items };
+}
+
+impl<A: Allocator + Copy> Sheet<A> {
+    /// A sheet with the text of a list, which is empty until it has its bytes back.
+    pub(crate) fn taken_from(list: &mut Vec<u8, A>) -> Self
+        ensures { result ≡ list.old.items }
+    {
+        let alloc = *list.allocator();
+        let bytes = mem::replace(list, Vec::new(alloc));
+        let end = bytes.len();
+        Sheet { bytes, end }
     }
-    put_long(text, count, end, sheet)?;
-    put_long(other, more, end, sheet)
+}
+
+impl<A: Allocator> Sheet<A> {
+    /// The texts alone: the room behind them is cut off.
+    pub(crate) fn into_bytes(self) -> Vec<u8, A>
+        ensures { result.items ≡ self }
+    {
+        let Sheet { mut bytes, end } = self;
+        bytes.truncate(end);
+        bytes
+    }
+
+    /// How many bytes are written.
+    #[inline(always)]
+    pub(crate) fn len(&self) -> usize
+        ensures { result ≡ length self.now }
+    {
+        self.end
+    }
+
+    /// What is written.
+    pub(crate) fn as_slice(&self) -> &[u8]
+        ensures { result.now ≡ self.now }
+    {
+        &self.bytes.as_slice()[..self.end]
+    }
+
+    /// All that was written is room.
+    pub(crate) fn clear(&mut self)
+        ensures { self.new ≡ [] }
+    {
+        self.end = 0;
+    }
+
+    /// Puts down a text of a length that is known before the program runs. So it needs no room behind it.
+    #[inline(always)]
+    pub(crate) fn put_text<const N: usize>(&mut self, text: &[u8; N]) -> Result<(), AllocError>
+        ensures text { OnOk result (self.new ≡ self.old ++ text.now) }
+        ensures front { OnErr result (StopsWithin self.old self.new text.now) }
+    {
+        let place = self.end;
+        if has_room(place, N, self.bytes.len()) {
+            put_chunk(text, place, &mut self.bytes);
+            self.end = place + N;
+            return Ok(());
+        }
+        self.put_long(text, N)
+    }
+
+    /// Puts down the first bytes of a text.
+    #[inline(always)]
+    pub(crate) fn put(&mut self, text: &[u8], count: usize) -> Result<(), AllocError>
+        ensures text { OnOk result (self.new ≡ self.old ++ take count text.now) }
+        ensures front { OnErr result (StopsWithin self.old self.new (take count text.now)) }
+    {
+        let place = self.end;
+        if is_short(text, count) && has_room(place, CHUNK, self.bytes.len()) {
+            put_chunk(first_chunk(text), place, &mut self.bytes);
+            self.end = place + count;
+            return Ok(());
+        }
+        self.put_long(text, count)
+    }
+
+    /// Puts down the first bytes of a text, and behind them the first of another, which has room behind it. It looks
+    /// for memory once.
+    #[inline(always)]
+    pub(crate) fn put_pair(
+        &mut self,
+        text: &[u8],
+        count: usize,
+        other: &[u8],
+        more: usize,
+    ) -> Result<(), AllocError>
+        requires { 32 ≤ length other.now }
+        ensures text { OnOk result (self.new ≡ (self.old ++ take count text.now) ++ take more other.now) }
+        ensures front { OnErr result (StopsWithin self.old self.new (take count text.now ++ take more other.now)) }
+    {
+        let place = self.end;
+        if is_short(text, count) && more <= CHUNK && has_room(place, PAIR, self.bytes.len()) {
+            let middle = place + count;
+            put_chunk(first_chunk(text), place, &mut self.bytes);
+            put_chunk(first_chunk(other), middle, &mut self.bytes);
+            self.end = middle + more;
+            return Ok(());
+        }
+        self.put_long(text, count)?;
+        self.put_long(other, more)
+    }
+
+    /// Puts down the first bytes of a text, and makes room for them.
+    #[inline(never)]
+    fn put_long(&mut self, text: &[u8], count: usize) -> Result<(), AllocError>
+        ensures text { OnOk result (self.new ≡ self.old ++ take count text.now) }
+        ensures front { OnErr result (StopsWithin self.old self.new (take count text.now)) }
+    {
+        let text = &text[..count.min(text.len())];
+        let place = self.end;
+        let behind = place.checked_add(text.len()).ok_or(AllocError)?;
+        reach(behind, &mut self.bytes)?;
+        put_at(text, place, &mut self.bytes);
+        self.end = behind;
+        Ok(())
+    }
 }
 
 /// Whether so many bytes of a text can be put down as a chunk.
@@ -72,7 +159,7 @@ fn is_short(text: &[u8], count: usize) -> bool
     count <= CHUNK && CHUNK <= text.len()
 }
 
-/// Whether so many bytes stand behind a place of a sheet that is so long.
+/// Whether so many bytes stand behind a place of a list that is so long.
 #[inline(always)]
 fn has_room(place: usize, room: usize, long: usize) -> bool
     ensures has { result ≡ true → room ≤ long - place }
@@ -90,66 +177,46 @@ fn first_chunk(text: &[u8]) -> &[u8; CHUNK]
     text.first_chunk::<CHUNK>().unwrap()
 }
 
-/// Puts down a chunk at a place of the sheet.
+/// Puts down a chunk at a place of a list.
 #[inline(always)]
-fn put_chunk<A: Allocator>(chunk: &[u8; CHUNK], place: usize, sheet: &mut Vec<u8, A>)
-    requires { place + 32 ≤ length sheet.old.items }
-    ensures text { take (place + 32) sheet.new.items ≡ take place sheet.old.items ++ chunk.now }
-    ensures long { length sheet.new.items ≡ length sheet.old.items }
+fn put_chunk<A: Allocator, const N: usize>(chunk: &[u8; N], place: usize, list: &mut Vec<u8, A>)
+    requires { place + N ≤ length list.old.items }
+    ensures text { take (place + N) list.new.items ≡ take place list.old.items ++ chunk.now }
+    ensures long { length list.new.items ≡ length list.old.items }
 {
-    fill_chunk(&mut sheet.as_mut_slice()[place..], chunk);
+    fill_chunk(&mut list.as_mut_slice()[place..], chunk);
 }
 
 /// Fills the first bytes of some room with a chunk.
 #[inline(always)]
-fn fill_chunk(room: &mut [u8], chunk: &[u8; CHUNK])
-    requires { 32 ≤ length room.old }
-    ensures filled { room.new ≡ chunk.now ++ drop 32 room.old }
+fn fill_chunk<const N: usize>(room: &mut [u8], chunk: &[u8; N])
+    requires { N ≤ length room.old }
+    ensures filled { room.new ≡ chunk.now ++ drop N room.old }
     ensures long { length room.new ≡ length room.old }
 {
-    if let Some(first) = room.first_chunk_mut::<CHUNK>() {
+    if let Some(first) = room.first_chunk_mut::<N>() {
         *first = *chunk;
     }
 }
 
-/// Puts down the first bytes of a text behind what is written, and makes room for them.
-#[inline(never)]
-fn put_long<A: Allocator>(
-    text: &[u8],
-    count: usize,
-    end: &mut usize,
-    sheet: &mut Vec<u8, A>,
-) -> Result<(), AllocError>
-    ensures text { OnOk result (written sheet.new end.new ≡ written sheet.old end.old ++ take count text.now) }
-    ensures front { OnErr result (StopsWithin (written sheet.old end.old) (written sheet.new end.new) (take count text.now)) }
+/// Puts down a text at a place of a list that is long enough.
+pub(crate) fn put_at<A: Allocator>(text: &[u8], place: usize, list: &mut Vec<u8, A>)
+    requires room { place + length text.now ≤ length list.old.items }
+    ensures text { take (place + length text.now) list.new.items ≡ take place list.old.items ++ text.now }
+    ensures long { length list.new.items ≡ length list.old.items }
 {
-    let text = &text[..count.min(text.len())];
-    let place = (*end).min(sheet.len());
-    let behind = place.checked_add(text.len()).ok_or(AllocError)?;
-    reach(behind, sheet)?;
-    sheet.as_mut_slice()[place..behind].copy_from_slice(text);
-    *end = behind;
-    Ok(())
+    list.as_mut_slice()[place..place + text.len()].copy_from_slice(text);
 }
 
-/// Puts down a text at a place of a sheet that is long enough.
-pub(crate) fn put_at<A: Allocator>(text: &[u8], place: usize, sheet: &mut Vec<u8, A>)
-    requires room { place + length text.now ≤ length sheet.old.items }
-    ensures text { take (place + length text.now) sheet.new.items ≡ take place sheet.old.items ++ text.now }
-    ensures long { length sheet.new.items ≡ length sheet.old.items }
+/// Makes a list at least so long, with room for a pair behind that.
+fn reach<A: Allocator>(least: usize, list: &mut Vec<u8, A>) -> Result<(), AllocError>
+    ensures long { IfOk result (λ _. least ≤ length list.new.items) }
+    ensures same { OnOk result (take (length list.old.items) list.new.items ≡ list.old.items) }
+    ensures kept { OnErr result (list.new.items ≡ list.old.items) }
 {
-    sheet.as_mut_slice()[place..place + text.len()].copy_from_slice(text);
-}
-
-/// Makes a sheet at least so long, with room for a pair behind that.
-fn reach<A: Allocator>(least: usize, sheet: &mut Vec<u8, A>) -> Result<(), AllocError>
-    ensures long { IfOk result (λ _. least ≤ length sheet.new.items) }
-    ensures same { OnOk result (take (length sheet.old.items) sheet.new.items ≡ sheet.old.items) }
-    ensures kept { OnErr result (sheet.new.items ≡ sheet.old.items) }
-{
-    if !has_room(least, PAIR, sheet.len()) {
+    if !has_room(least, PAIR, list.len()) {
         let room = least.checked_add(MORE_ROOM).ok_or(AllocError)?;
-        sheet.resize(room, 0)?;
+        list.resize(room, 0)?;
     }
     Ok(())
 }

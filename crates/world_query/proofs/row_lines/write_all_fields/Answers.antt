@@ -11,7 +11,7 @@ use Rattle.ecs_model.specs.Print.{field_text}
 use Rattle.ecs_model.specs.rows.View.{view_of}
 use Rattle.plan_fields.specs.declared.field_places.ShownFact.{ShownFact}
 use Rattle.plan_fields.specs.Fields.{shown_field}
-use Rattle.world_query.specs.Lines.{IsLabel, line_end, written}
+use Rattle.world_query.specs.Lines.{IsLabel, line_end}
 use Rattle.world_query.proofs.KeptTexts.{texts_lent}
 use Rattle.world_query.proofs.PrintedLists.{line_ended, line_goes_on}
 use Rattle.world_query.proofs.Fronts.{stops_in_line}
@@ -24,9 +24,9 @@ loop-number-preserved g c =
     let f = λ (s : Option ShownFact). field_text w (shown_field (view_of w) s) in
     let xs = c.args.fields.now.current in
     let i = c.loop-number.number in
-    let start = written c.args.out.now c.args.end.now in
-    let old = written c.loop-number.out c.loop-number.end in
-    let new = written c.write_field.new.out c.write_field.new.end in
+    let start = c.args.sheet.now in
+    let old = c.loop-number.sheet in
+    let new = c.write_field.new.sheet in
     let text = c.in_ok-write_field.ensures.text in
     let now = c.loop-number.texts in
     let lent = texts_lent w c.args.columns (length c.args.fields.now.items) now c.write_field.new.texts kept.texts (c.write_field.auto.texts ∙ c.as_mut_slice.ensures.len) c.in_ok-write_field.ensures.texts in
@@ -48,7 +48,7 @@ returns-clause-text g c =
     let w = c.args.world.now.state in
     let current = c.args.fields.now.current in
     c.loop-number.invariant.all (omega arith)
-    ∙ ap (λ t. written c.args.out.now c.args.end.now ++ t ++ codes "\n") (sym (flat_map-map (field_text w) (shown_field (view_of w)) current))
+    ∙ ap (λ t. c.args.sheet.now ++ t ++ codes "\n") (sym (flat_map-map (field_text w) (shown_field (view_of w)) current))
 
 -- in the midst of one
 pub returns-in_err-write_field-clause-front : goal.returns-in_err-write_field-clause-front
@@ -57,8 +57,8 @@ returns-in_err-write_field-clause-front g c =
     let f = λ (s : Option ShownFact). field_text w (shown_field (view_of w) s) in
     let xs = c.args.fields.now.current in
     let i = c.loop-number.number in
-    let start = written c.args.out.now c.args.end.now in
-    let now = written c.write_field.new.out c.write_field.new.end in
+    let start = c.args.sheet.now in
+    let now = c.write_field.new.sheet in
     let ends : (i == c.in-Some.last) ≡ true → length xs ≤ i + 1 = λ is. grind (arith, nat_tests) in
     on_err_anyway _
     (subst (λ t. StopsWithin start now (t ++ codes "\n")) (sym (flat_map-map (field_text w) (shown_field (view_of w)) xs))
@@ -74,4 +74,4 @@ returns-in_default-clause-front g c =
     let w = c.args.world.now.state in
     let xs = c.args.fields.now.current in
     let none : 1 ≤ length xs → ⊥ = λ some. c.in_default.ensures (omega (arith, some, c.len.ensures.current)) in
-    on_err_weaker c.put.result (subst (StopsWithin _ _) (no_fields (field_text w) (shown_field (view_of w)) xs none)) c.put.ensures.front
+    on_err_weaker c.put_text.result (subst (StopsWithin _ _) (no_fields (field_text w) (shown_field (view_of w)) xs none)) c.put_text.ensures.front

@@ -3,7 +3,6 @@ use Rattle.std.proofs.Common.{[], ap, arith, length, subst, ◌∙◌}
 use Rattle.std.proofs.lemmas.Result.{on_err_weaker, on_ok_weaker}
 use Rattle.ecs_print.specs.Stops.{StopsWithin}
 use Rattle.ecs_print.proofs.Stops.{on_err_anyway, stops_before}
-use Rattle.world_query.specs.Lines.{written}
 use Rattle.world_query.proofs.KeptTexts.{binding_put}
 use Rattle.world_query.proofs.row_lines.write_binding.Goals as goal
 
@@ -15,7 +14,7 @@ put_pair-requires g c =
 pub returns-clause-text : goal.returns-clause-text
 returns-clause-text g c =
     on_ok_weaker c.put_pair.result (λ h. h
-    ∙ binding_put c.args.world.now.state c.place_of_text.new.texts c.args.entity c.in_ok-found.found c.index-texts-found.result c.args.start.now (written c.args.out.now c.args.end.now)
+    ∙ binding_put c.args.world.now.state c.place_of_text.new.texts c.args.entity c.in_ok-found.found c.index-texts-found.result c.args.start.now c.args.sheet.now
     c.as_slice.result.now c.as_slice-2.result.now c.in_ok-found.ensures.place c.as_slice.ensures.value c.as_slice-2.ensures.value) c.put_pair.ensures.text
 
 pub returns-in_err-found-clause-front : goal.returns-in_err-found-clause-front

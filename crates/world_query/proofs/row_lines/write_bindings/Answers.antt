@@ -8,7 +8,7 @@ use Rattle.std.proofs.lemmas.Slice.Zip.{length-zip}
 use Rattle.ecs_print.proofs.Stops.{on_err_anyway}
 use Rattle.ecs_model.specs.World.{WorldState}
 use Rattle.world_query.specs.declared.labels.PaddedText.{PaddedText}
-use Rattle.world_query.specs.Lines.{started, starts_in, text_of, written}
+use Rattle.world_query.specs.Lines.{started, starts_in, text_of}
 use Rattle.world_query.proofs.PrintedLists.{both_at, one_more}
 use Rattle.world_query.proofs.Fronts.{stops_in_item}
 use Rattle.world_query.proofs.row_lines.write_bindings.Goals as goal
@@ -28,7 +28,7 @@ loop-place-preserved g c =
     record {
       texts = c.in_ok-write_binding.ensures.texts;
       text = one_more (started c.args.world.now.state) (zip (starts_in starts) entities) place (text_of start, get_or entities place 0)
-          (written c.args.out.now c.args.end.now) (written c.loop-place.out c.loop-place.end) (written c.write_binding.new.out c.write_binding.new.end)
+          c.args.sheet.now c.loop-place.sheet c.write_binding.new.sheet
           (omega arith) (both_at (starts_in starts) entities place (text_of start) (get_or entities place 0) here there) c.loop-place.invariant.text c.in_ok-write_binding.ensures.text;
     }
 
@@ -39,7 +39,7 @@ all_bindings w starts entities n before now all written =
 
 pub returns-clause-text : goal.returns-clause-text
 returns-clause-text g c =
-    all_bindings c.args.world.now.state c.args.starts.now c.args.entities.now c.loop-place.place (written c.args.out.now c.args.end.now) (written c.loop-place.out c.loop-place.end) (omega arith) c.loop-place.invariant.text
+    all_bindings c.args.world.now.state c.args.starts.now c.args.entities.now c.loop-place.place c.args.sheet.now c.loop-place.sheet (omega arith) c.loop-place.invariant.text
 
 -- in the midst of one
 pub returns-in_err-write_binding-clause-front : goal.returns-in_err-write_binding-clause-front

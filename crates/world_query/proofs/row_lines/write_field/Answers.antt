@@ -10,7 +10,7 @@ use Rattle.ecs_model.specs.rows.Rows.{Shown}
 use Rattle.ecs_model.specs.rows.View.{view_of}
 use Rattle.plan_fields.specs.declared.field_places.ShownFact.{ShownFact}
 use Rattle.plan_fields.specs.Fields.{shown_field}
-use Rattle.world_query.specs.Lines.{field_end, label_text, line_end, written}
+use Rattle.world_query.specs.Lines.{field_end, label_text, line_end}
 use Rattle.world_query.proofs.row_lines.write_field.Goals as goal
 
 regrouped : (old label index value close end : List ℕ) → (((old ++ label) ++ index) ++ value) ++ (close ++ end) ≡ (old ++ (((label ++ index) ++ value) ++ close)) ++ end
@@ -44,7 +44,7 @@ module _ (w : WorldState) (fact : ShownFact) (is_last : Bool) (shown : Option Sh
 pub returns-then-fact-clause-text : goal.returns-then-fact-clause-text
 returns-then-fact-clause-text g c =
     on_ok_weaker c.write_valued.result
-    (with_value c.args.world.now.state c.in-Some.fact c.args.is_last c.args.shown _ (written c.args.out.now c.args.end.now) (written c.write_valued.new.out c.write_valued.new.end) c.in-Some.is (c.in_ok-found.ensures.place.index c.index-texts-found.result) c.if-fact.true)
+    (with_value c.args.world.now.state c.in-Some.fact c.args.is_last c.args.shown _ c.args.sheet.now c.write_valued.new.sheet c.in-Some.is (c.in_ok-found.ensures.place.index c.index-texts-found.result) c.if-fact.true)
     c.write_valued.ensures.text
 
 pub write_bare-requires-clause-source : goal.write_bare-requires-clause-source
@@ -53,13 +53,13 @@ write_bare-requires-clause-source g c = c.in_ok-found.ensures.place.text c.index
 pub returns-clause-text : goal.returns-clause-text
 returns-clause-text g c =
     on_ok_weaker c.write_bare.result
-    (without_value c.args.world.now.state c.in-Some.fact c.args.is_last c.args.shown _ (written c.args.out.now c.args.end.now) (written c.write_bare.new.out c.write_bare.new.end) c.in-Some.is (c.in_ok-found.ensures.place.index c.index-texts-found.result) c.if-fact.false)
+    (without_value c.args.world.now.state c.in-Some.fact c.args.is_last c.args.shown _ c.args.sheet.now c.write_bare.new.sheet c.in-Some.is (c.in_ok-found.ensures.place.index c.index-texts-found.result) c.if-fact.false)
     c.write_bare.ensures.text
 
 -- where it stops in the midst
 pub returns-in_default-clause-front : goal.returns-in_default-clause-front
 returns-in_default-clause-front g c =
-    on_err_weaker c.write_unset.result (subst (λ s. StopsWithin (written c.args.out.now c.args.end.now) (written c.write_unset.new.out c.write_unset.new.end) (field_text c.args.world.now.state (shown_field (view_of c.args.world.now.state) s) ++ line_end c.args.is_last)) (sym c.in_default.is)) c.write_unset.ensures.front
+    on_err_weaker c.write_unset.result (subst (λ s. StopsWithin c.args.sheet.now c.write_unset.new.sheet (field_text c.args.world.now.state (shown_field (view_of c.args.world.now.state) s) ++ line_end c.args.is_last)) (sym c.in_default.is)) c.write_unset.ensures.front
 
 pub returns-in_err-turn_to-clause-front : goal.returns-in_err-turn_to-clause-front
 returns-in_err-turn_to-clause-front g c = on_err_anyway _ (stops_before _ _)

@@ -6,7 +6,7 @@ use Rattle.std.proofs.lemmas.Result.{on_err_weaker, on_ok_weaker}
 use Rattle.ecs_print.specs.Stops.{StopsWithin}
 use Rattle.ecs_model.specs.Bytes.{values_in}
 use Rattle.ecs_model.specs.Print.{value_text}
-use Rattle.world_query.specs.Lines.{field_end, written}
+use Rattle.world_query.specs.Lines.{field_end}
 use Rattle.world_query.proofs.Sheets.{closed_value, closing_room, closing_short}
 use Rattle.world_query.proofs.row_lines.write_numbers.Goals as goal
 
@@ -15,7 +15,7 @@ returns-clause-text g c =
     let value = value_text (Some (values_in c.args.schema.now c.args.bytes.now)) in
     let start = c.put_fields-start.result in
     let last = c.args.is_last in
-    let before = written c.args.out.now c.args.end.now in
+    let before = c.args.sheet.now in
     let behind = c.put_fields-start.ensures.written ∙ ap (λ t. value ++ t) (closing_room _ refl) in
     let closed = closed_value start c.put_fields-start.new.text value last c.put_fields-start.ensures.within c.put_fields-start.auto.text behind in
     let text = drop start c.put_fields-start.new.text in

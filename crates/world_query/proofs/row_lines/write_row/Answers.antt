@@ -8,7 +8,7 @@ use Rattle.ecs_print.proofs.Stops.{on_err_anyway, stops_behind, stops_sooner}
 use Rattle.ecs_model.specs.Print.{field_text}
 use Rattle.ecs_model.specs.rows.View.{view_of}
 use Rattle.plan_fields.specs.Fields.{shown_field}
-use Rattle.world_query.specs.Lines.{row_alone, started, starts_in, written}
+use Rattle.world_query.specs.Lines.{row_alone, started, starts_in}
 use Rattle.world_query.proofs.KeptTexts.{texts_lent}
 use Rattle.world_query.proofs.row_lines.write_row.Goals as goal
 
@@ -27,8 +27,8 @@ returns-clause-row g c =
     let w = c.args.world.now.state in
     let heads = starts_in c.args.starts.now in
     on_ok_weaker c.write_all_fields.result
-    (line_whole (written c.args.out.now c.args.end.now) (row_alone heads) (flat_map (started w) (zip heads c.args.entities.now)) (flat_map (field_text w) (map (shown_field (view_of w)) c.args.fields.now.current)) (codes "\n")
-    (written c.begin_row.new.out c.begin_row.new.end) (written c.write_bindings.new.out c.write_bindings.new.end) (written c.write_all_fields.new.out c.write_all_fields.new.end) c.in_ok-begin_row.ensures.text c.in_ok-write_bindings.ensures.text)
+    (line_whole c.args.sheet.now (row_alone heads) (flat_map (started w) (zip heads c.args.entities.now)) (flat_map (field_text w) (map (shown_field (view_of w)) c.args.fields.now.current)) (codes "\n")
+    c.begin_row.new.sheet c.write_bindings.new.sheet c.write_all_fields.new.sheet c.in_ok-begin_row.ensures.text c.in_ok-write_bindings.ensures.text)
     c.write_all_fields.ensures.text
 
 pub returns-in_err-begin_row-clause-front : goal.returns-in_err-begin_row-clause-front

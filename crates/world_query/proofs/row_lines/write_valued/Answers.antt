@@ -12,7 +12,7 @@ use Rattle.ecs_model.specs.Schema.{Schema}
 use Rattle.ecs_model.specs.World.{WorldState, type_of_id, value_of}
 use Rattle.ecs_model.specs.rows.View.{view_of}
 use Rattle.ecs_world.specs.State.{value_in}
-use Rattle.world_query.specs.Lines.{field_end, label_text, written}
+use Rattle.world_query.specs.Lines.{field_end, label_text}
 use Rattle.world_query.proofs.row_lines.write_valued.Goals as goal
 
 abbrev no_value : Option (List ℤ)
@@ -68,13 +68,13 @@ returns-in_ok-put_pair-in-Some-bytes-clause-front g c =
     let i = c.args.fact.id in
     let schema = c.in-Some.schema.now in
     let bytes = c.in-Some-bytes.bytes.now in
-    let before = written c.args.out.now c.args.end.now in
+    let before = c.args.sheet.now in
     let first = take c.args.label.now.text.count c.as_slice.result.now in
     let second = take c.args.source.now.alone c.as_slice-in-Some-bytes.result.now in
     let label : first ≡ label_text w i = ap (take c.args.label.now.text.count) c.as_slice.ensures.value ∙ c.requires.label.0 in
     let source : second ≡ index_text w c.args.source.now.index = ap (take c.args.source.now.alone) c.as_slice-in-Some-bytes.ensures.value ∙ c.requires.source.alone in
     let start = label_text w i ++ index_text w c.args.source.now.index in
-    let mid : written c.put_pair.new.sheet c.put_pair.new.end ≡ before ++ start = c.in_ok-put_pair-in-Some-bytes.ensures.text ∙ append_assoc before first second ∙ (λ j. before ++ (label j ++ source j)) in
+    let mid : c.put_pair.new.self ≡ before ++ start = c.in_ok-put_pair-in-Some-bytes.ensures.text ∙ append_assoc before first second ∙ (λ j. before ++ (label j ++ source j)) in
     let read : option_map (value_in (type_of_id w i)) (Some bytes) ≡ value_of w e i = sym (ap (λ o. option_map (value_in (type_of_id w i)) (option_copied o)) c.in-Some-bytes.is) ∙ c.bytes.ensures.value in
     let shown : (view_of w).value e i ≡ Some (values_in schema bytes) = shows_value w e i schema bytes (sym c.requires.label.1 ∙ ap option_copied c.in-Some.is) read in
     let value = value_text (Some (values_in schema bytes)) in
