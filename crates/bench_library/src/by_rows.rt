@@ -52,7 +52,8 @@ fn sum_once(view: &WorldView<'_, Global>, asked: Asked, values: bool) -> (Asked,
     (rows.into_asked(), sum)
 }
 
-/// A sum over all rows of the query that a text asks, so often: of their entities or their values. The room for them is made once.
+/// A sum over all rows of the query that a text asks, so often: of their entities or their values. The room for them is
+/// made once.
 pub(crate) fn sum_by_rows(
     alloc: Global,
     world: &World,

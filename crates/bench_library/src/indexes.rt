@@ -1,8 +1,9 @@
-//! Makes a million entities, then deletes and makes entities a million times in a mixed order, then looks up a million names, and
-//! then the names of a million entities.
+//! Makes a million entities, then deletes and makes entities a million times in a mixed order, then looks up a million
+//! names, and then the names of a million entities.
 //!
-//! It prints a checksum of all entities that were made, and how many are left, then a checksum of the entities that were found by
-//! their names, and how many were, and then the bytes of the names that were found by their entities. Time it from outside.
+//! It prints a checksum of all entities that were made, and how many are left, then a checksum of the entities that
+//! were found by their names, and how many were, and then the bytes of the names that were found by their entities.
+//! Time it from outside.
 use ecs_id::EntityId;
 use entity_index::{CreateError, EntityIndex};
 use name_index::{BindError, NameIndex};

@@ -1,4 +1,5 @@
-//! Entities in twenty tables, gone through by chunks and by rows, with a value written or without, and as many in plain slices.
+//! Entities in twenty tables, gone through by chunks and by rows, with a value written or without, and as many in plain
+//! slices.
 
 use crate::by_rows::sum_by_rows;
 use crate::commands::{Fault, add, fresh, set};
@@ -36,7 +37,8 @@ const NAMES: [&str; 8] = [
     "plain_written",
 ];
 
-/// Makes entities with two values, in the twenty tables of so many sets of five tags. It tells the id of the first value.
+/// Makes entities with two values, in the twenty tables of so many sets of five tags. It tells the id of the first
+/// value.
 fn fill(alloc: Global, world: &mut World, count: u32) -> Result<Id, Fault> {
     let plane = [("x", Kind::I32), ("y", Kind::I32)];
     let position = component(alloc, world, "Position", &plane)?;

@@ -3,9 +3,10 @@
 //! The first word names one of them, and without one all four are run:
 //!
 //! - `indexes`: makes and deletes a million entities, and looks up a million names
-//! - `query TEXT TIMES PHASE`: reads a text so often, up to a phase, or plans it. Time it once and many times, so that the difference is what
-//!   one costs. Without a text each is read once.
-//! - `iterate WORKLOAD TIMES SIZE`: goes so often over 10,000 entities in twenty tables, or as many as are asked for, by chunks
+//! - `query TEXT TIMES PHASE`: reads a text so often, up to a phase, or plans it. Time it once and many times, so that
+//!   the difference is what one costs. Without a text each is read once.
+//! - `iterate WORKLOAD TIMES SIZE`: goes so often over 10,000 entities in twenty tables, or as many as are asked for,
+//!   by chunks
 //!   - `ids`: their entities; `values`: two values of each
 //!   - `row_ids`, `row_values`: the same by rows
 //!   - `plain_ids`, `plain_values`: the same over plain slices

@@ -1,4 +1,5 @@
-//! Reads texts of queries, from their bytes to the checked query or the fault, and tells what came of each; or plans them.
+//! Reads texts of queries, from their bytes to the checked query or the fault, and tells what came of each; or plans
+//! them.
 
 ghost use Rattle.std.specs.Prelude.{IfOk};
 ghost use Rattle.query_meaning.specs.Sound.{IsSound};
@@ -98,7 +99,8 @@ fn read_often(
 /// How many tables each item would be searched in.
 const TABLES: [usize; 64] = [3; 64];
 
-/// Does once what a phase asks: plans the query, with a test of the steps or without one, judges the steps of its plan, or copies it.
+/// Does once what a phase asks: plans the query, with a test of the steps or without one, judges the steps of its plan,
+/// or copies it.
 fn plan_once(alloc: Global, query: &Query, plan: &Plan, tables: &[usize; 64], phase: &str)
     requires { IsSound query.now }
 {
@@ -131,7 +133,8 @@ fn plan_query_often(
     Ok(steps)
 }
 
-/// Plans a query that is checked once so often, with a test of the steps or without one, or judges the steps of its plan, or copies the query.
+/// Plans a query that is checked once so often, with a test of the steps or without one, or judges the steps of its
+/// plan, or copies the query.
 fn plan_often(alloc: Global, text: &str, phase: &str, times: u64) -> Result<usize, QueryFault> {
     let query = ask(alloc, text)?;
     let steps = plan_query_often(alloc, &query, phase, times);

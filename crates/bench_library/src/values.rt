@@ -70,8 +70,8 @@ impl Bench {
         set(world, entity, self.mass, &[i128::from(number)])
     }
 
-    /// The entity that was made with this number: the tag was born last before them. No list of them is kept, as the memory measured
-    /// is to be the world's.
+    /// The entity that was made with this number: the tag was born last before them. No list of them is kept, as the
+    /// memory measured is to be the world's.
     fn entity(&self, world: &World, number: u32) -> Result<EntityId, Fault> {
         let index = self.tag.first().wrapping_add(1).wrapping_add(number);
         world.at(index).ok_or(Fault::World)

@@ -5,7 +5,8 @@ ghost use Rattle.std.specs.List.{list_any};
 ghost use Rattle.ecs_model.specs.Orders.{AddTo, DeleteOne, RemoveFrom, SetIn};
 ghost use Rattle.ecs_model.specs.stored.Session.{InWorld, apply};
 ghost use Rattle.ecs_observe.specs.Answers.{AnswersApply};
-ghost use Rattle.ecs_observe.specs.Commands.{CountsApply, FindsIn, FindsOne, ListsApply, answered, order_of, seen_entity, seen_id};
+ghost use Rattle.ecs_observe.specs.Commands.{CountsApply, FindsIn, FindsOne, ListsApply, answered, order_of};
+ghost use Rattle.ecs_observe.specs.Commands.{seen_entity, seen_id};
 ghost use Rattle.watch_stored.specs.Held.{is_compared};
 ghost use Rattle.ecs_observe.specs.Standing.{session_of};
 ghost use Rattle.ecs_world.specs.Releases.{NoneGo, OnlyForgottenGo};
@@ -74,10 +75,12 @@ pub enum Answer {
 }
 
 impl<A: Allocator + Copy> Session<A> {
-    /// Carries out a command. It is refused as `EventsPending` while events wait; else as `OfWorld(Dead)` where one of its handles is that of no
-    /// live entity, and as `OfWorld(UnknownName)` where one of its names is nobody's; and else as the call of the same name refuses it.
+    /// Carries out a command. It is refused as `EventsPending` while events wait; else as `OfWorld(Dead)` where one of
+    /// its handles is that of no live entity, and as `OfWorld(UnknownName)` where one of its names is nobody's; and
+    /// else as the call of the same name refuses it.
     pub fn apply(&mut self, command: Command<'_, A>) -> Result<Answer, SessionError>
-        ensures answers { AnswersApply (answered result) (apply (session_of self.old) (order_of command.entry)) self.old self.new }
+        ensures answers { AnswersApply (answered result) (apply (session_of self.old) (order_of command.entry)) self.old
+            self.new }
         ensures lists { ListsApply (order_of command.entry) result self.old self.new }
         ensures goes_on { TablesGoOn (self.old).world.tables (self.new).world.tables }
         ensures stay { OnlyForgottenGo (self.old).world (self.new).world }
@@ -120,7 +123,8 @@ impl<A: Allocator + Copy> Session<A> {
         entity: EntityRef<'_>,
         id: IdRef<'_>,
     ) -> Result<Option<EntityId>, SessionError>
-        ensures answers { AnswersApply result (apply (session_of self.old) (InWorld (AddTo (seen_entity entity.entry) (seen_id id.entry)))) self.old self.new }
+        ensures answers { AnswersApply result (apply (session_of self.old)
+            (InWorld (AddTo (seen_entity entity.entry) (seen_id id.entry)))) self.old self.new }
         ensures compared { (self.new).compared ≡ (self.old).compared }
         ensures lists { (self.new).stored ≡ (self.old).stored }
         ensures goes_on { TablesGoOn (self.old).world.tables (self.new).world.tables }
@@ -139,7 +143,8 @@ impl<A: Allocator + Copy> Session<A> {
         id: IdRef<'_>,
         values: &[i128],
     ) -> Result<Option<EntityId>, SessionError>
-        ensures answers { AnswersApply result (apply (session_of self.old) (InWorld (SetIn (seen_entity entity.entry) (seen_id id.entry) values.now))) self.old
+        ensures answers { AnswersApply result (apply (session_of self.old)
+            (InWorld (SetIn (seen_entity entity.entry) (seen_id id.entry) values.now))) self.old
             self.new }
         ensures compared { (self.new).compared ≡ (self.old).compared }
         ensures lists { (self.new).stored ≡ (self.old).stored }
@@ -158,7 +163,8 @@ impl<A: Allocator + Copy> Session<A> {
         entity: EntityRef<'_>,
         id: IdRef<'_>,
     ) -> Result<Option<EntityId>, SessionError>
-        ensures answers { AnswersApply result (apply (session_of self.old) (InWorld (RemoveFrom (seen_entity entity.entry) (seen_id id.entry)))) self.old
+        ensures answers { AnswersApply result (apply (session_of self.old)
+            (InWorld (RemoveFrom (seen_entity entity.entry) (seen_id id.entry)))) self.old
             self.new }
         ensures compared { (self.new).compared ≡ (self.old).compared }
         ensures lists { (self.new).stored ≡ (self.old).stored }
@@ -173,7 +179,8 @@ impl<A: Allocator + Copy> Session<A> {
 
     /// Deletes an entity.
     fn delete_one(&mut self, entity: EntityRef<'_>) -> Result<Option<EntityId>, SessionError>
-        ensures answers { AnswersApply result (apply (session_of self.old) (InWorld (DeleteOne (seen_entity entity.entry)))) self.old self.new }
+        ensures answers { AnswersApply result (apply (session_of self.old)
+            (InWorld (DeleteOne (seen_entity entity.entry)))) self.old self.new }
         ensures compared { (self.new).compared ≡ (self.old).compared }
         ensures lists { (self.new).stored ≡ (self.old).stored }
         ensures goes_on { TablesGoOn (self.old).world.tables (self.new).world.tables }

@@ -17,8 +17,8 @@ use ecs_schema::Schema;
 use ecs_world::Changes;
 use std::alloc::Allocator;
 
-// Each answers the entity that it made, if it makes one. It is refused as `EventsPending` while events wait, and else as the world refuses it.
-// The lists of kept queries stay, and each fits the tables that the command leaves.
+// Each answers the entity that it made, if it makes one. It is refused as `EventsPending` while events wait, and else
+// as the world refuses it. The lists of kept queries stay, and each fits the tables that the command leaves.
 impl<A: Allocator + Copy> Session<A> {
     /// Makes an entity without a name and without facts, and answers it.
     pub fn fresh(&mut self) -> Result<Option<EntityId>, SessionError>
@@ -58,7 +58,8 @@ impl<A: Allocator + Copy> Session<A> {
         name: &str,
         schema: Schema<A>,
     ) -> Result<Option<EntityId>, SessionError>
-        ensures answers { AnswersApply result (carried_out (session_of self.old) (Component name.now schema)) self.old self.new }
+        ensures answers { AnswersApply result (carried_out (session_of self.old) (Component name.now schema)) self.old
+            self.new }
         ensures compared { (self.new).compared ≡ (self.old).compared }
         ensures lists { (self.new).stored ≡ (self.old).stored }
         ensures goes_on { TablesGoOn (self.old).world.tables (self.new).world.tables }
@@ -95,7 +96,8 @@ impl<A: Allocator + Copy> Session<A> {
         id: Id,
         values: &[i128],
     ) -> Result<Option<EntityId>, SessionError>
-        ensures answers { AnswersApply result (carried_out (session_of self.old) (SetValue entity id values.now)) self.old self.new }
+        ensures answers { AnswersApply result (carried_out (session_of self.old) (SetValue entity id values.now))
+            self.old self.new }
         ensures compared { (self.new).compared ≡ (self.old).compared }
         ensures lists { (self.new).stored ≡ (self.old).stored }
         ensures goes_on { TablesGoOn (self.old).world.tables (self.new).world.tables }
@@ -142,7 +144,8 @@ impl<A: Allocator + Copy> Session<A> {
     }
 }
 
-/// The answer to a command that the world has carried out or not. What it has changed waits if a stored query is told of it.
+/// The answer to a command that the world has carried out or not. What it has changed waits if a stored query is told
+/// of it.
 #[inline(always)]
 fn answer<A: Allocator>(
     stored: &StoredQueries<A>,

@@ -1,7 +1,8 @@
-//! A session: a world, the queries that are stored in it, and what monitors and event observers are told of its commands.
+//! A session: a world, the queries that are stored in it, and what monitors and event observers are told of its
+//! commands.
 //!
-//! After an accepted command of the world events wait, if a stored query is a watch, and no other command is carried out before `events` has
-//! told them.
+//! After an accepted command of the world events wait, if a stored query is a watch, and no other command is carried
+//! out before `events` has told them.
 #![tactic(auto)]
 
 mod applying;

@@ -1,6 +1,7 @@
 //! The stored queries of a session, in the order of making.
 
-ghost use Rattle.std.specs.Prelude.{◌≡◌, ◌↔◌, ◌<◌, ◌++◌, ◌∷◌, [], All, IfNone, IfOk, IfSome, IsSome, None, OnErr, OnOk, Some, is_some, length, map, option_map};
+ghost use Rattle.std.specs.Prelude.{◌≡◌, ◌↔◌, ◌<◌, ◌++◌, ◌∷◌, [], All, IfNone, IfOk, IfSome, IsSome, None, OnErr, OnOk};
+ghost use Rattle.std.specs.Prelude.{Some, is_some, length, map, option_map};
 ghost use Rattle.std.specs.Prelude.{slice_get};
 ghost use Rattle.std.specs.List.{list_any};
 ghost use Rattle.std.specs.List.Sorted.{IsStrictlyIncreasing};
@@ -42,8 +43,8 @@ impl<A: Allocator + Copy> StoredQueries<A> {
         }
     }
 
-    /// Makes a stored query ready to be put behind the others, and lists it for what it looks out for. Then it is put or
-    /// forgotten.
+    /// Makes a stored query ready to be put behind the others, and lists it for what it looks out for. Then it is put
+    /// or forgotten.
     ///
     /// Fails where memory is refused, and then nothing has changed.
     pub(crate) fn prepare(
@@ -66,7 +67,8 @@ impl<A: Allocator + Copy> StoredQueries<A> {
         self.all.prepare(alloc, name, watcher)
     }
 
-    /// Puts into an empty list the places of the stored queries that look out for something that a command did, in order: no other is told anything.
+    /// Puts into an empty list the places of the stored queries that look out for something that a command did, in
+    /// order: no other is told anything.
     ///
     /// Fails where memory is refused.
     pub(crate) fn led(
@@ -172,7 +174,8 @@ impl<A: Allocator> StoredQueries<A> {
     pub(crate) fn remove(&mut self, name: &str) -> Option<Boxed<StoredQuery<A>, A>>
         requires stored { IsStored self.old }
         ensures value { option_map (λ b. b.value.value.value) result ≡ lookup (is_key name.now) (entries_of self.old) }
-        ensures entries { IfSome result (λ _. entries_of self.new ≡ remove_entry (is_key name.now) (entries_of self.old)) }
+        ensures entries { IfSome result (λ _. entries_of self.new ≡ remove_entry (is_key name.now)
+            (entries_of self.old)) }
         ensures none { IfNone result (self.new ≡ self.old) }
         ensures stored { IsStored self.new }
     {

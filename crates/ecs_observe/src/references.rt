@@ -1,4 +1,5 @@
-//! Entities and ids by name or by handle, looked up in a world. A dead handle comes before an unknown name, wherever the two stand.
+//! Entities and ids by name or by handle, looked up in a world. A dead handle comes before an unknown name, wherever
+//! the two stand.
 
 ghost use Rattle.std.specs.Prelude.{◌≡◌, IfOk, IfSome, IsTrue};
 ghost use Rattle.std.specs.List.{list_any};

@@ -20,7 +20,8 @@ use watch_stored::RowsAfter;
 pub struct Session<A: Allocator = Global> {
     pub(crate) world: World<A>,
     pub(crate) stored: StoredQueries<A>,
-    /// What the last accepted command has changed, until its events are told. It is there only while a stored query is a watch.
+    /// What the last accepted command has changed, until its events are told. It is there only while a stored query is
+    /// a watch.
     pub(crate) waiting: Option<Changes<A>>,
     /// How often the whole rows of a monitor were taken.
     pub(crate) compared: u64,
@@ -58,7 +59,12 @@ impl<A: Allocator> Model for Session<A> {
 
     ghost Value = { Standing };
 
-    ghost view = { λ s. record { world = s.world; stored = map held_of (entries_of s.stored); waiting = s.waiting; compared = s.compared } };
+    ghost view = { λ s. record {
+      world = s.world;
+      stored = map held_of (entries_of s.stored);
+      waiting = s.waiting;
+      compared = s.compared;
+    } };
 
     ghost invariant = { λ s. IsSession (record {
       world = s.world;
@@ -71,7 +77,8 @@ impl<A: Allocator> Model for Session<A> {
 impl<A: Allocator + Copy> Session<A> {
     /// A session of a new world, in which no query is stored.
     ///
-    /// Names, ids and tables are hashed with these random keys, so that nobody can choose any that make look-ups slow. Fails where memory is refused.
+    /// Names, ids and tables are hashed with these random keys, so that nobody can choose any that make look-ups slow.
+    /// Fails where memory is refused.
     pub fn new(alloc: A, random: RandomState) -> Result<Self, AllocError>
         ensures first { IfOk result (λ s. session_of s ≡ first_session) }
         ensures compared { IfOk result (λ s. s.compared ≡ 0) }
@@ -93,12 +100,13 @@ impl<A: Allocator + Copy> Session<A> {
 }
 
 impl<A: Allocator> Session<A> {
-    /// Law: what every session keeps. Its stored queries are current in its world, so that they may be asked; each kept query, and no other, has a list,
-    /// which fits the tables of the world. The call does nothing.
+    /// Law: what every session keeps. Its stored queries are current in its world, so that they may be asked; each kept
+    /// query, and no other, has a list, which fits the tables of the world. The call does nothing.
     pub fn keeps(&self)
         ensures session { IsSession self.now }
         ensures lists { All (HasItsList (self.now).world.tables) (self.now).stored }
-        ensures current { (n : List ℕ) (q : Query) → kept_query (session_of self.now) n ≡ Ok q → IsCurrentIn (self.now).world.state q }
+        ensures current { (n : List ℕ) (q : Query) → kept_query (session_of self.now) n ≡ Ok q
+            → IsCurrentIn (self.now).world.state q }
     {
         let _ = &self.compared;
     }
@@ -110,12 +118,12 @@ impl<A: Allocator> Session<A> {
         &self.world
     }
 
-    /// How often the whole rows of a monitor were taken so far, to be compared with those before. It never falls, and stays at its
-    /// greatest number.
+    /// How often the whole rows of a monitor were taken so far, to be compared with those before. It never falls, and
+    /// stays at its greatest number.
     ///
-    /// Those of a monitor are taken when it is stored, and after commands that concern its query alone, unless the facts that came and went tell
-    /// its rows but for few entities, who are asked. Monitors of local queries never have theirs taken: they are told by the entities that a
-    /// command touched.
+    /// Those of a monitor are taken when it is stored, and after commands that concern its query alone, unless the
+    /// facts that came and went tell its rows but for few entities, who are asked. Monitors of local queries never have
+    /// theirs taken: they are told by the entities that a command touched.
     pub fn compared(&self) -> u64
         ensures { result ≡ (self.now).compared }
     {

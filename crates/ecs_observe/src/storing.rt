@@ -28,16 +28,17 @@ const MOST_STORED: usize = 1024;
 impl<A: Allocator + Copy> Session<A> {
     /// Stores the query that a text asks, under a new name. What it names can't be deleted while it is stored.
     ///
-    /// Refused in this order: while events wait, of a text that is no name, of a name that a stored query has, of more than 1,024 stored queries,
-    /// and with the fault of the text, or of its query for this kind: a watch needs `$this`, and an event observer has one term. It answers
-    /// no entity.
+    /// Refused in this order: while events wait, of a text that is no name, of a name that a stored query has, of more
+    /// than 1,024 stored queries, and with the fault of the text, or of its query for this kind: a watch needs `$this`,
+    /// and an event observer has one term. It answers no entity.
     pub fn store(
         &mut self,
         kind: StoredKind,
         name: &str,
         text: &str,
     ) -> Result<Option<EntityId>, SessionError>
-        ensures answers { AnswersApply result (apply (session_of self.old) (Store kind name.now text.now)) self.old self.new }
+        ensures answers { AnswersApply result (apply (session_of self.old) (Store kind name.now text.now)) self.old
+            self.new }
         ensures compared { list_any is_compared (self.new).stored ≡ false → (self.new).compared ≡ (self.old).compared }
         ensures counted { CountsStored result kind text.now self.old self.new }
         ensures grows { (self.old).compared ≤ (self.new).compared }
@@ -55,7 +56,8 @@ impl<A: Allocator + Copy> Session<A> {
         Ok(None)
     }
 
-    /// Ends the stored query of a name. Refused while events wait, and where no stored query has the name. It answers no entity.
+    /// Ends the stored query of a name. Refused while events wait, and where no stored query has the name. It answers
+    /// no entity.
     pub fn drop_stored(&mut self, name: &str) -> Result<Option<EntityId>, SessionError>
         ensures answers { AnswersApply result (apply (session_of self.old) (Drop name.now)) self.old self.new }
         ensures compared { (self.new).compared ≡ (self.old).compared }
@@ -91,7 +93,8 @@ impl<A: Allocator + Copy> Session<A> {
         None
     }
 
-    /// Puts a stored query behind the others, under a name that none of them has. So often the whole rows of a monitor were taken by then.
+    /// Puts a stored query behind the others, under a name that none of them has. So often the whole rows of a monitor
+    /// were taken by then.
     ///
     /// Fails where memory is refused, and then nothing has changed.
     fn hold(
@@ -106,7 +109,8 @@ impl<A: Allocator + Copy> Session<A> {
         requires held { IsHeld (self.old.world).state (held_of (name, stored)) }
         requires now { IsNow (self.old.world).state (held_of (name, stored)) }
         requires list { HasNewList stored }
-        ensures held { OnOk result (self.new ≡ record (with_held self.old (held_of (name, stored))) { compared = compared }) }
+        ensures held { OnOk result (self.new ≡ record (with_held self.old
+            (held_of (name, stored))) { compared = compared }) }
         ensures refused { OnErr result (self.new ≡ self.old) }
     {
         let (key, made) = self.stored.prepare(self.alloc, name, stored)?;

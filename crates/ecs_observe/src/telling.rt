@@ -1,6 +1,7 @@
 //! Telling the events of a command.
 
-ghost use Rattle.std.specs.Prelude.{◌≡◌, ◌+◌, ◌<◌, ◌≤◌, [], ◌++◌, IfOk, OnErr, OnOk, All, length, map, flat_map, min, false, true};
+ghost use Rattle.std.specs.Prelude.{◌≡◌, ◌+◌, ◌<◌, ◌≤◌, [], ◌++◌, IfOk, OnErr, OnOk, All, length, map, flat_map, min};
+ghost use Rattle.std.specs.Prelude.{false, true};
 ghost use Rattle.std.specs.List.{count_by, list_any};
 ghost use Rattle.std.specs.List.Sorted.{IsStrictlyIncreasing};
 ghost use Rattle.ecs_model.specs.stored.Session.{after_events, events};
@@ -32,10 +33,11 @@ const FEW_EVENTS: usize = 4;
 impl<A: Allocator + Copy> Session<A> {
     /// The events that wait, of one stored query after another in the order of making. After that none wait.
     ///
-    /// Of a monitor those that left come first, each by ascending index. One whose query is local is told by the entities that the command
-    /// touched. Of another all rows are compared, if the command concerns its query: else they are of the same entities, and it is told nothing.
-    /// Where those before and the facts that came and went tell them but for few entities, these alone are searched for; else all are taken. Fails
-    /// where memory is refused, and then they still wait.
+    /// Of a monitor those that left come first, each by ascending index. One whose query is local is told by the
+    /// entities that the command touched. Of another all rows are compared, if the command concerns its query: else
+    /// they are of the same entities, and it is told nothing. Where those before and the facts that came and went tell
+    /// them but for few entities, these alone are searched for; else all are taken. Fails where memory is refused, and
+    /// then they still wait.
     pub fn events(&mut self) -> Result<Vec<Event<A>, A>, AllocError>
         ensures told { IfOk result (λ told. told.items ≡ events (session_of self.old)) }
         ensures after { OnOk result (session_of self.new ≡ after_events (session_of self.old)) }
@@ -43,7 +45,8 @@ impl<A: Allocator + Copy> Session<A> {
         ensures compared { list_any is_compared (self.old).stored ≡ false → (self.new).compared ≡ (self.old).compared }
         ensures grows { (self.old).compared ≤ (self.new).compared }
         ensures few { (self.new).compared ≤ (self.old).compared + searched_in self.old }
-        ensures counted { OnOk result (min ((self.old).compared + taken_in self.old) 18446744073709551615 ≤ (self.new).compared) }
+        ensures counted { OnOk result (min ((self.old).compared + taken_in self.old) 18446744073709551615
+            ≤ (self.new).compared) }
         ensures spared { has_searched self.old ≡ false → (self.new).compared ≡ (self.old).compared }
         ensures lists { lists_of self.new ≡ lists_of self.old }
         ensures world { (self.new).world ≡ (self.old).world }
@@ -53,18 +56,21 @@ impl<A: Allocator + Copy> Session<A> {
         Ok(told)
     }
 
-    /// Writes the lines of the events that wait behind what is there, in their order, as `write_event` does one. After that none wait.
+    /// Writes the lines of the events that wait behind what is there, in their order, as `write_event` does one. After
+    /// that none wait.
     ///
-    /// The room for few events stays with the session, so that the next command needs none. Fails where memory is refused, and then a front of the lines may
-    /// be written, or the events still wait.
+    /// The room for few events stays with the session, so that the next command needs none. Fails where memory is
+    /// refused, and then a front of the lines may be written, or the events still wait.
     // (out of line, so that a command after which nothing waits pays nothing for it)
     #[inline(never)]
     pub fn write_events(&mut self, output: &mut Vec<u8, A>) -> Result<(), AllocError>
-        ensures written { OnOk result (output.new.items ≡ output.old.items ++ flat_map event_text (events (session_of self.old))) }
+        ensures written { OnOk result (output.new.items ≡ output.old.items
+            ++ flat_map event_text (events (session_of self.old))) }
         ensures after { OnOk result (session_of self.new ≡ after_events (session_of self.old)) }
         ensures grows { (self.old).compared ≤ (self.new).compared }
         ensures few { (self.new).compared ≤ (self.old).compared + searched_in self.old }
-        ensures counted { OnOk result (min ((self.old).compared + taken_in self.old) 18446744073709551615 ≤ (self.new).compared) }
+        ensures counted { OnOk result (min ((self.old).compared + taken_in self.old) 18446744073709551615
+            ≤ (self.new).compared) }
         ensures lists { lists_of self.new ≡ lists_of self.old }
         ensures world { (self.new).world ≡ (self.old).world }
     {
@@ -102,7 +108,8 @@ impl<A: Allocator + Copy> Session<A> {
         ensures compared { list_any is_compared (self.old).stored ≡ false → (self.new).compared ≡ (self.old).compared }
         ensures grows { (self.old).compared ≤ (self.new).compared }
         ensures few { (self.new).compared ≤ (self.old).compared + searched_in self.old }
-        ensures counted { OnOk result (min ((self.old).compared + taken_in self.old) 18446744073709551615 ≤ (self.new).compared) }
+        ensures counted { OnOk result (min ((self.old).compared + taken_in self.old) 18446744073709551615
+            ≤ (self.new).compared) }
         ensures spared { has_searched self.old ≡ false → (self.new).compared ≡ (self.old).compared }
         ensures lists { lists_of self.new ≡ lists_of self.old }
         ensures world { (self.new).world ≡ (self.old).world }
@@ -147,8 +154,8 @@ fn write_all<A: Allocator>(events: &[Event<A>], output: &mut Vec<u8, A>) -> Resu
     Ok(())
 }
 
-/// Puts what all stored queries are told behind other events, by those that the command leads to. Gives the moves of their rows, each with the
-/// place of its query, unless they stay. Counts the whole rows taken.
+/// Puts what all stored queries are told behind other events, by those that the command leads to. Gives the moves of
+/// their rows, each with the place of its query, unless they stay. Counts the whole rows taken.
 #[inline(always)]
 fn tell_led<A: Allocator + Copy>(
     alloc: A,
@@ -165,12 +172,17 @@ fn tell_led<A: Allocator + Copy>(
     requires held { All (IsHeld world.now.state) (map held_of (entries_of stored.now)) }
     requires was { All (WasNow world.now.state changes.now) (map held_of (entries_of stored.now)) }
     requires none { rows.old.items ≡ [] }
-    ensures rows { OnOk result (ArePlaced (rows_put world.now.state changes.now) rows.new.items (entries_of stored.now)) }
-    ensures told { OnOk result (events.new.items ≡ events.old.items ++ flat_map (told_to world.now.state changes.now) (map held_of (entries_of stored.now))) }
-    ensures compared { list_any (is_searched changes.now) (map held_of (entries_of stored.now)) ≡ false → compared.new ≡ compared.old }
+    ensures rows { OnOk result (ArePlaced (rows_put world.now.state changes.now) rows.new.items
+        (entries_of stored.now)) }
+    ensures told { OnOk result (events.new.items ≡ events.old.items
+        ++ flat_map (told_to world.now.state changes.now) (map held_of (entries_of stored.now))) }
+    ensures compared { list_any (is_searched changes.now) (map held_of (entries_of stored.now)) ≡ false
+        → compared.new ≡ compared.old }
     ensures grows { compared.old ≤ compared.new }
-    ensures few { OnOk result (compared.new ≤ compared.old + count_by (is_searched changes.now) (map held_of (entries_of stored.now))) }
-    ensures counted { OnOk result (min (compared.old + count_by (is_taken_whole changes.now) (map held_of (entries_of stored.now))) 18446744073709551615
+    ensures few { OnOk result (compared.new ≤ compared.old + count_by (is_searched changes.now)
+        (map held_of (entries_of stored.now))) }
+    ensures counted { OnOk result (min (compared.old + count_by (is_taken_whole changes.now)
+        (map held_of (entries_of stored.now))) 18446744073709551615
         ≤ compared.new) }
 {
     let mut found = ShortNumbers::new();
@@ -205,12 +217,17 @@ fn tell_places<A: Allocator + Copy>(
     requires within { All (λ i. i < length (entries_of stored.now)) places.now }
     requires led { AreLedTo changes.now (entries_of stored.now) places.now }
     requires none { rows.old.items ≡ [] }
-    ensures rows { OnOk result (ArePlaced (rows_put world.now.state changes.now) rows.new.items (entries_of stored.now)) }
-    ensures told { OnOk result (events.new.items ≡ events.old.items ++ flat_map (told_to world.now.state changes.now) (map held_of (entries_of stored.now))) }
-    ensures compared { list_any (is_searched changes.now) (map held_of (entries_of stored.now)) ≡ false → compared.new ≡ compared.old }
+    ensures rows { OnOk result (ArePlaced (rows_put world.now.state changes.now) rows.new.items
+        (entries_of stored.now)) }
+    ensures told { OnOk result (events.new.items ≡ events.old.items
+        ++ flat_map (told_to world.now.state changes.now) (map held_of (entries_of stored.now))) }
+    ensures compared { list_any (is_searched changes.now) (map held_of (entries_of stored.now)) ≡ false
+        → compared.new ≡ compared.old }
     ensures grows { compared.old ≤ compared.new }
-    ensures few { OnOk result (compared.new ≤ compared.old + count_by (is_searched changes.now) (map held_of (entries_of stored.now))) }
-    ensures counted { OnOk result (min (compared.old + count_by (is_taken_whole changes.now) (map held_of (entries_of stored.now))) 18446744073709551615
+    ensures few { OnOk result (compared.new ≤ compared.old + count_by (is_searched changes.now)
+        (map held_of (entries_of stored.now))) }
+    ensures counted { OnOk result (min (compared.old + count_by (is_taken_whole changes.now)
+        (map held_of (entries_of stored.now))) 18446744073709551615
         ≤ compared.new) }
 {
     let touched = touched_if_asked(alloc, world, changes, stored, places)?;
@@ -248,8 +265,8 @@ fn is_told_locally_at<A: Allocator>(stored: &StoredQueries<A>, places: &[u64]) -
         .any(|place| stored.is_told_locally_at(*place as usize))
 }
 
-/// Puts what all stored queries are told behind other events, by those at these places: no other is told anything. Gives the moves of their
-/// rows, each with the place of its query, unless they stay. Counts the whole rows taken.
+/// Puts what all stored queries are told behind other events, by those at these places: no other is told anything.
+/// Gives the moves of their rows, each with the place of its query, unless they stay. Counts the whole rows taken.
 fn tell_all<A: Allocator + Copy>(
     alloc: A,
     world: &World<A>,
@@ -265,17 +282,23 @@ fn tell_all<A: Allocator + Copy>(
     requires after { IsAfter world.now.state changes.now }
     requires held { All (IsHeld world.now.state) (map held_of (entries_of stored.now)) }
     requires was { All (WasNow world.now.state changes.now) (map held_of (entries_of stored.now)) }
-    requires touched { any_locally_at (entries_of stored.now) places.now ≡ true → AreTouchedBy world.now.state changes.now touched.now }
+    requires touched { any_locally_at (entries_of stored.now) places.now ≡ true
+        → AreTouchedBy world.now.state changes.now touched.now }
     requires ascend { IsStrictlyIncreasing places.now }
     requires within { All (λ i. i < length (entries_of stored.now)) places.now }
     requires led { AreLedTo changes.now (entries_of stored.now) places.now }
     requires none { rows.old.items ≡ [] }
-    ensures rows { OnOk result (ArePlaced (rows_put world.now.state changes.now) rows.new.items (entries_of stored.now)) }
-    ensures told { OnOk result (events.new.items ≡ events.old.items ++ flat_map (told_to world.now.state changes.now) (map held_of (entries_of stored.now))) }
-    ensures compared { list_any (is_searched changes.now) (map held_of (entries_of stored.now)) ≡ false → compared.new ≡ compared.old }
+    ensures rows { OnOk result (ArePlaced (rows_put world.now.state changes.now) rows.new.items
+        (entries_of stored.now)) }
+    ensures told { OnOk result (events.new.items ≡ events.old.items
+        ++ flat_map (told_to world.now.state changes.now) (map held_of (entries_of stored.now))) }
+    ensures compared { list_any (is_searched changes.now) (map held_of (entries_of stored.now)) ≡ false
+        → compared.new ≡ compared.old }
     ensures grows { compared.old ≤ compared.new }
-    ensures few { OnOk result (compared.new ≤ compared.old + count_by (is_searched changes.now) (map held_of (entries_of stored.now))) }
-    ensures counted { OnOk result (min (compared.old + count_by (is_taken_whole changes.now) (map held_of (entries_of stored.now))) 18446744073709551615
+    ensures few { OnOk result (compared.new ≤ compared.old + count_by (is_searched changes.now)
+        (map held_of (entries_of stored.now))) }
+    ensures counted { OnOk result (min (compared.old + count_by (is_taken_whole changes.now)
+        (map held_of (entries_of stored.now))) 18446744073709551615
         ≤ compared.new) }
 {
     world.keeps();

@@ -1,5 +1,5 @@
-//! A harbour, as a game on a session: a monitor tells which ships put to sea, a kept query is asked each turn, and the rows of another query
-//! are pulled one at a time, with their values, or gone over table by table, frame after frame.
+//! A harbour, as a game on a session: a monitor tells which ships put to sea, a kept query is asked each turn, and the
+//! rows of another query are pulled one at a time, with their values, or gone over table by table, frame after frame.
 //!
 //! It has no proof of its own: what its contracts say follows from those of the calls.
 #![tactic(auto)]
@@ -91,7 +91,8 @@ fn put_to_sea(
     Ok(())
 }
 
-/// Prints the ships that are docked: exactly the rows of the kept query, or why there are none. It answers how many probes that took.
+/// Prints the ships that are docked: exactly the rows of the kept query, or why there are none. It answers how many
+/// probes that took.
 fn show_docked(session: &mut Session, out: &mut Vec<u8>) -> Result<Option<u64>, SessionError>
     ensures { AnswersRows result (session_of session.old) (codes "docked") out.old.items out.new.items }
 {
@@ -118,7 +119,8 @@ fn litres_to_come(rows: &mut Rows<'_, Global>) -> u64 {
     litres
 }
 
-/// The litres of all ships, row by row. Pulling the rows takes no memory, and the query is given back for the next turn.
+/// The litres of all ships, row by row. Pulling the rows takes no memory, and the query is given back for the next
+/// turn.
 fn litres_by_row(session: &Session, asked: Asked) -> (Asked, u64) {
     let view = WorldView::new(session.world());
     if !asked.is_current(&view) || !asked.covers(&view) {

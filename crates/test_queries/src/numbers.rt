@@ -1,4 +1,5 @@
-//! Numbers that tell texts, so that rows are compared with what is printed in whatever order they come, and without memory.
+//! Numbers that tell texts, so that rows are compared with what is printed in whatever order they come, and without
+//! memory.
 
 use ecs_id::Id;
 use ecs_print::{MOST_TEXT, put_fields};

@@ -1,8 +1,9 @@
 //! Whatever order the steps of a plan have, its rows are the same.
 //!
-//! Each item is taken in each way, and the steps of a group stay in it, as they do in every plan. Plans of more than six steps (those with two
-//! groups) are tried in the ways of plain terms alone, since in all six they have 186,624 orders. With each query one plan is tried that the planner
-//! doesn't choose, where it is one: each entity, and then the test of the only term.
+//! Each item is taken in each way, and the steps of a group stay in it, as they do in every plan. Plans of more than
+//! six steps (those with two groups) are tried in the ways of plain terms alone, since in all six they have 186,624
+//! orders. With each query one plan is tried that the planner doesn't choose, where it is one: each entity, and then
+//! the test of the only term.
 
 ghost use Rattle.std.specs.Prelude.{◌≡◌, ◌+◌, ◌<◌, ◌≤◌, length};
 ghost use Rattle.ecs_model.specs.rows.View.{view_of};
@@ -25,7 +26,8 @@ const MODES: usize = 6;
 /// The ways to deal with a plain term, which is no equality and doesn't follow its relationship.
 const PLAIN_MODES: usize = 3;
 
-/// Plans of more steps than these have more orders than can be tried, so their items, which are plain terms, are taken in the ways of these alone.
+/// Plans of more steps than these have more orders than can be tried, so their items, which are plain terms, are taken
+/// in the ways of these alone.
 const FEW_STEPS: usize = 6;
 
 /// Each entity, and then the test of the only term.
@@ -65,7 +67,8 @@ fn in_mode(step: Step, way: usize) -> Step {
 }
 
 impl Tried<'_> {
-    /// Runs the steps, if they are a plan: how many plans these are, none or one. None where they don't give the rows that they should.
+    /// Runs the steps, if they are a plan: how many plans these are, none or one. None where they don't give the rows
+    /// that they should.
     fn runs(&self, alloc: Global, steps: &[Step]) -> Result<Option<usize>, AllocError>
         requires { IsAnswerable (view_of self.now.world.now.state) self.now.query.now }
     {
@@ -83,8 +86,8 @@ impl Tried<'_> {
         Ok(if is_right { Some(1) } else { None })
     }
 
-    /// Tries each order of the steps from a place on, in each mode: how many are plans, if all of these give the rows. The steps of a group stay in
-    /// it, in each of their orders, since no plan has one of them elsewhere.
+    /// Tries each order of the steps from a place on, in each mode: how many are plans, if all of these give the rows.
+    /// The steps of a group stay in it, in each of their orders, since no plan has one of them elsewhere.
     fn all_run(
         &self,
         alloc: Global,
@@ -151,7 +154,8 @@ fn piece_at(steps: &[Step], at: usize, end: usize) -> usize
     }
 }
 
-/// How many orders of the planner's steps are plans, and the steps by each entity, if all of these give the same rows, which are written after others.
+/// How many orders of the planner's steps are plans, and the steps by each entity, if all of these give the same rows,
+/// which are written after others.
 fn plans_of(
     alloc: Global,
     world: &World,

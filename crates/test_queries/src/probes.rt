@@ -40,12 +40,14 @@ fn pull<F: Facts, A: Allocator>(run: &mut Run<'_, F, A>, row: &mut [u32], most: 
     }
 }
 
-/// Plans a simple query in a world, pulls some of its rows there, and says how many probes were made till then: at most as many as the query has
-/// items times the tables of each item that must match, whatever facts of the world count these.
+/// Plans a simple query in a world, pulls some of its rows there, and says how many probes were made till then: at most
+/// as many as the query has items times the tables of each item that must match, whatever facts of the world count
+/// these.
 fn probes_of(alloc: Global, world: &World, query: Query, most: usize) -> Result<u64, AllocError>
     requires asked { IsAsked world.now.state query }
     requires simple { is_simple query ≡ true }
-    ensures { IfOk result (λ probes. (s : Shown) → s.world ≡ world.now → ListsTables s → (j : ℕ) → is_leading (entry_at query j) ≡ true
+    ensures { IfOk result (λ probes. (s : Shown) → s.world ≡ world.now → ListsTables s → (j : ℕ)
+        → is_leading (entry_at query j) ≡ true
         → probes ≤ length (entries query) * slice_index (table_counts (reading_of s) query) j) }
 {
     world.keeps();

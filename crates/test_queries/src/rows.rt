@@ -90,7 +90,8 @@ fn ask_kept(
     rows.into_asked()
 }
 
-/// The rows of a query are those that are printed: also when it is asked again, and from the tables that are kept for it.
+/// The rows of a query are those that are printed: also when it is asked again, and from the tables that are kept for
+/// it.
 pub(crate) fn compare_rows(
     rt: &impl Abort,
     alloc: Global,

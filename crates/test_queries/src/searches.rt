@@ -17,7 +17,8 @@ fn has_no_cycle(world: &World, relationship: u32) -> bool
     world.has(relationship, Id::plain(ACYCLIC))
 }
 
-/// The first ancestor along an acyclic relationship that holds what the pattern matches. There is room, and the entity is in the world.
+/// The first ancestor along an acyclic relationship that holds what the pattern matches. There is room, and the entity
+/// is in the world.
 pub fn first_above(
     world: &World,
     index: u32,

@@ -30,7 +30,8 @@ const C: u32 = 71;
 
 const D: u32 = 72;
 
-/// The Earth is a child of the Sun, and the Moon one of the Earth; the first two have a Position. B and C are A, and D is both.
+/// The Earth is a child of the Sun, and the Moon one of the Earth; the first two have a Position. B and C are A, and D
+/// is both.
 const WORLD: Base = Base {
     components: &["Position"],
     names: &["Planet", "Sun", "Earth", "Moon", "A", "B", "C", "D"],

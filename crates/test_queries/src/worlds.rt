@@ -1,7 +1,7 @@
 //! New worlds, and what they are filled with.
 //!
-//! What a command has changed is dropped by a call in one place: where it goes out of scope by itself, the drops of all its parts are proved at
-//! each command.
+//! What a command has changed is dropped by a call in one place: where it goes out of scope by itself, the drops of all
+//! its parts are proved at each command.
 
 ghost use Rattle.std.specs.Prelude.{IfOk};
 ghost use Rattle.ecs_id.specs.Id.{IsIndex};

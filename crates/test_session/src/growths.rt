@@ -54,7 +54,8 @@ fn facts_number<A: Allocator>(world: &World<A>) -> u64 {
     number
 }
 
-/// How much room there is beforehand for what a line writes. Where events have been told, no memory may be wanting to write them.
+/// How much room there is beforehand for what a line writes. Where events have been told, no memory may be wanting to
+/// write them.
 fn room_for(line: Line) -> usize {
     match line {
         Line::Events => ROOM,
@@ -62,8 +63,8 @@ fn room_for(line: Line) -> usize {
     }
 }
 
-/// Carries out a line with so many blocks and no more, writes what it prints, and tells whether it was refused for that. Then the facts are as before,
-/// and it is carried out again.
+/// Carries out a line with so many blocks and no more, writes what it prints, and tells whether it was refused for
+/// that. Then the facts are as before, and it is carried out again.
 fn is_line_refused<'a>(
     rt: &impl Abort,
     heap: &'a Refusing<Global>,
@@ -105,8 +106,8 @@ fn print_refusing<'a>(
     Ok(refused)
 }
 
-/// Whether a line is refused with so few blocks, in a new session. The script prints what it prints where nothing is refused, and whole rows are taken
-/// as often. Where the line makes a session, the new one may be refused.
+/// Whether a line is refused with so few blocks, in a new session. The script prints what it prints where nothing is
+/// refused, and whole rows are taken as often. Where the line makes a session, the new one may be refused.
 fn is_refused(
     rt: &impl Abort,
     heap: &Refusing<Global>,

@@ -1,4 +1,5 @@
-//! A session at work: what scripts print, each growth of each of their lines refused in turn, and whole scripts over tapes.
+//! A session at work: what scripts print, each growth of each of their lines refused in turn, and whole scripts over
+//! tapes.
 #![tactic(auto)]
 
 #[cfg(test)]

@@ -46,7 +46,8 @@ pub(crate) enum Line {
 /// What a session answers to a line.
 pub(crate) type Answer = Result<Option<EntityId>, SessionError>;
 
-/// A session without facts of its own, over a heap. Whoever has it hands it on to what may fail, and drops it by a call in one place.
+/// A session without facts of its own, over a heap. Whoever has it hands it on to what may fail, and drops it by a call
+/// in one place.
 pub(crate) fn new_session_over<A: Allocator + Copy>(
     heap: A,
     random: RandomState,

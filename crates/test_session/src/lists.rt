@@ -1,4 +1,5 @@
-//! The lists of kept queries: which tables are judged for them, what is told of them, and how many probes a run through them makes.
+//! The lists of kept queries: which tables are judged for them, what is told of them, and how many probes a run through
+//! them makes.
 
 ghost use Rattle.ecs_observe.specs.Following.{IsUpToDateAt};
 
@@ -149,7 +150,8 @@ fn expect_rows(
     Ok(())
 }
 
-/// The rows of the kept query take some probes, and no more than one for each of its two items and each table of its list.
+/// The rows of the kept query take some probes, and no more than one for each of its two items and each table of its
+/// list.
 fn expect_probes(rt: &impl Abort, alloc: Global, session: &mut Session) -> Result<(), Fail> {
     let mut printed = Vec::new(alloc);
     let probes = session.write_kept_rows("k", &mut printed)?.unwrap_or(0);

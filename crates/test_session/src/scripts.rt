@@ -16,7 +16,8 @@ pub(crate) struct Script {
     pub(crate) output: Option<Output>,
 }
 
-/// What a script prints, without the numbers of the lines that are refused, and how often whole rows are taken for its monitors.
+/// What a script prints, without the numbers of the lines that are refused, and how often whole rows are taken for its
+/// monitors.
 #[derive(Clone, Copy)]
 pub(crate) struct Output {
     pub(crate) text: &'static [u8],
@@ -185,7 +186,8 @@ const NEW_ENTITY: Script = Script {
     }),
 };
 
-/// No command is carried out while events wait, and rows are asked of kept queries alone. Here events are told where a line says so.
+/// No command is carried out while events wait, and rows are asked of kept queries alone. Here events are told where a
+/// line says so.
 pub(crate) const WAITING_EVENTS: Script = Script {
     base: &SYSTEM,
     lines: &[

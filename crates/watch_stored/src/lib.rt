@@ -5,7 +5,8 @@
 //! let mut stored = stored_query(alloc, &world, kind, query, &mut compared)?;
 //!
 //! // after a command: its events, and the moves of its rows behind those of others, if they don't stay
-//! tell_one(alloc, &world, &changes, &touched, place, &name, &stored, &mut room, &mut rows, &mut compared, &mut events)?;
+//! let told = &mut events;
+//! tell_one(alloc, &world, &changes, &touched, place, &name, &stored, &mut room, &mut rows, &mut compared, told)?;
 //! stored.keep(&mut rows[0].1);
 //! ```
 #![tactic(auto)]

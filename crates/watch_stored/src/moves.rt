@@ -1,6 +1,7 @@
 //! Who leaves and who enters the rows of a monitor whose query isn't local.
 
-ghost use Rattle.std.specs.Prelude.{◌≡◌, ℕ, ◌+◌, ◌≤◌, ◌&&◌, ◌||◌, ◌++◌, ◌∷◌, [], None, IfOk, OnOk, false, filter, min, not, true, if◌then◌else◌};
+ghost use Rattle.std.specs.Prelude.{◌≡◌, ℕ, ◌+◌, ◌≤◌, ◌&&◌, ◌||◌, ◌++◌, ◌∷◌, [], None, IfOk, OnOk, false, filter, min};
+ghost use Rattle.std.specs.Prelude.{not, true, if◌then◌else◌};
 ghost use Rattle.std.specs.List.Sorted.{IsStrictlyIncreasing};
 ghost use Rattle.ecs_model.specs.rows.View.{view_of};
 ghost use Rattle.ecs_model.specs.stored.Watches.{matching, missing_from};
@@ -27,7 +28,8 @@ use watch_touched::{Moved, told_by_ids, who_may_have_moved};
 /// So many are asked one by one. For more of them the search remembers what it has found.
 const FEW: usize = 4;
 
-/// The entities of a monitor's rows after a command, by those who left the rows by it and those who entered them. Both ascend.
+/// The entities of a monitor's rows after a command, by those who left the rows by it and those who entered them. Both
+/// ascend.
 #[derive(Drop)]
 pub struct RowsAfter<A: Allocator> {
     pub(crate) left: ShortList<A>,
@@ -50,9 +52,9 @@ impl<A: Allocator> RowsAfter<A> {
     }
 }
 
-/// Whether a command concerns the query of a monitor that isn't local; and if so, its moves are put in the place of none. Where all who may have
-/// moved are found, their ids or a search tell who of them is in the rows; else all rows are taken, counted, and compared. The room for searches is
-/// for any queries, one after another.
+/// Whether a command concerns the query of a monitor that isn't local; and if so, its moves are put in the place of
+/// none. Where all who may have moved are found, their ids or a search tell who of them is in the rows; else all rows
+/// are taken, counted, and compared. The room for searches is for any queries, one after another.
 ///
 /// Fails where memory is refused.
 pub(crate) fn rows_after<A: Allocator + Copy>(
@@ -72,11 +74,13 @@ pub(crate) fn rows_after<A: Allocator + Copy>(
     ensures left { IfOk result (λ concerned. concerned ≡ true → rows.new.left.items
         ≡ missing_from query.now.these.items (matching (view_of world.now.state) (query.now.plan).query)) }
     ensures entered { IfOk result (λ concerned. concerned ≡ true
-        → rows.new.entered.items ≡ missing_from (matching (view_of world.now.state) (query.now.plan).query) query.now.these.items) }
+        → rows.new.entered.items ≡ missing_from (matching (view_of world.now.state) (query.now.plan).query)
+        query.now.these.items) }
     ensures these { IfOk result (λ concerned. concerned ≡ true → (kept_rows rows.new query.now.these).items
         ≡ matching (view_of world.now.state) (query.now.plan).query) }
     ensures compared { is_concerned (query.now.plan).query changes.now ≡ false → compared.new ≡ compared.old }
-    ensures counted { finds_moving (query.now.plan).query changes.now ≡ false → is_concerned (query.now.plan).query changes.now ≡ true
+    ensures counted { finds_moving (query.now.plan).query changes.now ≡ false
+        → is_concerned (query.now.plan).query changes.now ≡ true
         → OnOk result (compared.new ≡ min (compared.old + 1) 18446744073709551615) }
     ensures grows { compared.old ≤ compared.new }
     ensures few { compared.new ≤ compared.old + 1 }
@@ -110,9 +114,12 @@ fn rows_by_asking<A: Allocator + Copy>(
     requires ascends { IsStrictlyIncreasing query.now.these.items }
     requires told { IsTold (query.now.plan).query world.now.state query.now.these.items moving.now }
     requires none { AreNoMoves rows.old }
-    ensures left { OnOk result (rows.new.left.items ≡ missing_from query.now.these.items (matching (view_of world.now.state) (query.now.plan).query)) }
-    ensures entered { OnOk result (rows.new.entered.items ≡ missing_from (matching (view_of world.now.state) (query.now.plan).query) query.now.these.items) }
-    ensures these { OnOk result ((kept_rows rows.new query.now.these).items ≡ matching (view_of world.now.state) (query.now.plan).query) }
+    ensures left { OnOk result (rows.new.left.items ≡ missing_from query.now.these.items
+        (matching (view_of world.now.state) (query.now.plan).query)) }
+    ensures entered { OnOk result (rows.new.entered.items ≡ missing_from
+        (matching (view_of world.now.state) (query.now.plan).query) query.now.these.items) }
+    ensures these { OnOk result ((kept_rows rows.new query.now.these).items
+        ≡ matching (view_of world.now.state) (query.now.plan).query) }
 {
     world.keeps();
     push_moves(
@@ -141,9 +148,11 @@ fn push_moves<A: Allocator + Copy>(
     requires current { IsCurrentIn world.now.state (query.now.plan).query }
     requires ascend { IsStrictlyIncreasing moving.now }
     ensures left { OnOk result (left.new.items ≡ left.old.items
-        ++ filter (leaves query.now.these.items (matching (view_of world.now.state) (query.now.plan).query)) moving.now) }
+        ++ filter (leaves query.now.these.items (matching (view_of world.now.state) (query.now.plan).query))
+        moving.now) }
     ensures entered { OnOk result (entered.new.items ≡ entered.old.items
-        ++ filter (enters query.now.these.items (matching (view_of world.now.state) (query.now.plan).query)) moving.now) }
+        ++ filter (enters query.now.these.items (matching (view_of world.now.state) (query.now.plan).query))
+        moving.now) }
 {
     if moving.len() <= FEW {
         return push_each(alloc, world, query, room, moving, left, entered);
@@ -163,9 +172,11 @@ fn push_each<A: Allocator + Copy>(
 ) -> Result<(), AllocError>
     requires current { IsCurrentIn world.now.state (query.now.plan).query }
     ensures left { OnOk result (left.new.items ≡ left.old.items
-        ++ filter (leaves query.now.these.items (matching (view_of world.now.state) (query.now.plan).query)) moving.now) }
+        ++ filter (leaves query.now.these.items (matching (view_of world.now.state) (query.now.plan).query))
+        moving.now) }
     ensures entered { OnOk result (entered.new.items ≡ entered.old.items
-        ++ filter (enters query.now.these.items (matching (view_of world.now.state) (query.now.plan).query)) moving.now) }
+        ++ filter (enters query.now.these.items (matching (view_of world.now.state) (query.now.plan).query))
+        moving.now) }
 {
     for entity in moving {
         let is = is_in_rows(alloc, world, &query.plan, room, *entity)?;
@@ -205,9 +216,11 @@ fn push_searched<A: Allocator + Copy>(
     requires current { IsCurrentIn world.now.state (query.now.plan).query }
     requires ascend { IsStrictlyIncreasing moving.now }
     ensures left { OnOk result (left.new.items ≡ left.old.items
-        ++ filter (leaves query.now.these.items (matching (view_of world.now.state) (query.now.plan).query)) moving.now) }
+        ++ filter (leaves query.now.these.items (matching (view_of world.now.state) (query.now.plan).query))
+        moving.now) }
     ensures entered { OnOk result (entered.new.items ≡ entered.old.items
-        ++ filter (enters query.now.these.items (matching (view_of world.now.state) (query.now.plan).query)) moving.now) }
+        ++ filter (enters query.now.these.items (matching (view_of world.now.state) (query.now.plan).query))
+        moving.now) }
 {
     let asked = query.plan.asked();
     let mut untold = ShortList::new();
@@ -230,7 +243,8 @@ fn push_untold<A: Allocator + Copy>(
     untold: &mut ShortList<A>,
 ) -> Result<(), AllocError>
     requires sound { IsSound asked.now }
-    ensures { OnOk result (untold.new.items ≡ untold.old.items ++ filter (is_untold asked.now world.now.state) entities.now) }
+    ensures { OnOk result (untold.new.items ≡ untold.old.items ++ filter
+        (is_untold asked.now world.now.state) entities.now) }
 {
     for entity in entities {
         if told_by_ids(asked, world, *entity).is_none() {
@@ -259,7 +273,8 @@ fn is_told_or_found<A: Allocator>(
     }
 }
 
-/// Adds an entity to those who left, if it was in the rows and isn't any more; and to those who entered, if it wasn't, and is.
+/// Adds an entity to those who left, if it was in the rows and isn't any more; and to those who entered, if it wasn't,
+/// and is.
 #[inline(always)]
 fn push_move<A: Allocator + Copy>(
     alloc: A,
@@ -269,8 +284,10 @@ fn push_move<A: Allocator + Copy>(
     left: &mut ShortList<A>,
     entered: &mut ShortList<A>,
 ) -> Result<(), AllocError>
-    ensures left { OnOk result (left.new.items ≡ left.old.items ++ (if is_among before.now.items entity && not is then entity ∷ [] else [])) }
-    ensures entered { OnOk result (entered.new.items ≡ entered.old.items ++ (if is && not (is_among before.now.items entity) then entity ∷ [] else [])) }
+    ensures left { OnOk result (left.new.items ≡ left.old.items
+        ++ (if is_among before.now.items entity && not is then entity ∷ [] else [])) }
+    ensures entered { OnOk result (entered.new.items ≡ entered.old.items
+        ++ (if is && not (is_among before.now.items entity) then entity ∷ [] else [])) }
 {
     let was = before.contains(entity);
     push_if(alloc, was & !is, entity, left)?;
@@ -300,7 +317,8 @@ fn is_among(entities: &[u32], entity: u32) -> bool
     entities.binary_search(&entity).is_ok()
 }
 
-/// Makes the set after some have left it and some have entered it, if it has no room for all of these: else they can be exchanged in it.
+/// Makes the set after some have left it and some have entered it, if it has no room for all of these: else they can be
+/// exchanged in it.
 ///
 /// Fails where memory is refused.
 fn fill_set<A: Allocator + Copy>(
@@ -333,9 +351,12 @@ fn rows_by_all<A: Allocator + Copy>(
     rows: &mut RowsAfter<A>,
 ) -> Result<(), AllocError>
     requires current { IsCurrentIn world.now.state (query.now.plan).query }
-    ensures left { OnOk result (rows.new.left.items ≡ missing_from query.now.these.items (matching (view_of world.now.state) (query.now.plan).query)) }
-    ensures entered { OnOk result (rows.new.entered.items ≡ missing_from (matching (view_of world.now.state) (query.now.plan).query) query.now.these.items) }
-    ensures these { OnOk result ((kept_rows rows.new query.now.these).items ≡ matching (view_of world.now.state) (query.now.plan).query) }
+    ensures left { OnOk result (rows.new.left.items ≡ missing_from query.now.these.items
+        (matching (view_of world.now.state) (query.now.plan).query)) }
+    ensures entered { OnOk result (rows.new.entered.items ≡ missing_from
+        (matching (view_of world.now.state) (query.now.plan).query) query.now.these.items) }
+    ensures these { OnOk result ((kept_rows rows.new query.now.these).items
+        ≡ matching (view_of world.now.state) (query.now.plan).query) }
     ensures counted { compared.new ≡ min (compared.old + 1) 18446744073709551615 }
     ensures grows { compared.old ≤ compared.new }
 {

@@ -5,7 +5,8 @@ ghost use Rattle.std.specs.String.{string_bytes};
 ghost use Rattle.ecs_print.specs.Stops.{StopsWithin};
 ghost use Rattle.watch_stored.specs.Moves.{AreNoMoves};
 ghost use Rattle.watch_stored.specs.Parts.{IsPut, held_as, put_in};
-ghost use Rattle.watch_stored.specs.Held.{IsHeld, WasNow, is_compared, is_monitor, is_searched, is_taken_whole, is_told_locally, rows_put, told_to};
+ghost use Rattle.watch_stored.specs.Held.{IsHeld, WasNow, is_compared, is_monitor, is_searched, is_taken_whole};
+ghost use Rattle.watch_stored.specs.Held.{is_told_locally, rows_put, told_to};
 ghost use Rattle.watch_stored.specs.Telling.{AreTouchedBy};
 ghost use Rattle.watch_concerns.specs.Since.{IsAfter};
 
@@ -17,8 +18,8 @@ use query_local::{Touched, local_told};
 use std::alloc::{AllocError, Allocator};
 use watch_events::{Audience, Event, Moves, may_tell, tell, tell_moves};
 
-/// Puts what the stored query at a place is told behind other events, and behind those of others the moves of its rows, unless they stay. Counts the
-/// whole rows taken.
+/// Puts what the stored query at a place is told behind other events, and behind those of others the moves of its rows,
+/// unless they stay. Counts the whole rows taken.
 ///
 /// Fails where memory is refused, and then the first of these events may stand behind the others.
 pub fn tell_one<A: Allocator + Copy>(
@@ -37,13 +38,17 @@ pub fn tell_one<A: Allocator + Copy>(
     requires after { IsAfter world.now.state changes.now }
     requires held { IsHeld world.now.state (held_as (string_bytes name.now) query.now) }
     requires was { WasNow world.now.state changes.now (held_as (string_bytes name.now) query.now) }
-    requires touched { is_told_locally (held_as (string_bytes name.now) query.now) ≡ true → AreTouchedBy world.now.state changes.now touched.now }
-    ensures rows { OnOk result (IsPut (rows_put world.now.state changes.now (held_as (string_bytes name.now) query.now)) place query.now rows.old.items
+    requires touched { is_told_locally (held_as (string_bytes name.now) query.now) ≡ true
+        → AreTouchedBy world.now.state changes.now touched.now }
+    ensures rows { OnOk result (IsPut (rows_put world.now.state changes.now (held_as (string_bytes name.now) query.now))
+        place query.now rows.old.items
         rows.new.items) }
-    ensures told { OnOk result (events.new.items ≡ events.old.items ++ told_to world.now.state changes.now (held_as (string_bytes name.now) query.now)) }
+    ensures told { OnOk result (events.new.items ≡ events.old.items
+        ++ told_to world.now.state changes.now (held_as (string_bytes name.now) query.now)) }
     ensures front { OnErr result (StopsWithin events.old.items events.new.items
         (told_to world.now.state changes.now (held_as (string_bytes name.now) query.now))) }
-    ensures compared { is_searched changes.now (held_as (string_bytes name.now) query.now) ≡ false → compared.new ≡ compared.old }
+    ensures compared { is_searched changes.now (held_as (string_bytes name.now) query.now) ≡ false
+        → compared.new ≡ compared.old }
     ensures counted { is_taken_whole changes.now (held_as (string_bytes name.now) query.now) ≡ true
         → OnOk result (compared.new ≡ min (compared.old + 1) 18446744073709551615) }
     ensures grows { compared.old ≤ compared.new }
@@ -73,7 +78,8 @@ pub fn tell_one<A: Allocator + Copy>(
     Ok(())
 }
 
-/// Puts what a stored query is told behind other events, if it isn't a monitor whose query isn't local. Most observers are told nothing, which is asked first.
+/// Puts what a stored query is told behind other events, if it isn't a monitor whose query isn't local. Most observers
+/// are told nothing, which is asked first.
 ///
 /// Fails where memory is refused, and then the first of these events may stand behind the others.
 fn tell_uncompared<A: Allocator + Copy>(
@@ -87,8 +93,10 @@ fn tell_uncompared<A: Allocator + Copy>(
 ) -> Result<(), AllocError>
     requires after { IsAfter world.now.state changes.now }
     requires uncompared { is_compared (held_as (string_bytes name.now) query.now) ≡ false }
-    requires touched { is_told_locally (held_as (string_bytes name.now) query.now) ≡ true → AreTouchedBy world.now.state changes.now touched.now }
-    ensures told { OnOk result (events.new.items ≡ events.old.items ++ told_to world.now.state changes.now (held_as (string_bytes name.now) query.now)) }
+    requires touched { is_told_locally (held_as (string_bytes name.now) query.now) ≡ true
+        → AreTouchedBy world.now.state changes.now touched.now }
+    ensures told { OnOk result (events.new.items ≡ events.old.items
+        ++ told_to world.now.state changes.now (held_as (string_bytes name.now) query.now)) }
     ensures front { OnErr result (StopsWithin events.old.items events.new.items
         (told_to world.now.state changes.now (held_as (string_bytes name.now) query.now))) }
 {
@@ -101,8 +109,8 @@ fn tell_uncompared<A: Allocator + Copy>(
     tell_observer(alloc, world, changes, name, query, events)
 }
 
-/// Puts what a monitor whose query isn't local is told behind other events, and answers whether the moves of its rows are put in the place of none: the command
-/// concerns its query. Counts the whole rows taken.
+/// Puts what a monitor whose query isn't local is told behind other events, and answers whether the moves of its rows
+/// are put in the place of none: the command concerns its query. Counts the whole rows taken.
 ///
 /// Fails where memory is refused, and then the first of these events may stand behind the others.
 fn tell_compared<A: Allocator + Copy>(
@@ -121,11 +129,14 @@ fn tell_compared<A: Allocator + Copy>(
     requires was { WasNow world.now.state changes.now (held_as (string_bytes name.now) query.now) }
     requires compared { is_compared (held_as (string_bytes name.now) query.now) ≡ true }
     requires none { AreNoMoves rows.old }
-    ensures rows { IfOk result (λ put. put_in put rows.new query.now.these ≡ rows_put world.now.state changes.now (held_as (string_bytes name.now) query.now)) }
-    ensures told { OnOk result (events.new.items ≡ events.old.items ++ told_to world.now.state changes.now (held_as (string_bytes name.now) query.now)) }
+    ensures rows { IfOk result (λ put. put_in put rows.new query.now.these
+        ≡ rows_put world.now.state changes.now (held_as (string_bytes name.now) query.now)) }
+    ensures told { OnOk result (events.new.items ≡ events.old.items
+        ++ told_to world.now.state changes.now (held_as (string_bytes name.now) query.now)) }
     ensures front { OnErr result (StopsWithin events.old.items events.new.items
         (told_to world.now.state changes.now (held_as (string_bytes name.now) query.now))) }
-    ensures compared { is_searched changes.now (held_as (string_bytes name.now) query.now) ≡ false → compared.new ≡ compared.old }
+    ensures compared { is_searched changes.now (held_as (string_bytes name.now) query.now) ≡ false
+        → compared.new ≡ compared.old }
     ensures counted { is_taken_whole changes.now (held_as (string_bytes name.now) query.now) ≡ true
         → OnOk result (compared.new ≡ min (compared.old + 1) 18446744073709551615) }
     ensures grows { compared.old ≤ compared.new }
@@ -154,7 +165,8 @@ fn tell_observer<A: Allocator + Copy>(
 ) -> Result<(), AllocError>
     requires after { IsAfter world.now.state changes.now }
     requires observes { is_monitor query.now.kind ≡ false }
-    ensures told { OnOk result (events.new.items ≡ events.old.items ++ told_to world.now.state changes.now (held_as (string_bytes name.now) query.now)) }
+    ensures told { OnOk result (events.new.items ≡ events.old.items
+        ++ told_to world.now.state changes.now (held_as (string_bytes name.now) query.now)) }
     ensures front { OnErr result (StopsWithin events.old.items events.new.items
         (told_to world.now.state changes.now (held_as (string_bytes name.now) query.now))) }
 {
@@ -179,7 +191,8 @@ fn tell_locally<A: Allocator + Copy>(
     requires after { IsAfter world.now.state changes.now }
     requires local { is_told_locally (held_as (string_bytes name.now) query.now) ≡ true }
     requires touched { AreTouchedBy world.now.state changes.now touched.now }
-    ensures told { OnOk result (events.new.items ≡ events.old.items ++ told_to world.now.state changes.now (held_as (string_bytes name.now) query.now)) }
+    ensures told { OnOk result (events.new.items ≡ events.old.items
+        ++ told_to world.now.state changes.now (held_as (string_bytes name.now) query.now)) }
     ensures front { OnErr result (StopsWithin events.old.items events.new.items
         (told_to world.now.state changes.now (held_as (string_bytes name.now) query.now))) }
 {

@@ -3,7 +3,8 @@
 ghost use Rattle.std.specs.Prelude.{◌≡◌, ◌+◌, ◌<◌, ◌≤◌, ◌++◌, ◌↔◌, All, IfOk, IsTrue, OnOk, Some, codes, length, take};
 ghost use Rattle.ecs_model.specs.Print.{id_text, index_text};
 ghost use Rattle.ecs_model.specs.World.{WorldState};
-ghost use Rattle.world_query.specs.Lines.{IsAskedOnce, IsEntityText, IsKept, IsLabel, IsLabelOf, IsTextAt, binding_start, field_end, text_of};
+ghost use Rattle.world_query.specs.Lines.{IsAskedOnce, IsEntityText, IsKept, IsLabel, IsLabelOf, IsTextAt};
+ghost use Rattle.world_query.specs.Lines.{binding_start, field_end, text_of};
 
 use crate::sheet::{make_room, put_at};
 use ecs_id::Id;
@@ -19,8 +20,8 @@ pub(crate) struct PaddedText<B: Allocator> {
     pub(crate) count: usize,
 }
 
-/// An entity by its index, with its text: the first `alone` bytes. With the bracket that closes a field it is the first `closed`, and with the
-/// end of the line behind that the first `ended`. Of nobody yet, it has no bytes.
+/// An entity by its index, with its text: the first `alone` bytes. With the bracket that closes a field it is the first
+/// `closed`, and with the end of the line behind that the first `ended`. Of nobody yet, it has no bytes.
 #[derive(Drop)]
 pub(crate) struct EntityText<B: Allocator> {
     pub(crate) index: u64,
@@ -33,7 +34,8 @@ pub(crate) struct EntityText<B: Allocator> {
 /// In place of an index: above that of any entity, so one comparison tells whose a text is.
 const NOBODY: u64 = 1 << 32;
 
-/// An id with what all fields of it share: how they begin, ` [ID@`, and the fields of its values. Of no id yet, it has neither.
+/// An id with what all fields of it share: how they begin, ` [ID@`, and the fields of its values. Of no id yet, it has
+/// neither.
 #[derive(Drop)]
 pub(crate) struct Label<'w, A: Allocator, B: Allocator> {
     pub(crate) id: Option<Id>,
@@ -99,7 +101,8 @@ impl<B: Allocator> EntityText<B> {
         self.index == u64::from(index)
     }
 
-    /// Becomes the text of an entity: its name or handle, and nothing where none lives. A name for which there is room is copied at once.
+    /// Becomes the text of an entity: its name or handle, and nothing where none lives. A name for which there is room
+    /// is copied at once.
     #[inline(always)]
     fn change_to<A: Allocator>(&mut self, world: &World<A>, index: u32) -> Result<(), AllocError>
         requires { 0 < length ((self.old).bytes).items → 32 ≤ length ((self.old).bytes).items }
@@ -139,7 +142,8 @@ impl<B: Allocator> EntityText<B> {
     #[inline(always)]
     pub(crate) fn closing<A: Allocator>(&self, world: &World<A>, is_last: bool) -> usize
         requires { IsEntityText world.now.state self.now }
-        ensures { take result ((self.now).bytes).items ≡ index_text world.now.state (self.now).index ++ field_end is_last }
+        ensures { take result ((self.now).bytes).items ≡ index_text world.now.state (self.now).index
+            ++ field_end is_last }
     {
         if is_last { self.ended } else { self.closed }
     }
@@ -208,7 +212,8 @@ impl<'w, A: Allocator, B: Allocator> Label<'w, A, B> {
     }
 }
 
-/// The place where an entity's text stands: this place of a row, or one before it. Where none of them has it, it is looked up into this one.
+/// The place where an entity's text stands: this place of a row, or one before it. Where none of them has it, it is
+/// looked up into this one.
 #[inline(always)]
 pub(crate) fn place_of_text<A: Allocator, B: Allocator>(
     world: &World<A>,
@@ -234,7 +239,8 @@ pub(crate) fn place_of_text<A: Allocator, B: Allocator>(
     Ok(place)
 }
 
-/// The same at the place of a field: most fields are of the entity that a row shows first, so the first place is asked before the others.
+/// The same at the place of a field: most fields are of the entity that a row shows first, so the first place is asked
+/// before the others.
 #[inline(always)]
 pub(crate) fn place_of_source<A: Allocator, B: Allocator>(
     world: &World<A>,

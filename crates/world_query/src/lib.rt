@@ -1,7 +1,7 @@
 //! Queries of a world: from a text to the rows that it asks for, as they print.
 //!
-//! A query is read, planned by how many tables each of its items would be found through, and run; its answers are sorted, and for each of
-//! them the fields are gone through and printed.
+//! A query is read, planned by how many tables each of its items would be found through, and run; its answers are
+//! sorted, and for each of them the fields are gone through and printed.
 #![tactic(auto)]
 
 mod answering;

@@ -7,7 +7,8 @@ ghost use Rattle.ecs_model.specs.Print.{field_text, index_text, value_text};
 ghost use Rattle.ecs_model.specs.rows.View.{view_of};
 ghost use Rattle.ecs_print.specs.Stops.{StopsWithin};
 ghost use Rattle.plan_fields.specs.Fields.{shown_field};
-ghost use Rattle.world_query.specs.Lines.{AreTexts, IsEntityText, IsKept, IsLabel, IsLabelOf, field_end, label_text, line_end, line_headed, row_alone, started};
+ghost use Rattle.world_query.specs.Lines.{AreTexts, IsEntityText, IsKept, IsLabel, IsLabelOf, field_end, label_text};
+ghost use Rattle.world_query.specs.Lines.{line_end, line_headed, row_alone, started};
 ghost use Rattle.world_query.specs.Lines.{starts_in, text_of};
 
 use crate::labels::{EntityText, Label, PaddedText, place_of_source, place_of_text};
@@ -19,19 +20,19 @@ use ecs_world::World;
 use plan_fields::{Fields, ShownFact};
 use std::alloc::{AllocError, Allocator};
 
-/// What is kept while the rows of a query are printed: the text of an entity for each place of a row, which are its columns, one for each visible
-/// variable, and behind them its fields; and a label for each field.
+/// What is kept while the rows of a query are printed: the text of an entity for each place of a row, which are its
+/// columns, one for each visible variable, and behind them its fields; and a label for each field.
 ///
-/// A place shows the text of its own, or one that stands before it. Only its own is changed for it, so none that a row has shown is lost before
-/// the row ends, and each entity of a row is looked up at most once.
+/// A place shows the text of its own, or one that stands before it. Only its own is changed for it, so none that a row
+/// has shown is lost before the row ends, and each entity of a row is looked up at most once.
 #[derive(Drop)]
 pub(crate) struct Texts<'w, A: Allocator, B: Allocator> {
     pub(crate) entities: Vec<EntityText<B>, B>,
     pub(crate) labels: Vec<Label<'w, A, B>, B>,
 }
 
-/// Writes the line of a row: `row`, a binding for each visible variable, and its fields. Each binding has its start, ` $v=`, and that of the first
-/// one begins with `row`.
+/// Writes the line of a row: `row`, a binding for each visible variable, and its fields. Each binding has its start,
+/// ` $v=`, and that of the first one begins with `row`.
 pub(crate) fn write_row<'w, A: Allocator, B: Allocator>(
     world: &'w World<A>,
     starts: &[PaddedText<B>],
@@ -154,7 +155,8 @@ fn write_binding<A: Allocator, B: Allocator>(
     )
 }
 
-/// Writes a field: ` [ID@E=v,v]`, ` [ID@E]` without a value, and ` [-]` where it is unset. Behind the last one it ends the line.
+/// Writes a field: ` [ID@E=v,v]`, ` [ID@E]` without a value, and ` [-]` where it is unset. Behind the last one it ends
+/// the line.
 fn write_field<'w, A: Allocator, B: Allocator>(
     world: &'w World<A>,
     shown: Option<ShownFact>,

@@ -1,6 +1,7 @@
 //! The fields of a row, with their values.
 
-ghost use Rattle.std.specs.Prelude.{◌≡◌, ◌≤◌, ◌+◌, ◌*◌, Some, IfSome, length, option_map, slice_get, if◌then◌else◌, None};
+ghost use Rattle.std.specs.Prelude.{◌≡◌, ◌≤◌, ◌+◌, ◌*◌, Some, IfSome, length, option_map, slice_get, if◌then◌else◌};
+ghost use Rattle.std.specs.Prelude.{None};
 ghost use Rattle.ecs_model.specs.Bytes.{size_of};
 ghost use Rattle.ecs_model.specs.World.{WorldState, type_of_id};
 ghost use Rattle.ecs_model.specs.rows.View.{view_of};
@@ -19,7 +20,8 @@ use query_chunks::Column;
 use std::alloc::Allocator;
 use std::marker::Model;
 
-/// A field of a row that is set: the entity that has the fact, the fact's id, and its value, if the term shows it and the id has fields.
+/// A field of a row that is set: the entity that has the fact, the fact's id, and its value, if the term shows it and
+/// the id has fields.
 #[derive(Drop)]
 pub struct Field<'w, W: Allocator> {
     pub source: u32,
@@ -134,7 +136,8 @@ fn shown_value<'w, W: Allocator>(
     id: Id,
     shows_value: bool,
 ) -> Option<FactValue<'w, W>>
-    ensures numbers { option_map numbers_of result ≡ (if shows_value then (view_of world.now.state).value source id else None) }
+    ensures numbers { option_map numbers_of result ≡ (if shows_value then
+        (view_of world.now.state).value source id else None) }
     ensures schema { IfSome result (λ v. type_of_id world.now.state id ≡ Some v.schema) }
 {
     if !shows_value {

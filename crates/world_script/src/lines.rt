@@ -23,7 +23,8 @@ pub struct Summary {
     pub refused: usize,
 }
 
-/// Runs a line under the next number, adds what it prints to the output, and counts it. What stands in `values` is lost.
+/// Runs a line under the next number, adds what it prints to the output, and counts it. What stands in `values` is
+/// lost.
 pub(crate) fn run_next<A: Allocator + Copy, W: Sink>(
     alloc: A,
     session: &mut Session<A>,
@@ -38,7 +39,8 @@ pub(crate) fn run_next<A: Allocator + Copy, W: Sink>(
     requires room { summary.old.lines ≤ most_bytes }
     requires few { summary.old.refused ≤ summary.old.lines }
     ensures ran { OnOk result ((sent : List ℕ) × Appends (W.contents writer.old) (W.contents writer.new) sent
-        × RunsLine (line_effect (session_of session.old) (summary.old.lines + 1) line.now) (session_of session.new) output.old.items
+        × RunsLine (line_effect (session_of session.old) (summary.old.lines + 1) line.now)
+        (session_of session.new) output.old.items
         (sent ++ output.new.items) summary.old summary.new) }
     ensures none_wait { OnOk result (session.new.waiting ≡ None) }
     ensures stops { OnErr result (TakesFront (W.contents writer.old) (W.contents writer.new)

@@ -1,5 +1,6 @@
 //! Running the lines of a script as they come.
-ghost use Rattle.std.specs.Prelude.{◌≡◌, ◌+◌, ◌≤◌, ◌⊎◌, List, None, Option, ℕ, [], Err, IfErr, IfOk, OnErr, OnOk, length};
+ghost use Rattle.std.specs.Prelude.{◌≡◌, ◌+◌, ◌≤◌, ◌⊎◌, List, None, Option, ℕ, [], Err, IfErr, IfOk, OnErr, OnOk};
+ghost use Rattle.std.specs.Prelude.{length};
 ghost use Rattle.std.specs.Io.KnownBytes.{Appends, IsAtEnd};
 ghost use Rattle.ecs_model.specs.stored.Session.{first_session};
 ghost use Rattle.ecs_observe.specs.Standing.{session_of};
@@ -7,7 +8,8 @@ ghost use Rattle.script_streams.specs.Lines.{most_bytes};
 ghost use Rattle.script_streams.specs.Streams.{TakesFront};
 ghost use Rattle.world_query.specs.Sent.{FailsAtWrite};
 ghost use Rattle.world_script.specs.Running.{HasEnded, IsRunning};
-ghost use Rattle.world_script.specs.Whole.{FaultyAt, FitsScript, IsCount, IsOutput, WroteFront, WroteFull, WroteToEnd, WroteWhole};
+ghost use Rattle.world_script.specs.Whole.{FaultyAt, FitsScript, IsCount, IsOutput, WroteFront, WroteFull, WroteToEnd};
+ghost use Rattle.world_script.specs.Whole.{WroteWhole};
 
 use crate::errors::RunError;
 use crate::lines::{Summary, run_next};
@@ -63,22 +65,29 @@ impl<A: Allocator + Copy> Runner<A> {
         writer: &mut W,
     ) -> Result<(), RunError>
         requires none_wait { self.old.session.waiting ≡ None }
-        requires running { IsRunning (R.remaining reader.old) (R.remaining reader.old) (W.contents writer.old) (W.contents writer.old)
+        requires running { IsRunning (R.remaining reader.old) (R.remaining reader.old) (W.contents writer.old)
+            (W.contents writer.old)
             self.old.lines (session_of self.old.session) self.old.summary self.old.output.items }
-        ensures output { OnOk result (IsOutput (R.remaining reader.old) (W.contents writer.old) (W.contents writer.new)) }
+        ensures output { OnOk result (IsOutput (R.remaining reader.old) (W.contents writer.old)
+            (W.contents writer.new)) }
         ensures count { OnOk result (IsCount (R.remaining reader.old) self.new.summary) }
         ensures fits { OnOk result (FitsScript (R.remaining reader.old)) }
         ensures read_whole { OnOk result (IsAtEnd (R.remaining reader.new)) }
 
         ensures read { result ≡ Err RunError.Read
-            → WroteWhole (R.remaining reader.old) (R.remaining reader.new) (W.contents writer.old) (W.contents writer.new) }
+            → WroteWhole (R.remaining reader.old) (R.remaining reader.new) (W.contents writer.old)
+            (W.contents writer.new) }
         ensures too_long { result ≡ Err RunError.TooLong
-            → WroteFull (R.remaining reader.old) (R.remaining reader.new) (W.contents writer.old) (W.contents writer.new) }
+            → WroteFull (R.remaining reader.old) (R.remaining reader.new) (W.contents writer.old)
+            (W.contents writer.new) }
         ensures memory { result ≡ Err RunError.Memory
-            → WroteFront (R.remaining reader.old) (R.remaining reader.new) (W.contents writer.old) (W.contents writer.new) }
+            → WroteFront (R.remaining reader.old) (R.remaining reader.new) (W.contents writer.old)
+            (W.contents writer.new) }
         ensures write { result ≡ Err RunError.Write
-            → WroteFront (R.remaining reader.old) (R.remaining reader.new) (W.contents writer.old) (W.contents writer.new)
-            ⊎ WroteToEnd (R.remaining reader.old) (R.remaining reader.new) (W.contents writer.old) (W.contents writer.new) }
+            → WroteFront (R.remaining reader.old) (R.remaining reader.new) (W.contents writer.old)
+            (W.contents writer.new)
+            ⊎ WroteToEnd (R.remaining reader.old) (R.remaining reader.new) (W.contents writer.old)
+            (W.contents writer.new) }
 
         ensures reads { FaultyAt RunError.Read (R.calls reader.old) result (R.calls reader.new) }
         ensures writes { FaultyAt RunError.Write (W.calls writer.old) result (W.calls writer.new) }
@@ -98,7 +107,8 @@ impl<A: Allocator + Copy> Runner<A> {
         requires room { self.old.summary.lines + length self.old.lines.unread ≤ most_bytes }
         requires few { self.old.summary.refused ≤ self.old.summary.lines }
         ensures ran { (told left old : Option (List ℕ))
-            → IsRunning told left old (W.contents writer.old) self.old.lines (session_of self.old.session) self.old.summary self.old.output.items
+            → IsRunning told left old (W.contents writer.old) self.old.lines
+            (session_of self.old.session) self.old.summary self.old.output.items
             → OnOk result (IsRunning told left old (W.contents writer.new)
             self.new.lines (session_of self.new.session) self.new.summary self.new.output.items) }
         ensures none_wait { OnOk result (self.new.session.waiting ≡ None) }
@@ -107,7 +117,8 @@ impl<A: Allocator + Copy> Runner<A> {
         ensures read { self.new.lines.read ≡ self.old.lines.read }
         ensures fault { IfErr result (λ error. (error ≡ RunError.Memory) ⊎ (error ≡ RunError.Write)) }
         ensures front { (told left old : Option (List ℕ))
-            → IsRunning told left old (W.contents writer.old) self.old.lines (session_of self.old.session) self.old.summary self.old.output.items
+            → IsRunning told left old (W.contents writer.old) self.old.lines
+            (session_of self.old.session) self.old.summary self.old.output.items
             → OnErr result (WroteFront told left old (W.contents writer.new)) }
         ensures writes { FaultyAt RunError.Write (W.calls writer.old) result (W.calls writer.new) }
     {
@@ -129,14 +140,16 @@ impl<A: Allocator + Copy> Runner<A> {
         write_out(&mut self.output, writer)
     }
 
-    /// Runs the line behind the last line feed, if it isn't empty. None of its output is written: where memory is refused, it is no line yet.
+    /// Runs the line behind the last line feed, if it isn't empty. None of its output is written: where memory is
+    /// refused, it is no line yet.
     fn run_last<W: Sink>(&mut self, alloc: A, writer: &mut W) -> Result<(), SendError>
         requires none_wait { self.old.session.waiting ≡ None }
         requires room { self.old.summary.lines ≤ most_bytes }
         requires few { self.old.summary.refused ≤ self.old.summary.lines }
         requires taken { self.old.lines.unread ≡ [] }
         ensures ended { (told left old : Option (List ℕ))
-            → IsRunning told left old (W.contents writer.old) self.old.lines (session_of self.old.session) self.old.summary self.old.output.items
+            → IsRunning told left old (W.contents writer.old) self.old.lines
+            (session_of self.old.session) self.old.summary self.old.output.items
             → OnOk result (HasEnded told left old (W.contents writer.new) self.new.summary self.new.output.items) }
         ensures kept { writer.new ≡ writer.old }
         ensures writes { FailsAtWrite (W.calls writer.old) result (W.calls writer.new) }

@@ -1,7 +1,8 @@
 //! A script from its bytes to the bytes of its output.
 ghost use Rattle.std.specs.Prelude.{◌≡◌, ◌⊎◌, IfOk, OnOk, Err};
 ghost use Rattle.std.specs.Io.KnownBytes.{IsAtEnd};
-ghost use Rattle.world_script.specs.Whole.{FaultyAt, FitsScript, IsCount, IsOutput, WroteFront, WroteFull, WroteToEnd, WroteWhole};
+ghost use Rattle.world_script.specs.Whole.{FaultyAt, FitsScript, IsCount, IsOutput, WroteFront, WroteFull, WroteToEnd};
+ghost use Rattle.world_script.specs.Whole.{WroteWhole};
 
 use crate::errors::RunError;
 use crate::lines::Summary;
@@ -11,13 +12,15 @@ use std::alloc::Allocator;
 use std::hash::RandomState;
 use std::mem::forget;
 
-/// Runs the lines of a script in a new session, each when its end was read, and writes what they print before it reads on.
+/// Runs the lines of a script in a new session, each when its end was read, and writes what they print before it reads
+/// on.
 ///
 /// Names are hashed with these random keys, so that no script can choose names that make it slow.
 ///
-/// A read or a write that is interrupted is tried again, up to 64 times in a row. Fails where a read or a write fails otherwise or a
-/// write takes no byte, where the script has more than 16,777,216 bytes, and where memory is refused. What was written then is a front of
-/// the output of the lines whose ends were read, and all of it where a read failed or the script is too long.
+/// A read or a write that is interrupted is tried again, up to 64 times in a row. Fails where a read or a write fails
+/// otherwise or a write takes no byte, where the script has more than 16,777,216 bytes, and where memory is refused.
+/// What was written then is a front of the output of the lines whose ends were read, and all of it where a read failed
+/// or the script is too long.
 pub fn run<A: Allocator + Copy, R: Source, W: Sink>(
     alloc: A,
     random: RandomState,

@@ -83,7 +83,8 @@ pub(crate) fn tell_answer<A: Allocator + Copy>(
     answer: Result<Option<EntityId>, SessionError>,
     output: &mut Vec<u8, A>,
 ) -> Result<bool, AllocError>
-    ensures { IfOk result (TellsAnswer answer number (session_of session.old) (session_of session.new) output.old.items output.new.items) }
+    ensures { IfOk result (TellsAnswer answer number (session_of session.old)
+        (session_of session.new) output.old.items output.new.items) }
 {
     if let Err(error) = answer {
         return tell_error(number, error, output);
@@ -92,14 +93,16 @@ pub(crate) fn tell_answer<A: Allocator + Copy>(
     Ok(false)
 }
 
-/// Tells what a session answered to `new`: the entity that it made, and then the events that wait. After that none wait.
+/// Tells what a session answered to `new`: the entity that it made, and then the events that wait. After that none
+/// wait.
 pub(crate) fn tell_born<A: Allocator + Copy>(
     session: &mut Session<A>,
     number: usize,
     answer: Result<Option<EntityId>, SessionError>,
     output: &mut Vec<u8, A>,
 ) -> Result<bool, AllocError>
-    ensures { IfOk result (TellsBorn answer number (session_of session.old) (session_of session.new) output.old.items output.new.items) }
+    ensures { IfOk result (TellsBorn answer number (session_of session.old)
+        (session_of session.new) output.old.items output.new.items) }
 {
     let born = match answer {
         Ok(born) => born,
@@ -133,7 +136,8 @@ fn tell_events<A: Allocator + Copy>(
     session: &mut Session<A>,
     output: &mut Vec<u8, A>,
 ) -> Result<(), AllocError>
-    ensures printed { OnOk result (output.new.items ≡ output.old.items ++ flat_map event_text (events (session_of session.old))) }
+    ensures printed { OnOk result (output.new.items ≡ output.old.items
+        ++ flat_map event_text (events (session_of session.old))) }
     ensures after { OnOk result (session_of session.new ≡ after_events (session_of session.old)) }
 {
     if !session.has_events() {
