@@ -20,7 +20,7 @@ UNPROVED = os.path.join(TOP, "out", "try", "flecsq")
 MAN_PAGE = os.path.join(TOP, "docs", "flecsq.1")
 
 # what the proofs and the program were last proved and built with, as `rt version` tells it
-KIT = "rattle-kit-13f logic dac8208d650f15bf"
+KIT = "rattle-kit-13b logic dac8208d650f15bf"
 
 # a proof of one crate takes up to so many GB of memory
 GIGABYTES = 4
