@@ -1,7 +1,7 @@
 //! Runs of whole rows, a row a pull, which are given up at any time.
 
 ghost use Rattle.std.specs.Prelude.{◌≡◌, ◌≤◌};
-ghost use Rattle.plan_steps.specs.Actions.{instructions_of};
+ghost use Rattle.plan_steps.specs.Instructions.{instructions_of};
 ghost use Rattle.plan_fields.specs.Fields.{field_items};
 ghost use Rattle.plan_steps.specs.Tables.{by_tables};
 ghost use Rattle.whole_rows.specs.WholeRows.{Fits};

@@ -4,7 +4,7 @@ use Rattle.ecs_id.specs.Id.{plain}
 use Rattle.ecs_model.specs.BuiltIns.{traversable}
 use Rattle.ecs_model.specs.World.{WorldState, holds, ids_of}
 use Rattle.ecs_model.specs.steps.WellFormed.{IsWellFormed}
-use Rattle.plan_steps.specs.Actions.{instructions_of}
+use Rattle.plan_steps.specs.Instructions.{instructions_of}
 use Rattle.plan_steps.specs.Made.{IsStepAcyclic}
 use Rattle.query_meaning.specs.Names.{entry_rises}
 use Rattle.query_meaning.specs.Variables.{entries}

@@ -3,7 +3,7 @@ use Rattle.std.proofs.Common.{◌≡◌, ◌≤◌, ◌*◌, List, ap, arith, le
 use Rattle.std.specs.Prelude.{slice_index}
 use Rattle.ecs_model.specs.rows.View.{view_of}
 use Rattle.ecs_world.specs.Standing.{Standing}
-use Rattle.plan_steps.specs.Actions.{instructions_of}
+use Rattle.plan_steps.specs.Instructions.{instructions_of}
 use Rattle.plan_exec.specs.Room.{Room}
 use Rattle.plan_steps.specs.TableProbes.{JudgesTables}
 use Rattle.plan_steps.specs.Tables.{by_tables}
