@@ -8,7 +8,7 @@ ghost use Rattle.component_index.specs.Mentions.{MayBeListed};
 use crate::lists::Lists;
 use crate::mentions::{Marks, may_match};
 use crate::pattern::Pattern;
-use listed_key::ListedKey;
+use ecs_id::ListedKey;
 use std::alloc::Allocator;
 use std::marker::Model;
 

@@ -10,9 +10,8 @@ ghost use Rattle.component_index.specs.Listed.{is_among, is_new, patterns_of, Ad
 use crate::pattern::{Part, Pattern};
 use crate::places::Places;
 use crate::table_list::TableList;
-use ecs_id::{Id, TableKey};
+use ecs_id::{Id, ListedKey, TableKey};
 use indexmap::IndexMap;
-use listed_key::ListedKey;
 use secret_hashing::Hashing;
 use std::alloc::{AllocError, Allocator};
 

@@ -7,8 +7,7 @@ ghost use Rattle.component_index.specs.TableList.{IsNewOrLast, IsPlace, Loses, i
 ghost use Rattle.component_index.specs.Tables.{keys_of};
 
 use crate::places::Places;
-use ecs_id::TableKey;
-use listed_key::ListedKey;
+use ecs_id::{ListedKey, TableKey};
 use std::alloc::{AllocError, Allocator, Global};
 use std::marker::Model;
 

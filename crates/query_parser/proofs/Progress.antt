@@ -7,8 +7,8 @@ use Rattle.query_model.specs.declared.Span.{Span}
 use Rattle.query_model.specs.Machine as machine
 use Rattle.query_model.specs.Machine.{before_part, before_parts, behind, run, step, parts_of}
 use Rattle.query_model.specs.Syntax.{Part}
-use Rattle.query_lexer.specs.declared.Token as code_token
-use Rattle.query_lexer.specs.Token.{seen, text_length}
+use Rattle.query_parser.specs.declared.lexer.Token as code_token
+use Rattle.query_parser.specs.Token.{seen, text_length}
 use Rattle.query_model.specs.declared.syntax.Part as code_part
 use Rattle.query_parser.specs.declared.machine.State as code_state
 use Rattle.query_parser.specs.declared.machine.Move as code_move

@@ -1,20 +1,21 @@
-//! The syntax of query text.
+//! The tokens of query text, and its syntax.
 #![tactic(auto)]
 
+mod lexer;
 mod machine;
 
 ghost use Rattle.std.specs.Prelude.{◌≡◌, ◌+◌, ◌<◌, ◌^◌, [], ◌∷◌, ◌++◌, map, IfOk};
 ghost use Rattle.query_model.specs.Grammar.{IsQuery, IsSyntaxFault};
 ghost use Rattle.query_model.specs.Laws.{EndsInEnd};
 ghost use Rattle.query_model.specs.Machine.{parts_of};
-ghost use Rattle.query_lexer.specs.Lexed.{Answers, AnswersBy};
-ghost use Rattle.query_lexer.specs.Token.{seen, text_length};
+ghost use Rattle.query_parser.specs.Lexed.{Answers, AnswersBy};
+ghost use Rattle.query_parser.specs.Token.{seen, text_length};
 ghost use Rattle.query_model.specs.Seen.{seen_part};
 ghost use Rattle.query_model.specs.Syntax.{closed};
 ghost use Rattle.query_parser.specs.Steps.{completed, nested, seen_part_of};
 
 use crate::machine::{Completed, Draft, Move, Nesting, State, blank, step};
-use query_lexer::Token;
+pub use lexer::{Token, TokenKind, lex};
 use query_model::Span;
 use query_model::faults::{Fault, FaultKind, QueryFault};
 use query_model::syntax::{Part, Role, Syntax};

@@ -5,12 +5,12 @@ ghost use Rattle.query_model.specs.Text.{is_reserved};
 ghost use Rattle.query_model.specs.Grammar.{is_access};
 ghost use Rattle.query_model.specs.Machine as machine;
 ghost use Rattle.query_model.specs.Syntax as syntax;
-ghost use Rattle.query_lexer.specs.Token.{seen};
+ghost use Rattle.query_parser.specs.Token.{seen};
 ghost use Rattle.query_model.specs.Seen.{seen_reference, seen_rise_word, seen_term};
 ghost use Rattle.query_parser.specs.declared.machine.Draft as item;
 ghost use Rattle.query_parser.specs.Steps.{seen_state, seen_step, plain_up_step, put_first, rise_step};
 
-use query_lexer::{Token, TokenKind};
+use crate::{Token, TokenKind};
 use query_model::syntax::{Flags, Reference, Rise, RiseWord, Role, Spoken, TermSyntax};
 use query_model::{Mark, Span};
 

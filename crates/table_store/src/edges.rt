@@ -5,9 +5,8 @@ ghost use Rattle.ecs_id.specs.Id.{Id, id_eq};
 ghost use Rattle.ecs_id.specs.declared.TableKey.{TableKey};
 ghost use Rattle.table_store.specs.Kept.{HasNoEdge, IsEdgePut, IsWritten, edge_in, edge_of, one_of_several};
 
-use ecs_id::{Id, TableKey};
+use ecs_id::{Id, ListedKey, TableKey};
 use indexmap::IndexMap;
-use listed_key::ListedKey;
 use secret_hashing::Hashing;
 use std::alloc::{AllocError, Allocator, Global};
 use std::mem;

@@ -4,8 +4,7 @@ ghost use Rattle.std.specs.List.{filter};
 ghost use Rattle.table_store.specs.Kept.{is_held};
 
 use crate::store::{Slots, stands};
-use ecs_id::TableKey;
-use listed_key::ListedKey;
+use ecs_id::{ListedKey, TableKey};
 use std::alloc::{Allocator, Global};
 use std::marker::Model;
 

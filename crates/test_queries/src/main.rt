@@ -34,9 +34,8 @@ mod worked;
 mod worlds;
 
 use query_check::{Query, check};
-use query_lexer::lex;
 use query_model::faults::QueryFault;
-use query_parser::parse;
+use query_parser::{lex, parse};
 use sky::Sky;
 use std::alloc::Global;
 use std::{env, io};

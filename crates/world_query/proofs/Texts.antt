@@ -10,7 +10,7 @@ use Rattle.query_model.specs.Query.{Query, check_of, checked, parts_read}
 use Rattle.query_model.specs.Query as asked
 use Rattle.query_model.specs.Syntax.{Part}
 use Rattle.query_model.specs.Tokens.{Token, tokens_of}
-use Rattle.query_lexer.specs.Lexed.{Answers}
+use Rattle.query_parser.specs.Lexed.{Answers}
 use Rattle.query_check.specs.Seen.{AnswersCheck, syntax_of}
 use Rattle.ecs_model.specs.World.{WorldState}
 use Rattle.ecs_model.specs.Query.{known_of, query_of}

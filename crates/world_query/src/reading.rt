@@ -6,9 +6,8 @@ ghost use Rattle.world_query.specs.Reading.{AnswersAsked};
 use crate::names::Names;
 use ecs_world::World;
 use query_check::{Query, check};
-use query_lexer::lex;
 use query_model::faults::QueryFault;
-use query_parser::parse;
+use query_parser::{lex, parse};
 use std::alloc::Allocator;
 
 /// The query that a text asks in a world.

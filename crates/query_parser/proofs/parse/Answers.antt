@@ -4,8 +4,8 @@ use Rattle.query_model.specs.Faults.{as_fault}
 use Rattle.query_model.specs.Grammar.{IsQuery, IsSyntaxFault}
 use Rattle.query_model.specs.Machine.{parts_of}
 use Rattle.query_model.proofs.SyntaxFaults.{parts_are_grammatical}
-use Rattle.query_lexer.specs.Token.{seen}
-use Rattle.query_lexer.proofs.AnswerMeanings.{answer_is_meant}
+use Rattle.query_parser.specs.Token.{seen}
+use Rattle.query_parser.proofs.AnswerMeanings.{answer_is_meant}
 use Rattle.query_model.specs.declared.syntax.Syntax as declared
 use Rattle.query_model.specs.Seen.{seen_part}
 use Rattle.query_parser.proofs.Progress.{if_both, refused, goes_on, finished, unfinished}

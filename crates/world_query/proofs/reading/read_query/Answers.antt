@@ -1,8 +1,8 @@
 -- Tokens, then parts, then the query; or the fault of the first of these.
 use Rattle.std.proofs.Common.{Vec, map, ap, sym, ◌∙◌, Ok}
 use Rattle.std.proofs.lemmas.Result.{err_from_is_err_and}
-use Rattle.query_lexer.specs.declared.Token.{Token}
-use Rattle.query_lexer.specs.Token.{seen, text_length}
+use Rattle.query_parser.specs.declared.lexer.Token.{Token}
+use Rattle.query_parser.specs.Token.{seen, text_length}
 use Rattle.query_model.specs.declared.syntax.Syntax.{Syntax}
 use Rattle.query_model.specs.Seen.{seen_part}
 use Rattle.world_query.proofs.Texts.{lex_fault, syntax_fault, as_checked}

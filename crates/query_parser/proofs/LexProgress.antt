@@ -17,12 +17,12 @@ use Rattle.query_model.specs.declared.Mark as marks_of
 use Rattle.query_model.specs.Text.{is_letter, is_word_byte, is_name_byte, is_query_blank}
 use Rattle.query_model.specs.Tokens as tokens
 use Rattle.query_model.specs.Tokens.{Sign, Punct, token, span_of, spelled, spelling, marks, mark_at, variable_at, sign_at, token_then, tokens_then, tokens_from, tokens_of, before_rest, first_char}
-use Rattle.query_lexer.specs.declared.Token.{Token}
-use Rattle.query_lexer.specs.declared.TokenKind.{TokenKind}
-use Rattle.query_lexer.specs.declared.TokenKind.TheVariants.{Name, Variable, Mark, End}
+use Rattle.query_parser.specs.declared.lexer.Token.{Token}
+use Rattle.query_parser.specs.declared.lexer.TokenKind.{TokenKind}
+use Rattle.query_parser.specs.declared.lexer.TokenKind.TheVariants.{Name, Variable, Mark, End}
 use Rattle.query_model.specs.declared.faults.QueryFault.{QueryFault}
-use Rattle.query_lexer.specs.Lexed.{Answers, token_of, placed, next_of}
-use Rattle.query_lexer.specs.Token.{AreSlicesOf, Ascend, seen, sign_of, text_length}
+use Rattle.query_parser.specs.Lexed.{Answers, token_of, placed, next_of}
+use Rattle.query_parser.specs.Token.{AreSlicesOf, Ascend, seen, sign_of, text_length}
 
 abbrev Read : Type 0
 Read = Result (List tokens.Token) Span

@@ -1,5 +1,4 @@
 //! The tokens of query text.
-#![tactic(auto)]
 
 ghost use Rattle.std.specs.Prelude.{◌≡◌, ◌≢◌, [], ◌∷◌, ◌≤◌, ◌<◌, ◌+◌, All, IfOk, IfSome, MatchOption, None, Some};
 ghost use Rattle.std.specs.Prelude.{drop, length, map, nat_eq, slice_range, take};
@@ -7,8 +6,8 @@ ghost use Rattle.std.specs.List.{find, prefix_len, starts_with};
 ghost use Rattle.query_model.specs.Laws.{EndsInEnd};
 ghost use Rattle.query_model.specs.Text.{is_letter, is_name_byte, is_query_blank, is_word_byte};
 ghost use Rattle.query_model.specs.Tokens.{IsLexFault, IsSpelledBy, Variable, char_len, marks, sign_at, spelled, spelling, tokens_of, variable_at};
-ghost use Rattle.query_lexer.specs.Lexed.{Answers, AnswersBy, next_of};
-ghost use Rattle.query_lexer.specs.Token.{AreSlicesOf, Ascend, seen, sign_of, text_length};
+ghost use Rattle.query_parser.specs.Lexed.{Answers, AnswersBy, next_of};
+ghost use Rattle.query_parser.specs.Token.{AreSlicesOf, Ascend, seen, sign_of, text_length};
 
 use query_model::faults::{Fault, FaultKind, QueryFault};
 use query_model::{Mark, Span, is_name_byte};

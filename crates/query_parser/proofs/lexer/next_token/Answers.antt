@@ -1,8 +1,8 @@
 use Rattle.std.proofs.Common.{◌≡◌, ℕ, ◌+◌, ◌≤◌, length, take, drop, ◌∙◌, sym, ap, arith, length-drop}
 use Rattle.std.proofs.Math.Nat.{add-sub_cancel_left}
-use Rattle.query_lexer.specs.Token.{sign_of}
-use Rattle.query_lexer.proofs.TokenReads.{cut_behind_ascii, empty_from_no_first, next_is_sign, rest_of_bytes}
-use Rattle.query_lexer.proofs.next_token.Goals as goal
+use Rattle.query_parser.specs.Token.{sign_of}
+use Rattle.query_parser.proofs.TokenReads.{cut_behind_ascii, empty_from_no_first, next_is_sign, rest_of_bytes}
+use Rattle.query_parser.proofs.lexer.next_token.Goals as goal
 
 pub range_from-requires : goal.range_from-requires
 range_from-requires c = λ some.

@@ -2,9 +2,9 @@
 use Rattle.std.specs.Prelude.{◌≡◌, ℕ, ◌≤◌, List, [], ◌∷◌, All, AllPairs, drop, slice_range}
 use Rattle.query_model.specs.Tokens as tokens
 use Rattle.query_model.specs.Tokens.{Sign, token, span_of, Punct}
-use Rattle.query_lexer.specs.declared.Token.{Token}
-use Rattle.query_lexer.specs.declared.TokenKind.{TokenKind}
-use Rattle.query_lexer.specs.declared.TokenKind.TheVariants.{Name, Variable, Mark, End}
+use Rattle.query_parser.specs.declared.lexer.Token.{Token}
+use Rattle.query_parser.specs.declared.lexer.TokenKind.{TokenKind}
+use Rattle.query_parser.specs.declared.lexer.TokenKind.TheVariants.{Name, Variable, Mark, End}
 
 -- what a token of a kind is, where a text spells it
 abbrev pub sign_of : TokenKind → List ℕ → Sign

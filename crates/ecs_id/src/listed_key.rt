@@ -6,11 +6,10 @@
 //! };
 //! keys.push(listed)?;
 //! ```
-#![tactic(auto)]
 
 ghost use Rattle.std.specs.Prelude.{◌≡◌, ◌↔◌, ◌<◌, ◌^◌, IfSome, IsSome};
 
-use ecs_id::TableKey;
+use crate::TableKey;
 use std::marker::Model;
 
 /// The key of a table in 12 bytes, as lists hold it, where its serial has no more than 64 bits. A `TableKey` takes 32, since a `u128` lies at a
@@ -35,7 +34,7 @@ const LIMIT: u128 = 1 << 64;
 impl Model for ListedKey {
     ghost use Rattle.std.specs.Prelude.{◌+◌, ◌*◌, ◌/◌, ◌%◌, ◌^◌, ◌<◌};
     ghost use Rattle.ecs_id.specs.declared.TableKey.{TableKey};
-    ghost use Rattle.listed_key.specs.Halves.{high_given_back, low_given_back};
+    ghost use Rattle.ecs_id.specs.Halves.{high_given_back, low_given_back};
 
     ghost Value = { TableKey };
 

@@ -11,7 +11,7 @@ use Rattle.std.proofs.lemmas.List.{take_rest}
 use Rattle.query_model.specs.Text.{is_word_byte, is_name_byte, is_query_blank}
 use Rattle.query_model.specs.Tokens.{Sign, Variable, token, spelled, sign_at, variable_at}
 pub use Rattle.query_model.proofs.TokenSpelling.{letter_is_name_byte}
-use Rattle.query_lexer.specs.Lexed.{token_of, placed, next_of}
+use Rattle.query_parser.specs.Lexed.{token_of, placed, next_of}
 
 -- a byte of a name is ASCII
 pub name_byte_is_ascii : (b : ℕ) → is_name_byte b ≡ true → b < 128

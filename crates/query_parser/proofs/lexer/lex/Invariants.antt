@@ -1,6 +1,6 @@
 use Rattle.std.proofs.Common.{◌-◌, length}
-use Rattle.query_lexer.proofs.Progress.{HasRead}
-use Rattle.query_lexer.proofs.lex.Given as goal
+use Rattle.query_parser.proofs.LexProgress.{HasRead}
+use Rattle.query_parser.proofs.lexer.lex.Given as goal
 
 abbrev pub invariant-loop-tokens : goal.invariant-loop-tokens
 invariant-loop-tokens g l = HasRead l.text l.tokens.items l.at

@@ -5,7 +5,7 @@ use Rattle.query_model.specs.declared.faults.Fault.{Fault}
 use Rattle.query_model.specs.declared.faults.FaultKind.{FaultKind}
 use Rattle.query_model.specs.declared.faults.QueryFault.{QueryFault}
 use Rattle.query_model.specs.Faults.{as_fault}
-use Rattle.query_lexer.specs.Lexed.{Answers, AnswersBy}
+use Rattle.query_parser.specs.Lexed.{Answers, AnswersBy}
 
 -- a fault of a kind, by its place
 fault_is_meant : {A : Type 0} (kind : FaultKind) (Q : Span → Type 0) (read : Result A Span) (f : Fault) → as_fault kind read ≡ Err f → ((s : Span) → read ≡ Err s → Q s) → (f.kind ≡ kind) × Q f.span

@@ -1,8 +1,8 @@
 use Rattle.std.proofs.Common.{◌∙◌, sym}
 use Rattle.query_model.specs.Tokens.{marks}
 use Rattle.query_model.proofs.TokenSpelling.{at_front, first_passes, front_is_mark}
-use Rattle.query_lexer.proofs.TokenReads.{name_is_ascii, variable_is_ascii, variable_is_sign}
-use Rattle.query_lexer.proofs.sign.Goals as goal
+use Rattle.query_parser.proofs.TokenReads.{name_is_ascii, variable_is_ascii, variable_is_sign}
+use Rattle.query_parser.proofs.lexer.sign.Goals as goal
 
 pub returns-then-is_letter-clause-ascii : goal.returns-then-is_letter-clause-ascii
 returns-then-is_letter-clause-ascii c = rw c.name_len.ensures.count (name_is_ascii c.args.rest.now)

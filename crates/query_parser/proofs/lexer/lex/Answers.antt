@@ -1,14 +1,14 @@
 use Rattle.std.proofs.Common.{◌∙◌, map, Vec}
 use Rattle.std.proofs.lemmas.List.{map_push}
 use Rattle.std.proofs.lemmas.Result.{err_from_is_err_and}
-use Rattle.query_lexer.proofs.Progress.{pushed, started, refusal_is_of_text, tokens_at_end, ends_once, ascend_more, goes_on, text_length-push}
-use Rattle.query_lexer.specs.declared.Token.{Token}
-use Rattle.query_lexer.specs.Token.{seen}
+use Rattle.query_parser.proofs.LexProgress.{pushed, started, refusal_is_of_text, tokens_at_end, ends_once, ascend_more, goes_on, text_length-push}
+use Rattle.query_parser.specs.declared.lexer.Token.{Token}
+use Rattle.query_parser.specs.Token.{seen}
 use Rattle.query_model.specs.declared.faults.FaultKind.TheVariants.{Lex}
 use Rattle.query_model.specs.Tokens.{IsLexFault, IsSpelledBy, tokens_of}
 use Rattle.query_model.proofs.TokenSpelling.{tokens_are_spelled}
-use Rattle.query_lexer.proofs.AnswerMeanings.{answer_is_meant}
-use Rattle.query_lexer.proofs.lex.Goals as goal
+use Rattle.query_parser.proofs.AnswerMeanings.{answer_is_meant}
+use Rattle.query_parser.proofs.lexer.lex.Goals as goal
 
 pub loop-tokens-init : goal.loop-tokens-init
 loop-tokens-init g c = rw c.new-tokens.ensures.items (started c.args.text.now)
