@@ -150,25 +150,25 @@ module _ (added : Shape) (s n : Store) (key : TableKey) (f : Shape) (m : IsMade 
   grown_made = grown_by s n (goes_on_made s n key f m.made m.newest m.last) (λ k t h. (t, made_stands s n key f m.made m.newest m.last k t h, refl, omega arith)) m.rows
 
   -- one that was made before is entered
-  pub kept_known : key.serial ≤ s.last → IsStored n → HaveGrown added s n x
-  kept_known known whole = record {
-    grown = grown_made;
-    sizes = sizes;
-    entered = λ k. are k ∙ either (made_new s n key f m.made m.newest m.last k) (λ same. ap (option_map (λ t. t.ids)) (sym same)) (λ new. let later = new.2 in absurd (omega (arith, known, later)));
-    whole = whole;
-  }
+  pub kept_known : key.serial ≤ s.last → IsStored n → HaveGrown added s n × AreEntered n x
+  kept_known known whole = (
+    record { grown = grown_made; sizes = sizes; whole = whole },
+    λ k. are k ∙ either (made_new s n key f m.made m.newest m.last k) (λ same. ap (option_map (λ t. t.ids)) (sym same)) (λ new. let later = new.2 in absurd (omega (arith, known, later))),
+  )
 
-  pub kept_entered : (y : Entered) (ids : List Id) → y ≡ finite.insert x key ids → ids_at n key ≡ Some ids → IsStored n → HaveGrown added s n y
-  kept_entered y ids new own whole = record { grown = grown_made; sizes = sizes; entered = entered_made s n key f m.made m.newest m.last x y ids are new own; whole = whole }
+  pub kept_entered : (y : Entered) (ids : List Id) → y ≡ finite.insert x key ids → ids_at n key ≡ Some ids → IsStored n → HaveGrown added s n × AreEntered n y
+  kept_entered y ids new own whole = (record { grown = grown_made; sizes = sizes; whole = whole }, entered_made s n key f m.made m.newest m.last x y ids are new own)
 
   -- one that can't be entered is released
-  pub kept_released : (t : Store) → ((q : TableKey) → table_at t q ≡ released_at n key q) → s.last < key.serial → t.last ≡ n.last → ((p : Place) → row_at t p ≡ row_at n p) → IsStored t → HaveGrown added s t x
-  kept_released t released new last rows whole = record {
-    grown = grown_back s t (undone s n key f m.made m.newest m.last t released new) (let grown = under_max s.last key.serial n.last m.last in omega (arith, grown, last)) (λ p. rows p ∙ m.rows p);
-    sizes = KeepsSizes-then (known_in s) added (known_in n) (known_in t) sizes (released_kept n t key whole.0 released);
-    entered = entered_undone s n key f m.made m.newest m.last t released new x are;
-    whole = whole;
-  }
+  pub kept_released : (t : Store) → ((q : TableKey) → table_at t q ≡ released_at n key q) → s.last < key.serial → t.last ≡ n.last → ((p : Place) → row_at t p ≡ row_at n p) → IsStored t → HaveGrown added s t × AreEntered t x
+  kept_released t released new last rows whole = (
+    record {
+      grown = grown_back s t (undone s n key f m.made m.newest m.last t released new) (let grown = under_max s.last key.serial n.last m.last in omega (arith, grown, last)) (λ p. rows p ∙ m.rows p);
+      sizes = KeepsSizes-then (known_in s) added (known_in n) (known_in t) sizes (released_kept n t key whole.0 released);
+      whole = whole;
+    },
+    entered_undone s n key f m.made m.newest m.last t released new x are,
+  )
 
 -- a table that is new has no rows
 pub made_empty : (s n : Store) (key : TableKey) (f : Shape) {last : ℕ} → s.last ≡ last → IsMade s f key n → last < key.serial → rows_in n key ≡ 0
@@ -220,25 +220,26 @@ entered_alike s n x same are k = are k ∙ sym (same_ids s n k (same k))
 
 -- room is made, or is refused
 pub kept_reserved : {T E : Type 0} (added : Shape) (s m n : Store) (x : Entered) (key : TableKey) (more : ℕ) (r : Result T E) → OnOk r ((q : TableKey) → table_at n q ≡ changed_at m key (roomier more) q) → OnErr r (n ≡ m)
-    → ((k : TableKey) → shape_at n k ≡ shape_at m k) → n.last ≡ m.last → ((p : Place) → row_at n p ≡ row_at m p) → IsStored n → HaveGrown added s m x → HaveGrown added s n x
-kept_reserved added s m n x key more (Ok v) tables same shapes last rows whole kept = record {
-  grown = grown_then s m n kept.grown (grown_reserved m n key more tables shapes last rows);
-  sizes = KeepsSizes-then (known_in s) added (known_in m) (known_in n) kept.sizes (same_kept m n whole.0 shapes);
-  entered = entered_alike m n x shapes kept.entered;
-  whole = whole;
-}
-kept_reserved added s m n x key more (Err e) tables same shapes last rows whole kept = subst (λ z. HaveGrown added s z x) (sym same) kept
+    → ((k : TableKey) → shape_at n k ≡ shape_at m k) → n.last ≡ m.last → ((p : Place) → row_at n p ≡ row_at m p) → IsStored n → HaveGrown added s m × AreEntered m x → HaveGrown added s n × AreEntered n x
+kept_reserved added s m n x key more (Ok v) tables same shapes last rows whole kept = (
+  record {
+    grown = grown_then s m n kept.0.grown (grown_reserved m n key more tables shapes last rows);
+    sizes = KeepsSizes-then (known_in s) added (known_in m) (known_in n) kept.0.sizes (same_kept m n whole.0 shapes);
+    whole = whole;
+  },
+  entered_alike m n x shapes kept.1,
+)
+kept_reserved added s m n x key more (Err e) tables same shapes last rows whole kept = subst (λ z. HaveGrown added s z × AreEntered z x) (sym same) kept
 
 pub room_wanted : {T E : Type 0} (m n : Store) (key : TableKey) (more least : ℕ) (r : Result T E) → OnOk r ((q : TableKey) → table_at n q ≡ changed_at m key (roomier more) q) → IsSome (table_at m key) → least ≤ more → OnOk r (least ≤ room_at n key)
 room_wanted m n key more least (Ok v) tables there enough = let room = room_reserved m n key more tables there in omega (arith, room, enough)
 room_wanted m n key more least (Err e) tables there enough = tt
 
 -- nothing has happened
-pub kept_same : (added : Shape) (s n : Store) (x : Entered) → n ≡ s → AreEntered s x → IsStored n → HaveGrown added s n x
-kept_same added s n x same are whole = record {
+pub kept_same : (added : Shape) (s n : Store) → n ≡ s → IsStored n → HaveGrown added s n
+kept_same added s n same whole = record {
   grown = grown_same s n same;
   sizes = λ test old new. subst (λ z. list_all test (known_in z) ≡ true) (sym same) old;
-  entered = subst (λ z. AreEntered z x) (sym same) are;
   whole = whole;
 }
 

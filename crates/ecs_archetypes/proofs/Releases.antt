@@ -1,6 +1,6 @@
 -- Tables that are released, one after another.
 use Rattle.std.proofs.Common.{◌≡◌, ◌↔◌, ℕ, zero, suc, length, unwrap_or, ◌-◌, ◌<◌, Bool, true, false, cond, List, [], ◌∷◌, Option, Some, None, option_map, is_some, refl, sym, ap, subst, ◌∙◌, arith}
-use Rattle.std.specs.Prelude.{Contains, slice_get}
+use Rattle.std.specs.Prelude.{Contains, MatchOption, slice_get}
 use Rattle.std.specs.Option.{IsSome}
 use Rattle.std.specs.FinMap as finite
 use Rattle.std.specs.FinMap.{empty_of_len, get-empty, len, len-remove}
@@ -19,6 +19,13 @@ use Rattle.ecs_archetypes.specs.Housing.{AreEntered}
 use Rattle.ecs_archetypes.specs.Scans.{HasMatch, StandApart}
 use Rattle.ecs_archetypes.proofs.Placings.{table_eq-tells}
 
+-- what is listed by the entries are the tables with a match
+pub all_matched : (s : Store) (x : Entered) → AreEntered s x → (pattern : Pattern) (tables : List TableKey) → ((k : TableKey) → Contains tables k ↔ IsMatched x pattern k) → (k : TableKey) → Contains tables k ↔ HasMatch s pattern k
+all_matched s x entered pattern tables listed k = (
+  λ c. let m = (listed k).0 c in (m.0, sym (entered k) ∙ m.1, m.2),
+  λ m. (listed k).1 (m.0, entered k ∙ m.1, m.2),
+)
+
 -- an entry that goes leaves one less
 pub one_less : (s : Store) (key : TableKey) (x y : Entered) → AreEntered s x → IsSome (table_at s key) → y ≡ finite.remove x key → len y < len x
 one_less s key x y are there left =
@@ -30,6 +37,11 @@ one_less s key x y are there left =
     by : (n : ℕ) → len x ≡ n → (len x ≡ 0 → ⊥) → len y ≡ len x - 1 → len y < len x
     by zero e some less = absurd (some e)
     by (suc n) e some less = omega (arith, e, less)
+
+-- a table that stands is found
+pub found_there : {X : Type 0} (r : Option X) (o : Option Archetype) (Q : X → Type 0) → MatchOption r (o ≡ None) Q → IsSome o → IsSome r
+found_there None o Q none there = subst IsSome none there
+found_there (Some x) o Q found there = refl
 
 pub first_in : {X : Type 0} (xs : List X) (x : X) → slice_get xs 0 ≡ Some x → Contains xs x
 first_in [] x h = cc
@@ -75,12 +87,6 @@ module _ (pattern : Pattern) (before now : Store) (x : Entered) (so_far : AreRel
     where
       rows_of : Option Archetype → ℕ
       rows_of o = unwrap_or (option_map (λ t. length t.entities) o) 0
-
-  pub matched : (tables : List TableKey) → ((k : TableKey) → Contains tables k ↔ IsMatched x pattern k) → (k : TableKey) → Contains tables k → HasMatch now pattern k
-  matched tables listed k c = let m = (listed k).0 c in (m.0, sym (so_far.entered k) ∙ m.1, m.2)
-
-  pub none_matched : (tables : List TableKey) → ((k : TableKey) → Contains tables k ↔ IsMatched x pattern k) → ((k : TableKey) → Contains tables k → ⊥) → (k : TableKey) → HasMatch now pattern k → ⊥
-  none_matched tables listed none k m = none k ((listed k).1 (m.0, so_far.entered k ∙ m.1, m.2))
 
   module _ (next : Store) (y : Entered) (key : TableKey) (has : HasMatch now pattern key) (tables : (q : TableKey) → table_at next q ≡ released_at now key q) where
     released_by : (b : Bool) (k : TableKey) (t : Archetype) → cond b None (table_at now k) ≡ Some t → table_at now k ≡ Some t

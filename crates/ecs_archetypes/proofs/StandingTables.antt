@@ -6,7 +6,6 @@ use Rattle.component_index.specs.Patterns.{matches}
 use Rattle.ecs_id.specs.Id.{Id}
 use Rattle.ecs_id.specs.declared.TableKey.{TableKey}
 use Rattle.table_store.specs.Store.{Shape, Store, ids_at, shape_at}
-use Rattle.component_index.specs.Entered.{Entered}
 use Rattle.entity_index.specs.Entities.{Entities}
 use Rattle.table_store.specs.Going.{goes_on_same, goes_on_then}
 use Rattle.ecs_archetypes.specs.Archetypes.{IsSound, known_in}
@@ -69,20 +68,20 @@ last_same added h whole = record {
 
 -- the tables that stand for a view of entities in them
 module _ (w : Entities) (s : Store) (h : Housing) (view : ◌≡◌ {A = Housing} (record { entities = w; tables = s }) h) (sound : IsSound w s) where
-  pub room_made : (added : Shape) (n : Store) (x : Entered) → HaveGrown added s n x → HasRoomMade added h (record { entities = w; tables = n })
-  room_made added n x kept = subst (λ z. HasRoomMade added z (record { entities = w; tables = n })) view (record {
+  pub room_made : (added : Shape) (n : Store) → HaveGrown added s n → HasRoomMade added h (record { entities = w; tables = n })
+  room_made added n kept = subst (λ z. HasRoomMade added z (record { entities = w; tables = n })) view (record {
     grown = kept.grown;
     held = alike_same w s n sound kept.grown.rows kept.whole;
     sizes = kept.sizes;
     whole = sound_same w s n sound kept.grown.rows kept.whole;
   })
 
-  pub last_room : (added : Shape) (n : Store) (x : Entered) → HaveGrown added s n x → TablesLast added h (record { entities = w; tables = n })
-  last_room added n x kept = last_grown added h _ (room_made added n x kept)
+  pub last_room : (added : Shape) (n : Store) → HaveGrown added s n → TablesLast added h (record { entities = w; tables = n })
+  last_room added n kept = last_grown added h _ (room_made added n kept)
 
   -- and then rows move
-  pub last_rows : (added : Shape) (n : Store) (x : Entered) → HaveGrown added s n x → (u : Entities) (t : Store) → StandAlike n t → IsSound u t → TablesLast added h (record { entities = u; tables = t })
-  last_rows added n x kept u t alike whole = last_moved added h _ _ (room_made added n x kept) alike whole
+  pub last_rows : (added : Shape) (n : Store) → HaveGrown added s n → (u : Entities) (t : Store) → StandAlike n t → IsSound u t → TablesLast added h (record { entities = u; tables = t })
+  last_rows added n kept u t alike whole = last_moved added h _ _ (room_made added n kept) alike whole
 
   pub last_alike : (u : Entities) (t : Store) → StandAlike s t → IsSound u t → TablesLast [] h (record { entities = u; tables = t })
   last_alike u t alike whole = subst (λ z. TablesLast [] z (record { entities = u; tables = t })) view (last_then [] (record { entities = w; tables = s }) (record { entities = w; tables = s }) _ (last_same [] _ sound) alike whole)

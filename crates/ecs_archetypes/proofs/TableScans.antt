@@ -9,13 +9,12 @@ use Rattle.ecs_id.specs.Id.{Id, id_cmp, id_eq, id_eq_same}
 use Rattle.ecs_model.specs.Map.{keys}
 use Rattle.ecs_model.proofs.Maps.{some_of}
 use Rattle.component_index.specs.declared.pattern.Pattern.{Pattern}
-use Rattle.component_index.specs.Entered.{Entered, IsMatched}
 use Rattle.component_index.specs.Patterns.{matches}
 use Rattle.entity_index.specs.Entities.{Entities, place_of}
 use Rattle.table_store.specs.Rows.{Cells, Row, row_at, shape_of_cells}
 use Rattle.table_store.specs.Store.{Store, ids_at}
 use Rattle.ecs_archetypes.specs.Archetypes.{IsSound}
-use Rattle.ecs_archetypes.specs.Housing.{Housing, IsHoused, IsKept, holdings_of}
+use Rattle.ecs_archetypes.specs.Housing.{Housing, IsHoused, holdings_of}
 use Rattle.ecs_archetypes.specs.Scans.{HasMatch, HaveHolders, HaveRows}
 use Rattle.ecs_archetypes.proofs.ArchetypeCalls.{held_there, row_here}
 use Rattle.ecs_archetypes.proofs.Placings.{content}
@@ -51,15 +50,9 @@ any_key test i passes (c ∷ cs) has = by (id_eq i c.0) refl has (any_key test i
     by true e h rest = ap (λ b. b || list_any test (keys cs)) (ap test (sym (id_eq_same i c.0 e)) ∙ passes)
     by false e h rest = ap (λ b. test c.0 || b) (rest h) ∙ or_true (test c.0)
 
-module _ (h : Housing) (x : Entered) (kept : IsKept h.entities h.tables x) (pattern : Pattern) (tables : List TableKey) (listed : (k : TableKey) → Contains tables k ↔ IsMatched x pattern k) where
-  pub all_listed : (k : TableKey) → Contains tables k ↔ HasMatch h.tables pattern k
-  all_listed k = (
-    λ c. let m = (listed k).0 c in (m.0, sym (kept.entered k) ∙ m.1, m.2),
-    λ m. (listed k).1 (m.0, kept.entered k ∙ m.1, m.2),
-  )
-
+module _ (h : Housing) (sound : IsHoused h) (pattern : Pattern) (tables : List TableKey) (listed : (k : TableKey) → Contains tables k ↔ HasMatch h.tables pattern k) where
   pub all_holders : HaveHolders h pattern tables
   all_holders e i alive holds passes =
-      let p = some_of (place_of h.entities e) (held_there h.entities h.tables kept.sound (holdings_of h) refl e alive i holds) in
-      let r = row_here h.entities h.tables kept.sound (holdings_of h) refl e alive p.0 p.1 in
-      (p.0, p.1, (all_listed (p.0).table).1 (keys r.0, row_ids h.entities h.tables kept.sound p.0 (e, r.0) r.1, any_key (matches pattern) i passes r.0 (ap (λ c. is_some (find id_cmp i c)) (sym r.2) ∙ holds)))
+      let p = some_of (place_of h.entities e) (held_there h.entities h.tables sound (holdings_of h) refl e alive i holds) in
+      let r = row_here h.entities h.tables sound (holdings_of h) refl e alive p.0 p.1 in
+      (p.0, p.1, (listed (p.0).table).1 (keys r.0, row_ids h.entities h.tables sound p.0 (e, r.0) r.1, any_key (matches pattern) i passes r.0 (ap (λ c. is_some (find id_cmp i c)) (sym r.2) ∙ holds)))

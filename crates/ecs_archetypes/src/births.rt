@@ -15,7 +15,6 @@ ghost use Rattle.table_store.specs.Store.{Shape, room_at, shape_at};
 use crate::Archetypes;
 use crate::plans::OneRow;
 use crate::rows::enter;
-use crate::tables::table_for;
 use ecs_id::{EntityId, TableKey};
 use raw_column::Memory;
 use std::alloc::Allocator;
@@ -33,7 +32,7 @@ impl<A: Allocator + Copy> Archetypes<A> {
         ensures refused { OnErr result (HoldAlike (holdings_of self.new) (holdings_of self.old)) }
         ensures kept { TablesLast ids.now self.old self.new }
     {
-        let key = table_for(&mut self.tables, &mut self.components, ids, &OneRow)?;
+        let key = self.tables.table_for(ids, &OneRow)?;
         enter(&mut self.entities, &mut self.tables, entity, key);
         Ok(())
     }

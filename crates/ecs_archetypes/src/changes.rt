@@ -13,7 +13,6 @@ ghost use Rattle.table_store.specs.Store.{Shape, room_at, shape_at};
 use crate::Archetypes;
 use crate::plans::{EntityMove, MovePlan, Room};
 use crate::rows::carry;
-use crate::tables::table_for;
 use ecs_id::{EntityId, TableKey};
 use raw_column::Memory;
 use std::alloc::Allocator;
@@ -30,7 +29,7 @@ impl<A: Allocator + Copy> Archetypes<A> {
         ensures entities { self.new.entities ≡ self.old.entities }
         ensures kept { HasRoomMade ids.now self.old self.new }
     {
-        table_for(&mut self.tables, &mut self.components, ids, room)
+        self.tables.table_for(ids, room)
     }
 
     // Moves an entity to a table that has room. It keeps the values of the ids there, and the others are zeros.

@@ -14,7 +14,6 @@ ghost use Rattle.table_store.specs.Rows.{rows_in};
 
 use crate::Archetypes;
 use crate::rows::leave_alone;
-use crate::tables::release_matched;
 use component_index::Pattern;
 use ecs_id::{EntityId, TableKey};
 use std::alloc::Allocator;
@@ -55,7 +54,7 @@ impl<A: Allocator + Copy> Archetypes<A> {
         ensures held { HoldAlike (holdings_of self.new) (holdings_of self.old) }
         ensures whole { IsHoused self.new }
     {
-        release_matched(&mut self.tables, &mut self.components, pattern);
+        self.tables.release_matched(pattern);
     }
 
     // Gives the memory back that rows left behind in a table, and its room: not between a plan and its moves.
@@ -67,7 +66,7 @@ impl<A: Allocator + Copy> Archetypes<A> {
         ensures whole { IsHoused self.new }
     {
         if self.tables.get(key).is_some() {
-            self.tables.shrink_to(key, 0);
+            self.tables.shrink(key);
         }
     }
 }

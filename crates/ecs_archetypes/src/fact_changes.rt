@@ -18,7 +18,6 @@ ghost use Rattle.table_store.specs.Store.{Shape, room_at, shape_at, table_at, wi
 
 use crate::fact_plan::{FactPlan, SizedFact, count_coming, count_going, first_entity, merge_ids};
 use crate::plans::{EntityMove, MovePlan};
-use crate::tables::{narrower, wider};
 use crate::{Archetypes, Memory};
 use ecs_id::{EntityId, Id, TableKey};
 use ecs_model::FactKey;
@@ -192,7 +191,7 @@ impl<A: Allocator + Copy> Archetypes<A> {
         ensures entities { self.new.entities ≡ self.old.entities }
         ensures kept { HasRoomMade ((id, size) ∷ []) self.old self.new }
     {
-        wider(&mut self.tables, &mut self.components, from, id, size, plan)
+        self.tables.wider(from, id, size, plan)
     }
 
     // The table with one id less than this one, with room for the planned moves to it and for a row more.
@@ -208,6 +207,6 @@ impl<A: Allocator + Copy> Archetypes<A> {
         ensures entities { self.new.entities ≡ self.old.entities }
         ensures kept { HasRoomMade [] self.old self.new }
     {
-        narrower(&mut self.tables, &mut self.components, from, id, plan)
+        self.tables.narrower(from, id, plan)
     }
 }

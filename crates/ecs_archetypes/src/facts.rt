@@ -18,7 +18,6 @@ use crate::Archetypes;
 use crate::fact_plan::{FactPlan, SizedFact};
 use crate::plans::OneRow;
 use crate::rows::carry_alone;
-use crate::tables::{narrower, wider};
 use ecs_id::{EntityId, Id, Place, TableKey};
 use ecs_model::FactKey;
 use raw_column::Memory;
@@ -52,14 +51,7 @@ impl<A: Allocator + Copy> Archetypes<A> {
         ensures refused { OnErr result (HoldAlike (holdings_of self.new) (holdings_of self.old)) }
         ensures kept { TablesLast ((id, size) ∷ []) self.old self.new }
     {
-        let to = wider(
-            &mut self.tables,
-            &mut self.components,
-            place.table,
-            id,
-            size,
-            &OneRow,
-        )?;
+        let to = self.tables.wider(place.table, id, size, &OneRow)?;
         let now = carry_alone(&mut self.entities, &mut self.tables, entity, place, to);
         Ok(now)
     }
@@ -101,13 +93,7 @@ impl<A: Allocator + Copy> Archetypes<A> {
         ensures refused { OnErr result (HoldAlike (holdings_of self.new) (holdings_of self.old)) }
         ensures kept { TablesLast [] self.old self.new }
     {
-        let to = narrower(
-            &mut self.tables,
-            &mut self.components,
-            place.table,
-            id,
-            &OneRow,
-        )?;
+        let to = self.tables.narrower(place.table, id, &OneRow)?;
         carry_alone(&mut self.entities, &mut self.tables, entity, place, to);
         Ok(())
     }

@@ -42,7 +42,7 @@ mod readers;
 mod rows;
 mod tables;
 
-use component_index::ComponentIndex;
+use crate::tables::EnteredTables;
 use ecs_id::LAST_INDEX;
 pub use entity_facts::EntityFacts;
 use entity_index::EntityIndex;
@@ -54,7 +54,6 @@ pub use raw_column::Memory;
 use std::alloc::{Allocator, Global};
 use std::hash::RandomState;
 use std::marker::Model;
-use table_store::TableStore;
 
 /// The entities in their archetype tables.
 ///
@@ -65,18 +64,18 @@ use table_store::TableStore;
 #[derive(Drop)]
 pub struct Archetypes<A: Allocator = Global> {
     entities: EntityIndex<A>,
-    tables: TableStore<A>,
-    components: ComponentIndex<A>,
+    tables: EnteredTables<A>,
 }
 
 impl<A: Allocator> Model for Archetypes<A> {
-    ghost use Rattle.ecs_archetypes.specs.Housing.{Housing, IsKept};
+    ghost use Rattle.ecs_archetypes.specs.Archetypes.{IsSound};
+    ghost use Rattle.ecs_archetypes.specs.Housing.{Housing};
 
     ghost Value = { Housing };
 
     ghost view = { λ a. record { entities = a.entities; tables = a.tables } };
 
-    ghost invariant = { λ a. IsKept a.entities a.tables a.components };
+    ghost invariant = { λ a. IsSound a.entities a.tables };
 }
 
 impl<A: Allocator + Copy> Archetypes<A> {
@@ -87,12 +86,7 @@ impl<A: Allocator + Copy> Archetypes<A> {
         ensures whole { IfOk result IsHoused }
     {
         let entities = EntityIndex::new(alloc, LAST_INDEX)?;
-        let tables = TableStore::new(alloc, random);
-        let components = ComponentIndex::new(alloc, random);
-        Ok(Archetypes {
-            entities,
-            tables,
-            components,
-        })
+        let tables = EnteredTables::new(alloc, random);
+        Ok(Archetypes { entities, tables })
     }
 }

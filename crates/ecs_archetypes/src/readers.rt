@@ -95,6 +95,6 @@ impl<A: Allocator> Archetypes<A> {
     pub fn graph(&self) -> TableGraph<'_, A>
         ensures { result ≡ self.now }
     {
-        TableGraph::new(&self.entities, &self.tables, &self.components)
+        TableGraph::new(&self.entities, &self.tables)
     }
 }

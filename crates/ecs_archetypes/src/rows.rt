@@ -11,16 +11,16 @@ ghost use Rattle.ecs_archetypes.specs.Tables.{StandAlike, TakesRoom};
 ghost use Rattle.table_store.specs.Rows.{carried, cells_of};
 ghost use Rattle.table_store.specs.Store.{Shape, room_at, shape_at};
 
+use crate::tables::EnteredTables;
 use ecs_id::{EntityId, Id, Place, TableKey};
 use ecs_table::Table;
 use entity_index::EntityIndex;
 use std::alloc::Allocator;
-use table_store::TableStore;
 
 /// Puts an entity that stands nowhere into a table.
 pub fn enter<A: Allocator>(
     entities: &mut EntityIndex<A>,
-    tables: &mut TableStore<A>,
+    tables: &mut EnteredTables<A>,
     entity: EntityId,
     key: TableKey,
 )
@@ -34,7 +34,7 @@ pub fn enter<A: Allocator>(
     ensures alike { StandAlike tables.old tables.new }
     ensures room { TakesRoom key tables.old tables.new }
 {
-    let row = tables.append(key, entity);
+    let row = tables.store.append(key, entity);
     entities.set_place(entity, Place { table: key, row });
 }
 
@@ -42,7 +42,7 @@ pub fn enter<A: Allocator>(
 /// then on. The memory that the row left behind is kept.
 pub fn carry<A: Allocator>(
     entities: &mut EntityIndex<A>,
-    tables: &mut TableStore<A>,
+    tables: &mut EnteredTables<A>,
     entity: EntityId,
     place: Place,
     to: TableKey,
@@ -59,19 +59,20 @@ pub fn carry<A: Allocator>(
     ensures alike { StandAlike tables.old tables.new }
     ensures room { TakesRoom to tables.old tables.new }
 {
-    let (row, filled) = tables.move_row(place.table, place.row, to);
+    let (row, filled) = tables.store.move_row(place.table, place.row, to);
     let now = Place { table: to, row };
     entities.set_place(entity, now);
-    if let Some(other) = filled {
-        entities.set_place(other, place);
-    }
+    let Some(other) = filled else {
+        return now;
+    };
+    entities.set_place(other, place);
     now
 }
 
 /// `carry`, after which the table that lost the row gives back the memory that its rows left behind.
 pub fn carry_alone<A: Allocator + Copy>(
     entities: &mut EntityIndex<A>,
-    tables: &mut TableStore<A>,
+    tables: &mut EnteredTables<A>,
     entity: EntityId,
     place: Place,
     to: TableKey,
@@ -88,14 +89,14 @@ pub fn carry_alone<A: Allocator + Copy>(
     ensures alike { StandAlike tables.old tables.new }
 {
     let now = carry(entities, tables, entity, place, to);
-    tables.shrink_to(place.table, 0);
+    tables.shrink(place.table);
     now
 }
 
 /// Deletes an entity with its row. The entity whose row fills the gap stands there from then on.
 pub fn leave<A: Allocator>(
     entities: &mut EntityIndex<A>,
-    tables: &mut TableStore<A>,
+    tables: &mut EnteredTables<A>,
     entity: EntityId,
     place: Place,
 )
@@ -107,16 +108,17 @@ pub fn leave<A: Allocator>(
     ensures alike { StandAlike tables.old tables.new }
 {
     entities.delete(entity);
-    let filled = tables.remove_row(place.table, place.row);
-    if let Some(other) = filled {
-        entities.set_place(other, place);
-    }
+    let filled = tables.store.remove_row(place.table, place.row);
+    let Some(other) = filled else {
+        return;
+    };
+    entities.set_place(other, place);
 }
 
 /// `leave`, after which the table that lost the row gives back the memory that its rows left behind.
 pub fn leave_alone<A: Allocator + Copy>(
     entities: &mut EntityIndex<A>,
-    tables: &mut TableStore<A>,
+    tables: &mut EnteredTables<A>,
     entity: EntityId,
     place: Place,
 )
@@ -128,7 +130,7 @@ pub fn leave_alone<A: Allocator + Copy>(
     ensures alike { StandAlike tables.old tables.new }
 {
     leave(entities, tables, entity, place);
-    tables.shrink_to(place.table, 0);
+    tables.shrink(place.table);
 }
 
 /// The bytes of an id's value at a row of a table: none for a tag.

@@ -4,29 +4,25 @@ use Rattle.entity_index.specs.Entities.{place_of}
 use Rattle.ecs_archetypes.specs.Housing.{holdings_of}
 use Rattle.ecs_archetypes.proofs.ArchetypeCalls.{alike_wider, apart_wider, found_lives}
 use Rattle.ecs_archetypes.proofs.Soundness.{own_row, row_stands}
-use Rattle.ecs_archetypes.proofs.EnteredTables.{entered_alike}
 use Rattle.ecs_archetypes.proofs.StandingTables.{last_room, last_rows}
 use Rattle.ecs_archetypes.proofs.Archetypes.add.Goals as goal
 
 pub wider-requires-clause-stands : goal.wider-requires-clause-stands
 wider-requires-clause-stands g c =
-    let r = own_row c.self.inside.entities c.self.inside.tables c.self.invariant.sound c.args.entity c.args.place (ap (λ h. place_of h.entities c.args.entity) c.self.view_is ∙ c.requires.there) in
+    let r = own_row c.self.inside.entities c.self.inside.tables c.self.invariant c.args.entity c.args.place (ap (λ h. place_of h.entities c.args.entity) c.self.view_is ∙ c.requires.there) in
     row_stands c.self.inside.tables c.args.place (c.args.entity, r.0) r.1
 
 pub carry_alone-now-requires-clause-apart : goal.carry_alone-now-requires-clause-apart
 carry_alone-now-requires-clause-apart g c =
-    apart_wider c.self.inside.entities c.self.inside.tables c.wider.new.tables c.self.invariant.sound c.wider.ensures.kept.grown.rows c.wider.ensures.kept.whole (holdings_of c.args.self.now) (ap holdings_of c.self.view_is) c.args.entity (found_lives c.self.inside.entities c.self.inside.tables c.self.invariant.sound (holdings_of c.args.self.now) (ap holdings_of c.self.view_is) c.args.entity c.args.place (ap (λ h. place_of h.entities c.args.entity) c.self.view_is ∙ c.requires.there)) c.args.place (ap (λ h. place_of h.entities c.args.entity) c.self.view_is ∙ c.requires.there) c.args.id c.in_ok-to.to c.args.size c.requires.not_held c.in_ok-to.ensures.shape
+    apart_wider c.self.inside.entities c.self.inside.tables c.wider.new.self c.self.invariant c.wider.ensures.kept.grown.rows c.wider.ensures.kept.whole (holdings_of c.args.self.now) (ap holdings_of c.self.view_is) c.args.entity (found_lives c.self.inside.entities c.self.inside.tables c.self.invariant (holdings_of c.args.self.now) (ap holdings_of c.self.view_is) c.args.entity c.args.place (ap (λ h. place_of h.entities c.args.entity) c.self.view_is ∙ c.requires.there)) c.args.place (ap (λ h. place_of h.entities c.args.entity) c.self.view_is ∙ c.requires.there) c.args.id c.in_ok-to.to c.args.size c.requires.not_held c.in_ok-to.ensures.shape
 
 pub returns-clause-added : goal.returns-clause-added
 returns-clause-added g c =
-    alike_wider c.self.inside.entities c.self.inside.tables c.wider.new.tables c.self.invariant.sound c.wider.ensures.kept.grown.rows c.wider.ensures.kept.whole (holdings_of c.args.self.now) (ap holdings_of c.self.view_is) c.args.entity (found_lives c.self.inside.entities c.self.inside.tables c.self.invariant.sound (holdings_of c.args.self.now) (ap holdings_of c.self.view_is) c.args.entity c.args.place (ap (λ h. place_of h.entities c.args.entity) c.self.view_is ∙ c.requires.there)) c.args.place (ap (λ h. place_of h.entities c.args.entity) c.self.view_is ∙ c.requires.there) c.args.id c.in_ok-to.to c.args.size _ c.requires.not_held c.in_ok-to.ensures.shape c.carry_alone-now.ensures.held
-
-pub invariant_of-self-2 : goal.invariant_of-self-2
-invariant_of-self-2 g c = record { sound = c.carry_alone-now.ensures.sound; entered = entered_alike c.wider.new.tables c.carry_alone-now.new.tables c.wider.new.components c.carry_alone-now.ensures.alike.shapes c.wider.ensures.kept.entered }
+    alike_wider c.self.inside.entities c.self.inside.tables c.wider.new.self c.self.invariant c.wider.ensures.kept.grown.rows c.wider.ensures.kept.whole (holdings_of c.args.self.now) (ap holdings_of c.self.view_is) c.args.entity (found_lives c.self.inside.entities c.self.inside.tables c.self.invariant (holdings_of c.args.self.now) (ap holdings_of c.self.view_is) c.args.entity c.args.place (ap (λ h. place_of h.entities c.args.entity) c.self.view_is ∙ c.requires.there)) c.args.place (ap (λ h. place_of h.entities c.args.entity) c.self.view_is ∙ c.requires.there) c.args.id c.in_ok-to.to c.args.size _ c.requires.not_held c.in_ok-to.ensures.shape c.carry_alone-now.ensures.held
 
 pub returns-in_err-to-clause-kept : goal.returns-in_err-to-clause-kept
-returns-in_err-to-clause-kept g c = last_room c.self.inside.entities c.self.inside.tables c.args.self.now c.self.view_is c.self.invariant.sound ((c.args.id, c.args.size) ∷ []) c.wider.new.tables c.wider.new.components c.wider.ensures.kept
+returns-in_err-to-clause-kept g c = last_room c.self.inside.entities c.self.inside.tables c.args.self.now c.self.view_is c.self.invariant ((c.args.id, c.args.size) ∷ []) c.wider.new.self c.wider.ensures.kept
 
 pub returns-clause-kept : goal.returns-clause-kept
-returns-clause-kept g c = last_rows c.self.inside.entities c.self.inside.tables c.args.self.now c.self.view_is c.self.invariant.sound ((c.args.id, c.args.size) ∷ []) c.wider.new.tables c.wider.new.components c.wider.ensures.kept
+returns-clause-kept g c = last_rows c.self.inside.entities c.self.inside.tables c.args.self.now c.self.view_is c.self.invariant ((c.args.id, c.args.size) ∷ []) c.wider.new.self c.wider.ensures.kept
     c.carry_alone-now.new.entities c.carry_alone-now.new.tables c.carry_alone-now.ensures.alike c.carry_alone-now.ensures.sound

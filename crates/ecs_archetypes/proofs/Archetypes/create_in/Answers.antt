@@ -7,28 +7,24 @@ use Rattle.table_store.specs.Store.{shape_at}
 use Rattle.ecs_archetypes.proofs.ArchetypeCalls.{alike_born, born_alive, sound_born}
 use Rattle.ecs_archetypes.proofs.FirstHoldings.{same_next}
 use Rattle.ecs_archetypes.proofs.Soundness.{holdings}
-use Rattle.ecs_archetypes.proofs.EnteredTables.{entered_alike}
 use Rattle.ecs_archetypes.proofs.Archetypes.create_in.Goals as goal
 
 pub enter-requires-clause-sound : goal.enter-requires-clause-sound
-enter-requires-clause-sound g c = sound_born c.self.inside.entities c.create.new.self c.self.inside.tables c.self.invariant.sound c.in-Ok.entity c.in-Ok.ensures.smallest c.in-Ok.ensures.born c.create.ensures.well_formed
+enter-requires-clause-sound g c = sound_born c.self.inside.entities c.create.new.self c.self.inside.tables c.self.invariant c.in-Ok.entity c.in-Ok.ensures.smallest c.in-Ok.ensures.born c.create.ensures.well_formed
 
 pub enter-requires-clause-alive : goal.enter-requires-clause-alive
-enter-requires-clause-alive g c = born_alive c.self.inside.entities c.create.new.self c.self.inside.tables c.self.invariant.sound c.in-Ok.entity c.in-Ok.ensures.smallest c.in-Ok.ensures.born c.create.ensures.well_formed
-
-pub invariant_of-self-2 : goal.invariant_of-self-2
-invariant_of-self-2 g c = record { sound = c.enter.ensures.sound; entered = entered_alike c.self.inside.tables c.enter.new.tables c.self.inside.components c.enter.ensures.alike.shapes c.self.invariant.entered }
+enter-requires-clause-alive g c = born_alive c.self.inside.entities c.create.new.self c.self.inside.tables c.self.invariant c.in-Ok.entity c.in-Ok.ensures.smallest c.in-Ok.ensures.born c.create.ensures.well_formed
 
 pub returns-in_default-clause-holdings : goal.returns-in_default-clause-holdings
-returns-in_default-clause-holdings g c = holdings c.create.new.self c.self.inside.tables (subst (λ u. IsSound u c.self.inside.tables) (sym c.in_default.ensures.err) c.self.invariant.sound)
+returns-in_default-clause-holdings g c = holdings c.create.new.self c.self.inside.tables (subst (λ u. IsSound u c.self.inside.tables) (sym c.in_default.ensures.err) c.self.invariant)
 
 pub returns-clause-holdings : goal.returns-clause-holdings
 returns-clause-holdings g c = holdings c.enter.new.entities c.enter.new.tables c.enter.ensures.sound
 
 pub returns-clause-next : goal.returns-clause-next
-returns-clause-next g c = sym (same_next c.self.inside.entities c.self.inside.tables c.self.invariant.sound.last ∙ ap (λ h. upcoming (holdings_of h)) c.self.view_is) ∙ c.in-Ok.ensures.next
+returns-clause-next g c = sym (same_next c.self.inside.entities c.self.inside.tables c.self.invariant.last ∙ ap (λ h. upcoming (holdings_of h)) c.self.view_is) ∙ c.in-Ok.ensures.next
 
 pub returns-clause-born : goal.returns-clause-born
 returns-clause-born g c = λ f shape.
-    alike_born c.self.inside.entities c.create.new.self c.self.inside.tables c.self.inside.tables c.self.invariant.sound (λ p. refl) c.self.invariant.sound.stored (holdings_of c.args.self.now) (ap holdings_of c.self.view_is) c.in-Ok.entity c.in-Ok.ensures.born _ _
+    alike_born c.self.inside.entities c.create.new.self c.self.inside.tables c.self.inside.tables c.self.invariant (λ p. refl) c.self.invariant.stored (holdings_of c.args.self.now) (ap holdings_of c.self.view_is) c.in-Ok.entity c.in-Ok.ensures.born _ _
     (c.enter.ensures.held f (ap (λ h. shape_at h.tables c.args.to) c.self.view_is ∙ shape))

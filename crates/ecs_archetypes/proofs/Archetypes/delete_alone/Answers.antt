@@ -6,7 +6,6 @@ use Rattle.ecs_archetypes.specs.Holdings.{cells_at, lives}
 use Rattle.ecs_archetypes.specs.Housing.{holdings_of}
 use Rattle.ecs_archetypes.proofs.ArchetypeCalls.{settled_there}
 use Rattle.ecs_archetypes.proofs.MapLists.{both}
-use Rattle.ecs_archetypes.proofs.EnteredTables.{entered_alike}
 use Rattle.ecs_model.specs.World.{is_built_in}
 use Rattle.entity_index.specs.Entities.{is_alive}
 use Rattle.ecs_archetypes.proofs.Archetypes.delete_alone.Goals as goal
@@ -14,10 +13,7 @@ use Rattle.ecs_archetypes.proofs.Archetypes.delete_alone.Goals as goal
 pub unwrap-place-requires : goal.unwrap-place-requires
 unwrap-place-requires g c =
     let h = both_true (lives (holdings_of c.args.self.now) c.args.entity) (is_some (cells_at (holdings_of c.args.self.now) c.args.entity.index)) c.requires.settled in
-    subst IsSome (sym c.place.ensures) (settled_there c.self.inside.entities c.self.inside.tables c.self.invariant.sound (holdings_of c.args.self.now) (ap holdings_of c.self.view_is) c.args.entity h.0 h.1)
-
-pub invariant_of-self : goal.invariant_of-self
-invariant_of-self g c = record { sound = c.leave_alone.ensures.sound; entered = entered_alike c.self.inside.tables c.leave_alone.new.tables c.self.inside.components c.leave_alone.ensures.alike.shapes c.self.invariant.entered }
+    subst IsSome (sym c.place.ensures) (settled_there c.self.inside.entities c.self.inside.tables c.self.invariant (holdings_of c.args.self.now) (ap holdings_of c.self.view_is) c.args.entity h.0 h.1)
 
 pub leave_alone-requires-clause-deletable : goal.leave_alone-requires-clause-deletable
 leave_alone-requires-clause-deletable g c =

@@ -15,4 +15,4 @@ pub loop-entity-preserved : goal.loop-entity-preserved
 loop-entity-preserved g c = deleted_more c.args.self.now c.loop-entity.self c.args.dead.now c.loop-entity.entity-index _ _ refl (omega (arith, c.loop-entity-test.true)) c.loop-entity.invariant c.delete_alone.new.self c.delete_alone.ensures.held c.delete_alone.ensures.alike
 
 pub returns-clause-holdings : goal.returns-clause-holdings
-returns-clause-holdings g c = holdings c.loop-entity.self.entities c.loop-entity.self.tables (subst IsHoused c.self.view_is c.self.invariant.sound)
+returns-clause-holdings g c = holdings c.loop-entity.self.entities c.loop-entity.self.tables (subst IsHoused c.self.view_is c.self.invariant)

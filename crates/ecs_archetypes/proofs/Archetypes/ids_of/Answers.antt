@@ -7,13 +7,13 @@ use Rattle.ecs_archetypes.proofs.Archetypes.ids_of.Goals as goal
 
 pub returns-in_err-place : goal.returns-in_err-place
 returns-in_err-place g c = ap option_copied c.from_residual.ensures
-    ∙ no_ids c.self.inside.entities c.self.inside.tables c.self.invariant.sound (holdings_of c.args.self.now) (ap holdings_of c.self.view_is) c.args.entity (sym c.place.ensures ∙ c.in_err-place.was)
+    ∙ no_ids c.self.inside.entities c.self.inside.tables c.self.invariant (holdings_of c.args.self.now) (ap holdings_of c.self.view_is) c.args.entity (sym c.place.ensures ∙ c.in_err-place.was)
 
 pub returns-in_err-table : goal.returns-in_err-table
-returns-in_err-table g c = absurd (no_table c.self.inside.entities c.self.inside.tables c.self.invariant.sound (holdings_of c.args.self.now) (ap holdings_of c.self.view_is) c.args.entity c.in_ok-place.place
+returns-in_err-table g c = absurd (no_table c.self.inside.entities c.self.inside.tables c.self.invariant (holdings_of c.args.self.now) (ap holdings_of c.self.view_is) c.args.entity c.in_ok-place.place
     (sym c.place.ensures ∙ c.in_ok-place.was) c.in_err-table.ensures.table)
 
 pub returns : goal.returns
 returns g c = ap Some c.ids.ensures.value
-    ∙ ids_read c.self.inside.entities c.self.inside.tables c.self.invariant.sound (holdings_of c.args.self.now) (ap holdings_of c.self.view_is) c.args.entity c.in_ok-place.place
+    ∙ ids_read c.self.inside.entities c.self.inside.tables c.self.invariant (holdings_of c.args.self.now) (ap holdings_of c.self.view_is) c.args.entity c.in_ok-place.place
     (sym c.place.ensures ∙ c.in_ok-place.was) c.in_ok-table.table.now c.in_ok-table.ensures.table

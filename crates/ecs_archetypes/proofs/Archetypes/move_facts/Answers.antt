@@ -10,7 +10,7 @@ pub returns-then-is_empty-2-clause-changed : goal.returns-then-is_empty-2-clause
 returns-then-is_empty-2-clause-changed g c = facts_same c.args.came.now c.args.went.now (holdings_of c.args.self.now) ((Decides-eqb (length c.args.came.now) 0).0 (sym c.is_empty.ensures ∙ c.if-is_empty.true)) ((Decides-eqb (length c.args.went.now) 0).0 (sym c.is_empty-then-is_empty.ensures ∙ c.if-is_empty-2.true))
 
 pub returns-then-is_empty-2-clause-kept : goal.returns-then-is_empty-2-clause-kept
-returns-then-is_empty-2-clause-kept g c = last_same _ c.args.self.now (subst IsHoused c.self.view_is c.self.invariant.sound)
+returns-then-is_empty-2-clause-kept g c = last_same _ c.args.self.now (subst IsHoused c.self.view_is c.self.invariant)
 
 pub returns-in_err-plan_facts-clause-kept : goal.returns-in_err-plan_facts-clause-kept
 returns-in_err-plan_facts-clause-kept g c = last_grown _ _ _ c.plan_facts.ensures.kept

@@ -13,16 +13,16 @@ use Rattle.ecs_archetypes.proofs.Archetypes.plan_entity.Goals as goal
 
 pub unwrap-entity-requires : goal.unwrap-entity-requires
 unwrap-entity-requires g c =
-    ap is_some (c.at.ensures ∙ (stands_at c.self.inside.entities c.self.inside.tables c.self.invariant.sound (holdings_of c.args.self.now) (ap holdings_of c.self.view_is) c.args.index c.requires.settled).1)
+    ap is_some (c.at.ensures ∙ (stands_at c.self.inside.entities c.self.inside.tables c.self.invariant (holdings_of c.args.self.now) (ap holdings_of c.self.view_is) c.args.index c.requires.settled).1)
 
 pub unwrap-requires : goal.unwrap-requires
 unwrap-requires g c =
-    ap is_some (c.place.ensures ∙ (stands_as c.self.inside.entities c.self.inside.tables c.self.invariant.sound (holdings_of c.args.self.now) (ap holdings_of c.self.view_is) c.args.index c.requires.settled
+    ap is_some (c.place.ensures ∙ (stands_as c.self.inside.entities c.self.inside.tables c.self.invariant (holdings_of c.args.self.now) (ap holdings_of c.self.view_is) c.args.index c.requires.settled
     c.unwrap-entity.result (sym c.at.ensures ∙ c.unwrap-entity.ensures)).at)
 
 pub table_after-requires-clause-there : goal.table_after-requires-clause-there
 table_after-requires-clause-there g c =
-    let stands = stands_as c.self.inside.entities c.self.inside.tables c.self.invariant.sound (holdings_of c.args.self.now) (ap holdings_of c.self.view_is) c.args.index c.requires.settled
+    let stands = stands_as c.self.inside.entities c.self.inside.tables c.self.invariant (holdings_of c.args.self.now) (ap holdings_of c.self.view_is) c.args.index c.requires.settled
     c.unwrap-entity.result (sym c.at.ensures ∙ c.unwrap-entity.ensures) in
     let same : Some c.unwrap.result ≡ Some stands.place = sym c.unwrap.ensures ∙ c.place.ensures ∙ stands.at in
     let here : c.unwrap.result ≡ stands.place = cc in
@@ -31,7 +31,7 @@ table_after-requires-clause-there g c =
 
 pub returns-clause-ready : goal.returns-clause-ready
 returns-clause-ready g c =
-    let stands = stands_as c.self.inside.entities c.self.inside.tables c.self.invariant.sound (holdings_of c.args.self.now) (ap holdings_of c.self.view_is) c.args.index c.requires.settled
+    let stands = stands_as c.self.inside.entities c.self.inside.tables c.self.invariant (holdings_of c.args.self.now) (ap holdings_of c.self.view_is) c.args.index c.requires.settled
     c.unwrap-entity.result (sym c.at.ensures ∙ c.unwrap-entity.ensures) in
     let one : EntityMove = record { entity = c.unwrap-entity.result; from = c.unwrap.result.table; to = c.in_ok-to.to } in
     subst (AreReady c.table_after.new.self) (sym (c.in_ok-push.ensures.pushed ∙ ap (λ ms. ms ++ one ∷ []) c.table_after.ensures.moves))

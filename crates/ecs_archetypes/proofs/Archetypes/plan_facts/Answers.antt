@@ -8,7 +8,7 @@ use Rattle.ecs_archetypes.proofs.TableMoves.{alike_then}
 use Rattle.ecs_archetypes.proofs.Archetypes.plan_facts.Goals as goal
 
 pub loop-entity-init : goal.loop-entity-init
-loop-entity-init g c = facts_planned_none c.args.self.now c.args.came.now c.args.went.now (subst IsHoused c.self.view_is c.self.invariant.sound) c.requires.came_ascend c.requires.went_ascend c.requires.settled c.requires.unheld c.requires.small c.requires.agree
+loop-entity-init g c = facts_planned_none c.args.self.now c.args.came.now c.args.went.now (subst IsHoused c.self.view_is c.self.invariant) c.requires.came_ascend c.requires.went_ascend c.requires.settled c.requires.unheld c.requires.small c.requires.agree
     c.clear.new.self c.clear.ensures
 
 pub split_at-requires : goal.split_at-requires

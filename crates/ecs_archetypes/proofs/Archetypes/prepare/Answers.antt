@@ -3,4 +3,4 @@ use Rattle.ecs_archetypes.proofs.StandingTables.{room_made}
 use Rattle.ecs_archetypes.proofs.Archetypes.prepare.Goals as goal
 
 pub returns-clause-kept : goal.returns-clause-kept
-returns-clause-kept g c = room_made c.self.inside.entities c.self.inside.tables c.args.self.now c.self.view_is c.self.invariant.sound c.args.ids.now c.table_for.new.tables c.table_for.new.components c.table_for.ensures.kept
+returns-clause-kept g c = room_made c.self.inside.entities c.self.inside.tables c.args.self.now c.self.view_is c.self.invariant c.args.ids.now c.table_for.new.self c.table_for.ensures.kept

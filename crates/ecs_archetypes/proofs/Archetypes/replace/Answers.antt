@@ -12,10 +12,10 @@ use Rattle.ecs_archetypes.proofs.StandingTables.{last_grown, last_moved}
 use Rattle.ecs_archetypes.proofs.Archetypes.replace.Goals as goal
 
 pub table_after-requires-clause-there : goal.table_after-requires-clause-there
-table_after-requires-clause-there g c = stands c.args.self.now (subst IsHoused c.self.view_is c.self.invariant.sound) c.args.entity c.args.place c.requires.there
+table_after-requires-clause-there g c = stands c.args.self.now (subst IsHoused c.self.view_is c.self.invariant) c.args.entity c.args.place c.requires.there
 
 pub table_after-requires-clause-settled : goal.table_after-requires-clause-settled
-table_after-requires-clause-settled g c = stays_settled c.args.self.now (subst IsHoused c.self.view_is c.self.invariant.sound) c.args.entity c.args.place c.requires.there
+table_after-requires-clause-settled g c = stays_settled c.args.self.now (subst IsHoused c.self.view_is c.self.invariant) c.args.entity c.args.place c.requires.there
 
 pub table_after-requires-clause-went_ascend : goal.table_after-requires-clause-went_ascend
 table_after-requires-clause-went_ascend g c = one_rises c.new-3.result.1
@@ -27,7 +27,7 @@ carry_to-requires-clause-apart g c =
     let came = c.new-2.ensures ∙ ap (λ k. (k, c.args.size)) c.new.ensures in
     let next : shape_at c.table_after.new.self.tables c.in_ok-to.to ≡ Some (changed_shape ((c.args.id, c.args.size) ∷ []) (is_among (c.args.old ∷ [])) (shape_of_cells (held_at (holdings_of b) e.index))) =
     c.in_ok-to.ensures.shape ∙ (λ k. Some (changed_shape (((came k).0.1, (came k).1) ∷ []) (is_among ((c.new-3.ensures k).1 ∷ [])) (shape_of_cells (held_at (holdings_of b) e.index)))) in
-    apart_replaced b (subst IsHoused c.self.view_is c.self.invariant.sound) e c.args.place c.requires.there c.table_after.new.self c.table_after.ensures.grown c.table_after.ensures.held
+    apart_replaced b (subst IsHoused c.self.view_is c.self.invariant) e c.args.place c.requires.there c.table_after.new.self c.table_after.ensures.grown c.table_after.ensures.held
     c.args.old c.args.id c.args.size c.requires.not_held c.in_ok-to.to next
 
 pub returns-clause-replaced : goal.returns-clause-replaced
@@ -37,7 +37,7 @@ returns-clause-replaced g c =
     let came = c.new-2.ensures ∙ ap (λ k. (k, c.args.size)) c.new.ensures in
     let next : shape_at c.table_after.new.self.tables c.in_ok-to.to ≡ Some (changed_shape ((c.args.id, c.args.size) ∷ []) (is_among (c.args.old ∷ [])) (shape_of_cells (held_at (holdings_of b) e.index))) =
     c.in_ok-to.ensures.shape ∙ (λ k. Some (changed_shape (((came k).0.1, (came k).1) ∷ []) (is_among ((c.new-3.ensures k).1 ∷ [])) (shape_of_cells (held_at (holdings_of b) e.index)))) in
-    alike_replaced b (subst IsHoused c.self.view_is c.self.invariant.sound) e c.args.place c.requires.there c.table_after.new.self c.table_after.ensures.grown c.table_after.ensures.held
+    alike_replaced b (subst IsHoused c.self.view_is c.self.invariant) e c.args.place c.requires.there c.table_after.new.self c.table_after.ensures.grown c.table_after.ensures.held
     c.args.old c.args.id c.args.size c.requires.not_held c.in_ok-to.to next (holdings_of c.carry_to.new.self) c.carry_to.ensures.held
 
 pub returns-in_err-to-clause-kept : goal.returns-in_err-to-clause-kept

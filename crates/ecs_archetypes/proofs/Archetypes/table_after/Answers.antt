@@ -28,21 +28,21 @@ returns-then-went-eq1-clause-shape g c =
     (c.narrower_beside.ensures.shape (shape_of_cells (held_at (holdings_of c.args.self.now) c.args.entity.index)) c.requires.there)
 
 pub merge_ids-requires-clause-held_ascend : goal.merge_ids-requires-clause-held_ascend
-merge_ids-requires-clause-held_ascend g c = facts_rise c.args.self.now (subst IsHoused c.self.view_is c.self.invariant.sound) c.args.entity c.unwrap-facts.result c.requires.settled (sym c.facts.ensures ∙ c.unwrap-facts.ensures)
+merge_ids-requires-clause-held_ascend g c = facts_rise c.args.self.now (subst IsHoused c.self.view_is c.self.invariant) c.args.entity c.unwrap-facts.result c.requires.settled (sym c.facts.ensures ∙ c.unwrap-facts.ensures)
 
 pub prepare-requires-clause-ascend : goal.prepare-requires-clause-ascend
-prepare-requires-clause-ascend g c = ids_rise c.args.self.now (subst IsHoused c.self.view_is c.self.invariant.sound) c.args.entity c.unwrap-facts.result c.requires.settled (sym c.facts.ensures ∙ c.unwrap-facts.ensures)
+prepare-requires-clause-ascend g c = ids_rise c.args.self.now (subst IsHoused c.self.view_is c.self.invariant) c.args.entity c.unwrap-facts.result c.requires.settled (sym c.facts.ensures ∙ c.unwrap-facts.ensures)
     c.args.from c.requires.there c.args.came.now (is_among (ids_among c.args.went.now)) c.as_slice.result.now (c.as_slice.ensures.value ∙ c.in_ok-merge_ids.ensures)
 
 pub prepare-requires-clause-small : goal.prepare-requires-clause-small
-prepare-requires-clause-small g c = ids_small c.args.self.now (subst IsHoused c.self.view_is c.self.invariant.sound) c.args.entity c.unwrap-facts.result c.requires.settled (sym c.facts.ensures ∙ c.unwrap-facts.ensures)
+prepare-requires-clause-small g c = ids_small c.args.self.now (subst IsHoused c.self.view_is c.self.invariant) c.args.entity c.unwrap-facts.result c.requires.settled (sym c.facts.ensures ∙ c.unwrap-facts.ensures)
     c.args.from c.requires.there c.args.came.now (is_among (ids_among c.args.went.now)) c.as_slice.result.now (c.as_slice.ensures.value ∙ c.in_ok-merge_ids.ensures) c.requires.small
 
 pub prepare-requires-clause-agree : goal.prepare-requires-clause-agree
-prepare-requires-clause-agree g c = ids_agree c.args.self.now (subst IsHoused c.self.view_is c.self.invariant.sound) c.args.entity c.unwrap-facts.result c.requires.settled (sym c.facts.ensures ∙ c.unwrap-facts.ensures)
+prepare-requires-clause-agree g c = ids_agree c.args.self.now (subst IsHoused c.self.view_is c.self.invariant) c.args.entity c.unwrap-facts.result c.requires.settled (sym c.facts.ensures ∙ c.unwrap-facts.ensures)
     c.args.from c.requires.there c.args.came.now (is_among (ids_among c.args.went.now)) c.as_slice.result.now (c.as_slice.ensures.value ∙ c.in_ok-merge_ids.ensures) c.requires.agree
 
 pub returns-clause-sizes : goal.returns-clause-sizes
-returns-clause-sizes g c = ids_kept c.args.self.now (subst IsHoused c.self.view_is c.self.invariant.sound) c.args.entity c.unwrap-facts.result c.requires.settled (sym c.facts.ensures ∙ c.unwrap-facts.ensures)
+returns-clause-sizes g c = ids_kept c.args.self.now (subst IsHoused c.self.view_is c.self.invariant) c.args.entity c.unwrap-facts.result c.requires.settled (sym c.facts.ensures ∙ c.unwrap-facts.ensures)
     c.args.from c.requires.there c.args.came.now (is_among (ids_among c.args.went.now)) c.as_slice.result.now (c.as_slice.ensures.value ∙ c.in_ok-merge_ids.ensures)
     c.prepare.new.self.tables c.prepare.ensures.kept.sizes

@@ -6,4 +6,4 @@ use Rattle.ecs_archetypes.specs.Housing.{holdings_of}
 use Rattle.ecs_archetypes.proofs.Archetypes.upcoming.Goals as goal
 
 pub returns : goal.returns
-returns g c = c.upcoming.ensures.next ∙ same_next c.self.inside.entities c.self.inside.tables c.self.invariant.sound.last ∙ ap upcoming (ap holdings_of c.self.view_is)
+returns g c = c.upcoming.ensures.next ∙ same_next c.self.inside.entities c.self.inside.tables c.self.invariant.last ∙ ap upcoming (ap holdings_of c.self.view_is)

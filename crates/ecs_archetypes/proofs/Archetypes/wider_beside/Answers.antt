@@ -4,4 +4,4 @@ use Rattle.ecs_archetypes.proofs.StandingTables.{room_made}
 use Rattle.ecs_archetypes.proofs.Archetypes.wider_beside.Goals as goal
 
 pub returns-clause-kept : goal.returns-clause-kept
-returns-clause-kept g c = room_made c.self.inside.entities c.self.inside.tables c.args.self.now c.self.view_is c.self.invariant.sound ((c.args.id, c.args.size) ∷ []) c.wider.new.tables c.wider.new.components c.wider.ensures.kept
+returns-clause-kept g c = room_made c.self.inside.entities c.self.inside.tables c.args.self.now c.self.view_is c.self.invariant ((c.args.id, c.args.size) ∷ []) c.wider.new.self c.wider.ensures.kept
