@@ -11,6 +11,7 @@ pub mod BuiltIns
 pub mod Query
 pub mod Print
 pub mod Orders
+pub mod References
 pub mod Script
 pub mod Output
 pub mod LineLaws

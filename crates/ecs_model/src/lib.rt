@@ -10,6 +10,7 @@ pub mod faults;
 pub mod laws;
 pub mod names;
 pub mod reach_laws;
+pub mod references;
 pub mod trait_laws;
 pub mod values;
 pub mod watches;

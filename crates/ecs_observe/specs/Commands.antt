@@ -4,8 +4,7 @@ use Rattle.ecs_id.specs.declared.EntityId.{EntityId}
 use Rattle.ecs_id.specs.Id.{Id}
 use Rattle.ecs_model.specs.declared.faults.Refusal.{Refusal}
 use Rattle.ecs_model.specs.declared.faults.SessionRefusal.{SessionRefusal}
-use Rattle.ecs_model.specs.Orders.{by_name, by_handle, plain_of, pair_of, MakeFresh, MakeEntity, MakeComponent, AddTo, SetIn, RemoveFrom, DeleteOne, WorldOrder, command_of, with_both}
-use Rattle.ecs_model.specs.Orders as orders
+use Rattle.ecs_model.specs.Orders.{EntityRef, IdRef, MakeFresh, MakeEntity, MakeComponent, AddTo, SetIn, RemoveFrom, DeleteOne, WorldOrder, command_of, with_both}
 use Rattle.ecs_model.specs.World.{WorldState}
 use Rattle.ecs_model.specs.stored.Session.{InWorld, SessionOrder, SessionState, apply}
 use Rattle.ecs_model.specs.stored.Session as session
@@ -19,28 +18,17 @@ use Rattle.ecs_observe.specs.declared.applying.Answer.{Answer}
 use Rattle.ecs_observe.specs.declared.applying.Answer.TheVariants.{Born, Done}
 use Rattle.ecs_observe.specs.declared.applying.Command.{Command}
 use Rattle.ecs_observe.specs.declared.applying.Command.TheVariants.{New, Entity, Component, Add, Set, Remove, Delete, Store, Drop}
-use Rattle.ecs_observe.specs.declared.references.EntityRef.{EntityRef}
-use Rattle.ecs_observe.specs.declared.references.EntityRef.TheVariants.{Name, Handle}
-use Rattle.ecs_observe.specs.declared.references.IdRef.{IdRef}
-use Rattle.ecs_observe.specs.declared.references.IdRef.TheVariants.{Plain, Pair}
-
-abbrev pub seen_entity : EntityRef → orders.EntityRef
-seen_entity (Name name) = by_name name.now
-seen_entity (Handle e) = by_handle e.index e.generation
-
-abbrev pub seen_id : IdRef → orders.IdRef
-seen_id (Plain r) = plain_of (seen_entity r)
-seen_id (Pair r t) = pair_of (seen_entity r) (seen_entity t)
+use Rattle.ecs_model.specs.References.{seen_id, seen_reference}
 
 -- the command of the definitions
 abbrev pub order_of : {A : Type 0} → Command A → SessionOrder
 order_of New = InWorld MakeFresh
 order_of (Entity name) = InWorld (MakeEntity name.now)
 order_of (Component name schema) = InWorld (MakeComponent name.now schema)
-order_of (Add entity id) = InWorld (AddTo (seen_entity entity) (seen_id id))
-order_of (Set entity id values) = InWorld (SetIn (seen_entity entity) (seen_id id) values.now)
-order_of (Remove entity id) = InWorld (RemoveFrom (seen_entity entity) (seen_id id))
-order_of (Delete entity) = InWorld (DeleteOne (seen_entity entity))
+order_of (Add entity id) = InWorld (AddTo (seen_reference entity) (seen_id id))
+order_of (Set entity id values) = InWorld (SetIn (seen_reference entity) (seen_id id) values.now)
+order_of (Remove entity id) = InWorld (RemoveFrom (seen_reference entity) (seen_id id))
+order_of (Delete entity) = InWorld (DeleteOne (seen_reference entity))
 order_of (Store kind name text) = session.Store kind name.now text.now
 order_of (Drop name) = session.Drop name.now
 
@@ -54,17 +42,17 @@ answered (Ok answer) = Ok (born_of answer)
 answered (Err error) = Err error
 
 -- the entity and the id of references were found, or not: so for each command of an entity and an id
-abbrev pub FindsBoth : WorldState → orders.EntityRef → orders.IdRef → Result (EntityId × Id) Refusal → Type 0
+abbrev pub FindsBoth : WorldState → EntityRef → IdRef → Result (EntityId × Id) Refusal → Type 0
 FindsBoth w entity id (Err reason) = (f : EntityId → Id → world.Command) → with_both w f entity id ≡ Err reason
 FindsBoth w entity id (Ok both) = (f : EntityId → Id → world.Command) → with_both w f entity id ≡ Ok (f both.0 both.1)
 
 -- the entity and the id were found, so that a command of them is what the session does; or each such command is refused for them
-abbrev pub FindsIn : SessionState → orders.EntityRef → orders.IdRef → Result (EntityId × Id) SessionRefusal → Type 0
+abbrev pub FindsIn : SessionState → EntityRef → IdRef → Result (EntityId × Id) SessionRefusal → Type 0
 FindsIn s r i (Ok both) = (f : EntityId → Id → world.Command) (order : WorldOrder) → command_of s.world order ≡ with_both s.world f r i → carried_out s (f both.0 both.1) ≡ apply s (InWorld order)
 FindsIn s r i (Err reason) = (f : EntityId → Id → world.Command) (order : WorldOrder) → command_of s.world order ≡ with_both s.world f r i → apply s (InWorld order) ≡ Err reason
 
 -- the same of an entity that is to go
-abbrev pub FindsOne : SessionState → orders.EntityRef → Result EntityId SessionRefusal → Type 0
+abbrev pub FindsOne : SessionState → EntityRef → Result EntityId SessionRefusal → Type 0
 FindsOne s r (Ok e) = carried_out s (world.Delete e) ≡ apply s (InWorld (DeleteOne r))
 FindsOne s r (Err reason) = apply s (InWorld (DeleteOne r)) ≡ Err reason
 

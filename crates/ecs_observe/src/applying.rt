@@ -6,16 +6,17 @@ ghost use Rattle.ecs_model.specs.Orders.{AddTo, DeleteOne, RemoveFrom, SetIn};
 ghost use Rattle.ecs_model.specs.stored.Session.{InWorld, apply};
 ghost use Rattle.ecs_observe.specs.Answers.{AnswersApply};
 ghost use Rattle.ecs_observe.specs.Commands.{CountsApply, FindsIn, FindsOne, ListsApply, answered, order_of};
-ghost use Rattle.ecs_observe.specs.Commands.{seen_entity, seen_id};
+ghost use Rattle.ecs_model.specs.References.{seen_id, seen_reference};
 ghost use Rattle.watch_stored.specs.Held.{is_compared};
 ghost use Rattle.ecs_observe.specs.Standing.{session_of};
 ghost use Rattle.ecs_world.specs.Releases.{NoneGo, OnlyForgottenGo};
 ghost use Rattle.table_store.specs.Going.{TablesGoOn};
 
-use crate::references::{EntityRef, IdRef, find_both, find_entity};
+use crate::references::{find_both, find_entity};
 use crate::{Session, SessionError};
 use ecs_id::{EntityId, Id};
 use ecs_model::faults::SessionRefusal;
+use ecs_model::references::{IdReference, Reference};
 use ecs_model::watches::StoredKind;
 use ecs_schema::Schema;
 use std::alloc::{Allocator, Global};
@@ -36,23 +37,23 @@ pub enum Command<'a, A: Allocator = Global> {
     },
     /// A fact comes, and with it those that traits ask for.
     Add {
-        entity: EntityRef<'a>,
-        id: IdRef<'a>,
+        entity: Reference<'a>,
+        id: IdReference<'a>,
     },
     /// A fact gets a value, and comes if it isn't held.
     Set {
-        entity: EntityRef<'a>,
-        id: IdRef<'a>,
+        entity: Reference<'a>,
+        id: IdReference<'a>,
         values: &'a [i128],
     },
     /// A fact goes, if it is held.
     Remove {
-        entity: EntityRef<'a>,
-        id: IdRef<'a>,
+        entity: Reference<'a>,
+        id: IdReference<'a>,
     },
     /// An entity goes, and what its relationships say goes with it.
     Delete {
-        entity: EntityRef<'a>,
+        entity: Reference<'a>,
     },
     /// A query is kept under a name, or watched: by a monitor, or by an observer of one kind of events.
     Store {
@@ -75,12 +76,10 @@ pub enum Answer {
 }
 
 impl<A: Allocator + Copy> Session<A> {
-    /// Carries out a command. It is refused as `EventsPending` while events wait; else as `OfWorld(Dead)` where one of
-    /// its handles is that of no live entity, and as `OfWorld(UnknownName)` where one of its names is nobody's; and
-    /// else as the call of the same name refuses it.
+    /// Carries out a command. It is refused as `EventsPending` while events wait; else as `OfWorld(Dead)` where one of its handles is that of no
+    /// live entity, and as `OfWorld(UnknownName)` where one of its names is nobody's; and else as the call of the same name refuses it.
     pub fn apply(&mut self, command: Command<'_, A>) -> Result<Answer, SessionError>
-        ensures answers { AnswersApply (answered result) (apply (session_of self.old) (order_of command.entry)) self.old
-            self.new }
+        ensures answers { AnswersApply (answered result) (apply (session_of self.old) (order_of command.entry)) self.old self.new }
         ensures lists { ListsApply (order_of command.entry) result self.old self.new }
         ensures goes_on { TablesGoOn (self.old).world.tables (self.new).world.tables }
         ensures stay { OnlyForgottenGo (self.old).world (self.new).world }
@@ -120,11 +119,10 @@ impl<A: Allocator + Copy> Session<A> {
     /// Adds a fact.
     fn add_to(
         &mut self,
-        entity: EntityRef<'_>,
-        id: IdRef<'_>,
+        entity: Reference<'_>,
+        id: IdReference<'_>,
     ) -> Result<Option<EntityId>, SessionError>
-        ensures answers { AnswersApply result (apply (session_of self.old)
-            (InWorld (AddTo (seen_entity entity.entry) (seen_id id.entry)))) self.old self.new }
+        ensures answers { AnswersApply result (apply (session_of self.old) (InWorld (AddTo (seen_reference entity.entry) (seen_id id.entry)))) self.old self.new }
         ensures compared { (self.new).compared ≡ (self.old).compared }
         ensures lists { (self.new).stored ≡ (self.old).stored }
         ensures goes_on { TablesGoOn (self.old).world.tables (self.new).world.tables }
@@ -139,12 +137,11 @@ impl<A: Allocator + Copy> Session<A> {
     /// Sets the value of a fact.
     fn set_in(
         &mut self,
-        entity: EntityRef<'_>,
-        id: IdRef<'_>,
+        entity: Reference<'_>,
+        id: IdReference<'_>,
         values: &[i128],
     ) -> Result<Option<EntityId>, SessionError>
-        ensures answers { AnswersApply result (apply (session_of self.old)
-            (InWorld (SetIn (seen_entity entity.entry) (seen_id id.entry) values.now))) self.old
+        ensures answers { AnswersApply result (apply (session_of self.old) (InWorld (SetIn (seen_reference entity.entry) (seen_id id.entry) values.now))) self.old
             self.new }
         ensures compared { (self.new).compared ≡ (self.old).compared }
         ensures lists { (self.new).stored ≡ (self.old).stored }
@@ -160,11 +157,10 @@ impl<A: Allocator + Copy> Session<A> {
     /// Removes a fact.
     fn remove_from(
         &mut self,
-        entity: EntityRef<'_>,
-        id: IdRef<'_>,
+        entity: Reference<'_>,
+        id: IdReference<'_>,
     ) -> Result<Option<EntityId>, SessionError>
-        ensures answers { AnswersApply result (apply (session_of self.old)
-            (InWorld (RemoveFrom (seen_entity entity.entry) (seen_id id.entry)))) self.old
+        ensures answers { AnswersApply result (apply (session_of self.old) (InWorld (RemoveFrom (seen_reference entity.entry) (seen_id id.entry)))) self.old
             self.new }
         ensures compared { (self.new).compared ≡ (self.old).compared }
         ensures lists { (self.new).stored ≡ (self.old).stored }
@@ -178,9 +174,8 @@ impl<A: Allocator + Copy> Session<A> {
     }
 
     /// Deletes an entity.
-    fn delete_one(&mut self, entity: EntityRef<'_>) -> Result<Option<EntityId>, SessionError>
-        ensures answers { AnswersApply result (apply (session_of self.old)
-            (InWorld (DeleteOne (seen_entity entity.entry)))) self.old self.new }
+    fn delete_one(&mut self, entity: Reference<'_>) -> Result<Option<EntityId>, SessionError>
+        ensures answers { AnswersApply result (apply (session_of self.old) (InWorld (DeleteOne (seen_reference entity.entry)))) self.old self.new }
         ensures compared { (self.new).compared ≡ (self.old).compared }
         ensures lists { (self.new).stored ≡ (self.old).stored }
         ensures goes_on { TablesGoOn (self.old).world.tables (self.new).world.tables }
@@ -195,10 +190,10 @@ impl<A: Allocator + Copy> Session<A> {
     /// The entity and the id that a command names, or why it is refused for them.
     fn found_both(
         &self,
-        entity: EntityRef<'_>,
-        id: IdRef<'_>,
+        entity: Reference<'_>,
+        id: IdReference<'_>,
     ) -> Result<(EntityId, Id), SessionRefusal>
-        ensures { FindsIn (session_of self.now) (seen_entity entity.entry) (seen_id id.entry) result }
+        ensures { FindsIn (session_of self.now) (seen_reference entity.entry) (seen_id id.entry) result }
     {
         if self.has_events() {
             return Err(SessionRefusal::EventsPending);
@@ -210,8 +205,8 @@ impl<A: Allocator + Copy> Session<A> {
     }
 
     /// The entity that a command names, or why it is refused for it.
-    fn found_entity(&self, entity: EntityRef<'_>) -> Result<EntityId, SessionRefusal>
-        ensures { FindsOne (session_of self.now) (seen_entity entity.entry) result }
+    fn found_entity(&self, entity: Reference<'_>) -> Result<EntityId, SessionRefusal>
+        ensures { FindsOne (session_of self.now) (seen_reference entity.entry) result }
     {
         if self.has_events() {
             return Err(SessionRefusal::EventsPending);

@@ -19,7 +19,8 @@ mod telling;
 mod watched;
 
 pub use applying::{Answer, Command};
+pub use ecs_model::references::{IdReference, Reference};
 pub use errors::{SendRowsError, SessionError, SetColumnError};
-pub use references::{EntityRef, IdRef};
+pub use references::{find_both, find_entity};
 pub use session::Session;
 pub use watch_events::{Event, write_event};

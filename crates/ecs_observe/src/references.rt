@@ -6,38 +6,21 @@ ghost use Rattle.std.specs.List.{list_any};
 ghost use Rattle.ecs_id.specs.Id.{IsIndex};
 ghost use Rattle.ecs_model.specs.Orders.{entity_found, found, id_found, is_dead_handle, refs_of_id};
 ghost use Rattle.ecs_model.specs.World.{is_alive};
-ghost use Rattle.ecs_observe.specs.Commands.{FindsBoth, seen_entity, seen_id};
+ghost use Rattle.ecs_observe.specs.Commands.{FindsBoth};
+ghost use Rattle.ecs_model.specs.References.{seen_id, seen_reference};
 
 use ecs_id::{EntityId, Id};
 use ecs_model::faults::Refusal;
+use ecs_model::references::{IdReference, Reference};
 use ecs_world::World;
 use std::alloc::Allocator;
 
-/// An entity as a command names it.
-#[derive(Clone, Copy, Debug)]
-pub enum EntityRef<'a> {
-    Name(&'a str),
-    /// Its index and its generation. There may be no such entity, or no more.
-    Handle(EntityId),
-}
-
-/// An id as a command names it.
-#[derive(Clone, Copy, Debug)]
-pub enum IdRef<'a> {
-    /// A component or tag.
-    Plain(EntityRef<'a>),
-    Pair {
-        relationship: EntityRef<'a>,
-        target: EntityRef<'a>,
-    },
-}
-
-/// The entity of a reference.
-pub(crate) fn find_entity<A: Allocator>(
+/// The entity of a reference. Refused as `Dead` where it is the handle of no live entity, and as `UnknownName` where no entity has the name.
+pub fn find_entity<A: Allocator>(
     world: &World<A>,
-    entity: EntityRef<'_>,
+    entity: Reference<'_>,
 ) -> Result<EntityId, Refusal>
-    ensures value { result ≡ entity_found world.now.state (seen_entity entity.entry) }
+    ensures value { result ≡ entity_found world.now.state (seen_reference entity.entry) }
     ensures alive { IfOk result (λ e. IsTrue (is_alive world.now.state e)) }
 {
     if is_dead_handle(world, entity) {
@@ -49,13 +32,14 @@ pub(crate) fn find_entity<A: Allocator>(
     }
 }
 
-/// The entity of a reference and the id of others.
-pub(crate) fn find_both<A: Allocator>(
+/// The entity of a reference and the id of others. A dead handle among them comes before a name that is nobody's.
+#[inline(always)]
+pub fn find_both<A: Allocator>(
     world: &World<A>,
-    entity: EntityRef<'_>,
-    id: IdRef<'_>,
+    entity: Reference<'_>,
+    id: IdReference<'_>,
 ) -> Result<(EntityId, Id), Refusal>
-    ensures { FindsBoth world.now.state (seen_entity entity.entry) (seen_id id.entry) result }
+    ensures { FindsBoth world.now.state (seen_reference entity.entry) (seen_id id.entry) result }
 {
     if is_dead_handle(world, entity) || names_dead_handle(world, id) {
         return Err(Refusal::Dead);
@@ -70,22 +54,23 @@ pub(crate) fn find_both<A: Allocator>(
 }
 
 /// Whether a reference is the handle of no live entity.
-fn is_dead_handle<A: Allocator>(world: &World<A>, reference: EntityRef<'_>) -> bool
-    ensures { result ≡ is_dead_handle world.now.state (seen_entity reference.entry) }
+fn is_dead_handle<A: Allocator>(world: &World<A>, reference: Reference<'_>) -> bool
+    ensures { result ≡ is_dead_handle world.now.state (seen_reference reference.entry) }
 {
     match reference {
-        EntityRef::Name(_) => false,
-        EntityRef::Handle(entity) => !world.is_alive(entity),
+        Reference::Name(_) => false,
+        Reference::Handle(entity) => !world.is_alive(entity),
     }
 }
 
 /// Whether some reference of an id is the handle of no live entity.
-fn names_dead_handle<A: Allocator>(world: &World<A>, id: IdRef<'_>) -> bool
+#[inline(always)]
+fn names_dead_handle<A: Allocator>(world: &World<A>, id: IdReference<'_>) -> bool
     ensures { result ≡ list_any (is_dead_handle world.now.state) (refs_of_id (seen_id id.entry)) }
 {
     match id {
-        IdRef::Plain(reference) => is_dead_handle(world, reference),
-        IdRef::Pair {
+        IdReference::Plain(reference) => is_dead_handle(world, reference),
+        IdReference::Pair {
             relationship,
             target,
         } => is_dead_handle(world, relationship) || is_dead_handle(world, target),
@@ -93,14 +78,15 @@ fn names_dead_handle<A: Allocator>(world: &World<A>, id: IdRef<'_>) -> bool
 }
 
 /// The live entity of a reference.
-fn live_entity<A: Allocator>(world: &World<A>, reference: EntityRef<'_>) -> Option<EntityId>
-    ensures value { result ≡ found world.now.state (seen_entity reference.entry) }
+#[inline(always)]
+fn live_entity<A: Allocator>(world: &World<A>, reference: Reference<'_>) -> Option<EntityId>
+    ensures value { result ≡ found world.now.state (seen_reference reference.entry) }
     ensures index { IfSome result (λ e. IsIndex e.index) }
 {
     world.keeps();
     match reference {
-        EntityRef::Name(name) => world.find(name),
-        EntityRef::Handle(entity) => {
+        Reference::Name(name) => world.find(name),
+        Reference::Handle(entity) => {
             if world.is_alive(entity) {
                 Some(entity)
             } else {
@@ -111,15 +97,16 @@ fn live_entity<A: Allocator>(world: &World<A>, reference: EntityRef<'_>) -> Opti
 }
 
 /// The id of references, where each is that of a live entity.
-fn live_id<A: Allocator>(world: &World<A>, id: IdRef<'_>) -> Option<Id>
+#[inline(always)]
+fn live_id<A: Allocator>(world: &World<A>, id: IdReference<'_>) -> Option<Id>
     ensures { result ≡ id_found world.now.state (seen_id id.entry) }
 {
     match id {
-        IdRef::Plain(reference) => {
+        IdReference::Plain(reference) => {
             let component = live_entity(world, reference)?;
             Some(Id::plain(component.index))
         }
-        IdRef::Pair {
+        IdReference::Pair {
             relationship,
             target,
         } => {

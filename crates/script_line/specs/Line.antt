@@ -6,7 +6,7 @@ use Rattle.ecs_id.specs.declared.EntityId.{EntityId}
 use Rattle.ecs_model.specs.declared.Kind.{Kind}
 use Rattle.ecs_model.specs.Schema.{Field}
 use Rattle.ecs_model.specs.Text.{is_blank, is_number, number_of, words}
-use Rattle.ecs_model.specs.Orders.{EntityRef, by_name, by_handle, IdRef, plain_of, pair_of, MakeFresh, MakeEntity, AddTo, SetIn, RemoveFrom, DeleteOne}
+use Rattle.ecs_model.specs.Orders.{EntityRef, by_handle, IdRef, MakeFresh, MakeEntity, AddTo, SetIn, RemoveFrom, DeleteOne}
 use Rattle.ecs_model.specs.Script.{Form, LongLine, BadLine, CarryOut, Define, Ask, AskKept, entity_line, fact_line, form_or_bad, forms, looked_up, nothing_more, one_word, set_line, word_and_rest}
 use Rattle.ecs_model.specs.Script
 use Rattle.ecs_model.specs.stored.Session.{InWorld}
@@ -18,10 +18,9 @@ use Rattle.script_line.specs.declared.Opening.TheVariants as opening
 use Rattle.script_line.specs.declared.Deed.{Deed}
 use Rattle.script_line.specs.declared.Deed.TheVariants as deeds
 use Rattle.script_line.specs.declared.Fact.{Fact}
-use Rattle.script_line.specs.declared.references.Reference.{Reference}
-use Rattle.script_line.specs.declared.references.Reference.TheVariants.{Name, Handle}
-use Rattle.script_line.specs.declared.references.IdReference.{IdReference}
-use Rattle.script_line.specs.declared.references.IdReference.TheVariants.{Plain, Pair}
+use Rattle.ecs_model.specs.declared.references.Reference.{Reference}
+use Rattle.ecs_model.specs.declared.references.IdReference.{IdReference}
+use Rattle.ecs_model.specs.References.{seen_id, seen_reference}
 
 -- a field that was read
 abbrev pub seen_field : Bor (List ℕ) × Kind → Field
@@ -31,19 +30,9 @@ seen_field f = record { name = (f.0).now; kind = f.1 }
 abbrev pub seen_handle : EntityId → EntityRef
 seen_handle e = by_handle e.index e.generation
 
--- a reference that was read
-abbrev pub seen_reference : Reference → EntityRef
-seen_reference (Name name) = by_name name.now
-seen_reference (Handle e) = seen_handle e
-
 -- a reference that was read, and what stands behind it
 abbrev pub seen_reference_and_rest : Reference × Bor (List ℕ) → EntityRef × List ℕ
 seen_reference_and_rest p = (seen_reference p.0, (p.1).now)
-
--- an id that was read
-abbrev pub seen_id : IdReference → IdRef
-seen_id (Plain r) = plain_of (seen_reference r)
-seen_id (Pair r t) = pair_of (seen_reference r) (seen_reference t)
 
 -- an id that was read, and what stands behind it
 abbrev pub seen_id_and_rest : IdReference × Bor (List ℕ) → IdRef × List ℕ

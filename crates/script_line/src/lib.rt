@@ -16,9 +16,9 @@ mod references;
 mod words;
 
 use ecs_model::Kind;
+pub use ecs_model::references::{IdReference, Reference};
 use ecs_model::watches::StoredKind;
 pub use line_forms::{fact_behind, only_entity, only_word};
-pub use references::{IdReference, Reference};
 use std::alloc::{AllocError, Allocator, Global};
 use std::str;
 

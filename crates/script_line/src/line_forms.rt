@@ -5,14 +5,15 @@ ghost use Rattle.ecs_model.specs.Script.{Form, AskKept, BadLine, CarryOut, Show,
 ghost use Rattle.ecs_model.specs.Script.{nothing_more, on_line, one_word, says_nothing, set_line, store_line, value_of_word};
 ghost use Rattle.ecs_model.specs.Orders.{EntityRef, IdRef, AddTo, DeleteOne, MakeEntity, MakeFresh, RemoveFrom, SetIn};
 ghost use Rattle.ecs_model.specs.stored.Session.{Drop, InWorld};
-ghost use Rattle.script_line.specs.Line.{by_first_word, by_rarer_word, deed_form, deed_line, deed_words, form_opened, seen, seen_deed, seen_field, seen_id};
-ghost use Rattle.script_line.specs.Line.{seen_reference};
+ghost use Rattle.script_line.specs.Line.{by_first_word, by_rarer_word, deed_form, deed_line, deed_words, form_opened, seen, seen_deed, seen_field};
+ghost use Rattle.ecs_model.specs.References.{seen_id, seen_reference};
 
 use crate::blanks::{blanks_at_front, next_word, trim_front, trimmed, word_and_rest, word_start};
-use crate::references::{Reference, id_and_rest, reference_and_rest, reference_of};
+use crate::references::{id_and_rest, reference_and_rest, reference_of};
 use crate::words::{event_of_word, field_of_word, value_and_rest};
 use crate::{Deed, Fact, Line, Opening};
 use ecs_model::Kind;
+use ecs_model::references::Reference;
 use ecs_model::watches::StoredKind;
 use std::alloc::{AllocError, Allocator};
 

@@ -4,38 +4,19 @@ ghost use Rattle.std.specs.List.{list_any, position_or_len};
 ghost use Rattle.ecs_model.specs.Text.{trim_front};
 ghost use Rattle.ecs_model.specs.Script.{handle_of, id_and_rest, pair_and_rest, pair_in, reference_of};
 ghost use Rattle.ecs_model.specs.Orders.{plain_of};
-ghost use Rattle.script_line.specs.Line.{ends_reference, seen_handle, seen_id, seen_id_and_rest, seen_reference, seen_reference_and_rest, word_read};
+ghost use Rattle.ecs_model.specs.References.{seen_id, seen_reference};
+ghost use Rattle.script_line.specs.Line.{ends_reference, seen_handle, seen_id_and_rest, seen_reference_and_rest, word_read};
 
 use crate::blanks::{is_apart, is_blank, trim_front, trimmed};
 use crate::decimals::number_within;
 use ecs_id::EntityId;
+use ecs_model::references::{IdReference, Reference};
 
 /// How many digits the index of a handle may have.
 const INDEX_DIGITS: usize = 9;
 
 /// How many digits the generation of a handle may have.
 const GENERATION_DIGITS: usize = 5;
-
-/// An entity as a line names it.
-#[derive(Clone, Copy, Debug)]
-pub enum Reference<'a> {
-    /// A name: one or more characters other than blanks, brackets and commas, the first no `#`.
-    Name(&'a str),
-    /// A handle `#index.generation`: an index of up to 9 digits, and a generation of up to 5. It may be that of no entity.
-    Handle(EntityId),
-}
-
-/// An id as a line names it.
-#[derive(Clone, Copy, Debug)]
-pub enum IdReference<'a> {
-    /// `E`: a component or tag.
-    Plain(Reference<'a>),
-    /// `(R,T)`: a pair.
-    Pair {
-        relationship: Reference<'a>,
-        target: Reference<'a>,
-    },
-}
 
 /// Reads a reference to an entity: a name, or a handle where it begins with `#`.
 pub(crate) fn reference_of(word: &str) -> Option<Reference<'_>>

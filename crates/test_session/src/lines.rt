@@ -6,7 +6,7 @@ ghost use Rattle.ecs_id.specs.Id.{IsIndex};
 use ecs_id::{EntityId, Id, LAST_INDEX};
 use ecs_model::faults::{Refusal, SessionRefusal};
 use ecs_model::watches::StoredKind;
-use ecs_observe::{Command, EntityRef, Event, IdRef, Session, SessionError, write_event};
+use ecs_observe::{Command, Event, IdReference, Reference, Session, SessionError, write_event};
 use ecs_print::write_handle_line;
 use ecs_schema::{Kind, Schema};
 use std::alloc::{AllocError, Allocator};
@@ -137,8 +137,8 @@ pub(crate) fn carry_out<A: Allocator + Copy>(
             Ok(None)
         }
         Line::AddNamed(entity, tag) => {
-            let entity = EntityRef::Name(entity);
-            let id = IdRef::Plain(EntityRef::Name(tag));
+            let entity = Reference::Name(entity);
+            let id = IdReference::Plain(Reference::Name(tag));
             session.apply(Command::Add { entity, id })?;
             Ok(None)
         }

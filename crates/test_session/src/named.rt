@@ -4,27 +4,27 @@ use crate::lines::{first_at, new_session};
 use ecs_id::EntityId;
 use ecs_model::faults::{Refusal, SessionRefusal};
 use ecs_model::watches::StoredKind;
-use ecs_observe::{Answer, Command, EntityRef, IdRef, Session, SessionError};
+use ecs_observe::{Answer, Command, IdReference, Reference, Session, SessionError};
 use ecs_schema::{Kind, Schema};
 use std::alloc::Global;
 use std::process::Abort;
 use std::test::Fail;
 
-const SUN: EntityRef = EntityRef::Name("Sun");
+const SUN: Reference = Reference::Name("Sun");
 
-const NOBODY: EntityRef = EntityRef::Name("Nobody");
+const NOBODY: Reference = Reference::Name("Nobody");
 
-const POSITION: IdRef = IdRef::Plain(EntityRef::Name("Position"));
+const POSITION: IdReference = IdReference::Plain(Reference::Name("Position"));
 
-const CHILD_OF_SUN: IdRef = IdRef::Pair {
-    relationship: EntityRef::Name("ChildOf"),
+const CHILD_OF_SUN: IdReference = IdReference::Pair {
+    relationship: Reference::Name("ChildOf"),
     target: SUN,
 };
 
 /// The entity that is made after the component and the sun.
 const THIRD: u32 = 66;
 
-const FIRST: EntityRef = EntityRef::Handle(EntityId {
+const FIRST: Reference = Reference::Handle(EntityId {
     index: THIRD,
     generation: 0,
 });
@@ -36,11 +36,11 @@ const AGAIN: EntityId = EntityId {
 };
 
 /// Facts that name nobody, or one who died: where a fact does both, the dead is told.
-const REFUSED: [(EntityRef, IdRef, Refusal); 4] = [
+const REFUSED: [(Reference, IdReference, Refusal); 4] = [
     (NOBODY, POSITION, Refusal::UnknownName),
-    (SUN, IdRef::Plain(NOBODY), Refusal::UnknownName),
+    (SUN, IdReference::Plain(NOBODY), Refusal::UnknownName),
     (FIRST, POSITION, Refusal::Dead),
-    (NOBODY, IdRef::Plain(FIRST), Refusal::Dead),
+    (NOBODY, IdReference::Plain(FIRST), Refusal::Dead),
 ];
 
 fn refused(refusal: Refusal) -> Result<Answer, SessionError> {
@@ -64,7 +64,7 @@ fn expect_born(rt: &impl Abort, session: &mut Session, command: Command<'_>, bor
     expect(rt, session, command, Ok(Answer::Born(born)));
 }
 
-fn add(entity: EntityRef<'static>, id: IdRef<'static>) -> Command<'static> {
+fn add(entity: Reference<'static>, id: IdReference<'static>) -> Command<'static> {
     Command::Add { entity, id }
 }
 
@@ -106,18 +106,18 @@ fn expect_refusals(rt: &impl Abort, session: &mut Session) {
 fn expect_watched(rt: &impl Abort, session: &mut Session) -> Result<(), Fail> {
     let (kind, name, text) = (StoredKind::Monitor, "a", "Position");
     expect_done(rt, session, Command::Store { kind, name, text });
-    expect_done(rt, session, add(EntityRef::Handle(AGAIN), POSITION));
+    expect_done(rt, session, add(Reference::Handle(AGAIN), POSITION));
     let pending = Err(SessionError::Refused(SessionRefusal::EventsPending));
     expect(
         rt,
         session,
-        add(EntityRef::Handle(AGAIN), CHILD_OF_SUN),
+        add(Reference::Handle(AGAIN), CHILD_OF_SUN),
         pending,
     );
     let told = session.events()?;
     assert!(rt; told.len() == 1);
     drop(told);
-    expect_done(rt, session, add(EntityRef::Handle(AGAIN), CHILD_OF_SUN));
+    expect_done(rt, session, add(Reference::Handle(AGAIN), CHILD_OF_SUN));
     drop(session.events()?);
     expect_done(rt, session, Command::Drop { name });
     Ok(())

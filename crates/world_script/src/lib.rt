@@ -5,7 +5,6 @@
 
 mod errors;
 mod lines;
-mod lookup;
 mod runners;
 mod runs;
 mod sessions;

@@ -1,8 +1,8 @@
 use Rattle.std.proofs.Common.{◌≡◌, List, ℕ, Option, None, Some, option_map, refl, sym, ap, ◌∙◌}
 use Rattle.ecs_model.specs.Orders.{EntityRef}
 use Rattle.ecs_model.specs.Script.{Form, form_or_bad, reference_of}
-use Rattle.script_line.specs.declared.references.Reference.{Reference}
-use Rattle.script_line.specs.Line.{seen_reference}
+use Rattle.ecs_model.specs.declared.references.Reference.{Reference}
+use Rattle.ecs_model.specs.References.{seen_reference}
 use Rattle.script_line.proofs.line_forms.only_entity.Goals as goal
 
 seen : (f : EntityRef → Form) (read : Option Reference) → form_or_bad f (option_map seen_reference read) ≡ form_or_bad (λ r. f (seen_reference r)) read

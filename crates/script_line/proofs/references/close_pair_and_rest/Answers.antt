@@ -2,7 +2,8 @@ use Rattle.std.proofs.Common.{◌≡◌, ◌∷◌, ◌++◌, Some, true, false,
 use Rattle.std.specs.List.{list_any, position_or_len}
 use Rattle.std.proofs.lemmas.Str.Pattern.{strip_prefix_char}
 use Rattle.ecs_model.specs.Script.{is_apart}
-use Rattle.script_line.specs.Line.{ends_reference, seen_reference}
+use Rattle.script_line.specs.Line.{ends_reference}
+use Rattle.ecs_model.specs.References.{seen_reference}
 use Rattle.script_line.proofs.ClosePairs.{cut_before_byte, read_close}
 use Rattle.script_line.proofs.Cuts.{cut_at_end}
 use Rattle.script_line.proofs.Stops.{none_ends}

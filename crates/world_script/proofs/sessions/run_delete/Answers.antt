@@ -1,5 +1,5 @@
 use Rattle.std.proofs.Common.{sym}
-use Rattle.script_line.specs.Line.{seen_reference}
+use Rattle.ecs_model.specs.References.{seen_reference}
 use Rattle.world_script.proofs.Orders.{IfOk-delete, IfOk-delete_unfound}
 use Rattle.world_script.proofs.sessions.run_delete.Goals as goal
 

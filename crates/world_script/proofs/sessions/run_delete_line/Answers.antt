@@ -1,7 +1,7 @@
 use Rattle.ecs_model.specs.Orders.{DeleteOne}
 use Rattle.ecs_model.specs.Script.{CarryOut, entity_line}
 use Rattle.ecs_model.specs.stored.Session.{InWorld}
-use Rattle.script_line.specs.Line.{seen_reference}
+use Rattle.ecs_model.specs.References.{seen_reference}
 use Rattle.world_script.proofs.ReadLines.{does_bad, does_same}
 use Rattle.world_script.proofs.sessions.run_delete_line.Goals as goal
 

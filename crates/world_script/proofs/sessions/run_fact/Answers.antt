@@ -9,7 +9,8 @@ use Rattle.ecs_world.specs.Standing.{Standing as World}
 use Rattle.ecs_observe.specs.Standing.{Standing, session_of}
 use Rattle.script_line.specs.declared.Deed.{Deed}
 use Rattle.script_line.specs.declared.Deed.TheVariants.{Set, Add, Remove}
-use Rattle.script_line.specs.Line.{deed_form, seen_reference, seen_id}
+use Rattle.script_line.specs.Line.{deed_form}
+use Rattle.ecs_model.specs.References.{seen_id, seen_reference}
 use Rattle.world_script.specs.Run.{IsDone}
 use Rattle.ecs_observe.specs.Commands.{FindsBoth}
 use Rattle.world_script.specs.Told.{TellsRefusal}

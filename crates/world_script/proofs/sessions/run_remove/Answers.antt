@@ -1,6 +1,6 @@
 use Rattle.std.proofs.Common.{Ok, subst}
 use Rattle.ecs_world.specs.Standing.{Standing as World}
-use Rattle.script_line.specs.Line.{seen_reference, seen_id}
+use Rattle.ecs_model.specs.References.{seen_id, seen_reference}
 use Rattle.ecs_observe.specs.Commands.{FindsBoth}
 use Rattle.world_script.proofs.Orders.{IfOk-remove_unfound}
 use Rattle.world_script.proofs.sessions.run_remove.Goals as goal

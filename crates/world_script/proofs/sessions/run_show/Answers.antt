@@ -1,5 +1,5 @@
 use Rattle.std.proofs.Common.{sym}
-use Rattle.script_line.specs.Line.{seen_reference}
+use Rattle.ecs_model.specs.References.{seen_reference}
 use Rattle.world_script.proofs.Orders.{IsDone-shown, IfOk-unshown}
 use Rattle.world_script.proofs.sessions.run_show.Goals as goal
 

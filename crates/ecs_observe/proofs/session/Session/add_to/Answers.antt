@@ -3,7 +3,7 @@ use Rattle.ecs_model.specs.Orders.{AddTo, command_of}
 use Rattle.ecs_model.specs.stored.Session.{Answer}
 use Rattle.ecs_model.specs.steps.Step.{Add}
 use Rattle.ecs_observe.specs.Answers.{AnswersApply}
-use Rattle.ecs_observe.specs.Commands.{seen_entity, seen_id}
+use Rattle.ecs_model.specs.References.{seen_id, seen_reference}
 use Rattle.ecs_archetypes.specs.Staying.{stay_same}
 use Rattle.table_store.specs.Going.{goes_on_same}
 use Rattle.ecs_observe.proofs.session.Session.add_to.Goals as goal
@@ -11,11 +11,11 @@ use Rattle.ecs_observe.proofs.session.Session.add_to.Goals as goal
 pub returns-in-Ok-clause-answers : goal.returns-in-Ok-clause-answers
 unfolding command_of
 returns-in-Ok-clause-answers g c =
-    subst (λ (a : Answer). AnswersApply c.add.result a c.args.self.now c.add.new.self) (c.in-Ok.ensures Add (AddTo (seen_entity c.args.entity) (seen_id c.args.id)) refl) c.add.ensures.answers
+    subst (λ (a : Answer). AnswersApply c.add.result a c.args.self.now c.add.new.self) (c.in-Ok.ensures Add (AddTo (seen_reference c.args.entity) (seen_id c.args.id)) refl) c.add.ensures.answers
 
 pub returns-in-Err-clause-answers : goal.returns-in-Err-clause-answers
 unfolding command_of
-returns-in-Err-clause-answers g c = (c.in-Err.ensures Add (AddTo (seen_entity c.args.entity) (seen_id c.args.id)) refl, refl)
+returns-in-Err-clause-answers g c = (c.in-Err.ensures Add (AddTo (seen_reference c.args.entity) (seen_id c.args.id)) refl, refl)
 
 pub returns-in-Err-clause-goes_on : goal.returns-in-Err-clause-goes_on
 returns-in-Err-clause-goes_on g c = goes_on_same c.args.self.now.world.tables
